@@ -2,7 +2,15 @@
 #![tactic(auto)]
 
 mod bytes;
+mod compact;
+mod cursor;
+mod fault;
+mod fields;
 mod memory;
 
 pub use bytes::Bytes;
+pub use compact::CompactFault;
+pub use cursor::{Cursor, Short};
+pub use fault::{FieldFault, ReadError};
+pub use fields::{compact_field, run_field, u32le_field, u64le_field};
 pub use memory::Memory;
