@@ -103,13 +103,13 @@ pub number_law : (w : Width) (limit : ℕ) → IsWide w limit → Law (λ n. n <
 unfolding number_at
 number_law w limit wide = record {
   takes = λ bytes x fits e.
-    let g = guard_ok (ltb (length bytes) (byte_len w)) (length bytes) (Ok (from_le_bytes w (take (byte_len w) bytes), drop (byte_len w) bytes)) x e in
-    let is = ok_is {F = ℕ} (from_le_bytes w (take (byte_len w) bytes), drop (byte_len w) bytes) x g.1 in
-    subst (λ (y : ℕ × List ℕ). Takes bytes (to_le_bytes w y.0) y.1 × (y.0 < limit)) is (number_front w limit wide bytes fits (ltb-false _ _ g.0));
+      let g = guard_ok (ltb (length bytes) (byte_len w)) (length bytes) (Ok (from_le_bytes w (take (byte_len w) bytes), drop (byte_len w) bytes)) x e in
+      let is = ok_is {F = ℕ} (from_le_bytes w (take (byte_len w) bytes), drop (byte_len w) bytes) x g.1 in
+      subst (λ (y : ℕ × List ℕ). Takes bytes (to_le_bytes w y.0) y.1 × (y.0 < limit)) is (number_front w limit wide bytes fits (ltb-false _ _ g.0));
   again = λ n rest lt.
-    let len = wide.len n in
-    let long : ltb (length (to_le_bytes w n ++ rest)) (byte_len w) ≡ false = le-ltb _ _ (omega (arith, length-append (to_le_bytes w n) rest)) in
-    rw (long, take_at (to_le_bytes w n) rest (byte_len w) len, drop_at (to_le_bytes w n) rest (byte_len w) len, wide.again n lt) refl;
+      let len = wide.len n in
+      let long : ltb (length (to_le_bytes w n ++ rest)) (byte_len w) ≡ false = le-ltb _ _ (omega (arith, length-append (to_le_bytes w n) rest)) in
+      rw (long, take_at (to_le_bytes w n) rest (byte_len w) len, drop_at (to_le_bytes w n) rest (byte_len w) len, wide.again n lt) refl;
 }
 
 pub number_short : (w : Width) (bytes : List ℕ) (left : ℕ) → number_at w bytes ≡ Err left → length bytes < byte_len w
@@ -126,13 +126,13 @@ pub run_law : (n : ℕ) → Law (λ (text : List ℕ). length text ≡ n) (λ (t
 unfolding run_at
 run_law n = record {
   takes = λ bytes x fits e.
-    let g = guard_ok (ltb (length bytes) n) (length bytes) (Ok (take n bytes, drop n bytes)) x e in
-    let is = ok_is {F = ℕ} (take n bytes, drop n bytes) x g.1 in
-    let long : n ≤ length bytes = ltb-false _ _ g.0 in
-    subst (λ (y : List ℕ × List ℕ). Takes bytes y.0 y.1 × (length y.0 ≡ n)) is (record { parts = sym (take-append-drop n bytes); rest_fits = IsBytes-drop n bytes fits }, omega (arith, length-take n bytes));
+      let g = guard_ok (ltb (length bytes) n) (length bytes) (Ok (take n bytes, drop n bytes)) x e in
+      let is = ok_is {F = ℕ} (take n bytes, drop n bytes) x g.1 in
+      let long : n ≤ length bytes = ltb-false _ _ g.0 in
+      subst (λ (y : List ℕ × List ℕ). Takes bytes y.0 y.1 × (length y.0 ≡ n)) is (record { parts = sym (take-append-drop n bytes); rest_fits = IsBytes-drop n bytes fits }, omega (arith, length-take n bytes));
   again = λ text rest len.
-    let long : ltb (length (text ++ rest)) n ≡ false = le-ltb _ _ (omega (arith, length-append text rest)) in
-    rw (long, take_at text rest n len, drop_at text rest n len) refl;
+      let long : ltb (length (text ++ rest)) n ≡ false = le-ltb _ _ (omega (arith, length-append text rest)) in
+      rw (long, take_at text rest n len, drop_at text rest n len) refl;
 }
 
 -- ---- compact sizes
@@ -182,25 +182,25 @@ size_takes (first ∷ rest) x fits e =
     let rest_fits = IsBytes-rest first rest fits in
     elim (chosen (ltb first 253) (Ok (first, rest)) (cond (eqb first 253) (long_size w16 253 rest) (cond (eqb first 254) (long_size w32 (2 ^ 16) rest) (long_size w64 (2 ^ 32) rest))) (Ok x) e) [
       | inl p ↦
-        let lt : first < 253 = ltb-true _ _ p.0 in
-        subst (λ (y : ℕ × List ℕ). Takes (first ∷ rest) (compact y.0) y.1 × (y.0 < 2 ^ 64)) (ok_is {F = CompactFault} (first, rest) x p.1)
+          let lt : first < 253 = ltb-true _ _ p.0 in
+          subst (λ (y : ℕ × List ℕ). Takes (first ∷ rest) (compact y.0) y.1 × (y.0 < 2 ^ 64)) (ok_is {F = CompactFault} (first, rest) x p.1)
           (record { parts = sym (ap (λ (t : List ℕ). t ++ rest) (compact_1 first lt)); rest_fits = rest_fits }, omega arith)
       | inr p ↦
-        elim (chosen (eqb first 253) (long_size w16 253 rest) (cond (eqb first 254) (long_size w32 (2 ^ 16) rest) (long_size w64 (2 ^ 32) rest)) (Ok x) p.1) [
-          | inl q ↦
-            let t = long_takes w16 (2 ^ 16) wide16 253 rest x rest_fits q.1 in
-            (record { parts = long_parts first 253 rest (to_le_bytes w16 x.0) x.1 x.0 (eqb-true _ _ q.0) (compact_2 x.0 t.1 t.2) t.0.parts; rest_fits = t.0.rest_fits }, omega (arith, t.2))
-          | inr q ↦
-            elim (chosen (eqb first 254) (long_size w32 (2 ^ 16) rest) (long_size w64 (2 ^ 32) rest) (Ok x) q.1) [
-              | inl r ↦
-                let t = long_takes w32 (2 ^ 32) wide32 (2 ^ 16) rest x rest_fits r.1 in
-                (record { parts = long_parts first 254 rest (to_le_bytes w32 x.0) x.1 x.0 (eqb-true _ _ r.0) (compact_4 x.0 t.1 t.2) t.0.parts; rest_fits = t.0.rest_fits }, omega (arith, t.2))
-              | inr r ↦
-                let t = long_takes w64 (2 ^ 64) wide64 (2 ^ 32) rest x rest_fits r.1 in
-                let is : first ≡ 255 = omega (arith, fits 0, ltb-false _ _ p.0, eqb-false _ _ q.0, eqb-false _ _ r.0) in
-                (record { parts = long_parts first 255 rest (to_le_bytes w64 x.0) x.1 x.0 is (compact_8 x.0 t.1) t.0.parts; rest_fits = t.0.rest_fits }, t.2)
-            ]
-        ]
+          elim (chosen (eqb first 253) (long_size w16 253 rest) (cond (eqb first 254) (long_size w32 (2 ^ 16) rest) (long_size w64 (2 ^ 32) rest)) (Ok x) p.1) [
+            | inl q ↦
+                let t = long_takes w16 (2 ^ 16) wide16 253 rest x rest_fits q.1 in
+                (record { parts = long_parts first 253 rest (to_le_bytes w16 x.0) x.1 x.0 (eqb-true _ _ q.0) (compact_2 x.0 t.1 t.2) t.0.parts; rest_fits = t.0.rest_fits }, omega (arith, t.2))
+            | inr q ↦
+                elim (chosen (eqb first 254) (long_size w32 (2 ^ 16) rest) (long_size w64 (2 ^ 32) rest) (Ok x) q.1) [
+                  | inl r ↦
+                      let t = long_takes w32 (2 ^ 32) wide32 (2 ^ 16) rest x rest_fits r.1 in
+                      (record { parts = long_parts first 254 rest (to_le_bytes w32 x.0) x.1 x.0 (eqb-true _ _ r.0) (compact_4 x.0 t.1 t.2) t.0.parts; rest_fits = t.0.rest_fits }, omega (arith, t.2))
+                  | inr r ↦
+                      let t = long_takes w64 (2 ^ 64) wide64 (2 ^ 32) rest x rest_fits r.1 in
+                      let is : first ≡ 255 = omega (arith, fits 0, ltb-false _ _ p.0, eqb-false _ _ q.0, eqb-false _ _ r.0) in
+                      (record { parts = long_parts first 255 rest (to_le_bytes w64 x.0) x.1 x.0 is (compact_8 x.0 t.1) t.0.parts; rest_fits = t.0.rest_fits }, t.2)
+                ]
+          ]
     ]
 
 size_again : (n : ℕ) (rest : List ℕ) → n < 2 ^ 64 → size_of (compact n ++ rest) ≡ Ok (n, rest)
@@ -209,14 +209,14 @@ size_again n rest lt =
     elim (cases_lt n 253) [
       | inl small ↦ ap (λ (t : List ℕ). size_of (t ++ rest)) (compact_1 n small) ∙ rw (lt-ltb n 253 small) refl
       | inr le ↦
-        elim (cases_lt n (2 ^ 16)) [
-          | inl small ↦ ap (λ (t : List ℕ). size_of (t ++ rest)) (compact_2 n le small) ∙ long_again w16 (2 ^ 16) wide16 253 n rest le small
-          | inr le ↦
-            elim (cases_lt n (2 ^ 32)) [
-              | inl small ↦ ap (λ (t : List ℕ). size_of (t ++ rest)) (compact_4 n le small) ∙ long_again w32 (2 ^ 32) wide32 (2 ^ 16) n rest le small
-              | inr le ↦ ap (λ (t : List ℕ). size_of (t ++ rest)) (compact_8 n le) ∙ long_again w64 (2 ^ 64) wide64 (2 ^ 32) n rest le lt
-            ]
-        ]
+          elim (cases_lt n (2 ^ 16)) [
+            | inl small ↦ ap (λ (t : List ℕ). size_of (t ++ rest)) (compact_2 n le small) ∙ long_again w16 (2 ^ 16) wide16 253 n rest le small
+            | inr le ↦
+                elim (cases_lt n (2 ^ 32)) [
+                  | inl small ↦ ap (λ (t : List ℕ). size_of (t ++ rest)) (compact_4 n le small) ∙ long_again w32 (2 ^ 32) wide32 (2 ^ 16) n rest le small
+                  | inr le ↦ ap (λ (t : List ℕ). size_of (t ++ rest)) (compact_8 n le) ∙ long_again w64 (2 ^ 64) wide64 (2 ^ 32) n rest le lt
+                ]
+          ]
     ]
 
 pub size_law : Law (λ n. n < 2 ^ 64) compact size_of
@@ -239,14 +239,14 @@ pub both_law : {A B F : Type 0} (FA : A → Type 0) (FB : B → Type 0) (sa : A 
     → Law FA sa ra → Law FB sb rb → Law (λ (p : A × B). FA p.0 × FB p.1) (λ (p : A × B). sa p.0 ++ sb p.1) (both ra rb)
 both_law {A} {B} {F} FA FB sa sb ra rb la lb = record {
   takes = λ bytes z fits e.
-    let a = bind_ok (ra bytes) (λ x. rb x.1 >>= λ y. Ok ((x.0, y.0), y.1)) z e in
-    let b = bind_ok (rb a.0.1) (λ y. Ok ((a.0.0, y.0), y.1)) z a.2 in
-    let ta = la.takes bytes a.0 fits a.1 in
-    let tb = lb.takes a.0.1 b.0 ta.0.rest_fits b.1 in
-    subst (λ (y : (A × B) × List ℕ). Takes bytes (sa y.0.0 ++ sb y.0.1) y.1 × (FA y.0.0 × FB y.0.1)) (ok_is {F = F} ((a.0.0, b.0.0), b.0.1) z b.2)
+      let a = bind_ok (ra bytes) (λ x. rb x.1 >>= λ y. Ok ((x.0, y.0), y.1)) z e in
+      let b = bind_ok (rb a.0.1) (λ y. Ok ((a.0.0, y.0), y.1)) z a.2 in
+      let ta = la.takes bytes a.0 fits a.1 in
+      let tb = lb.takes a.0.1 b.0 ta.0.rest_fits b.1 in
+      subst (λ (y : (A × B) × List ℕ). Takes bytes (sa y.0.0 ++ sb y.0.1) y.1 × (FA y.0.0 × FB y.0.1)) (ok_is {F = F} ((a.0.0, b.0.0), b.0.1) z b.2)
       (Takes-then bytes (sa a.0.0) a.0.1 (sb b.0.0) b.0.1 ta.0 tb.0, (ta.1, tb.1));
   again = λ p rest fits.
-    ap (both ra rb) (append_assoc (sa p.0) (sb p.1) rest) ∙ rw (la.again p.0 (sb p.1 ++ rest) fits.0, lb.again p.1 rest fits.1) refl;
+      ap (both ra rb) (append_assoc (sa p.0) (sb p.1) rest) ∙ rw (la.again p.0 (sb p.1 ++ rest) fits.0, lb.again p.1 rest fits.1) refl;
 }
 
 pub mapped_law : {A B F : Type 0} (f : A → B) (g : B → A) (FA : A → Type 0) (FB : B → Type 0) (sa : A → List ℕ) (sb : B → List ℕ) (ra : Reading A F)
@@ -254,23 +254,23 @@ pub mapped_law : {A B F : Type 0} (f : A → B) (g : B → A) (FA : A → Type 0
     → Law FA sa ra → Law FB sb (mapped f ra)
 mapped_law {A} {B} {F} f g FA FB sa sb ra fits_f spells fits_g back la = record {
   takes = λ bytes z fits e.
-    let a = bind_ok (ra bytes) (λ x. Ok (f x.0, x.1)) z e in
-    let ta = la.takes bytes a.0 fits a.1 in
-    subst (λ (y : B × List ℕ). Takes bytes (sb y.0) y.1 × FB y.0) (ok_is {F = F} (f a.0.0, a.0.1) z a.2)
+      let a = bind_ok (ra bytes) (λ x. Ok (f x.0, x.1)) z e in
+      let ta = la.takes bytes a.0 fits a.1 in
+      subst (λ (y : B × List ℕ). Takes bytes (sb y.0) y.1 × FB y.0) (ok_is {F = F} (f a.0.0, a.0.1) z a.2)
       (subst (λ (t : List ℕ). Takes bytes t a.0.1) (sym (spells a.0.0 ta.1)) ta.0, fits_f a.0.0 ta.1);
   again = λ b rest fits.
-    let text : sb b ≡ sa (g b) = sym (ap sb (back b fits)) ∙ spells (g b) (fits_g b fits) in
-    ap (λ (t : List ℕ). mapped f ra (t ++ rest)) text ∙ rw (la.again (g b) rest (fits_g b fits)) (ap (λ (y : B). Ok (y, rest)) (back b fits));
+      let text : sb b ≡ sa (g b) = sym (ap sb (back b fits)) ∙ spells (g b) (fits_g b fits) in
+      ap (λ (t : List ℕ). mapped f ra (t ++ rest)) text ∙ rw (la.again (g b) rest (fits_g b fits)) (ap (λ (y : B). Ok (y, rest)) (back b fits));
 }
 
 pub unless_law : {A : Type 0} (refused : A → Bool) (FA : A → Type 0) (sa : A → List ℕ) (ra : Reader A)
     → Law FA sa ra → Law (λ (a : A). FA a × (refused a ≡ false)) sa (unless refused ra)
 unless_law {A} refused FA sa ra la = record {
   takes = λ bytes z fits e.
-    let a = bind_ok (ra bytes) (λ x. cond (refused x.0) (Err (length bytes)) (Ok x)) z e in
-    let g = guard_ok (refused a.0.0) (length bytes) (Ok a.0) z a.2 in
-    let ta = la.takes bytes a.0 fits a.1 in
-    subst (λ (y : A × List ℕ). Takes bytes (sa y.0) y.1 × (FA y.0 × (refused y.0 ≡ false))) (ok_is {F = ℕ} a.0 z g.1) (ta.0, (ta.1, g.0));
+      let a = bind_ok (ra bytes) (λ x. cond (refused x.0) (Err (length bytes)) (Ok x)) z e in
+      let g = guard_ok (refused a.0.0) (length bytes) (Ok a.0) z a.2 in
+      let ta = la.takes bytes a.0 fits a.1 in
+      subst (λ (y : A × List ℕ). Takes bytes (sa y.0) y.1 × (FA y.0 × (refused y.0 ≡ false))) (ok_is {F = ℕ} a.0 z g.1) (ta.0, (ta.1, g.0));
   again = λ a rest fits. rw (la.again a rest fits.0, fits.1) refl;
 }
 
@@ -286,7 +286,7 @@ times_take {A} {F} FA sa ra la (suc n) bytes z fits e =
     let others = times_take FA sa ra la n a.0.1 b.0 first.0.rest_fits b.1 in
     let whole = Takes-then bytes (sa a.0.0) a.0.1 (flat_map sa b.0.0) b.0.1 first.0 others.0 in
     subst (λ (y : List A × List ℕ). Takes bytes (flat_map sa y.0) y.1 × ((length y.0 ≡ suc n) × AllByRecursion FA y.0)) (ok_is {F = F} (a.0.0 ∷ b.0.0, b.0.1) z b.2)
-      (rw flat_map-cons whole, (ap suc others.1.0, (first.1, others.1.1)))
+    (rw flat_map-cons whole, (ap suc others.1.0, (first.1, others.1.1)))
 
 times_again : {A F : Type 0} (FA : A → Type 0) (sa : A → List ℕ) (ra : Reading A F) → Law FA sa ra → (xs : List A) (rest : List ℕ) → AllByRecursion FA xs → times ra (length xs) (flat_map sa xs ++ rest) ≡ Ok (xs, rest)
 unfolding times
@@ -305,13 +305,13 @@ pub counted_law : {A F : Type 0} (FN : ℕ → Type 0) (sn : ℕ → List ℕ) (
     → Law FN sn rn → Law FA sa ra → Law (λ (xs : List A). FN (length xs) × AllByRecursion FA xs) (λ (xs : List A). sn (length xs) ++ flat_map sa xs) (counted rn ra)
 counted_law {A} {F} FN sn rn FA sa ra ln la = record {
   takes = λ bytes z fits e.
-    let n = bind_ok (rn bytes) (λ x. times ra x.0 x.1) z e in
-    let tn = ln.takes bytes n.0 fits n.1 in
-    let t = times_take FA sa ra la n.0.0 n.0.1 z tn.0.rest_fits n.2 in
-    let whole = Takes-then bytes (sn n.0.0) n.0.1 (flat_map sa z.0) z.1 tn.0 t.0 in
-    (subst (λ (k : ℕ). Takes bytes (sn k ++ flat_map sa z.0) z.1) (sym t.1.0) whole, (subst FN (sym t.1.0) tn.1, t.1.1));
+      let n = bind_ok (rn bytes) (λ x. times ra x.0 x.1) z e in
+      let tn = ln.takes bytes n.0 fits n.1 in
+      let t = times_take FA sa ra la n.0.0 n.0.1 z tn.0.rest_fits n.2 in
+      let whole = Takes-then bytes (sn n.0.0) n.0.1 (flat_map sa z.0) z.1 tn.0 t.0 in
+      (subst (λ (k : ℕ). Takes bytes (sn k ++ flat_map sa z.0) z.1) (sym t.1.0) whole, (subst FN (sym t.1.0) tn.1, t.1.1));
   again = λ xs rest fits.
-    ap (counted rn ra) (append_assoc (sn (length xs)) (flat_map sa xs) rest) ∙ rw (ln.again (length xs) (flat_map sa xs ++ rest) fits.0) (times_again FA sa ra la xs rest fits.1);
+      ap (counted rn ra) (append_assoc (sn (length xs)) (flat_map sa xs) rest) ∙ rw (ln.again (length xs) (flat_map sa xs ++ rest) fits.0) (times_again FA sa ra la xs rest fits.1);
 }
 
 -- a byte string is as many bytes as it has

@@ -7,6 +7,8 @@ mod cursor;
 mod fault;
 mod fields;
 mod memory;
+mod room;
+mod writers;
 
 pub use bytes::Bytes;
 pub use compact::CompactFault;
@@ -14,3 +16,5 @@ pub use cursor::{Cursor, Short};
 pub use fault::{FieldFault, ReadError};
 pub use fields::{compact_field, run_field, u32le_field, u64le_field};
 pub use memory::Memory;
+pub use room::Room;
+pub use writers::{put_compact, put_u32le, put_u64le};
