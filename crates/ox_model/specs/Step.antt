@@ -1,0 +1,70 @@
+-- What one block makes of an index, or why it is refused. The tests come in this order, and the first that fails decides.
+use Rattle.std.specs.Prelude.{ℕ, ◌+◌, Bool, not, List, [], ◌∷◌, ◌++◌, length, replicate, Option, Some, None, Result, Ok, Err, nat_lt, ◌==◌, ◌&&◌, if◌then◌else◌}
+use Rattle.std.specs.List.{list_any}
+use Rattle.std.specs.Cmp.Lexicographic.{pointwise}
+use Rattle.ox_bytes.specs.Reading.{◌>>=◌}
+use Rattle.ox_block.specs.declared.block.Tx.{Tx}
+use Rattle.ox_block.specs.declared.block.TxIn.{TxIn}
+use Rattle.ox_block.specs.declared.block.Block.{Block}
+use Rattle.ox_block.specs.Reading.{block_of}
+use Rattle.ox_block.specs.Hashes.{block_hash}
+use Rattle.ox_sat.specs.declared.profiles.Profile.{Profile}
+use Rattle.ox_model.specs.declared.refusal.Refusal.{Refusal}
+use Rattle.ox_model.specs.declared.refusal.Refusal.TheVariants.{Malformed, ChainEnd, Unlinked, Coinbase}
+use Rattle.ox_model.specs.Index.{Index}
+use Rattle.ox_model.specs.Transfer.{transfer_of}
+
+-- where a test fails it is this refusal
+abbrev pub refuse_if : Bool → Refusal → Result (Unit {0}) Refusal
+refuse_if fails refusal = if fails then Err refusal else Ok tt
+
+abbrev pub differ : List ℕ → List ℕ → Bool
+differ a b = not (pointwise ◌==◌ a b)
+
+abbrev pub zero_hash : List ℕ
+zero_hash = replicate 32 0
+
+-- the newest block's hash, or zeros before the first block
+abbrev pub newest_of : List (List ℕ) → List ℕ
+newest_of [] = zero_hash
+newest_of (hash ∷ []) = hash
+newest_of (hash ∷ hashes) = newest_of hashes
+
+-- an input that names no output: a txid of zeros and the greatest index
+abbrev pub is_null : TxIn → Bool
+is_null input = pointwise ◌==◌ input.from.txid.0 zero_hash && (input.from.index == 4294967295)
+
+-- a transaction of one input, which names no output
+abbrev pub is_coinbase : Tx → Bool
+is_coinbase tx = (length tx.inputs == 1) && list_any is_null tx.inputs
+
+-- the first transaction from this place on that has an input which names no output
+abbrev pub null_from : ℕ → List Tx → Option ℕ
+null_from place [] = None
+null_from place (tx ∷ txs) = if list_any is_null tx.inputs then Some place else null_from (place + 1) txs
+
+-- the first transaction that is a coinbase and mustn't be one, or isn't and must: the first of a block, and no other, is
+abbrev pub misplaced : List Tx → Option ℕ
+misplaced [] = Some 0
+misplaced (tx ∷ txs) = if is_coinbase tx then null_from 1 txs else Some 0
+
+abbrev pub refuse_misplaced : Option ℕ → Result (Unit {0}) Refusal
+refuse_misplaced None = Ok tt
+refuse_misplaced (Some tx) = Err (Coinbase tx)
+
+abbrev pub or_malformed : Result Block ℕ → Result Block Refusal
+or_malformed (Ok block) = Ok block
+or_malformed (Err at) = Err (Malformed at)
+
+-- the index after a block, at the height after the newest
+abbrev pub accept : Profile → Index → Block → Result Index Refusal
+accept p index block = do
+  ended ← refuse_if (nat_lt p.last (length index.hashes)) (ChainEnd (length index.hashes))
+  linked ← refuse_if (differ block.header.previous (newest_of index.hashes)) (Unlinked block.header.previous (newest_of index.hashes))
+  begun ← refuse_misplaced (misplaced block.txs)
+  after ← transfer_of p (length index.hashes) block.txs index.outs
+  Ok (record { hashes = index.hashes ++ block_hash block.header ∷ []; outs = after.outs; lost = index.lost ++ after.moved.lost })
+
+-- the index after the block that these bytes spell
+unfoldable pub step : Profile → Index → List ℕ → Result Index Refusal
+step p index bytes = or_malformed (block_of bytes) >>= accept p index

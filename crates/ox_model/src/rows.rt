@@ -1,0 +1,32 @@
+//! Rows of the index's tables.
+
+ghost use Rattle.std.specs.Prelude.{◌≡◌, IfOk};
+
+use crate::table::Memory;
+use ox_bytes::Bytes;
+use ox_range::Ranges;
+use std::alloc::Global;
+
+/// An unspent output.
+#[derive(Debug, Drop)]
+pub struct OutRow {
+    /// The output's script.
+    pub script: Bytes,
+    /// The height of the block that made it.
+    pub height: u32,
+    /// The satoshis that it holds, in order.
+    pub sats: Ranges,
+}
+
+impl OutRow {
+    /// The same row once more. `Memory` where there is none for it.
+    pub fn copy(&self, alloc: Global) -> Result<OutRow, Memory>
+        ensures { IfOk result (λ row. row ≡ self.now) }
+    {
+        Ok(OutRow {
+            script: Bytes::copy(alloc, self.script.as_slice())?,
+            height: self.height,
+            sats: self.sats.copy(alloc)?,
+        })
+    }
+}

@@ -1,0 +1,7 @@
+//! The unspent outputs in memory: rows by outpoint, with a mark to which they can go back.
+#![tactic(auto)]
+
+mod outputs;
+mod slots;
+
+pub use outputs::Outputs;

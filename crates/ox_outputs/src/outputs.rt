@@ -1,0 +1,93 @@
+//! The unspent outputs.
+
+ghost use Rattle.std.specs.Prelude.{◌≡◌, false, [], IsTrue, IsSome, IfOk, OnOk, OnErr, length, if◌then◌else◌, Some, None};
+ghost use Rattle.std.specs.Option.{option_copied};
+ghost use Rattle.std.specs.FinMap as map;
+ghost use Rattle.ox_outputs.specs.Slots.{rows_of, undone, are_slots};
+
+use crate::slots::{Slots, exchange, fill, forget, go_back, kept_row, row_at, take_slot, tidy};
+use ox_block::OutPoint;
+use ox_model::{Memory, OutRow, OutTable, Unplaced};
+use std::alloc::Global;
+use std::collections::BTreeMap;
+
+/// The unspent outputs: rows by outpoint, in memory. With a mark set, the rows that were taken or displaced since are
+/// kept until the next mark, so that to go back takes no memory.
+#[derive(Drop)]
+pub struct Outputs {
+    alloc: Global,
+    slots: Slots,
+    /// The outpoints at which rows changed, the oldest change first, and what stood there.
+    changed: Vec<OutPoint>,
+    before: Vec<Option<OutRow>>,
+    marked: bool,
+    ghost known: { IsTrue (are_slots changed.items slots.entries) },
+    ghost paired: { length before.items ≡ length changed.items },
+    ghost unmarked: { marked ≡ false → changed.items ≡ [] },
+}
+
+impl Outputs {
+    /// No outputs, and no mark.
+    pub fn new(alloc: Global) -> Outputs {
+        Outputs {
+            alloc,
+            slots: BTreeMap::new(alloc),
+            changed: Vec::new(alloc),
+            before: Vec::new(alloc),
+            marked: false,
+        }
+    }
+}
+
+impl OutTable for Outputs {
+    ghost contents = { λ outputs. rows_of outputs.slots.entries };
+
+    ghost marked = { λ outputs. if outputs.marked then Some (undone outputs.before.items outputs.changed.items (rows_of outputs.slots.entries)) else None };
+
+    fn get(&self, at: &OutPoint) -> Option<&OutRow> {
+        row_at(&self.slots, at)
+    }
+
+    fn take(&mut self, at: &OutPoint) -> Result<Option<OutRow>, Memory> {
+        if !self.marked {
+            return Ok(take_slot(&mut self.slots, at));
+        }
+        let Some(kept) = kept_row(&self.slots, at, self.alloc)? else {
+            return Ok(None);
+        };
+        self.changed.reserve(1)?;
+        self.before.reserve(1)?;
+        self.changed.push_reserved(*at);
+        self.before.push_reserved(Some(kept));
+        Ok(exchange(&mut self.slots, *at, None))
+    }
+
+    fn place(&mut self, at: &OutPoint, row: OutRow) -> Result<Option<OutRow>, Unplaced> {
+        if !self.marked {
+            return fill(&mut self.slots, *at, row);
+        }
+        let Ok(kept) = kept_row(&self.slots, at, self.alloc) else {
+            return Err(Unplaced { row });
+        };
+        if self.changed.reserve(1).is_err() || self.before.reserve(1).is_err() {
+            return Err(Unplaced { row });
+        }
+        let displaced = fill(&mut self.slots, *at, row)?;
+        self.changed.push_reserved(*at);
+        self.before.push_reserved(kept);
+        Ok(displaced)
+    }
+
+    fn begin(&mut self) -> Result<(), Memory> {
+        forget(&mut self.slots, &mut self.changed);
+        self.before.clear();
+        self.marked = true;
+        Ok(())
+    }
+
+    fn cancel(&mut self) {
+        go_back(&mut self.slots, &self.changed, &mut self.before);
+        forget(&mut self.slots, &mut self.changed);
+        self.marked = false;
+    }
+}

@@ -1,0 +1,115 @@
+//! Slots for rows. A slot that is there can be filled and emptied without memory.
+
+ghost use Rattle.std.specs.Prelude.{◌≡◌, IsTrue, ◌↔◌, Option, None, IsSome, IfOk, IfErr, OnOk, OnErr, [], length};
+ghost use Rattle.std.specs.Option.{option_copied};
+ghost use Rattle.std.specs.FinMap as map;
+ghost use Rattle.ox_block.specs.declared.block.OutPoint.{OutPoint};
+ghost use Rattle.ox_outputs.specs.Slots.{slot_at, put_slot, rows_of, undone, are_slots};
+
+use ox_block::OutPoint;
+use ox_model::{Memory, OutRow, Unplaced};
+use std::alloc::Global;
+use std::collections::BTreeMap;
+
+/// Slots by outpoint, each with a row or empty.
+pub(crate) type Slots = BTreeMap<OutPoint, Option<OutRow>>;
+
+/// The row in the slot at this outpoint.
+pub(crate) fn row_at<'a>(slots: &'a Slots, at: &OutPoint) -> Option<&'a OutRow>
+    ensures { option_copied result ≡ map.get (rows_of slots.now.entries) at.now }
+{
+    match slots.get(at) {
+        Some(slot) => slot.as_ref(),
+        None => None,
+    }
+}
+
+/// Changes what a slot that is there holds, and answers what it held.
+pub(crate) fn exchange(slots: &mut Slots, at: OutPoint, row: Option<OutRow>) -> Option<OutRow>
+    requires { IsSome (slot_at slots.old.entries at) }
+    ensures held { result ≡ map.get (rows_of slots.old.entries) at }
+    ensures rows { rows_of slots.new.entries ≡ put_slot (rows_of slots.old.entries) at row }
+    ensures others { (q : OutPoint) → IsSome (slot_at slots.old.entries q) → IsSome (slot_at slots.new.entries q) }
+{
+    match slots.insert(at, row) {
+        Ok(Some(held)) => held,
+        Ok(None) => None,
+        Err(_) => unreachable!(),
+    }
+}
+
+/// Takes the slot at this outpoint away, and answers what it held.
+pub(crate) fn take_slot(slots: &mut Slots, at: &OutPoint) -> Option<OutRow>
+    ensures held { result ≡ map.get (rows_of slots.old.entries) at.now }
+    ensures rows { rows_of slots.new.entries ≡ put_slot (rows_of slots.old.entries) at.now None }
+{
+    match slots.remove(at) {
+        Some(held) => held,
+        None => None,
+    }
+}
+
+/// Takes the slot at this outpoint away if it is empty: no row is lost.
+pub(crate) fn tidy(slots: &mut Slots, at: OutPoint)
+    ensures { rows_of slots.new.entries ≡ rows_of slots.old.entries }
+{
+    match row_at(slots, &at) {
+        Some(_) => (),
+        None => {
+            let _empty = take_slot(slots, &at);
+        }
+    }
+}
+
+/// Fills the slot at this outpoint, which is made where there is none, and answers what it held. Where there is no
+/// memory for a new slot, the row is handed back and the slots are as before.
+pub(crate) fn fill(slots: &mut Slots, at: OutPoint, row: OutRow) -> Result<Option<OutRow>, Unplaced>
+    ensures held { IfOk result (λ held. held ≡ map.get (rows_of slots.old.entries) at) }
+    ensures rows { OnOk result (rows_of slots.new.entries ≡ map.insert (rows_of slots.old.entries) at row) }
+    ensures slot { OnOk result (IsSome (slot_at slots.new.entries at)) }
+    ensures others { (q : OutPoint) → IsSome (slot_at slots.old.entries q) → IsSome (slot_at slots.new.entries q) }
+    ensures handed_back { IfErr result (λ e. e.row ≡ row) }
+    ensures err { OnErr result (slots.new.entries ≡ slots.old.entries) }
+{
+    match slots.insert(at, Some(row)) {
+        Ok(Some(held)) => Ok(held),
+        Ok(None) => Ok(None),
+        Err(failed) => match failed.value {
+            (_, Some(row)) => Err(Unplaced { row }),
+            (_, None) => unreachable!(),
+        },
+    }
+}
+
+/// A copy of the row at this outpoint, if there is one.
+pub(crate) fn kept_row(slots: &Slots, at: &OutPoint, alloc: Global) -> Result<Option<OutRow>, Memory>
+    ensures { IfOk result (λ kept. kept ≡ map.get (rows_of slots.now.entries) at.now) }
+{
+    match row_at(slots, at) {
+        Some(row) => Ok(Some(row.copy(alloc)?)),
+        None => Ok(None),
+    }
+}
+
+/// Takes the empty slots among these away: no row is lost.
+pub(crate) fn forget(slots: &mut Slots, changed: &mut Vec<OutPoint>)
+    ensures rows { rows_of slots.new.entries ≡ rows_of slots.old.entries }
+    ensures none { changed.new.items ≡ [] }
+{
+    while let Some(at) = changed.pop() {
+        tidy(slots, at);
+    }
+}
+
+/// Puts back what stood at the changed outpoints, the newest change first.
+pub(crate) fn go_back(slots: &mut Slots, changed: &[OutPoint], before: &mut Vec<Option<OutRow>>)
+    requires paired { length before.old.items ≡ length changed.now }
+    requires known { IsTrue (are_slots changed.now slots.old.entries) }
+    ensures rows { rows_of slots.new.entries ≡ undone before.old.items changed.now (rows_of slots.old.entries) }
+    ensures known { IsTrue (are_slots changed.now slots.new.entries) }
+    ensures none { before.new.items ≡ [] }
+{
+    while let Some(row) = before.pop() {
+        let _changed = exchange(slots, changed[before.len()], row);
+    }
+}
