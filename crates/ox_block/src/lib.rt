@@ -4,6 +4,7 @@
 mod block;
 mod fault;
 mod lists;
+mod reading;
 
 pub use block::{Block, Header, OutPoint, Tx, TxIn, TxOut, Txid};
 pub use fault::BlockFault;
