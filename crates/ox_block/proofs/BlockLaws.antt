@@ -1,18 +1,21 @@
 -- The laws of a transaction, a header and a block, and of all of the bytes.
-use Rattle.std.proofs.Common.{◌≡◌, ℕ, zero, suc, ◌+◌, ◌-◌, ◌^◌, ◌<◌, ◌≤◌, Bool, true, false, ◌||◌, cond, ltb, eqb, List, [], ◌∷◌, ◌++◌, length, Result, Ok, Err, refl, sym, ap, subst, ◌∙◌, append_assoc, arith, inl, inr}
+use Rattle.std.proofs.Common.{◌≡◌, ℕ, zero, suc, ◌^◌, ◌<◌, ◌≤◌, Bool, true, false, cond, ltb, eqb, List, [], ◌∷◌, ◌++◌, length, Result, Ok, Err, refl, sym, ap, subst, ◌∙◌, append_assoc, arith, inl, inr}
 use Rattle.std.specs.Int.{w32, to_le_bytes}
 use Rattle.std.specs.List.{flat_map, AllByRecursion, list_any}
-use Rattle.std.proofs.lemmas.Bool.{cases_lt, ltb-true, ltb-false, le-ltb, lt-ltb, eqb-true, eqb-false, ne_eqb}
+use Rattle.std.proofs.lemmas.Bool.{cases_lt, ltb-false, le-ltb, eqb-true, eqb-false}
 use Rattle.std.proofs.lemmas.List.{append-nil, nil_from_length}
 use Rattle.ox_bytes.specs.Spelling.{compact}
-use Rattle.ox_bytes.specs.Reading.{◌>>=◌, Reader, number_at, run_at, both, mapped, counted}
+use Rattle.ox_bytes.specs.Reading.{◌>>=◌, number_at, run_at, both, counted}
 use Rattle.ox_bytes.proofs.Laws.{IsBytes, IsBytes-rest, bind_ok, chosen, guard_ok, ok_is, Takes, Takes-then, Law, wide32, number_law, run_law, compact_1, compact_2, compact_4, compact_8, both_law, mapped_law, counted_law}
 use Rattle.ox_block.specs.declared.block.TxIn.{TxIn}
 use Rattle.ox_block.specs.declared.block.TxOut.{TxOut}
 use Rattle.ox_block.specs.declared.block.Tx.{Tx}
 use Rattle.ox_block.specs.declared.block.Header.{Header}
 use Rattle.ox_block.specs.declared.block.Block.{Block}
-use Rattle.ox_block.specs.Spelling.{input, inputs, outputs, stacks, stripped, extended, tx, header, spell, most_value, most_bytes, FitsInput, has_witness, LawfulTx, FitsHeader, Lawful}
+use Rattle.ox_block.specs.Spelling.{input, inputs, outputs, stacks, stripped, extended, tx, header, spell, most_bytes, has_witness, LawfulTx, FitsHeader, Lawful, Spells}
+use Rattle.std.specs.Prelude.{IfOk}
+use Rattle.ox_block.specs.declared.fault.BlockFault.{BlockFault}
+use Rattle.ox_block.specs.Answer.{Gives}
 use Rattle.ox_block.specs.Reading.{count_at, inputs_at, outputs_at, stacks_of, witnesses_at, marker_at, maybe_witnesses_at, tx_at, header_at, block_at, whole_of, placed, block_of}
 use Rattle.ox_block.proofs.Laws.{IsCount, count_law, count_from, FitsBare, inputs_law, FitsOutputs, outputs_law, bares, FitStacks, stacks_take, stacks_repeat, inputs_bare, length_bare, fits_bare, from_bare, bare_already, none_of_bare, bare_if_none}
 
@@ -44,14 +47,14 @@ unmarked_count n rest more =
     elim (cases_lt n 253) [
       | inl small ↦ subst P (sym (compact_1 n small)) (unmarked n rest more)
       | inr le ↦
-        elim (cases_lt n (2 ^ 16)) [
-          | inl small ↦ subst P (sym (compact_2 n le small)) (unmarked 253 _ (omega arith))
-          | inr le ↦
-            elim (cases_lt n (2 ^ 32)) [
-              | inl small ↦ subst P (sym (compact_4 n le small)) (unmarked 254 _ (omega arith))
-              | inr le ↦ subst P (sym (compact_8 n le)) (unmarked 255 _ (omega arith))
-            ]
-        ]
+          elim (cases_lt n (2 ^ 16)) [
+            | inl small ↦ subst P (sym (compact_2 n le small)) (unmarked 253 _ (omega arith))
+            | inr le ↦
+                elim (cases_lt n (2 ^ 32)) [
+                  | inl small ↦ subst P (sym (compact_4 n le small)) (unmarked 254 _ (omega arith))
+                  | inr le ↦ subst P (sym (compact_8 n le)) (unmarked 255 _ (omega arith))
+                ]
+          ]
     ]
 
 marker_again : (m : Bool) (n : ℕ) (rest : List ℕ) → 0 < n → marker_at (mark m ++ (compact n ++ rest)) ≡ Ok (m, compact n ++ rest)
@@ -73,14 +76,14 @@ maybe_take true marker is bytes z fits bare e =
     let t = stacks_take is bytes a.0 fits a.1 in
     elim (chosen (list_any has_witness a.0.0) (Ok a.0) (Err marker) (Ok z) a.2) [
       | inl p ↦
-        subst (λ (y : List TxIn × List ℕ). Takes bytes (stacks y.0) y.1 × FitStacks y.0 × (bares y.0 ≡ is) × (true ≡ list_any has_witness y.0)) (ok_is {F = ℕ} a.0 z p.1)
+          subst (λ (y : List TxIn × List ℕ). Takes bytes (stacks y.0) y.1 × FitStacks y.0 × (bares y.0 ≡ is) × (true ≡ list_any has_witness y.0)) (ok_is {F = ℕ} a.0 z p.1)
           (t.0, t.1.0, t.1.1 ∙ bare_already is bare, sym p.0)
       | inr p ↦ absurd (let no = p.1 in cc)
     ]
 maybe_take false marker is bytes z fits bare e =
     let none = none_of_bare is bare in
     subst (λ (y : List TxIn × List ℕ). Takes bytes [] y.1 × FitStacks y.0 × (bares y.0 ≡ is) × (false ≡ list_any has_witness y.0)) (ok_is {F = ℕ} (is, bytes) z e)
-      (record { parts = refl; rest_fits = fits }, none.1, bare_already is bare, sym none.0)
+    (record { parts = refl; rest_fits = fits }, none.1, bare_already is bare, sym none.0)
 
 maybe_again : (m : Bool) (marker : ℕ) (is : List TxIn) (rest : List ℕ) → FitStacks is → m ≡ list_any has_witness is → maybe_witnesses_at m marker (bares is) (tail m is ++ rest) ≡ Ok (is, rest)
 unfolding maybe_witnesses_at witnesses_at
@@ -128,21 +131,22 @@ tx_joined bytes r1 r2 r3 r4 r5 r6 version m bare ins outs lock tv tm tb to tw tl
     let bare_front : Takes r2 (inputs ins) r3 = subst (λ (t : List ℕ). Takes r2 t r3) same tb.0 in
     let p3 = Takes-then r2 (inputs ins) r3 (outputs outs ++ (tail m ins ++ to_le_bytes w32 lock)) r6 bare_front p4 in
     let p2 = Takes-then r1 (mark m) r2 (inputs ins ++ (outputs outs ++ (tail m ins ++ to_le_bytes w32 lock))) r6 tm p3 in
-    let p1 = Takes-then bytes (to_le_bytes w32 version) r1 (mark m ++ (inputs ins ++ (outputs outs ++ (tail m ins ++ to_le_bytes w32 lock)))) r6 tv.0 p2 in
-    (subst (λ (t : List ℕ). Takes bytes t r6) (sym (laid_is m made)) p1,
-    record {
-      version = tv.1;
-      some_input = positive (length ins) some.1;
-      few_inputs = some.0;
-      inputs = from_bare ins (subst (λ (xs : List TxIn). AllByRecursion FitsBare xs) (sym tw.2) tb.1.1);
-      some_output = positive (length outs) to.1.0.1;
-      few_outputs = to.1.0.0;
-      outputs = to.1.1.0;
-      values = to.1.1.1;
-      stacks = tw.1;
-      marked = tw.3;
-      lock = tl.1;
-    })
+    let p1 = Takes-then bytes (to_le_bytes w32 version) r1 (mark m ++ (inputs ins ++ (outputs outs ++ (tail m ins ++ to_le_bytes w32 lock)))) r6 tv.0 p2 in (
+      subst (λ (t : List ℕ). Takes bytes t r6) (sym (laid_is m made)) p1,
+      record {
+        version = tv.1;
+        some_input = positive (length ins) some.1;
+        few_inputs = some.0;
+        inputs = from_bare ins (subst (λ (xs : List TxIn). AllByRecursion FitsBare xs) (sym tw.2) tb.1.1);
+        some_output = positive (length outs) to.1.0.1;
+        few_outputs = to.1.0.0;
+        outputs = to.1.1.0;
+        values = to.1.1.1;
+        stacks = tw.1;
+        marked = tw.3;
+        lock = tl.1;
+      },
+    )
 
 tx_take : (bytes : List ℕ) (z : Tx × List ℕ) → IsBytes bytes → tx_at bytes ≡ Ok z → Takes bytes (tx z.0) z.1 × LawfulTx z.0
 unfolding tx_at
@@ -161,7 +165,7 @@ tx_take bytes z fits e =
     let tl = (number_law w32 (2 ^ 32) wide32).takes w.0.1 l.0 tw.0.rest_fits l.1 in
     let made : Tx = record { version = v.0.0; marked = m.0.0; inputs = w.0.0; outputs = o.0.0; lock = l.0.0 } in
     subst (λ (y : Tx × List ℕ). Takes bytes (tx y.0) y.1 × LawfulTx y.0) (ok_is {F = ℕ} (made, l.0.1) z l.2)
-      (tx_joined bytes v.0.1 m.0.1 b.0.1 o.0.1 w.0.1 l.0.1 v.0.0 m.0.0 b.0.0 w.0.0 o.0.0 l.0.0 tv tm tb to tw tl)
+    (tx_joined bytes v.0.1 m.0.1 b.0.1 o.0.1 w.0.1 l.0.1 v.0.0 m.0.0 b.0.0 w.0.0 o.0.0 l.0.0 tv tm tb to tw tl)
 
 tx_repeat : (t : Tx) (rest : List ℕ) → LawfulTx t → tx_at (tx t ++ rest) ≡ Ok (t, rest)
 unfolding tx_at
@@ -171,7 +175,7 @@ tx_repeat t rest h =
     let bare_text : inputs t.inputs ≡ inputs (bares t.inputs) = sym (inputs_bare t.inputs) in
     let some : IsCount (length (bares t.inputs)) = subst IsCount (sym (length_bare t.inputs)) (count_from (length t.inputs) h.some_input h.few_inputs) in
     let laid_out : tx t ++ rest ≡ v ++ (mark t.marked ++ (inputs t.inputs ++ (outputs t.outputs ++ (tail t.marked t.inputs ++ (l ++ rest))))) =
-        ap (λ (x : List ℕ). x ++ rest) (laid_is t.marked t) ∙ regroup_rest v (mark t.marked) (inputs t.inputs) (outputs t.outputs) (tail t.marked t.inputs) l rest in
+    ap (λ (x : List ℕ). x ++ rest) (laid_is t.marked t) ∙ regroup_rest v (mark t.marked) (inputs t.inputs) (outputs t.outputs) (tail t.marked t.inputs) l rest in
     let after_outputs = tail t.marked t.inputs ++ (l ++ rest) in
     let after_inputs = outputs t.outputs ++ after_outputs in
     let e1 = (number_law w32 (2 ^ 32) wide32).again t.version (mark t.marked ++ (inputs t.inputs ++ after_inputs)) h.version in
@@ -207,10 +211,10 @@ header_law =
     let l5 = both_law (λ (p : ((ℕ × List ℕ) × List ℕ) × ℕ). ((F p.0.0.0 × R p.0.0.1) × R p.0.1) × F p.1) F (λ (p : ((ℕ × List ℕ) × List ℕ) × ℕ). ((s p.0.0.0 ++ t p.0.0.1) ++ t p.0.1) ++ s p.1) s (both (both (both at run) run) at) at l4 n in
     let l6 = both_law (λ (p : (((ℕ × List ℕ) × List ℕ) × ℕ) × ℕ). (((F p.0.0.0.0 × R p.0.0.0.1) × R p.0.0.1) × F p.0.1) × F p.1) F (λ (p : (((ℕ × List ℕ) × List ℕ) × ℕ) × ℕ). (((s p.0.0.0.0 ++ t p.0.0.0.1) ++ t p.0.0.1) ++ s p.0.1) ++ s p.1) s (both (both (both (both at run) run) at) at) at l5 n in
     mapped_law (λ (p : HeaderParts). record { version = p.0.0.0.0.0; previous = p.0.0.0.0.1; root = p.0.0.0.1; time = p.0.0.1; bits = p.0.1; nonce = p.1 }) (λ (h : Header). (((((h.version, h.previous), h.root), h.time), h.bits), h.nonce))
-      (λ (p : HeaderParts). ((((F p.0.0.0.0.0 × R p.0.0.0.0.1) × R p.0.0.0.1) × F p.0.0.1) × F p.0.1) × F p.1) FitsHeader
-      (λ (p : HeaderParts). ((((s p.0.0.0.0.0 ++ t p.0.0.0.0.1) ++ t p.0.0.0.1) ++ s p.0.0.1) ++ s p.0.1) ++ s p.1) header (both (both (both (both (both at run) run) at) at) at)
-      (λ p h. record { version = h.0.0.0.0.0; previous = h.0.0.0.0.1; root = h.0.0.0.1; time = h.0.0.1; bits = h.0.1; nonce = h.1 }) (λ p h. refl)
-      (λ h f. (((((f.version, f.previous), f.root), f.time), f.bits), f.nonce)) (λ h f. refl) l6
+    (λ (p : HeaderParts). ((((F p.0.0.0.0.0 × R p.0.0.0.0.1) × R p.0.0.0.1) × F p.0.0.1) × F p.0.1) × F p.1) FitsHeader
+    (λ (p : HeaderParts). ((((s p.0.0.0.0.0 ++ t p.0.0.0.0.1) ++ t p.0.0.0.1) ++ s p.0.0.1) ++ s p.0.1) ++ s p.1) header (both (both (both (both (both at run) run) at) at) at)
+    (λ p h. record { version = h.0.0.0.0.0; previous = h.0.0.0.0.1; root = h.0.0.0.1; time = h.0.0.1; bits = h.0.1; nonce = h.1 }) (λ p h. refl)
+    (λ h f. (((((f.version, f.previous), f.root), f.time), f.bits), f.nonce)) (λ h f. refl) l6
 
 -- ---- a block
 
@@ -236,9 +240,9 @@ whole_take bytes b fits e =
     let t = block_law.takes bytes a.0 fits a.1 in
     elim (chosen (eqb (length a.0.1) 0) (Ok a.0.0) (Err (length a.0.1)) (Ok b) a.2) [
       | inl p ↦
-        let nothing : a.0.1 ≡ [] = nil_from_length a.0.1 (eqb-true _ _ p.0) in
-        let text : bytes ≡ spell a.0.0 = t.0.parts ∙ ap (λ (r : List ℕ). spell a.0.0 ++ r) nothing ∙ append-nil (spell a.0.0) in
-        subst (λ (y : Block). LawfulParts y × (bytes ≡ spell y)) (ok_is {F = ℕ} a.0.0 b p.1) (t.1, text)
+          let nothing : a.0.1 ≡ [] = nil_from_length a.0.1 (eqb-true _ _ p.0) in
+          let text : bytes ≡ spell a.0.0 = t.0.parts ∙ ap (λ (r : List ℕ). spell a.0.0 ++ r) nothing ∙ append-nil (spell a.0.0) in
+          subst (λ (y : Block). LawfulParts y × (bytes ≡ spell y)) (ok_is {F = ℕ} a.0.0 b p.1) (t.1, text)
       | inr p ↦ absurd (let no = p.1 in cc)
     ]
 
@@ -265,3 +269,7 @@ block_takes bytes b fits e =
 pub block_again : (b : Block) → Lawful b → block_of (spell b) ≡ Ok b
 unfolding block_of
 block_again b h = rw (le-ltb most_bytes (length (spell b)) h.size, whole_again b (h.header, (count_from (length b.txs) h.some_tx h.few_txs, h.txs))) refl
+
+pub is_found : (bytes : List ℕ) (r : Result Block BlockFault) → IsBytes bytes → Gives r (block_of bytes) → IfOk r (λ b. Spells bytes b)
+is_found bytes (Ok b) fits given = block_takes bytes b fits given
+is_found bytes (Err e) fits given = tt

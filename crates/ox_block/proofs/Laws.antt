@@ -1,24 +1,20 @@
 -- The two laws of each reader: what is read is spelled so, and what is spelled so is read, whatever follows it.
-use Rattle.std.proofs.Common.{◌≡◌, ℕ, zero, suc, ◌+◌, ◌-◌, ◌^◌, ◌<◌, ◌≤◌, Bool, true, false, ◌||◌, cond, ltb, eqb, List, [], ◌∷◌, ◌++◌, length, map, Result, Ok, Err, refl, sym, ap, subst, ◌∙◌, append_assoc, arith}
+use Rattle.std.proofs.Common.{◌≡◌, ℕ, zero, suc, ◌-◌, ◌^◌, ◌<◌, ◌≤◌, Bool, true, false, ◌||◌, ltb, eqb, List, [], ◌∷◌, ◌++◌, length, Ok, refl, sym, ap, subst, ◌∙◌, append_assoc, arith}
 use Rattle.std.specs.Int.{w32, w64, to_le_bytes}
 use Rattle.std.specs.List.{flat_map, AllByRecursion, list_any}
 use Rattle.std.specs.Prelude.{sum_by}
-use Rattle.std.proofs.lemmas.Bool.{cases_lt, ltb-true, ltb-false, le-ltb, lt-ltb, eqb-true, eqb-false, ne_eqb}
-use Rattle.std.proofs.lemmas.List.{append-nil, nil_from_length}
+use Rattle.std.proofs.lemmas.Bool.{ltb-false, le-ltb, ne_eqb}
+use Rattle.std.proofs.lemmas.List.{nil_from_length}
 use Rattle.std.proofs.lemmas.List.Concat.{flat_map-cons}
 use Rattle.std.proofs.lemmas.List.Sums.{sum_by-cons}
 use Rattle.ox_bytes.specs.Spelling.{compact, string}
-use Rattle.ox_bytes.specs.Reading.{◌>>=◌, Reading, Reader, number_at, run_at, compact_at, string_at, both, mapped, unless, times, counted}
-use Rattle.ox_bytes.proofs.Laws.{IsBytes, IsBytes-rest, bind_ok, guard_ok, ok_is, Takes, Takes-then, Law, wide32, wide64, number_law, run_law, compact_law, compact_1, compact_2, compact_4, compact_8, string_law, both_law, mapped_law, unless_law, counted_law}
-use Rattle.ox_block.specs.declared.block.Txid.{Txid}
+use Rattle.ox_bytes.specs.Reading.{◌>>=◌, number_at, run_at, compact_at, string_at, both, unless}
+use Rattle.ox_bytes.proofs.Laws.{IsBytes, bind_ok, ok_is, Takes, Takes-then, Law, wide32, wide64, number_law, run_law, compact_law, string_law, both_law, mapped_law, unless_law, counted_law}
 use Rattle.ox_block.specs.declared.block.OutPoint.{OutPoint}
 use Rattle.ox_block.specs.declared.block.TxIn.{TxIn}
 use Rattle.ox_block.specs.declared.block.TxOut.{TxOut}
-use Rattle.ox_block.specs.declared.block.Tx.{Tx}
-use Rattle.ox_block.specs.declared.block.Header.{Header}
-use Rattle.ox_block.specs.declared.block.Block.{Block}
-use Rattle.ox_block.specs.Spelling.{outpoint, input, output, inputs, outputs, stack, stacks, stripped, extended, tx, header, spell, most_value, most_bytes, FitsString, FitsInput, FitsOutput, FitsStack, has_witness, LawfulTx, FitsHeader, Lawful}
-use Rattle.ox_block.specs.Reading.{count_at, outpoint_at, input_at, inputs_at, output_at, outputs_of, outputs_at, stack_at, stacks_of, witnesses_at, marker_at, maybe_witnesses_at, tx_at, header_at, block_at, whole_of, placed, block_of}
+use Rattle.ox_block.specs.Spelling.{outpoint, input, output, inputs, outputs, stack, stacks, most_value, FitsString, FitsInput, FitsOutput, FitsStack, has_witness}
+use Rattle.ox_block.specs.Reading.{count_at, outpoint_at, input_at, inputs_at, output_at, outputs_of, outputs_at, stack_at, stacks_of}
 
 -- ---- counts
 
@@ -58,7 +54,7 @@ input_law = mapped_law (λ (p : BareParts). record { from = p.0.0; script = p.0.
     (λ p h. (record { txid = h.0.0.0; index = h.0.0.1; script = h.0.1; sequence = h.1 }, refl)) (λ p h. refl) (λ i h. (((h.0.txid, h.0.index), h.0.script), h.0.sequence))
     (λ i h. ap (λ (w : List (List ℕ)). record i { witness = w }) (sym h.1))
     (both_law (λ (p : OutPoint × List ℕ). FitsOutpoint p.0 × FitsString p.1) (λ n. n < 2 ^ 32) (λ (p : OutPoint × List ℕ). outpoint p.0 ++ string p.1) (to_le_bytes w32) (both outpoint_at string_at) (number_at w32)
-      (both_law FitsOutpoint FitsString outpoint string outpoint_at string_at outpoint_law string_law) (number_law w32 (2 ^ 32) wide32))
+    (both_law FitsOutpoint FitsString outpoint string outpoint_at string_at outpoint_law string_law) (number_law w32 (2 ^ 32) wide32))
 
 pub inputs_law : Law (λ (is : List TxIn). IsCount (length is) × AllByRecursion FitsBare is) inputs inputs_at
 unfolding inputs_at
@@ -75,7 +71,7 @@ output_law most = mapped_law (λ (p : ℕ × List ℕ). record { value = p.0; sc
     (λ (p : ℕ × List ℕ). ((p.0 < 2 ^ 64) × (ltb most p.0 ≡ false)) × FitsString p.1) (FitsBelow most) (λ (p : ℕ × List ℕ). to_le_bytes w64 p.0 ++ string p.1) output (both (unless (λ value. ltb most value) (number_at w64)) string_at)
     (λ p h. h) (λ p h. refl) (λ o h. h) (λ o h. refl)
     (both_law (λ n. (n < 2 ^ 64) × (ltb most n ≡ false)) FitsString (to_le_bytes w64) string (unless (λ value. ltb most value) (number_at w64)) string_at
-      (unless_law (λ value. ltb most value) (λ n. n < 2 ^ 64) (to_le_bytes w64) (number_at w64) (number_law w64 (2 ^ 64) wide64)) string_law)
+    (unless_law (λ value. ltb most value) (λ n. n < 2 ^ 64) (to_le_bytes w64) (number_at w64) (number_law w64 (2 ^ 64) wide64)) string_law)
 
 -- each output fits what the outputs before it leave
 abbrev pub FitAll : ℕ → List TxOut → Type 0
@@ -93,7 +89,7 @@ outputs_take (suc n) most bytes z fits e =
     let others = outputs_take n (most - a.0.0.value) a.0.1 b.0 first.0.rest_fits b.1 in
     let whole = Takes-then bytes (output a.0.0) a.0.1 (flat_map output b.0.0) b.0.1 first.0 others.0 in
     subst (λ (y : List TxOut × List ℕ). Takes bytes (flat_map output y.0) y.1 × ((length y.0 ≡ suc n) × FitAll most y.0)) (ok_is {F = ℕ} (a.0.0 ∷ b.0.0, b.0.1) z b.2)
-      (rw flat_map-cons whole, (ap suc others.1.0, (first.1, others.1.1)))
+    (rw flat_map-cons whole, (ap suc others.1.0, (first.1, others.1.1)))
 
 outputs_repeat : (os : List TxOut) (most : ℕ) (rest : List ℕ) → FitAll most os → outputs_of (length os) most (flat_map output os ++ rest) ≡ Ok (os, rest)
 unfolding outputs_of
@@ -169,7 +165,7 @@ stacks_take (i ∷ is) bytes z fits e =
     let made : TxIn = record i { witness = a.0.0 } in
     let grouped : stacks (made ∷ b.0.0) ≡ stack a.0.0 ++ stacks b.0.0 = flat_map-cons each_stack made b.0.0 in
     subst (λ (y : List TxIn × List ℕ). Takes bytes (stacks y.0) y.1 × (FitStacks y.0 × (bares y.0 ≡ bares (i ∷ is)))) (ok_is {F = ℕ} (made ∷ b.0.0, b.0.1) z b.2)
-      (subst (λ (t : List ℕ). Takes bytes t b.0.1) (sym grouped) whole, ((first.1, others.1.0), ap (λ (xs : List TxIn). bare i ∷ xs) others.1.1))
+    (subst (λ (t : List ℕ). Takes bytes t b.0.1) (sym grouped) whole, ((first.1, others.1.0), ap (λ (xs : List TxIn). bare i ∷ xs) others.1.1))
 
 pub stacks_repeat : (is : List TxIn) (rest : List ℕ) → FitStacks is → stacks_of (bares is) (stacks is ++ rest) ≡ Ok (is, rest)
 unfolding stacks_of
