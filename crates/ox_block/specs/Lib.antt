@@ -2,3 +2,4 @@ pub mod Spelling
 pub mod Reading
 pub mod Answer
 pub mod Hashes
+pub mod Putting
