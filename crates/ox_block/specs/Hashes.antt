@@ -1,9 +1,10 @@
 -- Hashes of blocks and transactions, in serialized order.
-use Rattle.std.specs.Prelude.{ℕ, List}
+use Rattle.std.specs.Prelude.{ℕ, zero, suc, List, [], ◌∷◌, ◌++◌, length, map, replicate, nat_lt, if◌then◌else◌}
 use Rattle.sha2.specs.Sha256.{sha256}
 use Rattle.ox_block.specs.Spelling.{header, stripped, tx}
 use Rattle.ox_block.specs.declared.block.Header.{Header}
 use Rattle.ox_block.specs.declared.block.Tx.{Tx}
+use Rattle.ox_block.specs.declared.block.Block.{Block}
 
 -- SHA-256 applied twice
 abbrev pub twice_hashed : List ℕ → List ℕ
@@ -20,3 +21,38 @@ txid t = twice_hashed (stripped t)
 -- the id over the whole form (BIP 141)
 unfoldable pub wtxid : Tx → List ℕ
 wtxid t = twice_hashed (tx t)
+
+-- ---- the root of a row of hashes
+
+-- the row above: pairs are hashed, and an odd last one with itself
+unfoldable pub paired : List (List ℕ) → List (List ℕ)
+paired [] = []
+paired (a ∷ []) = twice_hashed (a ++ a) ∷ []
+paired (a ∷ b ∷ row) = twice_hashed (a ++ b) ∷ paired row
+
+-- so many rows up, and none above a row of one hash
+unfoldable pub rows_up : ℕ → List (List ℕ) → List (List ℕ)
+rows_up zero row = row
+rows_up (suc n) row = if nat_lt 1 (length row) then rows_up n (paired row) else row
+
+-- the first hash of a row
+abbrev pub first_hash : List (List ℕ) → List ℕ
+first_hash [] = []
+first_hash (a ∷ row) = a
+
+-- The one that is left: no row takes more steps than it has hashes.
+unfoldable pub root_of : List (List ℕ) → List ℕ
+root_of row = first_hash (rows_up (length row) row)
+
+-- the root of the transactions' ids
+unfoldable pub block_root : Block → List ℕ
+block_root b = root_of (map txid b.txs)
+
+-- the ids over the whole forms, the coinbase's counting as 32 zero bytes (BIP 141)
+abbrev pub witness_ids : List Tx → List (List ℕ)
+witness_ids [] = []
+witness_ids (coinbase ∷ txs) = replicate 32 0 ∷ map wtxid txs
+
+-- their root
+unfoldable pub block_witness_root : Block → List ℕ
+block_witness_root b = root_of (witness_ids b.txs)

@@ -1,3 +1,5 @@
 pub mod Spelling
 pub mod Reading
+pub mod Answer
 pub mod Hashes
+pub mod Putting

@@ -3,8 +3,19 @@
 
 mod block;
 mod fault;
+mod hashing;
 mod lists;
+mod read;
+mod reading;
+mod roots;
+mod sink;
+mod spelling;
+mod write;
 
 pub use block::{Block, Header, OutPoint, Tx, TxIn, TxOut, Txid};
 pub use fault::BlockFault;
+pub use hashing::{hash, txid_of, wtxid_of};
 pub use lists::{Inputs, Outs, Txs, Witness};
+pub use read::read_block;
+pub use roots::{root, witness_root};
+pub use write::{write_block, written_reads_back};

@@ -1,0 +1,5 @@
+pub mod Laws
+pub mod BlockLaws
+pub mod Loops
+pub mod Puts
+pub mod Rows

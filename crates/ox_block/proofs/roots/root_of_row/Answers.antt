@@ -1,0 +1,20 @@
+use Rattle.std.proofs.Common.{length, ◌∙◌, ap, arith}
+use Rattle.ox_block.specs.Hashes.{root_of, paired}
+use Rattle.ox_block.proofs.Rows.{length-paired, root_above, is_root}
+use Rattle.ox_block.proofs.roots.root_of_row.Goals as goal
+
+pub rows-smaller : goal.rows-smaller
+rows-smaller c =
+    let less = length-paired c.rows.row.items in
+    let many = ap (λ (xs : _). length xs) (c.in_ok-row.ensures ∙ ap paired c.deref.ensures.value) in
+    omega (arith, less.0, less.1, many)
+
+pub rows-preserved : goal.rows-preserved
+rows-preserved c =
+    let less = length-paired c.rows.row.items in
+    let is = c.in_ok-row.ensures ∙ ap paired c.deref.ensures.value in
+    let many = ap (λ (xs : _). length xs) is in
+    (omega (arith, less.0, less.1, many), ap root_of is ∙ root_above c.rows.row.items (omega arith) ∙ c.rows.invariant.1)
+
+pub returns : goal.returns
+returns c = is_root c.rows.row.items c.args.hashes.items c.index.result.now c.rows.invariant.0 (omega arith) c.index.ensures c.rows.invariant.1

@@ -1,0 +1,28 @@
+use Rattle.std.proofs.Common.{◌++◌, ◌∷◌, [], subst}
+use Rattle.std.specs.Int.{w32, to_le_bytes}
+use Rattle.ox_block.specs.Spelling.{inputs, outputs, stacks}
+use Rattle.ox_block.specs.Putting.{Puts}
+use Rattle.ox_block.proofs.Puts.{puts_then, puts_last}
+use Rattle.ox_block.proofs.spelling.put_extended.Goals as goal
+
+pub returns : goal.returns
+returns g c =
+    let h = g.S.Sink.holds in
+    let v = to_le_bytes w32 c.args.tx.now.version in
+    let m = 0 ∷ 1 ∷ [] in
+    let i = inputs c.args.tx.now.inputs in
+    let o = outputs c.args.tx.now.outputs in
+    let w = stacks c.args.tx.now.inputs in
+    let l = to_le_bytes w32 c.args.tx.now.lock in
+    let s0 = c.args.sink.now in
+    let s1 = c.put_u32.new.sink in
+    let s2 = c.put.new.self in
+    let s3 = c.put_inputs.new.sink in
+    let s4 = c.put_outputs.new.sink in
+    let s5 = c.put_stacks.new.sink in
+    let s6 = c.put_u32-2.new.sink in
+    let two = puts_then h v m s0 s1 s2 c.in_ok-put_u32.ensures c.in_ok-put.ensures in
+    let three = puts_then h (v ++ m) i s0 s2 s3 two (subst (λ xs. Puts h (inputs xs) s2 s3) c.as_slice.ensures c.in_ok-put_inputs.ensures) in
+    let four = puts_then h (v ++ m ++ i) o s0 s3 s4 three (subst (λ xs. Puts h (outputs xs) s3 s4) c.as_slice-2.ensures c.in_ok-put_outputs.ensures) in
+    let five = puts_then h (v ++ m ++ i ++ o) w s0 s4 s5 four (subst (λ xs. Puts h (stacks xs) s4 s5) c.as_slice-3.ensures c.in_ok-put_stacks.ensures) in
+    puts_last h (v ++ m ++ i ++ o ++ w) l s0 s5 s6 c.put_u32-2.result five c.put_u32-2.ensures
