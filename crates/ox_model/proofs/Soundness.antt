@@ -6,7 +6,7 @@ use Rattle.std.specs.FinMap.{get, insert, remove, empty, get-empty, len-empty, l
 use Rattle.std.proofs.lemmas.Bool.{ltb-false}
 use Rattle.std.proofs.lemmas.Bool.Decides.{nat_tests}
 use Rattle.ox_bytes.specs.Reading.{◌>>=◌}
-use Rattle.ox_block.specs.Hashes.{block_hash}
+use Rattle.ox_block.specs.Hashes.{block_hash, block_root}
 use Rattle.ox_block.specs.Reading.{block_of}
 use Rattle.ox_block.specs.declared.block.Txid.{Txid}
 use Rattle.ox_block.specs.declared.block.OutPoint.{OutPoint}
@@ -192,7 +192,8 @@ accept_keeps : (p : Profile) (index : Index) (block : Block) (new : Index) → S
 accept_keeps p index block new sound is =
     let ended = bind_ok (refuse_if (nat_lt p.last (length index.hashes)) _) _ new is in
     let linked = bind_ok (refuse_if (differ block.header.previous (newest_of index.hashes)) _) _ new ended.2 in
-    let begun = bind_ok (refuse_misplaced (misplaced block.txs)) _ new linked.2 in
+    let rooted = bind_ok (refuse_if (differ block.header.root (block_root block)) _) _ new linked.2 in
+    let begun = bind_ok (refuse_misplaced (misplaced block.txs)) _ new rooted.2 in
     let after = bind_ok (transfer_of p (length index.hashes) block.txs index.outs) _ new begun.2 in
     let low : length index.hashes ≤ p.last = ltb-false _ _ (passed _ _ _ ended.1) in
     subst (Sound p) (ok_same {F = Refusal} _ _ after.2)

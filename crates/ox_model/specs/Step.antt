@@ -7,10 +7,10 @@ use Rattle.ox_block.specs.declared.block.Tx.{Tx}
 use Rattle.ox_block.specs.declared.block.TxIn.{TxIn}
 use Rattle.ox_block.specs.declared.block.Block.{Block}
 use Rattle.ox_block.specs.Reading.{block_of}
-use Rattle.ox_block.specs.Hashes.{block_hash}
+use Rattle.ox_block.specs.Hashes.{block_hash, block_root}
 use Rattle.ox_sat.specs.declared.profiles.Profile.{Profile}
 use Rattle.ox_model.specs.declared.refusal.Refusal.{Refusal}
-use Rattle.ox_model.specs.declared.refusal.Refusal.TheVariants.{Malformed, ChainEnd, Unlinked, Coinbase}
+use Rattle.ox_model.specs.declared.refusal.Refusal.TheVariants.{Malformed, ChainEnd, Unlinked, BadRoot, Coinbase}
 use Rattle.ox_model.specs.Index.{Index}
 use Rattle.ox_model.specs.Transfer.{transfer_of}
 
@@ -61,6 +61,7 @@ abbrev pub accept : Profile → Index → Block → Result Index Refusal
 accept p index block = do
   ended ← refuse_if (nat_lt p.last (length index.hashes)) (ChainEnd (length index.hashes))
   linked ← refuse_if (differ block.header.previous (newest_of index.hashes)) (Unlinked block.header.previous (newest_of index.hashes))
+  rooted ← refuse_if (differ block.header.root (block_root block)) (BadRoot block.header.root (block_root block))
   begun ← refuse_misplaced (misplaced block.txs)
   after ← transfer_of p (length index.hashes) block.txs index.outs
   Ok (record { hashes = index.hashes ++ block_hash block.header ∷ []; outs = after.outs; lost = index.lost ++ after.moved.lost })
