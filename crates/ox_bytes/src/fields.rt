@@ -2,10 +2,12 @@
 
 ghost use Rattle.std.specs.Prelude.{length};
 ghost use Rattle.std.specs.Int.{w32, w64};
-ghost use Rattle.ox_bytes.specs.Reading.{Gives, number_at, run_at, compact_at};
+ghost use Rattle.ox_bytes.specs.Reading.{Gives, GivesOrMemory, number_at, run_at, compact_at, string_at};
 
+use crate::bytes::Bytes;
 use crate::compact::compact_size;
-use crate::fault::FieldFault;
+use crate::fault::{FieldFault, ReadError};
+use std::alloc::Global;
 
 /// A number of 4 bytes, low byte first. The fault comes exactly where fewer are left.
 #[tactic(auto, unfolding(crate::specs::Reading::number_at))]
@@ -55,4 +57,14 @@ pub fn compact_field(bytes: &[u8]) -> Result<(u64, &[u8]), FieldFault>
         Ok(found) => Ok(found),
         Err(_) => Err(FieldFault { left: bytes.len() }),
     }
+}
+
+/// A byte string, copied: its length as a compact size, and its bytes. The length and the bytes are two fields. `Memory` where there is none for the copy.
+#[tactic(auto, unfolding(crate::specs::Reading::string_at))]
+pub fn string_field(alloc: Global, bytes: &[u8]) -> Result<(Bytes, &[u8]), ReadError>
+    ensures { GivesOrMemory (λ x. (x.0, x.1.now)) result (string_at bytes.now) }
+{
+    let (len, rest) = compact_field(bytes)?;
+    let (run, rest) = run_field(rest, len)?;
+    Ok((Bytes::copy(alloc, run)?, rest))
 }

@@ -14,7 +14,7 @@ pub use bytes::Bytes;
 pub use compact::CompactFault;
 pub use cursor::{Cursor, Short};
 pub use fault::{FieldFault, ReadError};
-pub use fields::{compact_field, run_field, u32le_field, u64le_field};
+pub use fields::{compact_field, run_field, string_field, u32le_field, u64le_field};
 pub use memory::Memory;
 pub use room::Room;
 pub use writers::{put_compact, put_u32le, put_u64le};
