@@ -1,0 +1,6 @@
+pub mod Answers
+pub mod Counts
+pub mod Crash
+pub mod Event
+pub mod Files
+pub mod Log
