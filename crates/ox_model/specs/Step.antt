@@ -1,5 +1,5 @@
 -- What one block makes of an index, or why it is refused. The tests come in this order, and the first that fails decides.
-use Rattle.std.specs.Prelude.{ℕ, ◌+◌, Bool, not, List, [], ◌∷◌, ◌++◌, length, replicate, Option, Some, None, Result, Ok, Err, nat_lt, ◌==◌, ◌&&◌, if◌then◌else◌}
+use Rattle.std.specs.Prelude.{ℕ, ◌+◌, ◌-◌, Bool, not, slice_get, unwrap_or, bytes_eq, List, [], ◌∷◌, ◌++◌, length, replicate, Option, Some, None, Result, Ok, Err, nat_lt, ◌==◌, ◌&&◌, if◌then◌else◌}
 use Rattle.std.specs.List.{list_any}
 use Rattle.std.specs.Cmp.Lexicographic.{pointwise}
 use Rattle.ox_bytes.specs.Reading.{◌>>=◌}
@@ -19,20 +19,18 @@ abbrev pub refuse_if : Bool → Refusal → Result (Unit {0}) Refusal
 refuse_if fails refusal = if fails then Err refusal else Ok tt
 
 abbrev pub differ : List ℕ → List ℕ → Bool
-differ a b = not (pointwise ◌==◌ a b)
+differ a b = not (bytes_eq a b)
 
 abbrev pub zero_hash : List ℕ
 zero_hash = replicate 32 0
 
 -- the newest block's hash, or zeros before the first block
 abbrev pub newest_of : List (List ℕ) → List ℕ
-newest_of [] = zero_hash
-newest_of (hash ∷ []) = hash
-newest_of (hash ∷ hashes) = newest_of hashes
+newest_of hashes = unwrap_or (slice_get hashes (length hashes - 1)) zero_hash
 
 -- an input that names no output: a txid of zeros and the greatest index
 abbrev pub is_null : TxIn → Bool
-is_null input = pointwise ◌==◌ input.from.txid.0 zero_hash && (input.from.index == 4294967295)
+is_null input = bytes_eq input.from.txid.0 zero_hash && (input.from.index == 4294967295)
 
 -- a transaction of one input, which names no output
 abbrev pub is_coinbase : Tx → Bool

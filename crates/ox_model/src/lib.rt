@@ -9,7 +9,7 @@ mod table;
 
 pub use moved::{Moved, MovedTx, MovedTxs, SpentRows};
 pub use place::Place;
-pub use refusal::Refusal;
+pub use refusal::{Refusal, hash_text, outpoint_text};
 pub use rows::OutRow;
 pub use table::{Memory, OutTable, Unplaced};
 
