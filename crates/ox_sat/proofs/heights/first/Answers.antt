@@ -1,5 +1,4 @@
-use Rattle.std.proofs.Common.{◌≡◌, ◌+◌, ◌*◌, ◌%◌, ◌≤◌, refl, sym, arith, mul-zero, min, ◌/◌}
-use Rattle.ox_sat.specs.Heights.{first_at}
+use Rattle.std.proofs.Common.{◌≡◌, ◌+◌, refl, sym, arith, mul-zero, min, ◌/◌}
 use Rattle.ox_sat.proofs.Epochs.{minted_in-zero, counts, grows, within_supply, minted_in-capped, first_split, first_most}
 use Rattle.ox_sat.proofs.heights.first.Goals as goal
 

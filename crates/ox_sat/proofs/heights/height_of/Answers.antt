@@ -1,4 +1,4 @@
-use Rattle.std.proofs.Common.{sym, arith, refl, mul-zero, zero-add, lit<}
+use Rattle.std.proofs.Common.{mul-zero, zero-add, lit<}
 use Rattle.ox_sat.proofs.Epochs.{minted_in-zero, counts, epoch_more, mints_from, minting_is}
 use Rattle.ox_sat.proofs.heights.height_of.Goals as goal
 
