@@ -1,4 +1,4 @@
-use Rattle.std.specs.Prelude.{◌≡◌, ◌≢◌, ℕ, ◌+◌, ◌-◌, ◌^◌, ◌<◌, List, [], ◌∷◌, ◌++◌, length, slice_index_or}
+use Rattle.std.specs.Prelude.{◌≡◌, ◌≢◌, ℕ, ◌+◌, ◌-◌, ◌^◌, ◌<◌, List, [], ◌∷◌, ◌++◌, length, slice_index_or, take, drop}
 use Rattle.ox_range.specs.declared.runs.Run.{Run}
 use Rattle.ox_range.specs.Numbers.{numbers_from}
 
@@ -24,6 +24,14 @@ pub record AreRunsOf (runs : List Run) (count : ℕ) : Type 0 where
   pub len : length (numbers_of runs) ≡ count
   pub fits : count < 2 ^ 64
 
+-- the run at an index, and one of no numbers where there is none
+abbrev pub run_at : List Run → ℕ → Run
+run_at runs index = slice_index_or runs index (record { first = 0; count = 0 })
+
+-- the number behind the last of a run
+abbrev pub end_of : Run → ℕ
+end_of run = run.first + run.count
+
 -- the first numbers of a run, so many
 abbrev pub front_of : ℕ → Run → Run
 front_of keep run = record { first = run.first; count = keep }
@@ -40,4 +48,10 @@ joined run next = record { first = run.first; count = run.count + next.count }
 pub record GoesOn (runs tail : List Run) : Type 0 where
   pub some : 0 < length runs
   pub more : 0 < length tail
-  pub meets : (d : Run) → (slice_index_or runs (length runs - 1) d).first + (slice_index_or runs (length runs - 1) d).count ≡ (slice_index_or tail 0 d).first
+  pub meets : end_of (run_at runs (length runs - 1)) ≡ (run_at tail 0).first
+
+-- the runs of both lists, the last of the first and the first of the second being one
+abbrev pub Joins : List Run → List Run → List Run → Type 0
+Joins runs tail new =
+    let last = length runs - 1 in
+    new ≡ take last runs ++ joined (run_at runs last) (run_at tail 0) ∷ drop 1 tail

@@ -1,6 +1,5 @@
-ghost use Rattle.std.specs.Prelude.{◌≡◌, ℕ, ◌+◌, ◌-◌, ◌^◌, ◌<◌, ◌≤◌, ◌∷◌, [], ◌++◌, ◌↔◌, length, take, drop, slice_index_or, vec_len, IsTrue, IfOk, OnOk, OnErr};
-ghost use Rattle.ox_range.specs.declared.runs.Run.{Run};
-ghost use Rattle.ox_range.specs.Runs.{numbers_of, AreMaximal, front_of, rest_of, joined, GoesOn};
+ghost use Rattle.std.specs.Prelude.{◌≡◌, ℕ, ◌+◌, ◌-◌, ◌^◌, ◌<◌, ◌≤◌, ◌∷◌, [], ◌++◌, ◌↔◌, length, take, drop, vec_len, IsTrue, IfOk, OnOk, OnErr};
+ghost use Rattle.ox_range.specs.Runs.{numbers_of, AreMaximal, run_at, end_of, front_of, rest_of, GoesOn, Joins};
 
 use crate::runs::Run;
 use std::alloc::{AllocError, Global};
@@ -14,7 +13,7 @@ fn cut_at(runs: &[Run], len: u64, place: u64) -> (usize, u64)
     ensures index { result.0 ≤ length runs.now }
     ensures before { length (numbers_of (take result.0 runs.now)) ≡ result.1 }
     ensures from { result.1 ≤ place }
-    ensures inside { result.1 < place → (d : Run) → (result.0 < length runs.now) × (place < result.1 + (slice_index_or runs.now result.0 d).count) }
+    ensures inside { result.1 < place → (result.0 < length runs.now) × (place < result.1 + (run_at runs.now result.0).count) }
 {
     let mut index = runs.len();
     let mut before = len;
@@ -46,10 +45,10 @@ fn split_within(
     keep: u64,
 ) -> Result<Vec<Run>, AllocError>
     requires index { index < vec_len runs.old }
-    requires keep { (d : Run) → keep < (slice_index_or runs.old.items index d).count }
-    requires fits { (d : Run) → (slice_index_or runs.old.items index d).first + (slice_index_or runs.old.items index d).count < 2 ^ 64 }
-    ensures front { OnOk result ((d : Run) → runs.new.items ≡ take index runs.old.items ++ front_of keep (slice_index_or runs.old.items index d) ∷ []) }
-    ensures rest { IfOk result (λ rest. (d : Run) → rest.items ≡ rest_of keep (slice_index_or runs.old.items index d) ∷ drop (index + 1) runs.old.items) }
+    requires keep { keep < (run_at runs.old.items index).count }
+    requires fits { end_of (run_at runs.old.items index) < 2 ^ 64 }
+    ensures front { OnOk result (runs.new.items ≡ take index runs.old.items ++ front_of keep (run_at runs.old.items index) ∷ []) }
+    ensures rest { IfOk result (λ rest. rest.items ≡ rest_of keep (run_at runs.old.items index) ∷ drop (index + 1) runs.old.items) }
     ensures err { OnErr result (runs.new.items ≡ runs.old.items) }
 {
     let run = runs[index];
@@ -104,8 +103,8 @@ fn goes_on(runs: &[Run], tail: &[Run]) -> bool
 /// Puts runs behind others whose last run goes on with the first of these.
 fn append_joined(runs: &mut Vec<Run>, tail: &[Run]) -> Result<(), AllocError>
     requires meets { GoesOn runs.old.items tail.now }
-    requires fits { (d : Run) → (slice_index_or runs.old.items (length runs.old.items - 1) d).count + (slice_index_or tail.now 0 d).count < 2 ^ 64 }
-    ensures items { OnOk result ((d : Run) → runs.new.items ≡ take (length runs.old.items - 1) runs.old.items ++ joined (slice_index_or runs.old.items (length runs.old.items - 1) d) (slice_index_or tail.now 0 d) ∷ drop 1 tail.now) }
+    requires fits { (run_at runs.old.items (length runs.old.items - 1)).count + (run_at tail.now 0).count < 2 ^ 64 }
+    ensures items { OnOk result (Joins runs.old.items tail.now runs.new.items) }
     ensures err { OnErr result (runs.new.items ≡ runs.old.items) }
 {
     let seam = runs.len() - 1;

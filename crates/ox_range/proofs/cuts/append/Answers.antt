@@ -5,19 +5,19 @@ use Rattle.ox_range.proofs.CutLemmas.{append_maximal, joined_maximal, joined_num
 use Rattle.ox_range.proofs.cuts.append.Goals as goal
 
 pub append_joined-requires-clause-fits : goal.append_joined-requires-clause-fits
-append_joined-requires-clause-fits c = λ d.
+append_joined-requires-clause-fits c =
     let on : GoesOn c.args.runs.now.items c.args.tail.now = rw c.deref.ensures.value at (c.goes_on.ensures.0 c.if-goes_on.true) in
-    omega (arith, c.requires.fits, on.some, count_within c.args.runs.now.items (length c.args.runs.now.items - 1) d (omega (arith, on.some)), count_within c.args.tail.now 0 d on.more)
+    omega (arith, c.requires.fits, on.some, count_within c.args.runs.now.items (length c.args.runs.now.items - 1) zero_run (omega (arith, on.some)), count_within c.args.tail.now 0 zero_run on.more)
 
 pub returns-then-goes_on-clause-numbers : goal.returns-then-goes_on-clause-numbers
 returns-then-goes_on-clause-numbers c =
     let on : GoesOn c.args.runs.now.items c.args.tail.now = rw c.deref.ensures.value at (c.goes_on.ensures.0 c.if-goes_on.true) in
-    on_ok c.append_joined.result _ _ (λ items. rw (items zero_run) (joined_numbers c.args.runs.now.items c.args.tail.now zero_run on)) c.append_joined.ensures.items
+    on_ok c.append_joined.result _ _ (λ items. rw items (joined_numbers c.args.runs.now.items c.args.tail.now on)) c.append_joined.ensures.items
 
 pub returns-then-goes_on-clause-maximal : goal.returns-then-goes_on-clause-maximal
 returns-then-goes_on-clause-maximal c =
     let on : GoesOn c.args.runs.now.items c.args.tail.now = rw c.deref.ensures.value at (c.goes_on.ensures.0 c.if-goes_on.true) in
-    in_both c.append_joined.result _ _ _ (λ items. rw (items zero_run) (joined_maximal c.args.runs.now.items c.args.tail.now zero_run c.requires.maximal c.requires.tail on)) (λ same. rw same c.requires.maximal) c.append_joined.ensures.items c.append_joined.ensures.err
+    in_both c.append_joined.result _ _ _ (λ items. rw items (joined_maximal c.args.runs.now.items c.args.tail.now c.requires.maximal c.requires.tail on)) (λ same. rw same c.requires.maximal) c.append_joined.ensures.items c.append_joined.ensures.err
 
 pub returns-else-goes_on-clause-numbers : goal.returns-else-goes_on-clause-numbers
 returns-else-goes_on-clause-numbers c =

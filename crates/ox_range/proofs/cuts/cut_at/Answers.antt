@@ -24,5 +24,5 @@ loop-before-preserved c =
     record {
       index = omega arith;
       before = omega (arith, back);
-      inside = λ less d. (omega arith, omega (arith, back, c.loop-before-test.true, one_back c.args.runs.now c.loop-before.index c.loop-before.before d some c.loop-before.invariant.index c.loop-before.invariant.before));
+      inside = λ less. (omega arith, omega (arith, back, c.loop-before-test.true));
     }
