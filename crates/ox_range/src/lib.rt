@@ -109,6 +109,18 @@ impl Ranges {
         place_among(&self.runs, sat)
     }
 
+    /// The same numbers once more. It costs by their runs. `Memory` where there is none left.
+    pub fn copy(&self, alloc: Global) -> Result<Ranges, Memory>
+        ensures { IfOk result (λ copy. copy ≡ self.now) }
+    {
+        let runs = Vec::from_slice(alloc, &self.runs)?;
+        Ok(Ranges {
+            alloc,
+            runs,
+            len: self.len,
+        })
+    }
+
     /// Puts the numbers of `tail` behind. It costs by the runs of `tail`, in the long run. `Memory`
     /// where there is none left, and then nothing has changed.
     pub fn join(&mut self, tail: &Ranges) -> Result<(), Memory>
