@@ -1,7 +1,7 @@
 -- Names and numbers, both ways.
-use Rattle.std.proofs.Common.{◌≡◌, ℕ, zero, suc, ◌+◌, ◌-◌, ◌*◌, ◌/◌, ◌%◌, ◌^◌, ◌<◌, ◌≤◌, List, [], ◌∷◌, ◌++◌, length, replicate, All, refl, sym, ap, subst, ◌∙◌, append_assoc, append-nil, lit<, lit≤, add-one, arith, inl, inr}
+use Rattle.std.proofs.Common.{◌≡◌, ℕ, zero, suc, ◌+◌, ◌-◌, ◌*◌, ◌/◌, ◌%◌, ◌^◌, ◌<◌, ◌≤◌, List, [], ◌∷◌, ◌++◌, length, replicate, All, refl, sym, ap, subst, ◌∙◌, append_assoc, append-nil, lit<, lit≤, arith, inl, inr}
 use Rattle.std.proofs.lemmas.Bool.{lt-ltb, le-ltb, cases_lt}
-use Rattle.std.proofs.lemmas.List.{length_push, length-append}
+use Rattle.std.proofs.lemmas.List.{length_push}
 use Rattle.std.proofs.lemmas.List.Elements.{All-nil, All-cons, All-head, All-tail, All-push}
 use Rattle.ox_name.specs.Name.{IsLetter, IsName, followed, number_after, number_of, lettered, name_of, first_of, AreOneToOne}
 
@@ -34,8 +34,8 @@ lettered-short (suc more) n =
     elim (cases_lt n 26) [
       | inl low ↦ rw (lettered-low (suc more) n low) (omega arith)
       | inr high ↦
-        let ih = lettered-short more (n / 26 - 1) in
-        rw (lettered-high more n high) (omega (arith, ih, length_push (lettered more (n / 26 - 1)) (65 + n % 26)))
+          let ih = lettered-short more (n / 26 - 1) in
+          rw (lettered-high more n high) (omega (arith, ih, length_push (lettered more (n / 26 - 1)) (65 + n % 26)))
     ]
 
 number_of-lettered : (more n : ℕ) → number_of (lettered more n) ≡ n
@@ -44,11 +44,11 @@ number_of-lettered (suc more) n =
     elim (cases_lt n 26) [
       | inl low ↦ ap number_of (lettered-low (suc more) n low) ∙ omega arith
       | inr high ↦
-        let m : ℕ = n / 26 - 1 in
-        let c : ℕ = 65 + n % 26 in
-        let ih : number_of (lettered more m) ≡ m = number_of-lettered more m in
-        let e : followed m c ≡ n = omega arith in
-        ap number_of (lettered-high more n high) ∙ number_of-push (lettered more m) c (lettered-long more m) ∙ ap (λ k. followed k c) ih ∙ e
+          let m : ℕ = n / 26 - 1 in
+          let c : ℕ = 65 + n % 26 in
+          let ih : number_of (lettered more m) ≡ m = number_of-lettered more m in
+          let e : followed m c ≡ n = omega arith in
+          ap number_of (lettered-high more n high) ∙ number_of-push (lettered more m) c (lettered-long more m) ∙ ap (λ k. followed k c) ih ∙ e
     ]
 
 -- the number of the first name with so many letters more than one, by recursion
@@ -78,8 +78,8 @@ lettered-is (suc more) n lt =
     elim (cases_lt n 26) [
       | inl low ↦ rw (lettered-low (suc more) n low) (All-cons IsLetter (65 + n) [] (omega arith, omega arith) (All-nil IsLetter))
       | inr high ↦
-        let A : List ℕ → Type 0 = λ (t : List ℕ). All IsLetter t in
-        subst A (sym (lettered-high more n high)) (All-push IsLetter (lettered more (n / 26 - 1)) (65 + n % 26) (lettered-is more (n / 26 - 1) (rest_below n (suc more) high lt)) (omega arith, omega arith))
+          let A : List ℕ → Type 0 = λ (t : List ℕ). All IsLetter t in
+          subst A (sym (lettered-high more n high)) (All-push IsLetter (lettered more (n / 26 - 1)) (65 + n % 26) (lettered-is more (n / 26 - 1) (rest_below n (suc more) high lt)) (omega arith, omega arith))
     ]
 
 -- ---- from letters to the number and back
@@ -125,12 +125,12 @@ is_short (c ∷ cs) is lt =
     elim (cases_lt (length cs) 28) [
       | inl short ↦ omega arith
       | inr long ↦
-        let e : 0 + length cs ≡ length cs = omega arith in
-        let low : least (0 + length cs) ≤ number_after (c - 65) cs = number_after-least cs 0 (c - 65) (omega arith) in
-        let up : least 28 ≤ least (length cs) = least-mono 28 (length cs) long in
-        let low' : least (length cs) ≤ number_after (c - 65) cs = rw e at low in
-        let all : 2 ^ 128 ≤ least 28 = least_all in
-        absurd (omega arith)
+          let e : 0 + length cs ≡ length cs = omega arith in
+          let low : least (0 + length cs) ≤ number_after (c - 65) cs = number_after-least cs 0 (c - 65) (omega arith) in
+          let up : least 28 ≤ least (length cs) = least-mono 28 (length cs) long in
+          let low' : least (length cs) ≤ number_after (c - 65) cs = rw e at low in
+          let all : 2 ^ 128 ≤ least 28 = least_all in
+          absurd (omega arith)
     ]
 
 -- ---- the laws

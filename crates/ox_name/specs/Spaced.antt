@@ -73,4 +73,4 @@ named text = begun (marks (dotted text))
 abbrev pub ReadsBack : Type 0
 ReadsBack =
     (n spacers : ℕ) → n < 2 ^ 128 →
-        named (spaced spacers (name_of n)) ≡ Some (record { name = n; spacers = spacers % 2 ^ (length (name_of n) - 1) })
+    named (spaced spacers (name_of n)) ≡ Some (record { name = n; spacers = spacers % 2 ^ (length (name_of n) - 1) })

@@ -1,5 +1,5 @@
 -- Texts with spacers: `.` stands for U+2022, whose bytes in UTF-8 are e2 80 a2.
-use Rattle.std.specs.Prelude.{◌≡◌, ℕ, List, [], ◌∷◌, ◌==◌, ◌&&◌, if◌then◌else◌}
+use Rattle.std.specs.Prelude.{ℕ, List, [], ◌∷◌, ◌==◌, ◌&&◌, if◌then◌else◌}
 
 -- the text with a `.` for each U+2022
 abbrev pub dotted : List ℕ → List ℕ

@@ -1,6 +1,6 @@
 -- The least name that may be etched at a height, and the commitment to a name (Runes specification,
 -- "Etching"; ord's `Rune::minimum_at_height`).
-use Rattle.std.specs.Prelude.{◌≡◌, ℕ, zero, suc, ◌+◌, ◌-◌, ◌*◌, ◌/◌, ◌%◌, List, [], ◌∷◌, ◌^◌, nat_lt, nat_le, ◌==◌, if◌then◌else◌}
+use Rattle.std.specs.Prelude.{ℕ, zero, suc, ◌+◌, ◌-◌, ◌*◌, ◌/◌, ◌%◌, List, [], ◌∷◌, ◌^◌, nat_lt, nat_le, ◌==◌, if◌then◌else◌}
 use Rattle.ox_name.specs.Name.{first_of}
 
 -- Between two lengths the least name falls evenly: at place blocks into an interval that begins at the

@@ -1,5 +1,11 @@
 ghost use Rattle.std.specs.Prelude.{
-    ◌≡◌, ◌≤◌, ◌++◌, length, take, drop, reverse
+  ◌≡◌,
+  ◌≤◌,
+  ◌++◌,
+  length,
+  take,
+  drop,
+  reverse,
 };
 ghost use Rattle.ox_name.specs.Name.{IsName, number_of, name_of, AreOneToOne};
 
@@ -37,5 +43,4 @@ pub fn write_name(name: u128, into: &mut [u8; 28]) -> usize
 /// The law of names: each number of 128 bits has a name, which is its only one.
 pub fn names_are_one_to_one()
     ensures { AreOneToOne }
-{
-}
+{}

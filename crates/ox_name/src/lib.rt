@@ -10,6 +10,9 @@ mod unlock;
 
 pub use amounts::write_amount;
 pub use letters::{names_are_one_to_one, write_name};
-pub use reading::{read_name, reads_back, Named, NotName};
+pub use reading::{Named, NotName, read_name, reads_back};
 pub use spacers::write_spaced;
 pub use unlock::{commitment, is_reserved, minimum, reserved};
+
+#[cfg(test)]
+mod tests;

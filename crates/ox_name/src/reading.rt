@@ -1,5 +1,20 @@
 ghost use Rattle.std.specs.Prelude.{
-    ◌≡◌, ◌↔◌, ◌^◌, ◌<◌, ◌∷◌, false, None, Some, IfOk, IsErr, IsTrue, MatchOption, nat_lt, if◌then◌else◌
+  ◌≡◌,
+  ◌↔◌,
+  ◌^◌,
+  ◌<◌,
+  ◌∷◌,
+  ◌≤◌,
+  length,
+  true,
+  false,
+  None,
+  Some,
+  IfOk,
+  IsErr,
+  MatchOption,
+  nat_lt,
+  if◌then◌else◌,
 };
 ghost use Rattle.ox_name.specs.Name.{IsLetter, followed};
 ghost use Rattle.ox_name.specs.Texts.{BeginsWithNone, dotted};
@@ -51,15 +66,12 @@ pub fn read_name(text: &[u8]) -> Result<Named, NotName>
 /// The law of `write_spaced` and `read_name`: a written name reads back as its number, with its spacers.
 pub fn reads_back()
     ensures { ReadsBack }
-{
-}
+{}
 
 /// The letter in front, and what follows it.
 fn letter_at(text: &[u8]) -> Option<(u8, &[u8])>
-    ensures {
-        MatchOption result (BeginsWithNone IsLetter text.now)
-            (λ found. IsLetter found.0 × (text.now ≡ found.0 ∷ found.1.now))
-    }
+    ensures { MatchOption result (BeginsWithNone IsLetter text.now)
+        (λ found. IsLetter found.0 × (text.now ≡ found.0 ∷ found.1.now)) }
 {
     match text {
         [letter @ b'A'..=b'Z', rest @ ..] => Some((*letter, rest)),
@@ -69,8 +81,9 @@ fn letter_at(text: &[u8]) -> Option<(u8, &[u8])>
 
 /// Whether a spacer is in front, and what follows it.
 fn spacer_at(text: &[u8]) -> (bool, &[u8])
-    ensures spacer { IsTrue result.0 → dotted text.now ≡ 46 ∷ dotted result.1.now }
+    ensures spacer { result.0 ≡ true → dotted text.now ≡ 46 ∷ dotted result.1.now }
     ensures none { result.0 ≡ false → (result.1.now ≡ text.now) × BeginsWithNone (λ c. c ≡ 46) (dotted text.now) }
+    ensures shorter { length result.1.now ≤ length text.now }
 {
     match text {
         [b'.', rest @ ..] => (true, rest),
@@ -82,9 +95,7 @@ fn spacer_at(text: &[u8]) -> (bool, &[u8])
 /// The number of a name with one letter more behind it, if it has 128 bits.
 fn with_letter(name: u128, letter: u8) -> Option<u128>
     requires { IsLetter letter }
-    ensures {
-        result ≡ (if nat_lt (followed name letter) (2 ^ 128) then Some (followed name letter) else None)
-    }
+    ensures { result ≡ (if nat_lt (followed name letter) (2 ^ 128) then Some (followed name letter) else None) }
 {
     let longer = name.checked_add(1)?.checked_mul(26)?;
     longer.checked_add((letter - b'A') as u128)

@@ -1,5 +1,17 @@
 ghost use Rattle.std.specs.Prelude.{
-    ◌≡◌, ◌≤◌, ◌+◌, ◌++◌, [], ◌∷◌, ◌%◌, ◌==◌, ◌&&◌, length, take, drop, if◌then◌else◌
+  ◌≡◌,
+  ◌≤◌,
+  ◌+◌,
+  ◌++◌,
+  [],
+  ◌∷◌,
+  ◌%◌,
+  ◌==◌,
+  ◌&&◌,
+  length,
+  take,
+  drop,
+  if◌then◌else◌,
 };
 ghost use Rattle.ox_name.specs.Name.{name_of};
 ghost use Rattle.ox_name.specs.Spaced.{spaced, bullet};
@@ -10,9 +22,7 @@ use crate::letters::write_name;
 fn put_letter(into: &mut [u8; 112], len: usize, letter: u8, spaced: bool) -> usize
     requires { len + 4 ≤ 112 }
     ensures place { result ≡ len + (if spaced then 4 else 1) }
-    ensures written {
-        into.new ≡ take len into.old ++ letter ∷ (if spaced then bullet else []) ++ drop result into.old
-    }
+    ensures written { into.new ≡ take len into.old ++ letter ∷ (if spaced then bullet else []) ++ drop result into.old }
 {
     into[len] = letter;
     if spaced {

@@ -1,5 +1,18 @@
 ghost use Rattle.std.specs.Prelude.{
-    ◌≡◌, ◌≢◌, ◌<◌, ◌≤◌, ◌^◌, ◌-◌, ◌++◌, ◌⊎◌, ◌↔◌, IsTrue, length, take, drop, slice_index
+  ◌≡◌,
+  ◌≢◌,
+  ◌<◌,
+  ◌≤◌,
+  ◌^◌,
+  ◌-◌,
+  ◌++◌,
+  ◌⊎◌,
+  ◌↔◌,
+  IsTrue,
+  length,
+  take,
+  drop,
+  slice_index,
 };
 ghost use Rattle.ox_name.specs.Name.{first_of};
 ghost use Rattle.ox_name.specs.Unlock.{least_name, least_after, first_reserved, reserved_name, commitment_of, bytes_value};
