@@ -1,0 +1,8 @@
+use Rattle.std.proofs.Common.{◌≡◌, ◌-◌}
+use Rattle.ox_block.specs.Reading.{outputs_of}
+use Rattle.ox_bytes.proofs.Loop.{with_front}
+use Rattle.ox_block.proofs.reading.outputs_times.Given as goal
+
+-- those so far and those to come are all
+abbrev pub invariant-loop : goal.invariant-loop
+invariant-loop l = with_front l.outputs.items (outputs_of (l.count - l.counter) l.spare l.rest) ≡ outputs_of l.count l.most l.bytes

@@ -1,0 +1,9 @@
+use Rattle.std.proofs.Common.{◌≡◌, ◌-◌}
+use Rattle.ox_bytes.specs.Reading.{times}
+use Rattle.ox_block.specs.Reading.{tx_at}
+use Rattle.ox_bytes.proofs.Loop.{with_front}
+use Rattle.ox_block.proofs.reading.txs_times.Given as goal
+
+-- those so far and those to come are all
+abbrev pub invariant-loop : goal.invariant-loop
+invariant-loop l = with_front l.txs.items (times tx_at (l.count - l.counter) l.rest) ≡ times tx_at l.count l.bytes

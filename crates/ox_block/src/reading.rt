@@ -1,0 +1,299 @@
+//! Reading a block from left to right, one pass, each script copied once.
+
+ghost use Rattle.std.specs.Prelude.{◌≡◌, length, Ok, IfOk};
+ghost use Rattle.ox_bytes.specs.Reading.{Gives, GivesOrMemory, run_at, times, string_at};
+ghost use Rattle.std.specs.List.{list_any};
+ghost use Rattle.ox_block.specs.Spelling.{has_witness};
+ghost use Rattle.ox_block.specs.Reading.{count_at, outpoint_at, input_at, inputs_at, output_at, outputs_of, outputs_at, stack_at, stacks_of, witnesses_at, marker_at, maybe_witnesses_at, tx_at, header_at, block_at, whole_of};
+
+use crate::block::{Block, Header, OutPoint, Tx, TxIn, TxOut, Txid};
+use crate::lists::{Inputs, Outs, Txs, Witness};
+use ox_bytes::{
+    Bytes, FieldFault, ReadError, compact_field, string_field, u32le_field, u64le_field,
+};
+use std::alloc::Global;
+
+/// The most satoshis of a transaction's outputs together.
+const MOST_VALUE: u64 = 2_100_000_000_000_000;
+
+/// 32 bytes.
+#[tactic(auto, unfolding(ox_bytes::specs::Reading::run_at))]
+fn hash_of(bytes: &[u8]) -> Result<([u8; 32], &[u8]), FieldFault>
+    ensures { Gives (λ x. (x.0, x.1.now)) result (run_at 32 bytes.now) }
+{
+    if bytes.len() < 32 {
+        return Err(FieldFault { left: bytes.len() });
+    }
+    let (front, rest) = bytes.split_at(32);
+    let mut hash = [0; 32];
+    hash.copy_from_slice(front);
+    Ok((hash, rest))
+}
+
+/// A count that isn't 0.
+#[tactic(auto, unfolding(crate::specs::Reading::count_at))]
+fn count_of(bytes: &[u8]) -> Result<(u64, &[u8]), FieldFault>
+    ensures { Gives (λ x. (x.0, x.1.now)) result (count_at bytes.now) }
+{
+    let (count, rest) = compact_field(bytes)?;
+    if count == 0 {
+        return Err(FieldFault { left: bytes.len() });
+    }
+    Ok((count, rest))
+}
+
+#[tactic(auto, unfolding(crate::specs::Reading::outpoint_at))]
+fn outpoint_of(bytes: &[u8]) -> Result<(OutPoint, &[u8]), FieldFault>
+    ensures { Gives (λ x. (x.0, x.1.now)) result (outpoint_at bytes.now) }
+{
+    let (hash, rest) = hash_of(bytes)?;
+    let (index, rest) = u32le_field(rest)?;
+    let point = OutPoint {
+        txid: Txid(hash),
+        index,
+    };
+    Ok((point, rest))
+}
+
+/// An input. Its witness stack comes later.
+#[tactic(auto, unfolding(crate::specs::Reading::input_at))]
+fn input_of(alloc: Global, bytes: &[u8]) -> Result<(TxIn, &[u8]), ReadError>
+    ensures { GivesOrMemory (λ x. (x.0, x.1.now)) result (input_at bytes.now) }
+{
+    let (from, rest) = outpoint_of(bytes)?;
+    let (script, rest) = string_field(alloc, rest)?;
+    let (sequence, rest) = u32le_field(rest)?;
+    let input = TxIn {
+        from,
+        script,
+        sequence,
+        witness: Witness::from_vec(Vec::new(alloc)),
+    };
+    Ok((input, rest))
+}
+
+/// That many inputs.
+fn inputs_times(alloc: Global, count: u64, bytes: &[u8]) -> Result<(Vec<TxIn>, &[u8]), ReadError>
+    ensures { GivesOrMemory (λ x. (x.0.items, x.1.now)) result (times input_at count bytes.now) }
+{
+    let mut inputs = Vec::new(alloc);
+    let mut rest = bytes;
+    for _ in 0..count {
+        let (input, after) = input_of(alloc, rest)?;
+        inputs.push(input)?;
+        rest = after;
+    }
+    Ok((inputs, rest))
+}
+
+#[tactic(auto, unfolding(crate::specs::Reading::inputs_at))]
+fn inputs_of(alloc: Global, bytes: &[u8]) -> Result<(Vec<TxIn>, &[u8]), ReadError>
+    ensures { GivesOrMemory (λ x. (x.0.items, x.1.now)) result (inputs_at bytes.now) }
+{
+    let (count, rest) = count_of(bytes)?;
+    inputs_times(alloc, count, rest)
+}
+
+/// An output of at most that many satoshis.
+#[tactic(auto, unfolding(crate::specs::Reading::output_at))]
+fn output_of(alloc: Global, most: u64, bytes: &[u8]) -> Result<(TxOut, &[u8]), ReadError>
+    ensures { GivesOrMemory (λ x. (x.0, x.1.now)) result (output_at most bytes.now) }
+{
+    let (value, rest) = u64le_field(bytes)?;
+    if most < value {
+        return Err(ReadError::Fault(FieldFault { left: bytes.len() }));
+    }
+    let (script, rest) = string_field(alloc, rest)?;
+    Ok((TxOut { value, script }, rest))
+}
+
+/// That many outputs, of at most that many satoshis together.
+fn outputs_times(
+    alloc: Global,
+    count: u64,
+    most: u64,
+    bytes: &[u8],
+) -> Result<(Vec<TxOut>, &[u8]), ReadError>
+    ensures { GivesOrMemory (λ x. (x.0.items, x.1.now)) result (outputs_of count most bytes.now) }
+{
+    let mut outputs = Vec::new(alloc);
+    let mut spare = most;
+    let mut rest = bytes;
+    for _ in 0..count {
+        let (output, after) = output_of(alloc, spare, rest)?;
+        spare = spare.saturating_sub(output.value);
+        outputs.push(output)?;
+        rest = after;
+    }
+    Ok((outputs, rest))
+}
+
+#[tactic(auto, unfolding(crate::specs::Reading::outputs_at))]
+fn outputs_of(alloc: Global, bytes: &[u8]) -> Result<(Vec<TxOut>, &[u8]), ReadError>
+    ensures { GivesOrMemory (λ x. (x.0.items, x.1.now)) result (outputs_at bytes.now) }
+{
+    let (count, rest) = count_of(bytes)?;
+    outputs_times(alloc, count, MOST_VALUE, rest)
+}
+
+/// That many byte strings.
+fn strings_times(alloc: Global, count: u64, bytes: &[u8]) -> Result<(Vec<Bytes>, &[u8]), ReadError>
+    ensures { GivesOrMemory (λ x. (x.0.items, x.1.now)) result (times string_at count bytes.now) }
+{
+    let mut strings = Vec::new(alloc);
+    let mut rest = bytes;
+    for _ in 0..count {
+        let (string, after) = string_field(alloc, rest)?;
+        strings.push(string)?;
+        rest = after;
+    }
+    Ok((strings, rest))
+}
+
+#[tactic(auto, unfolding(crate::specs::Reading::stack_at))]
+fn stack_of(alloc: Global, bytes: &[u8]) -> Result<(Witness, &[u8]), ReadError>
+    ensures { GivesOrMemory (λ x. (x.0, x.1.now)) result (stack_at bytes.now) }
+{
+    let (count, rest) = compact_field(bytes)?;
+    let (strings, rest) = strings_times(alloc, count, rest)?;
+    Ok((Witness::from_vec(strings), rest))
+}
+
+/// Gives each input its stack.
+fn stacks_into<'a>(
+    alloc: Global,
+    inputs: &mut [TxIn],
+    bytes: &'a [u8],
+) -> Result<&'a [u8], ReadError>
+    ensures { GivesOrMemory (λ x. (inputs.new, x.now)) result (stacks_of inputs.old bytes.now) }
+{
+    let mut rest = bytes;
+    for input in inputs.iter_mut() {
+        let (witness, after) = stack_of(alloc, rest)?;
+        input.witness = witness;
+        rest = after;
+    }
+    Ok(rest)
+}
+
+/// Whether an input has a witness.
+fn any_witness(inputs: &[TxIn]) -> bool
+    ensures { result ≡ list_any has_witness inputs.now }
+{
+    inputs.iter().any(|input| input.witness.len() > 0)
+}
+
+/// The stacks, which may not all be empty. The marker has that many bytes from its place to the end.
+#[tactic(auto, unfolding(crate::specs::Reading::witnesses_at, crate::specs::Reading::maybe_witnesses_at))]
+fn witnesses_of(
+    alloc: Global,
+    marked: bool,
+    marker: usize,
+    mut inputs: Vec<TxIn>,
+    bytes: &[u8],
+) -> Result<(Vec<TxIn>, &[u8]), ReadError>
+    ensures { GivesOrMemory (λ x. (x.0.items, x.1.now)) result (maybe_witnesses_at marked marker inputs.items bytes.now) }
+{
+    if !marked {
+        return Ok((inputs, bytes));
+    }
+    let rest = stacks_into(alloc, &mut inputs, bytes)?;
+    if !any_witness(&inputs) {
+        return Err(ReadError::Fault(FieldFault { left: marker }));
+    }
+    Ok((inputs, rest))
+}
+
+/// Whether a marker and a flag stand there.
+#[tactic(auto, unfolding(crate::specs::Reading::marker_at))]
+fn marker_of(bytes: &[u8]) -> Result<(bool, &[u8]), FieldFault>
+    ensures { Gives (λ x. (x.0, x.1.now)) result (marker_at bytes.now) }
+{
+    match bytes {
+        [0, 1, rest @ ..] => Ok((true, rest)),
+        [0, rest @ ..] => Err(FieldFault { left: rest.len() }),
+        _ => Ok((false, bytes)),
+    }
+}
+
+#[tactic(auto, unfolding(crate::specs::Reading::tx_at))]
+fn tx_of(alloc: Global, bytes: &[u8]) -> Result<(Tx, &[u8]), ReadError>
+    ensures { GivesOrMemory (λ x. (x.0, x.1.now)) result (tx_at bytes.now) }
+{
+    let (version, behind_version) = u32le_field(bytes)?;
+    let (marked, rest) = marker_of(behind_version)?;
+    let (bare, rest) = inputs_of(alloc, rest)?;
+    let (outputs, rest) = outputs_of(alloc, rest)?;
+    let (inputs, rest) = witnesses_of(alloc, marked, behind_version.len(), bare, rest)?;
+    let (lock, rest) = u32le_field(rest)?;
+    let tx = Tx {
+        version,
+        marked,
+        inputs: Inputs::from_vec(inputs),
+        outputs: Outs::from_vec(outputs),
+        lock,
+    };
+    Ok((tx, rest))
+}
+
+/// That many transactions.
+fn txs_times(alloc: Global, count: u64, bytes: &[u8]) -> Result<(Vec<Tx>, &[u8]), ReadError>
+    ensures { GivesOrMemory (λ x. (x.0.items, x.1.now)) result (times tx_at count bytes.now) }
+{
+    let mut txs = Vec::new(alloc);
+    let mut rest = bytes;
+    for _ in 0..count {
+        let (tx, after) = tx_of(alloc, rest)?;
+        txs.push(tx)?;
+        rest = after;
+    }
+    Ok((txs, rest))
+}
+
+#[tactic(auto, unfolding(crate::specs::Reading::header_at))]
+fn header_of(bytes: &[u8]) -> Result<(Header, &[u8]), FieldFault>
+    ensures { Gives (λ x. (x.0, x.1.now)) result (header_at bytes.now) }
+{
+    let (version, rest) = u32le_field(bytes)?;
+    let (previous, rest) = hash_of(rest)?;
+    let (root, rest) = hash_of(rest)?;
+    let (time, rest) = u32le_field(rest)?;
+    let (bits, rest) = u32le_field(rest)?;
+    let (nonce, rest) = u32le_field(rest)?;
+    let header = Header {
+        version,
+        previous,
+        root,
+        time,
+        bits,
+        nonce,
+    };
+    Ok((header, rest))
+}
+
+/// A block, and the bytes behind it.
+#[tactic(auto, unfolding(crate::specs::Reading::block_at))]
+fn front_block(alloc: Global, bytes: &[u8]) -> Result<(Block, &[u8]), ReadError>
+    ensures { GivesOrMemory (λ x. (x.0, x.1.now)) result (block_at bytes.now) }
+{
+    let (header, rest) = header_of(bytes)?;
+    let (count, rest) = count_of(rest)?;
+    let (txs, rest) = txs_times(alloc, count, rest)?;
+    let block = Block {
+        header,
+        txs: Txs::from_vec(txs),
+    };
+    Ok((block, rest))
+}
+
+/// A block with nothing behind it.
+#[tactic(auto, unfolding(crate::specs::Reading::whole_of))]
+pub fn whole_block(alloc: Global, bytes: &[u8]) -> Result<Block, ReadError>
+    ensures { GivesOrMemory (λ x. x) result (whole_of bytes.now) }
+{
+    let (block, rest) = front_block(alloc, bytes)?;
+    if !rest.is_empty() {
+        return Err(ReadError::Fault(FieldFault { left: rest.len() }));
+    }
+    Ok(block)
+}
