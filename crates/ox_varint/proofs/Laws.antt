@@ -36,6 +36,7 @@ IsVarint-cons b (c ∷ cs) high n low up e h = (low, up, (high, (e, h)))
 
 pub record Found (more : ℕ) (bytes : List ℕ) (n len : ℕ) : Type 0 where
   pub spelled : IsVarint (take len bytes) n
+  pub some : 0 < len
   pub within : len ≤ length bytes
   pub short : len ≤ more + 1
 
@@ -43,7 +44,7 @@ found-one : (more b : ℕ) (bs : List ℕ) (n len : ℕ) → b < 128 → done b 
 found-one more b bs n len low e =
     let p = done-parts b 1 n len e in
     let F : ℕ → Type 0 = λ (k : ℕ). Found more (b ∷ bs) n k in
-    subst F p.1 (record { spelled = (low, sym p.0); within = omega arith; short = omega arith })
+    subst F p.1 (record { spelled = (low, sym p.0); some = omega arith; within = omega arith; short = omega arith })
 
 found-behind : (more b : ℕ) (bs : List ℕ) (r : Result (ℕ × ℕ) VarintFault) (n len : ℕ) → 128 ≤ b → b < 256 → ((m j : ℕ) → r ≡ done m j → Found more bs m j) → behind b r ≡ done n len → Found (suc more) (b ∷ bs) n len
 found-behind more b bs (Err fault) n len high up rest e = absurd cc
@@ -55,7 +56,7 @@ found-behind more b bs (Ok x) n len high up rest e =
     let q : b - 128 + 128 * x.0 ≡ n = p.0 in
     let w : x.1 ≤ length bs = f.within in
     let s : x.1 ≤ more + 1 = f.short in
-    subst F j (record { spelled = IsVarint-cons b (take x.1 bs) x.0 n high up (omega arith) f.spelled; within = omega arith; short = omega arith })
+    subst F j (record { spelled = IsVarint-cons b (take x.1 bs) x.0 n high up (omega arith) f.spelled; some = omega arith; within = omega arith; short = omega arith })
 
 pub is_found : (more : ℕ) (bytes : List ℕ) (n len : ℕ) → IsBytes bytes → varint_within more bytes ≡ done n len → Found more bytes n len
 is_found zero [] n len fits e = absurd cc

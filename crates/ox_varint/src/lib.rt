@@ -46,7 +46,7 @@ pub fn read(bytes: &[u8]) -> Result<(u128, usize), VarintFault>
     ensures exact { result ≡ varint_at bytes.now }
 
     // What is read stands there, and what stands there is read.
-    ensures length { IfOk result (λ found. (found.1 ≤ length bytes.now) × (found.1 ≤ MAX_LEN)) }
+    ensures length { IfOk result (λ found. (0 < found.1) × (found.1 ≤ length bytes.now) × (found.1 ≤ MAX_LEN)) }
     ensures found { IfOk result (λ found. IsVarint (take found.1 bytes.now) found.0) }
     ensures only { (text rest : List ℕ) (n : ℕ) → IsVarint text n → length text ≤ MAX_LEN → n < 2 ^ 128 →
         bytes.now ≡ text ++ rest → result ≡ Ok (n, length text) }

@@ -1,4 +1,4 @@
-use Rattle.std.proofs.Common.{◌≡◌, ℕ, ◌≤◌, List, length, take, Result, Ok, Err, sym, ap, ◌∙◌, arith}
+use Rattle.std.proofs.Common.{◌≡◌, ℕ, ◌<◌, ◌≤◌, List, length, take, Result, Ok, Err, sym, ap, ◌∙◌, arith}
 use Rattle.std.specs.Prelude.{IfOk}
 use Rattle.ox_varint.specs.declared.VarintFault.{VarintFault}
 use Rattle.ox_varint.specs.Varint.{IsVarint, varint_at, varint_within}
@@ -10,8 +10,8 @@ unfolding varint_at
 found_in bytes (Ok x) fits e = is_found 18 bytes x.0 x.1 fits (sym e)
 found_in bytes (Err fault) fits e = tt
 
-length_of : (bytes : List ℕ) (r : Result (ℕ × ℕ) VarintFault) → IfOk r (λ x. Found 18 bytes x.0 x.1) → IfOk r (λ x. (x.1 ≤ length bytes) × (x.1 ≤ 19))
-length_of bytes (Ok x) f = (f.within, f.short)
+length_of : (bytes : List ℕ) (r : Result (ℕ × ℕ) VarintFault) → IfOk r (λ x. Found 18 bytes x.0 x.1) → IfOk r (λ x. (0 < x.1) × (x.1 ≤ length bytes) × (x.1 ≤ 19))
+length_of bytes (Ok x) f = (f.some, f.within, f.short)
 length_of bytes (Err fault) f = tt
 
 spelled_of : (bytes : List ℕ) (r : Result (ℕ × ℕ) VarintFault) → IfOk r (λ x. Found 18 bytes x.0 x.1) → IfOk r (λ x. IsVarint (take x.1 bytes) x.0)
