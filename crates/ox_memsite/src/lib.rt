@@ -1,0 +1,9 @@
+//! A site in memory: two files on a disk that can fail, tear and crash at any moment, and a channel with an input and a log of what it showed.
+#![tactic(auto)]
+
+mod edits;
+mod replay;
+mod step;
+mod steps;
+
+pub use step::Step;
