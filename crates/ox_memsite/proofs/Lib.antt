@@ -1,2 +1,4 @@
 mod Covered
 mod Filled
+mod Kept
+mod Only

@@ -1,2 +1,5 @@
+pub mod Heard
 pub mod Kept
+pub mod Laws
 pub mod Story
+pub mod World

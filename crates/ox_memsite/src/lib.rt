@@ -3,7 +3,9 @@
 
 mod edits;
 mod replay;
+mod site;
 mod step;
 mod steps;
 
+pub use site::MemSite;
 pub use step::Step;
