@@ -2,3 +2,5 @@ mod Covered
 mod Filled
 mod Kept
 mod Only
+mod Moves
+mod Disks

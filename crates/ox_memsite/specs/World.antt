@@ -1,5 +1,5 @@
 -- A site in memory as contracts see it: what it began with, what has happened since, and what a crash at each moment leaves.
-use Rattle.std.specs.Prelude.{◌≡◌, ℕ, ◌+◌, ◌≤◌, min, Bool, true, false, List, [], ◌∷◌, ◌++◌, length, take, Result, Ok, Err, ◌⊎◌, ◌==◌, if◌then◌else◌}
+use Rattle.std.specs.Prelude.{◌≡◌, ℕ, ◌+◌, ◌≤◌, nat_lt, Bool, true, false, List, [], ◌∷◌, ◌++◌, length, take, Result, Ok, Err, ◌⊎◌, ◌==◌, if◌then◌else◌}
 use Rattle.ox_outside.specs.Counts.{Counts, greatest}
 use Rattle.ox_outside.specs.Crash.{Remains}
 use Rattle.ox_outside.specs.Disk.{Disk, synced, after_write, after_torn, IsImage}
@@ -100,9 +100,9 @@ counts_of w = record {
 
 -- ---- what a call does
 
--- one more, as far as a count goes
+-- one more, up to the greatest count
 abbrev pub counted : ℕ → ℕ
-counted n = min (n + 1) greatest
+counted n = if nat_lt n greatest then n + 1 else n
 
 abbrev pub called : World → World
 called w = record w { calls = counted w.calls }

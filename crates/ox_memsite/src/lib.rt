@@ -2,6 +2,7 @@
 #![tactic(auto)]
 
 mod edits;
+mod outside;
 mod replay;
 mod site;
 mod step;
