@@ -4,3 +4,5 @@ mod Kept
 mod Only
 mod Moves
 mod Disks
+mod Replayed
+mod Crashes

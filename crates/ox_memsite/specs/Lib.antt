@@ -1,3 +1,4 @@
+pub mod Crashed
 pub mod Heard
 pub mod Kept
 pub mod Laws

@@ -63,6 +63,10 @@ pub record World : Type 0 where
   pub hear_faults : ℕ
   pub show_faults : ℕ
 
+-- a site at its beginning: these files, all of them on the disk, and this log
+abbrev pub fresh : List ℕ → List ℕ → List Event → World
+fresh a b past = record { first = record { a = a; b = b }; past = past; steps = []; input = []; failing = []; calls = 0; starved = 0; disk_faults = 0; hear_faults = 0; show_faults = 0 }
+
 -- a file after these steps
 abbrev pub disk_of : Files → List Step → Which → Disk
 disk_of first done which = disk_after which (synced (file_of first which)) done

@@ -2,8 +2,9 @@
 ghost use Rattle.std.specs.Prelude.{◌≡◌, ◌+◌, ◌≤◌, [], ◌∷◌, ◌++◌, length, slice_range, IsTrue, IfOk, OnOk, OnErr};
 ghost use Rattle.ox_outside.specs.Event.{is_there};
 ghost use Rattle.ox_outside.specs.Files.{file_of};
-ghost use Rattle.ox_memsite.specs.World.{is_in};
+ghost use Rattle.ox_memsite.specs.World.{is_in, events_of, fresh};
 
+use crate::crash::{Choice, append_events, append_shown, crashed_bytes, has_broken_in};
 use crate::edits::{copy_range, put_at, write_one};
 use crate::step::Step;
 use crate::steps::Steps;
@@ -61,31 +62,16 @@ impl Model for MemSite {
 impl MemSite {
     ghost use Rattle.ox_memsite.specs.Heard.{Hears};
     ghost use Rattle.ox_outside.specs.declared.site.Shown.TheVariants.{Took};
-    ghost use Rattle.ox_memsite.specs.World.{World, called, is_listed, did, starves, disk_fails, breaks, hear_fails, show_fails, seen_of, log_of, Ends, EndsUnlessListed};
+    ghost use Rattle.ox_memsite.specs.World.{World, called, is_listed, did, starves, disk_fails, breaks, hear_fails, show_fails, seen_of, log_of, LeftSince, Ends, EndsUnlessListed, fresh};
+    ghost use Rattle.ox_memsite.specs.Crashed.{crashed, found};
+    ghost use Rattle.ox_outside.specs.Event.{shown_bytes};
     ghost use Rattle.ox_memsite.specs.declared.step.Step.TheVariants.{Wrote, Tore, Synced, Showed};
 
     /// Two empty files, no input, and no call that is to fail. `Memory` where there is none for the end of channel 0.
     pub fn new(alloc: Global) -> Result<MemSite, Memory>
-        ensures { IfOk result (λ site. site ≡ record { first = record { a = []; b = [] }; past = []; steps = []; input = []; failing = []; calls = 0; starved = 0; disk_faults = 0; hear_faults = 0; show_faults = 0 }) }
+        ensures { IfOk result (λ site. site ≡ fresh [] [] []) }
     {
-        Ok(MemSite {
-            alloc,
-            first_a: Vec::new(alloc),
-            first_b: Vec::new(alloc),
-            a: Vec::new(alloc),
-            b: Vec::new(alloc),
-            past: Vec::new(alloc),
-            steps: Steps::new(alloc, 1)?,
-            has_broken: false,
-            input: Vec::new(alloc),
-            heard: 0,
-            failing: Vec::new(alloc),
-            calls: 0,
-            starved: 0,
-            disk_faults: 0,
-            hear_faults: 0,
-            show_faults: 0,
-        })
+        restarted(alloc, Vec::new(alloc), Vec::new(alloc), Vec::new(alloc))
     }
 
     /// Appends bytes to what channel 0 will give. `Memory` where there is none: nothing has changed then.
@@ -129,6 +115,40 @@ impl MemSite {
             Which::A => &self.a,
             Which::B => &self.b,
         }
+    }
+
+    /// The bytes that were shown on a channel, joined. `Memory` where there is none for them.
+    pub fn shown(&self, channel: u32) -> Result<Bytes, Memory>
+        ensures { IfOk result (λ bytes. bytes ≡ shown_bytes channel (log_of self.now)) }
+    {
+        let mut bytes = Bytes::empty(self.alloc);
+        append_shown(&mut bytes, channel, &self.past)?;
+        append_shown(&mut bytes, channel, self.steps.as_slice())?;
+        Ok(bytes)
+    }
+
+    /// The site as a crash at the chosen moment leaves it: files that are all on the disk, the log of that moment, no
+    /// input, no call that is to fail, and calls numbered from 0. `Memory` where there is none for it.
+    pub fn crash(&self, choice: &Choice) -> Result<MemSite, Memory>
+        requires { choice.now.moment ≤ length self.now.steps }
+        ensures exact { IfOk result (λ site. site ≡ crashed choice.now self.now) }
+        ensures allowed { IfOk result (λ site. LeftSince self.now choice.now.moment (found site)) }
+    {
+        self.crashed(choice)
+    }
+
+    fn crashed(&self, choice: &Choice) -> Result<MemSite, Memory>
+        requires { choice.now.moment ≤ length self.now.steps }
+        ensures { IfOk result (λ site. site ≡ crashed choice.now self.now) }
+    {
+        let alloc = self.alloc;
+        let (done, _) = self.steps.as_slice().split_at(choice.moment as usize);
+        let a = crashed_bytes(alloc, &self.first_a, done, Which::A, choice)?;
+        let b = crashed_bytes(alloc, &self.first_b, done, Which::B, choice)?;
+        let mut past = Vec::new(alloc);
+        append_events(alloc, &mut past, &self.past)?;
+        append_events(alloc, &mut past, done)?;
+        restarted(alloc, a, b, past)
     }
 
     /// The length of a file in bytes. It fails exactly where the call's number is listed.
@@ -364,6 +384,30 @@ impl MemSite {
             self.has_broken = true;
         }
     }
+}
+
+// A site over these files, all of them on the disk, with the log of these steps.
+fn restarted(alloc: Global, a: Vec<u8>, b: Vec<u8>, past: Vec<Step>) -> Result<MemSite, Memory>
+    ensures { IfOk result (λ site. site ≡ fresh a.items b.items (events_of past.items)) }
+{
+    Ok(MemSite {
+        alloc,
+        first_a: Vec::from_slice(alloc, &a)?,
+        first_b: Vec::from_slice(alloc, &b)?,
+        a,
+        b,
+        has_broken: has_broken_in(&past),
+        past,
+        steps: Steps::new(alloc, 1)?,
+        input: Vec::new(alloc),
+        heard: 0,
+        failing: Vec::new(alloc),
+        calls: 0,
+        starved: 0,
+        disk_faults: 0,
+        hear_faults: 0,
+        show_faults: 0,
+    })
 }
 
 fn contains(numbers: &[u64], number: u64) -> bool
