@@ -12,3 +12,6 @@ mod steps;
 pub use crash::Choice;
 pub use site::MemSite;
 pub use step::Step;
+
+#[cfg(test)]
+mod tests;
