@@ -1,12 +1,13 @@
 -- The gates of a file: one step of reading them, and what they are behind the last one that is closed.
-use Rattle.std.proofs.Common.{◌≡◌, ◌≢◌, ◌∙◌, ◌⊎◌, ◌≤◌, ◌<◌, ◌+◌, inl, inr, ⊎_elim, ℕ, zero, suc, Bool, true, false, List, [], ◌∷◌, ◌++◌, length, take, drop, ◌==◌, if◌then◌else◌, refl, sym, ap, subst, arith, length-append, length-drop, take-append-drop, append_assoc}
+use Rattle.std.proofs.Common.{◌≡◌, ◌≢◌, ◌∙◌, ◌⊎◌, ◌≤◌, ◌<◌, ◌+◌, inl, inr, ⊎_elim, ℕ, zero, suc, Bool, true, false, List, [], ◌∷◌, ◌++◌, length, get_or, take, drop, ◌==◌, if◌then◌else◌, refl, sym, ap, subst, arith, length-append, length-drop, take-append-drop, append_assoc}
 use Rattle.std.specs.Prelude.{Result, Ok, Err, nat_lt}
 use Rattle.std.specs.Int.{w32, from_le_bytes}
 use Rattle.std.proofs.lemmas.Bool.{cases_eq, eq-eqb, ltb-false, le-ltb}
 use Rattle.std.proofs.lemmas.Bool.Decides.{eqb_tells}
-use Rattle.std.proofs.lemmas.List.{length-take, take_at, take-take, drop_at, drop-drop, drop-take, take-append-le, drop-append-le}
+use Rattle.std.proofs.lemmas.List.{append-nil, length-take, take_at, take-take, drop_at, drop-drop, drop-take, take-append-le, drop-append-le}
 use Rattle.ox_bytes.specs.Reading.{number_at, run_at, ◌>>=◌}
 use Rattle.ox_bytes.proofs.Laws.{bind_ok, guard_ok, ok_is, run_law}
+use Rattle.ox_gated.specs.Gate.{with_record, IsShut, IsBroken, IsOpen}
 use Rattle.ox_gated.specs.Reading.{payload_at, Chain, behind, gates, chain}
 use Rattle.ox_gated.specs.declared.records.Record.{Record}
 
@@ -115,10 +116,6 @@ chain_step place gate rest is_open = ap (λ (b : Bool). if b then record { recor
 pub chain_cut : (place gate left : ℕ) (rest : List ℕ) → gate ≢ 0 → payload_at rest ≡ Err left → chain place (gate ∷ rest) ≡ record { records = []; end = Err place }
 chain_cut place gate left rest is_open cut = chain_step place gate rest is_open ∙ ap (λ (r : Result (List ℕ × List ℕ) ℕ). behind place r (gates (length rest))) cut
 
--- a record in front of the others
-abbrev pub with_record : ℕ → List ℕ → Chain → Chain
-with_record place payload more = record { records = record { place = place; payload = payload } ∷ more.records; end = more.end }
-
 pub chain_more : (place gate : ℕ) (rest payload next : List ℕ) → gate ≢ 0 → payload_at rest ≡ Ok (payload, next) → chain place (gate ∷ rest) ≡ with_record place payload (chain (place + (5 + length payload)) next)
 chain_more place gate rest payload next is_open found =
     let parts = payload_parts rest (payload, next) found in
@@ -139,13 +136,13 @@ pub record Fronts (place gate : ℕ) (bytes : List ℕ) (records : List Record) 
 fronts_shut : (place gate first : ℕ) (rest : List ℕ) → first ≡ 0 → place ≡ gate → Fronts place gate (first ∷ rest) []
 fronts_shut place gate first rest shut same =
     subst (λ (g : ℕ). Fronts place g (first ∷ rest) []) same (
-      record {
-        front = [];
-        junk = rest;
-        parts = ap (λ (n : ℕ). n ∷ rest) shut;
-        gate_is = omega arith;
-        before = λ t. refl;
-      }
+    record {
+      front = [];
+      junk = rest;
+      parts = ap (λ (n : ℕ). n ∷ rest) shut;
+      gate_is = omega arith;
+      before = λ t. refl;
+    }
     )
 
 fronts_more : (place gate first : ℕ) (rest payload next : List ℕ) (records : List Record) → first ≢ 0 → payload_at rest ≡ Ok (payload, next) → Fronts (place + (5 + length payload)) gate next records → Fronts place gate (first ∷ rest) (record { place = place; payload = payload } ∷ records)
@@ -182,3 +179,35 @@ fronts (suc most) place gate (first ∷ rest) le is = elim (cases_eq first 0) [
         let here = chain_more place first rest found.0 found.1 is_open has in
         let more = further (place + (5 + length found.0)) found.1 (omega (arith, parts.size)) (sym (ap (λ (c : Chain). c.end) here) ∙ is) in
         subst (λ (c : Chain). Fronts place gate (first ∷ rest) c.records) (sym here) (fronts_more place gate first rest found.0 found.1 _ is_open has more)
+
+-- ---- the same of any bytes
+
+pub is_open : (bytes behind payload next : List ℕ) (gate : ℕ) → bytes ≡ gate ∷ behind → gate ≢ 0 → payload_at behind ≡ Ok (payload, next) → IsOpen bytes payload next
+is_open bytes behind payload next gate parts not_shut found = record {
+  chain_is = λ place. ap (chain place) parts ∙ chain_more place gate behind payload next not_shut found;
+  size = omega (arith, (payload_parts behind (payload, next) found).size, ap length parts);
+}
+
+pub is_shut : (bytes behind : List ℕ) (gate : ℕ) → bytes ≡ gate ∷ behind → gate ≡ 0 → IsShut bytes
+is_shut bytes behind gate parts shut place = ap (chain place) parts ∙ chain_shut place gate behind shut
+
+pub is_cut : (bytes behind : List ℕ) (gate left : ℕ) → bytes ≡ gate ∷ behind → gate ≢ 0 → payload_at behind ≡ Err left → IsBroken bytes
+is_cut bytes behind gate left parts not_shut cut place = ap (chain place) parts ∙ chain_cut place gate left behind not_shut cut
+
+pub is_missing : (bytes : List ℕ) → bytes ≡ [] → IsBroken bytes
+is_missing bytes none place = ap (chain place) none ∙ chain_none place
+
+-- the records so far, and the rest of the chain
+pub so_far_shut : (place at : ℕ) (records : List Record) (l bytes : List ℕ) (end : Result ℕ ℕ) → chain at l ≡ record { records = []; end = end } → record { records = records ++ (chain at l).records; end = (chain at l).end } ≡ chain place bytes → record { records = records; end = end } ≡ chain place bytes
+so_far_shut place at records l bytes end is so_far =
+    ap (λ (r : List Record). record { records = r; end = end }) (sym (append-nil records)) ∙ ap (λ (c : Chain). record { records = records ++ c.records; end = c.end }) (sym is) ∙ so_far
+
+pub so_far_more : (place at : ℕ) (records records' : List Record) (l next bytes payload : List ℕ) → chain at l ≡ with_record at payload (chain (at + (5 + length payload)) next)
+    → records' ≡ records ++ record { place = at; payload = payload } ∷ [] → record { records = records ++ (chain at l).records; end = (chain at l).end } ≡ chain place bytes
+    → record { records = records' ++ (chain (at + (5 + length payload)) next).records; end = (chain (at + (5 + length payload)) next).end } ≡ chain place bytes
+so_far_more place at records records' l next bytes payload is one so_far =
+    let more = chain (at + (5 + length payload)) next in
+    ap (λ (r : List Record). record { records = r ++ more.records; end = more.end }) one
+    ∙ ap (λ (r : List Record). record { records = r; end = more.end }) (append_assoc records (record { place = at; payload = payload } ∷ []) more.records)
+    ∙ ap (λ (c : Chain). record { records = records ++ c.records; end = c.end }) (sym is)
+    ∙ so_far

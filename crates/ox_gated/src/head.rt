@@ -74,11 +74,7 @@ fn begins_with_magic(front: &[u8]) -> bool
     requires { 26 ≤ length front.now }
     ensures { result ≡ has_magic front.now }
 {
-    front[1] == b'o'
-        && front[2] == b'x'
-        && front[3] == b'i'
-        && front[4] == b'd'
-        && front[5] == b'x'
+    front[1] == b'o' && front[2] == b'x' && front[3] == b'i' && front[4] == b'd' && front[5] == b'x'
 }
 
 fn u16_at(bytes: &[u8], at: usize) -> u16

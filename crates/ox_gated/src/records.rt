@@ -1,6 +1,7 @@
 // The records of a file.
-ghost use Rattle.std.specs.Prelude.{◌≡◌, ◌+◌, ◌<◌, ◌^◌, length, IfOk};
+ghost use Rattle.std.specs.Prelude.{◌≡◌, ◌+◌, ◌<◌, ◌^◌, length, MatchOption, IfOk, OnErr};
 ghost use Rattle.ox_bytes.specs.Reading.{Gives};
+ghost use Rattle.ox_gated.specs.Gate.{IsShut, IsOpen, IsBroken};
 ghost use Rattle.ox_gated.specs.Reading.{payload_at, chain};
 
 use ox_bytes::{Bytes, FieldFault, Memory, run_field, u32le_field};
@@ -61,27 +62,42 @@ pub fn walk_from(alloc: Global, place: u64, bytes: &[u8]) -> Result<Walk, Memory
     let mut records = Vec::new(alloc);
     let mut place = place;
     let mut rest = bytes;
-    while let [gate, behind @ ..] = rest {
-        if *gate == 0 {
-            return Ok(Walk {
-                records: Records { items: records },
-                end: Ok(place),
-            });
+    let end = 'gates: loop {
+        match gate_at(rest) {
+            Err(Broken) => break 'gates Err(place),
+            Ok(None) => break 'gates Ok(place),
+            Ok(Some((payload, next))) => {
+                records.push(Record {
+                    place,
+                    payload: Bytes::copy(alloc, payload)?,
+                })?;
+                place += 5 + payload.len() as u64;
+                rest = next;
+            }
         }
-        let Ok((payload, next)) = payload_field(behind) else {
-            break;
-        };
-        records.push(Record {
-            place,
-            payload: Bytes::copy(alloc, payload)?,
-        })?;
-        place += 5 + payload.len() as u64;
-        rest = next;
-    }
+    };
     Ok(Walk {
         records: Records { items: records },
-        end: Err(place),
+        end,
     })
+}
+
+// A gate that is missing, or whose record is cut.
+struct Broken;
+
+// What the first of these bytes is as a gate: none behind a closed one, else its record's payload and what follows.
+fn gate_at(bytes: &[u8]) -> Result<Option<(&[u8], &[u8])>, Broken>
+    ensures there { IfOk result (λ gate. MatchOption gate (IsShut bytes.now) (λ g. IsOpen bytes.now g.0.now g.1.now)) }
+    ensures broken { OnErr result (IsBroken bytes.now) }
+{
+    match bytes.split_first() {
+        None => Err(Broken),
+        Some((0, _)) => Ok(None),
+        Some((_, behind)) => match payload_field(behind) {
+            Ok((payload, rest)) => Ok(Some((payload, rest))),
+            Err(_) => Err(Broken),
+        },
+    }
 }
 
 // A record's payload and what stands behind it.
