@@ -2,6 +2,7 @@
 use Rattle.std.specs.Prelude.{◌≡◌, ℕ, ◌+◌, ◌^◌, ◌<◌, ◌≤◌, ◌≢◌, Bool, true, List, [], ◌∷◌, ◌++◌, length, take, drop, nat_lt, nat_le, ◌==◌, ◌&&◌, ◌||◌, not, Option, Some, None, slice_index, slice_range, if◌then◌else◌}
 use Rattle.std.specs.Int.{w16, w32, w64, to_le_bytes, from_le_bytes}
 use Rattle.ox_gated.specs.declared.head.Head.{Head}
+use Rattle.ox_gated.specs.declared.head.Opening.{Opening}
 
 -- the five bytes behind the gate, `oxidx`
 abbrev pub magic : List ℕ
@@ -32,11 +33,6 @@ record_bytes payload = to_le_bytes w32 (length payload) ++ payload ++ 0 ∷ []
 abbrev pub is_closed : List ℕ → Bool
 is_closed [] = true
 is_closed (gate ∷ file) = gate == 0
-
--- a head, and the length that it gives the body
-pub record Opening : Type 0 where
-  pub head : Head
-  pub size : ℕ
 
 -- what the first 26 bytes of a file say, whether they have the form or not
 abbrev pub opening_at : List ℕ → Opening

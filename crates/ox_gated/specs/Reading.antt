@@ -5,8 +5,9 @@ use Rattle.ox_bytes.specs.Reading.{Reader, number_at, run_at, ◌>>=◌}
 use Rattle.ox_outside.specs.Files.{Files}
 use Rattle.ox_outside.specs.declared.site.Which.{Which}
 use Rattle.ox_outside.specs.declared.site.Which.TheVariants.{A, B}
-use Rattle.ox_gated.specs.Layout.{Opening, is_closed, head_of}
+use Rattle.ox_gated.specs.Layout.{is_closed, head_of}
 use Rattle.ox_gated.specs.declared.head.Head.{Head}
+use Rattle.ox_gated.specs.declared.head.Opening.{Opening}
 use Rattle.ox_gated.specs.declared.records.Record.{Record}
 
 -- ---- records
@@ -24,7 +25,7 @@ pub record Chain : Type 0 where
 -- behind an open gate: its record and what follows, or the gate's place where the record is cut
 abbrev pub behind : ℕ → Result (List ℕ × List ℕ) ℕ → (ℕ → List ℕ → Chain) → Chain
 behind place (Err left) next = record { records = []; end = Err place }
-behind place (Ok found) next = let more = next (place + 5 + length found.0) found.1 in record { records = record { place = place; payload = found.0 } ∷ more.records; end = more.end }
+behind place (Ok found) next = let more = next (place + (5 + length found.0)) found.1 in record { records = record { place = place; payload = found.0 } ∷ more.records; end = more.end }
 
 -- the gates from a place on, of which there are at most `most`
 unfoldable pub gates : ℕ → ℕ → List ℕ → Chain
@@ -103,4 +104,4 @@ reading version files = chosen version files (is_closed files.a) (is_closed file
 -- the same with one record more
 abbrev pub appended : List ℕ → Result Found Fault → Result Found Fault
 appended payload (Err fault) = Err fault
-appended payload (Ok found) = Ok (record found { records = found.records ++ record { place = found.gate; payload = payload } ∷ []; gate = found.gate + 5 + length payload })
+appended payload (Ok found) = Ok (record found { records = found.records ++ record { place = found.gate; payload = payload } ∷ []; gate = found.gate + (5 + length payload) })
