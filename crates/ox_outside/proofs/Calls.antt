@@ -1,7 +1,10 @@
 -- How a run of calls goes on: what it promises, and what a crash leaves during it.
 use Rattle.std.proofs.Common.{◌∙◌, inl, inr, ⊎_elim, ℕ, Bool, refl, arith}
+use Rattle.std.specs.Prelude.{List, Option}
 use Rattle.ox_outside.specs.Counts.{Counts}
-use Rattle.ox_outside.specs.Crash.{Remains, OneCall, Calls, LeavesOnly}
+use Rattle.ox_outside.specs.Event.{Event}
+use Rattle.ox_outside.specs.Files.{Files}
+use Rattle.ox_outside.specs.Crash.{Remains, OneCall, Calls, LeavesOnly, AddsNothing, OnlyLooks}
 use Rattle.ox_outside.proofs.Counts.{none_fell_yet, none_fell_then}
 
 module _ {S : Type 0} (told : S → Bool) (counts : S → Counts) (clock : S → ℕ) (may_leave : S → Remains → Type 0) (left_since : S → ℕ → Remains → Type 0) where
@@ -49,4 +52,36 @@ module _ {S : Type 0} (clock : S → ℕ) (left_since : S → ℕ → Remains �
     later = so_far.later;
     each = λ r left. weaker r (so_far.each r left);
     before = λ t r le left. ⊎_elim (λ l. inl l) (λ p. inr (weaker r p)) (so_far.before t r le left);
+  }
+
+-- runs that only look
+module _ {S : Type 0} (told : S → Bool) (seen : S → Files) (log : S → Option (List Event)) (counts : S → Counts) (clock : S → ℕ) (may_leave : S → Remains → Type 0) (left_since : S → ℕ → Remains → Type 0) where
+  pub looks_none : (only_now : (site : S) (r : Remains) → left_since site (clock site) r → may_leave site r) (site : S) → OnlyLooks told seen log counts clock may_leave left_since site site
+  looks_none only_now site = record {
+    calls = no_call told counts clock may_leave left_since site;
+    nothing = record { files = refl; as_logged = refl; crash = λ r left. left };
+    moments = leaves_at_first clock left_since site (may_leave site) (only_now site);
+  }
+
+  pub looks_then : (old mid new : S) → OnlyLooks told seen log counts clock may_leave left_since old mid → OnlyLooks told seen log counts clock may_leave left_since mid new → OnlyLooks told seen log counts clock may_leave left_since old new
+  looks_then old mid new first then_ = record {
+    calls = calls_then told counts clock may_leave left_since old mid new first.calls then_.calls;
+    nothing = record {
+      files = then_.nothing.files ∙ first.nothing.files;
+      as_logged = then_.nothing.as_logged ∙ first.nothing.as_logged;
+      crash = λ r left. first.nothing.crash r (then_.nothing.crash r left);
+    };
+    moments = leaves_then clock left_since old mid new (may_leave old) first.moments (leaves_weaker clock left_since mid new (may_leave mid) (may_leave old) first.nothing.crash then_.moments);
+  }
+
+  -- one call more
+  pub looks_call : (old mid new : S) → OnlyLooks told seen log counts clock may_leave left_since old mid → AddsNothing seen log may_leave mid new → OneCall told counts clock may_leave left_since mid new → OnlyLooks told seen log counts clock may_leave left_since old new
+  looks_call old mid new first nothing call = record {
+    calls = then_call told counts clock may_leave left_since old mid new first.calls call;
+    nothing = record {
+      files = nothing.files ∙ first.nothing.files;
+      as_logged = nothing.as_logged ∙ first.nothing.as_logged;
+      crash = λ r left. first.nothing.crash r (nothing.crash r left);
+    };
+    moments = leaves_on told counts clock may_leave left_since old mid new (may_leave old) first.moments call (λ r left. first.nothing.crash r (nothing.crash r left));
   }

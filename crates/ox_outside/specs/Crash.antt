@@ -57,3 +57,9 @@ pub record LeavesOnly {S : Type 0} (clock : S → ℕ) (left_since : S → ℕ �
   pub each : (r : Remains) → left_since new (clock old) r → P r
   -- for a run that began earlier
   pub before : (t : ℕ) (r : Remains) → t ≤ clock old → left_since new t r → left_since old t r ⊎ P r
+
+-- A run of calls that only looks: the files, the log and what a crash may leave are as before, at each moment of it.
+pub record OnlyLooks {S : Type 0} (told : S → Bool) (seen : S → Files) (log : S → Option (List Event)) (counts : S → Counts) (clock : S → ℕ) (may_leave : S → Remains → Type 0) (left_since : S → ℕ → Remains → Type 0) (old new : S) : Type 0 where
+  pub calls : Calls told counts clock left_since old new
+  pub nothing : AddsNothing seen log may_leave old new
+  pub moments : LeavesOnly clock left_since old new (may_leave old)
