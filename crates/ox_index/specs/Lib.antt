@@ -1,2 +1,2 @@
-pub mod Index
-pub mod Text
+pub mod Fault
+pub mod Live

@@ -1,11 +1,9 @@
 //! The index of a chain, as it stands after each block.
 #![tactic(auto)]
 
+mod admit;
+mod fault;
 mod live;
-mod refusal;
 
-pub use live::{ConnectFault, Live};
-pub use refusal::Refusal;
-
-#[cfg(test)]
-mod tests;
+pub use fault::ConnectFault;
+pub use live::Live;

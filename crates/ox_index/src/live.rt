@@ -1,139 +1,74 @@
 //! The index in memory.
 
-ghost use Rattle.std.specs.Prelude.{◌≡◌, ◌≤◌, [], length, Ok, Err, IfOk, IfErr, OnOk, OnErr, option_copied, slice_get};
-ghost use Rattle.ox_index.specs.Index.{most_blocks, step, tip};
-ghost use Rattle.ox_index.specs.Text.{IsRefused, ok_line};
+ghost use Rattle.std.specs.Prelude.{◌≡◌, Ok, IfErr, OnOk, OnErr};
+ghost use Rattle.ox_sat.specs.Profiles.{IsProfile};
+ghost use Rattle.ox_sat.proofs.Known.{IsProfile-prop};
+ghost use Rattle.ox_model.specs.Sound.{Sound};
+ghost use Rattle.ox_outputs.specs.Table.{rows_in};
 
-use crate::refusal::{Refusal, hash_text};
-use ox_block::{BlockFault, hash, read_block};
-use ox_bytes::{Bytes, Memory};
-use std::alloc::{AllocFailed, Global};
-use std::marker::Model;
+use crate::admit::admit;
+use crate::fault::ConnectFault;
+use ox_block::{OutPoint, hash, read_block};
+use ox_model::{OutRow, OutTable, Place, View};
+use ox_outputs::Outputs;
+use ox_range::Ranges;
+use ox_sat::Profile;
+use ox_transfer::transfer;
+use std::alloc::Global;
 
-/// The most blocks of an index.
-const MOST_BLOCKS: usize = 4_000_000_001;
-
-/// Why a block wasn't connected. The index is as before.
-#[derive(Clone, Copy, Debug, PartialEq, Eq)]
-pub enum ConnectFault {
-    /// The block is refused.
-    Refused(Refusal),
-    /// There is no memory for it.
-    Memory,
-}
-
-/// The index of a chain. Contracts see the list of its blocks' hashes, in serialized order, by height.
+/// The index of a chain: the hashes of its blocks, its unspent outputs, and the satoshis that no output holds any more.
 #[derive(Drop)]
 pub struct Live {
     alloc: Global,
+    profile: Profile,
     hashes: Vec<[u8; 32]>,
-}
-
-impl Model for Live {
-    ghost use Rattle.std.specs.Prelude.{◌≤◌, length};
-    ghost use Rattle.ox_index.specs.Index.{Index, most_blocks};
-
-    ghost Value = { Index };
-
-    ghost view = { λ l. l.hashes.items };
-
-    ghost invariant = { λ l. length l.hashes.items ≤ most_blocks };
-}
-
-impl From<BlockFault> for ConnectFault {
-    ghost use Rattle.ox_index.specs.Text.{connect_fault_of};
-
-    ghost from_gives = { λ fault e. e ≡ connect_fault_of fault };
-
-    fn from(fault: BlockFault) -> ConnectFault {
-        match fault {
-            BlockFault::Malformed { at } => ConnectFault::Refused(Refusal::Malformed { at }),
-            BlockFault::Memory => ConnectFault::Memory,
-        }
-    }
-}
-
-impl<T: Drop> From<AllocFailed<T>> for ConnectFault {
-    ghost use Rattle.ox_index.specs.declared.live.ConnectFault.TheVariants.{Memory};
-
-    ghost from_gives = { λ _ e. e ≡ Memory };
-
-    fn from(_e: AllocFailed<T>) -> ConnectFault {
-        ConnectFault::Memory
-    }
+    outputs: Outputs,
+    lost: Ranges,
+    ghost known: { IsProfile profile } by { IsProfile-prop profile },
+    ghost sound: { Sound profile (record { hashes = hashes.items; outs = rows_in outputs; lost = lost }) },
 }
 
 impl Live {
-    /// The index of an empty chain. It takes no memory until a block is connected.
-    pub fn new(alloc: Global) -> Live
-        ensures { result ≡ [] }
+    ghost use Rattle.ox_model.specs.Index.{no_blocks};
+    ghost use Rattle.ox_model.specs.Step.{step};
+    ghost use Rattle.ox_index.specs.Live.{profile_in, index_in};
+    ghost use Rattle.ox_index.specs.Fault.{Refuses};
+
+    /// The index of an empty chain that counts by this profile. It takes no memory until a block is connected.
+    pub fn new(alloc: Global, p: &Profile) -> Live
+        requires { IsProfile p.now }
+        ensures profile { profile_in result ≡ p.now }
+        ensures index { index_in result ≡ no_blocks }
     {
         Live {
             alloc,
+            profile: *p,
             hashes: Vec::new(alloc),
+            outputs: Outputs::new(alloc),
+            lost: Ranges::empty(alloc),
         }
     }
 
-    /// How many blocks there are.
-    pub fn blocks(&self) -> u32
-        ensures { result ≡ length self.now }
-    {
-        self.hashes.len() as u32
-    }
-
-    /// The hash of the block at a height, in serialized order; `None` exactly where the height isn't below `blocks`.
-    pub fn hash_of(&self, height: u32) -> Option<&[u8; 32]>
-        ensures { option_copied result ≡ slice_get self.now height }
-    {
-        self.hashes.get(height as usize)
-    }
-
-    // What the next block has to name as the one before it.
-    fn tip(&self) -> [u8; 32]
-        ensures { result ≡ tip self.now }
-    {
-        match self.hashes.last() {
-            Some(hash) => *hash,
-            None => [0; 32],
-        }
-    }
-
-    /// Takes in the block that has these bytes. `Refused` exactly where the block doesn't extend the chain: `Malformed`
-    /// where the bytes are no block, and `Unlinked` where its header doesn't name the newest block's hash, or 32 zero
-    /// bytes on an empty chain. `Memory` where there is none, and always where there are 4,000,000,001 blocks already.
-    /// After a refusal or `Memory` the index is as before.
+    /// Takes in the block that has these bytes, at the height after the newest. `Refused` exactly where the definition
+    /// refuses, with the first cause: `Malformed`, `ChainEnd`, `Unlinked`, `BadRoot`, `Coinbase`, and then
+    /// `UnknownOutput`, `Overspend` and `Overclaim` in block order. `Memory` where there is none. After a refusal or
+    /// `Memory` the index is as before.
     pub fn connect(&mut self, bytes: &[u8]) -> Result<(), ConnectFault>
-        ensures ok { OnOk result (step self.old bytes.now ≡ Ok self.new) }
-        ensures refused { IfErr result (λ fault. IsRefused fault (λ refusal. step self.old bytes.now ≡ Err refusal)) }
-        ensures err { OnErr result (self.new ≡ self.old) }
-        ensures full { OnOk result (length self.new ≤ most_blocks) }
+        ensures ok { OnOk result (step (profile_in self.old) (index_in self.old) bytes.now ≡ Ok (index_in self.new)) }
+        ensures refused { IfErr result (λ fault. Refuses fault (step (profile_in self.old) (index_in self.old) bytes.now)) }
+        ensures err { OnErr result (index_in self.new ≡ index_in self.old) }
+        ensures profile { profile_in self.new ≡ profile_in self.old }
     {
         let block = read_block(self.alloc, bytes)?;
-        let have = block.header.previous;
-        let want = self.tip();
-        if have != want {
-            return Err(ConnectFault::Refused(Refusal::Unlinked { have, want }));
-        }
-        if self.hashes.len() == MOST_BLOCKS {
+        admit(self.alloc, &self.profile, &self.hashes, &block)?;
+        self.hashes.reserve(1)?;
+        let height = self.hashes.len() as u32;
+        let moved = transfer(self.alloc, &mut self.outputs, &self.profile, &block, height)?;
+        if self.lost.join(&moved.lost).is_err() {
+            self.outputs.cancel();
             return Err(ConnectFault::Memory);
         }
-        self.hashes.push(hash(&block.header))?;
+        self.hashes.push_reserved(hash(&block.header));
         Ok(())
-    }
-
-    /// The line of an accepted command: `ok`, the height and the hash of the newest block, or `ok empty`, and a line
-    /// feed. The hash is printed in reversed order.
-    #[tactic(auto, unfolding(crate::specs::Text::ok_line))]
-    pub fn line(&self) -> Result<Bytes, Memory>
-        ensures { IfOk result (λ line. line ≡ ok_line self.now) }
-    {
-        let blocks = self.hashes.len();
-        if blocks == 0 {
-            return Bytes::copy(self.alloc, b"ok empty\n");
-        }
-        let height = blocks - 1;
-        let hash = hash_text(self.alloc, &self.tip())?;
-        let text = format!(in self.alloc; "ok {height} {hash}\n")?;
-        Ok(Bytes::from_vec(text.into_bytes()))
     }
 }

@@ -193,7 +193,7 @@ pub record Admits (p : Profile) (index : Index) (block : Block) : Type 0 where
   pub low : length index.hashes ≤ p.last
   pub begun : misplaced block.txs ≡ None
 
-pub admitted_right : (p : Profile) (index : Index) (block : Block) (x : Unit {0}) → admitted p index block ≡ Ok x → Admits p index block
+pub admitted_right : (p : Profile) (index : Index) (block : Block) (x : Unit {0}) → admitted p index.hashes block ≡ Ok x → Admits p index block
 admitted_right p index block x is =
     let ended = bind_ok (refuse_if (nat_lt p.last (length index.hashes)) _) _ x is in
     let linked = bind_ok (refuse_if (differ block.header.previous (newest_of index.hashes)) _) _ x ended.2 in
@@ -209,7 +209,7 @@ grown_sound p index block after sound admits is =
 
 accept_keeps : (p : Profile) (index : Index) (block : Block) (new : Index) → Sound p index → accept p index block ≡ Ok new → Sound p new
 accept_keeps p index block new sound is =
-    let begun = bind_ok (admitted p index block) _ new is in
+    let begun = bind_ok (admitted p index.hashes block) _ new is in
     let after = bind_ok (transfer_of p (length index.hashes) block.txs index.outs) _ new begun.2 in
     subst (Sound p) (ok_same {F = Refusal} _ _ after.2) (grown_sound p index block after.0 sound (admitted_right p index block begun.0 begun.1) after.1)
 

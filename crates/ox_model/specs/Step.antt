@@ -1,5 +1,5 @@
 -- What one block makes of an index, or why it is refused. The tests come in this order, and the first that fails decides.
-use Rattle.std.specs.Prelude.{ℕ, ◌+◌, ◌-◌, Bool, not, slice_get, unwrap_or, bytes_eq, List, [], ◌∷◌, ◌++◌, length, replicate, Option, Some, None, Result, Ok, Err, nat_lt, ◌==◌, ◌&&◌, if◌then◌else◌}
+use Rattle.std.specs.Prelude.{ℕ, ◌+◌, ◌-◌, Bool, not, slice_get, unwrap_or, bytes_eq, List, [], ◌∷◌, ◌++◌, length, replicate, Option, Some, None, option_map, position, Result, Ok, Err, nat_lt, ◌==◌, ◌&&◌, if◌then◌else◌}
 use Rattle.std.specs.List.{list_any}
 use Rattle.std.specs.Cmp.Lexicographic.{pointwise}
 use Rattle.ox_bytes.specs.Reading.{◌>>=◌}
@@ -32,19 +32,19 @@ newest_of hashes = unwrap_or (slice_get hashes (length hashes - 1)) zero_hash
 abbrev pub is_null : TxIn → Bool
 is_null input = bytes_eq input.from.txid.0 zero_hash && (input.from.index == 4294967295)
 
+-- one of its inputs names no output
+abbrev pub has_null : Tx → Bool
+has_null tx = list_any is_null tx.inputs
+
 -- a transaction of one input, which names no output
 abbrev pub is_coinbase : Tx → Bool
-is_coinbase tx = (length tx.inputs == 1) && list_any is_null tx.inputs
+is_coinbase tx = (length tx.inputs == 1) && has_null tx
 
--- the first transaction from this place on that has an input which names no output
-abbrev pub null_from : ℕ → List Tx → Option ℕ
-null_from place [] = None
-null_from place (tx ∷ txs) = if list_any is_null tx.inputs then Some place else null_from (place + 1) txs
-
--- the first transaction that is a coinbase and mustn't be one, or isn't and must: the first of a block, and no other, is
+-- the first transaction that is a coinbase and mustn't be one, or isn't and must: the first of a block is one, and no
+-- other has an input that names no output
 abbrev pub misplaced : List Tx → Option ℕ
 misplaced [] = Some 0
-misplaced (tx ∷ txs) = if is_coinbase tx then null_from 1 txs else Some 0
+misplaced (tx ∷ txs) = if is_coinbase tx then option_map (λ place. place + 1) (position has_null txs) else Some 0
 
 abbrev pub refuse_misplaced : Option ℕ → Result (Unit {0}) Refusal
 refuse_misplaced None = Ok tt
@@ -54,11 +54,11 @@ abbrev pub or_malformed : Result Block ℕ → Result Block Refusal
 or_malformed (Ok block) = Ok block
 or_malformed (Err at) = Err (Malformed at)
 
--- the tests of a block at the height after the newest that come before any satoshi moves
-abbrev pub admitted : Profile → Index → Block → Result (Unit {0}) Refusal
-admitted p index block = do
-  ended ← refuse_if (nat_lt p.last (length index.hashes)) (ChainEnd (length index.hashes))
-  linked ← refuse_if (differ block.header.previous (newest_of index.hashes)) (Unlinked block.header.previous (newest_of index.hashes))
+-- the tests of a block at the height after the newest, whose chain has these hashes, that come before any satoshi moves
+abbrev pub admitted : Profile → List (List ℕ) → Block → Result (Unit {0}) Refusal
+admitted p hashes block = do
+  ended ← refuse_if (nat_lt p.last (length hashes)) (ChainEnd (length hashes))
+  linked ← refuse_if (differ block.header.previous (newest_of hashes)) (Unlinked block.header.previous (newest_of hashes))
   rooted ← refuse_if (differ block.header.root (block_root block)) (BadRoot block.header.root (block_root block))
   refuse_misplaced (misplaced block.txs)
 
@@ -69,7 +69,7 @@ grown index block after = record { hashes = index.hashes ++ block_hash block.hea
 -- the index after a block
 abbrev pub accept : Profile → Index → Block → Result Index Refusal
 accept p index block = do
-  begun ← admitted p index block
+  begun ← admitted p index.hashes block
   after ← transfer_of p (length index.hashes) block.txs index.outs
   Ok (grown index block after)
 

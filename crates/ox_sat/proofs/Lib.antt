@@ -2,3 +2,4 @@ pub mod Epochs
 pub mod Letters
 pub mod Numbers
 pub mod Found
+pub mod Known

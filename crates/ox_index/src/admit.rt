@@ -1,0 +1,93 @@
+//! The tests of a block that come before any satoshi moves.
+
+ghost use Rattle.std.specs.Prelude.{◌≡◌, ◌≤◌, length, position, IfSome, Ok, IfErr, OnOk};
+ghost use Rattle.ox_block.specs.Spelling.{Lawful};
+ghost use Rattle.ox_model.specs.Step.{newest_of, is_null as names_none, is_coinbase as is_only_null, has_null as names_none_somewhere, misplaced as first_misplaced, admitted};
+ghost use Rattle.ox_index.specs.Fault.{Refuses};
+
+use crate::fault::ConnectFault;
+use ox_block::{Block, Tx, TxIn, root};
+use ox_model::Refusal;
+use ox_sat::Profile;
+use std::alloc::Global;
+
+/// What the next block has to name as the one before it: the newest block's hash, or 32 zero bytes on an empty chain.
+pub fn newest(hashes: &[[u8; 32]]) -> [u8; 32]
+    ensures { result ≡ newest_of hashes.now }
+{
+    match hashes.last() {
+        Some(hash) => *hash,
+        None => [0; 32],
+    }
+}
+
+// Whether an input names no output.
+fn is_null(input: &TxIn) -> bool
+    ensures { result ≡ names_none input.now }
+{
+    input.from.txid.0 == [0; 32] && input.from.index == u32::MAX
+}
+
+// Whether one of a transaction's inputs names no output.
+fn has_null(tx: &Tx) -> bool
+    ensures { result ≡ names_none_somewhere tx.now }
+{
+    tx.inputs.as_slice().iter().any(|input| is_null(input))
+}
+
+// Whether a transaction has one input, and it names no output.
+fn is_coinbase(tx: &Tx) -> bool
+    ensures { result ≡ is_only_null tx.now }
+{
+    tx.inputs.len() == 1 && has_null(tx)
+}
+
+// The place of the first transaction that has an input which names no output.
+fn first_null(txs: &[Tx]) -> Option<usize>
+    ensures { result ≡ position names_none_somewhere txs.now }
+{
+    txs.iter().position(|tx| has_null(tx))
+}
+
+// The first transaction that is a coinbase and mustn't be one, or isn't and must.
+fn misplaced(txs: &[Tx]) -> Option<usize>
+    ensures first { result ≡ first_misplaced txs.now }
+    ensures within { IfSome result (λ place. place ≤ length txs.now) }
+{
+    match txs.split_first() {
+        Some((coinbase, txs)) if is_coinbase(coinbase) => Some(first_null(txs)? + 1),
+        _ => Some(0),
+    }
+}
+
+/// Tests a block that is to stand on this chain, before any of its satoshis move: its height, the block that it names
+/// before it, its root, and where coinbases stand. `Memory` where there is none for the root.
+pub fn admit(
+    alloc: Global,
+    p: &Profile,
+    hashes: &[[u8; 32]],
+    block: &Block,
+) -> Result<(), ConnectFault>
+    requires lawful { Lawful block.now }
+    ensures ok { OnOk result (admitted p.now hashes.now block.now ≡ Ok tt) }
+    ensures refused { IfErr result (λ fault. Refuses fault (admitted p.now hashes.now block.now)) }
+{
+    let height = hashes.len() as u64;
+    if height > p.last {
+        return Err(ConnectFault::Refused(Refusal::ChainEnd { height }));
+    }
+    let have = block.header.previous;
+    let want = newest(hashes);
+    if have != want {
+        return Err(ConnectFault::Refused(Refusal::Unlinked { have, want }));
+    }
+    let have = block.header.root;
+    let want = root(alloc, block)?;
+    if have != want {
+        return Err(ConnectFault::Refused(Refusal::BadRoot { have, want }));
+    }
+    match misplaced(block.txs.as_slice()) {
+        Some(tx) => Err(ConnectFault::Refused(Refusal::Coinbase { tx: tx as u32 })),
+        None => Ok(()),
+    }
+}
