@@ -24,7 +24,7 @@ use Rattle.ox_model.specs.Deal.{deal}
 use Rattle.ox_model.specs.Outputs.{Outputs, outpoint_cmp, sats_of, sats_held, times}
 use Rattle.ox_model.specs.Transfer.{or_refuse, named, Taken, take_rows, place_rows, values_of, Spent, spent_by, spend, spend_all, Transferred, claimed_by, claimable, claim, transfer_of}
 use Rattle.ox_model.specs.Index.{Index, no_blocks}
-use Rattle.ox_model.specs.Step.{refuse_if, differ, newest_of, misplaced, refuse_misplaced, or_malformed, accept, step}
+use Rattle.ox_model.specs.Step.{refuse_if, differ, newest_of, misplaced, refuse_misplaced, or_malformed, admitted, grown, accept, step}
 use Rattle.ox_model.specs.Chain.{kept, after_block, index_of}
 use Rattle.ox_model.specs.Sound.{AreBelow, Sound}
 use Rattle.ox_model.proofs.MapSums.{total}
@@ -188,16 +188,30 @@ begun_right : (fault : Option ℕ) (x : Unit {0}) → refuse_misplaced fault ≡
 begun_right None x is = refl
 begun_right (Some tx) x is = absurd (cc is)
 
+-- a block that is admitted stands at a height that is indexed, and begins with its only coinbase
+pub record Admits (p : Profile) (index : Index) (block : Block) : Type 0 where
+  pub low : length index.hashes ≤ p.last
+  pub begun : misplaced block.txs ≡ None
+
+pub admitted_right : (p : Profile) (index : Index) (block : Block) (x : Unit {0}) → admitted p index block ≡ Ok x → Admits p index block
+admitted_right p index block x is =
+    let ended = bind_ok (refuse_if (nat_lt p.last (length index.hashes)) _) _ x is in
+    let linked = bind_ok (refuse_if (differ block.header.previous (newest_of index.hashes)) _) _ x ended.2 in
+    let rooted = bind_ok (refuse_if (differ block.header.root (block_root block)) _) _ x linked.2 in record {
+      low = ltb-false _ _ (passed _ _ _ ended.1);
+      begun = begun_right _ _ rooted.2
+    }
+
+-- an index that has taken in a block is sound again
+pub grown_sound : (p : Profile) (index : Index) (block : Block) (after : Transferred) → Sound p index → Admits p index block → transfer_of p (length index.hashes) block.txs index.outs ≡ Ok after → Sound p (grown index block after)
+grown_sound p index block after sound admits is =
+    connected p index (block_hash block.header) after admits.low sound (transfer_keeps p (length index.hashes) block.txs index.outs after admits.begun is)
+
 accept_keeps : (p : Profile) (index : Index) (block : Block) (new : Index) → Sound p index → accept p index block ≡ Ok new → Sound p new
 accept_keeps p index block new sound is =
-    let ended = bind_ok (refuse_if (nat_lt p.last (length index.hashes)) _) _ new is in
-    let linked = bind_ok (refuse_if (differ block.header.previous (newest_of index.hashes)) _) _ new ended.2 in
-    let rooted = bind_ok (refuse_if (differ block.header.root (block_root block)) _) _ new linked.2 in
-    let begun = bind_ok (refuse_misplaced (misplaced block.txs)) _ new rooted.2 in
+    let begun = bind_ok (admitted p index block) _ new is in
     let after = bind_ok (transfer_of p (length index.hashes) block.txs index.outs) _ new begun.2 in
-    let low : length index.hashes ≤ p.last = ltb-false _ _ (passed _ _ _ ended.1) in
-    subst (Sound p) (ok_same {F = Refusal} _ _ after.2)
-    (connected p index (block_hash block.header) after.0 low sound (transfer_keeps p (length index.hashes) block.txs index.outs after.0 (begun_right _ _ begun.1) after.1))
+    subst (Sound p) (ok_same {F = Refusal} _ _ after.2) (grown_sound p index block after.0 sound (admitted_right p index block begun.0 begun.1) after.1)
 
 read_keeps : (p : Profile) (index : Index) (read : Result Block ℕ) (new : Index) → Sound p index → (or_malformed read >>= accept p index) ≡ Ok new → Sound p new
 read_keeps p index (Ok block) new sound is = accept_keeps p index block new sound is

@@ -6,3 +6,4 @@ pub mod Where
 pub mod Step
 pub mod Chain
 pub mod Sound
+pub mod Text

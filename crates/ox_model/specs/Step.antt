@@ -1,5 +1,5 @@
 -- What one block makes of an index, or why it is refused. The tests come in this order, and the first that fails decides.
-use Rattle.std.specs.Prelude.{ℕ, ◌+◌, Bool, not, List, [], ◌∷◌, ◌++◌, length, replicate, Option, Some, None, Result, Ok, Err, nat_lt, ◌==◌, ◌&&◌, if◌then◌else◌}
+use Rattle.std.specs.Prelude.{ℕ, ◌+◌, ◌-◌, Bool, not, slice_get, unwrap_or, bytes_eq, List, [], ◌∷◌, ◌++◌, length, replicate, Option, Some, None, Result, Ok, Err, nat_lt, ◌==◌, ◌&&◌, if◌then◌else◌}
 use Rattle.std.specs.List.{list_any}
 use Rattle.std.specs.Cmp.Lexicographic.{pointwise}
 use Rattle.ox_bytes.specs.Reading.{◌>>=◌}
@@ -12,27 +12,25 @@ use Rattle.ox_sat.specs.declared.profiles.Profile.{Profile}
 use Rattle.ox_model.specs.declared.refusal.Refusal.{Refusal}
 use Rattle.ox_model.specs.declared.refusal.Refusal.TheVariants.{Malformed, ChainEnd, Unlinked, BadRoot, Coinbase}
 use Rattle.ox_model.specs.Index.{Index}
-use Rattle.ox_model.specs.Transfer.{transfer_of}
+use Rattle.ox_model.specs.Transfer.{Transferred, transfer_of}
 
 -- where a test fails it is this refusal
 abbrev pub refuse_if : Bool → Refusal → Result (Unit {0}) Refusal
 refuse_if fails refusal = if fails then Err refusal else Ok tt
 
 abbrev pub differ : List ℕ → List ℕ → Bool
-differ a b = not (pointwise ◌==◌ a b)
+differ a b = not (bytes_eq a b)
 
 abbrev pub zero_hash : List ℕ
 zero_hash = replicate 32 0
 
 -- the newest block's hash, or zeros before the first block
 abbrev pub newest_of : List (List ℕ) → List ℕ
-newest_of [] = zero_hash
-newest_of (hash ∷ []) = hash
-newest_of (hash ∷ hashes) = newest_of hashes
+newest_of hashes = unwrap_or (slice_get hashes (length hashes - 1)) zero_hash
 
 -- an input that names no output: a txid of zeros and the greatest index
 abbrev pub is_null : TxIn → Bool
-is_null input = pointwise ◌==◌ input.from.txid.0 zero_hash && (input.from.index == 4294967295)
+is_null input = bytes_eq input.from.txid.0 zero_hash && (input.from.index == 4294967295)
 
 -- a transaction of one input, which names no output
 abbrev pub is_coinbase : Tx → Bool
@@ -56,15 +54,24 @@ abbrev pub or_malformed : Result Block ℕ → Result Block Refusal
 or_malformed (Ok block) = Ok block
 or_malformed (Err at) = Err (Malformed at)
 
--- the index after a block, at the height after the newest
-abbrev pub accept : Profile → Index → Block → Result Index Refusal
-accept p index block = do
+-- the tests of a block at the height after the newest that come before any satoshi moves
+abbrev pub admitted : Profile → Index → Block → Result (Unit {0}) Refusal
+admitted p index block = do
   ended ← refuse_if (nat_lt p.last (length index.hashes)) (ChainEnd (length index.hashes))
   linked ← refuse_if (differ block.header.previous (newest_of index.hashes)) (Unlinked block.header.previous (newest_of index.hashes))
   rooted ← refuse_if (differ block.header.root (block_root block)) (BadRoot block.header.root (block_root block))
-  begun ← refuse_misplaced (misplaced block.txs)
+  refuse_misplaced (misplaced block.txs)
+
+-- the index with a block whose satoshis have moved
+abbrev pub grown : Index → Block → Transferred → Index
+grown index block after = record { hashes = index.hashes ++ block_hash block.header ∷ []; outs = after.outs; lost = index.lost ++ after.moved.lost }
+
+-- the index after a block
+abbrev pub accept : Profile → Index → Block → Result Index Refusal
+accept p index block = do
+  begun ← admitted p index block
   after ← transfer_of p (length index.hashes) block.txs index.outs
-  Ok (record { hashes = index.hashes ++ block_hash block.header ∷ []; outs = after.outs; lost = index.lost ++ after.moved.lost })
+  Ok (grown index block after)
 
 -- the index after the block that these bytes spell
 unfoldable pub step : Profile → Index → List ℕ → Result Index Refusal

@@ -6,12 +6,14 @@ mod place;
 mod refusal;
 mod rows;
 mod table;
+mod view;
 
 pub use moved::{Moved, MovedTx, MovedTxs, SpentRows};
 pub use place::Place;
-pub use refusal::Refusal;
+pub use refusal::{Refusal, hash_text, outpoint_text};
 pub use rows::OutRow;
 pub use table::{Memory, OutTable, Unplaced};
+pub use view::View;
 
 ghost use Rattle.std.specs.Prelude.{ℕ, List};
 ghost use Rattle.ox_sat.specs.declared.profiles.Profile.{Profile};

@@ -5,9 +5,9 @@ ghost use Rattle.std.specs.Option.{option_copied};
 ghost use Rattle.std.specs.FinMap as map;
 ghost use Rattle.ox_outputs.specs.Slots.{rows_of, undone, are_slots};
 
-use crate::slots::{Slots, exchange, fill, forget, go_back, kept_row, row_at, take_slot, tidy};
+use crate::slots::{Slots, exchange, fill, find, forget, go_back, kept_row, row_at, take_slot, tidy};
 use ox_block::OutPoint;
-use ox_model::{Memory, OutRow, OutTable, Unplaced};
+use ox_model::{Memory, OutRow, OutTable, Place, Unplaced};
 use std::alloc::Global;
 use std::collections::BTreeMap;
 
@@ -27,8 +27,13 @@ pub struct Outputs {
 }
 
 impl Outputs {
-    /// No outputs, and no mark.
-    pub fn new(alloc: Global) -> Outputs {
+    ghost use Rattle.ox_model.specs.Where.{place_among};
+    ghost use Rattle.ox_outputs.specs.Table.{rows_in};
+
+    /// No outputs, and no mark. It takes no memory until a row is placed.
+    pub fn new(alloc: Global) -> Outputs
+        ensures { rows_in result ≡ map.empty }
+    {
         Outputs {
             alloc,
             slots: BTreeMap::new(alloc),
@@ -36,6 +41,14 @@ impl Outputs {
             before: Vec::new(alloc),
             marked: false,
         }
+    }
+
+    /// The output that holds a satoshi, and its place there: the first such output in the order of outpoints. `None`
+    /// exactly where no output holds it. It looks at one output after the other.
+    pub fn locate(&self, sat: u64) -> Option<Place>
+        ensures { result ≡ place_among (map.entries (rows_in self.now)) sat }
+    {
+        find(&self.slots, sat)
     }
 }
 

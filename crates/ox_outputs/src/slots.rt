@@ -1,13 +1,16 @@
 //! Slots for rows. A slot that is there can be filled and emptied without memory.
 
-ghost use Rattle.std.specs.Prelude.{◌≡◌, IsTrue, ◌↔◌, Option, None, IsSome, IfOk, IfErr, OnOk, OnErr, [], length};
+ghost use Rattle.std.specs.Prelude.{◌≡◌, IsTrue, ◌↔◌, Option, None, IsSome, IfOk, IfErr, OnOk, OnErr, [], ◌∷◌, length};
 ghost use Rattle.std.specs.Option.{option_copied};
 ghost use Rattle.std.specs.FinMap as map;
 ghost use Rattle.ox_block.specs.declared.block.OutPoint.{OutPoint};
-ghost use Rattle.ox_outputs.specs.Slots.{slot_at, put_slot, rows_of, undone, are_slots};
+ghost use Rattle.ox_outputs.specs.Slots.{slot_at, put_slot, rows_of, undone, are_slots, found_among};
+ghost use Rattle.ox_model.specs.Where.{place_among};
+ghost use Rattle.ox_model.specs.Outputs.{outpoint_cmp};
+ghost use Rattle.std.specs.BTreeMap.{IsOrdered};
 
 use ox_block::OutPoint;
-use ox_model::{Memory, OutRow, Unplaced};
+use ox_model::{Memory, OutRow, Place, Unplaced};
 use std::alloc::Global;
 use std::collections::BTreeMap;
 
@@ -111,5 +114,37 @@ pub(crate) fn go_back(slots: &mut Slots, changed: &[OutPoint], before: &mut Vec<
 {
     while let Some(row) = before.pop() {
         let _changed = exchange(slots, changed[before.len()], row);
+    }
+}
+
+/// The first slot whose row holds a satoshi, and the satoshi's place there.
+pub(crate) fn find(slots: &Slots, sat: u64) -> Option<Place>
+    ensures { result ≡ place_among (map.entries (rows_of slots.now.entries)) sat }
+{
+    find_among(slots, sat)
+}
+
+fn find_among(slots: &Slots, sat: u64) -> Option<Place>
+    ensures found { result ≡ found_among slots.now.entries sat }
+    ensures ordered { IsOrdered outpoint_cmp slots.now }
+{
+    for (at, slot) in slots.iter() {
+        if let Some(found) = place_in_slot(at, slot, sat) {
+            return Some(found);
+        }
+    }
+    None
+}
+
+// The place of a satoshi in the row of a slot.
+fn place_in_slot(at: &OutPoint, slot: &Option<OutRow>, sat: u64) -> Option<Place>
+    ensures { result ≡ found_among ((at.now, slot.now) ∷ []) sat }
+{
+    match slot {
+        Some(row) => row.sats.place_of(sat).map(|offset| Place::Out {
+            outpoint: *at,
+            offset,
+        }),
+        None => None,
     }
 }

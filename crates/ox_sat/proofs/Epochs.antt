@@ -1,4 +1,4 @@
-use Rattle.std.proofs.Common.{◌≡◌, ℕ, zero, suc, ◌+◌, ◌-◌, ◌*◌, ◌/◌, ◌%◌, ◌^◌, ◌<◌, ◌≤◌, Bool, true, false, nat_le, ◌⊎◌, inl, inr, refl, sym, ap, subst, ◌∙◌, arith, lit<, lit≤, add-suc, add-one, add-zero, suc-mul, mul-add, zero-mul, mul-zero, div-add-mod', min, mul-le-mul_left, mul-le-mul_right, le_trans, le_refl, mod-lt, pow_mono, not, cond, if◌then◌else◌, leb→le, nltb→le}
+use Rattle.std.proofs.Common.{◌≡◌, ℕ, zero, suc, ◌+◌, ◌-◌, ◌*◌, ◌/◌, ◌%◌, ◌^◌, ◌<◌, ◌≤◌, false, nat_le, inl, inr, refl, sym, ap, subst, ◌∙◌, arith, lit<, lit≤, add-suc, add-one, add-zero, suc-mul, mul-add, zero-mul, mul-zero, div-add-mod', min, mul-le-mul_left, le_refl}
 use Rattle.std.proofs.Math.Nat.{div-eq_of_lt, pow-le-pow_right}
 use Rattle.std.proofs.lemmas.Bool.{cases_lt, lt-leb, le-leb}
 use Rattle.std.proofs.lemmas.Nat.{div-mul-add, mod_below, div_below, le-div}
@@ -6,7 +6,7 @@ use Rattle.ox_sat.specs.declared.profiles.Profile.{Profile}
 use Rattle.ox_sat.specs.declared.profiles.ProfileName.{ProfileName}
 use Rattle.ox_sat.specs.declared.profiles.ProfileName.TheVariants.{Mainnet, Regtest, Lab}
 use Rattle.ox_sat.specs.Profiles.{profile_named, IsProfile}
-use Rattle.ox_sat.specs.Heights.{subsidy_at, first_at, Mints, last_from, height_minting}
+use Rattle.ox_sat.specs.Heights.{first_at, Mints, last_from, height_minting}
 
 -- what one block of each of the first epochs mints, together
 unfoldable pub minted_in : ℕ → ℕ

@@ -1,7 +1,7 @@
-use Rattle.std.proofs.Common.{◌≡◌, ℕ, zero, suc, ◌+◌, ◌-◌, ◌*◌, ◌/◌, ◌%◌, ◌<◌, ◌≤◌, List, [], ◌∷◌, ◌++◌, length, take, drop, set, reverse, All, inl, inr, refl, sym, ap, ◌∙◌, arith, lit<, lit≤, length-append, append_assoc, sub-one, le_trans, div-add-mod', fold, get_or}
+use Rattle.std.proofs.Common.{◌≡◌, ℕ, zero, suc, ◌+◌, ◌-◌, ◌*◌, ◌/◌, ◌%◌, ◌<◌, ◌≤◌, List, [], ◌∷◌, ◌++◌, length, take, set, reverse, All, inl, inr, refl, sym, ap, ◌∙◌, arith, lit<, lit≤, length-append, append_assoc, div-add-mod', get_or}
 use Rattle.std.proofs.lemmas.Bool.{cases_lt}
 use Rattle.std.proofs.lemmas.Nat.{div_below, mod_below, div-mul-add, mod-mul-add}
-use Rattle.std.proofs.lemmas.List.{take_more_set, drop-set-lt, reverse-append, drop-drop, reverse-reverse, get_or_append_left, get_or_at, take_more, length-reverse}
+use Rattle.std.proofs.lemmas.List.{take_more_set, reverse-append, reverse-reverse, get_or_append_left, get_or_at, take_more, length-reverse}
 use Rattle.std.proofs.lemmas.List.Elements.{All-push}
 use Rattle.std.proofs.lemmas.List.Sums.{fold_push}
 use Rattle.ox_sat.specs.declared.profiles.Profile.{Profile}

@@ -1,4 +1,4 @@
-use Rattle.std.proofs.Common.{◌≡◌, ◌≢◌, ℕ, zero, suc, ◌+◌, ◌-◌, ◌*◌, ◌/◌, ◌%◌, ◌^◌, ◌<◌, ◌≤◌, ◌==◌, ◌⊎◌, List, [], ◌∷◌, ◌++◌, length, get_or, slice_index, take, drop, All, inl, inr, refl, sym, ap, ◌∙◌, arith, lit<, length-append, decimal, Result, Ok, Err, true, false, add_left_cancel, nat_eq, div-le_self, append-nil, Option, Some, None, IfSome, IfNone, IfOk, OnErr, ok_or, le_refl}
+use Rattle.std.proofs.Common.{◌≡◌, ◌≢◌, ℕ, suc, ◌+◌, ◌*◌, ◌/◌, ◌^◌, ◌<◌, ◌≤◌, ◌==◌, List, [], ◌∷◌, ◌++◌, length, get_or, take, drop, All, inl, inr, refl, sym, ap, ◌∙◌, arith, lit<, length-append, decimal, Result, Ok, Err, div-le_self, append-nil, Option, Some, None, IfSome, IfNone, IfOk, OnErr, ok_or, le_refl}
 use Rattle.std.specs.Str.Parse.{AllDigits, digits_value, ParsesUnsigned}
 use Rattle.std.specs.List.{position_or_len}
 use Rattle.std.specs.Result.{OkIff, result_ok}

@@ -12,7 +12,8 @@ const EPOCHS: u64 = 33;
 
 /// The satoshis that each block of an epoch mints.
 fn subsidy_in(epoch: u64) -> u64
-    ensures { result ≡ 5000000000 / 2 ^ epoch }
+    ensures value { result ≡ 5000000000 / 2 ^ epoch }
+    ensures most { result ≤ 5000000000 }
 {
     if epoch < EPOCHS {
         FIRST_SUBSIDY >> epoch
@@ -24,7 +25,8 @@ fn subsidy_in(epoch: u64) -> u64
 /// The satoshis that the block of this height mints, 0 from the 33rd halving on.
 pub fn subsidy(p: &Profile, height: u64) -> u64
     requires { IsProfile p.now }
-    ensures { result ≡ subsidy_at p.now height }
+    ensures value { result ≡ subsidy_at p.now height }
+    ensures most { result ≤ 5000000000 }
 {
     subsidy_in(height / p.halving)
 }
@@ -35,6 +37,7 @@ pub fn first(p: &Profile, height: u64) -> u64
     requires { IsProfile p.now }
     ensures value { result ≡ first_at p.now height }
     ensures within { result ≤ p.now.supply }
+    ensures small { result < 2 ^ 51 }
 {
     let epoch = height / p.halving;
     let mut minted = 0;

@@ -2,7 +2,8 @@ ghost use Rattle.std.specs.Prelude.{◌≡◌, ◌≢◌, ℕ, ◌+◌, ◌^◌,
 ghost use Rattle.ox_sat.specs.Profiles.{IsProfile};
 ghost use Rattle.ox_sat.specs.Heights.{subsidy_at, first_at};
 ghost use Rattle.ox_sat.specs.Names.{IsLetter, letters_value, name_of, IsNameOf};
-ghost use Rattle.ox_sat.specs.Spellings.{IsPlain, IsNumberOf, IsDecimalOf, Spells};
+ghost use Rattle.ox_sat.specs.Spellings.{IsPlain, IsNumberOf, IsDecimalOf, Spells, sat_in};
+ghost use Rattle.std.specs.Result.{result_ok};
 
 use crate::heights::{first, subsidy};
 use crate::profiles::Profile;
@@ -92,6 +93,18 @@ fn read_undivided(p: &Profile, text: &str) -> Option<u64>
     }
 }
 
+/// The satoshi that this text spells, if any.
+fn spelled(p: &Profile, text: &str) -> Option<u64>
+    requires { IsProfile p.now }
+    ensures reads { IfSome result (λ sat. Spells p.now sat text.now) }
+    ensures none { IfNone result ((sat : ℕ) → ¬ Spells p.now sat text.now) }
+{
+    match text.split_once('.') {
+        Some((height, offset)) => read_decimal(p, height, offset),
+        None => read_undivided(p, text),
+    }
+}
+
 /// The satoshi that this text spells: by its number, as `2099994106992659`; by its decimal, the
 /// height and the place in that block, as `3891094.16797`; or by its name, as `satoshi`.
 ///
@@ -100,14 +113,12 @@ fn read_undivided(p: &Profile, text: &str) -> Option<u64>
 /// block of that height doesn't mint, and a name of twelve letters or of a number above the supply.
 pub fn read_sat(p: &Profile, text: &str) -> Result<u64, NotSat>
     requires { IsProfile p.now }
+    ensures value { result_ok result ≡ sat_in p.now text.now }
     ensures ok { IfOk result (λ sat. Spells p.now sat text.now) }
     ensures minted { IfOk result (λ sat. sat < p.now.supply) }
     ensures err { OnErr result ((sat : ℕ) → ¬ Spells p.now sat text.now) }
 {
-    match text.split_once('.') {
-        Some((height, offset)) => read_decimal(p, height, offset).ok_or(NotSat),
-        None => read_undivided(p, text).ok_or(NotSat),
-    }
+    spelled(p, text).ok_or(NotSat)
 }
 
 /// What is written reads as what was meant: a satoshi's number, its decimal and the name that

@@ -48,6 +48,15 @@ fn each_rarity_has_its_satoshis(rt: HostRuntime) {
     };
     assert_eq!(rt; degree_of(&mainnet, 2_099_994_106_992_659), degree);
     assert_eq!(rt; height_of(&mainnet, 2_099_994_106_992_659), 3_891_094);
+    let regtest = profile_of(ProfileName::Regtest);
+    let degree = Degree {
+        hour: 0,
+        minute: 1,
+        second: 1,
+        third: 0,
+    };
+    assert_eq!(rt; degree_of(&regtest, 5_000_000_000), degree);
+    assert_eq!(rt; rarity_of(&degree), Rarity::Uncommon);
 }
 
 #[test]
@@ -95,6 +104,8 @@ fn only_the_three_spellings_are_read(rt: HostRuntime) {
         "0.5000000000",
         "6930000.0",
         "18446744073709551616.0",
+        "01",
+        "1.5000000000",
         "01.0",
         "1.00",
         "1.",

@@ -1,4 +1,4 @@
-use Rattle.std.proofs.Common.{◌≡◌, ℕ, ◌*◌, ◌+◌, ◌-◌, ◌<◌, ◌≤◌}
+use Rattle.std.proofs.Common.{◌≡◌, ◌*◌, ◌+◌, ◌-◌, ◌<◌}
 use Rattle.ox_sat.proofs.Epochs.{minted_in}
 use Rattle.ox_sat.proofs.heights.height_of.Given as goal
 

@@ -1,6 +1,5 @@
-use Rattle.std.proofs.Common.{◌≡◌, ℕ, ◌+◌, ◌-◌, ◌≤◌, ◌<◌, ◌++◌, length, refl, sym, ap, ◌∙◌, arith, append-nil, take_at, length-set, length-take-le, take, drop}
+use Rattle.std.proofs.Common.{◌≡◌, ◌+◌, ◌-◌, ◌≤◌, ◌<◌, length, refl, sym, ap, ◌∙◌, arith, append-nil, take_at, length-set, length-take-le, drop}
 use Rattle.std.proofs.lemmas.List.{drop-set-lt, drop-drop}
-use Rattle.ox_sat.specs.Names.{letters}
 use Rattle.ox_sat.proofs.Epochs.{counts}
 use Rattle.ox_sat.proofs.Letters.{most_of, name_begins, room_for, fewer, letter_more, letters-zero}
 use Rattle.ox_sat.proofs.names.write_name.Goals as goal

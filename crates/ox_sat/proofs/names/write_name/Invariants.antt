@@ -1,4 +1,4 @@
-use Rattle.std.proofs.Common.{◌≡◌, ℕ, ◌≤◌, ◌-◌, ◌++◌, length, take, drop, reverse}
+use Rattle.std.proofs.Common.{◌≡◌, ◌≤◌, ◌-◌, ◌++◌, length, take, drop, reverse}
 use Rattle.ox_sat.specs.Names.{letters, name_of}
 use Rattle.ox_sat.proofs.Letters.{most_of}
 use Rattle.ox_sat.proofs.names.write_name.Given as goal

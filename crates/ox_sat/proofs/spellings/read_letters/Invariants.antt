@@ -1,4 +1,4 @@
-use Rattle.std.proofs.Common.{◌≡◌, ℕ, ◌≤◌, take, All}
+use Rattle.std.proofs.Common.{◌≡◌, ◌≤◌, take, All}
 use Rattle.ox_sat.specs.Names.{IsLetter, letters_value}
 use Rattle.ox_sat.proofs.Letters.{most_of}
 use Rattle.ox_sat.proofs.spellings.read_letters.Given as goal

@@ -1,0 +1,41 @@
+-- The lines that answer a command.
+use Rattle.std.specs.Prelude.{ℕ, ◌-◌, ◌==◌, List, ◌++◌, length, reverse, codes, decimal, if◌then◌else◌}
+use Rattle.hex.specs.Hex.{encode_lower}
+use Rattle.ox_block.specs.declared.block.OutPoint.{OutPoint}
+use Rattle.ox_model.specs.Index.{Index}
+use Rattle.ox_model.specs.Step.{newest_of}
+use Rattle.ox_model.specs.declared.refusal.Refusal.{Refusal}
+use Rattle.ox_model.specs.declared.refusal.Refusal.TheVariants.{TooLong, Syntax, Malformed, ChainEnd, Unlinked, BadRoot, Coinbase, BadWitness, UnknownOutput, Overspend, Overclaim, Depth}
+
+-- a hash as it is printed: its bytes in reversed order, each as two lower-case hex digits
+unfoldable pub hash_text : List ℕ → List ℕ
+hash_text hash = encode_lower (reverse hash)
+
+-- an outpoint as it is printed: the txid, a colon and the index
+unfoldable pub outpoint_text : OutPoint → List ℕ
+outpoint_text at = hash_text at.txid.0 ++ codes ":" ++ decimal at.index
+
+-- two numbers with a space between
+unfoldable pub pair_text : ℕ → ℕ → List ℕ
+pair_text first second = decimal first ++ codes " " ++ decimal second
+
+-- a refusal's line: its number, and its values with single spaces
+unfoldable pub refusal_line : Refusal → List ℕ
+refusal_line TooLong = codes "refused 2\n"
+refusal_line Syntax = codes "refused 1\n"
+refusal_line (Malformed at) = codes "refused 3 " ++ decimal at ++ codes "\n"
+refusal_line (ChainEnd height) = codes "refused 4 " ++ decimal height ++ codes "\n"
+refusal_line (Unlinked have want) = codes "refused 5 " ++ hash_text have ++ codes " " ++ hash_text want ++ codes "\n"
+refusal_line (BadRoot have want) = codes "refused 6 " ++ hash_text have ++ codes " " ++ hash_text want ++ codes "\n"
+refusal_line (Coinbase tx) = codes "refused 7 " ++ decimal tx ++ codes "\n"
+refusal_line BadWitness = codes "refused 12\n"
+refusal_line (UnknownOutput tx input at) = codes "refused 8 " ++ decimal tx ++ codes " " ++ decimal input ++ codes " " ++ outpoint_text at ++ codes "\n"
+refusal_line (Overspend tx inputs outputs) = codes "refused 9 " ++ decimal tx ++ codes " " ++ pair_text inputs outputs ++ codes "\n"
+refusal_line (Overclaim claimable claimed) = codes "refused 10 " ++ pair_text claimable claimed ++ codes "\n"
+refusal_line Depth = codes "refused 11\n"
+
+-- the line of an accepted command: the height and the hash of the newest block then
+unfoldable pub ok_line : Index → List ℕ
+ok_line index =
+    if length index.hashes == 0 then codes "ok empty\n"
+    else codes "ok " ++ decimal (length index.hashes - 1) ++ codes " " ++ hash_text (newest_of index.hashes) ++ codes "\n"

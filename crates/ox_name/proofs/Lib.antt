@@ -1,0 +1,6 @@
+pub mod Names
+pub mod Turned
+pub mod Gaps
+pub mod Texting
+pub mod Bytes
+pub mod Decimals

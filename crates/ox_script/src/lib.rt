@@ -1,0 +1,13 @@
+//! Bitcoin scripts: their items, the kinds of output that the index tells apart, and where a witness has its tapscript. Nothing here takes memory.
+#![tactic(auto)]
+
+mod instructions;
+mod shape;
+mod witness;
+
+pub use instructions::{Instructions, Item, instructions_of};
+pub use shape::{is_return, is_taproot};
+pub use witness::tapscript_place;
+
+#[cfg(test)]
+mod tests;

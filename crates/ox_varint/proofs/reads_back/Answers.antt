@@ -1,0 +1,5 @@
+use Rattle.ox_varint.proofs.Laws.{varint_at-varint}
+use Rattle.ox_varint.proofs.reads_back.Goals as goal
+
+pub returns : goal.returns
+returns c = varint_at-varint
