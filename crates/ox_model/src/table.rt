@@ -44,6 +44,12 @@ pub struct Unplaced {
     pub row: OutRow,
 }
 
+impl From<Unplaced> for Memory {
+    fn from(_e: Unplaced) -> Memory {
+        Memory
+    }
+}
+
 /// A table of unspent outputs: rows by outpoint, and a mark to which the table can go back.
 pub trait OutTable {
     /// The rows, by outpoint.

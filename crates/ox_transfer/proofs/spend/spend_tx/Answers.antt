@@ -1,0 +1,60 @@
+use Rattle.std.proofs.Common.{◌≡◌, ◌∙◌, ◌++◌, ◌∷◌, [], List, ℕ, sym, ap, subst, arith, ◌^◌, Ok, Some}
+use Rattle.std.specs.Prelude.{reverse}
+use Rattle.std.proofs.lemmas.Result.{err_from_is_err_and}
+use Rattle.ox_block.specs.declared.block.TxIn.{TxIn}
+use Rattle.ox_block.specs.declared.block.TxOut.{TxOut}
+use Rattle.ox_model.specs.Deal.{deal}
+use Rattle.ox_model.specs.Transfer.{take_rows, place_rows}
+use Rattle.ox_model.proofs.Conservation.{times-append}
+use Rattle.ox_transfer.specs.Apart.{Apart}
+use Rattle.ox_transfer.specs.Parts.{values, spent_of}
+use Rattle.ox_transfer.proofs.Once.{apart_less}
+use Rattle.ox_transfer.proofs.Spends.{untaken, too_much, spent_whole, apart_taken, apart_dealt, as_many, length-values, fits_behind, apart_spent}
+use Rattle.ox_transfer.proofs.spend.spend_tx.Goals as goal
+
+pub take_inputs-requires : goal.take_inputs-requires
+take_inputs-requires g c = record {
+  few = rw c.as_slice.ensures c.requires.counted.inputs;
+  apart = apart_less (2 ^ 63) _ (c.args.work.now.lost ++ c.args.work.now.fees) [] (λ sat. omega arith) c.requires.apart;
+}
+
+pub returns-in_err-taken-clause-spent : goal.returns-in_err-taken-clause-spent
+returns-in_err-taken-clause-spent g c =
+    let p = err_from_is_err_and c.from_residual.result c.from_residual.ensures.1 in
+    let refused = rw c.as_slice.ensures at c.in_err-taken.ensures.taken in
+    rw (p.1, p.2) (untaken c.args.height c.args.place c.args.tx.now (g.O.OutTable.contents c.args.table.now) (spent_of c.args.work.now (g.O.OutTable.contents c.args.table.now)) c.in_err-taken.field-0.0 refused)
+
+pub returns-then-held-total-clause-spent : goal.returns-then-held-total-clause-spent
+returns-then-held-total-clause-spent g c =
+    let took = rw c.as_slice.ensures at c.in_ok-taken.ensures.taken in
+    let sum_is = rw c.as_slice-outputs.ensures at c.value_sum-total.ensures in
+    too_much c.args.height c.args.place c.args.tx.now (g.O.OutTable.contents c.args.table.now) _ (spent_of c.args.work.now (g.O.OutTable.contents c.args.table.now)) c.in_ok-taken.taken.rows.items c.in_ok-taken.taken.sats _ _ took c.in_ok-taken.ensures.joined c.len-held.ensures sum_is c.if-held-total.true
+
+pub place_outputs-requires : goal.place_outputs-requires
+place_outputs-requires g c =
+    let took = rw c.as_slice.ensures at c.in_ok-taken.ensures.taken in
+    let hand : List ℕ = c.args.work.now.lost ++ c.args.work.now.fees in record {
+      few = rw c.as_slice-outputs.ensures c.requires.counted.outputs;
+      each = as_many c.in_ok-taken.taken.sats _ _ _ c.in_ok-dealt.ensures ∙ length-values c.as_slice-outputs.result.now;
+      apart = apart_dealt _ c.in_ok-taken.taken.sats _ hand c.args.work.now.lost _ _ c.in_ok-dealt.ensures (λ sat. omega (arith, times-append sat c.args.work.now.lost c.args.work.now.fees))
+          (apart_taken c.args.place c.args.tx.now (g.O.OutTable.contents c.args.table.now) _ c.in_ok-taken.taken.rows.items c.in_ok-taken.taken.sats hand took c.in_ok-taken.ensures.joined c.requires.apart);
+    }
+
+pub join-requires : goal.join-requires
+join-requires g c =
+    let took = rw c.as_slice.ensures at c.in_ok-taken.ensures.taken in
+    fits_behind _ c.in_ok-taken.taken.sats _ c.args.work.now.fees c.args.work.now.lost _ _ c.in_ok-dealt.ensures
+    (apart_taken c.args.place c.args.tx.now (g.O.OutTable.contents c.args.table.now) (g.O.OutTable.contents c.take_inputs.new.table) c.in_ok-taken.taken.rows.items c.in_ok-taken.taken.sats (c.args.work.now.lost ++ c.args.work.now.fees) took c.in_ok-taken.ensures.joined c.requires.apart)
+
+pub returns-clause-spent : goal.returns-clause-spent
+returns-clause-spent g c =
+    let took = rw c.as_slice.ensures at c.in_ok-taken.ensures.taken in
+    let dealt = rw c.as_slice-outputs.ensures at c.in_ok-dealt.ensures in
+    let placed = rw c.as_slice-outputs.ensures at c.in_ok-displaced.ensures.rows in
+    spent_whole c.args.height c.args.place c.args.tx.now (g.O.OutTable.contents c.args.table.now) (g.O.OutTable.contents c.take_inputs.new.table) (g.O.OutTable.contents c.place_outputs.new.table) c.in_ok-taken.taken.rows.items c.in_ok-displaced.displaced.items c.in_ok-taken.taken.sats c.in_ok-joined.joined c.in_ok-dealt.dealt.rest
+    c.args.work.now.lost c.place_outputs.new.lost c.args.work.now.fees c.join.new.self (reverse c.in_ok-dealt.dealt.parts.items) c.args.work.now.moved.items c.push.new.self.items c.txid_of-txid.result
+    took c.in_ok-taken.ensures.joined dealt c.txid_of-txid.ensures placed c.in_ok-joined.ensures c.in_ok-displaced.ensures.lost c.in_ok-join.ensures.ok
+    (c.in_ok-push.ensures.items ∙ λ i. c.args.work.now.moved.items ++ record { txid = c.txid_of-txid.result; spent = c.from_vec.ensures i; joined = c.in_ok-joined.joined; displaced = c.from_vec-2.ensures i } ∷ [])
+
+pub returns-clause-apart : goal.returns-clause-apart
+returns-clause-apart g c = apart_spent c.args.height c.args.place c.args.tx.now (spent_of c.args.work.now (g.O.OutTable.contents c.args.table.now)) (spent_of (record { moved = c.push.new.self; lost = c.place_outputs.new.lost; fees = c.join.new.self }) (g.O.OutTable.contents c.place_outputs.new.table)) (returns-clause-spent g c) c.requires.apart

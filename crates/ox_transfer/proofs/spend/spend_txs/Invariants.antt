@@ -1,0 +1,13 @@
+use Rattle.std.proofs.Common.{◌≡◌, ◌+◌, ◌^◌, ◌++◌, drop}
+use Rattle.ox_model.specs.Transfer.{spend_all}
+use Rattle.ox_transfer.specs.Apart.{Apart}
+use Rattle.ox_transfer.specs.Parts.{spent_of, all_behind}
+use Rattle.ox_transfer.proofs.spend.spend_txs.Given as goal
+
+-- the transactions so far, and what the rest gives
+abbrev pub invariant-loop-index : goal.invariant-loop-index
+invariant-loop-index g l = record {
+  so_far : spend_all l.height 1 l.txs (g.O.OutTable.contents l.initial.table) ≡ all_behind (spent_of l.work (g.O.OutTable.contents l.table)) (spend_all l.height (l.index + 1) (drop l.index l.txs) (g.O.OutTable.contents l.table));
+  apart : Apart (2 ^ 63) (g.O.OutTable.contents l.table) (l.work.lost ++ l.work.fees);
+  mark : g.O.OutTable.marked l.table ≡ g.O.OutTable.marked l.initial.table;
+}

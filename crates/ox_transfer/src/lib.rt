@@ -1,0 +1,12 @@
+//! First-in first-out: a block's satoshis go from the outputs that it spends to those that it makes.
+#![tactic(auto)]
+
+mod deal;
+mod fault;
+mod moving;
+mod place;
+mod spend;
+mod take;
+
+pub use fault::TransferFault;
+pub use moving::transfer;

@@ -1,0 +1,134 @@
+//! A block's satoshis.
+
+ghost use Rattle.std.specs.Prelude.{◌≡◌, ◌++◌, Ok, Some, IfOk, IfErr, OnOk, OnErr};
+ghost use Rattle.ox_sat.specs.Profiles.{IsProfile};
+ghost use Rattle.ox_sat.specs.Heights.{first_at};
+ghost use Rattle.ox_block.specs.Spelling.{Lawful};
+ghost use Rattle.ox_model.specs.Transfer.{claim, transfer_of};
+ghost use Rattle.ox_transfer.specs.Answer.{Answers, Refuses};
+ghost use Rattle.ox_transfer.specs.Apart.{HoldsOnce, Apart};
+ghost use Rattle.ox_transfer.specs.Counts.{Counted};
+ghost use Rattle.ox_transfer.specs.Parts.{spent_of, transferred_of};
+
+use crate::deal::{deal_out, value_sum};
+use crate::fault::TransferFault;
+use crate::place::place_outputs;
+use crate::spend::{Work, spend_txs};
+use ox_block::{Block, Tx, txid_of};
+use ox_model::{Moved, MovedTx, MovedTxs, OutTable, Refusal, SpentRows};
+use ox_range::Ranges;
+use ox_sat::{Profile, first, subsidy};
+use std::alloc::Global;
+
+/// The coinbase, which claims the subsidy's satoshis and then the fees.
+fn claim_all<O: OutTable>(
+    alloc: Global,
+    table: &mut O,
+    p: &Profile,
+    height: u32,
+    coinbase: &Tx,
+    mut work: Work,
+) -> Result<Moved, TransferFault>
+    requires known { IsProfile p.now }
+    requires counted { Counted coinbase.now }
+    requires apart { Apart (first_at p.now height) (O.contents table.old) (work.lost ++ work.fees) }
+    ensures claimed { Answers (λ moved. transferred_of moved (O.contents table.new)) result (claim p.now height coinbase.now (spent_of work (O.contents table.old))) }
+    ensures mark { O.marked table.new ≡ O.marked table.old }
+{
+    let outputs = coinbase.outputs.as_slice();
+    let total = value_sum(outputs);
+    let mut sats = Ranges::one(alloc, first(p, height as u64), subsidy(p, height as u64))?;
+    sats.join(&work.fees)?;
+    let claimable = sats.len();
+    if claimable < total {
+        return Err(TransferFault::Refused(Refusal::Overclaim {
+            claimable,
+            claimed: total,
+        }));
+    }
+    let dealt = deal_out(alloc, sats, outputs, total)?;
+    let txid = txid_of(coinbase);
+    let displaced = place_outputs(
+        alloc,
+        table,
+        height,
+        txid,
+        outputs,
+        dealt.parts,
+        &mut work.lost,
+    )?;
+    work.lost.join(&dealt.rest)?;
+    let entry = MovedTx {
+        txid,
+        spent: SpentRows::from_vec(Vec::new(alloc)),
+        joined: Ranges::empty(alloc),
+        displaced: SpentRows::from_vec(displaced),
+    };
+    work.moved.insert(0, entry)?;
+    Ok(Moved {
+        txs: MovedTxs::from_vec(work.moved),
+        lost: work.lost,
+    })
+}
+
+/// Moves a block's satoshis in the table, which holds a part of it after an error.
+fn transfer_txs<O: OutTable>(
+    alloc: Global,
+    table: &mut O,
+    p: &Profile,
+    block: &Block,
+    height: u32,
+) -> Result<Moved, TransferFault>
+    requires known { IsProfile p.now }
+    requires lawful { Lawful block.now }
+    requires once { HoldsOnce (first_at p.now height) (O.contents table.old) }
+    ensures moved { Answers (λ moved. transferred_of moved (O.contents table.new)) result (transfer_of p.now height block.now.txs (O.contents table.old)) }
+    ensures mark { O.marked table.new ≡ O.marked table.old }
+{
+    let Some((coinbase, txs)) = block.txs.as_slice().split_first() else {
+        unreachable!()
+    };
+    let work = spend_txs(alloc, table, height, txs)?;
+    claim_all(alloc, table, p, height, coinbase, work)
+}
+
+/// Moves the satoshis of a block that stands at this height, first-in first-out (BIP draft "Ordinal Numbers"; Ordinal
+/// Theory Handbook, "Overview"), and answers what each transaction did and which satoshis are lost.
+///
+/// Each transaction's inputs take their rows out of the table, whose satoshis, joined in input order, go to its outputs
+/// in order; what is left over is fee. The coinbase comes last: the subsidy's satoshis and then the fees go to its
+/// outputs, and what is left over is lost. An output at whose outpoint a row still stands displaces it, and that row's
+/// satoshis are lost at that moment.
+///
+/// The lists of the table's rows, joined, may hold no number twice, and none from the first satoshi of the height up.
+///
+/// It sets the table's mark first. `Refused` with the first cause in block order: `UnknownOutput` at an input whose
+/// output isn't there, `Overspend` where a transaction's outputs have more satoshis than its inputs, and, after all
+/// other transactions, `Overclaim` where the coinbase's outputs have more than subsidy and fees. `Memory` where there is
+/// none. The table is as before then. After Ok it goes back by its `cancel`.
+///
+/// It costs one look-up an input and one insertion an output, and otherwise grows by the runs of satoshis that move.
+pub fn transfer<O: OutTable>(
+    alloc: Global,
+    table: &mut O,
+    p: &Profile,
+    block: &Block,
+    height: u32,
+) -> Result<Moved, TransferFault>
+    requires known { IsProfile p.now }
+    requires lawful { Lawful block.now }
+    requires once { HoldsOnce (first_at p.now height) (O.contents table.old) }
+    ensures moved { IfOk result (λ moved. transfer_of p.now height block.now.txs (O.contents table.old) ≡ Ok (transferred_of moved (O.contents table.new))) }
+    ensures refused { IfErr result (λ fault. Refuses fault (transfer_of p.now height block.now.txs (O.contents table.old))) }
+    ensures err { OnErr result (O.contents table.new ≡ O.contents table.old) }
+    ensures mark { OnOk result (O.marked table.new ≡ Some (O.contents table.old)) }
+{
+    table.begin()?;
+    match transfer_txs(alloc, table, p, block, height) {
+        Ok(moved) => Ok(moved),
+        Err(fault) => {
+            table.cancel();
+            Err(fault)
+        }
+    }
+}

@@ -1,0 +1,73 @@
+//! The rows that a transaction makes.
+
+ghost use Rattle.std.specs.Prelude.{◌≡◌, ◌≤◌, ◌^◌, ◌++◌, length, reverse, IfOk, OnOk};
+ghost use Rattle.std.specs.FinMap as map;
+ghost use Rattle.ox_block.specs.Spelling.{most_bytes};
+ghost use Rattle.ox_model.specs.Outputs.{sats_of};
+ghost use Rattle.ox_model.specs.Transfer.{as_list, place_rows};
+ghost use Rattle.ox_transfer.specs.Apart.{Apart};
+ghost use Rattle.ox_transfer.specs.Parts.{joined, placed_of};
+
+use ox_block::{OutPoint, TxOut, Txid};
+use ox_bytes::Bytes;
+use ox_model::{Memory, OutRow, OutTable};
+use ox_range::Ranges;
+use std::alloc::Global;
+
+/// Places a row. One that it displaces goes to the displaced ones, and its satoshis are lost.
+fn place_row<O: OutTable>(
+    table: &mut O,
+    at: OutPoint,
+    row: OutRow,
+    displaced: &mut Vec<OutRow>,
+    lost: &mut Ranges,
+) -> Result<(), Memory>
+    requires apart { Apart (2 ^ 63) (O.contents table.old) (row.sats ++ lost.old) }
+    ensures table { OnOk result (O.contents table.new ≡ map.insert (O.contents table.old) at row) }
+    ensures rows { OnOk result (displaced.new.items ≡ displaced.old.items ++ as_list (map.get (O.contents table.old) at)) }
+    ensures lost { OnOk result (lost.new ≡ lost.old ++ sats_of (as_list (map.get (O.contents table.old) at))) }
+    ensures mark { O.marked table.new ≡ O.marked table.old }
+{
+    if let Some(old) = table.place(&at, row)? {
+        lost.join(&old.sats)?;
+        displaced.push(old)?;
+    }
+    Ok(())
+}
+
+/// Places the outputs of a transaction in order, each with its part of the satoshis, of which the last output's is the
+/// first. It answers the rows that are displaced, and their satoshis are lost.
+pub(crate) fn place_outputs<O: OutTable>(
+    alloc: Global,
+    table: &mut O,
+    height: u32,
+    txid: Txid,
+    outputs: &[TxOut],
+    mut parts: Vec<Ranges>,
+    lost: &mut Ranges,
+) -> Result<Vec<OutRow>, Memory>
+    requires few { length outputs.now ≤ most_bytes }
+    requires each { length (reverse parts.items) ≡ length outputs.now }
+    requires apart { Apart (2 ^ 63) (O.contents table.old) (joined (reverse parts.items) ++ lost.old) }
+    ensures rows { IfOk result (λ displaced. place_rows height txid 0 outputs.now (reverse parts.items) (O.contents table.old) ≡ placed_of displaced.items (O.contents table.new)) }
+    ensures lost { IfOk result (λ displaced. lost.new ≡ lost.old ++ sats_of displaced.items) }
+    ensures mark { O.marked table.new ≡ O.marked table.old }
+{
+    let mut displaced = Vec::new(alloc);
+    for (index, output) in outputs.iter().enumerate() {
+        let Some(sats) = parts.pop() else {
+            unreachable!()
+        };
+        let row = OutRow {
+            script: Bytes::copy(alloc, output.script.as_slice())?,
+            height,
+            sats,
+        };
+        let at = OutPoint {
+            txid,
+            index: index as u32,
+        };
+        place_row(table, at, row, &mut displaced, lost)?;
+    }
+    Ok(displaced)
+}

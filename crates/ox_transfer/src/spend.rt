@@ -1,0 +1,99 @@
+//! The transactions other than the coinbase.
+
+ghost use Rattle.std.specs.Prelude.{◌≡◌, ◌≤◌, ◌^◌, ◌++◌, [], length, OnOk};
+ghost use Rattle.std.specs.List.{All};
+ghost use Rattle.ox_block.specs.Spelling.{LawfulTx, most_bytes};
+ghost use Rattle.ox_model.specs.Transfer.{spend, spend_all};
+ghost use Rattle.ox_transfer.specs.Answer.{Answers};
+ghost use Rattle.ox_transfer.specs.Apart.{Apart};
+ghost use Rattle.ox_transfer.specs.Counts.{Counted};
+ghost use Rattle.ox_transfer.specs.Parts.{spent_of, all_behind};
+
+use crate::deal::{deal_out, value_sum};
+use crate::fault::TransferFault;
+use crate::place::place_outputs;
+use crate::take::take_inputs;
+use ox_block::{Tx, txid_of};
+use ox_model::{MovedTx, OutTable, Refusal, SpentRows};
+use ox_range::Ranges;
+use std::alloc::Global;
+
+/// What transactions did so far: their entries, the satoshis that are lost by displacement, and the fees.
+#[derive(Drop)]
+pub(crate) struct Work {
+    pub(crate) moved: Vec<MovedTx>,
+    pub(crate) lost: Ranges,
+    pub(crate) fees: Ranges,
+}
+
+/// A transaction at a place of the block other than the coinbase's.
+fn spend_tx<O: OutTable>(
+    alloc: Global,
+    table: &mut O,
+    height: u32,
+    place: u32,
+    tx: &Tx,
+    work: &mut Work,
+) -> Result<(), TransferFault>
+    requires counted { Counted tx.now }
+    requires apart { Apart (2 ^ 63) (O.contents table.old) (work.old.lost ++ work.old.fees) }
+    ensures spent { Answers (λ _. spent_of work.new (O.contents table.new)) result (all_behind (spent_of work.old (O.contents table.old)) (spend height place tx.now (O.contents table.old))) }
+    ensures apart { OnOk result (Apart (2 ^ 63) (O.contents table.new) (work.new.lost ++ work.new.fees)) }
+    ensures mark { O.marked table.new ≡ O.marked table.old }
+{
+    let taken = take_inputs(alloc, table, place, tx.inputs.as_slice())?;
+    let outputs = tx.outputs.as_slice();
+    let total = value_sum(outputs);
+    let held = taken.sats.len();
+    if held < total {
+        return Err(TransferFault::Refused(Refusal::Overspend {
+            tx: place,
+            inputs: held,
+            outputs: total,
+        }));
+    }
+    let joined = taken.sats.copy(alloc)?;
+    let dealt = deal_out(alloc, taken.sats, outputs, total)?;
+    let txid = txid_of(tx);
+    let displaced = place_outputs(
+        alloc,
+        table,
+        height,
+        txid,
+        outputs,
+        dealt.parts,
+        &mut work.lost,
+    )?;
+    work.fees.join(&dealt.rest)?;
+    work.moved.push(MovedTx {
+        txid,
+        spent: SpentRows::from_vec(taken.rows),
+        joined,
+        displaced: SpentRows::from_vec(displaced),
+    })?;
+    Ok(())
+}
+
+/// The transactions of a block behind its coinbase, in order.
+pub(crate) fn spend_txs<O: OutTable>(
+    alloc: Global,
+    table: &mut O,
+    height: u32,
+    txs: &[Tx],
+) -> Result<Work, TransferFault>
+    requires few { length txs.now ≤ most_bytes }
+    requires counted { All Counted txs.now }
+    requires apart { Apart (2 ^ 63) (O.contents table.old) [] }
+    ensures spent { Answers (λ work. spent_of work (O.contents table.new)) result (spend_all height 1 txs.now (O.contents table.old)) }
+    ensures mark { O.marked table.new ≡ O.marked table.old }
+{
+    let mut work = Work {
+        moved: Vec::new(alloc),
+        lost: Ranges::empty(alloc),
+        fees: Ranges::empty(alloc),
+    };
+    for (index, tx) in txs.iter().enumerate() {
+        spend_tx(alloc, table, height, index as u32 + 1, tx, &mut work)?;
+    }
+    Ok(work)
+}
