@@ -1,15 +1,17 @@
 //! The index in memory.
 
-ghost use Rattle.std.specs.Prelude.{◌≡◌, Ok, IfErr, OnOk, OnErr};
+ghost use Rattle.std.specs.Prelude.{◌≡◌, Ok, IfOk, IfErr, OnOk, OnErr};
 ghost use Rattle.ox_sat.specs.Profiles.{IsProfile};
 ghost use Rattle.ox_sat.proofs.Known.{IsProfile-prop};
 ghost use Rattle.ox_model.specs.Sound.{Sound};
+ghost use Rattle.ox_model.specs.Text.{ok_text};
 ghost use Rattle.ox_outputs.specs.Table.{rows_in};
 
-use crate::admit::admit;
+use crate::admit::{admit, newest};
 use crate::fault::ConnectFault;
 use ox_block::{OutPoint, hash, read_block};
-use ox_model::{OutRow, OutTable, Place, View};
+use ox_bytes::{Bytes, Memory};
+use ox_model::{OutRow, OutTable, Place, View, hash_text};
 use ox_outputs::Outputs;
 use ox_range::Ranges;
 use ox_sat::Profile;
@@ -31,6 +33,7 @@ pub struct Live {
 impl Live {
     ghost use Rattle.ox_model.specs.Index.{no_blocks};
     ghost use Rattle.ox_model.specs.Step.{step};
+    ghost use Rattle.ox_model.specs.Text.{ok_line};
     ghost use Rattle.ox_index.specs.Live.{profile_in, index_in};
     ghost use Rattle.ox_index.specs.Fault.{Refuses};
 
@@ -64,11 +67,75 @@ impl Live {
         self.hashes.reserve(1)?;
         let height = self.hashes.len() as u32;
         let moved = transfer(self.alloc, &mut self.outputs, &self.profile, &block, height)?;
-        if self.lost.join(&moved.lost).is_err() {
-            self.outputs.cancel();
-            return Err(ConnectFault::Memory);
+        match self.lost.join(&moved.lost) {
+            Ok(()) => {
+                self.hashes.push_reserved(hash(&block.header));
+                Ok(())
+            }
+            Err(_) => {
+                self.outputs.cancel();
+                Err(ConnectFault::Memory)
+            }
         }
-        self.hashes.push_reserved(hash(&block.header));
-        Ok(())
     }
+
+    /// The line of an accepted command: `ok`, the height and the hash of the newest block, or `ok empty`, and a line
+    /// feed. The hash is printed in reversed order. `Memory` where there is none for it.
+    pub fn line(&self) -> Result<Bytes, Memory>
+        ensures { IfOk result (λ line. line ≡ ok_line (index_in self.now)) }
+    {
+        ok_line_of(self.alloc, &self.hashes)
+    }
+}
+
+impl View for Live {
+    ghost use Rattle.ox_index.specs.Live.{profile_in as counted, index_in as shown};
+
+    ghost chain = { counted };
+
+    ghost index = { shown };
+
+    fn profile(&self) -> &Profile {
+        &self.profile
+    }
+
+    fn blocks(&self) -> u32 {
+        self.hashes.len() as u32
+    }
+
+    fn hash_of(&self, height: u32) -> Option<&[u8; 32]> {
+        self.hashes.get(height as usize)
+    }
+
+    fn output(&self, at: &OutPoint) -> Option<&OutRow> {
+        self.outputs.get(at)
+    }
+
+    fn lost(&self) -> u64 {
+        self.lost.len()
+    }
+
+    fn locate(&self, sat: u64) -> Option<Place> {
+        match self.outputs.locate(sat) {
+            Some(place) => Some(place),
+            None => self.lost.place_of(sat).map(|offset| Place::Lost { offset }),
+        }
+    }
+
+    ghost sound = { λ live. live.sound };
+}
+
+// The line of an accepted command, by the hashes of the chain.
+#[tactic(auto, unfolding(ox_model::specs::Text::ok_text))]
+fn ok_line_of(alloc: Global, hashes: &[[u8; 32]]) -> Result<Bytes, Memory>
+    ensures { IfOk result (λ line. line ≡ ok_text hashes.now) }
+{
+    let blocks = hashes.len();
+    if blocks == 0 {
+        return Bytes::copy(alloc, b"ok empty\n");
+    }
+    let height = blocks - 1;
+    let hash = hash_text(alloc, &newest(hashes))?;
+    let text = format!(in alloc; "ok {height} {hash}\n")?;
+    Ok(Bytes::from_vec(text.into_bytes()))
 }

@@ -138,7 +138,7 @@ none_held sat = ap (total outpoints_total (λ (row : OutRow). times sat row.sats
 
 -- ---- a block, and a chain
 
-first_next : (p : Profile) (height : ℕ) → first_at p (height + 1) ≡ first_at p height + subsidy_at p height
+pub first_next : (p : Profile) (height : ℕ) → first_at p (height + 1) ≡ first_at p height + subsidy_at p height
 unfolding first_at
 first_next p height = rw add-one refl
 

@@ -34,8 +34,12 @@ refusal_line (Overspend tx inputs outputs) = codes "refused 9 " ++ decimal tx ++
 refusal_line (Overclaim claimable claimed) = codes "refused 10 " ++ pair_text claimable claimed ++ codes "\n"
 refusal_line Depth = codes "refused 11\n"
 
--- the line of an accepted command: the height and the hash of the newest block then
-unfoldable pub ok_line : Index → List ℕ
-ok_line index =
-    if length index.hashes == 0 then codes "ok empty\n"
-    else codes "ok " ++ decimal (length index.hashes - 1) ++ codes " " ++ hash_text (newest_of index.hashes) ++ codes "\n"
+-- the line of an accepted command, by the hashes of the chain then: the height and the hash of the newest block
+unfoldable pub ok_text : List (List ℕ) → List ℕ
+ok_text hashes =
+    if length hashes == 0 then codes "ok empty\n"
+    else codes "ok " ++ decimal (length hashes - 1) ++ codes " " ++ hash_text (newest_of hashes) ++ codes "\n"
+
+-- the same, by the index
+abbrev pub ok_line : Index → List ℕ
+ok_line index = ok_text index.hashes
