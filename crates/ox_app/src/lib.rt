@@ -7,3 +7,6 @@ mod rows;
 mod show;
 
 pub use rows::run;
+
+#[cfg(test)]
+mod tests;

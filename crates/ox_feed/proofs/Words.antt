@@ -1,15 +1,12 @@
 -- What a line that is a command begins with.
-use Rattle.std.proofs.Common.{◌≡◌, ℕ, List, [], ◌∷◌, ◌++◌, refl, ap, ◌≢◌, sym, ◌∙◌}
-use Rattle.std.specs.Prelude.{codes, Some, None, Ok, Err}
+use Rattle.std.proofs.Common.{◌≡◌, ℕ, List, [], ◌∷◌, ◌++◌, refl, ap, ◌≢◌}
+use Rattle.std.specs.Prelude.{codes, IsErr, Some, None, Ok}
 use Rattle.hex.specs.Hex.{decode_of}
-use Rattle.hex.specs.declared.error.FromHexError.{FromHexError}
-use Rattle.hex.specs.declared.error.FromHexError.TheVariants.{OutOfMemory}
 use Rattle.ox_feed.specs.declared.command.Command.TheVariants.{Connect}
-use Rattle.ox_feed.specs.declared.command.SyntaxFault.{SyntaxFault}
-use Rattle.ox_feed.specs.declared.command.SyntaxFault.TheVariants.{Syntax, Memory}
 use Rattle.std.proofs.lemmas.Bool.{cases_eq, eq-eqb, ne_eqb}
-use Rattle.std.proofs.Common.{inl, inr, ◌⊎◌}
-use Rattle.ox_feed.specs.Command.{after_word, command_of, command_of_digits, syntax_fault_of}
+use Rattle.std.proofs.Common.{inl, inr}
+use Rattle.ox_feed.proofs.Decoding.{error_of}
+use Rattle.ox_feed.specs.Command.{after_word, command_of, command_of_digits}
 
 -- behind a word stands what follows it
 pub after_word-append : (word rest : List ℕ) → after_word word (word ++ rest) ≡ Some rest
@@ -32,19 +29,12 @@ unfolding command_of
 command_of-connect line digits bytes is decodes =
     rw (is, decodes) refl
 
-pub command_of-no_digits : (line digits : List ℕ) (e : FromHexError) → line ≡ codes "connect " ++ digits → decode_of digits ≡ Err e → command_of line ≡ None
+pub command_of-no_digits : (line digits : List ℕ) → line ≡ codes "connect " ++ digits → IsErr (decode_of digits) → command_of line ≡ None
 unfolding command_of
-command_of-no_digits line digits e is fails =
-    rw (is, fails) refl
+command_of-no_digits line digits is fails =
+    let e = error_of (decode_of digits) fails in
+    rw (is, e.1) refl
 
 pub command_of-other : (line : List ℕ) → ((rest : List ℕ) → line ≢ codes "connect " ++ rest) → command_of line ≡ None
 unfolding command_of
 command_of-other line h = ap command_of_digits (after_word-none (codes "connect ") line h)
-
-memory_is_no_syntax : Memory ≡ Syntax → ⊥
-memory_is_no_syntax e = cc
-
-pub command_of-fault : (line digits : List ℕ) (e : FromHexError) (fault : SyntaxFault) → line ≡ codes "connect " ++ digits
-    → (e ≡ OutOfMemory) ⊎ (decode_of digits ≡ Err e) → fault ≡ syntax_fault_of e → fault ≡ Syntax → command_of line ≡ None
-command_of-fault line digits e fault is (inl full) gives syntax = absurd (memory_is_no_syntax (sym (gives ∙ ap syntax_fault_of full) ∙ syntax))
-command_of-fault line digits e fault is (inr fails) gives syntax = command_of-no_digits line digits e is fails

@@ -2,11 +2,8 @@
 use Rattle.std.specs.Prelude.{ℕ, ◌==◌, List, [], ◌∷◌, codes, Option, Some, None, Result, Ok, Err, if◌then◌else◌}
 use Rattle.hex.specs.Hex.{decode_of}
 use Rattle.hex.specs.declared.error.FromHexError.{FromHexError}
-use Rattle.hex.specs.declared.error.FromHexError.TheVariants.{InvalidHexCharacter, OddLength, InvalidStringLength, OutOfMemory}
 use Rattle.ox_feed.specs.declared.command.Command.{Command}
 use Rattle.ox_feed.specs.declared.command.Command.TheVariants.{Connect}
-use Rattle.ox_feed.specs.declared.command.SyntaxFault.{SyntaxFault}
-use Rattle.ox_feed.specs.declared.command.SyntaxFault.TheVariants.{Syntax, Memory}
 
 -- what stands behind the word, where the line begins with it
 abbrev pub after_word : List ℕ → List ℕ → Option (List ℕ)
@@ -26,10 +23,3 @@ command_of_digits None = None
 -- the command that a line is: `connect`, one space, and an even number of hex digits of either case, none allowed
 unfoldable pub command_of : List ℕ → Option Command
 command_of line = command_of_digits (after_word (codes "connect ") line)
-
--- what a fault of the digits is for the line
-abbrev pub syntax_fault_of : FromHexError → SyntaxFault
-syntax_fault_of OutOfMemory = Memory
-syntax_fault_of OddLength = Syntax
-syntax_fault_of InvalidStringLength = Syntax
-syntax_fault_of (InvalidHexCharacter c index) = Syntax

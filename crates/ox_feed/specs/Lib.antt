@@ -1,3 +1,4 @@
 pub mod Command
+pub mod Digits
 pub mod Feed
 pub mod Held

@@ -1,11 +1,11 @@
 //! The commands of a feed.
 
 ghost use Rattle.std.specs.Prelude.{◌≡◌, Some, None, IfOk, IsErrOf};
-ghost use Rattle.ox_feed.specs.Command.{command_of as spelled, syntax_fault_of};
+ghost use Rattle.ox_feed.specs.Command.{command_of as spelled};
 
-use hex::FromHexError;
+use crate::digits::decode;
 use ox_bytes::Bytes;
-use std::alloc::Global;
+use std::alloc::{AllocError, Global};
 
 /// A command of a feed.
 #[derive(Debug, Drop)]
@@ -23,14 +23,13 @@ pub enum SyntaxFault {
     Memory,
 }
 
-impl From<FromHexError> for SyntaxFault {
-    ghost from_gives = { λ e fault. fault ≡ syntax_fault_of e };
+impl From<AllocError> for SyntaxFault {
+    ghost use Rattle.ox_feed.specs.declared.command.SyntaxFault.TheVariants.{Memory};
 
-    fn from(e: FromHexError) -> SyntaxFault {
-        match e {
-            FromHexError::OutOfMemory => SyntaxFault::Memory,
-            _ => SyntaxFault::Syntax,
-        }
+    ghost from_gives = { λ _ fault. fault ≡ Memory };
+
+    fn from(_e: AllocError) -> SyntaxFault {
+        SyntaxFault::Memory
     }
 }
 
@@ -46,6 +45,8 @@ pub fn command_of(alloc: Global, line: &[u8]) -> Result<Command, SyntaxFault>
     let Some(digits) = line.strip_prefix(b"connect ") else {
         return Err(SyntaxFault::Syntax);
     };
-    let bytes = hex::decode(alloc, digits)?;
-    Ok(Command::Connect(Bytes::from_vec(bytes)))
+    match decode(alloc, digits)? {
+        Some(bytes) => Ok(Command::Connect(Bytes::from_vec(bytes))),
+        None => Err(SyntaxFault::Syntax),
+    }
 }

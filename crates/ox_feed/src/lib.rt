@@ -2,6 +2,7 @@
 #![tactic(auto)]
 
 mod command;
+mod digits;
 mod held;
 mod lines;
 mod piece;

@@ -1,0 +1,60 @@
+//! The two files of a folder.
+
+use ox_outside::Which;
+use std::alloc::Global;
+use std::fs::{File, OpenOptions};
+use std::io;
+use std::io::ErrorKind;
+use std::os::unix::fs::FileExt;
+use std::path::Path;
+use std::rt::Files;
+
+/// The files `a.ox` and `b.ox`.
+#[derive(Drop)]
+pub struct FilePair {
+    a: File,
+    b: File,
+}
+
+impl FilePair {
+    /// Opens both files of the folder to read and to write, and makes them empty where they are absent.
+    pub fn open<R: Files<File = File>>(
+        rt: &R,
+        alloc: Global,
+        folder: &[u8],
+    ) -> io::Result<FilePair> {
+        let Ok(folder) = str::from_utf8(folder) else {
+            return Err(io::Error::from(ErrorKind::InvalidInput));
+        };
+        let folder = Path::new(folder);
+        let mut how = OpenOptions::new();
+        how.read(true).write(true).create(true);
+        Ok(FilePair {
+            a: how.open(rt, folder.join(alloc, "a.ox")?.as_path())?,
+            b: how.open(rt, folder.join(alloc, "b.ox")?.as_path())?,
+        })
+    }
+
+    fn file(&self, file: Which) -> &File {
+        match file {
+            Which::A => &self.a,
+            Which::B => &self.b,
+        }
+    }
+
+    pub fn len(&self, file: Which) -> io::Result<u64> {
+        Ok(self.file(file).metadata()?.len())
+    }
+
+    pub fn read(&self, file: Which, at: u64, into: &mut [u8]) -> io::Result<()> {
+        self.file(file).read_exact_at(into, at)
+    }
+
+    pub fn write(&self, file: Which, at: u64, bytes: &[u8]) -> io::Result<()> {
+        self.file(file).write_all_at(bytes, at)
+    }
+
+    pub fn sync(&self, file: Which) -> io::Result<()> {
+        self.file(file).sync_all()
+    }
+}

@@ -1,0 +1,165 @@
+//! The real site: the files of a folder, and the program's standard input and output as channel 0. It tells nothing of
+//! what it reads, hears and shows, and is trusted for it.
+
+ghost use Rattle.std.specs.Prelude.{◌≡◌, ◌≤◌, length, IfSome};
+ghost use Rattle.ox_outside.specs.Counts.{Rose};
+
+use crate::files::FilePair;
+use ox_outside::{Failed, Heard, Shown, Site, Which};
+use std::alloc::Global;
+use std::fs::File;
+use std::io;
+use std::io::{ErrorKind, Read, Stdin, Stdout, Write};
+use std::rt::Files;
+
+/// The folder's files and the standard streams, and how often each kind of call has failed.
+#[derive(Drop)]
+pub struct RealSite {
+    files: FilePair,
+    input: Stdin,
+    output: Stdout,
+    disk_faults: u64,
+    hear_faults: u64,
+    show_faults: u64,
+}
+
+impl RealSite {
+    /// Opens the folder's files.
+    pub fn open<R: Files<File = File>>(
+        rt: &R,
+        alloc: Global,
+        folder: &[u8],
+        input: Stdin,
+        output: Stdout,
+    ) -> io::Result<RealSite> {
+        Ok(RealSite {
+            files: FilePair::open(rt, alloc, folder)?,
+            input,
+            output,
+            disk_faults: 0,
+            hear_faults: 0,
+            show_faults: 0,
+        })
+    }
+
+    // Counts a failure of a call on a file.
+    fn disk_failed(&mut self) -> Failed
+        ensures rose { Rose self.old.disk_faults self.new.disk_faults }
+        ensures no_less { self.old.disk_faults ≤ self.new.disk_faults }
+        ensures hear { self.new.hear_faults ≡ self.old.hear_faults }
+        ensures show { self.new.show_faults ≡ self.old.show_faults }
+    {
+        self.disk_faults = self.disk_faults.saturating_add(1);
+        Failed
+    }
+}
+
+// What a reader gives into the room, tried again where a signal came between.
+fn heard<R: Read>(input: &mut R, into: &mut [u8]) -> Option<usize>
+    ensures { IfSome result (λ n. n ≤ length into.new) }
+{
+    for _ in 0..u64::MAX {
+        match input.read(into) {
+            Ok(n) => return Some(n),
+            Err(e) if e.kind() == ErrorKind::Interrupted => {}
+            Err(_) => return None,
+        }
+    }
+    None
+}
+
+// What a writer takes of the bytes, at least one.
+fn shown<W: Write>(output: &mut W, bytes: &[u8]) -> Option<usize>
+    ensures { IfSome result (λ n. (1 ≤ n) × (n ≤ length bytes.now)) }
+{
+    for _ in 0..u64::MAX {
+        match output.write(bytes) {
+            Ok(0) => return None,
+            Ok(n) => return Some(n),
+            Err(e) if e.kind() == ErrorKind::Interrupted => {}
+            Err(_) => return None,
+        }
+    }
+    None
+}
+
+impl Site for RealSite {
+    ghost use Rattle.std.specs.Prelude.{[], false, None};
+    ghost use Rattle.ox_outside.specs.Counts.{greatest};
+
+    ghost told = { λ _. false };
+
+    ghost seen = { λ _. record { a = []; b = [] } };
+
+    ghost log = { λ _. None };
+
+    ghost may_leave = { λ _ _. ⊥ };
+
+    ghost clock = { λ _. 0 };
+
+    ghost left_since = { λ _ _ _. ⊥ };
+
+    ghost counts = { λ s. record { disk = s.disk_faults; door = 0; hear = λ _. s.hear_faults; show = λ _. s.show_faults; not_yets = λ _. 0; door_idles = λ _. 0 } };
+
+    fn len(&mut self, file: Which) -> Result<u64, Failed> {
+        match self.files.len(file) {
+            Ok(len) => Ok(len),
+            Err(_) => Err(self.disk_failed()),
+        }
+    }
+
+    fn read(&mut self, file: Which, at: u64, into: &mut [u8]) -> Result<(), Failed> {
+        match self.files.read(file, at, into) {
+            Ok(()) => Ok(()),
+            Err(_) => Err(self.disk_failed()),
+        }
+    }
+
+    fn write(&mut self, file: Which, at: u64, bytes: &[u8]) -> Result<(), Failed> {
+        match self.files.write(file, at, bytes) {
+            Ok(()) => Ok(()),
+            Err(_) => Err(self.disk_failed()),
+        }
+    }
+
+    fn sync(&mut self, file: Which) -> Result<(), Failed> {
+        match self.files.sync(file) {
+            Ok(()) => Ok(()),
+            Err(_) => Err(self.disk_failed()),
+        }
+    }
+
+    fn hear(&mut self, channel: u32, into: &mut [u8]) -> Result<Heard, Failed> {
+        if channel == 0 {
+            match heard(&mut self.input, into) {
+                Some(0) => return Ok(Heard::End),
+                Some(n) => return Ok(Heard::Bytes(n)),
+                None => {}
+            }
+        }
+        self.hear_faults = self.hear_faults.saturating_add(1);
+        Err(Failed)
+    }
+
+    fn show(&mut self, channel: u32, bytes: &[u8]) -> Result<Shown, Failed> {
+        if channel == 0 {
+            if let Some(n) = shown(&mut self.output, bytes) {
+                return Ok(Shown::Took(n));
+            }
+        }
+        self.show_faults = self.show_faults.saturating_add(1);
+        Err(Failed)
+    }
+
+    ghost counts_now = { λ site t r le may. may };
+
+    ghost only_now = { λ site r left. left };
+
+    ghost since_earlier = { λ site t u r le left. left };
+
+    ghost logs_now = { λ site r may. absurd may };
+
+    ghost use Rattle.std.proofs.Common.{rules};
+
+    ghost reads_now = { λ site told. Prim.search rules };
+}
