@@ -1,13 +1,26 @@
 -- What a run of the program says of the events that it logged.
-use Rattle.std.specs.Prelude.{◌≡◌, ◌⊎◌, ℕ, ◌≤◌, true, false, List, [], ◌∷◌, ◌++◌, length, codes, All, Result, Ok, Err}
+use Rattle.std.specs.Prelude.{◌≡◌, ◌≢◌, ◌⊎◌, ℕ, ◌≤◌, true, false, List, [], ◌∷◌, ◌++◌, length, codes, All, Result, Ok, Err}
 use Rattle.ox_outside.specs.Event.{Event, channel_of, heard_bytes, shown_bytes, has_ended}
 use Rattle.ox_outside.specs.declared.site.Failed.{Failed}
 use Rattle.ox_feed.specs.Feed.{lines_of, feed_limit}
-use Rattle.ox_app.specs.Replies.{replied}
+use Rattle.ox_sat.specs.declared.profiles.Profile.{Profile}
+use Rattle.ox_sat.specs.declared.profiles.ProfileName.{ProfileName}
+use Rattle.ox_sat.specs.declared.profiles.ProfileName.TheVariants.{Mainnet, Regtest, Lab}
+use Rattle.ox_app.specs.Replies.{begun, replied}
 
--- the words of the program's row
-abbrev pub fold_words : List (List ℕ)
-fold_words = codes "fold" ∷ codes "regtest" ∷ []
+-- the word of a profile
+abbrev pub profile_word : ProfileName → List ℕ
+profile_word Mainnet = codes "mainnet"
+profile_word Regtest = codes "regtest"
+profile_word Lab = codes "lab"
+
+-- the words of a run over a feed, by its profile
+abbrev pub fold_words : ProfileName → List (List ℕ)
+fold_words name = codes "fold" ∷ profile_word name ∷ []
+
+-- the words are no row
+abbrev pub IsNoRow : List (List ℕ) → Type 0
+IsNoRow words = (name : ProfileName) → words ≢ fold_words name
 
 -- the line that is shown where the words are no row
 abbrev pub usage_line : List ℕ
@@ -22,15 +35,15 @@ abbrev pub OnlyOwn : List Event → Type 0
 OnlyOwn events = All (λ event. channel_of event ≡ 0) events
 
 -- the answers to the lines heard, where the feed has ended or is still to go on
-abbrev pub answers_to : List Event → List ℕ
-answers_to events = replied [] (lines_of (heard_bytes 0 events) (has_ended 0 events))
+abbrev pub answers_to : Profile → List Event → List ℕ
+answers_to p events = replied (begun p) (lines_of (heard_bytes 0 events) (has_ended 0 events))
 
 -- a run over a feed: what was shown begins the answers to the lines heard, and the status says how it ended
-pub record Folds (status : ℕ) (events : List Event) : Type 0 where
+pub record Folds (p : Profile) (status : ℕ) (events : List Event) : Type 0 where
   pub only : OnlyOwn events
-  pub shown : IsFrontOf (shown_bytes 0 events) (answers_to events)
+  pub shown : IsFrontOf (shown_bytes 0 events) (answers_to p events)
   -- each line was answered, and channel 0 was read to its end
-  pub whole : status ≡ 0 → (shown_bytes 0 events ≡ answers_to events) × (has_ended 0 events ≡ true)
+  pub whole : status ≡ 0 → (shown_bytes 0 events ≡ answers_to p events) × (has_ended 0 events ≡ true)
   -- no more is heard than a feed may have, and a run is given up for it exactly there
   pub within : length (heard_bytes 0 events) ≤ feed_limit
   pub too_much : status ≡ 9 → (length (heard_bytes 0 events) ≡ feed_limit) × (has_ended 0 events ≡ false)

@@ -1,19 +1,21 @@
 //! One line of a feed, carried out and answered.
 
 ghost use Rattle.std.specs.Prelude.{◌≡◌, IfOk};
-ghost use Rattle.ox_app.specs.Fold.{AnswersLine, IsAnswer, Obeys};
+ghost use Rattle.ox_app.specs.Fold.{AnswersLine, IsAnswer, Obeys, chain_in};
 
 use ox_bytes::{Bytes, Memory};
 use ox_feed::{Command, Line, SyntaxFault, command_of};
-use ox_index::{ConnectFault, Live, Refusal};
+use ox_index::{ConnectFault, Live};
+use ox_model::Refusal;
 use std::alloc::Global;
 
 // Carries out the command of a line.
 fn obey(alloc: Global, live: &mut Live, line: &[u8]) -> Result<(), ConnectFault>
-    ensures { Obeys live.old line.now result live.new }
+    ensures { Obeys (chain_in live.old) line.now result (chain_in live.new) }
 {
     match command_of(alloc, line) {
         Ok(Command::Connect(block)) => live.connect(block.as_slice()),
+        Ok(Command::Disconnect) => Err(ConnectFault::Refused(Refusal::Depth)),
         Err(SyntaxFault::Syntax) => Err(ConnectFault::Refused(Refusal::Syntax)),
         Err(SyntaxFault::Memory) => Err(ConnectFault::Memory),
     }
@@ -21,7 +23,7 @@ fn obey(alloc: Global, live: &mut Live, line: &[u8]) -> Result<(), ConnectFault>
 
 // The line that says how a command went.
 fn answer_to(alloc: Global, outcome: Result<(), ConnectFault>, live: &Live) -> Result<Bytes, Memory>
-    ensures { IfOk result (λ line. IsAnswer outcome live.now line) }
+    ensures { IfOk result (λ line. IsAnswer outcome (chain_in live.now) line) }
 {
     match outcome {
         Ok(()) => live.line(),
@@ -33,7 +35,7 @@ fn answer_to(alloc: Global, outcome: Result<(), ConnectFault>, live: &Live) -> R
 /// Carries out a line and answers it; `None` at the end of the feed. After `Memory` the command may have been
 /// carried out, without an answer.
 pub fn answer(alloc: Global, live: &mut Live, line: Line) -> Result<Option<Bytes>, Memory>
-    ensures { IfOk result (λ answer. AnswersLine line live.old answer live.new) }
+    ensures { IfOk result (λ answer. AnswersLine line (chain_in live.old) answer (chain_in live.new)) }
 {
     match line {
         Line::Text(text) => {

@@ -5,7 +5,8 @@ ghost use Rattle.ox_outside.specs.Counts.{Rose};
 ghost use Rattle.ox_outside.specs.Crash.{Calls};
 ghost use Rattle.ox_outside.specs.Log.{Grows};
 ghost use Rattle.ox_feed.specs.Feed.{IsTooMuch, feed_limit, left};
-ghost use Rattle.ox_app.specs.Fold.{Answered, HasAnswer, status_of};
+ghost use Rattle.ox_app.specs.Fold.{Answered, HasAnswer, chain_in, status_of};
+ghost use Rattle.ox_sat.specs.Profiles.{IsProfile};
 ghost use Rattle.ox_app.specs.Run.{Folds};
 
 use crate::answer::answer;
@@ -14,6 +15,7 @@ use ox_bytes::{Bytes, Memory};
 use ox_feed::{FeedFault, Lines};
 use ox_index::Live;
 use ox_outside::{Failed, Site};
+use ox_sat::Profile;
 use std::alloc::Global;
 
 /// Why a run over a feed ended before the feed did.
@@ -70,7 +72,7 @@ fn next_answer<S: Site>(
     live: &mut Live,
     site: &mut S,
 ) -> Result<Option<Bytes>, Stop>
-    ensures told { Grows (Answered lines.old live.old result lines.new live.new) (S.log site.old) (S.log site.new) }
+    ensures told { Grows (Answered lines.old (chain_in live.old) result lines.new (chain_in live.new)) (S.log site.old) (S.log site.new) }
     ensures hear_fault { IsErrOf result Stop.HearFault → Rose ((S.counts site.old).hear 0) ((S.counts site.new).hear 0) }
     ensures no_show_fault { IsErrOf result Stop.ShowFault → ⊥ }
     ensures too_much { IsErrOf result Stop.TooMuch → IsTooMuch lines.new }
@@ -82,15 +84,16 @@ fn next_answer<S: Site>(
     Ok(answer(alloc, live, line)?)
 }
 
-/// Reads the feed of channel 0 to its end, and shows the answer to each line.
-pub fn fold<S: Site>(alloc: Global, site: &mut S) -> Result<(), Stop>
-    ensures told { Grows (Folds (status_of result)) (S.log site.old) (S.log site.new) }
+/// Reads the feed of channel 0 to its end, and shows the answer to each line. The chain counts by this profile.
+pub fn fold<S: Site>(alloc: Global, p: &Profile, site: &mut S) -> Result<(), Stop>
+    requires { IsProfile p.now }
+    ensures told { Grows (Folds p.now (status_of result)) (S.log site.old) (S.log site.new) }
     ensures hear_fault { IsErrOf result Stop.HearFault → Rose ((S.counts site.old).hear 0) ((S.counts site.new).hear 0) }
     ensures show_fault { IsErrOf result Stop.ShowFault → Rose ((S.counts site.old).show 0) ((S.counts site.new).show 0) }
     ensures call { Calls S.told S.counts S.clock S.left_since site.old site.new }
 {
     let mut lines = Lines::new(alloc);
-    let mut live = Live::new(alloc);
+    let mut live = Live::new(alloc, p);
     while let Some(answer) = next_answer(alloc, &mut lines, &mut live, site)? {
         show_all(site, answer.as_slice())?;
     }

@@ -1,28 +1,44 @@
 //! The rows of words.
 
-ghost use Rattle.std.specs.Prelude.{◌≡◌, ◌≢◌, ◌↔◌, ◌⊎◌, length, true, IsTrue};
+ghost use Rattle.std.specs.Prelude.{◌≡◌, ◌⊎◌, length, true, Some, IfSome};
 ghost use Rattle.ox_outside.specs.Event.{has_ended, heard_bytes};
 ghost use Rattle.ox_feed.specs.Feed.{feed_limit};
 ghost use Rattle.ox_outside.specs.Counts.{Rose};
 ghost use Rattle.ox_outside.specs.Crash.{Calls};
 ghost use Rattle.ox_outside.specs.Log.{Grows};
 ghost use Rattle.ox_app.specs.Fold.{status_of};
-ghost use Rattle.ox_app.specs.Run.{Folds, IsFoldStatus, ShowsFront, ShowsWhole, fold_words, usage_line};
+ghost use Rattle.ox_app.specs.Run.{Folds, IsFoldStatus, IsNoRow, ShowsFront, ShowsWhole, fold_words, profile_word, usage_line};
+ghost use Rattle.ox_sat.specs.Profiles.{profile_named};
+ghost use Rattle.ox_sat.specs.declared.profiles.ProfileName.{ProfileName};
 
 use crate::fold::{Stop, fold};
 use crate::show::show_all;
 use ox_bytes::Bytes;
 use ox_outside::Site;
+use ox_sat::{ProfileName, profile_of};
 use std::alloc::Global;
 
-// Whether the words are those of a run over a feed.
-fn is_fold(words: &[Bytes]) -> bool
-    ensures { IsTrue result ↔ (words.now ≡ fold_words) }
+// The profile that a word names.
+fn profile_in(word: &[u8]) -> Option<ProfileName>
+    ensures found { IfSome result (λ name. word.now ≡ profile_word name) }
+    ensures only { (name : ProfileName) → word.now ≡ profile_word name → result ≡ Some name }
+{
+    match word {
+        b"mainnet" => Some(ProfileName::Mainnet),
+        b"regtest" => Some(ProfileName::Regtest),
+        b"lab" => Some(ProfileName::Lab),
+        _ => None,
+    }
+}
+
+// The profile of the words of a run over a feed.
+fn fold_profile(words: &[Bytes]) -> Option<ProfileName>
+    ensures found { IfSome result (λ name. words.now ≡ fold_words name) }
+    ensures only { (name : ProfileName) → words.now ≡ fold_words name → result ≡ Some name }
 {
     match words {
-        [row, profile] => row.as_slice() == b"fold".as_slice()
-            && profile.as_slice() == b"regtest".as_slice(),
-        _ => false,
+        [row, profile] if row.as_slice() == b"fold".as_slice() => profile_in(profile.as_slice()),
+        _ => None,
     }
 }
 
@@ -41,7 +57,7 @@ fn status(outcome: Result<(), Stop>) -> u8
 
 /// Runs the program: channel 0 is its input and output, and the result is its status.
 ///
-/// The words `fold regtest`: the feed of channel 0 is read to its end, and each line is answered by one. The index of
+/// The words `fold` and a profile, `mainnet`, `regtest` or `lab`: the feed of channel 0 is read to its end, and each line is answered by one. The index of
 /// the chain is kept in memory and is gone at the end. Every other words: `usage` is shown, and the status is 1; if
 /// showing it fails, the status stays.
 ///
@@ -58,26 +74,28 @@ fn status(outcome: Result<(), Stop>) -> u8
 pub fn run<S: Site>(alloc: Global, words: &[Bytes], site: &mut S) -> u8
     // Of a feed, where the log is told: what was shown begins the answers to the lines heard, and with status 0 is all
     // of them; 9 comes at the limit of a feed alone; only events of channel 0 are logged.
-    ensures folds { words.now ≡ fold_words → Grows (Folds result) (S.log site.old) (S.log site.new) }
+    ensures folds { (name : ProfileName) → words.now ≡ fold_words name → Grows (Folds (profile_named name) result) (S.log site.old) (S.log site.new) }
 
     // Of other words: the usage line is shown, or a front of it where a showing failed.
-    ensures usage { words.now ≢ fold_words → Grows (ShowsWhole usage_line) (S.log site.old) (S.log site.new)
+    ensures usage { IsNoRow words.now → Grows (ShowsWhole usage_line) (S.log site.old) (S.log site.new)
         ⊎ (Rose ((S.counts site.old).show 0) ((S.counts site.new).show 0) × Grows (ShowsFront usage_line) (S.log site.old) (S.log site.new)) }
 
     // The statuses, at every site.
-    ensures fold_status { words.now ≡ fold_words → IsFoldStatus result }
-    ensures usage_status { words.now ≢ fold_words → result ≡ 1 }
+    ensures fold_status { (name : ProfileName) → words.now ≡ fold_words name → IsFoldStatus result }
+    ensures usage_status { IsNoRow words.now → result ≡ 1 }
     ensures hear_fault { result ≡ 5 → Rose ((S.counts site.old).hear 0) ((S.counts site.new).hear 0) }
     ensures show_fault { result ≡ 6 → Rose ((S.counts site.old).show 0) ((S.counts site.new).show 0) }
     // On a feed that ends, without a fault, each line is answered, unless memory runs out.
-    ensures completes { words.now ≡ fold_words → ¬ Rose ((S.counts site.old).hear 0) ((S.counts site.new).hear 0)
+    ensures completes { (name : ProfileName) → words.now ≡ fold_words name → ¬ Rose ((S.counts site.old).hear 0) ((S.counts site.new).hear 0)
         → ¬ Rose ((S.counts site.old).show 0) ((S.counts site.new).show 0)
         → Grows (λ events. (length (heard_bytes 0 events) ≡ feed_limit → has_ended 0 events ≡ true) → (result ≡ 0) ⊎ (result ≡ 8)) (S.log site.old) (S.log site.new) }
     ensures call { Calls S.told S.counts S.clock S.left_since site.old site.new }
 {
-    if is_fold(words) {
-        return status(fold(alloc, site));
+    match fold_profile(words) {
+        Some(name) => status(fold(alloc, &profile_of(name), site)),
+        None => {
+            let _shown = show_all(site, b"usage\n");
+            1
+        }
     }
-    let _shown = show_all(site, b"usage\n");
-    1
 }

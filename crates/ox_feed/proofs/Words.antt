@@ -6,7 +6,7 @@ use Rattle.ox_feed.specs.declared.command.Command.TheVariants.{Connect}
 use Rattle.std.proofs.lemmas.Bool.{cases_eq, eq-eqb, ne_eqb}
 use Rattle.std.proofs.Common.{inl, inr}
 use Rattle.ox_feed.proofs.Decoding.{error_of}
-use Rattle.ox_feed.specs.Command.{after_word, command_of, command_of_digits}
+use Rattle.ox_feed.specs.Command.{after_word, connect_in, command_of_digits}
 
 -- behind a word stands what follows it
 pub after_word-append : (word rest : List ℕ) → after_word word (word ++ rest) ≡ Some rest
@@ -24,17 +24,17 @@ after_word-none (c ∷ word) (b ∷ line) h = elim (cases_eq b c) [
 
 -- ---- the command of a line
 
-pub command_of-connect : (line digits bytes : List ℕ) → line ≡ codes "connect " ++ digits → decode_of digits ≡ Ok bytes → command_of line ≡ Some (Connect bytes)
-unfolding command_of
-command_of-connect line digits bytes is decodes =
+pub connect_in-connect : (line digits bytes : List ℕ) → line ≡ codes "connect " ++ digits → decode_of digits ≡ Ok bytes → connect_in line ≡ Some (Connect bytes)
+unfolding connect_in
+connect_in-connect line digits bytes is decodes =
     rw (is, decodes) refl
 
-pub command_of-no_digits : (line digits : List ℕ) → line ≡ codes "connect " ++ digits → IsErr (decode_of digits) → command_of line ≡ None
-unfolding command_of
-command_of-no_digits line digits is fails =
+pub connect_in-no_digits : (line digits : List ℕ) → line ≡ codes "connect " ++ digits → IsErr (decode_of digits) → connect_in line ≡ None
+unfolding connect_in
+connect_in-no_digits line digits is fails =
     let e = error_of (decode_of digits) fails in
     rw (is, e.1) refl
 
-pub command_of-other : (line : List ℕ) → ((rest : List ℕ) → line ≢ codes "connect " ++ rest) → command_of line ≡ None
-unfolding command_of
-command_of-other line h = ap command_of_digits (after_word-none (codes "connect ") line h)
+pub connect_in-other : (line : List ℕ) → ((rest : List ℕ) → line ≢ codes "connect " ++ rest) → connect_in line ≡ None
+unfolding connect_in
+connect_in-other line h = ap command_of_digits (after_word-none (codes "connect ") line h)

@@ -1,9 +1,9 @@
 -- The commands that a line may be.
-use Rattle.std.specs.Prelude.{ℕ, ◌==◌, List, [], ◌∷◌, codes, Option, Some, None, Result, Ok, Err, if◌then◌else◌}
+use Rattle.std.specs.Prelude.{ℕ, ◌==◌, bytes_eq, List, [], ◌∷◌, codes, Option, Some, None, Result, Ok, Err, if◌then◌else◌}
 use Rattle.hex.specs.Hex.{decode_of}
 use Rattle.hex.specs.declared.error.FromHexError.{FromHexError}
 use Rattle.ox_feed.specs.declared.command.Command.{Command}
-use Rattle.ox_feed.specs.declared.command.Command.TheVariants.{Connect}
+use Rattle.ox_feed.specs.declared.command.Command.TheVariants.{Connect, Disconnect}
 
 -- what stands behind the word, where the line begins with it
 abbrev pub after_word : List ℕ → List ℕ → Option (List ℕ)
@@ -20,6 +20,10 @@ abbrev pub command_of_digits : Option (List ℕ) → Option Command
 command_of_digits (Some digits) = connect_of (decode_of digits)
 command_of_digits None = None
 
--- the command that a line is: `connect`, one space, and an even number of hex digits of either case, none allowed
+-- the connect that a line is: the word, one space, and an even number of hex digits of either case, none allowed
+unfoldable pub connect_in : List ℕ → Option Command
+connect_in line = command_of_digits (after_word (codes "connect ") line)
+
+-- the command that a line is: `disconnect`, or a connect
 unfoldable pub command_of : List ℕ → Option Command
-command_of line = command_of_digits (after_word (codes "connect ") line)
+command_of line = if bytes_eq line (codes "disconnect") then Some Disconnect else connect_in line

@@ -1,7 +1,7 @@
 //! The commands of a feed.
 
 ghost use Rattle.std.specs.Prelude.{◌≡◌, Some, None, IfOk, IsErrOf};
-ghost use Rattle.ox_feed.specs.Command.{command_of as spelled};
+ghost use Rattle.ox_feed.specs.Command.{command_of as spelled, connect_in as connect_spelled};
 
 use crate::digits::decode;
 use ox_bytes::Bytes;
@@ -12,6 +12,8 @@ use std::alloc::{AllocError, Global};
 pub enum Command {
     /// Connect the block that has these bytes.
     Connect(Bytes),
+    /// Disconnect the newest block.
+    Disconnect,
 }
 
 /// Why a line gave no command.
@@ -33,14 +35,10 @@ impl From<AllocError> for SyntaxFault {
     }
 }
 
-/// The command that a line is: `connect`, one space, and an even number of hex digits of either case,
-/// none of them allowed. The digits are decoded once, into the bytes of the command.
-///
-/// `Syntax` only where the line is no command, and a line that is none gives no command. `Memory` where
-/// there is none for the bytes.
-pub fn command_of(alloc: Global, line: &[u8]) -> Result<Command, SyntaxFault>
-    ensures found { IfOk result (λ command. spelled line.now ≡ Some command) }
-    ensures syntax { IsErrOf result SyntaxFault.Syntax → spelled line.now ≡ None }
+// The connect that a line is.
+fn connect_in(alloc: Global, line: &[u8]) -> Result<Command, SyntaxFault>
+    ensures found { IfOk result (λ command. connect_spelled line.now ≡ Some command) }
+    ensures syntax { IsErrOf result SyntaxFault.Syntax → connect_spelled line.now ≡ None }
 {
     let Some(digits) = line.strip_prefix(b"connect ") else {
         return Err(SyntaxFault::Syntax);
@@ -49,4 +47,20 @@ pub fn command_of(alloc: Global, line: &[u8]) -> Result<Command, SyntaxFault>
         Some(bytes) => Ok(Command::Connect(Bytes::from_vec(bytes))),
         None => Err(SyntaxFault::Syntax),
     }
+}
+
+/// The command that a line is: `disconnect`; or `connect`, one space, and an even number of hex digits of either case,
+/// none of them allowed. The digits are decoded once, into the bytes of the command.
+///
+/// `Syntax` only where the line is no command, and a line that is none gives no command. `Memory` where
+/// there is none for the bytes.
+#[tactic(auto, unfolding(crate::specs::Command::command_of))]
+pub fn command_of(alloc: Global, line: &[u8]) -> Result<Command, SyntaxFault>
+    ensures found { IfOk result (λ command. spelled line.now ≡ Some command) }
+    ensures syntax { IsErrOf result SyntaxFault.Syntax → spelled line.now ≡ None }
+{
+    if line == b"disconnect".as_slice() {
+        return Ok(Command::Disconnect);
+    }
+    connect_in(alloc, line)
 }
