@@ -19,3 +19,6 @@ pub use lists::{Inputs, Outs, Txs, Witness};
 pub use read::{fields_agree_with_reading, read_block};
 pub use roots::{root, witness_root};
 pub use write::{write_block, written_reads_back};
+
+#[cfg(test)]
+mod tests;
