@@ -33,9 +33,15 @@ fn compact_sizes_are_read_in_their_shortest_form_alone(rt: HostRuntime) {
         (b"\xfd\xfd\x00", Ok(253)),
         (b"\xfe\xff\xff\x00\x00", Err(CompactFault::NotShortest)),
         (b"\xfe\x00\x00\x01\x00", Ok(0x1_0000)),
-        (b"\xff\xff\xff\xff\xff\x00\x00\x00\x00", Err(CompactFault::NotShortest)),
+        (
+            b"\xff\xff\xff\xff\xff\x00\x00\x00\x00",
+            Err(CompactFault::NotShortest),
+        ),
         (b"\xff\x00\x00\x00\x00\x01\x00\x00\x00", Ok(0x1_0000_0000)),
-        (b"\xff\x00\x00\x00\x00\x01\x00\x00", Err(CompactFault::Short)),
+        (
+            b"\xff\x00\x00\x00\x00\x01\x00\x00",
+            Err(CompactFault::Short),
+        ),
     ];
     for (bytes, answer) in rows {
         let mut cursor = Cursor::new(bytes);
