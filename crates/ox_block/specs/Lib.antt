@@ -1,5 +1,6 @@
 pub mod Spelling
 pub mod Reading
+pub mod Fields
 pub mod Answer
 pub mod Hashes
 pub mod Putting

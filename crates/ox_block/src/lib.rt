@@ -16,6 +16,9 @@ pub use block::{Block, Header, OutPoint, Tx, TxIn, TxOut, Txid};
 pub use fault::BlockFault;
 pub use hashing::{hash, txid_of, wtxid_of};
 pub use lists::{Inputs, Outs, Txs, Witness};
-pub use read::read_block;
+pub use read::{fields_agree_with_reading, read_block};
 pub use roots::{root, witness_root};
 pub use write::{write_block, written_reads_back};
+
+#[cfg(test)]
+mod tests;

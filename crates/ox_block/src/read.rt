@@ -1,10 +1,11 @@
 //! The public call that reads a block.
 
-ghost use Rattle.std.specs.Prelude.{◌≡◌, IfOk, Ok};
+ghost use Rattle.std.specs.Prelude.{◌≡◌, ℕ, List, IfOk, Ok};
 ghost use Rattle.ox_block.specs.declared.block.Block.{Block};
 ghost use Rattle.ox_block.specs.Spelling.{Spells};
 ghost use Rattle.ox_block.specs.Reading.{block_of};
-ghost use Rattle.ox_block.specs.Answer.{Gives};
+ghost use Rattle.ox_block.specs.Fields.{fault_of, fault_in};
+ghost use Rattle.ox_block.specs.Answer.{Gives, Tells};
 
 use crate::block::Block;
 use crate::fault::BlockFault;
@@ -40,8 +41,15 @@ pub fn read_block(alloc: Global, bytes: &[u8]) -> Result<Block, BlockFault>
     ensures found { IfOk result (λ block. Spells bytes.now block) }
     // What is lawful and is spelled so is read, unless memory runs out.
     ensures only { (block : Block) → Spells bytes.now block → Gives result (Ok block) }
+    // The place is that of the first field at fault, and there is none where a block is read.
+    ensures place { Tells result (fault_of bytes.now) }
     // The block or the place is what reading on lists gives.
     ensures exact { Gives result (block_of bytes.now) }
 {
     block_or_place(alloc, bytes)
 }
+
+/// The first field at fault stands where reading on lists stops, and there is none where that gives a block.
+pub fn fields_agree_with_reading()
+    ensures { (bytes : List ℕ) → fault_of bytes ≡ fault_in (block_of bytes) }
+{}

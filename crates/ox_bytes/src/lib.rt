@@ -18,3 +18,6 @@ pub use fields::{compact_field, run_field, string_field, u32le_field, u64le_fiel
 pub use memory::Memory;
 pub use room::Room;
 pub use writers::{put_compact, put_u32le, put_u64le};
+
+#[cfg(test)]
+mod tests;
