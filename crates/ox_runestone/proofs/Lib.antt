@@ -5,3 +5,4 @@ pub mod Judging
 pub mod Scripts
 pub mod Back
 pub mod Said
+pub mod Range

@@ -7,6 +7,8 @@ use Rattle.ox_runestone.specs.declared.stone.Terms.{Terms}
 use Rattle.ox_runestone.specs.declared.stone.Etching.{Etching}
 use Rattle.ox_runestone.specs.declared.stone.Edict.{Edict}
 use Rattle.ox_runestone.specs.declared.stone.Runestone.{Runestone}
+use Rattle.ox_runestone.specs.declared.stone.Artifact.{Artifact}
+use Rattle.ox_runestone.specs.declared.stone.Artifact.TheVariants.{Stone, Cenotaph}
 use Rattle.ox_runestone.specs.Message.{Field}
 use Rattle.ox_runestone.specs.Fields.{is_character, overflows}
 
@@ -130,6 +132,11 @@ pub record CanCome (stone : Runestone) (outputs : ℕ) : Type 0 where
   pub mint : IfSome stone.mint IsId
   pub pointer : IfSome stone.pointer (λ n. n < outputs)
   pub edicts : AllByRecursion (IsEdict outputs) stone.edicts
+
+-- of an artifact, that its runestone is one that a script can say
+abbrev pub StoneCanCome : ℕ → Artifact → Type 0
+StoneCanCome outputs (Stone stone) = CanCome stone outputs
+StoneCanCome outputs (Cenotaph mint name) = Unit {0}
 
 -- one id isn't below the other
 abbrev pub NotBelow : RuneId → RuneId → Type 0

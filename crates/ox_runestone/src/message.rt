@@ -1,6 +1,6 @@
 //! From integers to the values of tags, and to edicts.
 
-ghost use Rattle.std.specs.Prelude.{◌≡◌, ◌≤◌, [], length, IfOk};
+ghost use Rattle.std.specs.Prelude.{◌≡◌, ◌≤◌, ◌<◌, ◌^◌, [], length, All, IfOk};
 ghost use Rattle.std.specs.Option.{option_map};
 ghost use Rattle.ox_runestone.specs.Message.{message_of, id_of, id_after, edicts_of};
 ghost use Rattle.ox_runestone.specs.Seen.{pushed, added, leaves_in, Holds};
@@ -111,6 +111,7 @@ pub(crate) fn message_of(integers: &[u128]) -> Message<'_>
     ensures fields { Holds result.fields (message_of integers.now).fields }
     ensures lone { result.lone ≡ (message_of integers.now).lone }
     ensures body { result.body.now ≡ (message_of integers.now).body }
+    ensures small { All (λ n. n < 2 ^ 128) integers.now }
 {
     let mut fields = Fields::none();
     let mut rest = integers;

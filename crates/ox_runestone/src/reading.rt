@@ -6,6 +6,7 @@ ghost use Rattle.ox_runestone.specs.Message.{Field};
 ghost use Rattle.ox_runestone.specs.Seen.{Holds};
 ghost use Rattle.ox_runestone.specs.Payload.{is_stone};
 ghost use Rattle.ox_runestone.specs.Artifact.{name_in, artifact_of};
+ghost use Rattle.ox_runestone.specs.Spelling.{StoneCanCome};
 ghost use Rattle.ox_runestone.specs.Kept.{IsCenotaphOf, IsJudgedOf, SaysWhetherFlawed};
 
 use crate::fields::overflows;
@@ -81,7 +82,8 @@ fn judge(fields: &Fields, lone: bool, edicts: Option<Vec<Edict>>, outputs: u32) 
 /// `Memory` where there is none for the payload, the integers or the edicts.
 pub fn decipher(alloc: Global, script: &[u8], outputs: u32) -> Result<Artifact, Memory>
     requires { is_stone script.now ≡ true }
-    ensures { IfOk result (λ artifact. artifact ≡ artifact_of script.now outputs) }
+    ensures exact { IfOk result (λ artifact. artifact ≡ artifact_of script.now outputs) }
+    ensures possible { IfOk result (StoneCanCome outputs) }
 {
     let Some(payload) = payload_of(alloc, script)? else {
         return Ok(SILENT);

@@ -1,6 +1,6 @@
 //! From a runestone to a script.
 
-ghost use Rattle.std.specs.Prelude.{◌≡◌, ◌≤◌, ◌<◌, ◌^◌, ◌++◌, length, [], ◌∷◌, ◌-◌, ◌==◌, if◌then◌else◌, true, IfOk, OnOk};
+ghost use Rattle.std.specs.Prelude.{◌≡◌, ◌≤◌, ◌<◌, ◌^◌, ◌++◌, length, [], ◌∷◌, ◌-◌, ◌==◌, if◌then◌else◌, true, IsTrue, ◌↔◌, IfOk, OnOk};
 ghost use Rattle.std.specs.List.{flat_map};
 ghost use Rattle.ox_varint.specs.Varint.{varint};
 ghost use Rattle.ox_runestone.specs.Payload.{is_stone};
@@ -145,6 +145,27 @@ fn put_mint(payload: &mut Vec<u8>, mint: Option<RuneId>) -> Result<(), Memory>
     };
     put_pair(payload, 20, Some(u128::from(id.block)))?;
     put_pair(payload, 20, Some(u128::from(id.tx)))
+}
+
+/// Whether an id isn't below another.
+fn follows(id: RuneId, next: RuneId) -> bool
+    ensures { IsTrue result ↔ NotBelow id next }
+{
+    id.block < next.block || (id.block == next.block && id.tx <= next.tx)
+}
+
+/// Whether the ids of the edicts don't fall, from one to the next.
+pub fn ids_rise(edicts: &[Edict]) -> bool
+    ensures { IsTrue result ↔ DontFall edicts.now }
+{
+    let mut id = RuneId { block: 0, tx: 0 };
+    for edict in edicts {
+        if !follows(id, edict.id) {
+            return false;
+        }
+        id = edict.id;
+    }
+    true
 }
 
 /// Appends an edict behind an id.

@@ -1,4 +1,5 @@
-use Rattle.std.proofs.Common.{◌∙◌, arith}
+use Rattle.std.proofs.lemmas.List.Elements.{All-from_get_or}
+use Rattle.std.proofs.Common.{◌<◌, ◌^◌, ◌∙◌, arith}
 use Rattle.std.proofs.lemmas.List.{take_rest}
 use Rattle.ox_runestone.proofs.Messages.{passed_none, passed_more, ends_at_body, ends_at_end}
 use Rattle.ox_runestone.proofs.message.message_of.Goals as goal
@@ -26,3 +27,9 @@ returns-clause-lone c = c.is_tag.ensures ∙ (ends_at_end c.args.integers.now c.
 
 pub returns-clause-body : goal.returns-clause-body
 returns-clause-body c = (ends_at_end c.args.integers.now c.loop-rest.rest.now c.loop-rest.fields c.loop-rest.invariant (omega arith)).body-is
+
+pub returns-then-tag-eq0-clause-small : goal.returns-then-tag-eq0-clause-small
+returns-then-tag-eq0-clause-small c = All-from_get_or (λ n. n < 2 ^ 128) c.args.integers.now 0 (λ i lt. omega (arith, c.type_inv.integers i))
+
+pub returns-clause-small : goal.returns-clause-small
+returns-clause-small c = All-from_get_or (λ n. n < 2 ^ 128) c.args.integers.now 0 (λ i lt. omega (arith, c.type_inv.integers i))
