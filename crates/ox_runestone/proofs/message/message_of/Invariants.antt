@@ -1,0 +1,9 @@
+use Rattle.std.proofs.Common.{length}
+use Rattle.ox_runestone.proofs.Messages.{Passed}
+use Rattle.ox_runestone.proofs.message.message_of.Given as goal
+
+abbrev pub invariant-loop-rest : goal.invariant-loop-rest
+invariant-loop-rest l = Passed l.integers l.rest l.fields
+
+abbrev pub decreases-loop-rest : goal.decreases-loop-rest
+decreases-loop-rest l = length l.rest

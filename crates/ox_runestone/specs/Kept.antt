@@ -1,0 +1,36 @@
+-- Fields by what one pass keeps.
+use Rattle.std.specs.Prelude.{◌≡◌, ℕ, ◌+◌, ◌^◌, Bool, List, Option, Some, None, unwrap_or, nat_lt, if◌then◌else◌}
+use Rattle.ox_runestone.specs.declared.message.Fields.{Fields}
+use Rattle.ox_runestone.specs.declared.stone.Etching.{Etching}
+use Rattle.ox_runestone.specs.Message.{Field}
+use Rattle.ox_runestone.specs.Seen.{kept_at, Holds}
+use Rattle.ox_runestone.specs.Fields.{Firsts, first_of, mintable, leaves_even}
+use Rattle.ox_runestone.specs.declared.stone.Edict.{Edict}
+use Rattle.ox_runestone.specs.declared.stone.Artifact.{Artifact}
+use Rattle.ox_runestone.specs.Artifact.{mint_in, are_flawed, cenotaph_of, judged}
+
+abbrev pub firsts_in : Fields → Firsts
+firsts_in fields tag = (kept_at fields tag).first
+
+-- what an etching gives in all, if that is an amount
+abbrev pub supply_of : Etching → Option ℕ
+supply_of etching =
+    let supply = unwrap_or etching.premine 0 + mintable etching.terms in
+    if nat_lt supply (2 ^ 128) then Some supply else None
+
+-- the answer whether a value of an even tag isn't taken, of whatever list the fields hold
+abbrev pub SaysWhatIsLeft : Fields → ℕ → Bool → Type 0
+SaysWhatIsLeft fields outputs answer =
+    (list : List Field) → Holds fields list → answer ≡ leaves_even (first_of list) (mint_in list) outputs list
+
+-- of whatever list the fields hold, the answer whether it is flawed, its cenotaph, and its artifact
+abbrev pub SaysWhetherFlawed : Fields → ℕ → Bool → Type 0
+SaysWhetherFlawed fields outputs answer =
+    (list : List Field) → Holds fields list → answer ≡ are_flawed outputs list
+
+abbrev pub IsCenotaphOf : Fields → Artifact → Type 0
+IsCenotaphOf fields artifact = (list : List Field) → Holds fields list → artifact ≡ cenotaph_of list
+
+abbrev pub IsJudgedOf : Fields → Bool → Option (List Edict) → ℕ → Artifact → Type 0
+IsJudgedOf fields lone edicts outputs artifact =
+    (list : List Field) → Holds fields list → artifact ≡ judged outputs list lone edicts

@@ -1,0 +1,7 @@
+pub mod Payload
+pub mod Message
+pub mod Seen
+pub mod Fields
+pub mod Artifact
+pub mod Kept
+pub mod Spelling

@@ -1,0 +1,18 @@
+//! Runestones: from a script to an artifact, and back (Runes specification).
+#![tactic(auto)]
+
+mod fields;
+mod message;
+mod payload;
+mod reading;
+mod stone;
+mod writing;
+
+pub use ox_bytes::Memory;
+pub use payload::is_stone;
+pub use reading::decipher;
+pub use stone::{Artifact, Edict, Edicts, Etching, RuneId, Runestone, Terms};
+pub use writing::{encipher, ids_rise};
+
+#[cfg(test)]
+mod tests;

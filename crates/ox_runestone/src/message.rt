@@ -1,0 +1,204 @@
+//! From integers to the values of tags, and to edicts.
+
+ghost use Rattle.std.specs.Prelude.{◌≡◌, ◌≤◌, ◌<◌, ◌^◌, [], length, All, IfOk};
+ghost use Rattle.std.specs.Option.{option_map};
+ghost use Rattle.ox_runestone.specs.Message.{message_of, id_of, id_after, edicts_of};
+ghost use Rattle.ox_runestone.specs.Seen.{pushed, added, leaves_in, Holds};
+
+use crate::stone::{Edict, RuneId};
+use ox_bytes::Memory;
+use std::alloc::Global;
+
+/// One more than the greatest tag with a field.
+const TAGS: usize = 23;
+
+/// What is kept of a tag's values: the first two, and whether there are more.
+#[derive(Clone, Copy)]
+pub(crate) struct Values {
+    pub(crate) first: Option<u128>,
+    pub(crate) second: Option<u128>,
+    pub(crate) more: bool,
+}
+
+impl Values {
+    /// No value.
+    const NONE: Values = Values {
+        first: None,
+        second: None,
+        more: false,
+    };
+
+    /// These and another.
+    fn with(self, value: u128) -> Values
+        ensures { result ≡ pushed self value }
+    {
+        match (self.first, self.second) {
+            (None, _) => Values {
+                first: Some(value),
+                second: self.second,
+                more: self.more,
+            },
+            (_, None) => Values {
+                first: self.first,
+                second: Some(value),
+                more: self.more,
+            },
+            _ => Values {
+                first: self.first,
+                second: self.second,
+                more: true,
+            },
+        }
+    }
+
+    /// Whether there are more values than so many, which are at most two.
+    pub(crate) fn outnumber(self, taken: usize) -> bool
+        requires { taken ≤ 2 }
+        ensures { result ≡ leaves_in self taken }
+    {
+        match taken {
+            0 => self.first.is_some(),
+            1 => self.second.is_some(),
+            _ => self.more,
+        }
+    }
+}
+
+/// The values of each tag that has a field, and whether an even tag without one stands there.
+#[derive(Drop)]
+pub(crate) struct Fields {
+    pub(crate) values: [Values; TAGS],
+    pub(crate) strange: bool,
+}
+
+impl Fields {
+    /// No values.
+    fn none() -> Fields
+        ensures { Holds result [] }
+    {
+        Fields {
+            values: [Values::NONE; TAGS],
+            strange: false,
+        }
+    }
+
+    /// Adds a tag and its value.
+    fn add(&mut self, tag: u128, value: u128)
+        ensures { self.new ≡ added self.old tag value }
+    {
+        if tag < TAGS as u128 {
+            let place = tag as usize;
+            self.values[place] = self.values[place].with(value);
+        } else {
+            self.strange = self.strange || tag % 2 == 0;
+        }
+    }
+}
+
+/// The tags with their values, and what follows them.
+#[derive(Drop)]
+pub(crate) struct Message<'a> {
+    /// The tags with their values.
+    pub(crate) fields: Fields,
+    /// Whether a tag without a value follows them.
+    pub(crate) lone: bool,
+    /// What follows the tag 0.
+    pub(crate) body: &'a [u128],
+}
+
+/// Reads tags and values in turn, up to the tag 0.
+pub(crate) fn message_of(integers: &[u128]) -> Message<'_>
+    ensures fields { Holds result.fields (message_of integers.now).fields }
+    ensures lone { result.lone ≡ (message_of integers.now).lone }
+    ensures body { result.body.now ≡ (message_of integers.now).body }
+    ensures small { All (λ n. n < 2 ^ 128) integers.now }
+{
+    let mut fields = Fields::none();
+    let mut rest = integers;
+    while let [tag, value, behind @ ..] = rest {
+        if *tag == 0 {
+            let (_, body) = rest.split_at(1);
+            return Message {
+                fields,
+                lone: false,
+                body,
+            };
+        }
+        fields.add(*tag, *value);
+        rest = behind;
+    }
+    Message {
+        fields,
+        lone: is_tag(rest),
+        body: &[],
+    }
+}
+
+/// Whether an integer stands there that isn't 0.
+fn is_tag(rest: &[u128]) -> bool
+    requires { length rest.now ≤ 1 }
+    ensures { result ≡ (message_of rest.now).lone }
+{
+    match rest {
+        [tag] => *tag != 0,
+        _ => false,
+    }
+}
+
+/// The id of a block and a transaction, if it is one.
+pub(crate) fn id_of(block: u128, tx: u128) -> Option<RuneId>
+    ensures { result ≡ id_of block tx }
+{
+    let id = RuneId {
+        block: u64::try_from(block).ok()?,
+        tx: u32::try_from(tx).ok()?,
+    };
+    if id.block == 0 && id.tx > 0 {
+        return None;
+    }
+    Some(id)
+}
+
+/// The id that follows another, if it is one.
+fn id_after(id: RuneId, block: u128, tx: u128) -> Option<RuneId>
+    ensures { result ≡ id_after id block tx }
+{
+    if block == 0 {
+        id_of(u128::from(id.block), u128::from(id.tx).checked_add(tx)?)
+    } else {
+        id_of(u128::from(id.block).checked_add(block)?, tx)
+    }
+}
+
+/// The edicts that the integers of a body spell in fours. `None` where a rest isn't four integers, an id isn't
+/// valid, or an output is above the number of outputs.
+pub(crate) fn edicts_of(
+    alloc: Global,
+    outputs: u32,
+    body: &[u128],
+) -> Result<Option<Vec<Edict>>, Memory>
+    ensures { IfOk result (λ edicts. option_map (λ v. v.items) edicts ≡ edicts_of outputs body.now) }
+{
+    let mut edicts = Vec::with_capacity(alloc, body.len() / 4)?;
+    let mut id = RuneId { block: 0, tx: 0 };
+    let mut rest = body;
+    while let [block, tx, amount, output, behind @ ..] = rest {
+        let Some(next) = id_after(id, *block, *tx) else {
+            return Ok(None);
+        };
+        if *output > u128::from(outputs) {
+            return Ok(None);
+        }
+        edicts.push(Edict {
+            id: next,
+            amount: *amount,
+            output: *output as u32,
+        })?;
+        id = next;
+        rest = behind;
+    }
+    if !rest.is_empty() {
+        return Ok(None);
+    }
+    Ok(Some(edicts))
+}

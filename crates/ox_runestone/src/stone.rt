@@ -1,0 +1,150 @@
+//! What a runestone says.
+
+ghost use Rattle.std.specs.Prelude.{◌≡◌, ◌==◌, [], length};
+
+use std::alloc::Global;
+use std::marker::Model;
+
+/// The id of a rune: the height of the block that etched it and the place of the transaction in that block.
+#[derive(Clone, Copy, Debug, PartialEq, Eq, PartialOrd, Ord)]
+pub struct RuneId {
+    /// The height of the block.
+    pub block: u64,
+    /// The place of the transaction, the coinbase's being 0.
+    pub tx: u32,
+}
+
+/// The terms on which a rune is minted.
+#[derive(Clone, Copy, Debug, PartialEq, Eq)]
+pub struct Terms {
+    /// What a mint gives.
+    pub amount: Option<u128>,
+    /// How many mints there may be.
+    pub cap: Option<u128>,
+    /// The first height that is open.
+    pub height_start: Option<u64>,
+    /// The first height that is closed again.
+    pub height_end: Option<u64>,
+    /// The first height that is open, counted from the etching's.
+    pub offset_start: Option<u64>,
+    /// The first height that is closed again, counted from the etching's.
+    pub offset_end: Option<u64>,
+}
+
+/// The etching of a rune.
+#[derive(Clone, Copy, Debug, PartialEq, Eq)]
+pub struct Etching {
+    /// The number of the name. Without one the rune gets a reserved name.
+    pub name: Option<u128>,
+    /// The spacers, below 2^27: bit i for the gap behind the letter at place i.
+    pub spacers: Option<u32>,
+    /// How many decimals an amount has, at most 38.
+    pub divisibility: Option<u8>,
+    /// The currency symbol.
+    pub symbol: Option<char>,
+    /// What the etching itself gives.
+    pub premine: Option<u128>,
+    /// The terms of minting. Without them nothing is minted.
+    pub terms: Option<Terms>,
+    /// Whether the rune follows later changes of the protocol.
+    pub turbo: bool,
+}
+
+/// An instruction to allocate an amount of a rune to an output.
+#[derive(Clone, Copy, Debug, PartialEq, Eq)]
+pub struct Edict {
+    /// The rune. Block 0, transaction 0 is the rune that is etched here.
+    pub id: RuneId,
+    /// The amount; 0 is all that is left.
+    pub amount: u128,
+    /// The output's place; the number of outputs is all of them.
+    pub output: u32,
+}
+
+/// The edicts of a runestone, in order. Contracts see the list.
+#[derive(Debug, Drop)]
+pub struct Edicts {
+    items: Vec<Edict>,
+}
+
+impl Model for Edicts {
+    ghost use Rattle.std.specs.Prelude.{List};
+    ghost use Rattle.ox_runestone.specs.declared.stone.Edict.{Edict};
+
+    ghost Value = { List Edict };
+
+    ghost view = { λ e. e.items.items };
+}
+
+impl Edicts {
+    /// No edicts. It takes no memory.
+    pub fn empty(alloc: Global) -> Edicts
+        ensures { result ≡ [] }
+    {
+        Edicts {
+            items: Vec::new(alloc),
+        }
+    }
+
+    /// The edicts of the vector, which are not copied.
+    pub fn from_vec(items: Vec<Edict>) -> Edicts
+        ensures { result ≡ items.items }
+    {
+        Edicts { items }
+    }
+
+    /// The edicts as a vector, not copied.
+    pub fn into_vec(self) -> Vec<Edict>
+        ensures { result.items ≡ self }
+    {
+        self.items
+    }
+
+    /// The edicts, in order.
+    pub fn as_slice(&self) -> &[Edict]
+        ensures { result.now ≡ self.now }
+    {
+        self.items.as_slice()
+    }
+
+    /// How many there are.
+    pub fn len(&self) -> usize
+        ensures { result ≡ length self.now }
+    {
+        self.items.len()
+    }
+
+    /// Whether there are none.
+    pub fn is_empty(&self) -> bool
+        ensures { result ≡ (length self.now == 0) }
+    {
+        self.items.is_empty()
+    }
+}
+
+/// A well-formed message.
+#[derive(Debug, Drop)]
+pub struct Runestone {
+    /// The rune that is etched.
+    pub etching: Option<Etching>,
+    /// The rune that is minted.
+    pub mint: Option<RuneId>,
+    /// The place of the output that gets what the edicts leave.
+    pub pointer: Option<u32>,
+    /// The edicts.
+    pub edicts: Edicts,
+}
+
+/// What a runestone's script deciphers as.
+#[derive(Debug, Drop)]
+pub enum Artifact {
+    /// A well-formed message.
+    Stone(Runestone),
+    /// A malformed one, which burns: of it the mint counts, and the name of its etching.
+    Cenotaph {
+        /// The rune that is minted.
+        mint: Option<RuneId>,
+        /// The name of the rune that is etched.
+        name: Option<u128>,
+    },
+}
