@@ -1,7 +1,7 @@
 -- The envelopes of a script: the Ordinal Theory Handbook, "Inscriptions".
-use Rattle.std.specs.Prelude.{ℕ, zero, suc, ◌+◌, ◌-◌, Bool, true, false, ◌&&◌, List, [], ◌∷◌, ◌++◌, length, drop, Option, Some, None, is_some, slice_get, ◌==◌, nat_le, bytes_eq, codes, if◌then◌else◌}
-use Rattle.std.specs.List.{list_any, filter_map}
-use Rattle.ox_script.specs.Script.{Instruction, Push, Op, items_of, is_cut}
+use Rattle.std.specs.Prelude.{◌≡◌, ◌⊎◌, ℕ, zero, suc, ◌+◌, ◌-◌, Bool, true, false, ◌&&◌, List, [], ◌∷◌, ◌++◌, length, drop, Option, Some, None, is_some, slice_get, ◌==◌, nat_le, bytes_eq, codes, if◌then◌else◌}
+use Rattle.std.specs.List.{AllByRecursion, list_any, filter_map}
+use Rattle.ox_script.specs.Script.{Instruction, Push, Op, StandsIn, items_of, is_cut}
 
 -- what an envelope has between its opening and its end
 pub record Enveloped : Type 0 where
@@ -67,3 +67,10 @@ envelopes_among items = envelopes_past 0 items
 -- the envelopes of a script. One that is cut short has none.
 abbrev pub envelopes : List ℕ → List Enveloped
 envelopes script = if is_cut script then [] else envelopes_among (items_of script)
+
+-- a push of an envelope is a part of the script, or the byte of OP_1NEGATE or of one of OP_1 to OP_16
+abbrev pub IsPushOf : List ℕ → List ℕ → Type 0
+IsPushOf script bytes = StandsIn script bytes ⊎ ((op : ℕ) × (is_number op ≡ true) × (bytes ≡ number_of op ∷ []))
+
+abbrev pub HasPushesOf : List ℕ → Enveloped → Type 0
+HasPushesOf script envelope = AllByRecursion (IsPushOf script) envelope.pushes

@@ -1,9 +1,10 @@
 //! Finding the envelopes of a script in one pass over its items.
 
 ghost use Rattle.std.specs.Prelude.{◌≡◌, ◌≢◌, ◌∷◌, ◌++◌, ◌<◌, ◌≤◌, List, [], Some, None, length, map, IfOk, option_to_list, option_map};
+ghost use Rattle.std.specs.List.{AllByRecursion};
 ghost use Rattle.std.specs.Bool.{OnTrue, OnFalse};
 ghost use Rattle.ox_script.specs.Script.{Op, seen};
-ghost use Rattle.ox_envelope.specs.Envelope.{pushed, envelopes_among, envelopes, no_pushes};
+ghost use Rattle.ox_envelope.specs.Envelope.{pushed, envelopes_among, envelopes, no_pushes, HasPushesOf};
 ghost use Rattle.ox_envelope.specs.Opening.{next_opened, envelopes_within};
 
 use crate::envelope::{Envelope, Envelopes};
@@ -122,7 +123,10 @@ fn read_envelope<'a>(
 
 /// The envelopes of a script, from the first to the last, by one pass over it. An envelope begins with an empty push, OP_IF and the push of "ord", has pushes, and ends with OP_ENDIF; OP_1NEGATE and OP_1 to OP_16 count as pushes of one byte. Any other opcode inside voids it, and the search goes on after that opcode; where an opening is broken, at the item that breaks it. A script that ends at a push cut short has none. `Memory` where there is none for the list (Ordinal Theory Handbook, "Inscriptions").
 pub fn envelopes_of(alloc: Global, script: &[u8]) -> Result<Envelopes<'_>, Memory>
-    ensures { IfOk result (λ found. found ≡ envelopes script.now) }
+    ensures found { IfOk result (λ found. found ≡ envelopes script.now) }
+
+    // each push is a part of the script, but for the constants
+    ensures parts { IfOk result (AllByRecursion (HasPushesOf script.now)) }
 {
     let mut items = instructions_of(script);
     let mut found = Envelopes::new(alloc);
