@@ -1,6 +1,6 @@
 //! What an envelope says.
 
-ghost use Rattle.std.specs.Prelude.{◌≡◌, ◌∷◌, ◌++◌, [], length, IfOk, OnOk};
+ghost use Rattle.std.specs.Prelude.{◌≡◌, ◌∷◌, ◌++◌, [], length, IfOk, OnErr, OnOk};
 ghost use Rattle.ox_envelope.specs.Payload.{inscribed_of};
 
 use crate::envelope::Envelope;
@@ -44,9 +44,10 @@ impl Ids {
         self.items.as_slice()
     }
 
-    /// Appends an id. `Memory` where there is none for it.
+    /// Appends an id. `Memory` where there is none for it: nothing has changed then.
     pub fn push(&mut self, id: InsId) -> Result<(), Memory>
-        ensures { OnOk result (self.new ≡ self.old ++ id ∷ []) }
+        ensures ok { OnOk result (self.new ≡ self.old ++ id ∷ []) }
+        ensures err { OnErr result (self.new ≡ self.old) }
     {
         self.items.push(id)?;
         Ok(())
