@@ -1,5 +1,5 @@
 -- What a script's bytes read as: Bitcoin Core's src/script/script.cpp, GetScriptOp.
-use Rattle.std.specs.Prelude.{◌≡◌, Option, Some, None, ℕ, zero, suc, ◌+◌, ◌*◌, Bool, true, false, List, [], ◌∷◌, length, take, drop, ◌==◌, nat_lt, if◌then◌else◌}
+use Rattle.std.specs.Prelude.{◌≡◌, Option, Some, None, ℕ, zero, suc, ◌+◌, ◌*◌, Bool, true, false, List, [], ◌∷◌, ◌++◌, length, take, drop, ◌==◌, nat_lt, if◌then◌else◌}
 use Rattle.ox_script.specs.declared.instructions.Item.{Item}
 use Rattle.ox_script.specs.declared.instructions.Item.TheVariants as item
 
@@ -75,3 +75,12 @@ GivesItem old (Some item) new = (old.left ≡ seen item ∷ new.left) × (new.en
 -- the items still to come
 abbrev pub left_of : Reading → List Instruction
 left_of reading = reading.left
+
+-- the bytes stand in the script, one behind the other
+abbrev pub StandsIn : List ℕ → List ℕ → Type 0
+StandsIn script bytes = (front : List ℕ) × (back : List ℕ) × (script ≡ front ++ bytes ++ back)
+
+-- what is pushed is a part of the script, and any other opcode a byte of it
+abbrev pub IsPartOf : List ℕ → Instruction → Type 0
+IsPartOf script (Push bytes) = StandsIn script bytes
+IsPartOf script (Op op) = StandsIn script (op ∷ [])

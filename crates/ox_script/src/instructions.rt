@@ -1,7 +1,8 @@
 //! The items of a script, read in place.
 
 ghost use Rattle.std.specs.Prelude.{◌≡◌, ◌∷◌, ◌<◌, ◌≤◌, [], true, false, length, drop, IfSome, IfNone};
-ghost use Rattle.ox_script.specs.Script.{seen, width_of, count_of, items_of, is_cut};
+ghost use Rattle.std.specs.List.{AllByRecursion};
+ghost use Rattle.ox_script.specs.Script.{seen, width_of, count_of, items_of, is_cut, IsPartOf};
 
 use std::marker::Model;
 
@@ -86,6 +87,9 @@ pub fn instructions_of(script: &[u8]) -> Instructions<'_>
     ensures items { result.left ≡ items_of script.now }
     ensures ends { result.ends_cut ≡ is_cut script.now }
     ensures begins { result.met_cut ≡ false }
+
+    // each push is a part of the script
+    ensures parts { AllByRecursion (IsPartOf script.now) (items_of script.now) }
 {
     Instructions {
         rest: script,

@@ -1,0 +1,4 @@
+pub mod SearchLemmas
+pub mod PayloadLemmas
+pub mod IdLemmas
+pub mod PushLemmas

@@ -1,0 +1,5 @@
+pub mod Envelope
+pub mod Opening
+pub mod Payload
+pub mod Walk
+pub mod Id

@@ -1,0 +1,97 @@
+//! What an envelope says.
+
+ghost use Rattle.std.specs.Prelude.{◌≡◌, ◌∷◌, ◌++◌, [], length, IfOk, OnErr, OnOk};
+ghost use Rattle.ox_envelope.specs.Payload.{inscribed_of};
+
+use crate::envelope::Envelope;
+use crate::id::InsId;
+use crate::payload::{
+    all_ids, copy_first, first_id, join_body, join_values, marks_of, split_payload,
+};
+use ox_bytes::{Bytes, Memory};
+use std::alloc::Global;
+use std::marker::Model;
+
+/// Ids in an order. Contracts see the list of them.
+#[derive(Debug, Drop)]
+pub struct Ids {
+    items: Vec<InsId>,
+}
+
+impl Model for Ids {
+    ghost use Rattle.std.specs.Prelude.{List};
+    ghost use Rattle.ox_envelope.specs.declared.id.InsId.{InsId};
+
+    ghost Value = { List InsId };
+
+    ghost view = { λ ids. ids.items.items };
+}
+
+impl Ids {
+    /// No ids.
+    pub fn new(alloc: Global) -> Ids
+        ensures { result ≡ [] }
+    {
+        Ids {
+            items: Vec::new(alloc),
+        }
+    }
+
+    /// The ids, in order.
+    pub fn as_slice(&self) -> &[InsId]
+        ensures { result.now ≡ self.now }
+    {
+        self.items.as_slice()
+    }
+
+    /// Appends an id. `Memory` where there is none for it: nothing has changed then.
+    pub fn push(&mut self, id: InsId) -> Result<(), Memory>
+        ensures ok { OnOk result (self.new ≡ self.old ++ id ∷ []) }
+        ensures err { OnErr result (self.new ≡ self.old) }
+    {
+        self.items.push(id)?;
+        Ok(())
+    }
+}
+
+/// What an envelope says: its fields by their tags, and its body.
+#[derive(Debug, Drop)]
+pub struct Inscribed {
+    /// Tag 1, the first value.
+    pub content_type: Option<Bytes>,
+    /// Tag 2, the first value, as its bytes.
+    pub pointer: Option<Bytes>,
+    /// Tag 5, all values joined.
+    pub metadata: Option<Bytes>,
+    /// Tag 7, the first value.
+    pub metaprotocol: Option<Bytes>,
+    /// Tag 9, the first value.
+    pub encoding: Option<Bytes>,
+    /// All pushes after an empty push in a tag's place, joined.
+    pub body: Option<Bytes>,
+    /// Tag 3, each value that is an id, as they come.
+    pub parents: Ids,
+    /// Tag 11, the first value, if it is an id.
+    pub delegate: Option<InsId>,
+    /// Bit 0: an unknown even tag. Bit 1: a tag other than 3 and 5 with two values. Bit 2: a last tag without a value. Bit 5: a pointer. Bit 6: a push by OP_1NEGATE or OP_1 to OP_16.
+    pub marks: u16,
+}
+
+/// What an envelope says. Its pushes are tags and values in turns, up to an empty push in a tag's place: all pushes after that are the body, joined, and without it there is none. A last tag without a value counts for nothing but its mark. Of a field's several values, the first is taken; those of metadata are joined, and each parent is kept. A tag of another length than one byte is unknown, and a parent or a delegate that is no id is left out. `Memory` where there is none for what is kept (Ordinal Theory Handbook, "Inscriptions", "Fields").
+pub fn parse(alloc: Global, envelope: &Envelope<'_>) -> Result<Inscribed, Memory>
+    ensures { IfOk result (λ inscribed. inscribed ≡ inscribed_of envelope.now) }
+{
+    let payload = split_payload(alloc, envelope.pushes())?;
+    let fields = payload.fields.as_slice();
+    Ok(Inscribed {
+        content_type: copy_first(alloc, fields, 1)?,
+        pointer: copy_first(alloc, fields, 2)?,
+        metadata: join_values(alloc, fields, 5)?,
+        metaprotocol: copy_first(alloc, fields, 7)?,
+        encoding: copy_first(alloc, fields, 9)?,
+        body: join_body(alloc, payload.body)?,
+        parents: all_ids(alloc, fields, 3)?,
+        delegate: first_id(fields, 11),
+        marks: marks_of(alloc, fields, payload.incomplete, envelope.has_number())?,
+    })
+}
