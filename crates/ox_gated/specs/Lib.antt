@@ -1,3 +1,4 @@
 pub mod Gate
 pub mod Layout
 pub mod Reading
+pub mod Tail

@@ -4,6 +4,7 @@
 mod framed;
 mod head;
 mod records;
+mod writes;
 
 pub use framed::{Checkpoint, Framed, checkpoint_of, frame};
 pub use head::Head;
