@@ -1,3 +1,5 @@
+mod Append
+mod Appending
 mod Chain
 mod Fronts
 mod Stands

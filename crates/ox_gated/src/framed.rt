@@ -1,5 +1,5 @@
 // What is written: a record with the closed gate behind it, and a file without records.
-ghost use Rattle.std.specs.Prelude.{◌≡◌, ◌<◌, ◌^◌, length, IsTrue, IfOk};
+ghost use Rattle.std.specs.Prelude.{◌≡◌, ◌+◌, ◌<◌, ◌^◌, length, IsTrue, IfOk};
 ghost use Rattle.ox_gated.specs.Layout.{is_lawful, record_bytes, checkpoint_bytes};
 
 use crate::head::Head;
@@ -14,20 +14,22 @@ pub struct Framed {
 }
 
 impl Model for Framed {
-    ghost use Rattle.std.specs.Prelude.{◌≡◌, List, ℕ, length, take, drop, ◌-◌};
+    ghost use Rattle.std.specs.Prelude.{◌≡◌, ◌<◌, ◌+◌, ◌^◌, List, ℕ, length, take, drop, ◌-◌};
     ghost use Rattle.ox_gated.specs.Layout.{record_bytes};
 
     ghost Value = { List ℕ };
 
     ghost view = { λ f. take (length f.bytes - 5) (drop 4 f.bytes) };
 
-    ghost invariant = { λ f. f.bytes ≡ record_bytes (take (length f.bytes - 5) (drop 4 f.bytes)) };
+    ghost invariant = { λ f. (f.bytes ≡ record_bytes (take (length f.bytes - 5) (drop 4 f.bytes))) × (length f.bytes < 2 ^ 32 + 5) };
 }
 
 impl Framed {
     /// The bytes that are written behind the gate.
     pub fn as_slice(&self) -> &[u8]
-        ensures { result.now ≡ record_bytes self.now }
+        ensures bytes { result.now ≡ record_bytes self.now }
+        ensures size { length result.now ≡ 5 + length self.now }
+        ensures small { length self.now < 2 ^ 32 }
     {
         self.bytes.as_slice()
     }

@@ -4,8 +4,10 @@
 mod framed;
 mod head;
 mod records;
+mod tail;
 mod writes;
 
 pub use framed::{Checkpoint, Framed, checkpoint_of, frame};
 pub use head::Head;
 pub use records::{Record, Records};
+pub use tail::{DiskFault, Tail};
