@@ -2,4 +2,5 @@ mod Append
 mod Appending
 mod Chain
 mod Fronts
+mod Making
 mod Stands

@@ -1,8 +1,9 @@
 -- What a tail keeps of two files, and what a crash leaves while a record is appended.
-use Rattle.std.specs.Prelude.{◌≡◌, ◌⊎◌, ℕ, ◌+◌, ◌<◌, ◌≤◌, ◌^◌, Bool, true, List, [], ◌∷◌, length, Result, Ok, Err}
+use Rattle.std.specs.Prelude.{◌≡◌, ◌⊎◌, ℕ, ◌+◌, ◌<◌, ◌≤◌, ◌^◌, Bool, List, [], ◌∷◌, length, Result, Ok, Err}
 use Rattle.ox_outside.specs.Crash.{Remains}
 use Rattle.ox_outside.specs.Files.{Files, file_of, other}
 use Rattle.ox_outside.specs.declared.site.Which.{Which}
+use Rattle.ox_outside.specs.declared.site.Which.TheVariants.{A}
 use Rattle.ox_gated.specs.Layout.{Whole, is_closed, checkpoint_bytes}
 use Rattle.ox_gated.specs.Reading.{Found, Fault, reading, appended}
 use Rattle.ox_gated.specs.declared.head.Head.{Head}
@@ -52,6 +53,6 @@ Fits tail size = tail.gate + size + 6 < 2 ^ 64
 abbrev pub made : Whole → Files
 made whole = record { a = 1 ∷ checkpoint_bytes whole.head whole.body; b = 0 ∷ [] }
 
--- a tail of such files
-abbrev pub made_tail : Which → Whole → ℕ → Kept
-made_tail file whole gate = record { file = file; head = whole.head; records = 0; gate = gate; other_closed = true }
+-- what they stand for
+abbrev pub just_made : Whole → Found
+just_made whole = record { file = A; head = whole.head; body = whole.body; records = []; gate = 26 + length whole.body }

@@ -43,7 +43,7 @@ impl Model for Tail {
 impl Tail {
     ghost use Rattle.std.specs.Prelude.{length};
     ghost use Rattle.ox_gated.specs.Reading.{reading, appended};
-    ghost use Rattle.ox_gated.specs.Tail.{Holds, IsBeforeOrAfter, Fits, made};
+    ghost use Rattle.ox_gated.specs.Tail.{Holds, IsBeforeOrAfter, Fits, made, just_made};
 
     /// The current file.
     pub fn file(&self) -> Which
@@ -97,6 +97,32 @@ impl Tail {
             records: self.records + 1,
             gate: self.gate + bytes.len() as u64,
             ..self
+        })
+    }
+
+    /// Makes two empty files a pair of this head and body, without records: B is closed, and A is current. At `Ok` it is on
+    /// the disk: each crash then leaves that pair. `DiskFault` comes only where a call on a file failed.
+    pub fn make<S: Site>(site: &mut S, checkpoint: &Checkpoint) -> Result<Tail, DiskFault>
+        requires empty { IsTrue (S.told site.old) → S.seen site.old ≡ record { a = []; b = [] } }
+        ensures made { IsTrue (S.told site.old) → IfOk result (λ tail. S.seen site.new ≡ made checkpoint.now) }
+        ensures holds { IsTrue (S.told site.old) → IfOk result (λ tail. Holds S.seen S.may_leave tail site.new) }
+        ensures stands { IsTrue (S.told site.old) → IfOk result (λ tail. reading checkpoint.now.head.version (S.seen site.new) ≡ Ok (just_made checkpoint.now)) }
+        ensures kept { IfOk result (λ tail. (tail.file ≡ Which.A) × (tail.head ≡ checkpoint.now.head) × (tail.records ≡ 0)) }
+        ensures failed { OnErr result (Rose (S.counts site.old).disk (S.counts site.new).disk) }
+        ensures logged { S.log site.new ≡ S.log site.old }
+        ensures calls { Calls S.told S.counts S.clock S.left_since site.old site.new }
+    {
+        let bytes = checkpoint.as_slice();
+        write_synced(site, Which::B, 0, &[0])?;
+        site.write(Which::A, 0, &[0])?;
+        write_synced(site, Which::A, 1, bytes)?;
+        write_synced(site, Which::A, 0, &[1])?;
+        Ok(Tail {
+            file: Which::A,
+            head: checkpoint.head(),
+            records: 0,
+            gate: bytes.len() as u64,
+            other_closed: true,
         })
     }
 }
