@@ -47,7 +47,7 @@ module _ (front t : List ℕ) (long : 26 ≤ length front) where
       let e = index_front 5 (omega arith) in
       λ i. is_magic (a i) (b i) (c i) (d i) (e i)
 
-  head_of_front : head_of (front ++ t) ≡ head_of front
+  pub head_of_front : head_of (front ++ t) ≡ head_of front
   head_of_front =
       let enough : nat_lt (length (front ++ t)) 26 ≡ false = le-ltb (length (front ++ t)) 26 (omega (arith, long, length-append front t)) in
       let enough_before : nat_lt (length front) 26 ≡ false = le-ltb (length front) 26 (omega (arith, long)) in

@@ -3,4 +3,5 @@ mod Appending
 mod Chain
 mod Fronts
 mod Making
+mod Picking
 mod Stands
