@@ -3,5 +3,6 @@ mod Appending
 mod Chain
 mod Fronts
 mod Making
+mod Opening
 mod Picking
 mod Stands

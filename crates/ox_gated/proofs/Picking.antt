@@ -1,14 +1,15 @@
 -- The current file is picked by the fronts of the two.
-use Rattle.std.proofs.Common.{◌≡◌, ◌≢◌, ◌∙◌, ◌⊎◌, ◌≤◌, ◌<◌, ◌+◌, ◌-◌, min, inl, inr, ⊎_elim, ℕ, zero, suc, Bool, true, false, List, [], ◌∷◌, ◌++◌, length, take, drop, ◌==◌, if◌then◌else◌, Option, Some, None, refl, sym, ap, subst, arith, take-append-drop}
+use Rattle.std.proofs.Common.{◌≡◌, ◌≢◌, ◌∙◌, ◌⊎◌, ◌≤◌, ◌<◌, ◌+◌, ◌-◌, min, inl, inr, ⊎_elim, ℕ, zero, suc, Bool, true, false, List, [], ◌∷◌, ◌++◌, length, take, drop, ◌==◌, if◌then◌else◌, Option, Some, None, refl, sym, ap, subst, arith, not, length-drop, take-append-drop}
 use Rattle.std.specs.Prelude.{Result, Ok, Err, nat_lt, slice_range}
-use Rattle.std.proofs.lemmas.Bool.{cases_lt}
+use Rattle.std.proofs.lemmas.Bool.{cases_lt, ltb-false, eq-eqb}
 use Rattle.std.proofs.lemmas.Bool.Decides.{eqb_tells}
-use Rattle.std.proofs.lemmas.List.{length-take, take_all, take_min}
+use Rattle.std.proofs.lemmas.List.{length-take, take_all, take_min, drop-drop}
 use Rattle.ox_outside.specs.Files.{Files, file_of}
+use Rattle.ox_outside.specs.declared.site.Which.{Which}
 use Rattle.ox_outside.specs.declared.site.Which.TheVariants.{A, B}
 use Rattle.ox_gated.specs.Layout.{is_closed, head_of}
 use Rattle.ox_gated.specs.Pick.{Picked, lone, greater_of, picked_by, picked, resolved}
-use Rattle.ox_gated.specs.Reading.{Found, Fault, refused, current, alone, greater, chosen, reading}
+use Rattle.ox_gated.specs.Reading.{Found, Fault, chain, judged, refused, current, alone, greater, chosen, reading}
 use Rattle.ox_gated.specs.declared.head.Opening.{Opening}
 use Rattle.ox_gated.proofs.Fronts.{head_of_front}
 
@@ -114,3 +115,21 @@ pub front_is : (file bytes : List ℕ) (len m : ℕ) → len ≡ length file →
 front_is file bytes len m is_len is_m is =
     let size : 0 + m - 0 ≡ min 26 (length file) = omega (arith, is_len, is_m) in
     is ∙ ap (λ (k : ℕ). take k file) size ∙ take_min 26 file
+
+pub picked_read : (files : Files) (a b : List ℕ) → a ≡ take 26 files.a → b ≡ take 26 files.b → picked a b ≡ picked files.a files.b
+picked_read files a b is_a is_b = (λ i. picked (is_a i) (is_b i)) ∙ picked_fronts files.a files.b
+
+-- the current file by the parts that were read
+pub current_read : (version : ℕ) (file : Which) (bytes : List ℕ) (opening : Opening) (len : ℕ) (body rest : List ℕ) → len ≡ length bytes → opening.head.version ≡ version → nat_lt len (26 + opening.size) ≡ false
+    → body ≡ slice_range bytes 26 (26 + opening.size) → rest ≡ slice_range bytes (26 + opening.size) (26 + opening.size + (len - (26 + opening.size)))
+    → judged file opening.head body (chain (26 + opening.size) rest).records (chain (26 + opening.size) rest).end ≡ current version file bytes opening
+current_read version file bytes opening len body rest is_len is_version fits is_body is_rest =
+    let size = opening.size in
+    let one : 26 + size - 26 ≡ size = omega arith in
+    let within : 26 + size ≤ len = ltb-false len (26 + size) fits in
+    let long : length (drop (26 + size) bytes) ≤ 26 + size + (len - (26 + size)) - (26 + size) = omega (arith, length-drop (26 + size) bytes, is_len, within) in
+    let body_is : body ≡ take size (drop 26 bytes) = is_body ∙ ap (λ (k : ℕ). take k (drop 26 bytes)) one in
+    let rest_is : rest ≡ drop size (drop 26 bytes) = is_rest ∙ take_all (26 + size + (len - (26 + size)) - (26 + size)) (drop (26 + size) bytes) long ∙ sym (drop-drop size 26 bytes) in
+    (λ i. judged file opening.head (body_is i) (chain (26 + size) (rest_is i)).records (chain (26 + size) (rest_is i)).end)
+    ∙ sym (ap (λ (b : Bool). if not b then refused file 6 else if nat_lt (length bytes) (26 + size) then refused file 26 else judged file opening.head (take size (drop 26 bytes)) (chain (26 + size) (drop size (drop 26 bytes))).records (chain (26 + size) (drop size (drop 26 bytes))).end) (eq-eqb opening.head.version version is_version)
+    ∙ ap (λ (b : Bool). if b then refused file 26 else judged file opening.head (take size (drop 26 bytes)) (chain (26 + size) (drop size (drop 26 bytes))).records (chain (26 + size) (drop size (drop 26 bytes))).end) (ap (λ (n : ℕ). nat_lt n (26 + size)) (sym is_len) ∙ fits))

@@ -70,6 +70,9 @@ current_ok version file bytes opening found is =
     }
     )
 
+pub current_file : (version : ℕ) (file : Which) (bytes : List ℕ) (opening : Opening) (found : Found) → current version file bytes opening ≡ Ok found → found.file ≡ file
+current_file version file bytes opening found is = (current_ok version file bytes opening found is).same_file
+
 -- ---- both files
 
 -- the same of two files, of which this one is current

@@ -35,3 +35,8 @@ picked a b = picked_by (is_closed a) (is_closed b) a b
 abbrev pub resolved : ℕ → Files → Picked → Result Found Fault
 resolved version files (Err fault) = refused fault.0 fault.1
 resolved version files (Ok found) = current version found.0 (file_of files found.0) found.1
+
+-- of two numbers, that of this file
+abbrev pub of_file : Which → ℕ → ℕ → ℕ
+of_file A a b = a
+of_file B a b = b

@@ -44,6 +44,16 @@ impl From<ReadFault> for GateFault {
     }
 }
 
+impl From<Failed> for GateFault {
+    ghost use Rattle.ox_gated.specs.declared.fault.GateFault.TheVariants as faults;
+
+    ghost from_gives = { λ _ e. e ≡ faults.DiskFault };
+
+    fn from(_failed: Failed) -> GateFault {
+        GateFault::DiskFault
+    }
+}
+
 impl From<Memory> for GateFault {
     ghost use Rattle.ox_gated.specs.declared.fault.GateFault.TheVariants as faults;
 

@@ -13,5 +13,6 @@ mod writes;
 pub use fault::{Before, GateFault};
 pub use framed::{Checkpoint, Framed, checkpoint_of, frame};
 pub use head::Head;
+pub use open::Opened;
 pub use records::{Record, Records};
 pub use tail::{DiskFault, Tail};

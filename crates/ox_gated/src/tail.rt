@@ -41,9 +41,23 @@ impl Model for Tail {
 }
 
 impl Tail {
-    ghost use Rattle.std.specs.Prelude.{length};
+    ghost use Rattle.std.specs.Prelude.{length, ◌≤◌};
     ghost use Rattle.ox_gated.specs.Reading.{reading, appended};
     ghost use Rattle.ox_gated.specs.Tail.{Holds, IsBeforeOrAfter, Fits, made, just_made};
+
+    /// The tail of files that were read.
+    pub(crate) fn at(file: Which, head: Head, records: u64, gate: u64, other_closed: bool) -> Tail
+        requires { records ≤ gate }
+        ensures { result ≡ record { file = file; head = head; records = records; gate = gate; other_closed = other_closed } }
+    {
+        Tail {
+            file,
+            head,
+            records,
+            gate,
+            other_closed,
+        }
+    }
 
     /// The current file.
     pub fn file(&self) -> Which
