@@ -247,7 +247,10 @@ impl Tail {
         ensures looks { OnlyLooks S.told S.seen S.log S.counts S.clock S.may_leave S.left_since site.old site.new }
     {
         settle(site)?;
-        let examined = examine(alloc, site)?;
+        let examined = match examine(alloc, site) {
+            Ok(examined) => examined,
+            Err(fault) => return Err(fault),
+        };
         read_current(alloc, site, VERSION, &examined)
     }
 }
