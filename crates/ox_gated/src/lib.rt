@@ -16,3 +16,6 @@ pub use head::Head;
 pub use open::Opened;
 pub use records::{Record, Records};
 pub use tail::{DiskFault, Tail};
+
+#[cfg(test)]
+mod tests;
