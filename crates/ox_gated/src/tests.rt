@@ -31,13 +31,15 @@ fn count_after(alloc: Global, site: &mut MemSite) -> usize {
 }
 
 // Whether the files are no store by this test.
-fn is_refused(result: Result<Opened, GateFault>, file: Which, at: u64) -> bool {
-    match result {
-        Err(GateFault::NotStore {
-            file: found,
-            at: place,
-            before: _,
-        }) => found == file && place == at,
+fn is_refused(opened: Result<Opened, GateFault>, file: Which, at: u64) -> bool {
+    match opened {
+        Err(
+            GateFault::NotStore {
+                file: found,
+                at: place,
+                before: _,
+            },
+        ) => found == file && place == at,
         _ => false,
     }
 }
