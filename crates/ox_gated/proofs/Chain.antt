@@ -1,6 +1,6 @@
 -- The gates of a file: one step of reading them, and what they are behind the last one that is closed.
 use Rattle.std.proofs.Common.{◌≡◌, ◌≢◌, ◌∙◌, ◌⊎◌, ◌≤◌, ◌<◌, ◌+◌, inl, inr, ⊎_elim, ℕ, zero, suc, Bool, true, false, List, [], ◌∷◌, ◌++◌, length, get_or, take, drop, ◌==◌, if◌then◌else◌, refl, sym, ap, subst, arith, length-append, length-drop, take-append-drop, append_assoc}
-use Rattle.std.specs.Prelude.{Result, Ok, Err, nat_lt}
+use Rattle.std.specs.Prelude.{Result, Ok, Err, IfOk, nat_lt}
 use Rattle.std.specs.Int.{w32, from_le_bytes}
 use Rattle.std.proofs.lemmas.Bool.{cases_eq, eq-eqb, ltb-false, le-ltb}
 use Rattle.std.proofs.lemmas.Bool.Decides.{eqb_tells}
@@ -211,3 +211,30 @@ so_far_more place at records records' l next bytes payload is one so_far =
     ∙ ap (λ (r : List Record). record { records = r; end = more.end }) (append_assoc records (record { place = at; payload = payload } ∷ []) more.records)
     ∙ ap (λ (c : Chain). record { records = records ++ c.records; end = c.end }) (sym is)
     ∙ so_far
+
+-- a chain has no more records than places
+pub count : (most place gate : ℕ) (bytes : List ℕ) → length bytes ≤ most → (chain place bytes).end ≡ Ok gate → place + length (chain place bytes).records ≤ gate
+count most place gate [] le is = absurd (let no = sym (ap (λ (c : Chain). c.end) (chain_none place)) ∙ is in cc no)
+count zero place gate (first ∷ rest) le is = absurd (omega arith)
+count (suc most) place gate (first ∷ rest) le is = elim (cases_eq first 0) [
+  | inl shut ↦
+      let here = chain_shut place first rest shut in
+      let same : place ≡ gate = ok_is {F = ℕ} place gate (sym (ap (λ (c : Chain). c.end) here) ∙ is) in
+      subst (λ (c : Chain). place + length c.records ≤ gate) (sym here) (omega (arith, same))
+  | inr is_open ↦ by_payload (payload_at rest) refl is_open (λ q next short. count most q gate next short)
+]
+  where
+    by_payload : (r : Result (List ℕ × List ℕ) ℕ) → payload_at rest ≡ r → first ≢ 0
+        → ((q : ℕ) (next : List ℕ) → length next ≤ most → (chain q next).end ≡ Ok gate → q + length (chain q next).records ≤ gate)
+        → place + length (chain place (first ∷ rest)).records ≤ gate
+    by_payload (Err left) cut is_open further = absurd (let no = sym (ap (λ (c : Chain). c.end) (chain_cut place first left rest is_open cut)) ∙ is in cc no)
+    by_payload (Ok found) has is_open further =
+        let parts = payload_parts rest found has in
+        let here = chain_more place first rest found.0 found.1 is_open has in
+        let more = further (place + (5 + length found.0)) found.1 (omega (arith, parts.size)) (sym (ap (λ (c : Chain). c.end) here) ∙ is) in
+        subst (λ (c : Chain). place + length c.records ≤ gate) (sym here) (omega (arith, more))
+
+pub count_of : (place : ℕ) (bytes : List ℕ) (records : List Record) (end : Result ℕ ℕ) → record { records = records; end = end } ≡ chain place bytes → IfOk end (λ gate. place + length records ≤ gate)
+count_of place bytes records (Ok gate) is =
+    subst (λ (c : Chain). place + length c.records ≤ gate) (sym is) (count (length bytes) place gate bytes (omega arith) (sym (ap (λ (c : Chain). c.end) is)))
+count_of place bytes records (Err at) is = tt

@@ -8,6 +8,9 @@ use Rattle.ox_gated.specs.declared.head.Opening.{Opening}
 abbrev pub magic : List ℕ
 magic = 111 ∷ 120 ∷ 105 ∷ 100 ∷ 120 ∷ []
 
+abbrev pub is_magic : ℕ → ℕ → ℕ → ℕ → ℕ → Bool
+is_magic a b c d e = a == 111 && b == 120 && c == 105 && d == 100 && e == 120
+
 -- version 1 or 2, a known profile, a depth of 1 to 1,000 and a generation other than 0
 abbrev pub is_lawful : Head → Bool
 is_lawful head = (head.version == 1 || head.version == 2) && nat_lt head.profile 3 && nat_le 1 head.depth && nat_le head.depth 1000 && not (head.generation == 0)
@@ -47,7 +50,7 @@ opening_at file = record {
 }
 
 abbrev pub has_magic : List ℕ → Bool
-has_magic file = slice_index file 1 == 111 && slice_index file 2 == 120 && slice_index file 3 == 105 && slice_index file 4 == 100 && slice_index file 5 == 120
+has_magic file = is_magic (slice_index file 1) (slice_index file 2) (slice_index file 3) (slice_index file 4) (slice_index file 5)
 
 -- the head of an open file, where its 26 bytes are there and have the form
 abbrev pub head_of : List ℕ → Option Opening

@@ -1,3 +1,6 @@
 pub mod Gate
 pub mod Layout
+pub mod Opened
+pub mod Pick
 pub mod Reading
+pub mod Tail

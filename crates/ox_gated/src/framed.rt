@@ -1,5 +1,5 @@
 // What is written: a record with the closed gate behind it, and a file without records.
-ghost use Rattle.std.specs.Prelude.{◌≡◌, ◌<◌, ◌^◌, length, IsTrue, IfOk};
+ghost use Rattle.std.specs.Prelude.{◌≡◌, ◌+◌, ◌<◌, ◌^◌, length, IsTrue, IfOk};
 ghost use Rattle.ox_gated.specs.Layout.{is_lawful, record_bytes, checkpoint_bytes};
 
 use crate::head::Head;
@@ -14,20 +14,22 @@ pub struct Framed {
 }
 
 impl Model for Framed {
-    ghost use Rattle.std.specs.Prelude.{◌≡◌, List, ℕ, length, take, drop, ◌-◌};
+    ghost use Rattle.std.specs.Prelude.{◌≡◌, ◌<◌, ◌+◌, ◌^◌, List, ℕ, length, take, drop, ◌-◌};
     ghost use Rattle.ox_gated.specs.Layout.{record_bytes};
 
     ghost Value = { List ℕ };
 
     ghost view = { λ f. take (length f.bytes - 5) (drop 4 f.bytes) };
 
-    ghost invariant = { λ f. f.bytes ≡ record_bytes (take (length f.bytes - 5) (drop 4 f.bytes)) };
+    ghost invariant = { λ f. (f.bytes ≡ record_bytes (take (length f.bytes - 5) (drop 4 f.bytes))) × (length f.bytes < 2 ^ 32 + 5) };
 }
 
 impl Framed {
     /// The bytes that are written behind the gate.
     pub fn as_slice(&self) -> &[u8]
-        ensures { result.now ≡ record_bytes self.now }
+        ensures bytes { result.now ≡ record_bytes self.now }
+        ensures size { length result.now ≡ 5 + length self.now }
+        ensures small { length self.now < 2 ^ 32 }
     {
         self.bytes.as_slice()
     }
@@ -56,14 +58,14 @@ pub struct Checkpoint {
 }
 
 impl Model for Checkpoint {
-    ghost use Rattle.std.specs.Prelude.{◌≡◌, length, take, drop, ◌-◌};
-    ghost use Rattle.ox_gated.specs.Layout.{Whole, checkpoint_bytes};
+    ghost use Rattle.std.specs.Prelude.{◌≡◌, ◌<◌, ◌+◌, ◌^◌, length, take, drop, ◌-◌, IsTrue};
+    ghost use Rattle.ox_gated.specs.Layout.{Whole, is_lawful, checkpoint_bytes};
 
     ghost Value = { Whole };
 
     ghost view = { λ c. record { head = c.head; body = take (length c.bytes - 26) (drop 25 c.bytes) } };
 
-    ghost invariant = { λ c. c.bytes ≡ checkpoint_bytes c.head (take (length c.bytes - 26) (drop 25 c.bytes)) };
+    ghost invariant = { λ c. (c.bytes ≡ checkpoint_bytes c.head (take (length c.bytes - 26) (drop 25 c.bytes))) × IsTrue (is_lawful c.head) × (length c.bytes < 2 ^ 32 + 26) };
 }
 
 impl Checkpoint {
@@ -76,8 +78,14 @@ impl Checkpoint {
 
     /// The bytes that are written behind the first gate.
     pub fn as_slice(&self) -> &[u8]
-        ensures { result.now ≡ checkpoint_bytes self.now.head self.now.body }
+        ensures bytes { result.now ≡ checkpoint_bytes self.now.head self.now.body }
+        ensures size { length result.now ≡ 26 + length self.now.body }
+        ensures small { length self.now.body < 2 ^ 32 }
+        ensures lawful { IsTrue (is_lawful self.now.head) }
+        ensures depth { self.now.head.depth < 2 ^ 16 }
+        ensures generation { self.now.head.generation < 2 ^ 64 }
     {
+        let _generation = self.head.generation;
         self.bytes.as_slice()
     }
 }

@@ -1,10 +1,21 @@
 //! Records in two files that survive a crash at any moment: heads, gates, and the tail behind which the next record comes.
 #![tactic(auto)]
 
+mod fault;
 mod framed;
 mod head;
+mod open;
+mod pick;
 mod records;
+mod tail;
+mod writes;
 
+pub use fault::{Before, GateFault};
 pub use framed::{Checkpoint, Framed, checkpoint_of, frame};
 pub use head::Head;
+pub use open::Opened;
 pub use records::{Record, Records};
+pub use tail::{DiskFault, Tail};
+
+#[cfg(test)]
+mod tests;

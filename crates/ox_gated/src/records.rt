@@ -1,5 +1,5 @@
 // The records of a file.
-ghost use Rattle.std.specs.Prelude.{◌≡◌, ◌+◌, ◌<◌, ◌^◌, length, MatchOption, IfOk, OnErr};
+ghost use Rattle.std.specs.Prelude.{◌≡◌, ◌+◌, ◌<◌, ◌≤◌, ◌^◌, length, MatchOption, IfOk, OnErr};
 ghost use Rattle.ox_bytes.specs.Reading.{Gives};
 ghost use Rattle.ox_gated.specs.Gate.{IsShut, IsOpen, IsBroken};
 ghost use Rattle.ox_gated.specs.Reading.{payload_at, chain};
@@ -56,6 +56,14 @@ pub struct Walk {
 
 /// Reads the gates of a file from this place on, where these bytes stand.
 pub fn walk_from(alloc: Global, place: u64, bytes: &[u8]) -> Result<Walk, Memory>
+    requires { place + length bytes.now < 2 ^ 64 }
+    ensures chain { IfOk result (λ walk. record { records = walk.records; end = walk.end } ≡ chain place bytes.now) }
+    ensures count { IfOk result (λ walk. IfOk walk.end (λ gate. place + length walk.records ≤ gate)) }
+{
+    walk_on(alloc, place, bytes)
+}
+
+fn walk_on(alloc: Global, place: u64, bytes: &[u8]) -> Result<Walk, Memory>
     requires { place + length bytes.now < 2 ^ 64 }
     ensures { IfOk result (λ walk. record { records = walk.records; end = walk.end } ≡ chain place bytes.now) }
 {

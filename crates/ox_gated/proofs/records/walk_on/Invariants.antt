@@ -1,6 +1,6 @@
 use Rattle.std.proofs.Common.{◌≡◌, ◌≤◌, ◌+◌, ◌++◌, length}
 use Rattle.ox_gated.specs.Reading.{Chain, chain}
-use Rattle.ox_gated.proofs.records.walk_from.Given as goal
+use Rattle.ox_gated.proofs.records.walk_on.Given as goal
 
 abbrev pub invariant-gates : goal.invariant-gates
 invariant-gates l = record {

@@ -1,0 +1,58 @@
+// Which of two files is current.
+ghost use Rattle.std.specs.Prelude.{◌≡◌};
+ghost use Rattle.ox_gated.specs.Layout.{head_of};
+ghost use Rattle.ox_gated.specs.Pick.{picked, lone, greater_of};
+
+use crate::head::{Opening, is_shut, opening_of};
+use ox_outside::Which;
+
+/// The current one of two files with these fronts, or the file and the place of the first test that fails.
+pub fn pick(a: &[u8], b: &[u8]) -> Result<(Which, Opening), (Which, u64)>
+    ensures { result ≡ picked a.now b.now }
+{
+    match (is_shut(a), is_shut(b)) {
+        (true, true) => Err((Which::A, 0)),
+        (true, false) => {
+            if a.is_empty() {
+                Err((Which::A, 0))
+            } else {
+                only(Which::B, opening_of(b))
+            }
+        }
+        (false, true) => {
+            if b.is_empty() {
+                Err((Which::B, 0))
+            } else {
+                only(Which::A, opening_of(a))
+            }
+        }
+        (false, false) => newer(opening_of(a), opening_of(b)),
+    }
+}
+
+fn only(file: Which, opening: Option<Opening>) -> Result<(Which, Opening), (Which, u64)>
+    ensures { result ≡ lone file opening }
+{
+    match opening {
+        Some(opening) => Ok((file, opening)),
+        None => Err((file, 1)),
+    }
+}
+
+fn newer(a: Option<Opening>, b: Option<Opening>) -> Result<(Which, Opening), (Which, u64)>
+    ensures { result ≡ greater_of a b }
+{
+    match (a, b) {
+        (None, _) => Err((Which::A, 1)),
+        (Some(_), None) => Err((Which::B, 1)),
+        (Some(a), Some(b)) => {
+            if a.head.generation == b.head.generation {
+                Err((Which::B, 10))
+            } else if a.head.generation < b.head.generation {
+                Ok((Which::B, b))
+            } else {
+                Ok((Which::A, a))
+            }
+        }
+    }
+}

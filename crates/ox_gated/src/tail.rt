@@ -1,0 +1,142 @@
+// The tail of two files: where the next record comes.
+ghost use Rattle.std.specs.Prelude.{◌≡◌, ◌↔◌, ◌+◌, ◌<◌, ◌^◌, [], IsTrue, IfOk, OnErr};
+ghost use Rattle.ox_outside.specs.Counts.{Rose};
+ghost use Rattle.ox_outside.specs.Crash.{Calls, LeavesOnly};
+
+use crate::framed::{Checkpoint, Framed};
+use crate::head::Head;
+use crate::writes::write_synced;
+use ox_outside::{Failed, Site, Which};
+use std::marker::Model;
+
+/// A call on a file failed. The tail is gone: open the files again.
+#[derive(Clone, Copy, Debug, PartialEq, Eq)]
+pub struct DiskFault;
+
+impl From<Failed> for DiskFault {
+    fn from(_failed: Failed) -> DiskFault {
+        DiskFault
+    }
+}
+
+/// Where the next record comes: behind the closed gate that ends the records of the current file.
+#[derive(Debug, Drop)]
+pub struct Tail {
+    file: Which,
+    head: Head,
+    records: u64,
+    gate: u64,
+    other_closed: bool,
+}
+
+impl Model for Tail {
+    ghost use Rattle.std.specs.Prelude.{◌≤◌};
+    ghost use Rattle.ox_gated.specs.Tail.{Kept};
+
+    ghost Value = { Kept };
+
+    ghost view = { λ t. record { file = t.file; head = t.head; records = t.records; gate = t.gate; other_closed = t.other_closed } };
+
+    ghost invariant = { λ t. t.records ≤ t.gate };
+}
+
+impl Tail {
+    ghost use Rattle.std.specs.Prelude.{length, ◌≤◌};
+    ghost use Rattle.ox_gated.specs.Reading.{reading, appended};
+    ghost use Rattle.ox_gated.specs.Tail.{Holds, IsBeforeOrAfter, Fits, made, just_made};
+
+    /// The tail of files that were read.
+    pub(crate) fn at(file: Which, head: Head, records: u64, gate: u64, other_closed: bool) -> Tail
+        requires { records ≤ gate }
+        ensures { result ≡ record { file = file; head = head; records = records; gate = gate; other_closed = other_closed } }
+    {
+        Tail {
+            file,
+            head,
+            records,
+            gate,
+            other_closed,
+        }
+    }
+
+    /// The current file.
+    pub fn file(&self) -> Which
+        ensures { result ≡ self.now.file }
+    {
+        self.file
+    }
+
+    /// The head of the current file.
+    pub fn head(&self) -> Head
+        ensures { result ≡ self.now.head }
+    {
+        self.head
+    }
+
+    /// How many records the current file has.
+    pub fn records(&self) -> u64
+        ensures { result ≡ self.now.records }
+    {
+        self.records
+    }
+
+    /// Whether a payload of so many bytes can be appended: each place of the file then still fits 64 bits.
+    pub fn fits(&self, size: u64) -> bool
+        ensures { IsTrue result ↔ Fits self.now size }
+    {
+        match self.gate.checked_add(size) {
+            Some(end) => end < u64::MAX - 5,
+            None => false,
+        }
+    }
+
+    /// Appends a record. At `Ok` it is on the disk: each crash then leaves files that have it. At any moment of the call
+    /// a crash leaves files that stand for what they stood for before, with the record behind it or without. No event of a
+    /// channel is logged. `DiskFault` comes only where a call on a file failed.
+    pub fn append<S: Site>(self, site: &mut S, framed: &Framed) -> Result<Tail, DiskFault>
+        requires fits { Fits self (length framed.now) }
+        requires holds { IsTrue (S.told site.old) → Holds S.seen S.may_leave self site.old }
+        ensures holds { IsTrue (S.told site.old) → IfOk result (λ tail. Holds S.seen S.may_leave tail site.new) }
+        ensures appended { IsTrue (S.told site.old) → IfOk result (λ tail. reading self.head.version (S.seen site.new) ≡ appended framed.now (reading self.head.version (S.seen site.old))) }
+        ensures kept { IfOk result (λ tail. (tail.file ≡ self.file) × (tail.head ≡ self.head) × (tail.records ≡ self.records + 1)) }
+        ensures any_moment { IsTrue (S.told site.old) → LeavesOnly S.clock S.left_since site.old site.new (λ r. IsBeforeOrAfter self.head.version framed.now (S.seen site.old) r.files) }
+        ensures failed { OnErr result (Rose (S.counts site.old).disk (S.counts site.new).disk) }
+        ensures logged { S.log site.new ≡ S.log site.old }
+        ensures calls { Calls S.told S.counts S.clock S.left_since site.old site.new }
+    {
+        let bytes = framed.as_slice();
+        write_synced(site, self.file, self.gate + 1, bytes)?;
+        write_synced(site, self.file, self.gate, &[1])?;
+        Ok(Tail {
+            records: self.records + 1,
+            gate: self.gate + bytes.len() as u64,
+            ..self
+        })
+    }
+
+    /// Makes two empty files a pair of this head and body, without records: B is closed, and A is current. At `Ok` it is on
+    /// the disk: each crash then leaves that pair. `DiskFault` comes only where a call on a file failed.
+    pub fn make<S: Site>(site: &mut S, checkpoint: &Checkpoint) -> Result<Tail, DiskFault>
+        requires empty { IsTrue (S.told site.old) → S.seen site.old ≡ record { a = []; b = [] } }
+        ensures made { IsTrue (S.told site.old) → IfOk result (λ tail. S.seen site.new ≡ made checkpoint.now) }
+        ensures holds { IsTrue (S.told site.old) → IfOk result (λ tail. Holds S.seen S.may_leave tail site.new) }
+        ensures stands { IsTrue (S.told site.old) → IfOk result (λ tail. reading checkpoint.now.head.version (S.seen site.new) ≡ Ok (just_made checkpoint.now)) }
+        ensures kept { IfOk result (λ tail. (tail.file ≡ Which.A) × (tail.head ≡ checkpoint.now.head) × (tail.records ≡ 0)) }
+        ensures failed { OnErr result (Rose (S.counts site.old).disk (S.counts site.new).disk) }
+        ensures logged { S.log site.new ≡ S.log site.old }
+        ensures calls { Calls S.told S.counts S.clock S.left_since site.old site.new }
+    {
+        let bytes = checkpoint.as_slice();
+        write_synced(site, Which::B, 0, &[0])?;
+        site.write(Which::A, 0, &[0])?;
+        write_synced(site, Which::A, 1, bytes)?;
+        write_synced(site, Which::A, 0, &[1])?;
+        Ok(Tail {
+            file: Which::A,
+            head: checkpoint.head(),
+            records: 0,
+            gate: bytes.len() as u64,
+            other_closed: true,
+        })
+    }
+}
