@@ -65,7 +65,9 @@ fn what_is_no_store_is_refused_at_its_place(rt: HostRuntime) -> Result<(), Fail>
     assert!(rt; is_refused(Tail::open(alloc, &mut site), Which::B, 0));
     assert!(rt; site.write(Which::B, 0, b"\0").is_ok());
     assert_eq!(rt; count_after(alloc, &mut site), 0);
-    assert!(rt; site.write(Which::A, 26, b"\x01").is_ok());
+    let mut cut = EMPTY;
+    cut[26] = 1;
+    assert!(rt; site.write(Which::A, 0, &cut).is_ok());
     assert!(rt; is_refused(Tail::open(alloc, &mut site), Which::A, 26));
     assert!(rt; site.write(Which::A, 0, b"\0").is_ok());
     assert!(rt; is_refused(Tail::open(alloc, &mut site), Which::A, 0));
