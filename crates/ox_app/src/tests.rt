@@ -15,7 +15,11 @@ const TWICE: &[u8] =
     b"ok 0 000000000019d6689c085ae165831e934ff763ae46a2a6c172b3f1b60a8ce26f\nrefused 5 0000000000000000000000000000000000000000000000000000000000000000 000000000019d6689c085ae165831e934ff763ae46a2a6c172b3f1b60a8ce26f\n";
 
 const AFTER_BAD_LINES: &[u8] =
-    b"refused 1\nrefused 1\nok 0 000000000019d6689c085ae165831e934ff763ae46a2a6c172b3f1b60a8ce26f\nrefused 1\n";
+    b"refused 1\nrefused 1\nok 0 000000000019d6689c085ae165831e934ff763ae46a2a6c172b3f1b60a8ce26f\nrefused 11\n";
+
+// The header's root, and that of the changed transaction, by a script of another language.
+const OTHER_ROOT: &[u8] =
+    b"refused 6 4a5e1e4baab89f3a32518a88c31bc87f618f76673e2cc77ab2127b7afdeda33b 77c2c6d62b888ab7a74667ac10d8d9c14b411666e1b42a9188efe4f9ee73171c\n";
 
 // The program's words.
 fn words_of(alloc: Global, words: &[&[u8]]) -> Result<Vec<Bytes>, Fail> {
@@ -84,7 +88,7 @@ fn each_line_is_answered_by_one(rt: HostRuntime) -> Result<(), Fail> {
         (b"", b""),
         (first.as_slice(), OK),
         (no_feed_at_end.as_slice(), OK),
-        (another_transaction.as_slice(), OK),
+        (another_transaction.as_slice(), OTHER_ROOT),
         (two_transactions.as_slice(), b"refused 3 285\n"),
         (no_input.as_slice(), b"refused 3 86\n"),
         (cut.as_slice(), b"refused 3 200\n"),
@@ -98,6 +102,20 @@ fn each_line_is_answered_by_one(rt: HostRuntime) -> Result<(), Fail> {
         assert_eq!(rt; run(alloc, words.as_slice(), &mut site), 0);
         assert_eq!(rt; site.shown(0)?.as_slice(), answers);
         assert_eq!(rt; site.starved(), 0);
+    }
+    Ok(())
+}
+
+#[test]
+fn each_profile_begins_with_any_first_block(rt: HostRuntime) -> Result<(), Fail> {
+    let alloc = rt.alloc();
+    let block = hex::decode(alloc, GENESIS)?;
+    let first = line_of(alloc, block.as_slice())?;
+    for profile in [b"mainnet".as_slice(), b"regtest".as_slice(), b"lab".as_slice()] {
+        let words = words_of(alloc, &[b"fold", profile])?;
+        let mut site = site_of(alloc, first.as_slice(), None)?;
+        assert_eq!(rt; run(alloc, words.as_slice(), &mut site), 0);
+        assert_eq!(rt; site.shown(0)?.as_slice(), OK);
     }
     Ok(())
 }
@@ -145,7 +163,7 @@ fn other_words_show_the_usage_line(rt: HostRuntime) -> Result<(), Fail> {
     let rows: [&[&[u8]]; 5] = [
         &[],
         &[b"fold"],
-        &[b"fold", b"mainnet"],
+        &[b"fold", b"testnet"],
         &[b"regtest", b"fold"],
         &[b"fold", b"regtest", b""],
     ];

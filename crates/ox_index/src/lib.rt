@@ -7,3 +7,6 @@ mod live;
 
 pub use fault::ConnectFault;
 pub use live::Live;
+
+#[cfg(test)]
+mod tests;

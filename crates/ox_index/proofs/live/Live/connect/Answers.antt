@@ -55,7 +55,7 @@ invariant_of-self-in-Ok c =
     let hashes : c.push_reserved.new.self.items ≡ index.hashes ++ c.hash.result ∷ [] = c.push_reserved.ensures.items ∙ ap (λ (l : List (List ℕ)). l ++ c.hash.result ∷ []) c.reserve.ensures.items in
     let is = grown_parts index c.in_ok-block.block after c.push_reserved.new.self.items c.hash.result c.join.new.self hashes c.hash.ensures c.in-Ok.ensures.ok in record {
       known = c.args.self.now.known;
-      sound = subst (Sound c.args.self.now.profile) (sym is) (grown_sound c.args.self.now.profile index c.in_ok-block.block after c.args.self.now.sound (admitted_right c.args.self.now.profile index c.in_ok-block.block tt begun) moved)
+      sound = subst (Sound c.args.self.now.profile) (sym is) (grown_sound c.args.self.now.profile index c.in_ok-block.block after c.args.self.now.sound (admitted_right c.args.self.now.profile index c.in_ok-block.block tt begun) moved);
     }
 
 pub returns-in-Ok-clause-ok : goal.returns-in-Ok-clause-ok

@@ -11,5 +11,5 @@ invariant_of-result c = record {
   known = c.requires;
   sound =
       let is : record { hashes = c.new.result.items; outs = rows_in c.new-2.result; lost = c.empty.result } ≡ no_blocks = λ i. record { hashes = c.new.ensures.items i; outs = c.new-2.ensures i; lost = c.empty.ensures i } in
-      subst (Sound c.args.p.now) (sym is) (sound_first c.args.p.now)
+      subst (Sound c.args.p.now) (sym is) (sound_first c.args.p.now);
 }
