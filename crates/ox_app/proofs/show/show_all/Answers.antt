@@ -1,0 +1,17 @@
+use Rattle.std.proofs.lemmas.Result.{err_from_is_err_and}
+use Rattle.ox_outside.proofs.Calls.{then_call}
+use Rattle.ox_app.proofs.Showing.{showing_failed, showing_on}
+use Rattle.ox_app.proofs.show.show_all.Goals as goal
+
+pub returns-in_err-n-clause-told : goal.returns-in_err-n-clause-told
+returns-in_err-n-clause-told g c =
+    let p = err_from_is_err_and c.from_residual.result c.from_residual.ensures.1 in
+    let logged = c.in_err-n.ensures.logged in
+    rw p.1 (showing_failed c.args.bytes.now c.loop-rest.rest.now (g.S.Site.log c.args.site.now) (g.S.Site.log c.loop-rest.site) (g.S.Site.log c.show.new.self) c.loop-rest.invariant.0 logged)
+
+pub loop-rest-preserved : goal.loop-rest-preserved
+loop-rest-preserved g c =
+    let logged = rw c.in-Took.is at c.in_ok-n.ensures.logged in (
+      rw c.split_at.ensures.back (showing_on c.args.bytes.now c.loop-rest.rest.now c.in-Took.n (g.S.Site.log c.args.site.now) (g.S.Site.log c.loop-rest.site) (g.S.Site.log c.show.new.self) c.loop-rest.invariant.0 logged),
+      then_call g.S.Site.told g.S.Site.counts g.S.Site.clock g.S.Site.may_leave g.S.Site.left_since c.args.site.now c.loop-rest.site c.show.new.self c.loop-rest.invariant.1 c.show.ensures.call,
+    )

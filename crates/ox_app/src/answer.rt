@@ -1,0 +1,46 @@
+//! One line of a feed, carried out and answered.
+
+ghost use Rattle.std.specs.Prelude.{◌≡◌, IfOk};
+ghost use Rattle.ox_app.specs.Fold.{AnswersLine, IsAnswer, Obeys};
+
+use ox_bytes::{Bytes, Memory};
+use ox_feed::{Command, Line, SyntaxFault, command_of};
+use ox_index::{ConnectFault, Live, Refusal};
+use std::alloc::Global;
+
+// Carries out the command of a line.
+fn obey(alloc: Global, live: &mut Live, line: &[u8]) -> Result<(), ConnectFault>
+    ensures { Obeys live.old line.now result live.new }
+{
+    match command_of(alloc, line) {
+        Ok(Command::Connect(block)) => live.connect(block.as_slice()),
+        Err(SyntaxFault::Syntax) => Err(ConnectFault::Refused(Refusal::Syntax)),
+        Err(SyntaxFault::Memory) => Err(ConnectFault::Memory),
+    }
+}
+
+// The line that says how a command went.
+fn answer_to(alloc: Global, outcome: Result<(), ConnectFault>, live: &Live) -> Result<Bytes, Memory>
+    ensures { IfOk result (λ line. IsAnswer outcome live.now line) }
+{
+    match outcome {
+        Ok(()) => live.line(),
+        Err(ConnectFault::Refused(refusal)) => refusal.line(alloc),
+        Err(ConnectFault::Memory) => Err(Memory),
+    }
+}
+
+/// Carries out a line and answers it; `None` at the end of the feed. After `Memory` the command may have been
+/// carried out, without an answer.
+pub fn answer(alloc: Global, live: &mut Live, line: Line) -> Result<Option<Bytes>, Memory>
+    ensures { IfOk result (λ answer. AnswersLine line live.old answer live.new) }
+{
+    match line {
+        Line::Text(text) => {
+            let outcome = obey(alloc, live, text.as_slice());
+            Ok(Some(answer_to(alloc, outcome, live)?))
+        }
+        Line::Long => Ok(Some(Refusal::Syntax.line(alloc)?)),
+        Line::End => Ok(None),
+    }
+}

@@ -1,0 +1,3 @@
+pub mod Command
+pub mod Feed
+pub mod Held

@@ -1,0 +1,12 @@
+use Rattle.std.proofs.Common.{◌≡◌, ◌≤◌, ◌+◌, ◌++◌, length}
+use Rattle.ox_gated.specs.Reading.{Chain, chain}
+use Rattle.ox_gated.proofs.records.walk_from.Given as goal
+
+abbrev pub invariant-gates : goal.invariant-gates
+invariant-gates l = record {
+  so_far : record { records = l.records.items ++ (chain l.place l.rest).records; end = (chain l.place l.rest).end } ≡ chain l.fn.place l.fn.bytes;
+  within : l.place + length l.rest ≤ l.fn.place + length l.fn.bytes;
+}
+
+abbrev pub decreases-gates : goal.decreases-gates
+decreases-gates l = length l.rest

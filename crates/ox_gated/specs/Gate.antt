@@ -1,0 +1,21 @@
+-- What the first of some bytes is as a gate.
+use Rattle.std.specs.Prelude.{◌≡◌, ℕ, ◌+◌, List, [], ◌∷◌, length, Ok, Err}
+use Rattle.ox_gated.specs.Reading.{Chain, chain}
+use Rattle.ox_gated.specs.declared.records.Record.{Record}
+
+-- a record in front of the others
+abbrev pub with_record : ℕ → List ℕ → Chain → Chain
+with_record place payload more = record { records = record { place = place; payload = payload } ∷ more.records; end = more.end }
+
+-- closed, so the last one
+abbrev pub IsShut : List ℕ → Type 0
+IsShut bytes = (place : ℕ) → chain place bytes ≡ record { records = []; end = Ok place }
+
+-- missing, or its record is cut
+abbrev pub IsBroken : List ℕ → Type 0
+IsBroken bytes = (place : ℕ) → chain place bytes ≡ record { records = []; end = Err place }
+
+-- open, with this payload behind it, and then these bytes
+pub record IsOpen (bytes payload rest : List ℕ) : Type 0 where
+  pub chain_is : (place : ℕ) → chain place bytes ≡ with_record place payload (chain (place + (5 + length payload)) rest)
+  pub size : length bytes ≡ 5 + length payload + length rest

@@ -1,0 +1,54 @@
+-- How a file is laid out: a gate, a head of 25 bytes, a body, and records behind gates.
+use Rattle.std.specs.Prelude.{◌≡◌, ℕ, ◌+◌, ◌^◌, ◌<◌, ◌≤◌, ◌≢◌, Bool, true, List, [], ◌∷◌, ◌++◌, length, take, drop, nat_lt, nat_le, ◌==◌, ◌&&◌, ◌||◌, not, Option, Some, None, slice_index, slice_range, if◌then◌else◌}
+use Rattle.std.specs.Int.{w16, w32, w64, to_le_bytes, from_le_bytes}
+use Rattle.ox_gated.specs.declared.head.Head.{Head}
+use Rattle.ox_gated.specs.declared.head.Opening.{Opening}
+
+-- the five bytes behind the gate, `oxidx`
+abbrev pub magic : List ℕ
+magic = 111 ∷ 120 ∷ 105 ∷ 100 ∷ 120 ∷ []
+
+-- version 1 or 2, a known profile, a depth of 1 to 1,000 and a generation other than 0
+abbrev pub is_lawful : Head → Bool
+is_lawful head = (head.version == 1 || head.version == 2) && nat_lt head.profile 3 && nat_le 1 head.depth && nat_le head.depth 1000 && not (head.generation == 0)
+
+-- what stands between a file's first gate and its first record's: the head, the body's length, and the body
+abbrev pub head_bytes : Head → ℕ → List ℕ
+head_bytes head size = magic ++ head.version ∷ head.profile ∷ to_le_bytes w16 head.depth ++ to_le_bytes w64 head.generation ++ to_le_bytes w64 size
+
+-- a file without records, but for its first gate
+abbrev pub checkpoint_bytes : Head → List ℕ → List ℕ
+checkpoint_bytes head body = head_bytes head (length body) ++ body ++ 0 ∷ []
+
+-- a head and a body
+pub record Whole : Type 0 where
+  pub head : Head
+  pub body : List ℕ
+
+-- a record, but for its gate, and the closed gate behind it
+abbrev pub record_bytes : List ℕ → List ℕ
+record_bytes payload = to_le_bytes w32 (length payload) ++ payload ++ 0 ∷ []
+
+-- a file of length 0, or whose first gate is closed
+abbrev pub is_closed : List ℕ → Bool
+is_closed [] = true
+is_closed (gate ∷ file) = gate == 0
+
+-- what the first 26 bytes of a file say, whether they have the form or not
+abbrev pub opening_at : List ℕ → Opening
+opening_at file = record {
+  head = record {
+    version = slice_index file 6;
+    profile = slice_index file 7;
+    depth = from_le_bytes w16 (slice_range file 8 10);
+    generation = from_le_bytes w64 (slice_range file 10 18);
+  };
+  size = from_le_bytes w64 (slice_range file 18 26);
+}
+
+abbrev pub has_magic : List ℕ → Bool
+has_magic file = slice_index file 1 == 111 && slice_index file 2 == 120 && slice_index file 3 == 105 && slice_index file 4 == 100 && slice_index file 5 == 120
+
+-- the head of an open file, where its 26 bytes are there and have the form
+abbrev pub head_of : List ℕ → Option Opening
+head_of file = if nat_lt (length file) 26 then None else if has_magic file && is_lawful (opening_at file).head then Some (opening_at file) else None

@@ -1,0 +1,104 @@
+// What is written: a record with the closed gate behind it, and a file without records.
+ghost use Rattle.std.specs.Prelude.{◌≡◌, ◌<◌, ◌^◌, length, IsTrue, IfOk};
+ghost use Rattle.ox_gated.specs.Layout.{is_lawful, record_bytes, checkpoint_bytes};
+
+use crate::head::Head;
+use ox_bytes::{Bytes, Memory};
+use std::alloc::Global;
+use std::marker::Model;
+
+/// A record as it is written behind an open gate: its length, its payload and a closed gate. Contracts see the payload.
+#[derive(Debug, Drop)]
+pub struct Framed {
+    bytes: Bytes,
+}
+
+impl Model for Framed {
+    ghost use Rattle.std.specs.Prelude.{◌≡◌, List, ℕ, length, take, drop, ◌-◌};
+    ghost use Rattle.ox_gated.specs.Layout.{record_bytes};
+
+    ghost Value = { List ℕ };
+
+    ghost view = { λ f. take (length f.bytes - 5) (drop 4 f.bytes) };
+
+    ghost invariant = { λ f. f.bytes ≡ record_bytes (take (length f.bytes - 5) (drop 4 f.bytes)) };
+}
+
+impl Framed {
+    /// The bytes that are written behind the gate.
+    pub fn as_slice(&self) -> &[u8]
+        ensures { result.now ≡ record_bytes self.now }
+    {
+        self.bytes.as_slice()
+    }
+}
+
+/// The record of this payload. `Memory` where there is none for it.
+pub fn frame(alloc: Global, payload: &[u8]) -> Result<Framed, Memory>
+    requires { length payload.now < 2 ^ 32 }
+    ensures { IfOk result (λ framed. framed ≡ payload.now) }
+{
+    let mut bytes = Vec::with_capacity(alloc, payload.len() + 5)?;
+    let size = payload.len() as u32;
+    bytes.extend_from_slice(&size.to_le_bytes())?;
+    bytes.extend_from_slice(payload)?;
+    bytes.push(0)?;
+    Ok(Framed {
+        bytes: Bytes::from_vec(bytes),
+    })
+}
+
+/// A file without records, but for its first gate. Contracts see its head and its body.
+#[derive(Debug, Drop)]
+pub struct Checkpoint {
+    head: Head,
+    bytes: Bytes,
+}
+
+impl Model for Checkpoint {
+    ghost use Rattle.std.specs.Prelude.{◌≡◌, length, take, drop, ◌-◌};
+    ghost use Rattle.ox_gated.specs.Layout.{Whole, checkpoint_bytes};
+
+    ghost Value = { Whole };
+
+    ghost view = { λ c. record { head = c.head; body = take (length c.bytes - 26) (drop 25 c.bytes) } };
+
+    ghost invariant = { λ c. c.bytes ≡ checkpoint_bytes c.head (take (length c.bytes - 26) (drop 25 c.bytes)) };
+}
+
+impl Checkpoint {
+    /// The head of the file.
+    pub fn head(&self) -> Head
+        ensures { result ≡ self.now.head }
+    {
+        self.head
+    }
+
+    /// The bytes that are written behind the first gate.
+    pub fn as_slice(&self) -> &[u8]
+        ensures { result.now ≡ checkpoint_bytes self.now.head self.now.body }
+    {
+        self.bytes.as_slice()
+    }
+}
+
+/// The file of this head and body, without records. `Memory` where there is none for it.
+pub fn checkpoint_of(alloc: Global, head: &Head, body: &[u8]) -> Result<Checkpoint, Memory>
+    requires size { length body.now < 2 ^ 32 }
+    requires head { IsTrue (is_lawful head.now) }
+    ensures { IfOk result (λ checkpoint. checkpoint ≡ record { head = head.now; body = body.now }) }
+{
+    let mut bytes = Vec::with_capacity(alloc, body.len() + 26)?;
+    bytes.extend_from_slice(b"oxidx")?;
+    bytes.extend_from_slice(&[head.version, head.profile])?;
+    bytes.extend_from_slice(&head.depth.to_le_bytes())?;
+    bytes.extend_from_slice(&head.generation.to_le_bytes())?;
+    let size = body.len() as u64;
+    bytes.extend_from_slice(&size.to_le_bytes())?;
+    bytes.extend_from_slice(body)?;
+    bytes.push(0)?;
+    Ok(Checkpoint {
+        head: *head,
+        bytes: Bytes::from_vec(bytes),
+    })
+}

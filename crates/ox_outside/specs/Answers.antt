@@ -1,0 +1,20 @@
+-- The numbers that `hear` and `show` answer.
+use Rattle.std.specs.Prelude.{ℕ, ◌≤◌, Result, Ok, Err}
+use Rattle.ox_outside.specs.declared.site.Heard.{Heard}
+use Rattle.ox_outside.specs.declared.site.Heard.TheVariants.{Bytes, NotYet as HeardNothing, End}
+use Rattle.ox_outside.specs.declared.site.Shown.{Shown}
+use Rattle.ox_outside.specs.declared.site.Shown.TheVariants.{Took, NotYet as TookNothing}
+use Rattle.ox_outside.specs.declared.site.Failed.{Failed}
+
+-- at least one byte, and no more than there was room for
+abbrev pub HeardWithin : ℕ → Result Heard Failed → Type 0
+HeardWithin room (Ok (Bytes n)) = (1 ≤ n) × (n ≤ room)
+HeardWithin room (Ok HeardNothing) = Unit {0}
+HeardWithin room (Ok End) = Unit {0}
+HeardWithin room (Err failed) = Unit {0}
+
+-- at least one byte, and no more than there were
+abbrev pub ShownWithin : ℕ → Result Shown Failed → Type 0
+ShownWithin size (Ok (Took n)) = (1 ≤ n) × (n ≤ size)
+ShownWithin size (Ok TookNothing) = Unit {0}
+ShownWithin size (Err failed) = Unit {0}

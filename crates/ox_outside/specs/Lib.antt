@@ -1,0 +1,7 @@
+pub mod Answers
+pub mod Counts
+pub mod Crash
+pub mod Disk
+pub mod Event
+pub mod Files
+pub mod Log

@@ -1,0 +1,6 @@
+//! What the program sees of the world outside it: two files, channels of bytes, and what a crash at any moment leaves.
+#![tactic(auto)]
+
+mod site;
+
+pub use site::{Doorway, Failed, Heard, Shown, Site, Which};

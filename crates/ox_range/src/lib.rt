@@ -1,0 +1,152 @@
+//! Lists of satoshi numbers, kept as runs of consecutive numbers.
+//!
+//! An output holds satoshis in an order: the first of a block's subsidy may stand beside those that
+//! came from far away. A list of them is seen as the list of its numbers, and kept as its maximal
+//! runs, so that five billion numbers cost as much as one.
+#![tactic(auto)]
+
+ghost use Rattle.std.specs.Prelude.{◌≡◌, ℕ, ◌+◌, ◌^◌, ◌<◌, ◌≤◌, ◌==◌, ◌↔◌, List, [], ◌++◌, length, take, drop, slice_index, position, IsTrue, IfOk, OnOk, OnErr};
+ghost use Rattle.ox_range.specs.Numbers.{numbers_from};
+ghost use Rattle.ox_range.specs.Runs.{numbers_of, AreMaximal};
+
+use cuts::{append, split};
+use runs::{number_at, place_among};
+use std::alloc::{AllocError, Global};
+use std::marker::Model;
+
+mod cuts;
+mod runs;
+
+pub use runs::{Run, runs_are_determined};
+
+/// There is no memory left.
+#[derive(Clone, Copy, Debug, PartialEq, Eq)]
+pub struct Memory;
+
+impl From<AllocError> for Memory {
+    ghost use Rattle.std.specs.Prelude.{◌≡◌};
+
+    ghost from_gives = { λ _ e. e ≡ record {} };
+
+    fn from(_e: AllocError) -> Memory {
+        Memory
+    }
+}
+
+/// A list of satoshi numbers, kept as its maximal runs of consecutive numbers.
+#[derive(Debug, Drop)]
+pub struct Ranges {
+    alloc: Global,
+    runs: Vec<Run>,
+    len: u64,
+}
+
+impl Model for Ranges {
+    ghost use Rattle.std.specs.Prelude.{ℕ, List};
+    ghost use Rattle.ox_range.specs.Runs.{numbers_of, AreRunsOf};
+
+    ghost Value = { List ℕ };
+
+    ghost view = { λ r. numbers_of r.runs.items };
+
+    ghost invariant = { λ r. AreRunsOf r.runs.items r.len };
+}
+
+impl Ranges {
+    /// No numbers.
+    pub fn empty(alloc: Global) -> Self
+        ensures { result ≡ [] }
+    {
+        Ranges {
+            alloc,
+            runs: Vec::new(alloc),
+            len: 0,
+        }
+    }
+
+    /// The numbers from `first` on, `count` of them. `Memory` where there is none left.
+    pub fn one(alloc: Global, first: u64, count: u64) -> Result<Self, Memory>
+        requires { first + count < 2 ^ 64 }
+        ensures { IfOk result (λ ranges. ranges ≡ numbers_from first count) }
+    {
+        if count == 0 {
+            return Ok(Ranges::empty(alloc));
+        }
+        let runs = Vec::from_slice(alloc, &[Run { first, count }])?;
+        Ok(Ranges {
+            alloc,
+            runs,
+            len: count,
+        })
+    }
+
+    /// How many numbers there are.
+    pub fn len(&self) -> u64
+        ensures { result ≡ length self.now }
+    {
+        self.len
+    }
+
+    /// Whether there is no number.
+    pub fn is_empty(&self) -> bool
+        ensures { IsTrue result ↔ (self.now ≡ []) }
+    {
+        self.len == 0
+    }
+
+    /// The number at this place, from 0 on. It costs by the runs before it.
+    pub fn at(&self, place: u64) -> u64
+        requires { place < length self.now }
+        ensures { result ≡ slice_index self.now place }
+    {
+        number_at(&self.runs, place)
+    }
+
+    /// The first place at which this number stands, if any. It costs by the runs before it.
+    pub fn place_of(&self, sat: u64) -> Option<u64>
+        ensures { result ≡ position (λ number. number == sat) self.now }
+    {
+        place_among(&self.runs, sat)
+    }
+
+    /// Puts the numbers of `tail` behind. It costs by the runs of `tail`, in the long run. `Memory`
+    /// where there is none left, and then nothing has changed.
+    pub fn join(&mut self, tail: &Ranges) -> Result<(), Memory>
+        requires { length self.old + length tail.now < 2 ^ 64 }
+        ensures ok { OnOk result (self.new ≡ self.old ++ tail.now) }
+        ensures err { OnErr result (self.new ≡ self.old) }
+    {
+        append(&mut self.runs, &tail.runs)?;
+        self.len += tail.len;
+        Ok(())
+    }
+
+    /// Keeps the numbers before this place and gives the others. It costs by the runs that it
+    /// gives. `Memory` where there is none left, and then nothing has changed.
+    pub fn split_off(&mut self, place: u64) -> Result<Ranges, Memory>
+        requires { place ≤ length self.old }
+        ensures front { OnOk result (self.new ≡ take place self.old) }
+        ensures rest { IfOk result (λ rest. rest ≡ drop place self.old) }
+        ensures err { OnErr result (self.new ≡ self.old) }
+    {
+        let runs = split(self.alloc, &mut self.runs, self.len, place)?;
+        let rest = Ranges {
+            alloc: self.alloc,
+            runs,
+            len: self.len - place,
+        };
+        self.len = place;
+        Ok(rest)
+    }
+
+    /// The maximal runs of consecutive numbers, in order.
+    pub fn runs(&self) -> &[Run]
+        ensures numbers { numbers_of result.now ≡ self.now }
+        ensures maximal { AreMaximal result.now }
+    {
+        &self.runs
+    }
+}
+
+#[cfg(test)]
+mod tests;

@@ -1,0 +1,48 @@
+ghost use Rattle.std.specs.Prelude.{◌≡◌, ℕ, ◌+◌, ◌^◌, ◌<◌, ◌==◌, List, length, slice_index, position};
+ghost use Rattle.ox_range.specs.Runs.{numbers_of, AreMaximal};
+
+/// Consecutive numbers: `first`, `first + 1` and so on, `count` of them.
+#[derive(Clone, Copy, Debug, PartialEq, Eq)]
+pub struct Run {
+    /// The first number.
+    pub first: u64,
+    /// How many there are.
+    pub count: u64,
+}
+
+/// The number at this place among the numbers of the runs.
+pub(crate) fn number_at(runs: &[Run], place: u64) -> u64
+    requires maximal { AreMaximal runs.now }
+    requires within { place < length (numbers_of runs.now) }
+    ensures { result ≡ slice_index (numbers_of runs.now) place }
+{
+    let mut left = place;
+    for run in runs {
+        if left < run.count {
+            return run.first + left;
+        }
+        left -= run.count;
+    }
+    unreachable!()
+}
+
+/// The first place of this number among the numbers of the runs.
+pub(crate) fn place_among(runs: &[Run], number: u64) -> Option<u64>
+    requires maximal { AreMaximal runs.now }
+    requires fits { length (numbers_of runs.now) < 2 ^ 64 }
+    ensures { result ≡ position (λ x. x == number) (numbers_of runs.now) }
+{
+    let mut before = 0;
+    for run in runs {
+        if run.first <= number && number - run.first < run.count {
+            return Some(before + (number - run.first));
+        }
+        before += run.count;
+    }
+    None
+}
+
+/// One list of numbers has one list of maximal runs.
+pub fn runs_are_determined()
+    ensures { (a b : List Run) → AreMaximal a → AreMaximal b → numbers_of a ≡ numbers_of b → a ≡ b }
+{}

@@ -1,0 +1,4 @@
+pub mod Epochs
+pub mod Letters
+pub mod Numbers
+pub mod Found

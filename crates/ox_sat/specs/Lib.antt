@@ -1,0 +1,5 @@
+pub mod Profiles
+pub mod Heights
+pub mod Degrees
+pub mod Names
+pub mod Spellings

@@ -1,0 +1,88 @@
+ghost use Rattle.std.specs.Prelude.{◌≡◌};
+ghost use Rattle.ox_sat.specs.Profiles.{profile_named, IsProfile};
+
+/// The chains that an index can follow.
+#[derive(Clone, Copy, Debug, PartialEq, Eq)]
+pub enum ProfileName {
+    /// Bitcoin's main chain.
+    Mainnet,
+    /// A regression-test chain. It halves as the main chain does, and not every 150 blocks.
+    Regtest,
+    /// A chain of 41 blocks in which every rule comes into play soon.
+    Lab,
+}
+
+/// The numbers by which a chain counts, as `profile_of` gives them.
+#[derive(Clone, Copy, Debug, PartialEq, Eq)]
+pub struct Profile {
+    /// The byte that stands for the profile in a file's head.
+    pub byte: u8,
+    /// The number of blocks between two halvings of the subsidy.
+    pub halving: u64,
+    /// The number of blocks between two adjustments of the difficulty.
+    pub period: u64,
+    /// The number of blocks after which a halving and an adjustment coincide again.
+    pub cycle: u64,
+    /// The number of satoshis that all subsidies mint.
+    pub supply: u64,
+    /// The height from which runes are read.
+    pub rune_start: u64,
+    /// The number of blocks after which the shortest name that a rune may take gets one letter shorter.
+    pub interval: u64,
+    /// Whether the rune of id 1:0 is there from the start.
+    pub first_rune: bool,
+    /// The height from which no inscription is cursed.
+    pub jubilee: u64,
+    /// The height from which a block with a witness has to commit to it.
+    pub commitment: u64,
+    /// The greatest height that is accepted.
+    pub last: u64,
+}
+
+/// The profile of this name.
+pub fn profile_of(name: ProfileName) -> Profile
+    ensures value { result ≡ profile_named name }
+    ensures known { IsProfile result }
+{
+    match name {
+        ProfileName::Mainnet => Profile {
+            byte: 0,
+            halving: 210_000,
+            period: 2_016,
+            cycle: 1_260_000,
+            supply: 2_099_999_997_690_000,
+            rune_start: 840_000,
+            interval: 17_500,
+            first_rune: true,
+            jubilee: 824_544,
+            commitment: 481_824,
+            last: 4_000_000_000,
+        },
+        ProfileName::Regtest => Profile {
+            byte: 1,
+            halving: 210_000,
+            period: 2_016,
+            cycle: 1_260_000,
+            supply: 2_099_999_997_690_000,
+            rune_start: 0,
+            interval: 17_500,
+            first_rune: false,
+            jubilee: 110,
+            commitment: 0,
+            last: 4_000_000_000,
+        },
+        ProfileName::Lab => Profile {
+            byte: 2,
+            halving: 10,
+            period: 12,
+            cycle: 60,
+            supply: 99_999_999_890,
+            rune_start: 2,
+            interval: 1,
+            first_rune: false,
+            jubilee: 6,
+            commitment: 30,
+            last: 40,
+        },
+    }
+}
