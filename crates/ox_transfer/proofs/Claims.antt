@@ -20,8 +20,8 @@ use Rattle.ox_model.specs.declared.refusal.Refusal.TheVariants.{Overclaim}
 use Rattle.ox_model.specs.Deal.{deal}
 use Rattle.ox_model.specs.Outputs.{Outputs, sats_of, sats_held, times}
 use Rattle.ox_model.specs.Transfer.{or_refuse, named, Placed, place_rows, values_of, Spent, spend_all, Transferred, claimed_by, claimable, claim, transfer_of}
-use Rattle.ox_model.proofs.Conservation.{times-append, held, times_held, joined, deal_keeps, place_keeps}
-use Rattle.ox_model.proofs.Soundness.{spend_all_keeps, counts_numbers}
+use Rattle.ox_model.proofs.Conservation.{times-append, held, times_held, joined, deal_keeps, place_keeps, bind_ok}
+use Rattle.ox_model.proofs.Soundness.{spend_all_keeps, claim_keeps, counts_numbers}
 use Rattle.ox_transfer.specs.declared.fault.TransferFault.{TransferFault}
 use Rattle.ox_transfer.specs.declared.fault.TransferFault.TheVariants.{Refused, Memory}
 use Rattle.ox_transfer.specs.Answer.{Refuses}
@@ -119,3 +119,18 @@ unspent p height txs others coinbase outs (Refused refusal) is refused =
 pub then_claimed : (p : Profile) (height : ℕ) (txs others : List Tx) (coinbase : Tx) (outs : Outputs) (spent : Spent) → txs ≡ coinbase ∷ others → spend_all height 1 others outs ≡ Ok spent → transfer_of p height txs outs ≡ claim p height coinbase spent
 then_claimed p height txs others coinbase outs spent is spent_is =
     ap (λ (l : List Tx). transfer_of p height l outs) is ∙ ap (λ (r : Result Spent Refusal). r >>= claim p height coinbase) spent_is
+
+-- after the block each satoshi of the heights so far is in one place
+pub kept_once : (p : Profile) (height : ℕ) (txs : List Tx) (outs : Outputs) (after : Transferred) → 0 < length txs → transfer_of p height txs outs ≡ Ok after → HoldsOnce (first_at p height) outs → HoldsOnce (first_at p (height + 1)) after.outs
+unfolding first_at
+kept_once p height [] outs after some is holds = absurd (omega (arith, some))
+kept_once p height (coinbase ∷ txs) outs after some is holds =
+    let spent = bind_ok (spend_all height 1 txs outs) (claim p height coinbase) after is in
+    let first : ℕ = first_at p height in
+    let count : ℕ = subsidy_at p height in
+    let next : first_at p (height + 1) ≡ first + count = rw add-one refl in record {
+      once = λ sat.
+          let bound : at_most (first_at p (height + 1)) sat ≡ at_most (first + count) sat = ap (λ (n : ℕ). at_most n sat) next in
+          let keeps = claim_keeps sat p height coinbase outs spent.0 after (spend_all_keeps sat height 1 txs outs spent.0 spent.1) spent.2 in
+          omega (arith, bound, keeps.keeps, holds.once sat, counts_numbers sat first count, times_held sat outs, times_held sat after.outs);
+    }

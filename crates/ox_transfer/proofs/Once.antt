@@ -2,14 +2,14 @@
 use Rattle.std.proofs.Common.{◌≡◌, ◌∙◌, ◌≤◌, ◌<◌, ◌≢◌, ◌^◌, ℕ, zero, suc, ◌+◌, Bool, true, false, cond, List, [], ◌∷◌, ◌++◌, length, refl, sym, ap, subst, arith, Option, Some, None, nat_lt}
 use Rattle.std.specs.Prelude.{◌==◌, if◌then◌else◌}
 use Rattle.std.specs.Option.{option_map_or}
-use Rattle.std.specs.FinMap.{get, insert, remove}
+use Rattle.std.specs.FinMap.{get, insert, remove, entries, empty, len-empty, len-entries}
 use Rattle.std.proofs.lemmas.List.Sums.{sum_by-cons}
 use Rattle.std.proofs.lemmas.Bool.Decides.{nat_tests}
 use Rattle.ox_block.specs.declared.block.OutPoint.{OutPoint}
 use Rattle.ox_model.specs.declared.rows.OutRow.{OutRow}
-use Rattle.ox_model.specs.Outputs.{Outputs, sats_of, sats_held, times, MayStand}
+use Rattle.ox_model.specs.Outputs.{Outputs, outpoint_cmp, sats_of, sats_held, times, MayStand}
 use Rattle.ox_model.specs.Transfer.{as_list}
-use Rattle.ox_model.proofs.MapSums.{total_insert, total_remove}
+use Rattle.ox_model.proofs.MapSums.{total, total_insert, total_remove}
 use Rattle.ox_model.proofs.Orders.{outpoints_total, outpoints_exact}
 use Rattle.ox_model.proofs.Conservation.{times-append, held, times_held}
 use Rattle.ox_transfer.specs.Apart.{at_most, HoldsOnce, Apart}
@@ -112,4 +112,16 @@ times_as_list sat (Some row) = times-append sat row.sats [] ∙ omega arith
 pub apart_place : (bound : ℕ) (outs : Outputs) (rest lost : List ℕ) (at : OutPoint) (row : OutRow) → Apart bound outs ((row.sats ++ rest) ++ lost) → Apart bound (insert outs at row) (rest ++ (lost ++ sats_of (as_list (get outs at))))
 apart_place bound outs rest lost at row apart = record {
   once = λ sat. omega (arith, apart.once sat, times_held sat outs, times_held sat (insert outs at row), total_insert outpoints_total (λ (row : OutRow). times sat row.sats) outs at row, times_as_list sat (get outs at), times-append sat (row.sats ++ rest) lost, times-append sat row.sats rest, times-append sat rest (lost ++ sats_of (as_list (get outs at))), times-append sat lost (sats_of (as_list (get outs at))));
+}
+
+nothing_there : {A : Type 0} (es : List A) → length es ≡ 0 → es ≡ []
+nothing_there [] is = refl
+nothing_there (e ∷ es) is = absurd (cc is)
+
+-- no outputs hold no satoshi
+pub empty_once : (bound : ℕ) → HoldsOnce bound empty
+empty_once bound = record {
+  once = λ sat.
+      let none : held sat empty ≡ 0 = ap (total outpoints_total (λ (row : OutRow). times sat row.sats)) (nothing_there (entries empty) (sym (len-entries {R = outpoint_cmp} empty) ∙ len-empty outpoint_cmp OutRow)) in
+      omega (arith, none, times_held sat empty);
 }

@@ -10,3 +10,6 @@ mod take;
 
 pub use fault::TransferFault;
 pub use moving::transfer;
+
+#[cfg(test)]
+mod tests;

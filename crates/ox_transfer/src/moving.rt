@@ -1,6 +1,6 @@
 //! A block's satoshis.
 
-ghost use Rattle.std.specs.Prelude.{◌≡◌, ◌++◌, Ok, Some, IfOk, IfErr, OnOk, OnErr};
+ghost use Rattle.std.specs.Prelude.{◌≡◌, ◌+◌, ◌++◌, Ok, Some, IfOk, IfErr, OnOk, OnErr};
 ghost use Rattle.ox_sat.specs.Profiles.{IsProfile};
 ghost use Rattle.ox_sat.specs.Heights.{first_at};
 ghost use Rattle.ox_block.specs.Spelling.{Lawful};
@@ -105,7 +105,8 @@ fn transfer_txs<O: OutTable>(
 /// It sets the table's mark first. `Refused` with the first cause in block order: `UnknownOutput` at an input whose
 /// output isn't there, `Overspend` where a transaction's outputs have more satoshis than its inputs, and, after all
 /// other transactions, `Overclaim` where the coinbase's outputs have more than subsidy and fees. `Memory` where there is
-/// none. The table is as before then. After Ok it goes back by its `cancel`.
+/// none. The table is as before then. After Ok it goes back by its `cancel`, and its rows are as the next height's block
+/// needs them.
 ///
 /// It costs one look-up an input and one insertion an output, and otherwise grows by the runs of satoshis that move.
 pub fn transfer<O: OutTable>(
@@ -122,6 +123,8 @@ pub fn transfer<O: OutTable>(
     ensures refused { IfErr result (λ fault. Refuses fault (transfer_of p.now height block.now.txs (O.contents table.old))) }
     ensures err { OnErr result (O.contents table.new ≡ O.contents table.old) }
     ensures mark { OnOk result (O.marked table.new ≡ Some (O.contents table.old)) }
+    // So the next block's transfer may be called.
+    ensures kept { OnOk result (HoldsOnce (first_at p.now (height + 1)) (O.contents table.new)) }
 {
     table.begin()?;
     match transfer_txs(alloc, table, p, block, height) {
