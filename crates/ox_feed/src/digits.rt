@@ -1,4 +1,4 @@
-//! Hex digits, decoded without a branch for each: the text of blocks is most of a feed.
+//! Hex digits, decoded by a table, without a branch for each: the text of blocks is most of a feed.
 
 ghost use Rattle.std.specs.Prelude.{◌≡◌, ◌*◌, ℕ, length, Ok, IfOk, IsErr, MatchOption, true, false};
 ghost use Rattle.hex.specs.Hex.{decode_of, decode_pairs, pair_value};
@@ -6,19 +6,30 @@ ghost use Rattle.ox_feed.specs.Digits.{digit_or_none};
 
 use std::alloc::{AllocError, Global};
 
-const NO_DIGIT: u8 = 255;
+// The value of each byte as a digit, of either case; 255 where it is none.
+static VALUES: [u8; 256] = [
+    255, 255, 255, 255, 255, 255, 255, 255, 255, 255, 255, 255, 255, 255, 255, 255, 255, 255, 255,
+    255, 255, 255, 255, 255, 255, 255, 255, 255, 255, 255, 255, 255, 255, 255, 255, 255, 255, 255,
+    255, 255, 255, 255, 255, 255, 255, 255, 255, 255, 0, 1, 2, 3, 4, 5, 6, 7, 8, 9, 255, 255, 255,
+    255, 255, 255, 255, 10, 11, 12, 13, 14, 15, 255, 255, 255, 255, 255, 255, 255, 255, 255, 255,
+    255, 255, 255, 255, 255, 255, 255, 255, 255, 255, 255, 255, 255, 255, 255, 255, 10, 11, 12, 13,
+    14, 15, 255, 255, 255, 255, 255, 255, 255, 255, 255, 255, 255, 255, 255, 255, 255, 255, 255,
+    255, 255, 255, 255, 255, 255, 255, 255, 255, 255, 255, 255, 255, 255, 255, 255, 255, 255, 255,
+    255, 255, 255, 255, 255, 255, 255, 255, 255, 255, 255, 255, 255, 255, 255, 255, 255, 255, 255,
+    255, 255, 255, 255, 255, 255, 255, 255, 255, 255, 255, 255, 255, 255, 255, 255, 255, 255, 255,
+    255, 255, 255, 255, 255, 255, 255, 255, 255, 255, 255, 255, 255, 255, 255, 255, 255, 255, 255,
+    255, 255, 255, 255, 255, 255, 255, 255, 255, 255, 255, 255, 255, 255, 255, 255, 255, 255, 255,
+    255, 255, 255, 255, 255, 255, 255, 255, 255, 255, 255, 255, 255, 255, 255, 255, 255, 255, 255,
+    255, 255, 255, 255, 255, 255, 255, 255, 255, 255, 255, 255, 255, 255, 255, 255, 255, 255, 255,
+    255, 255, 255,
+];
 
-// The value of a digit in either case, below 16; or `NO_DIGIT`.
+// The value of a digit, below 16; or 255.
 #[inline(always)]
 fn digit(c: u8) -> u8
     ensures { result ≡ digit_or_none c }
 {
-    match c {
-        b'0'..=b'9' => c - b'0',
-        b'A'..=b'F' => c - b'A' + 10,
-        b'a'..=b'f' => c - b'a' + 10,
-        _ => NO_DIGIT,
-    }
+    VALUES[c as usize]
 }
 
 // The byte of two digits, and whether both are digits.
