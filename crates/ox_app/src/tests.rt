@@ -111,7 +111,11 @@ fn each_profile_begins_with_any_first_block(rt: HostRuntime) -> Result<(), Fail>
     let alloc = rt.alloc();
     let block = hex::decode(alloc, GENESIS)?;
     let first = line_of(alloc, block.as_slice())?;
-    for profile in [b"mainnet".as_slice(), b"regtest".as_slice(), b"lab".as_slice()] {
+    for profile in [
+        b"mainnet".as_slice(),
+        b"regtest".as_slice(),
+        b"lab".as_slice(),
+    ] {
         let words = words_of(alloc, &[b"fold", profile])?;
         let mut site = site_of(alloc, first.as_slice(), None)?;
         assert_eq!(rt; run(alloc, words.as_slice(), &mut site), 0);

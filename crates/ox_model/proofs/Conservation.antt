@@ -41,9 +41,9 @@ none_dealt sat list = record { keeps = omega arith; each = refl }
 more_dealt : (sat n : ℕ) (list lengths : List ℕ) (rest : List (List ℕ) × List ℕ) → Dealt sat (drop n list) lengths rest → Dealt sat list (n ∷ lengths) (take n list ∷ rest.0, rest.1)
 more_dealt sat n list lengths rest d = record {
   keeps =
-    let whole : times sat (take n list ++ drop n list) ≡ times sat list = ap (times sat) (take-append-drop n list) in
-    omega (arith, whole, times-append sat (take n list) (drop n list), times-append sat (take n list) (joined rest.0), d.keeps);
-  each = ap (λ (k : ℕ). suc k) d.each
+      let whole : times sat (take n list ++ drop n list) ≡ times sat list = ap (times sat) (take-append-drop n list) in
+      omega (arith, whole, times-append sat (take n list) (drop n list), times-append sat (take n list) (joined rest.0), d.keeps);
+  each = ap (λ (k : ℕ). suc k) d.each;
 }
 
 onward : (sat n : ℕ) (list lengths : List ℕ) (dealt : List (List ℕ) × List ℕ) (d : Option (List (List ℕ) × List ℕ)) → ((rest : List (List ℕ) × List ℕ) → d ≡ Some rest → Dealt sat (drop n list) lengths rest) → option_map (λ rest. (take n list ∷ rest.0, rest.1)) d ≡ Some dealt → Dealt sat list (n ∷ lengths) dealt
@@ -96,7 +96,7 @@ no_input sat outs = record { keeps = omega arith }
 
 more_input : (sat : ℕ) (outs : Outputs) (at : OutPoint) (row : OutRow) (rest : Taken) → get outs at ≡ Some row → Takes sat (remove outs at) rest → Takes sat outs (record { rows = row ∷ rest.rows; outs = rest.outs })
 more_input sat outs at row rest there takes = record {
-  keeps = omega (arith, takes.keeps, total_remove outpoints_total outpoints_exact (λ (row : OutRow). times sat row.sats) outs at row there, times-append sat row.sats (sats_of rest.rows))
+  keeps = omega (arith, takes.keeps, total_remove outpoints_total outpoints_exact (λ (row : OutRow). times sat row.sats) outs at row there, times-append sat row.sats (sats_of rest.rows));
 }
 
 pub take_keeps : (sat tx place : ℕ) (inputs : List TxIn) (outs : Outputs) (taken : Taken) → take_rows tx place inputs outs ≡ Ok taken → Takes sat outs taken
@@ -119,7 +119,7 @@ sats_of-append sat (x ∷ xs) ys = omega (arith, sats_of-append sat xs ys, times
 
 more_output : (sat : ℕ) (outs : Outputs) (at : OutPoint) (row : OutRow) (parts : List (List ℕ)) (rest : Placed) → Places sat (insert outs at row) parts rest → Places sat outs (row.sats ∷ parts) (record { displaced = as_list (get outs at) ++ rest.displaced; outs = rest.outs })
 more_output sat outs at row parts rest places = record {
-  keeps = omega (arith, places.keeps, total_insert outpoints_total (λ (row : OutRow). times sat row.sats) outs at row, times-append sat row.sats (joined parts), sats_of-append sat (as_list (get outs at)) rest.displaced, times_option sat (get outs at))
+  keeps = omega (arith, places.keeps, total_insert outpoints_total (λ (row : OutRow). times sat row.sats) outs at row, times-append sat row.sats (joined parts), sats_of-append sat (as_list (get outs at)) rest.displaced, times_option sat (get outs at));
 }
 
 pub place_keeps : (sat height : ℕ) (txid : Txid) (index : ℕ) (outputs : List TxOut) (parts : List (List ℕ)) (outs : Outputs) → length parts ≡ length outputs → Places sat outs parts (place_rows height txid index outputs parts outs)

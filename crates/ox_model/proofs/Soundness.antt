@@ -75,7 +75,7 @@ claim_keeps sat p height coinbase outs spent after spends is =
     let places = place_keeps sat height (named coinbase) 0 coinbase.outputs dealt.0.0 spent.outs (deals.each ∙ length-values coinbase.outputs) in
     let displaced = (place_rows height (named coinbase) 0 coinbase.outputs dealt.0.0 spent.outs).displaced in
     let whole : Moves sat minted outs (claimed_by height coinbase spent dealt.0) = record {
-      keeps = omega (arith, spends.keeps, deals.keeps, places.keeps, times-append sat minted spent.fees, times-append sat spent.lost (sats_of displaced ++ dealt.0.1), times-append sat (sats_of displaced) dealt.0.1)
+      keeps = omega (arith, spends.keeps, deals.keeps, places.keeps, times-append sat minted spent.fees, times-append sat spent.lost (sats_of displaced ++ dealt.0.1), times-append sat (sats_of displaced) dealt.0.1);
     } in
     subst (Moves sat minted outs) (ok_same {F = Refusal} _ _ dealt.2) whole
 
@@ -142,7 +142,6 @@ pub first_next : (p : Profile) (height : ℕ) → first_at p (height + 1) ≡ fi
 unfolding first_at
 first_next p height = rw add-one refl
 
-
 -- what a block with a transaction does
 pub record Transfers (p : Profile) (height : ℕ) (outs : Outputs) (after : Transferred) : Type 0 where
   pub keeps : (sat : ℕ) → Moves sat (numbers_from (first_at p height) (subsidy_at p height)) outs after
@@ -153,7 +152,7 @@ transfer_keeps p height [] outs after begun is = absurd (cc begun)
 transfer_keeps p height (coinbase ∷ txs) outs after begun is =
     let spent = bind_ok (spend_all height 1 txs outs) _ after is in record {
       keeps = λ sat. claim_keeps sat p height coinbase outs spent.0 after (spend_all_keeps sat height 1 txs outs spent.0 spent.1) spent.2;
-      below = λ below. below_claimed p height coinbase spent.0 after spent.2 (below_all_spent height 1 txs outs spent.0 spent.1 below)
+      below = λ below. below_claimed p height coinbase spent.0 after spent.2 (below_all_spent height 1 txs outs spent.0 spent.1 below);
     }
 
 one_more : (sat first count rest all : ℕ) → all ≡ times sat (first ∷ []) + rest → rest + (if nat_lt sat (first + 1) then 1 else 0) ≡ (if nat_lt sat (first + 1 + count) then 1 else 0) → all + (if nat_lt sat first then 1 else 0) ≡ (if nat_lt sat (first + suc count) then 1 else 0)
@@ -177,7 +176,7 @@ connected p index hash after low sound does =
           let minted : first_at p (height + 1) ≡ first_at p height + subsidy_at p height = first_next p height in
           let ends = ap {B = ℕ} (λ (h : ℕ). if nat_lt sat (first_at p h) then 1 else 0) higher in
           let grown = ap {B = ℕ} (λ (n : ℕ). if nat_lt sat n then 1 else 0) minted in
-          omega (arith, before, now, ends, grown, sound.once sat, counts_numbers sat (first_at p height) (subsidy_at p height), (does.keeps sat).keeps, times_held sat index.outs, times_held sat after.outs, times-append sat index.lost after.moved.lost)
+          omega (arith, before, now, ends, grown, sound.once sat, counts_numbers sat (first_at p height) (subsidy_at p height), (does.keeps sat).keeps, times_held sat index.outs, times_held sat after.outs, times-append sat index.lost after.moved.lost);
     }
 
 passed : (fails : Bool) (refusal : Refusal) (x : Unit {0}) → refuse_if fails refusal ≡ Ok x → fails ≡ false
@@ -199,7 +198,7 @@ admitted_right p index block x is =
     let linked = bind_ok (refuse_if (differ block.header.previous (newest_of index.hashes)) _) _ x ended.2 in
     let rooted = bind_ok (refuse_if (differ block.header.root (block_root block)) _) _ x linked.2 in record {
       low = ltb-false _ _ (passed _ _ _ ended.1);
-      begun = begun_right _ _ rooted.2
+      begun = begun_right _ _ rooted.2;
     }
 
 -- an index that has taken in a block is sound again
@@ -227,7 +226,7 @@ unfolding first_at
 sound_first p = record {
   heights = omega arith;
   outputs = λ at row is. absurd (cc (sym (get-empty outpoint_cmp at) ∙ is));
-  once = λ sat. let none : times sat (sats_held empty) ≡ 0 = times_held sat empty ∙ none_held sat in grind (arith, nat_tests, times-append sat (sats_held empty) [], none)
+  once = λ sat. let none : times sat (sats_held empty) ≡ 0 = times_held sat empty ∙ none_held sat in grind (arith, nat_tests, times-append sat (sats_held empty) [], none);
 }
 
 -- the index of a chain

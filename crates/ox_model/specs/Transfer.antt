@@ -79,7 +79,7 @@ spent_by height tx taken dealt =
       moved = record { txid = named tx; spent = taken.rows; joined = sats_of taken.rows; displaced = placed.displaced } ∷ [];
       lost = sats_of placed.displaced;
       fees = dealt.1;
-      outs = placed.outs
+      outs = placed.outs;
     }
 
 -- a transaction at a place of the block other than the coinbase's
@@ -108,9 +108,9 @@ claimed_by height coinbase spent dealt =
     let placed = place_rows height (named coinbase) 0 coinbase.outputs dealt.0 spent.outs in record {
       moved = record {
         txs = record { txid = named coinbase; spent = []; joined = []; displaced = placed.displaced } ∷ spent.moved;
-        lost = spent.lost ++ (sats_of placed.displaced ++ dealt.1)
+        lost = spent.lost ++ (sats_of placed.displaced ++ dealt.1);
       };
-      outs = placed.outs
+      outs = placed.outs;
     }
 
 -- what a block's coinbase may claim: the subsidy's satoshis, and then the fees

@@ -75,7 +75,6 @@ pub put_slot-put_slot : (outs : Outputs) (at : OutPoint) (row : Option OutRow) �
 put_slot-put_slot outs at row = same_map outpoints_total outpoints_exact (put_slot (put_slot outs at row) at (get outs at)) outs (λ q.
     get-put_slot (put_slot outs at row) at (get outs at) q ∙ ap (cond (eq_by_cmp outpoint_cmp q at) (get outs at)) (get-put_slot outs at row q) ∙ put_back outs at row q (eq_by_cmp outpoint_cmp q at) refl)
 
-
 pub undone-append : (rows : List (Option OutRow)) (ats : List OutPoint) (row : Option OutRow) (at : OutPoint) (outs : Outputs) → length rows ≡ length ats → undone (rows ++ row ∷ []) (ats ++ at ∷ []) outs ≡ undone rows ats (put_slot outs at row)
 undone-append [] [] row at outs same = refl
 undone-append (r ∷ rows) [] row at outs same = absurd (cc same)

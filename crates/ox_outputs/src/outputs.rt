@@ -5,7 +5,9 @@ ghost use Rattle.std.specs.Option.{option_copied};
 ghost use Rattle.std.specs.FinMap as map;
 ghost use Rattle.ox_outputs.specs.Slots.{rows_of, undone, are_slots};
 
-use crate::slots::{Slots, exchange, fill, find, forget, go_back, kept_row, row_at, take_slot, tidy};
+use crate::slots::{
+    Slots, exchange, fill, find, forget, go_back, kept_row, row_at, take_slot, tidy,
+};
 use ox_block::OutPoint;
 use ox_model::{Memory, OutRow, OutTable, Place, Unplaced};
 use std::alloc::Global;

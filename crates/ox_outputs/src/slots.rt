@@ -85,7 +85,11 @@ pub(crate) fn fill(slots: &mut Slots, at: OutPoint, row: OutRow) -> Result<Optio
 }
 
 /// A copy of the row at this outpoint, if there is one.
-pub(crate) fn kept_row(slots: &Slots, at: &OutPoint, alloc: Global) -> Result<Option<OutRow>, Memory>
+pub(crate) fn kept_row(
+    slots: &Slots,
+    at: &OutPoint,
+    alloc: Global,
+) -> Result<Option<OutRow>, Memory>
     ensures { IfOk result (λ kept. kept ≡ map.get (rows_of slots.now.entries) at.now) }
 {
     match row_at(slots, at) {

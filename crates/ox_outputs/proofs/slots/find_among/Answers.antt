@@ -7,7 +7,7 @@ pub loop-at-preserved : goal.loop-at-preserved
 loop-at-preserved c = record {
   can = tt;
   finite = tt;
-  rest = sym (ap (λ (l : SlotList). found_among l c.args.sat) c.in-Some.ensures.steps ∙ found_behind (c.in-Some.at.now, c.in-Some.slot.now) c.next.new.self c.args.sat (sym c.place_in_slot.ensures ∙ c.in_default.is)) ∙ c.loop-at.invariant.rest
+  rest = sym (ap (λ (l : SlotList). found_among l c.args.sat) c.in-Some.ensures.steps ∙ found_behind (c.in-Some.at.now, c.in-Some.slot.now) c.next.new.self c.args.sat (sym c.place_in_slot.ensures ∙ c.in_default.is)) ∙ c.loop-at.invariant.rest;
 }
 
 pub returns-in-Some-place_in_slot-clause-found : goal.returns-in-Some-place_in_slot-clause-found

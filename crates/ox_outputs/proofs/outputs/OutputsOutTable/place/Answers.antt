@@ -11,7 +11,7 @@ invariant_of-self-2 c =
     let before : c.push_reserved-2.new.self.items ≡ c.args.self.now.before.items ++ c.in-Ok.kept ∷ [] = c.push_reserved-2.ensures.items ∙ ap (λ (l : List (Option OutRow)). l ++ c.in-Ok.kept ∷ []) c.reserve-else-is_err.ensures.items in record {
       known = known_more c.args.self.now.changed.items c.push_reserved.new.self.items c.args.at.now c.args.self.now.slots.entries c.fill-2.new.slots.entries changed c.args.self.now.known c.in_ok-displaced.ensures.slot c.fill-2.ensures.others;
       paired = both_grown c.args.self.now.before.items _ c.args.self.now.changed.items _ _ _ before changed c.args.self.now.paired;
-      unmarked = λ is. absurd (cc (is, c.if-not-self.false))
+      unmarked = λ is. absurd (cc (is, c.if-not-self.false));
     }
 
 pub returns-clause-mark : goal.returns-clause-mark

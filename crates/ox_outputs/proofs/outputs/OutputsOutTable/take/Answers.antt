@@ -19,7 +19,7 @@ invariant_of-self-2 c =
     let there : IsSome (slot_at c.args.self.now.slots.entries c.args.at.now) = row_known c.args.self.now.slots.entries c.args.at.now c.in-Some.kept (sym c.in-Some.is ∙ c.in_ok-kept.ensures) in record {
       known = known_more c.args.self.now.changed.items c.push_reserved.new.self.items c.args.at.now c.args.self.now.slots.entries c.exchange.new.slots.entries changed c.args.self.now.known (c.exchange.ensures.others c.args.at.now there) c.exchange.ensures.others;
       paired = both_grown c.args.self.now.before.items _ c.args.self.now.changed.items _ _ _ before changed c.args.self.now.paired;
-      unmarked = λ is. absurd (cc (is, c.if-not-self.false))
+      unmarked = λ is. absurd (cc (is, c.if-not-self.false));
     }
 
 pub returns-clause-mark : goal.returns-clause-mark

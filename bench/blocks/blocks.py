@@ -1,0 +1,128 @@
+#!/usr/bin/env python3
+"""Times `fold regtest` over blocks of 500 transactions, beside a plain Rust program of the same work.
+
+    (cd crates/ox_main && rt run -- out fold regtest < ../../feeds/genesis.feed)
+    (cd bench/blocks/plain && cargo build --release)
+    python3 bench/blocks/blocks.py [BLOCKS..]
+
+makes a chain of as many blocks as the greatest number says (400 and 4,000 without a word) in a temporary folder: each
+block but the first two spends 500 outputs, chosen at random, into two each. It runs both programs over the first so
+many blocks of it and prints blocks and megabytes of blocks a second of processor time, and the memory that an output
+takes at the end; and how long the last tenth of the greatest number took, beside the first. Nothing here is proved.
+"""
+
+import hashlib
+import os
+import pathlib
+import random
+import struct
+import subprocess
+import sys
+import tempfile
+
+TOP = pathlib.Path(__file__).resolve().parent.parent.parent
+PROGRAMS = {
+    "ox": TOP / "crates" / "ox_main" / "out" / "ox_main",
+    "plain": TOP / "bench" / "blocks" / "plain" / "target" / "release" / "plain",
+}
+SPENDS = 500
+SUBSIDY = 5_000_000_000
+
+
+def twice(message):
+    return hashlib.sha256(hashlib.sha256(message).digest()).digest()
+
+
+def size(n):
+    return bytes([n]) if n < 253 else b"\xfd" + struct.pack("<H", n)
+
+
+def root(row):
+    while len(row) > 1:
+        if len(row) % 2:
+            row.append(row[-1])
+        row = [twice(row[i] + row[i + 1]) for i in range(0, len(row), 2)]
+    return row[0]
+
+
+def tx(chance, txid, index, script, values):
+    out = b"\1\0\0\0\1" + txid + struct.pack("<I", index) + size(len(script)) + script + b"\xff" * 4 + size(len(values))
+    for value in values:
+        out += struct.pack("<Q", value) + b"\x16\0\x14" + chance.randbytes(20)
+    return out + bytes(4)
+
+
+def write_chain(path, count):
+    """The chain's feed. Answers the end of each line in it."""
+    chance = random.Random(11)
+    unspent, previous, ends = [], bytes(32), []
+    with open(path, "wb") as feed:
+        for height in range(count):
+            parts = [SUBSIDY // SPENDS] * SPENDS if height < 2 else [SUBSIDY]
+            txs = [tx(chance, bytes(32), 0xFFFFFFFF, struct.pack("<I", height), parts)]
+            new = [(0, i, value) for i, value in enumerate(parts)]
+            if height >= 2:
+                for place in range(SPENDS):
+                    at = chance.randrange(len(unspent))
+                    txid, index, value = unspent[at]
+                    unspent[at] = unspent[-1]
+                    unspent.pop()
+                    first = chance.randint(0, value)
+                    txs.append(tx(chance, txid, index, b"", [first, value - first]))
+                    new += [(place + 1, 0, first), (place + 1, 1, value - first)]
+            ids = [twice(t) for t in txs]
+            unspent += [(ids[place], index, value) for place, index, value in new]
+            header = b"\1\0\0\0" + previous + root(list(ids)) + struct.pack("<III", height, 0, 0)
+            previous = twice(header)
+            feed.write(b"connect " + (header + size(len(txs)) + b"".join(txs)).hex().encode() + b"\n")
+            ends.append(feed.tell())
+    return ends, len(unspent)
+
+
+def run(program, folder, feed):
+    """Processor seconds, the most memory in bytes, and what was shown."""
+    command = [program, folder, "fold", "regtest"] if program == PROGRAMS["ox"] else [program]
+    shown = pathlib.Path(folder) / "shown"
+    with open(feed, "rb") as given, open(shown, "wb") as taken:
+        child = subprocess.Popen(command, stdin=given, stdout=taken, stderr=subprocess.DEVNULL)
+        _, status, usage = os.wait4(child.pid, 0)
+        child.returncode = os.waitstatus_to_exitcode(status)
+    if child.returncode:
+        sys.exit(f"{program} ended with {child.returncode}")
+    return usage.ru_utime + usage.ru_stime, usage.ru_maxrss * 1024, shown.read_bytes()
+
+
+def main():
+    counts = sorted(int(word) for word in sys.argv[1:]) or [400, 4000]
+    most = counts[-1]
+    tenth = most // 10
+    with tempfile.TemporaryDirectory() as folder:
+        whole = pathlib.Path(folder) / "whole"
+        ends, _ = write_chain(whole, most)
+        times = {}
+        for count in sorted({*counts, tenth, most - tenth}):
+            feed = pathlib.Path(folder) / "feed"
+            with open(whole, "rb") as given, open(feed, "wb") as part:
+                part.write(given.read(ends[count - 1]))
+            # each block takes 500 outputs away, and adds 1,001
+            outputs = 1000 + max(count - 2, 0) * (SPENDS + 1)
+            answers = []
+            for name, program in PROGRAMS.items():
+                seconds, memory, shown = run(program, folder, feed)
+                times[name, count] = seconds
+                answers.append(shown)
+                megabytes = ends[count - 1] / 2e6
+                print(
+                    f"{count:6} blocks, {outputs:9,} outputs, {name:5}: {count / seconds:8.0f} blocks a second,"
+                    f" {megabytes / seconds:6.1f} MB a second, at most {memory / outputs:6.0f} bytes an output"
+                )
+            if answers[0] != answers[1] or answers[0].count(b"\n") != count:
+                sys.exit("the answers differ")
+            print(f"       ox to plain: {times['plain', count] / times['ox', count]:.2f}")
+        for name in PROGRAMS:
+            first, last = times[name, tenth], times[name, most] - times[name, most - tenth]
+            print(f"{name}: the last {tenth} blocks took {last / first:.2f} times as long as the first {tenth}")
+
+
+if __name__ == "__main__":
+    main()
