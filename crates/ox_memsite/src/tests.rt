@@ -1,5 +1,5 @@
 // What no clause says: that the calls succeed where there is ample memory.
-use crate::{Choice, MemSite};
+use crate::MemSite;
 use ox_outside::{Failed, Heard, Shown, Which};
 use std::test::Fail;
 
@@ -37,35 +37,5 @@ fn the_listed_calls_fail(rt: HostRuntime) -> Result<(), Fail> {
     assert_eq!(rt; site.sync(Which::A), Err(Failed));
     assert_eq!(rt; site.len(Which::A), Ok(2));
     assert_eq!(rt; site.starved(), 0);
-    Ok(())
-}
-
-// `abcd` is on the disk; then `xyz` is written at 3 and isn't synced.
-#[test]
-fn a_crash_leaves_what_the_disk_allows(rt: HostRuntime) -> Result<(), Fail> {
-    let mut site = MemSite::new(rt.alloc())?;
-    assert_eq!(rt; site.write(Which::B, 0, b"abcd"), Ok(()));
-    assert_eq!(rt; site.sync(Which::B), Ok(()));
-    assert_eq!(rt; site.write(Which::B, 3, b"xyz"), Ok(()));
-    assert_eq!(rt; site.file(Which::B), b"abcxyz".as_slice());
-    assert_eq!(rt; site.now(), 3);
-    let cases: [(u64, u64, &[u8]); 6] = [
-        (0, 9, b""),
-        (1, 9, b"...."),
-        (1, 2, b".."),
-        (2, 0, b"abcd"),
-        (3, 0, b"abc."),
-        (3, 9, b"abc..."),
-    ];
-    for (moment, keep, left) in cases {
-        let choice = Choice {
-            moment,
-            fill: b'.',
-            keep,
-        };
-        let after = site.crash(&choice)?;
-        assert_eq!(rt; after.file(Which::B), left);
-        assert_eq!(rt; after.file(Which::A), b"".as_slice());
-    }
     Ok(())
 }
