@@ -1,5 +1,5 @@
 /* What a plain program does at least with a feed: finds its lines, decodes the hex of each connect, and hashes the
- * first 80 bytes twice by SHA-256. It checks nothing else. It shows how many lines it met and the last hash. */
+ * first 80 bytes and what stands behind them, each twice by SHA-256. It checks nothing else. It shows how many lines it met and the last hash. */
 #include <stdint.h>
 #include <stdio.h>
 #include <stdlib.h>
@@ -89,6 +89,8 @@ int main(void)
                     block[i] = (uint8_t)(high << 4 | low);
                 }
                 if (!(bad & 0x80) && size >= 80) {
+                    sha256(block + 80, size - 80, digest);
+                    sha256(digest, 32, digest);
                     sha256(block, 80, digest);
                     sha256(digest, 32, digest);
                 }

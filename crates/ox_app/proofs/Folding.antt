@@ -18,6 +18,7 @@ use Rattle.ox_app.specs.declared.fold.Stop.TheVariants.{HearFault, ShowFault, Me
 use Rattle.ox_app.specs.Fold.{Answered, AnswersLine, Folding, status_of}
 use Rattle.ox_app.specs.Replies.{Chain, begun, after, replied, replies, reply, turn}
 use Rattle.ox_app.specs.Run.{Folds, IsFoldStatus, HearsNothing, IsFrontOf, OnlyOwn, ShowsFront, ShowsWhole, answers_to}
+use Rattle.ox_app.proofs.Fresh.{replied_fresh}
 use Rattle.ox_app.proofs.Showing.{Own}
 
 module _ (p : Profile) where
@@ -169,7 +170,8 @@ module _ (p : Profile) where
   front_of_answers owed lines chain x folding = (
     owed ++ replied chain (lines_from lines [] (has_ended 0 x)),
     folding.answers [] (has_ended 0 x) (λ over. (refl, sym folding.ended ∙ over))
-        ∙ ap (λ (l : List ℕ). replied (begun p) (lines_of l (has_ended 0 x))) (append-nil (heard_bytes 0 x)),
+        ∙ ap (λ (l : List ℕ). replied (begun p) (lines_of l (has_ended 0 x))) (append-nil (heard_bytes 0 x))
+        ∙ replied_fresh p (lines_of (heard_bytes 0 x) (has_ended 0 x)),
   )
 
   show_broke : (answer : List ℕ) (lines : Feed) (chain : Chain) (x z : List Event) → lines.heard ≤ feed_limit
@@ -214,6 +216,7 @@ module _ (p : Profile) where
       ap (λ (l : List ℕ). l ++ replied chain (lines_from lines (heard_bytes 0 y) ended)) (shown_as_before x y hears.only)
       ∙ folding.answers (heard_bytes 0 y) ended may
       ∙ ap (λ (l : List ℕ). replied (begun p) (lines_of l ended)) (sym (heard_bytes-append 0 x y))
+      ∙ replied_fresh p (lines_of (heard_bytes 0 (x ++ y)) ended)
 
   line_stopped : (lines lines' : Feed) (chain chain' : Chain) (stop : Stop) (x y : List Event) → lines'.heard ≤ feed_limit → (stop ≡ TooMuch → IsTooMuch lines')
       → Folding p [] lines chain x → Answered lines chain (Err stop) lines' chain' y → Folds p (status_of (Err stop)) (x ++ y)

@@ -1,3 +1,4 @@
+pub mod Fresh
 pub mod Folding
 pub mod Showing
 pub mod Words

@@ -1,3 +1,4 @@
 pub mod Replies
+pub mod Fresh
 pub mod Run
 pub mod Fold

@@ -6,7 +6,7 @@ use Rattle.ox_feed.specs.Feed.{lines_of, feed_limit}
 use Rattle.ox_sat.specs.declared.profiles.Profile.{Profile}
 use Rattle.ox_sat.specs.declared.profiles.ProfileName.{ProfileName}
 use Rattle.ox_sat.specs.declared.profiles.ProfileName.TheVariants.{Mainnet, Regtest, Lab}
-use Rattle.ox_app.specs.Replies.{begun, replied}
+use Rattle.ox_app.specs.Fresh.{answers}
 
 -- the word of a profile
 abbrev pub profile_word : ProfileName → List ℕ
@@ -36,7 +36,7 @@ OnlyOwn events = All (λ event. channel_of event ≡ 0) events
 
 -- the answers to the lines heard, where the feed has ended or is still to go on
 abbrev pub answers_to : Profile → List Event → List ℕ
-answers_to p events = replied (begun p) (lines_of (heard_bytes 0 events) (has_ended 0 events))
+answers_to p events = answers p (lines_of (heard_bytes 0 events) (has_ended 0 events))
 
 -- a run over a feed: what was shown begins the answers to the lines heard, and the status says how it ended
 pub record Folds (p : Profile) (status : ℕ) (events : List Event) : Type 0 where
