@@ -14,6 +14,7 @@ fn a_connect_has_one_space_and_pairs_of_digits(rt: HostRuntime) -> Result<(), Fa
     for (line, bytes) in connects {
         match command_of(alloc, line) {
             Ok(Command::Connect(block)) => assert_eq!(rt; block.as_slice(), bytes),
+            Ok(Command::Disconnect) => assert!(rt; false, "a disconnect at {line:?}"),
             Err(fault) => assert!(rt; false, "{fault:?} at {line:?}"),
         }
     }
@@ -28,13 +29,23 @@ fn a_connect_has_one_space_and_pairs_of_digits(rt: HostRuntime) -> Result<(), Fa
         b" connect 00",
         b"connect\t00",
         b"connect 00\r",
-        b"disconnect",
+        b"disconnect ",
     ];
     for line in others {
         match command_of(alloc, line) {
             Err(SyntaxFault::Syntax) => {}
             _ => assert!(rt; false, "a command at {line:?}"),
         }
+    }
+    Ok(())
+}
+
+#[test]
+fn a_disconnect_stands_alone(rt: HostRuntime) -> Result<(), Fail> {
+    let alloc = rt.alloc();
+    match command_of(alloc, b"disconnect") {
+        Ok(Command::Disconnect) => {}
+        _ => assert!(rt; false, "no disconnect"),
     }
     Ok(())
 }
