@@ -11,6 +11,7 @@ many blocks of it and prints blocks and megabytes of blocks a second of processo
 takes at the end; and how long the last tenth of the greatest number took, beside the first. Nothing here is proved.
 """
 
+import concurrent.futures
 import hashlib
 import os
 import pathlib
@@ -76,7 +77,7 @@ def write_chain(path, count):
             previous = twice(header)
             feed.write(b"connect " + (header + size(len(txs)) + b"".join(txs)).hex().encode() + b"\n")
             ends.append(feed.tell())
-    return ends, len(unspent)
+    return ends
 
 
 def run(program, folder, feed):
@@ -98,7 +99,9 @@ def main():
     tenth = most // 10
     with tempfile.TemporaryDirectory() as folder:
         whole = pathlib.Path(folder) / "whole"
-        ends, _ = write_chain(whole, most)
+        # in a process of its own, since a child's greatest memory is never below that of its parent
+        with concurrent.futures.ProcessPoolExecutor(1) as other:
+            ends = other.submit(write_chain, whole, most).result()
         times = {}
         for count in sorted({*counts, tenth, most - tenth}):
             feed = pathlib.Path(folder) / "feed"
