@@ -106,7 +106,9 @@ def main():
         for count in sorted({*counts, tenth, most - tenth}):
             feed = pathlib.Path(folder) / "feed"
             with open(whole, "rb") as given, open(feed, "wb") as part:
-                part.write(given.read(ends[count - 1]))
+                left = ends[count - 1]
+                while left:
+                    left -= part.write(given.read(min(left, 1 << 20)))
             # each block takes 500 outputs away, and adds 1,001
             outputs = 1000 + max(count - 2, 0) * (SPENDS + 1)
             answers = []
