@@ -1,9 +1,10 @@
 -- What remains of a site when it stops, and what each call lets remain.
-use Rattle.std.specs.Prelude.{◌≡◌, ◌⊎◌, ℕ, ◌≤◌, Bool, Option, List}
+use Rattle.std.specs.Prelude.{◌≡◌, ◌⊎◌, ℕ, ◌≤◌, Bool, Option, Some, List}
 use Rattle.ox_outside.specs.declared.site.Which.{Which}
 use Rattle.ox_outside.specs.Counts.{Counts, NoneFell}
 use Rattle.ox_outside.specs.Event.{Event}
 use Rattle.ox_outside.specs.Files.{Files, file_of, TornFile}
+use Rattle.ox_outside.specs.Log.{Grows}
 
 -- the two files that a crash leaves, and the log as it stood then
 pub record Remains : Type 0 where
@@ -63,3 +64,15 @@ pub record OnlyLooks {S : Type 0} (told : S → Bool) (seen : S → Files) (log 
   pub calls : Calls told counts clock left_since old new
   pub nothing : AddsNothing seen log may_leave old new
   pub moments : LeavesOnly clock left_since old new (may_leave old)
+
+-- what remains has files that a crash might have left before, and its log has grown by events with P
+pub record Talked {S : Type 0} (log : S → Option (List Event)) (may_leave : S → Remains → Type 0) (P : List Event → Type 0) (old : S) (r : Remains) : Type 0 where
+  pub files : (q : Remains) × may_leave old q × (r.files ≡ q.files)
+  pub grown : Grows P (log old) (Some r.log)
+
+-- A run of calls on channels: the files read as before, and at each moment of it a crash leaves files that it left
+-- before, with a log that has grown by events with P.
+pub record OnlyTalks {S : Type 0} (told : S → Bool) (seen : S → Files) (log : S → Option (List Event)) (counts : S → Counts) (clock : S → ℕ) (may_leave : S → Remains → Type 0) (left_since : S → ℕ → Remains → Type 0) (P : List Event → Type 0) (old new : S) : Type 0 where
+  pub calls : Calls told counts clock left_since old new
+  pub files : LeavesFiles seen may_leave old new
+  pub moments : LeavesOnly clock left_since old new (Talked log may_leave P old)
