@@ -1,4 +1,5 @@
 pub mod Decoding
+pub mod Hearing
 pub mod Parts
 pub mod Table
 pub mod Waiting

@@ -1,15 +1,15 @@
 -- How the hearings of one call go on: what several of them say together.
 use Rattle.std.proofs.Common.{◌≡◌, ◌∙◌, ℕ, ◌||◌, Bool, true, false, List, [], ◌++◌, length, refl, sym, ap, arith, length-append, append_assoc}
-use Rattle.std.specs.Prelude.{IsTrue, Option, Result, Err}
-use Rattle.std.proofs.lemmas.List.Elements.{All-append}
+use Rattle.std.specs.Prelude.{Option, Result, Err}
 use Rattle.ox_outside.specs.Event.{Event, heard_bytes, has_ended}
 use Rattle.ox_outside.specs.Log.{Grows}
 use Rattle.ox_outside.proofs.Event.{heard_bytes-append, has_ended-append}
 use Rattle.ox_outside.proofs.Log.{grows_then, grows_weaker}
-use Rattle.ox_feed.specs.Feed.{Feed, Hears, Answers, is_hearing, lines_from}
+use Rattle.ox_feed.specs.Feed.{Feed, Hears, Answers, lines_from}
 use Rattle.ox_feed.specs.Held.{Waits}
 use Rattle.ox_feed.specs.declared.lines.Line.{Line}
 use Rattle.ox_feed.specs.declared.lines.FeedFault.{FeedFault}
+use Rattle.ox_feed.proofs.Hearing.{only_hears_then}
 
 or_assoc : (a b c : Bool) → ((a || b) || c) ≡ (a || (b || c))
 or_assoc true b c = refl
@@ -20,18 +20,16 @@ both_empty x y e f = rw (e, f) refl
 
 -- two parts of a call's events, where lines may be cut off between
 pub hears_then : (old a b new : Feed) (x y : List Event) → b.heard ≡ a.heard → b.ended ≡ a.ended → Hears old a x → Hears b new y → Hears old new (x ++ y)
-hears_then old a b new x y heard ended first then_ =
-    let Kind : Event → Type 0 = λ event. IsTrue (is_hearing event) in
-    record {
-      only = All-append Kind x y first.only then_.only;
-      count = omega (arith, first.count, then_.count, heard, ap (λ (l : List ℕ). length l) (heard_bytes-append 0 x y), length-append (heard_bytes 0 x) (heard_bytes 0 y));
-      ended = then_.ended ∙ ap (λ (e : Bool). e || has_ended 0 y) (ended ∙ first.ended) ∙ or_assoc old.ended (has_ended 0 x) (has_ended 0 y)
-          ∙ ap (λ (e : Bool). old.ended || e) (sym (has_ended-append 0 x y));
-      quiet = λ over.
-          let none = first.quiet over in
-          let still : a.ended ≡ true = first.ended ∙ ap (λ (e : Bool). e || has_ended 0 x) over in
-          both_empty x y none (then_.quiet (ended ∙ still));
-    }
+hears_then old a b new x y heard ended first then_ = record {
+  only = only_hears_then x y first.only then_.only;
+  count = omega (arith, first.count, then_.count, heard, ap (λ (l : List ℕ). length l) (heard_bytes-append 0 x y), length-append (heard_bytes 0 x) (heard_bytes 0 y));
+  ended = then_.ended ∙ ap (λ (e : Bool). e || has_ended 0 y) (ended ∙ first.ended) ∙ or_assoc old.ended (has_ended 0 x) (has_ended 0 y)
+      ∙ ap (λ (e : Bool). old.ended || e) (sym (has_ended-append 0 x y));
+  quiet = λ over.
+      let none = first.quiet over in
+      let still : a.ended ≡ true = first.ended ∙ ap (λ (e : Bool). e || has_ended 0 x) over in
+      both_empty x y none (then_.quiet (ended ∙ still));
+}
 
 waits_then : (old a b new : Feed) (x y : List Event) → b.heard ≡ a.heard → b.ended ≡ a.ended
     → ((more : List ℕ) (ended : Bool) → lines_from a more ended ≡ lines_from b more ended) → Waits old a x → Waits b new y → Waits old new (x ++ y)

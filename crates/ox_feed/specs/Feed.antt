@@ -74,9 +74,13 @@ is_hearing (Broke channel) = channel == 0
 is_hearing (GaveUp channel) = false
 is_hearing (Shut channel) = false
 
+-- these events are hearings on channel 0
+abbrev pub OnlyHears : List Event → Type 0
+OnlyHears events = All (λ event. IsTrue (is_hearing event)) events
+
 -- a call logged these events: hearings on channel 0 alone, all of which the reader has counted
 pub record Hears (old new : Feed) (events : List Event) : Type 0 where
-  pub only : All (λ event. IsTrue (is_hearing event)) events
+  pub only : OnlyHears events
   pub count : new.heard ≡ old.heard + length (heard_bytes 0 events)
   pub ended : new.ended ≡ (old.ended || has_ended 0 events)
   -- once the feed has ended, nothing is heard

@@ -1,11 +1,11 @@
 -- What a reader of lines keeps, by its parts.
-use Rattle.std.specs.Prelude.{◌≡◌, ℕ, ◌+◌, ◌-◌, ◌<◌, ◌≤◌, Bool, true, false, List, [], ◌∷◌, ◌++◌, length, take, drop, All, IsTrue, Option, Some, None, Result, Ok, Err, if◌then◌else◌}
+use Rattle.std.specs.Prelude.{◌≡◌, ℕ, ◌+◌, ◌-◌, ◌<◌, ◌≤◌, Bool, true, false, List, [], ◌∷◌, ◌++◌, length, take, drop, All, Option, Some, None, Result, Ok, Err, if◌then◌else◌}
 use Rattle.ox_outside.specs.Event.{Event, heard_bytes, has_ended}
 use Rattle.ox_feed.specs.declared.lines.Line.{Line}
 use Rattle.ox_feed.specs.declared.lines.Line.TheVariants.{Text, Long}
 use Rattle.ox_feed.specs.declared.lines.FeedFault.{FeedFault}
 use Rattle.ox_feed.specs.declared.held.Held.{Held}
-use Rattle.ox_feed.specs.Feed.{Feed, FeedLine, text, too_long, is_line_feed, is_hearing, line_limit, feed_limit, room_size, lines_from, left, Tells, Hears}
+use Rattle.ox_feed.specs.Feed.{Feed, FeedLine, text, too_long, is_line_feed, line_limit, feed_limit, room_size, lines_from, left, Tells, Hears, OnlyHears}
 
 abbrev pub feed_of : Held → Feed
 feed_of held = record { rest = held.begun ++ held.piece; heard = held.heard; ended = held.ended }
@@ -48,7 +48,7 @@ Cuts None old new = (new.piece ≡ []) × ((more : List ℕ) (ended : Bool) → 
 
 -- what a hearing logged is what the piece now has, or that the channel has ended
 pub record Fills (result : Result Bool FeedFault) (piece : List ℕ) (events : List Event) : Type 0 where
-  pub only : All (λ event. IsTrue (is_hearing event)) events
+  pub only : OnlyHears events
   pub bytes : heard_bytes 0 events ≡ piece
   pub ended : has_ended 0 events ≡ is_end result
 

@@ -2,10 +2,10 @@
 
 ghost use Rattle.std.specs.Prelude.{◌≡◌, ◌+◌, ◌<◌, ◌≤◌, length, IfOk, IsErrOf};
 ghost use Rattle.ox_outside.specs.Counts.{Rose};
-ghost use Rattle.ox_outside.specs.Crash.{Calls};
+ghost use Rattle.ox_outside.specs.Crash.{OnlyTalks};
 ghost use Rattle.ox_outside.specs.Log.{Grows};
 ghost use Rattle.ox_feed.specs.declared.lines.FeedFault.TheVariants.{Memory as out_of_memory};
-ghost use Rattle.ox_feed.specs.Feed.{Answers, IsLine, IsTooMuch, feed_limit, left, line_limit, room_size, unheard};
+ghost use Rattle.ox_feed.specs.Feed.{Answers, IsLine, IsTooMuch, OnlyHears, feed_limit, left, line_limit, room_size, unheard};
 
 use crate::held::Held;
 use ox_bytes::{Bytes, Memory};
@@ -96,7 +96,9 @@ impl Lines {
         ensures fewer { IfOk result (λ line. IsLine line → left self.new < left self.old) }
         ensures size { length self.new.rest ≤ line_limit + 1 + room_size }
         ensures count { self.new.heard ≤ feed_limit }
-        ensures call { Calls S.told S.counts S.clock S.left_since site.old site.new }
+
+        // A crash at any moment of the call leaves the files as before it, and a log that has grown by hearings alone.
+        ensures talks { OnlyTalks S.told S.seen S.log S.counts S.clock S.may_leave S.left_since OnlyHears site.old site.new }
     {
         self.held.next(site)
     }

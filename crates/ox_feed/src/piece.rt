@@ -2,9 +2,9 @@
 
 ghost use Rattle.std.specs.Prelude.{◌≡◌, ◌≤◌, ◌<◌, [], length, take, drop, vec_len, true, Ok, IfOk, OnErr, IsErrOf};
 ghost use Rattle.ox_outside.specs.Counts.{Rose};
-ghost use Rattle.ox_outside.specs.Crash.{OneCall, Calls};
+ghost use Rattle.ox_outside.specs.Crash.{OnlyTalks};
 ghost use Rattle.ox_outside.specs.Log.{Grows};
-ghost use Rattle.ox_feed.specs.Feed.{room_size};
+ghost use Rattle.ox_feed.specs.Feed.{OnlyHears, room_size};
 ghost use Rattle.ox_feed.specs.Held.{Fills};
 
 use crate::lines::FeedFault;
@@ -83,7 +83,7 @@ impl Piece {
         ensures empty { (result ≡ Ok true → ⊥) → self.new ≡ [] }
         ensures hear_fault { IsErrOf result FeedFault.HearFault → Rose ((S.counts site.old).hear 0) ((S.counts site.new).hear 0) }
         ensures too_much { IsErrOf result FeedFault.TooMuch → ⊥ }
-        ensures call { Calls S.told S.counts S.clock S.left_since site.old site.new }
+        ensures talks { OnlyTalks S.told S.seen S.log S.counts S.clock S.may_leave S.left_since OnlyHears site.old site.new }
     {
         if self.room.is_empty() {
             self.room = room(alloc)?;

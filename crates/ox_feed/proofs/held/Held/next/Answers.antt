@@ -1,7 +1,7 @@
 use Rattle.std.proofs.Common.{le_trans}
 use Rattle.std.proofs.lemmas.Result.{err_from_is_err_and}
-use Rattle.ox_outside.proofs.Calls.{calls_then}
 use Rattle.ox_feed.specs.Held.{feed_of}
+use Rattle.ox_feed.proofs.Hearing.{talks_on}
 use Rattle.ox_feed.proofs.Waiting.{waits_on, waits_in_vain}
 use Rattle.ox_feed.proofs.held.Held.next.Goals as goal
 
@@ -16,7 +16,8 @@ loop-line-preserved g c =
           (g.S.Site.log c.args.site.now) (g.S.Site.log c.loop-line.site) (g.S.Site.log c.hear.new.site)
           c.in_ok-line.ensures.heard c.in_ok-line.ensures.ended cuts.1 kept.1 c.hear.ensures.waits,
       le_trans (le_trans c.hear.ensures.left fewer) kept.2,
-      calls_then g.S.Site.told g.S.Site.counts g.S.Site.clock g.S.Site.may_leave g.S.Site.left_since c.args.site.now c.loop-line.site c.hear.new.site kept.3 c.hear.ensures.call,
+      talks_on g.S.Site.told g.S.Site.seen g.S.Site.log g.S.Site.counts g.S.Site.clock g.S.Site.may_leave g.S.Site.left_since
+          (feed_of c.args.self.now) (feed_of c.loop-line.self) c.args.site.now c.loop-line.site c.hear.new.site kept.1 kept.3 c.hear.ensures.talks,
     )
 
 pub returns-in_err-hear-clause-told : goal.returns-in_err-hear-clause-told
@@ -29,3 +30,9 @@ returns-in_err-hear-clause-told g c =
     (waits_on (feed_of c.args.self.now) (feed_of c.loop-line.self) (feed_of c.whole_line.new.self) (feed_of c.hear.new.self)
     (g.S.Site.log c.args.site.now) (g.S.Site.log c.loop-line.site) (g.S.Site.log c.hear.new.site)
     c.in_ok-line.ensures.heard c.in_ok-line.ensures.ended cuts.1 kept.1 c.hear.ensures.waits)
+
+pub returns-in_err-hear-clause-talks : goal.returns-in_err-hear-clause-talks
+returns-in_err-hear-clause-talks g c =
+    let kept = c.loop-line.invariant in
+    talks_on g.S.Site.told g.S.Site.seen g.S.Site.log g.S.Site.counts g.S.Site.clock g.S.Site.may_leave g.S.Site.left_since
+    (feed_of c.args.self.now) (feed_of c.loop-line.self) c.args.site.now c.loop-line.site c.hear.new.site kept.1 kept.3 c.hear.ensures.talks

@@ -1,10 +1,8 @@
-use Rattle.std.proofs.Common.{arith, [], take, refl, Ok}
-use Rattle.std.specs.Prelude.{IsTrue}
-use Rattle.std.proofs.lemmas.List.Elements.{All-cons, All-nil}
+use Rattle.std.proofs.Common.{arith, take, refl, Ok}
 use Rattle.ox_outside.proofs.Log.{adds_grows}
 use Rattle.ox_outside.specs.Event.{Heard, hear_events}
 use Rattle.ox_outside.specs.declared.site.Heard.TheVariants.{Bytes}
-use Rattle.ox_feed.specs.Feed.{is_hearing}
+use Rattle.ox_feed.proofs.Hearing.{only_hears_one, talks_hearing}
 use Rattle.ox_feed.proofs.Parts.{heard_front}
 use Rattle.ox_feed.proofs.piece.Piece.hear.Goals as goal
 
@@ -14,8 +12,23 @@ returns-in-Ok-Bytes-clause-logged g c =
     let within = rw c.in-Ok-Bytes.field-0-is at c.in-Ok-Bytes.ensures.within in
     adds_grows (hear_events 0 c.hear.new.into (Ok (Bytes c.in-Ok-Bytes.n))) _ (g.S.Site.log c.args.site.now) (g.S.Site.log c.hear.new.self)
     (λ log. record {
-      only = All-cons (λ event. IsTrue (is_hearing event)) (Heard 0 (take c.in-Ok-Bytes.n c.hear.new.into)) [] refl (All-nil (λ event. IsTrue (is_hearing event)));
+      only = only_hears_one (Heard 0 (take c.in-Ok-Bytes.n c.hear.new.into)) refl;
       bytes = heard_front c.in-Ok-Bytes.n c.truncate.new.self.len c.hear.new.into c.truncate.new.self.items (omega arith) (omega arith);
       ended = refl;
     })
     logged
+
+pub returns-in-Ok-Bytes-clause-talks : goal.returns-in-Ok-Bytes-clause-talks
+returns-in-Ok-Bytes-clause-talks g c =
+    talks_hearing g.S.Site.told g.S.Site.seen g.S.Site.log g.S.Site.counts g.S.Site.clock g.S.Site.may_leave g.S.Site.left_since g.met.S.Site.only_now g.met.S.Site.logs_now
+    c.hear.new.into c.hear.result c.args.site.now c.hear.new.self c.hear.ensures.logged c.hear.ensures.files c.hear.ensures.call
+
+pub returns-in-Ok-End-clause-talks : goal.returns-in-Ok-End-clause-talks
+returns-in-Ok-End-clause-talks g c =
+    talks_hearing g.S.Site.told g.S.Site.seen g.S.Site.log g.S.Site.counts g.S.Site.clock g.S.Site.may_leave g.S.Site.left_since g.met.S.Site.only_now g.met.S.Site.logs_now
+    c.hear.new.into c.hear.result c.args.site.now c.hear.new.self c.hear.ensures.logged c.hear.ensures.files c.hear.ensures.call
+
+pub returns-in-Err-clause-talks : goal.returns-in-Err-clause-talks
+returns-in-Err-clause-talks g c =
+    talks_hearing g.S.Site.told g.S.Site.seen g.S.Site.log g.S.Site.counts g.S.Site.clock g.S.Site.may_leave g.S.Site.left_since g.met.S.Site.only_now g.met.S.Site.logs_now
+    c.hear.new.into c.hear.result c.args.site.now c.hear.new.self c.hear.ensures.logged c.hear.ensures.files c.hear.ensures.call

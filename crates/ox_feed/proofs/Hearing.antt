@@ -1,0 +1,57 @@
+-- What hearings on channel 0 add to the log, and what a crash leaves during them.
+use Rattle.std.proofs.Common.{◌≡◌, ℕ, Bool, true, false, List, [], ◌∷◌, ◌++◌, Ok, Err, Some, refl}
+use Rattle.std.specs.Prelude.{IsTrue, Option, Result, if◌then◌else◌}
+use Rattle.std.proofs.lemmas.List.Elements.{All-append, All-cons, All-nil}
+use Rattle.ox_outside.specs.Counts.{Counts}
+use Rattle.ox_outside.specs.Crash.{Remains, LeavesFiles, OneCall, OnlyTalks}
+use Rattle.ox_outside.specs.Event.{Event, Heard, Ended, Broke, has_broken, hear_events}
+use Rattle.ox_outside.specs.Files.{Files}
+use Rattle.ox_outside.specs.Log.{Adds, Grows}
+use Rattle.ox_outside.specs.declared.site.Failed.{Failed}
+use Rattle.ox_outside.specs.declared.site.Heard.{Heard as HeardAnswer}
+use Rattle.ox_outside.specs.declared.site.Heard.TheVariants.{Bytes, NotYet, End}
+use Rattle.ox_outside.proofs.Log.{adds_grows, grows_weaker}
+use Rattle.ox_outside.proofs.Talking.{talks_once, talks_then}
+use Rattle.ox_feed.specs.Feed.{Feed, OnlyHears, is_hearing}
+use Rattle.ox_feed.specs.Held.{Waits}
+
+abbrev IsHearing : Event → Type 0
+IsHearing event = IsTrue (is_hearing event)
+
+pub only_hears_none : OnlyHears []
+only_hears_none = All-nil IsHearing
+
+pub only_hears_one : (event : Event) → IsTrue (is_hearing event) → OnlyHears (event ∷ [])
+only_hears_one event is = All-cons IsHearing event [] is only_hears_none
+
+pub only_hears_then : (x y : List Event) → OnlyHears x → OnlyHears y → OnlyHears (x ++ y)
+only_hears_then = All-append IsHearing
+
+-- a failure is logged once
+only_hears_fault : (broken : Bool) → OnlyHears (if broken then [] else Broke 0 ∷ [])
+only_hears_fault true = only_hears_none
+only_hears_fault false = only_hears_one (Broke 0) refl
+
+only_hears_answer : (room : List ℕ) (result : Result HeardAnswer Failed) (log : List Event) → OnlyHears (hear_events 0 room result log)
+only_hears_answer room (Ok (Bytes n)) log = only_hears_one (Heard 0 _) refl
+only_hears_answer room (Ok NotYet) log = only_hears_none
+only_hears_answer room (Ok End) log = only_hears_one (Ended 0) refl
+only_hears_answer room (Err failed) log = only_hears_fault (has_broken 0 log)
+
+module _ {S : Type 0} (told : S → Bool) (seen : S → Files) (log : S → Option (List Event)) (counts : S → Counts) (clock : S → ℕ) (may_leave : S → Remains → Type 0) (left_since : S → ℕ → Remains → Type 0) where
+  abbrev Talks : S → S → Type 0
+  Talks old new = OnlyTalks told seen log counts clock may_leave left_since OnlyHears old new
+
+  -- one hearing, whatever it answers
+  pub talks_hearing : (only_now : (site : S) (r : Remains) → left_since site (clock site) r → may_leave site r) (logs_now : (site : S) (r : Remains) → may_leave site r → log site ≡ Some r.log)
+      → (room : List ℕ) (result : Result HeardAnswer Failed) (old new : S) → Adds (hear_events 0 room result) (log old) (log new) → LeavesFiles seen may_leave old new
+      → OneCall told counts clock may_leave left_since old new → Talks old new
+  talks_hearing only_now logs_now room result old new adds files call =
+      talks_once told seen log counts clock may_leave left_since only_now logs_now OnlyHears old new only_hears_none files call
+      (adds_grows (hear_events 0 room result) OnlyHears (log old) (log new) (only_hears_answer room result) adds)
+
+  -- a hearing more, behind those of a reader that made no lines
+  pub talks_on : (feed waiting : Feed) (old mid new : S) → Grows (Waits feed waiting) (log old) (log mid) → Talks old mid → Talks mid new → Talks old new
+  talks_on feed waiting old mid new waits first then_ =
+      talks_then told seen log counts clock may_leave left_since OnlyHears OnlyHears OnlyHears OnlyHears old mid new (λ x only. only) only_hears_then
+      first (grows_weaker (Waits feed waiting) OnlyHears (log old) (log mid) (λ added waited. waited.hears.only) waits) then_
