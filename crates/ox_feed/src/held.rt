@@ -59,6 +59,7 @@ fn line_from(bytes: Bytes) -> Line
 }
 
 impl Held {
+    /// A reader that has heard nothing. It takes no memory yet.
     pub fn new(alloc: Global) -> Held
         ensures unheard { feed_of result ≡ unheard }
         ensures sound { IsHeld result }

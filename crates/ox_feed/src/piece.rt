@@ -38,6 +38,7 @@ fn room(alloc: Global) -> Result<Vec<u8>, AllocError>
 }
 
 impl Piece {
+    /// A piece before the first hearing: without bytes, and without room for any.
     pub fn empty(alloc: Global) -> Piece
         ensures { result ≡ [] }
     {
@@ -48,6 +49,7 @@ impl Piece {
         }
     }
 
+    /// The bytes that are still to be looked at.
     pub fn bytes(&self) -> &[u8]
         ensures { result.now ≡ self.now }
     {
