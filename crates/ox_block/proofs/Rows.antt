@@ -53,6 +53,11 @@ pub root_alone : (row : List (List ℕ)) → length row ≤ 1 → root_of row �
 unfolding root_of
 root_alone row one = ap first_hash (rows_alone (length row) row one)
 
+-- which is the root
+pub root_only : (row : List (List ℕ)) → length row ≡ 1 → get_or row 0 [] ≡ root_of row
+root_only [] one = absurd (omega arith)
+root_only (a ∷ row) one = sym (root_alone (a ∷ row) (omega arith))
+
 pub first_at : (row : List (List ℕ)) (x : List ℕ) → 0 < length row → x ≡ get_or row 0 x → x ≡ first_hash row
 first_at [] x more is = absurd (omega arith)
 first_at (a ∷ row) x more is = is

@@ -10,6 +10,7 @@ mod reading;
 mod roots;
 mod sink;
 mod spelling;
+mod txids;
 mod write;
 
 pub use block::{Block, Header, OutPoint, Tx, TxIn, TxOut, Txid};
@@ -17,7 +18,8 @@ pub use fault::BlockFault;
 pub use hashing::{hash, txid_of, wtxid_of};
 pub use lists::{Inputs, Outs, Txs, Witness};
 pub use read::{fields_agree_with_reading, read_block};
-pub use roots::{root, witness_root};
+pub use roots::{root, root_over, witness_root};
+pub use txids::{Txids, txids_of};
 pub use write::{write_block, written_reads_back};
 
 #[cfg(test)]

@@ -1,10 +1,11 @@
 //! Roots over the ids of a block's transactions.
 
 ghost use Rattle.std.specs.Prelude.{◌≡◌, ◌<◌, length, map, IfOk};
-ghost use Rattle.ox_block.specs.Hashes.{txid, paired, root_of, witness_ids, block_root, block_witness_root};
+ghost use Rattle.ox_block.specs.Hashes.{paired, root_of, witness_ids, block_root, block_witness_root};
 
 use crate::block::{Block, Tx};
-use crate::hashing::{hash_pair, txid_of, wtxid_of};
+use crate::hashing::{hash_pair, wtxid_of};
+use crate::txids::{Txids, txids_of};
 use ox_bytes::Memory;
 use std::alloc::Global;
 
@@ -30,25 +31,18 @@ fn row_above(alloc: Global, row: &[[u8; 32]]) -> Result<Vec<[u8; 32]>, Memory>
 }
 
 /// The root of a row of hashes.
-fn root_of_row(alloc: Global, hashes: Vec<[u8; 32]>) -> Result<[u8; 32], Memory>
-    requires { 0 < length hashes.items }
-    ensures { IfOk result (λ root. root ≡ root_of hashes.items) }
+fn root_of_row(alloc: Global, hashes: &[[u8; 32]]) -> Result<[u8; 32], Memory>
+    requires { 0 < length hashes.now }
+    ensures { IfOk result (λ root. root ≡ root_of hashes.now) }
 {
-    let mut row = hashes;
+    if hashes.len() == 1 {
+        return Ok(hashes[0]);
+    }
+    let mut row = row_above(alloc, hashes)?;
     'rows: while row.len() > 1 {
         row = row_above(alloc, &row)?;
     }
     Ok(row[0])
-}
-
-fn txids(alloc: Global, txs: &[Tx]) -> Result<Vec<[u8; 32]>, Memory>
-    ensures { IfOk result (λ ids. ids.items ≡ map txid txs.now) }
-{
-    let mut ids = Vec::new(alloc);
-    for tx in txs {
-        ids.push(txid_of(tx).0)?;
-    }
-    Ok(ids)
 }
 
 /// The ids over the whole forms, 32 zero bytes for the first transaction.
@@ -66,14 +60,22 @@ fn wtxids(alloc: Global, txs: &[Tx]) -> Result<Vec<[u8; 32]>, Memory>
     Ok(ids)
 }
 
-/// The root of the transactions' ids: hashes in a row are paired and hashed by SHA-256 twice, an odd last one with itself, until one is left. The block has at least one transaction. `Memory` where there is none for the row of ids.
+/// The root of transactions' ids, of which there is at least one: hashes in a row are paired and hashed by SHA-256 twice, an odd last one with itself, until one is left. `Memory` where there is none for the rows above the ids.
+pub fn root_over(alloc: Global, ids: &Txids) -> Result<[u8; 32], Memory>
+    requires { 0 < length ids.now }
+    ensures { IfOk result (λ root. root ≡ root_of ids.now) }
+{
+    root_of_row(alloc, ids.as_slice())
+}
+
+/// The root of the ids of a block's transactions, as `root_over` makes it. The block has at least one transaction. `Memory` where there is none for the row of ids.
 #[tactic(auto, unfolding(crate::specs::Hashes::block_root))]
 pub fn root(alloc: Global, block: &Block) -> Result<[u8; 32], Memory>
     requires { 0 < length block.now.txs }
     ensures { IfOk result (λ root. root ≡ block_root block.now) }
 {
-    let ids = txids(alloc, block.txs.as_slice())?;
-    root_of_row(alloc, ids)
+    let ids = txids_of(alloc, block)?;
+    root_over(alloc, &ids)
 }
 
 /// The root of the ids over the whole forms (BIP 141), the coinbase's counting as 32 zero bytes. The block has at least one transaction. `Memory` where there is none for the row of ids.
@@ -83,5 +85,5 @@ pub fn witness_root(alloc: Global, block: &Block) -> Result<[u8; 32], Memory>
     ensures { IfOk result (λ root. root ≡ block_witness_root block.now) }
 {
     let ids = wtxids(alloc, block.txs.as_slice())?;
-    root_of_row(alloc, ids)
+    root_of_row(alloc, &ids)
 }

@@ -107,6 +107,7 @@ fn ids_and_roots_are_those_known_from_outside(rt: HostRuntime) -> Result<(), Fai
         assert!(rt; txids.get(i) == Some(&txid_of(tx).0), "txid {i}");
         assert!(rt; wtxids.get(i) == Some(&wtxid_of(tx).0), "wtxid {i}");
     }
+    assert_eq!(rt; txids_of(rt.alloc(), &read)?.as_slice(), txids.as_slice());
     assert_eq!(rt; root(rt.alloc(), &read)?, read.header.root);
     assert_eq!(rt;
         witness_root(rt.alloc(), &read)?,

@@ -1,12 +1,13 @@
 //! The tests of a block that come before any satoshi moves.
 
-ghost use Rattle.std.specs.Prelude.{◌≡◌, ◌≤◌, length, position, IfSome, Ok, IfErr, OnOk};
+ghost use Rattle.std.specs.Prelude.{◌≡◌, ◌≤◌, length, map, position, IfSome, Ok, IfOk, IfErr, OnOk};
+ghost use Rattle.ox_block.specs.Hashes.{txid};
 ghost use Rattle.ox_block.specs.Spelling.{Lawful};
 ghost use Rattle.ox_model.specs.Step.{newest_of, is_null as names_none, is_coinbase as is_only_null, has_null as names_none_somewhere, misplaced as first_misplaced, admitted};
 ghost use Rattle.ox_index.specs.Fault.{Refuses};
 
 use crate::fault::ConnectFault;
-use ox_block::{Block, Tx, TxIn, root};
+use ox_block::{Block, Tx, TxIn, Txids, root_over, txids_of};
 use ox_model::Refusal;
 use ox_sat::Profile;
 use std::alloc::Global;
@@ -61,15 +62,18 @@ fn misplaced(txs: &[Tx]) -> Option<usize>
 }
 
 /// Tests a block that is to stand on this chain, before any of its satoshis move: its height, the block that it names
-/// before it, its root, and where coinbases stand. `Memory` where there is none for the root.
+/// before it, its root, and where coinbases stand. It answers the ids of the block's transactions, in order, of which
+/// the root is made. `Memory` where there is none for the ids or the root.
+#[tactic(auto, unfolding(ox_block::specs::Hashes::block_root))]
 pub fn admit(
     alloc: Global,
     p: &Profile,
     hashes: &[[u8; 32]],
     block: &Block,
-) -> Result<(), ConnectFault>
+) -> Result<Txids, ConnectFault>
     requires lawful { Lawful block.now }
     ensures ok { OnOk result (admitted p.now hashes.now block.now ≡ Ok tt) }
+    ensures ids { IfOk result (λ ids. ids ≡ map txid block.now.txs) }
     ensures refused { IfErr result (λ fault. Refuses fault (admitted p.now hashes.now block.now)) }
 {
     let height = hashes.len() as u64;
@@ -82,12 +86,13 @@ pub fn admit(
         return Err(ConnectFault::Refused(Refusal::Unlinked { have, want }));
     }
     let have = block.header.root;
-    let want = root(alloc, block)?;
+    let ids = txids_of(alloc, block)?;
+    let want = root_over(alloc, &ids)?;
     if have != want {
         return Err(ConnectFault::Refused(Refusal::BadRoot { have, want }));
     }
     match misplaced(block.txs.as_slice()) {
         Some(tx) => Err(ConnectFault::Refused(Refusal::Coinbase { tx: tx as u32 })),
-        None => Ok(()),
+        None => Ok(ids),
     }
 }

@@ -63,10 +63,17 @@ impl Live {
         ensures profile { profile_in self.new ≡ profile_in self.old }
     {
         let block = read_block(self.alloc, bytes)?;
-        admit(self.alloc, &self.profile, &self.hashes, &block)?;
+        let ids = admit(self.alloc, &self.profile, &self.hashes, &block)?;
         self.hashes.reserve(1)?;
         let height = self.hashes.len() as u32;
-        let moved = transfer(self.alloc, &mut self.outputs, &self.profile, &block, height)?;
+        let moved = transfer(
+            self.alloc,
+            &mut self.outputs,
+            &self.profile,
+            &block,
+            &ids,
+            height,
+        )?;
         match self.lost.join(&moved.lost) {
             Ok(()) => {
                 self.hashes.push_reserved(hash(&block.header));

@@ -1,7 +1,7 @@
 -- A transaction's step, and one after the other.
 use Rattle.std.proofs.Common.{◌≡◌, ◌∙◌, ◌≤◌, ◌<◌, ℕ, suc, ◌+◌, ◌^◌, List, [], ◌∷◌, ◌++◌, length, drop, get_or, refl, sym, ap, subst, append_assoc, length-append, arith, Option, Some, None, Result, Ok, Err}
 use Rattle.std.specs.Prelude.{map, sum}
-use Rattle.std.proofs.lemmas.List.{drop_more, drop_all, append-nil}
+use Rattle.std.proofs.lemmas.List.{drop_more, drop_all, append-nil, get_or-map}
 use Rattle.ox_bytes.specs.Reading.{◌>>=◌}
 use Rattle.ox_block.specs.declared.block.Txid.{Txid}
 use Rattle.ox_block.specs.declared.block.TxOut.{TxOut}
@@ -108,6 +108,15 @@ apart_spent height place tx before after is apart =
     subst (λ (s : Spent). Apart (2 ^ 63) s.outs (s.lost ++ s.fees)) (same_spent (behind before next.0) after next.2) (apart_behind height place tx before next.0 next.1 apart)
 
 -- ---- one transaction after the other
+
+-- the first id is the coinbase's, and the others are those of the others
+pub ids_split : (id : List ℕ) (ids all : List (List ℕ)) (coinbase : Tx) (txs whole : List Tx) → all ≡ id ∷ ids → whole ≡ coinbase ∷ txs → all ≡ map hashes.txid whole → (id ≡ hashes.txid coinbase) × (ids ≡ map hashes.txid txs)
+ids_split id ids all coinbase txs whole all_is whole_is are =
+    let both : id ∷ ids ≡ hashes.txid coinbase ∷ map hashes.txid txs = sym all_is ∙ (are ∙ ap (λ (l : List Tx). map hashes.txid l) whole_is) in (cc, cc)
+
+-- the id at a place is that of the transaction there
+pub id_at : (txs : List Tx) (ids : List (List ℕ)) (i : ℕ) (tx : Tx) → ids ≡ map hashes.txid txs → i < length txs → tx ≡ get_or txs i tx → get_or ids i [] ≡ hashes.txid tx
+id_at txs ids i tx are low here = ap (λ (l : List (List ℕ)). get_or l i []) are ∙ (get_or-map hashes.txid txs i tx [] low ∙ ap hashes.txid (sym here))
 
 pub none_spent : (outs : Outputs) (before : Spent) (all : Result Spent Refusal) → before.moved ≡ [] → before.lost ≡ [] → before.fees ≡ [] → all ≡ all_behind before all
 none_spent outs before (Ok next) no_moved no_lost no_fees = λ i. Ok (record { moved = sym no_moved i ++ next.moved; lost = sym no_lost i ++ next.lost; fees = sym no_fees i ++ next.fees; outs = next.outs })

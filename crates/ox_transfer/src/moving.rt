@@ -1,8 +1,9 @@
 //! A block's satoshis.
 
-ghost use Rattle.std.specs.Prelude.{◌≡◌, ◌+◌, ◌++◌, Ok, Some, IfOk, IfErr, OnOk, OnErr};
+ghost use Rattle.std.specs.Prelude.{◌≡◌, ◌+◌, ◌++◌, map, Ok, Some, IfOk, IfErr, OnOk, OnErr};
 ghost use Rattle.ox_sat.specs.Profiles.{IsProfile};
 ghost use Rattle.ox_sat.specs.Heights.{first_at};
+ghost use Rattle.ox_block.specs.Hashes.{txid};
 ghost use Rattle.ox_block.specs.Spelling.{Lawful};
 ghost use Rattle.ox_model.specs.Transfer.{claim, transfer_of};
 ghost use Rattle.ox_transfer.specs.Answer.{Answers, Refuses};
@@ -14,22 +15,24 @@ use crate::deal::{deal_out, value_sum};
 use crate::fault::TransferFault;
 use crate::place::place_outputs;
 use crate::spend::{Work, spend_txs};
-use ox_block::{Block, Tx, txid_of};
+use ox_block::{Block, Tx, Txid, Txids};
 use ox_model::{Moved, MovedTx, MovedTxs, OutTable, Refusal, SpentRows};
 use ox_range::Ranges;
 use ox_sat::{Profile, first, subsidy};
 use std::alloc::Global;
 
-/// The coinbase, which claims the subsidy's satoshis and then the fees.
+/// The coinbase, with its id, which claims the subsidy's satoshis and then the fees.
 fn claim_all<O: OutTable>(
     alloc: Global,
     table: &mut O,
     p: &Profile,
     height: u32,
     coinbase: &Tx,
+    id: Txid,
     mut work: Work,
 ) -> Result<Moved, TransferFault>
     requires known { IsProfile p.now }
+    requires id { id.0 ≡ txid coinbase.now }
     requires counted { Counted coinbase.now }
     requires apart { Apart (first_at p.now height) (O.contents table.old) (work.lost ++ work.fees) }
     ensures claimed { Answers (λ moved. transferred_of moved (O.contents table.new)) result (claim p.now height coinbase.now (spent_of work (O.contents table.old))) }
@@ -47,19 +50,18 @@ fn claim_all<O: OutTable>(
         }));
     }
     let dealt = deal_out(alloc, sats, outputs, total)?;
-    let txid = txid_of(coinbase);
     let displaced = place_outputs(
         alloc,
         table,
         height,
-        txid,
+        id,
         outputs,
         dealt.parts,
         &mut work.lost,
     )?;
     work.lost.join(&dealt.rest)?;
     let entry = MovedTx {
-        txid,
+        txid: id,
         spent: SpentRows::from_vec(Vec::new(alloc)),
         joined: Ranges::empty(alloc),
         displaced: SpentRows::from_vec(displaced),
@@ -77,10 +79,12 @@ fn transfer_txs<O: OutTable>(
     table: &mut O,
     p: &Profile,
     block: &Block,
+    ids: &Txids,
     height: u32,
 ) -> Result<Moved, TransferFault>
     requires known { IsProfile p.now }
     requires lawful { Lawful block.now }
+    requires ids { ids.now ≡ map txid block.now.txs }
     requires once { HoldsOnce (first_at p.now height) (O.contents table.old) }
     ensures moved { Answers (λ moved. transferred_of moved (O.contents table.new)) result (transfer_of p.now height block.now.txs (O.contents table.old)) }
     ensures mark { O.marked table.new ≡ O.marked table.old }
@@ -88,8 +92,11 @@ fn transfer_txs<O: OutTable>(
     let Some((coinbase, txs)) = block.txs.as_slice().split_first() else {
         unreachable!()
     };
-    let work = spend_txs(alloc, table, height, txs)?;
-    claim_all(alloc, table, p, height, coinbase, work)
+    let Some((id, ids)) = ids.as_slice().split_first() else {
+        unreachable!()
+    };
+    let work = spend_txs(alloc, table, height, txs, ids)?;
+    claim_all(alloc, table, p, height, coinbase, Txid(*id), work)
 }
 
 /// Moves the satoshis of a block that stands at this height, first-in first-out (BIP draft "Ordinal Numbers"; Ordinal
@@ -99,6 +106,8 @@ fn transfer_txs<O: OutTable>(
 /// in order; what is left over is fee. The coinbase comes last: the subsidy's satoshis and then the fees go to its
 /// outputs, and what is left over is lost. An output at whose outpoint a row still stands displaces it, and that row's
 /// satoshis are lost at that moment.
+///
+/// `ids` are the ids of the block's transactions, in order, so that none is hashed again.
 ///
 /// The lists of the table's rows, joined, may hold no number twice, and none from the first satoshi of the height up.
 ///
@@ -114,10 +123,13 @@ pub fn transfer<O: OutTable>(
     table: &mut O,
     p: &Profile,
     block: &Block,
+    ids: &Txids,
     height: u32,
 ) -> Result<Moved, TransferFault>
     requires known { IsProfile p.now }
     requires lawful { Lawful block.now }
+    // The ids are those of the block's transactions, in order.
+    requires ids { ids.now ≡ map txid block.now.txs }
     requires once { HoldsOnce (first_at p.now height) (O.contents table.old) }
     ensures moved { IfOk result (λ moved. transfer_of p.now height block.now.txs (O.contents table.old) ≡ Ok (transferred_of moved (O.contents table.new))) }
     ensures refused { IfErr result (λ fault. Refuses fault (transfer_of p.now height block.now.txs (O.contents table.old))) }
@@ -127,7 +139,7 @@ pub fn transfer<O: OutTable>(
     ensures kept { OnOk result (HoldsOnce (first_at p.now (height + 1)) (O.contents table.new)) }
 {
     table.begin()?;
-    match transfer_txs(alloc, table, p, block, height) {
+    match transfer_txs(alloc, table, p, block, ids, height) {
         Ok(moved) => Ok(moved),
         Err(fault) => {
             table.cancel();

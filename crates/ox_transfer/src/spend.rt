@@ -1,8 +1,9 @@
 //! The transactions other than the coinbase.
 
-ghost use Rattle.std.specs.Prelude.{◌≡◌, ◌≤◌, ◌^◌, ◌++◌, [], length, OnOk};
+ghost use Rattle.std.specs.Prelude.{◌≡◌, ◌≤◌, ◌^◌, ◌++◌, [], length, map, OnOk};
 ghost use Rattle.std.specs.List.{All};
-ghost use Rattle.ox_block.specs.Spelling.{LawfulTx, most_bytes};
+ghost use Rattle.ox_block.specs.Hashes.{txid};
+ghost use Rattle.ox_block.specs.Spelling.{most_bytes};
 ghost use Rattle.ox_model.specs.Transfer.{spend, spend_all};
 ghost use Rattle.ox_transfer.specs.Answer.{Answers};
 ghost use Rattle.ox_transfer.specs.Apart.{Apart};
@@ -13,7 +14,7 @@ use crate::deal::{deal_out, value_sum};
 use crate::fault::TransferFault;
 use crate::place::place_outputs;
 use crate::take::take_inputs;
-use ox_block::{Tx, txid_of};
+use ox_block::{Tx, Txid};
 use ox_model::{MovedTx, OutTable, Refusal, SpentRows};
 use ox_range::Ranges;
 use std::alloc::Global;
@@ -26,15 +27,17 @@ pub(crate) struct Work {
     pub(crate) fees: Ranges,
 }
 
-/// A transaction at a place of the block other than the coinbase's.
+/// A transaction at a place of the block other than the coinbase's, with its id.
 fn spend_tx<O: OutTable>(
     alloc: Global,
     table: &mut O,
     height: u32,
     place: u32,
     tx: &Tx,
+    id: Txid,
     work: &mut Work,
 ) -> Result<(), TransferFault>
+    requires id { id.0 ≡ txid tx.now }
     requires counted { Counted tx.now }
     requires apart { Apart (2 ^ 63) (O.contents table.old) (work.old.lost ++ work.old.fees) }
     ensures spent { Answers (λ _. spent_of work.new (O.contents table.new)) result (all_behind (spent_of work.old (O.contents table.old)) (spend height place tx.now (O.contents table.old))) }
@@ -54,19 +57,18 @@ fn spend_tx<O: OutTable>(
     }
     let joined = taken.sats.copy(alloc)?;
     let dealt = deal_out(alloc, taken.sats, outputs, total)?;
-    let txid = txid_of(tx);
     let displaced = place_outputs(
         alloc,
         table,
         height,
-        txid,
+        id,
         outputs,
         dealt.parts,
         &mut work.lost,
     )?;
     work.fees.join(&dealt.rest)?;
     work.moved.push(MovedTx {
-        txid,
+        txid: id,
         spent: SpentRows::from_vec(taken.rows),
         joined,
         displaced: SpentRows::from_vec(displaced),
@@ -74,13 +76,15 @@ fn spend_tx<O: OutTable>(
     Ok(())
 }
 
-/// The transactions of a block behind its coinbase, in order.
+/// The transactions of a block behind its coinbase, in order, with their ids.
 pub(crate) fn spend_txs<O: OutTable>(
     alloc: Global,
     table: &mut O,
     height: u32,
     txs: &[Tx],
+    ids: &[[u8; 32]],
 ) -> Result<Work, TransferFault>
+    requires ids { ids.now ≡ map txid txs.now }
     requires few { length txs.now ≤ most_bytes }
     requires counted { All Counted txs.now }
     requires apart { Apart (2 ^ 63) (O.contents table.old) [] }
@@ -93,7 +97,8 @@ pub(crate) fn spend_txs<O: OutTable>(
         fees: Ranges::empty(alloc),
     };
     for (index, tx) in txs.iter().enumerate() {
-        spend_tx(alloc, table, height, index as u32 + 1, tx, &mut work)?;
+        let id = Txid(ids[index]);
+        spend_tx(alloc, table, height, index as u32 + 1, tx, id, &mut work)?;
     }
     Ok(work)
 }

@@ -7,7 +7,7 @@ ghost use Rattle.ox_outputs.specs.Table.{rows_in};
 ghost use Rattle.ox_transfer.specs.Apart.{HoldsOnce};
 
 use crate::{TransferFault, transfer};
-use ox_block::{Block, OutPoint, Txid, read_block, txid_of};
+use ox_block::{Block, OutPoint, Txid, read_block, txid_of, txids_of};
 use ox_model::{Moved, MovedTx, OutTable, Refusal};
 use ox_outputs::Outputs;
 use ox_range::Ranges;
@@ -134,7 +134,10 @@ fn moves(
     ensures err { OnErr result (rows_in table.new ≡ rows_in table.old) }
 {
     let p = profile_of(ProfileName::Regtest);
-    transfer(alloc, table, &p, block, height)
+    let Ok(ids) = txids_of(alloc, block) else {
+        return Err(TransferFault::Memory);
+    };
+    transfer(alloc, table, &p, block, &ids, height)
 }
 
 // Block 2 spends the output of block 0 into two, and its coinbase claims its subsidy and the fee.

@@ -6,6 +6,7 @@ use Rattle.ox_block.specs.Spelling.{most_bytes}
 use Rattle.ox_transfer.specs.Counts.{Counted}
 use Rattle.ox_transfer.specs.Parts.{spent_of}
 use Rattle.ox_transfer.proofs.Once.{apart_first}
+use Rattle.ox_transfer.proofs.Spends.{ids_split}
 use Rattle.ox_transfer.proofs.Sizes.{all_counted, few_txs}
 use Rattle.ox_transfer.proofs.Claims.{apart_all, first_few}
 use Rattle.ox_transfer.proofs.moving.transfer_txs.Goals as goal
@@ -16,6 +17,7 @@ spend_txs-requires g c =
     let all = subst (AllByRecursion Counted) begun (all_counted c.args.block.now c.requires.lawful) in
     let few : length c.args.block.now.txs ≤ most_bytes = few_txs c.args.block.now c.requires.lawful in
     let longer = ap (λ (l : List Tx). length l) begun in record {
+      ids = (ids_split c.in-Some-split_first.id.now c.in-Some-split_first.ids.now c.args.ids.now c.in-Some.coinbase.now c.in-Some.txs.now c.args.block.now.txs (sym c.as_slice-2.ensures ∙ c.in-Some-split_first.ensures.cases.0) begun c.requires.ids).1;
       few = omega (arith, few, longer);
       counted = All-from_recursion Counted c.in-Some.txs.now all.1;
       apart = apart_first _ _ (first_few c.args.p.now c.args.height c.requires.known) c.requires.once;
@@ -26,6 +28,7 @@ claim_all-requires g c =
     let begun = sym c.as_slice.ensures ∙ c.in-Some.ensures.cases.0 in
     let all = subst (AllByRecursion Counted) begun (all_counted c.args.block.now c.requires.lawful) in record {
       known = c.requires.known;
+      id = (ids_split c.in-Some-split_first.id.now c.in-Some-split_first.ids.now c.args.ids.now c.in-Some.coinbase.now c.in-Some.txs.now c.args.block.now.txs (sym c.as_slice-2.ensures ∙ c.in-Some-split_first.ensures.cases.0) begun c.requires.ids).0;
       counted = all.0;
       apart = apart_all _ c.args.height c.in-Some.txs.now _ (spent_of c.in_ok-work.work (g.O.OutTable.contents c.spend_txs.new.table)) c.in_ok-work.ensures.spent c.requires.once;
     }

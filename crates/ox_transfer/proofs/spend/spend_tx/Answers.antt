@@ -52,9 +52,9 @@ returns-clause-spent g c =
     let dealt = rw c.as_slice-outputs.ensures at c.in_ok-dealt.ensures in
     let placed = rw c.as_slice-outputs.ensures at c.in_ok-displaced.ensures.rows in
     spent_whole c.args.height c.args.place c.args.tx.now (g.O.OutTable.contents c.args.table.now) (g.O.OutTable.contents c.take_inputs.new.table) (g.O.OutTable.contents c.place_outputs.new.table) c.in_ok-taken.taken.rows.items c.in_ok-displaced.displaced.items c.in_ok-taken.taken.sats c.in_ok-joined.joined c.in_ok-dealt.dealt.rest
-    c.args.work.now.lost c.place_outputs.new.lost c.args.work.now.fees c.join.new.self (reverse c.in_ok-dealt.dealt.parts.items) c.args.work.now.moved.items c.push.new.self.items c.txid_of-txid.result
-    took c.in_ok-taken.ensures.joined dealt c.txid_of-txid.ensures placed c.in_ok-joined.ensures c.in_ok-displaced.ensures.lost c.in_ok-join.ensures.ok
-    (c.in_ok-push.ensures.items ∙ λ i. c.args.work.now.moved.items ++ record { txid = c.txid_of-txid.result; spent = c.from_vec.ensures i; joined = c.in_ok-joined.joined; displaced = c.from_vec-2.ensures i } ∷ [])
+    c.args.work.now.lost c.place_outputs.new.lost c.args.work.now.fees c.join.new.self (reverse c.in_ok-dealt.dealt.parts.items) c.args.work.now.moved.items c.push.new.self.items c.args.id
+    took c.in_ok-taken.ensures.joined dealt c.requires.id placed c.in_ok-joined.ensures c.in_ok-displaced.ensures.lost c.in_ok-join.ensures.ok
+    (c.in_ok-push.ensures.items ∙ λ i. c.args.work.now.moved.items ++ record { txid = c.args.id; spent = c.from_vec.ensures i; joined = c.in_ok-joined.joined; displaced = c.from_vec-2.ensures i } ∷ [])
 
 pub returns-clause-apart : goal.returns-clause-apart
 returns-clause-apart g c = apart_spent c.args.height c.args.place c.args.tx.now (spent_of c.args.work.now (g.O.OutTable.contents c.args.table.now)) (spent_of (record { moved = c.push.new.self; lost = c.place_outputs.new.lost; fees = c.join.new.self }) (g.O.OutTable.contents c.place_outputs.new.table)) (returns-clause-spent g c) c.requires.apart

@@ -1,11 +1,13 @@
-use Rattle.std.proofs.Common.{◌≡◌, ◌∙◌, ◌++◌, List, ℕ, refl, sym, ap, subst, ◌^◌}
+use Rattle.std.proofs.Common.{◌≡◌, ◌∙◌, ◌++◌, List, ℕ, refl, sym, ap, subst, ◌^◌, arith, length}
 use Rattle.std.proofs.lemmas.Result.{err_from_is_err_and}
+use Rattle.std.proofs.lemmas.List.{length-map}
 use Rattle.std.proofs.lemmas.List.Elements.{All-get_or}
+use Rattle.ox_block.specs.Hashes.{txid}
 use Rattle.ox_block.specs.declared.block.Tx.{Tx}
 use Rattle.ox_transfer.specs.Apart.{Apart}
 use Rattle.ox_transfer.specs.Counts.{Counted}
 use Rattle.ox_transfer.specs.Parts.{spent_of}
-use Rattle.ox_transfer.proofs.Spends.{none_spent, spend_more, spend_fails, spend_done}
+use Rattle.ox_transfer.proofs.Spends.{none_spent, id_at, spend_more, spend_fails, spend_done}
 use Rattle.ox_transfer.proofs.spend.spend_txs.Goals as goal
 
 pub loop-index-init : goal.loop-index-init
@@ -16,8 +18,12 @@ loop-index-init g c =
       mark = refl;
     }
 
+pub bounds-ids-index : goal.bounds-ids-index
+bounds-ids-index g c = omega (arith, ap (λ (l : List (List ℕ)). length l) c.requires.ids, length-map c.args.txs.now txid)
+
 pub spend_tx-requires : goal.spend_tx-requires
 spend_tx-requires g c = record {
+  id = id_at c.args.txs.now c.args.ids.now c.loop-index.index c.index-txs-index.result c.requires.ids c.loop-index-test.true c.index-txs-index.is;
   counted = subst Counted (sym c.index-txs-index.is) (All-get_or Counted c.args.txs.now c.loop-index.index c.index-txs-index.result c.loop-index-test.true c.requires.counted);
   apart = c.loop-index.invariant.apart;
 }

@@ -21,17 +21,17 @@ returns-in_err-block-clause-refused c =
     let p = err_from_is_err_and c.from_residual.result c.from_residual.ensures.1 in
     rw p.1 (step_unread c.args.self.now.profile (index_in c.args.self.now) c.args.bytes.now c.in_err-block.field-0.0 p.0 c.in_err-block.ensures.exact p.2)
 
-pub returns-in_err-admit-clause-refused : goal.returns-in_err-admit-clause-refused
-returns-in_err-admit-clause-refused c =
-    let p = err_from_is_err_and c.from_residual-in_err-admit.result c.from_residual-in_err-admit.ensures.1 in
-    let refuses = subst (λ (hashes : List (List ℕ)). Refuses c.in_err-admit.field-0.0 (admitted c.args.self.now.profile hashes c.in_ok-block.block)) c.deref.ensures.value c.in_err-admit.ensures.refused in
-    rw (p.1, p.2) (step_unadmitted c.args.self.now.profile (index_in c.args.self.now) c.args.bytes.now c.in_ok-block.block c.in_err-admit.field-0.0 c.in_ok-block.ensures.exact refuses)
+pub returns-in_err-ids-clause-refused : goal.returns-in_err-ids-clause-refused
+returns-in_err-ids-clause-refused c =
+    let p = err_from_is_err_and c.from_residual-in_err-ids.result c.from_residual-in_err-ids.ensures.1 in
+    let refuses = subst (λ (hashes : List (List ℕ)). Refuses c.in_err-ids.field-0.0 (admitted c.args.self.now.profile hashes c.in_ok-block.block)) c.deref.ensures.value c.in_err-ids.ensures.refused in
+    rw (p.1, p.2) (step_unadmitted c.args.self.now.profile (index_in c.args.self.now) c.args.bytes.now c.in_ok-block.block c.in_err-ids.field-0.0 c.in_ok-block.ensures.exact refuses)
 
 pub returns-in_err-moved-clause-refused : goal.returns-in_err-moved-clause-refused
 returns-in_err-moved-clause-refused c =
     let p = err_from_is_err_and c.from_residual-in_err-moved.result c.from_residual-in_err-moved.ensures.1 in
     let index : Index = index_in c.args.self.now in
-    let begun : admitted c.args.self.now.profile index.hashes c.in_ok-block.block ≡ Ok tt = subst (λ (hashes : List (List ℕ)). admitted c.args.self.now.profile hashes c.in_ok-block.block ≡ Ok tt) c.deref.ensures.value c.in_ok-admit.ensures.ok in
+    let begun : admitted c.args.self.now.profile index.hashes c.in_ok-block.block ≡ Ok tt = subst (λ (hashes : List (List ℕ)). admitted c.args.self.now.profile hashes c.in_ok-block.block ≡ Ok tt) c.deref.ensures.value c.in_ok-ids.ensures.ok in
     let height : c.len-height.result ≡ length index.hashes = omega (arith, c.len-height.ensures, c.reserve.ensures.len) in
     let refuses = subst (λ (h : ℕ). transfers.Refuses c.in_err-moved.field-0.0 (transfer_of c.args.self.now.profile h c.in_ok-block.block.txs index.outs)) height c.in_err-moved.ensures.refused in
     rw p.1 (step_unmoved c.args.self.now.profile index c.args.bytes.now c.in_ok-block.block c.in_err-moved.field-0.0 p.0 c.in_ok-block.ensures.exact begun refuses p.2)
@@ -39,7 +39,7 @@ returns-in_err-moved-clause-refused c =
 pub join-requires : goal.join-requires
 join-requires c =
     let index : Index = index_in c.args.self.now in
-    let begun : admitted c.args.self.now.profile index.hashes c.in_ok-block.block ≡ Ok tt = subst (λ (hashes : List (List ℕ)). admitted c.args.self.now.profile hashes c.in_ok-block.block ≡ Ok tt) c.deref.ensures.value c.in_ok-admit.ensures.ok in
+    let begun : admitted c.args.self.now.profile index.hashes c.in_ok-block.block ≡ Ok tt = subst (λ (hashes : List (List ℕ)). admitted c.args.self.now.profile hashes c.in_ok-block.block ≡ Ok tt) c.deref.ensures.value c.in_ok-ids.ensures.ok in
     let height : c.len-height.result ≡ length index.hashes = omega (arith, c.len-height.ensures, c.reserve.ensures.len) in
     let after : Transferred = transferred_of c.in_ok-moved.moved (rows_in c.transfer.new.table) in
     let moved : transfer_of c.args.self.now.profile (length index.hashes) c.in_ok-block.block.txs index.outs ≡ Ok after = subst (λ (h : ℕ). transfer_of c.args.self.now.profile h c.in_ok-block.block.txs index.outs ≡ Ok after) height c.in_ok-moved.ensures.moved in
@@ -48,7 +48,7 @@ join-requires c =
 pub invariant_of-self-in-Ok : goal.invariant_of-self-in-Ok
 invariant_of-self-in-Ok c =
     let index : Index = index_in c.args.self.now in
-    let begun : admitted c.args.self.now.profile index.hashes c.in_ok-block.block ≡ Ok tt = subst (λ (hashes : List (List ℕ)). admitted c.args.self.now.profile hashes c.in_ok-block.block ≡ Ok tt) c.deref.ensures.value c.in_ok-admit.ensures.ok in
+    let begun : admitted c.args.self.now.profile index.hashes c.in_ok-block.block ≡ Ok tt = subst (λ (hashes : List (List ℕ)). admitted c.args.self.now.profile hashes c.in_ok-block.block ≡ Ok tt) c.deref.ensures.value c.in_ok-ids.ensures.ok in
     let height : c.len-height.result ≡ length index.hashes = omega (arith, c.len-height.ensures, c.reserve.ensures.len) in
     let after : Transferred = transferred_of c.in_ok-moved.moved (rows_in c.transfer.new.table) in
     let moved : transfer_of c.args.self.now.profile (length index.hashes) c.in_ok-block.block.txs index.outs ≡ Ok after = subst (λ (h : ℕ). transfer_of c.args.self.now.profile h c.in_ok-block.block.txs index.outs ≡ Ok after) height c.in_ok-moved.ensures.moved in
@@ -61,7 +61,7 @@ invariant_of-self-in-Ok c =
 pub returns-in-Ok-clause-ok : goal.returns-in-Ok-clause-ok
 returns-in-Ok-clause-ok c =
     let index : Index = index_in c.args.self.now in
-    let begun : admitted c.args.self.now.profile index.hashes c.in_ok-block.block ≡ Ok tt = subst (λ (hashes : List (List ℕ)). admitted c.args.self.now.profile hashes c.in_ok-block.block ≡ Ok tt) c.deref.ensures.value c.in_ok-admit.ensures.ok in
+    let begun : admitted c.args.self.now.profile index.hashes c.in_ok-block.block ≡ Ok tt = subst (λ (hashes : List (List ℕ)). admitted c.args.self.now.profile hashes c.in_ok-block.block ≡ Ok tt) c.deref.ensures.value c.in_ok-ids.ensures.ok in
     let height : c.len-height.result ≡ length index.hashes = omega (arith, c.len-height.ensures, c.reserve.ensures.len) in
     let after : Transferred = transferred_of c.in_ok-moved.moved (rows_in c.transfer.new.table) in
     let moved : transfer_of c.args.self.now.profile (length index.hashes) c.in_ok-block.block.txs index.outs ≡ Ok after = subst (λ (h : ℕ). transfer_of c.args.self.now.profile h c.in_ok-block.block.txs index.outs ≡ Ok after) height c.in_ok-moved.ensures.moved in
