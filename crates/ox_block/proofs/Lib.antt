@@ -5,3 +5,4 @@ pub mod Places
 pub mod Loops
 pub mod Puts
 pub mod Rows
+pub mod Fronts

@@ -5,6 +5,7 @@ mod block;
 mod fault;
 mod hashing;
 mod lists;
+mod order;
 mod read;
 mod reading;
 mod roots;

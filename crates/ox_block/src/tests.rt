@@ -86,6 +86,20 @@ fn genesis_is_read_hashed_and_written(rt: HostRuntime) -> Result<(), Fail> {
 }
 
 #[test]
+fn ids_are_ordered_by_their_bytes(rt: HostRuntime) {
+    let mut late = [1; 32];
+    late[31] = 2;
+    let mut early = [1; 32];
+    early[0] = 2;
+    assert!(rt; Txid([1; 32]) < Txid(late), "the last byte decides");
+    assert!(rt; Txid(late) < Txid(early), "the first byte decides");
+    assert!(rt;
+        Txid(late) <= Txid(late) && Txid(late) >= Txid(late),
+        "an id ties with itself"
+    );
+}
+
+#[test]
 fn ids_and_roots_are_those_known_from_outside(rt: HostRuntime) -> Result<(), Fail> {
     let read = block(rt.alloc(), three_txs())?;
     assert_eq!(rt;
