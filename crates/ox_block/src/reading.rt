@@ -1,6 +1,6 @@
 //! Reading a block from left to right, one pass, each script copied once.
 
-ghost use Rattle.std.specs.Prelude.{◌≡◌, length, Ok, IfOk};
+ghost use Rattle.std.specs.Prelude.{◌≡◌, ◌≤◌, length, Ok, IfOk};
 ghost use Rattle.ox_bytes.specs.Reading.{Gives, GivesOrMemory, run_at, times, string_at};
 ghost use Rattle.std.specs.List.{list_any};
 ghost use Rattle.ox_block.specs.Spelling.{has_witness};
@@ -72,11 +72,19 @@ fn input_of(alloc: Global, bytes: &[u8]) -> Result<(TxIn, &[u8]), ReadError>
     Ok((input, rest))
 }
 
+/// How many inputs or outputs room is taken for before any is read. So few need no more than they fill, and a count that
+/// lies takes no more room than one of 4.
+fn room_for(count: u64) -> usize
+    ensures { result ≤ 4 }
+{
+    count.min(4) as usize
+}
+
 /// That many inputs.
 fn inputs_times(alloc: Global, count: u64, bytes: &[u8]) -> Result<(Vec<TxIn>, &[u8]), ReadError>
     ensures { GivesOrMemory (λ x. (x.0.items, x.1.now)) result (times input_at count bytes.now) }
 {
-    let mut inputs = Vec::new(alloc);
+    let mut inputs = Vec::with_capacity(alloc, room_for(count))?;
     let mut rest = bytes;
     for _ in 0..count {
         let (input, after) = input_of(alloc, rest)?;
@@ -116,7 +124,7 @@ fn outputs_times(
 ) -> Result<(Vec<TxOut>, &[u8]), ReadError>
     ensures { GivesOrMemory (λ x. (x.0.items, x.1.now)) result (outputs_of count most bytes.now) }
 {
-    let mut outputs = Vec::new(alloc);
+    let mut outputs = Vec::with_capacity(alloc, room_for(count))?;
     let mut spare = most;
     let mut rest = bytes;
     for _ in 0..count {

@@ -5,7 +5,7 @@ use Rattle.ox_block.proofs.reading.outputs_times.Goals as goal
 
 pub returns-in_err-output : goal.returns-in_err-output
 returns-in_err-output c =
-    let p = err_from_is_err_and c.from_residual.result c.from_residual.ensures.1 in
+    let p = err_from_is_err_and c.from_residual-in_err-output.result c.from_residual-in_err-output.ensures.1 in
     rw (p.1, p.2) (outputs_end c.in_err-output.field-0.0 c.loop.outputs.items c.args.count c.loop.counter c.loop.spare c.loop.rest.now (outputs_of c.args.count c.args.most c.args.bytes.now) c.loop-test.true c.in_err-output.ensures c.loop.invariant)
 
 pub loop-preserved : goal.loop-preserved
