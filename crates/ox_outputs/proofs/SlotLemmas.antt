@@ -10,7 +10,7 @@ use Rattle.ox_model.specs.declared.rows.OutRow.{OutRow}
 use Rattle.ox_model.specs.Outputs.{Outputs, outpoint_cmp}
 use Rattle.ox_model.proofs.Orders.{outpoints_total, outpoints_exact}
 use Rattle.ox_outputs.specs.Slots.{SlotList, slot_at, put_slot, rows_of, undone, are_slots, found_among}
-use Rattle.std.specs.Option.{option_map_or}
+use Rattle.std.specs.Option.{option_map, option_map_or}
 use Rattle.std.specs.List.{AllByRecursion}
 use Rattle.std.specs.List.Sorted.{IsStrictlySortedBy}
 use Rattle.std.specs.Map.{keys_of}
@@ -74,6 +74,26 @@ put_back outs at row q false is = refl
 pub put_slot-put_slot : (outs : Outputs) (at : OutPoint) (row : Option OutRow) → put_slot (put_slot outs at row) at (get outs at) ≡ outs
 put_slot-put_slot outs at row = same_map outpoints_total outpoints_exact (put_slot (put_slot outs at row) at (get outs at)) outs (λ q.
     get-put_slot (put_slot outs at row) at (get outs at) q ∙ ap (cond (eq_by_cmp outpoint_cmp q at) (get outs at)) (get-put_slot outs at row q) ∙ put_back outs at row q (eq_by_cmp outpoint_cmp q at) refl)
+
+-- so a change that is taken back leaves the rows as they were
+pub put_again : (old mid new : Outputs) (at : OutPoint) (between row : Option OutRow) → mid ≡ put_slot old at between → row ≡ get old at → new ≡ put_slot mid at row → new ≡ old
+put_again old mid new at between row first stood second =
+    second ∙ (ap (λ (o : Outputs). put_slot o at row) first ∙ (ap (put_slot (put_slot old at between) at) stood ∙ put_slot-put_slot old at between))
+
+-- what is put at an outpoint stands there
+pub get-put_slot_same : (outs : Outputs) (at : OutPoint) (row : Option OutRow) → get (put_slot outs at row) at ≡ row
+get-put_slot_same outs at row = get-put_slot outs at row at ∙ ap (λ (b : Bool). cond b row (get outs at)) ((eq_by_cmp_equiv outpoints_total).refl at)
+
+-- a row that was answered twice
+pub twice_none : (o : Option OutRow) → ◌≡◌ {A = Option (OutRow × OutRow)} None (option_map (λ row. (row, row)) o) → o ≡ None
+twice_none None is = refl
+twice_none (Some r) is = absurd (cc is)
+
+pub twice_some : (o : Option OutRow) (row kept : OutRow) → ◌≡◌ {A = Option (OutRow × OutRow)} (Some (row, kept)) (option_map (λ row. (row, row)) o) → (Some row ≡ o) × (Some kept ≡ o)
+twice_some None row kept is = absurd (cc is)
+twice_some (Some r) row kept is =
+    let both : ◌≡◌ {A = OutRow × OutRow} (row, kept) (r, r) = cc in
+    (ap (λ (p : OutRow × OutRow). Some p.0) both, ap (λ (p : OutRow × OutRow). Some p.1) both)
 
 pub undone-append : (rows : List (Option OutRow)) (ats : List OutPoint) (row : Option OutRow) (at : OutPoint) (outs : Outputs) → length rows ≡ length ats → undone (rows ++ row ∷ []) (ats ++ at ∷ []) outs ≡ undone rows ats (put_slot outs at row)
 undone-append [] [] row at outs same = refl
@@ -154,6 +174,18 @@ both_grown before before' changed changed' kept at b c same = omega (arith, ap l
 -- the slots of the changes, one more among them, after a change
 pub known_more : (changed changed' : List OutPoint) (at : OutPoint) (old new : SlotList) → changed' ≡ changed ++ at ∷ [] → IsTrue (are_slots changed old) → IsSome (slot_at new at) → ((q : OutPoint) → IsSome (slot_at old q) → IsSome (slot_at new q)) → IsTrue (are_slots changed' new)
 known_more changed changed' at old new is known there keeps = subst (λ (l : List OutPoint). IsTrue (are_slots l new)) (sym is) (slots_more changed at new (slots_kept changed old new keeps known) there)
+
+-- the slots of the changes are there still
+pub known_still : (changed changed' : List OutPoint) (old new : SlotList) → changed' ≡ changed → IsTrue (are_slots changed old) → ((q : OutPoint) → IsSome (slot_at old q) → IsSome (slot_at new q)) → IsTrue (are_slots changed' new)
+known_still changed changed' old new is known keeps = subst (λ (l : List OutPoint). IsTrue (are_slots l new)) (sym is) (slots_kept changed old new keeps known)
+
+-- where nothing has changed, the mark stands for what it stood for
+pub mark_still : (before before' : List (Option OutRow)) (changed changed' : List OutPoint) (rows rows' : Outputs) → before' ≡ before → changed' ≡ changed → rows' ≡ rows → undone before' changed' rows' ≡ undone before changed rows
+mark_still before before' changed changed' rows rows' b c r =
+    ap (λ (x : List (Option OutRow)). undone x changed' rows') b ∙ (ap (λ (x : List OutPoint). undone before x rows') c ∙ ap (undone before changed) r)
+
+pub both_still : (before before' : List (Option OutRow)) (changed changed' : List OutPoint) → before' ≡ before → changed' ≡ changed → length before ≡ length changed → length before' ≡ length changed'
+both_still before before' changed changed' b c same = omega (arith, ap length b, ap length c)
 
 -- the rows at the mark
 pub same_mark : (marked : Bool) (old new : Outputs) → new ≡ old → (if marked then Some new else None) ≡ (if marked then Some old else None)

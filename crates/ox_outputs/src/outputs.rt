@@ -6,7 +6,7 @@ ghost use Rattle.std.specs.FinMap as map;
 ghost use Rattle.ox_outputs.specs.Slots.{rows_of, undone, are_slots};
 
 use crate::slots::{
-    Slots, exchange, fill, find, forget, go_back, kept_row, row_at, take_slot, tidy,
+    Slots, fill, fill_twice, find, forget, go_back, row_at, settle, take_slot, take_twice,
 };
 use ox_block::OutPoint;
 use ox_model::{Memory, OutRow, OutTable, Place, Unplaced};
@@ -67,34 +67,31 @@ impl OutTable for Outputs {
         if !self.marked {
             return Ok(take_slot(&mut self.slots, at));
         }
-        let Some(kept) = kept_row(&self.slots, at, self.alloc)? else {
-            return Ok(None);
-        };
         self.changed.reserve(1)?;
         self.before.reserve(1)?;
+        let Some((row, kept)) = take_twice(&mut self.slots, at, self.alloc)? else {
+            return Ok(None);
+        };
         self.changed.push_reserved(*at);
         self.before.push_reserved(Some(kept));
-        Ok(exchange(&mut self.slots, *at, None))
+        Ok(Some(row))
     }
 
     fn place(&mut self, at: &OutPoint, row: OutRow) -> Result<Option<OutRow>, Unplaced> {
         if !self.marked {
             return fill(&mut self.slots, *at, row);
         }
-        let Ok(kept) = kept_row(&self.slots, at, self.alloc) else {
-            return Err(Unplaced { row });
-        };
         if self.changed.reserve(1).is_err() || self.before.reserve(1).is_err() {
             return Err(Unplaced { row });
         }
-        let displaced = fill(&mut self.slots, *at, row)?;
+        let (displaced, kept) = fill_twice(&mut self.slots, *at, row, self.alloc)?;
         self.changed.push_reserved(*at);
         self.before.push_reserved(kept);
         Ok(displaced)
     }
 
     fn begin(&mut self) -> Result<(), Memory> {
-        forget(&mut self.slots, &mut self.changed);
+        settle(&mut self.slots, &mut self.changed, &mut self.before);
         self.before.clear();
         self.marked = true;
         Ok(())

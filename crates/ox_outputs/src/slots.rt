@@ -1,7 +1,7 @@
 //! Slots for rows. A slot that is there can be filled and emptied without memory.
 
 ghost use Rattle.std.specs.Prelude.{◌≡◌, IsTrue, ◌↔◌, Option, None, IsSome, IfOk, IfErr, OnOk, OnErr, [], ◌∷◌, length};
-ghost use Rattle.std.specs.Option.{option_copied};
+ghost use Rattle.std.specs.Option.{option_copied, option_map};
 ghost use Rattle.std.specs.FinMap as map;
 ghost use Rattle.ox_block.specs.declared.block.OutPoint.{OutPoint};
 ghost use Rattle.ox_outputs.specs.Slots.{slot_at, put_slot, rows_of, undone, are_slots, found_among};
@@ -38,6 +38,42 @@ pub(crate) fn exchange(slots: &mut Slots, at: OutPoint, row: Option<OutRow>) -> 
         Ok(Some(held)) => held,
         Ok(None) => None,
         Err(_) => unreachable!(),
+    }
+}
+
+/// Empties the slot at this outpoint, if there is one, and answers what it held.
+fn empty(slots: &mut Slots, at: &OutPoint) -> Option<OutRow>
+    ensures held { result ≡ map.get (rows_of slots.old.entries) at.now }
+    ensures rows { rows_of slots.new.entries ≡ put_slot (rows_of slots.old.entries) at.now None }
+    ensures others { (q : OutPoint) → IsSome (slot_at slots.old.entries q) → IsSome (slot_at slots.new.entries q) }
+{
+    match slots.get_mut(at) {
+        Some(slot) => slot.take(),
+        None => None,
+    }
+}
+
+/// Empties the slot at this outpoint, if there is one, and answers what it held twice. `Memory` where there is none for
+/// the copy: the rows are as before.
+pub(crate) fn take_twice(
+    slots: &mut Slots,
+    at: &OutPoint,
+    alloc: Global,
+) -> Result<Option<(OutRow, OutRow)>, Memory>
+    ensures held { IfOk result (λ held. held ≡ option_map (λ row. (row, row)) (map.get (rows_of slots.old.entries) at.now)) }
+    ensures rows { OnOk result (rows_of slots.new.entries ≡ put_slot (rows_of slots.old.entries) at.now None) }
+    ensures others { (q : OutPoint) → IsSome (slot_at slots.old.entries q) → IsSome (slot_at slots.new.entries q) }
+    ensures err { OnErr result (rows_of slots.new.entries ≡ rows_of slots.old.entries) }
+{
+    let Some(row) = empty(slots, at) else {
+        return Ok(None);
+    };
+    match row.copy(alloc) {
+        Ok(kept) => Ok(Some((row, kept))),
+        Err(e) => {
+            let _empty = exchange(slots, *at, Some(row));
+            Err(e)
+        }
     }
 }
 
@@ -84,17 +120,48 @@ pub(crate) fn fill(slots: &mut Slots, at: OutPoint, row: OutRow) -> Result<Optio
     }
 }
 
-/// A copy of the row at this outpoint, if there is one.
-pub(crate) fn kept_row(
-    slots: &Slots,
-    at: &OutPoint,
+/// Fills the slot at this outpoint, as `fill` does, and answers what it held twice. Where there is no memory, the row is
+/// handed back and the rows are as before.
+pub(crate) fn fill_twice(
+    slots: &mut Slots,
+    at: OutPoint,
+    row: OutRow,
     alloc: Global,
-) -> Result<Option<OutRow>, Memory>
-    ensures { IfOk result (λ kept. kept ≡ map.get (rows_of slots.now.entries) at.now) }
+) -> Result<(Option<OutRow>, Option<OutRow>), Unplaced>
+    ensures held { IfOk result (λ held. held.0 ≡ map.get (rows_of slots.old.entries) at) }
+    ensures kept { IfOk result (λ held. held.1 ≡ map.get (rows_of slots.old.entries) at) }
+    ensures rows { OnOk result (rows_of slots.new.entries ≡ map.insert (rows_of slots.old.entries) at row) }
+    ensures slot { OnOk result (IsSome (slot_at slots.new.entries at)) }
+    ensures others { (q : OutPoint) → IsSome (slot_at slots.old.entries q) → IsSome (slot_at slots.new.entries q) }
+    ensures handed_back { IfErr result (λ e. e.row ≡ row) }
+    ensures err { OnErr result (rows_of slots.new.entries ≡ rows_of slots.old.entries) }
 {
-    match row_at(slots, at) {
-        Some(row) => Ok(Some(row.copy(alloc)?)),
-        None => Ok(None),
+    let Some(held) = fill(slots, at, row)? else {
+        return Ok((None, None));
+    };
+    match held.copy(alloc) {
+        Ok(kept) => Ok((Some(held), Some(kept))),
+        Err(_) => match exchange(slots, at, Some(held)) {
+            Some(row) => Err(Unplaced { row }),
+            None => unreachable!(),
+        },
+    }
+}
+
+/// Forgets changes, and takes the slots away in which they left no row: no row is lost. Only where a row stood before
+/// is its slot looked at, since a change without one filled its slot, and a row that was taken since is another change.
+pub(crate) fn settle(
+    slots: &mut Slots,
+    changed: &mut Vec<OutPoint>,
+    before: &mut Vec<Option<OutRow>>,
+)
+    ensures rows { rows_of slots.new.entries ≡ rows_of slots.old.entries }
+    ensures none { changed.new.items ≡ [] }
+{
+    while let Some(at) = changed.pop() {
+        if let Some(Some(_)) = before.pop() {
+            tidy(slots, at);
+        }
     }
 }
 
