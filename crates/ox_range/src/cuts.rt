@@ -1,7 +1,8 @@
-ghost use Rattle.std.specs.Prelude.{◌≡◌, ℕ, ◌+◌, ◌-◌, ◌^◌, ◌<◌, ◌≤◌, ◌∷◌, [], ◌++◌, ◌↔◌, length, take, drop, vec_len, IsTrue, IfOk, OnOk, OnErr};
+ghost use Rattle.std.specs.Prelude.{◌≡◌, ℕ, ◌+◌, ◌-◌, ◌^◌, ◌<◌, ◌≤◌, ◌∷◌, [], ◌++◌, ◌↔◌, length, take, drop, IsTrue, IfOk, OnOk, OnErr};
 ghost use Rattle.ox_range.specs.Runs.{numbers_of, AreMaximal, run_at, end_of, front_of, rest_of, GoesOn, Joins};
 
-use crate::runs::Run;
+use crate::runs::{Run, Runs};
+use smallvec::SmallVec;
 use std::alloc::{AllocError, Global};
 
 /// Where the numbers of the runs are cut: the index of the run in which the place stands, and how
@@ -25,26 +26,21 @@ fn cut_at(runs: &[Run], len: u64, place: u64) -> (usize, u64)
 }
 
 /// Takes the runs from this index on out of the list.
-fn split_between(alloc: Global, runs: &mut Vec<Run>, index: usize) -> Result<Vec<Run>, AllocError>
-    requires { index ≤ vec_len runs.old }
+fn split_between(alloc: Global, runs: &mut Runs, index: usize) -> Result<Runs, AllocError>
+    requires { index ≤ length runs.old.items }
     ensures front { OnOk result (runs.new.items ≡ take index runs.old.items) }
     ensures rest { IfOk result (λ rest. rest.items ≡ drop index runs.old.items) }
     ensures err { OnErr result (runs.new.items ≡ runs.old.items) }
 {
-    let rest = Vec::from_slice(alloc, &runs[index..])?;
+    let rest = SmallVec::from_slice(alloc, &runs[index..])?;
     runs.truncate(index);
     Ok(rest)
 }
 
 /// Cuts the run at this index, keeps so many of its numbers, and takes what is behind out of the
 /// list.
-fn split_within(
-    alloc: Global,
-    runs: &mut Vec<Run>,
-    index: usize,
-    keep: u64,
-) -> Result<Vec<Run>, AllocError>
-    requires index { index < vec_len runs.old }
+fn split_within(alloc: Global, runs: &mut Runs, index: usize, keep: u64) -> Result<Runs, AllocError>
+    requires index { index < length runs.old.items }
     requires keep { keep < (run_at runs.old.items index).count }
     requires fits { end_of (run_at runs.old.items index) < 2 ^ 64 }
     ensures front { OnOk result (runs.new.items ≡ take index runs.old.items ++ front_of keep (run_at runs.old.items index) ∷ []) }
@@ -52,26 +48,27 @@ fn split_within(
     ensures err { OnErr result (runs.new.items ≡ runs.old.items) }
 {
     let run = runs[index];
-    let mut rest = Vec::from_slice(alloc, &runs[index..])?;
-    rest[0] = Run {
+    let mut rest = SmallVec::with_capacity(alloc, runs.len() - index)?;
+    rest.push(Run {
         first: run.first + keep,
         count: run.count - keep,
-    };
-    runs[index] = Run {
+    })?;
+    rest.extend_from_slice(&runs[index + 1..])?;
+    runs.truncate(index);
+    runs.push_reserved(Run {
         first: run.first,
         count: keep,
-    };
-    runs.truncate(index + 1);
+    });
     Ok(rest)
 }
 
 /// Keeps the runs of the numbers before this place, and gives those of the others.
 pub(crate) fn split(
     alloc: Global,
-    runs: &mut Vec<Run>,
+    runs: &mut Runs,
     len: u64,
     place: u64,
-) -> Result<Vec<Run>, AllocError>
+) -> Result<Runs, AllocError>
     requires maximal { AreMaximal runs.old.items }
     requires len { length (numbers_of runs.old.items) ≡ len }
     requires within { place ≤ len }
@@ -101,21 +98,28 @@ fn goes_on(runs: &[Run], tail: &[Run]) -> bool
 }
 
 /// Puts runs behind others whose last run goes on with the first of these.
-fn append_joined(runs: &mut Vec<Run>, tail: &[Run]) -> Result<(), AllocError>
+fn append_joined(runs: &mut Runs, tail: &[Run]) -> Result<(), AllocError>
     requires meets { GoesOn runs.old.items tail.now }
     requires fits { (run_at runs.old.items (length runs.old.items - 1)).count + (run_at tail.now 0).count < 2 ^ 64 }
     ensures items { OnOk result (Joins runs.old.items tail.now runs.new.items) }
     ensures err { OnErr result (runs.new.items ≡ runs.old.items) }
 {
     let seam = runs.len() - 1;
-    let more = tail[0].count;
-    runs.extend_from_slice(&tail[1..])?;
-    runs[seam].count += more;
-    Ok(())
+    let last = runs[seam];
+    runs.reserve(tail.len() - 1)?;
+    runs.truncate(seam);
+    runs.push_reserved(Run {
+        first: last.first,
+        count: last.count + tail[0].count,
+    });
+    match runs.extend_from_slice(&tail[1..]) {
+        Ok(()) => Ok(()),
+        Err(_) => unreachable!(),
+    }
 }
 
 /// Puts runs behind others, and joins the two that meet where one goes on with the other.
-pub(crate) fn append(runs: &mut Vec<Run>, tail: &[Run]) -> Result<(), AllocError>
+pub(crate) fn append(runs: &mut Runs, tail: &[Run]) -> Result<(), AllocError>
     requires maximal { AreMaximal runs.old.items }
     requires tail { AreMaximal tail.now }
     requires fits { length (numbers_of runs.old.items) + length (numbers_of tail.now) < 2 ^ 64 }

@@ -10,7 +10,8 @@ ghost use Rattle.ox_range.specs.Numbers.{numbers_from};
 ghost use Rattle.ox_range.specs.Runs.{numbers_of, AreMaximal};
 
 use cuts::{append, split};
-use runs::{number_at, place_among};
+use runs::{Runs, number_at, place_among};
+use smallvec::SmallVec;
 use std::alloc::{AllocError, Global};
 use std::marker::Model;
 
@@ -37,7 +38,7 @@ impl From<AllocError> for Memory {
 #[derive(Debug, Drop)]
 pub struct Ranges {
     alloc: Global,
-    runs: Vec<Run>,
+    runs: Runs,
     len: u64,
 }
 
@@ -59,7 +60,7 @@ impl Ranges {
     {
         Ranges {
             alloc,
-            runs: Vec::new(alloc),
+            runs: SmallVec::new(alloc),
             len: 0,
         }
     }
@@ -72,7 +73,7 @@ impl Ranges {
         if count == 0 {
             return Ok(Ranges::empty(alloc));
         }
-        let runs = Vec::from_slice(alloc, &[Run { first, count }])?;
+        let runs = SmallVec::from_slice(alloc, &[Run { first, count }])?;
         Ok(Ranges {
             alloc,
             runs,
@@ -113,7 +114,7 @@ impl Ranges {
     pub fn copy(&self, alloc: Global) -> Result<Ranges, Memory>
         ensures { IfOk result (λ copy. copy ≡ self.now) }
     {
-        let runs = Vec::from_slice(alloc, &self.runs)?;
+        let runs = SmallVec::from_slice(alloc, &self.runs)?;
         Ok(Ranges {
             alloc,
             runs,

@@ -1,8 +1,13 @@
 ghost use Rattle.std.specs.Prelude.{◌≡◌, ℕ, ◌+◌, ◌^◌, ◌<◌, ◌==◌, List, length, slice_index, position};
 ghost use Rattle.ox_range.specs.Runs.{numbers_of, AreMaximal};
 
+use smallvec::SmallVec;
+
+/// Runs, of which one takes no memory of its own: most lists have no more.
+pub(crate) type Runs = SmallVec<Run, 1>;
+
 /// Consecutive numbers: `first`, `first + 1` and so on, `count` of them.
-#[derive(Clone, Copy, Debug, PartialEq, Eq)]
+#[derive(Clone, Copy, Debug, Default, PartialEq, Eq)]
 pub struct Run {
     /// The first number.
     pub first: u64,

@@ -28,6 +28,15 @@ loop-row-preserved c =
       known = slots_kept c.args.changed.now c.loop-row.slots.entries c.exchange-changed.new.slots.entries c.exchange-changed.ensures.others c.loop-row.invariant.known;
     }
 
+pub loop-row-preserved-in-Some-2 : goal.loop-row-preserved-in-Some-2
+loop-row-preserved-in-Some-2 c =
+    let popped = c.in-Some.ensures.items in
+    let at : c.len.result ≡ length c.pop.new.self.items = omega (arith, c.len.ensures) in record {
+      rows = undo_step _ c.loop-row.before.items c.pop.new.self.items c.in-Some.row c.args.changed.now _ _ _ c.len.result popped c.loop-row.invariant.short at c.exchange-changed.ensures.rows c.loop-row.invariant.rows;
+      short = omega (arith, c.loop-row.invariant.short, ap length popped, length-append c.pop.new.self.items (c.in-Some.row ∷ []));
+      known = slots_kept c.args.changed.now c.loop-row.slots.entries c.exchange-changed.new.slots.entries c.exchange-changed.ensures.others c.loop-row.invariant.known;
+    }
+
 pub returns-clause-rows : goal.returns-clause-rows
 returns-clause-rows c =
     let none : c.loop-row.before.items ≡ [] = no_rows _ (omega (arith, c.in_default.ensures.cases)) in
