@@ -1,6 +1,6 @@
 -- The step of an index, case by case.
-use Rattle.std.proofs.Common.{◌≡◌, ◌∙◌, ◌≤◌, ◌<◌, ℕ, ◌+◌, ◌^◌, List, [], ◌∷◌, ◌++◌, length, refl, sym, ap, subst, arith, length-append}
-use Rattle.std.specs.Prelude.{Result, Ok, Err, nat_lt, if◌then◌else◌}
+use Rattle.std.proofs.Common.{◌≡◌, ◌∙◌, ◌≤◌, ◌<◌, ℕ, ◌+◌, ◌^◌, List, [], ◌∷◌, ◌++◌, length, ap, arith, length-append}
+use Rattle.std.specs.Prelude.{Result, Ok, Err}
 use Rattle.ox_bytes.specs.Reading.{◌>>=◌}
 use Rattle.ox_block.specs.Answer.{Gives}
 use Rattle.ox_block.specs.Hashes.{block_hash}
@@ -11,10 +11,9 @@ use Rattle.ox_block.specs.declared.fault.BlockFault.TheVariants.{Malformed as Ba
 use Rattle.ox_sat.specs.Profiles.{IsProfile}
 use Rattle.ox_sat.specs.Heights.{first_at, subsidy_at}
 use Rattle.ox_sat.specs.declared.profiles.Profile.{Profile}
-use Rattle.ox_model.specs.declared.moved.Moved.{Moved}
 use Rattle.ox_model.specs.declared.refusal.Refusal.{Refusal}
 use Rattle.ox_model.specs.Index.{Index}
-use Rattle.ox_model.specs.Outputs.{Outputs, sats_held, times}
+use Rattle.ox_model.specs.Outputs.{sats_held}
 use Rattle.ox_model.specs.Transfer.{Transferred, transfer_of}
 use Rattle.ox_model.specs.Step.{or_malformed, admitted, grown, accept, step}
 use Rattle.ox_model.specs.Sound.{Sound}

@@ -1,5 +1,5 @@
 -- What a call that connects answers against what the definition does. Want of memory is free, and nothing else.
-use Rattle.std.specs.Prelude.{◌≡◌, Result, Ok, Err}
+use Rattle.std.specs.Prelude.{◌≡◌, Result, Err}
 use Rattle.ox_block.specs.declared.fault.BlockFault.{BlockFault}
 use Rattle.ox_block.specs.declared.fault.BlockFault.TheVariants.{Malformed as BadBlock, Memory as NoMemory}
 use Rattle.ox_transfer.specs.declared.fault.TransferFault.{TransferFault}

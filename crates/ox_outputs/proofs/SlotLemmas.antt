@@ -4,7 +4,7 @@ use Rattle.std.specs.Prelude.{IsSome, IsTrue, ◌&&◌, if◌then◌else◌}
 use Rattle.std.specs.Ordering.{eq_by_cmp, is_eq}
 use Rattle.std.specs.declared.cmp.Ordering.TheVariants.{Less, Equal, Greater}
 use Rattle.std.specs.Cmp.{eq_by_cmp_equiv}
-use Rattle.std.specs.FinMap.{empty, get, get_tied, insert, remove, get-empty, get-insert, get-remove, same_map}
+use Rattle.std.specs.FinMap.{empty, get, get_tied, get-empty, get-insert, get-remove, same_map}
 use Rattle.ox_block.specs.declared.block.OutPoint.{OutPoint}
 use Rattle.ox_model.specs.declared.rows.OutRow.{OutRow}
 use Rattle.ox_model.specs.Outputs.{Outputs, outpoint_cmp}

@@ -1,8 +1,6 @@
 -- The coinbase's step, and the whole block.
-use Rattle.std.proofs.Common.{◌≡◌, ◌∙◌, ◌≤◌, ◌<◌, ℕ, suc, ◌+◌, ◌^◌, Bool, List, [], ◌∷◌, ◌++◌, length, refl, sym, ap, subst, append_assoc, length-append, add-one, arith, Option, Some, None, Result, Ok, Err, nat_lt}
-use Rattle.std.specs.Prelude.{map, sum, if◌then◌else◌}
-use Rattle.std.specs.List.{AllByRecursion, All}
-use Rattle.std.proofs.lemmas.List.Elements.{All-from_recursion}
+use Rattle.std.proofs.Common.{◌≡◌, ◌∙◌, ◌≤◌, ◌<◌, ℕ, ◌+◌, ◌^◌, List, [], ◌∷◌, ◌++◌, length, refl, sym, ap, append_assoc, length-append, add-one, arith, Option, Some, None, Result, Ok, Err}
+use Rattle.std.specs.Prelude.{sum}
 use Rattle.ox_bytes.specs.Reading.{◌>>=◌}
 use Rattle.ox_block.specs.declared.block.Txid.{Txid}
 use Rattle.ox_block.specs.declared.block.TxOut.{TxOut}
@@ -18,9 +16,9 @@ use Rattle.ox_model.specs.declared.moved.MovedTx.{MovedTx}
 use Rattle.ox_model.specs.declared.refusal.Refusal.{Refusal}
 use Rattle.ox_model.specs.declared.refusal.Refusal.TheVariants.{Overclaim}
 use Rattle.ox_model.specs.Deal.{deal}
-use Rattle.ox_model.specs.Outputs.{Outputs, sats_of, sats_held, times}
+use Rattle.ox_model.specs.Outputs.{Outputs, sats_of, times}
 use Rattle.ox_model.specs.Transfer.{or_refuse, named, Placed, place_rows, values_of, Spent, spend_all, Transferred, claimed_by, claimable, claim, transfer_of}
-use Rattle.ox_model.proofs.Conservation.{times-append, held, times_held, joined, deal_keeps, place_keeps, bind_ok}
+use Rattle.ox_model.proofs.Conservation.{times-append, times_held, joined, deal_keeps, place_keeps, bind_ok}
 use Rattle.ox_model.proofs.Soundness.{spend_all_keeps, claim_keeps, counts_numbers}
 use Rattle.ox_transfer.specs.declared.fault.TransferFault.{TransferFault}
 use Rattle.ox_transfer.specs.declared.fault.TransferFault.TheVariants.{Refused, Memory}

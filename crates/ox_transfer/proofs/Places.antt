@@ -1,7 +1,6 @@
 -- Rows placed one after the other.
-use Rattle.std.proofs.Common.{◌≡◌, ◌∙◌, ◌≤◌, ◌<◌, ℕ, ◌+◌, ◌^◌, List, [], ◌∷◌, ◌++◌, length, drop, get_or, refl, sym, ap, subst, append_assoc, length-append, arith, Option, Some, None}
+use Rattle.std.proofs.Common.{◌≡◌, ◌∙◌, ◌≤◌, ◌<◌, ℕ, ◌+◌, ◌^◌, List, [], ◌∷◌, ◌++◌, length, drop, get_or, refl, sym, ap, subst, append_assoc, length-append, arith, Option, Some}
 use Rattle.std.specs.Prelude.{reverse}
-use Rattle.std.specs.Option.{option_to_list}
 use Rattle.std.specs.FinMap.{get, insert}
 use Rattle.std.proofs.lemmas.List.{drop_more, drop_all, append-nil, reverse-append}
 use Rattle.std.proofs.lemmas.List.Concat.{flat_map-append}
@@ -9,7 +8,7 @@ use Rattle.ox_block.specs.declared.block.Txid.{Txid}
 use Rattle.ox_block.specs.declared.block.OutPoint.{OutPoint}
 use Rattle.ox_block.specs.declared.block.TxOut.{TxOut}
 use Rattle.ox_model.specs.declared.rows.OutRow.{OutRow}
-use Rattle.ox_model.specs.Outputs.{Outputs, sats_of, times}
+use Rattle.ox_model.specs.Outputs.{Outputs, sats_of}
 use Rattle.ox_model.specs.Transfer.{Placed, as_list, place_rows}
 use Rattle.ox_model.proofs.Conservation.{times-append}
 use Rattle.ox_transfer.specs.Apart.{Apart}

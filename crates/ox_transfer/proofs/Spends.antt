@@ -1,5 +1,5 @@
 -- A transaction's step, and one after the other.
-use Rattle.std.proofs.Common.{◌≡◌, ◌∙◌, ◌≤◌, ◌<◌, ℕ, suc, ◌+◌, ◌^◌, List, [], ◌∷◌, ◌++◌, length, drop, get_or, refl, sym, ap, subst, append_assoc, length-append, arith, Option, Some, None, Result, Ok, Err}
+use Rattle.std.proofs.Common.{◌≡◌, ◌∙◌, ◌≤◌, ◌<◌, ℕ, suc, ◌+◌, ◌^◌, List, [], ◌∷◌, ◌++◌, length, drop, get_or, refl, sym, ap, subst, append_assoc, length-append, arith, Option, Some, Result, Ok, Err}
 use Rattle.std.specs.Prelude.{map, sum}
 use Rattle.std.proofs.lemmas.List.{drop_more, drop_all, append-nil, get_or-map}
 use Rattle.ox_bytes.specs.Reading.{◌>>=◌}
@@ -12,9 +12,9 @@ use Rattle.ox_model.specs.declared.moved.MovedTx.{MovedTx}
 use Rattle.ox_model.specs.declared.refusal.Refusal.{Refusal}
 use Rattle.ox_model.specs.declared.refusal.Refusal.TheVariants.{Overspend}
 use Rattle.ox_model.specs.Deal.{deal}
-use Rattle.ox_model.specs.Outputs.{Outputs, sats_of, sats_held, times}
+use Rattle.ox_model.specs.Outputs.{Outputs, sats_of, times}
 use Rattle.ox_model.specs.Transfer.{or_refuse, named, Taken, take_rows, Placed, place_rows, values_of, Spent, spent_by, spend, spend_all}
-use Rattle.ox_model.proofs.Conservation.{times-append, held, times_held, joined, deal_keeps, take_keeps, bind_ok}
+use Rattle.ox_model.proofs.Conservation.{times-append, times_held, joined, deal_keeps, take_keeps, bind_ok}
 use Rattle.ox_model.proofs.Soundness.{spend_keeps}
 use Rattle.ox_transfer.specs.declared.fault.TransferFault.{TransferFault}
 use Rattle.ox_transfer.specs.declared.fault.TransferFault.TheVariants.{Refused, Memory}

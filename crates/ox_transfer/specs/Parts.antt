@@ -1,5 +1,5 @@
 -- Parts of a transfer, as the code has them halfway.
-use Rattle.std.specs.Prelude.{ℕ, List, ◌++◌, map, Result, Ok, Err}
+use Rattle.std.specs.Prelude.{ℕ, List, ◌++◌, map, Result, Ok}
 use Rattle.std.specs.List.{flat_map}
 use Rattle.ox_bytes.specs.Reading.{◌>>=◌}
 use Rattle.ox_block.specs.declared.block.TxOut.{TxOut}

@@ -1,4 +1,4 @@
-use Rattle.std.proofs.Common.{◌≤◌, ap, arith, length}
+use Rattle.std.proofs.Common.{ap, arith, length}
 use Rattle.ox_transfer.proofs.Sizes.{few_txs}
 use Rattle.ox_index.proofs.admit.admit.Goals as goal
 

@@ -1,4 +1,4 @@
-use Rattle.std.proofs.Common.{◌≡◌, ◌∙◌, sym, ap, subst, refl, None, Option}
+use Rattle.std.proofs.Common.{◌∙◌, sym, ap, subst, refl, Option}
 use Rattle.std.specs.Prelude.{IsSome}
 use Rattle.std.specs.BTreeMap.{BTreeMap}
 use Rattle.ox_block.specs.declared.block.OutPoint.{OutPoint}

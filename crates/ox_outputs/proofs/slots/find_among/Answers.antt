@@ -1,4 +1,4 @@
-use Rattle.std.proofs.Common.{◌≡◌, sym, ap, ◌∙◌, List, Option}
+use Rattle.std.proofs.Common.{sym, ap, ◌∙◌}
 use Rattle.ox_outputs.specs.Slots.{SlotList, found_among}
 use Rattle.ox_outputs.proofs.SlotLemmas.{found_behind, found_in_front}
 use Rattle.ox_outputs.proofs.slots.find_among.Goals as goal

@@ -1,6 +1,5 @@
-use Rattle.std.proofs.Common.{◌≡◌, ◌∙◌, ◌++◌, ◌∷◌, ◌+◌, [], List, ℕ, sym, ap, arith, refl}
+use Rattle.std.proofs.Common.{◌≡◌, ◌∙◌, ◌∷◌, List, ℕ, ap, arith}
 use Rattle.std.specs.Prelude.{reverse}
-use Rattle.ox_sat.specs.Heights.{first_at, subsidy_at}
 use Rattle.ox_range.specs.Numbers.{numbers_from}
 use Rattle.ox_transfer.specs.Parts.{spent_of}
 use Rattle.ox_transfer.proofs.Spends.{as_many, length-values, apart_dealt}

@@ -1,9 +1,5 @@
-use Rattle.std.proofs.Common.{◌≡◌, ◌∙◌, ◌++◌, List, ℕ, refl, sym, ap, arith, append_assoc, length-append, ◌+◌, length}
-use Rattle.std.specs.Prelude.{reverse}
+use Rattle.std.proofs.Common.{◌∙◌, List, ℕ, refl, ap, arith}
 use Rattle.std.specs.FinMap as map
-use Rattle.std.proofs.lemmas.List.{append-nil, length-reverse}
-use Rattle.ox_model.specs.declared.rows.OutRow.{OutRow}
-use Rattle.ox_model.specs.Outputs.{sats_of}
 use Rattle.ox_transfer.proofs.Places.{place_first, none_lost, fewer, place_more, place_done, lost_more, apart_next, apart_onward}
 use Rattle.ox_transfer.proofs.place.place_outputs.Goals as goal
 

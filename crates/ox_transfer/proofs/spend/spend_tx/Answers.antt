@@ -1,13 +1,8 @@
-use Rattle.std.proofs.Common.{◌≡◌, ◌∙◌, ◌++◌, ◌∷◌, [], List, ℕ, sym, ap, subst, arith, ◌^◌, Ok, Some}
+use Rattle.std.proofs.Common.{◌∙◌, ◌++◌, ◌∷◌, [], List, ℕ, arith, ◌^◌}
 use Rattle.std.specs.Prelude.{reverse}
 use Rattle.std.proofs.lemmas.Result.{err_from_is_err_and}
-use Rattle.ox_block.specs.declared.block.TxIn.{TxIn}
-use Rattle.ox_block.specs.declared.block.TxOut.{TxOut}
-use Rattle.ox_model.specs.Deal.{deal}
-use Rattle.ox_model.specs.Transfer.{take_rows, place_rows}
 use Rattle.ox_model.proofs.Conservation.{times-append}
-use Rattle.ox_transfer.specs.Apart.{Apart}
-use Rattle.ox_transfer.specs.Parts.{values, spent_of}
+use Rattle.ox_transfer.specs.Parts.{spent_of}
 use Rattle.ox_transfer.proofs.Once.{apart_less}
 use Rattle.ox_transfer.proofs.Spends.{untaken, too_much, spent_whole, apart_taken, apart_dealt, as_many, length-values, fits_behind, apart_spent}
 use Rattle.ox_transfer.proofs.spend.spend_tx.Goals as goal

@@ -1,9 +1,8 @@
-use Rattle.std.proofs.Common.{◌≡◌, ◌∙◌, ◌++◌, List, ℕ, refl, sym, ap, subst, ◌^◌, arith, length}
+use Rattle.std.proofs.Common.{◌∙◌, ◌++◌, List, ℕ, refl, sym, ap, subst, ◌^◌, arith, length}
 use Rattle.std.proofs.lemmas.Result.{err_from_is_err_and}
 use Rattle.std.proofs.lemmas.List.{length-map}
 use Rattle.std.proofs.lemmas.List.Elements.{All-get_or}
 use Rattle.ox_block.specs.Hashes.{txid}
-use Rattle.ox_block.specs.declared.block.Tx.{Tx}
 use Rattle.ox_transfer.specs.Apart.{Apart}
 use Rattle.ox_transfer.specs.Counts.{Counted}
 use Rattle.ox_transfer.specs.Parts.{spent_of}

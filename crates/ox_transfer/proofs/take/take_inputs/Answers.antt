@@ -1,7 +1,5 @@
-use Rattle.std.proofs.Common.{◌≡◌, ◌∙◌, refl, sym, ap, subst, List, ◌^◌}
+use Rattle.std.proofs.Common.{◌∙◌, refl, sym, ap, subst, ◌^◌}
 use Rattle.std.proofs.lemmas.Result.{err_from_is_err_and}
-use Rattle.std.specs.FinMap as map
-use Rattle.ox_model.specs.declared.rows.OutRow.{OutRow}
 use Rattle.ox_model.specs.Outputs.{sats_of}
 use Rattle.ox_transfer.specs.Apart.{Apart}
 use Rattle.ox_transfer.proofs.Takes.{behind_no_row, take_more, take_fails, take_done, found, joined_more, apart_more, taken_fits}

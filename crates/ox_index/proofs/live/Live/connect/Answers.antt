@@ -1,16 +1,14 @@
 use Rattle.std.proofs.Common.{◌≡◌, ◌∙◌, ◌++◌, [], ◌∷◌, ℕ, List, length, ap, sym, subst, arith}
 use Rattle.std.proofs.lemmas.Result.{err_from_is_err_and}
 use Rattle.std.specs.Prelude.{Ok}
-use Rattle.ox_block.specs.declared.block.Block.{Block}
 use Rattle.ox_model.specs.Index.{Index}
 use Rattle.ox_model.specs.Sound.{Sound}
-use Rattle.ox_model.specs.Step.{admitted, grown, step}
+use Rattle.ox_model.specs.Step.{admitted}
 use Rattle.ox_model.specs.Transfer.{Transferred, transfer_of}
 use Rattle.ox_model.proofs.Soundness.{admitted_right, grown_sound}
 use Rattle.ox_outputs.specs.Table.{rows_in}
 use Rattle.ox_transfer.specs.Answer as transfers
 use Rattle.ox_transfer.specs.Parts.{transferred_of}
-use Rattle.ox_index.specs.declared.fault.ConnectFault.{ConnectFault}
 use Rattle.ox_index.specs.Fault.{Refuses}
 use Rattle.ox_index.specs.Live.{index_in}
 use Rattle.ox_index.proofs.Steps.{step_unread, step_unadmitted, step_unmoved, step_taken, lost_fits, grown_parts}

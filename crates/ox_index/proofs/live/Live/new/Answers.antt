@@ -1,6 +1,5 @@
-use Rattle.std.proofs.Common.{◌≡◌, ◌∙◌, sym, ap, subst, []}
-use Rattle.std.specs.FinMap.{empty}
-use Rattle.ox_model.specs.Index.{Index, no_blocks}
+use Rattle.std.proofs.Common.{◌≡◌, sym, subst}
+use Rattle.ox_model.specs.Index.{no_blocks}
 use Rattle.ox_model.specs.Sound.{Sound}
 use Rattle.ox_model.proofs.Soundness.{sound_first}
 use Rattle.ox_outputs.specs.Table.{rows_in}
