@@ -7,3 +7,9 @@ pub mod Step
 pub mod Chain
 pub mod Sound
 pub mod Text
+pub mod Machine
+pub mod Stack
+pub mod Replies
+pub mod Moments
+pub mod Stands
+pub mod Status

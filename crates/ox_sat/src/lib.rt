@@ -20,7 +20,7 @@ pub use heights::{
 };
 pub use names::{names_are_letters, write_name};
 pub use profiles::{Profile, ProfileName, profile_of};
-pub use spellings::{NotSat, read_sat, spellings_read_back};
+pub use spellings::{NotSat, read_number, read_sat, spellings_read_back};
 
 #[cfg(test)]
 mod tests;

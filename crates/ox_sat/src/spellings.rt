@@ -23,8 +23,9 @@ fn begins_plainly(text: &[u8]) -> bool
     }
 }
 
-/// The number that this text writes in decimal digits, if it is one below 2^64.
-fn read_number(text: &str) -> Option<u64>
+/// The number that this text writes: decimal digits with no sign and no leading zero, `0` aside. `None` exactly where
+/// the text writes none below 18,446,744,073,709,551,616.
+pub fn read_number(text: &str) -> Option<u64>
     ensures reads { IfSome result (λ n. text.now ≡ decimal n) }
     ensures small { IfSome result (λ n. n < 2 ^ 64) }
     ensures none { IfNone result ((n : ℕ) → n < 2 ^ 64 → text.now ≢ decimal n) }

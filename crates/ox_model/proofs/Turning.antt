@@ -1,0 +1,136 @@
+-- A machine's answers are those of its stack, and lines that come later go on from where the earlier ones lead.
+use Rattle.std.proofs.Common.{◌≡◌, ◌∙◌, ◌<◌, ℕ, suc, List, [], ◌∷◌, ◌++◌, length, refl, sym, ap, arith}
+use Rattle.std.specs.Prelude.{Option, Some, None, Result, Ok, Err, ◌==◌, Bool, true, false, if◌then◌else◌}
+use Rattle.std.specs.List.{concat}
+use Rattle.std.proofs.lemmas.List.Sums.{fold_push}
+use Rattle.ox_feed.specs.Command.{command_of}
+use Rattle.ox_feed.specs.Feed.{FeedLine, text, too_long}
+use Rattle.ox_feed.specs.declared.command.Command.{Command}
+use Rattle.ox_feed.specs.declared.command.Command.TheVariants.{Connect, Disconnect}
+use Rattle.ox_model.specs.Chain.{after_block, kept}
+use Rattle.ox_model.specs.Index.{Index, no_blocks}
+use Rattle.ox_model.specs.Machine.{Machine, indexed, with_block, obeyed, obeyed_if, turn}
+use Rattle.ox_model.specs.Stack.{Stack, stack_of, with_index, obeyed_on, obeyed_on_if, turn_on}
+use Rattle.ox_model.specs.Replies.{after_turn, reply_by, after_by, replies_by, after, replies, index_on, after_on, replies_on}
+use Rattle.ox_model.specs.Step.{step}
+use Rattle.ox_model.specs.Text.{ok_text, ok_line, refusal_line}
+use Rattle.ox_model.specs.declared.refusal.Refusal.{Refusal}
+use Rattle.ox_model.specs.declared.refusal.Refusal.TheVariants.{TooLong, Syntax, Malformed, ChainEnd, Unlinked, BadRoot, Coinbase, BadWitness, UnknownOutput, Overspend, Overclaim, Depth}
+
+abbrev pub on_stack : Result Machine Refusal → Result Stack Refusal
+on_stack (Ok machine) = Ok (stack_of machine)
+on_stack (Err refusal) = Err refusal
+
+connects : (m : Machine) (bytes : List ℕ) (r : Result Index Refusal) → step m.profile (indexed m) bytes ≡ r → on_stack (with_block m bytes r) ≡ with_index (stack_of m) r
+connects m bytes (Ok index) is =
+    ap (λ (i : Index). Ok (record { profile = m.profile; depth = m.depth; index = i }))
+    (fold_push (after_block m.profile) no_blocks m.blocks bytes ∙ ap (kept (indexed m)) is)
+connects m bytes (Err refusal) is = refl
+
+pub obeys_alike : (m : Machine) (command : Command) → on_stack (obeyed m command) ≡ obeyed_on (stack_of m) command
+obeys_alike m (Connect bytes) = connects m bytes (step m.profile (indexed m) bytes) refl
+obeys_alike m Disconnect = refl
+
+obeys_if_alike : (m : Machine) (command : Option Command) → on_stack (obeyed_if m command) ≡ obeyed_on_if (stack_of m) command
+obeys_if_alike m (Some command) = obeys_alike m command
+obeys_if_alike m None = refl
+
+turns_alike : (m : Machine) (line : FeedLine) → on_stack (turn m line) ≡ turn_on (stack_of m) line
+turns_alike m (text line) = obeys_if_alike m (command_of line)
+turns_alike m too_long = refl
+
+stack_after : (m : Machine) (r : Result Machine Refusal) → stack_of (after_turn m r) ≡ after_turn (stack_of m) (on_stack r)
+stack_after m (Ok new) = refl
+stack_after m (Err refusal) = refl
+
+one_after : (m : Machine) (line : FeedLine) → stack_of (after_turn m (turn m line)) ≡ after_turn (stack_of m) (turn_on (stack_of m) line)
+one_after m line = stack_after m (turn m line) ∙ ap (after_turn (stack_of m)) (turns_alike m line)
+
+says_alike : (r : Result Machine Refusal) → reply_by indexed r ≡ reply_by index_on (on_stack r)
+says_alike (Ok new) = refl
+says_alike (Err refusal) = refl
+
+one_reply : (m : Machine) (line : FeedLine) → reply_by indexed (turn m line) ≡ reply_by index_on (turn_on (stack_of m) line)
+one_reply m line = says_alike (turn m line) ∙ ap (reply_by index_on) (turns_alike m line)
+
+cons_same : {X : Type 0} (a b : X) (xs ys : List X) → a ≡ b → xs ≡ ys → a ∷ xs ≡ b ∷ ys
+cons_same a b xs ys e f = rw (e, f) refl
+
+pub replies_alike : (m : Machine) (lines : List FeedLine) → replies m lines ≡ replies_on (stack_of m) lines
+unfolding replies_by
+replies_alike m [] = refl
+replies_alike m (line ∷ lines) =
+    cons_same _ _ _ _ (one_reply m line)
+    (replies_alike (after_turn m (turn m line)) lines ∙ ap (λ (s : Stack). replies_on s lines) (one_after m line))
+
+pub after_alike : (m : Machine) (lines : List FeedLine) → stack_of (after m lines) ≡ after_on (stack_of m) lines
+unfolding after_by
+after_alike m [] = refl
+after_alike m (line ∷ lines) = after_alike (after_turn m (turn m line)) lines ∙ ap (λ (s : Stack). after_on s lines) (one_after m line)
+
+-- ---- lines one after the other
+
+module _ {X : Type 0} (turn_by : X → FeedLine → Result X Refusal) where
+  pub after_none : (state : X) → after_by turn_by state [] ≡ state
+  unfolding after_by
+  after_none state = refl
+
+  pub after_one : (state : X) (line : FeedLine) → after_by turn_by state (line ∷ []) ≡ after_turn state (turn_by state line)
+  unfolding after_by
+  after_one state line = refl
+
+  pub after_joined : (state : X) (x y : List FeedLine) → after_by turn_by state (x ++ y) ≡ after_by turn_by (after_by turn_by state x) y
+  unfolding after_by
+  after_joined state [] y = refl
+  after_joined state (line ∷ x) y = after_joined (after_turn state (turn_by state line)) x y
+
+  module _ (index : X → Index) where
+    pub replies_none : (state : X) → replies_by turn_by index state [] ≡ []
+    unfolding replies_by
+    replies_none state = refl
+
+    pub replies_line : (state : X) (line : FeedLine) (lines : List FeedLine)
+        → replies_by turn_by index state (line ∷ lines) ≡ reply_by index (turn_by state line) ∷ replies_by turn_by index (after_turn state (turn_by state line)) lines
+    unfolding replies_by
+    replies_line state line lines = refl
+
+    pub replies_joined : (state : X) (x y : List FeedLine)
+        → replies_by turn_by index state (x ++ y) ≡ replies_by turn_by index state x ++ replies_by turn_by index (after_by turn_by state x) y
+    unfolding after_by replies_by
+    replies_joined state [] y = refl
+    replies_joined state (line ∷ x) y =
+        ap (λ (l : List (List ℕ)). reply_by index (turn_by state line) ∷ l) (replies_joined (after_turn state (turn_by state line)) x y)
+
+    pub replies_length : (state : X) (lines : List FeedLine) → length (replies_by turn_by index state lines) ≡ length lines
+    unfolding replies_by
+    replies_length state [] = refl
+    replies_length state (line ∷ lines) = ap suc (replies_length (after_turn state (turn_by state line)) lines)
+
+-- ---- every answer has a byte
+
+refusal_some : (refusal : Refusal) → 0 < length (refusal_line refusal)
+unfolding refusal_line
+refusal_some TooLong = omega arith
+refusal_some Syntax = omega arith
+refusal_some (Malformed at) = omega arith
+refusal_some (ChainEnd height) = omega arith
+refusal_some (Unlinked have want) = omega arith
+refusal_some (BadRoot have want) = omega arith
+refusal_some (Coinbase tx) = omega arith
+refusal_some BadWitness = omega arith
+refusal_some (UnknownOutput tx input at) = omega arith
+refusal_some (Overspend tx inputs outputs) = omega arith
+refusal_some (Overclaim claimable claimed) = omega arith
+refusal_some Depth = omega arith
+
+either_some : (b : Bool) (x y : List ℕ) → 0 < length x → 0 < length y → 0 < length (if b then x else y)
+either_some true x y p q = p
+either_some false x y p q = q
+
+ok_some : (hashes : List (List ℕ)) → 0 < length (ok_text hashes)
+unfolding ok_text
+ok_some hashes = either_some (length hashes == 0) _ _ (omega arith) (omega arith)
+
+pub reply_some : {X : Type 0} (index : X → Index) (r : Result X Refusal) → 0 < length (reply_by index r)
+reply_some index (Ok new) = ok_some (index new).hashes
+reply_some index (Err refusal) = refusal_some refusal

@@ -1,0 +1,8 @@
+use Rattle.ox_model.proofs.Turning.{replies_alike, after_alike}
+use Rattle.ox_model.proofs.answers_are_of_the_stack.Goals as goal
+
+pub returns-clause-answers : goal.returns-clause-answers
+returns-clause-answers c = replies_alike
+
+pub returns-clause-leads : goal.returns-clause-leads
+returns-clause-leads c = after_alike

@@ -1,0 +1,6 @@
+use Rattle.ox_model.proofs.Turning.{after_joined}
+use Rattle.ox_model.specs.Machine.{turn}
+use Rattle.ox_model.proofs.runs_join.Goals as goal
+
+pub returns : goal.returns
+returns c = after_joined turn

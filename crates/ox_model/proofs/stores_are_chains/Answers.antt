@@ -1,0 +1,8 @@
+use Rattle.ox_model.proofs.Standing.{stands_for_chain, chain_sound}
+use Rattle.ox_model.proofs.stores_are_chains.Goals as goal
+
+pub returns-clause-chain : goal.returns-clause-chain
+returns-clause-chain c = stands_for_chain
+
+pub returns-clause-sound : goal.returns-clause-sound
+returns-clause-sound c = λ files stack is. chain_sound stack (stands_for_chain files stack is)
