@@ -1,18 +1,18 @@
 -- What hearings on channel 0 add to the log, and what a crash leaves during them.
-use Rattle.std.proofs.Common.{◌≡◌, ℕ, Bool, true, false, List, [], ◌∷◌, ◌++◌, Ok, Err, Some, refl}
+use Rattle.std.proofs.Common.{◌≡◌, ℕ, Bool, true, false, List, [], ◌∷◌, ◌++◌, ◌||◌, ◌∙◌, Ok, Err, Some, refl, sym}
 use Rattle.std.specs.Prelude.{IsTrue, Option, Result, if◌then◌else◌}
 use Rattle.std.proofs.lemmas.List.Elements.{All-append, All-cons, All-nil}
 use Rattle.ox_outside.specs.Counts.{Counts}
 use Rattle.ox_outside.specs.Crash.{Remains, LeavesFiles, OneCall, OnlyTalks}
-use Rattle.ox_outside.specs.Event.{Event, Heard, Ended, Broke, has_broken, hear_events}
+use Rattle.ox_outside.specs.Event.{Event, Heard, Ended, Broke, has_broken, has_ended, hear_events}
 use Rattle.ox_outside.specs.Files.{Files}
 use Rattle.ox_outside.specs.Log.{Adds, Grows}
 use Rattle.ox_outside.specs.declared.site.Failed.{Failed}
 use Rattle.ox_outside.specs.declared.site.Heard.{Heard as HeardAnswer}
 use Rattle.ox_outside.specs.declared.site.Heard.TheVariants.{Bytes, NotYet, End}
-use Rattle.ox_outside.proofs.Log.{adds_grows, grows_weaker}
+use Rattle.ox_outside.proofs.Log.{adds_grows}
 use Rattle.ox_outside.proofs.Talking.{talks_once, talks_then}
-use Rattle.ox_feed.specs.Feed.{Feed, OnlyHears, is_hearing}
+use Rattle.ox_feed.specs.Feed.{Feed, Listens, OnlyHears, is_hearing}
 use Rattle.ox_feed.specs.Held.{Waits}
 
 abbrev IsHearing : Event → Type 0
@@ -38,9 +38,26 @@ only_hears_answer room (Ok NotYet) log = only_hears_none
 only_hears_answer room (Ok End) log = only_hears_one (Ended 0) refl
 only_hears_answer room (Err failed) log = only_hears_fault (has_broken 0 log)
 
+-- nothing is heard so far
+pub listens_none : (feed : Feed) → Listens feed []
+listens_none feed = record { only = only_hears_none; quiet = λ over. refl }
+
+had_ended : (a b : Bool) → IsTrue a → (a || b) ≡ false → ⊥
+had_ended true b over goes_on = cc goes_on
+had_ended false b over goes_on = cc over
+
+listens_on : (feed waiting : Feed) (x y : List Event) → waiting.ended ≡ false → Waits feed waiting x → OnlyHears y → Listens feed (x ++ y)
+listens_on feed waiting x y goes_on waited hears = record {
+  only = only_hears_then x y waited.hears.only hears;
+  quiet = λ over. absurd (had_ended feed.ended (has_ended 0 x) over (sym waited.hears.ended ∙ goes_on));
+}
+
 module _ {S : Type 0} (told : S → Bool) (seen : S → Files) (log : S → Option (List Event)) (counts : S → Counts) (clock : S → ℕ) (may_leave : S → Remains → Type 0) (left_since : S → ℕ → Remains → Type 0) where
   abbrev Talks : S → S → Type 0
   Talks old new = OnlyTalks told seen log counts clock may_leave left_since OnlyHears old new
+
+  abbrev Listening : Feed → S → S → Type 0
+  Listening feed old new = OnlyTalks told seen log counts clock may_leave left_since (Listens feed) old new
 
   -- one hearing, whatever it answers
   pub talks_hearing : (only_now : (site : S) (r : Remains) → left_since site (clock site) r → may_leave site r) (logs_now : (site : S) (r : Remains) → may_leave site r → log site ≡ Some r.log)
@@ -50,8 +67,8 @@ module _ {S : Type 0} (told : S → Bool) (seen : S → Files) (log : S → Opti
       talks_once told seen log counts clock may_leave left_since only_now logs_now OnlyHears old new only_hears_none files call
       (adds_grows (hear_events 0 room result) OnlyHears (log old) (log new) (only_hears_answer room result) adds)
 
-  -- a hearing more, behind those of a reader that made no lines
-  pub talks_on : (feed waiting : Feed) (old mid new : S) → Grows (Waits feed waiting) (log old) (log mid) → Talks old mid → Talks mid new → Talks old new
-  talks_on feed waiting old mid new waits first then_ =
-      talks_then told seen log counts clock may_leave left_since OnlyHears OnlyHears OnlyHears OnlyHears old mid new (λ x only. only) only_hears_then
-      first (grows_weaker (Waits feed waiting) OnlyHears (log old) (log mid) (λ added waited. waited.hears.only) waits) then_
+  -- a hearing more, behind those of a reader that made no lines and whose feed hasn't ended
+  pub talks_on : (feed waiting : Feed) (old mid new : S) → waiting.ended ≡ false → Grows (Waits feed waiting) (log old) (log mid) → Listening feed old mid → Talks mid new → Listening feed old new
+  talks_on feed waiting old mid new goes_on waits first then_ =
+      talks_then told seen log counts clock may_leave left_since (Listens feed) (Waits feed waiting) OnlyHears (Listens feed) old mid new (λ x listens. listens)
+      (λ x y waited hears. listens_on feed waiting x y goes_on waited hears) first waits then_

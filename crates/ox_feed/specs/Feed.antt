@@ -86,6 +86,11 @@ pub record Hears (old new : Feed) (events : List Event) : Type 0 where
   -- once the feed has ended, nothing is heard
   pub quiet : IsTrue old.ended → events ≡ []
 
+-- what a reader with this feed may add to the log at any moment: hearings, and none once the feed has ended
+pub record Listens (feed : Feed) (events : List Event) : Type 0 where
+  pub only : OnlyHears events
+  pub quiet : IsTrue feed.ended → events ≡ []
+
 -- what may still be heard: anything, but nothing where the feed has ended
 abbrev pub MayCome : Feed → List ℕ → Bool → Type 0
 MayCome feed more ended = IsTrue feed.ended → (more ≡ []) × (ended ≡ true)

@@ -4,7 +4,7 @@ ghost use Rattle.std.specs.Prelude.{◌≡◌, ◌+◌, ◌-◌, ◌<◌, ◌≤
 ghost use Rattle.ox_outside.specs.Counts.{Rose};
 ghost use Rattle.ox_outside.specs.Crash.{OnlyTalks};
 ghost use Rattle.ox_outside.specs.Log.{Grows};
-ghost use Rattle.ox_feed.specs.Feed.{Answers, IsLine, IsTooMuch, OnlyHears, Tells, feed_limit, left, line_limit, line_of, unheard};
+ghost use Rattle.ox_feed.specs.Feed.{Answers, IsLine, IsTooMuch, Listens, OnlyHears, Tells, feed_limit, left, line_limit, line_of, unheard};
 ghost use Rattle.ox_feed.specs.Held.{Cuts, EndsAt, HasNoFeed, IsHeld, Shorter, Waits, feed_of, hearings_left, line_as};
 
 use crate::lines::{FeedFault, Line};
@@ -157,7 +157,7 @@ impl Held {
         ensures fewer { IfOk result (λ line. IsLine line → left (feed_of self.new) < left (feed_of self.old)) }
         ensures hear_fault { IsErrOf result FeedFault.HearFault → Rose ((S.counts site.old).hear 0) ((S.counts site.new).hear 0) }
         ensures too_much { IsErrOf result FeedFault.TooMuch → IsTooMuch (feed_of self.new) }
-        ensures talks { OnlyTalks S.told S.seen S.log S.counts S.clock S.may_leave S.left_since OnlyHears site.old site.new }
+        ensures talks { OnlyTalks S.told S.seen S.log S.counts S.clock S.may_leave S.left_since (Listens (feed_of self.old)) site.old site.new }
     {
         loop {
             if let Some(line) = self.whole_line()? {

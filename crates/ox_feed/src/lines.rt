@@ -5,7 +5,7 @@ ghost use Rattle.ox_outside.specs.Counts.{Rose};
 ghost use Rattle.ox_outside.specs.Crash.{OnlyTalks};
 ghost use Rattle.ox_outside.specs.Log.{Grows};
 ghost use Rattle.ox_feed.specs.declared.lines.FeedFault.TheVariants.{Memory as out_of_memory};
-ghost use Rattle.ox_feed.specs.Feed.{Answers, IsLine, IsTooMuch, OnlyHears, feed_limit, left, line_limit, room_size, unheard};
+ghost use Rattle.ox_feed.specs.Feed.{Answers, IsLine, IsTooMuch, Listens, feed_limit, left, line_limit, room_size, unheard};
 
 use crate::held::Held;
 use ox_bytes::{Bytes, Memory};
@@ -97,8 +97,8 @@ impl Lines {
         ensures size { length self.new.rest ≤ line_limit + 1 + room_size }
         ensures count { self.new.heard ≤ feed_limit }
 
-        // A crash at any moment of the call leaves files that it left before, and a log that has grown by hearings alone.
-        ensures talks { OnlyTalks S.told S.seen S.log S.counts S.clock S.may_leave S.left_since OnlyHears site.old site.new }
+        // A crash at any moment of the call leaves the files as before it, and a log that has grown by hearings alone.
+        ensures talks { OnlyTalks S.told S.seen S.log S.counts S.clock S.may_leave S.left_since (Listens self.old) site.old site.new }
     {
         self.held.next(site)
     }

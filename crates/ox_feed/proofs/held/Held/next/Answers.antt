@@ -1,4 +1,4 @@
-use Rattle.std.proofs.Common.{le_trans}
+use Rattle.std.proofs.Common.{◌∙◌, le_trans, sym}
 use Rattle.std.proofs.lemmas.Result.{err_from_is_err_and}
 use Rattle.ox_feed.specs.Held.{feed_of}
 use Rattle.ox_feed.proofs.Hearing.{talks_on}
@@ -17,7 +17,7 @@ loop-line-preserved g c =
           c.in_ok-line.ensures.heard c.in_ok-line.ensures.ended cuts.1 kept.1 c.hear.ensures.waits,
       le_trans (le_trans c.hear.ensures.left fewer) kept.2,
       talks_on g.S.Site.told g.S.Site.seen g.S.Site.log g.S.Site.counts g.S.Site.clock g.S.Site.may_leave g.S.Site.left_since
-          (feed_of c.args.self.now) (feed_of c.loop-line.self) c.args.site.now c.loop-line.site c.hear.new.site kept.1 kept.3 c.hear.ensures.talks,
+          (feed_of c.args.self.now) (feed_of c.loop-line.self) c.args.site.now c.loop-line.site c.hear.new.site (sym c.in_ok-line.ensures.ended ∙ c.if-self.false) kept.1 kept.3 c.hear.ensures.talks,
     )
 
 pub returns-in_err-hear-clause-told : goal.returns-in_err-hear-clause-told
@@ -35,4 +35,4 @@ pub returns-in_err-hear-clause-talks : goal.returns-in_err-hear-clause-talks
 returns-in_err-hear-clause-talks g c =
     let kept = c.loop-line.invariant in
     talks_on g.S.Site.told g.S.Site.seen g.S.Site.log g.S.Site.counts g.S.Site.clock g.S.Site.may_leave g.S.Site.left_since
-    (feed_of c.args.self.now) (feed_of c.loop-line.self) c.args.site.now c.loop-line.site c.hear.new.site kept.1 kept.3 c.hear.ensures.talks
+    (feed_of c.args.self.now) (feed_of c.loop-line.self) c.args.site.now c.loop-line.site c.hear.new.site (sym c.in_ok-line.ensures.ended ∙ c.if-self.false) kept.1 kept.3 c.hear.ensures.talks
