@@ -1,5 +1,5 @@
 // What is written: a record with the closed gate behind it, and a file without records.
-ghost use Rattle.std.specs.Prelude.{◌≡◌, ◌+◌, ◌<◌, ◌^◌, length, IsTrue, IfOk};
+ghost use Rattle.std.specs.Prelude.{◌≡◌, ◌+◌, ◌<◌, ◌^◌, ◌++◌, length, IsTrue, IfOk};
 ghost use Rattle.ox_gated.specs.Layout.{is_lawful, record_bytes, checkpoint_bytes};
 
 use crate::head::Head;
@@ -40,10 +40,20 @@ pub fn frame(alloc: Global, payload: &[u8]) -> Result<Framed, Memory>
     requires { length payload.now < 2 ^ 32 }
     ensures { IfOk result (λ framed. framed ≡ payload.now) }
 {
-    let mut bytes = Vec::with_capacity(alloc, payload.len() + 5)?;
-    let size = payload.len() as u32;
-    bytes.extend_from_slice(&size.to_le_bytes())?;
-    bytes.extend_from_slice(payload)?;
+    frame_parts(alloc, payload, &[])
+}
+
+/// The record whose payload is the bytes of `front` and then those of `rest`, each copied once. `Memory` where there is
+/// none for it.
+pub fn frame_parts(alloc: Global, front: &[u8], rest: &[u8]) -> Result<Framed, Memory>
+    requires { length front.now + length rest.now < 2 ^ 32 }
+    ensures { IfOk result (λ framed. framed ≡ front.now ++ rest.now) }
+{
+    let size = front.len() + rest.len();
+    let mut bytes = Vec::with_capacity(alloc, size + 5)?;
+    bytes.extend_from_slice(&(size as u32).to_le_bytes())?;
+    bytes.extend_from_slice(front)?;
+    bytes.extend_from_slice(rest)?;
     bytes.push(0)?;
     Ok(Framed {
         bytes: Bytes::from_vec(bytes),

@@ -11,7 +11,7 @@ mod tail;
 mod writes;
 
 pub use fault::{Before, GateFault};
-pub use framed::{Checkpoint, Framed, checkpoint_of, frame};
+pub use framed::{Checkpoint, Framed, checkpoint_of, frame, frame_parts};
 pub use head::Head;
 pub use open::Opened;
 pub use records::{Record, Records};
