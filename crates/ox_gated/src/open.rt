@@ -151,6 +151,7 @@ fn judge(
     requires { 26 + examined.now.opening.size + length rest.now < 2 ^ 64 }
     ensures found { IfOk result (λ o. judged examined.now.file examined.now.opening.head body.items (chain (26 + examined.now.opening.size) rest.now).records (chain (26 + examined.now.opening.size) rest.now).end ≡ Ok (found_of o)) }
     ensures tail { IfOk result (λ o. o.tail ≡ tail_of o examined.now.other_closed) }
+    ensures head { IfOk result (λ o. o.head ≡ examined.now.opening.head) }
     ensures fault { IfErr result (IsFault (judged examined.now.file examined.now.opening.head body.items (chain (26 + examined.now.opening.size) rest.now).records (chain (26 + examined.now.opening.size) rest.now).end)) }
     ensures not_disk { IsErrOf result GateFault.DiskFault → ⊥ }
 {
@@ -194,6 +195,7 @@ pub fn read_current<S: Site>(
     requires { IsTrue (S.told site.old) → examined.now.len ≡ length (file_of (S.seen site.old) examined.now.file) }
     ensures found { IsTrue (S.told site.old) → IfOk result (λ o. current version examined.now.file (file_of (S.seen site.old) examined.now.file) examined.now.opening ≡ Ok (found_of o)) }
     ensures tail { IfOk result (λ o. o.tail ≡ tail_of o examined.now.other_closed) }
+    ensures version { IfOk result (λ o. o.head.version ≡ version) }
     ensures fault { IsTrue (S.told site.old) → IfErr result (IsFault (current version examined.now.file (file_of (S.seen site.old) examined.now.file) examined.now.opening)) }
     ensures looks { OnlyLooks S.told S.seen S.log S.counts S.clock S.may_leave S.left_since site.old site.new }
     ensures failed { IsErrOf result GateFault.DiskFault → Rose (S.counts site.old).disk (S.counts site.new).disk }
@@ -238,10 +240,11 @@ impl Tail {
     /// Opens two files of version 1. It begins with a sync of both, and changes nothing: at no moment does a crash leave
     /// anything that it didn't leave before. `NotStore` comes exactly where the files stand for nothing, with the file and
     /// the place of the first test that fails; `DiskFault` only where a call on a file failed; `Memory` where there is none
-    /// for what the files hold.
+    /// for what the files hold. What is opened has version 1, whatever the site tells.
     pub fn open<S: Site>(alloc: Global, site: &mut S) -> Result<Opened, GateFault>
         ensures found { IsTrue (S.told site.old) → IfOk result (λ o. reading 1 (S.seen site.old) ≡ Ok (found_of o)) }
         ensures holds { IsTrue (S.told site.old) → IfOk result (λ o. Holds S.seen S.may_leave o.tail site.new) }
+        ensures head { IfOk result (λ o. (o.tail.head ≡ o.head) × (o.head.version ≡ 1)) }
         ensures not_store { IsTrue (S.told site.old) → IfErr result (IsFault (reading 1 (S.seen site.old))) }
         ensures failed { IsErrOf result GateFault.DiskFault → Rose (S.counts site.old).disk (S.counts site.new).disk }
         ensures looks { OnlyLooks S.told S.seen S.log S.counts S.clock S.may_leave S.left_since site.old site.new }
