@@ -1,5 +1,5 @@
 // The tail of two files: where the next record comes.
-ghost use Rattle.std.specs.Prelude.{◌≡◌, ◌↔◌, ◌+◌, ◌<◌, ◌^◌, [], IsTrue, IfOk, OnErr};
+ghost use Rattle.std.specs.Prelude.{◌≡◌, ◌↔◌, ◌+◌, ◌<◌, ◌^◌, [], Some, IsTrue, IfOk, OnErr};
 ghost use Rattle.ox_outside.specs.Counts.{Rose};
 ghost use Rattle.ox_outside.specs.Crash.{Calls, LeavesOnly};
 
@@ -102,6 +102,7 @@ impl Tail {
         ensures any_moment { IsTrue (S.told site.old) → LeavesOnly S.clock S.left_since site.old site.new (λ r. IsBeforeOrAfter self.head.version framed.now (S.seen site.old) r.files) }
         ensures failed { OnErr result (Rose (S.counts site.old).disk (S.counts site.new).disk) }
         ensures logged { S.log site.new ≡ S.log site.old }
+        ensures log_stays { LeavesOnly S.clock S.left_since site.old site.new (λ r. S.log site.old ≡ Some r.log) }
         ensures calls { Calls S.told S.counts S.clock S.left_since site.old site.new }
     {
         let bytes = framed.as_slice();
@@ -124,6 +125,7 @@ impl Tail {
         ensures kept { IfOk result (λ tail. (tail.file ≡ Which.A) × (tail.head ≡ checkpoint.now.head) × (tail.records ≡ 0)) }
         ensures failed { OnErr result (Rose (S.counts site.old).disk (S.counts site.new).disk) }
         ensures logged { S.log site.new ≡ S.log site.old }
+        ensures log_stays { LeavesOnly S.clock S.left_since site.old site.new (λ r. S.log site.old ≡ Some r.log) }
         ensures calls { Calls S.told S.counts S.clock S.left_since site.old site.new }
     {
         let bytes = checkpoint.as_slice();

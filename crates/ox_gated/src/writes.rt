@@ -1,5 +1,5 @@
 // A write that is on the disk before anything else is done.
-ghost use Rattle.std.specs.Prelude.{◌≡◌, ◌≤◌, IsTrue, OnOk, OnErr, length};
+ghost use Rattle.std.specs.Prelude.{◌≡◌, ◌≤◌, IsTrue, OnOk, OnErr, Some, length};
 ghost use Rattle.ox_outside.specs.Counts.{Rose};
 ghost use Rattle.ox_outside.specs.Crash.{Remains, Only, Calls, LeavesOnly};
 ghost use Rattle.ox_outside.specs.Files.{file_of, with_file, written, other, TornFile};
@@ -15,6 +15,7 @@ pub fn write_synced<S: Site>(site: &mut S, file: Which, at: u64, bytes: &[u8]) -
     ensures others { (r : Remains) → S.may_leave site.new r → (q : Remains) × S.may_leave site.old q × (file_of r.files (other file) ≡ file_of q.files (other file)) }
     ensures moments { IsSettled S.seen S.may_leave site.old → LeavesOnly S.clock S.left_since site.old site.new (λ r. TornFile file at (length bytes.now) (S.seen site.old) r.files) }
     ensures logged { S.log site.new ≡ S.log site.old }
+    ensures log_stays { LeavesOnly S.clock S.left_since site.old site.new (λ r. S.log site.old ≡ Some r.log) }
     ensures failed { OnErr result (Rose (S.counts site.old).disk (S.counts site.new).disk) }
     ensures calls { Calls S.told S.counts S.clock S.left_since site.old site.new }
 {
