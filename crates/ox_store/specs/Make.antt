@@ -1,0 +1,20 @@
+-- A store without a block, as it is made.
+use Rattle.std.specs.Prelude.{ℕ, []}
+use Rattle.ox_gated.specs.declared.head.Head.{Head}
+use Rattle.ox_outside.specs.Files.{Files}
+use Rattle.ox_sat.specs.Profiles.{profile_named}
+use Rattle.ox_sat.specs.declared.profiles.ProfileName.{ProfileName}
+use Rattle.ox_model.specs.Machine.{begun}
+use Rattle.ox_model.specs.Stack.{Stack, stack_of}
+
+-- two empty files
+abbrev pub no_files : Files
+no_files = record { a = []; b = [] }
+
+-- the head of its file: version 1, generation 1
+abbrev pub first_head : ProfileName → ℕ → Head
+first_head name depth = record { version = 1; profile = (profile_named name).byte; depth = depth; generation = 1 }
+
+-- its stack
+abbrev pub made_stack : ProfileName → ℕ → Stack
+made_stack name depth = stack_of (begun (profile_named name) depth)

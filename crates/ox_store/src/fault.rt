@@ -1,0 +1,50 @@
+//! Why a store isn't made or opened, and why a command isn't prepared.
+
+use crate::store::Store;
+use ox_model::Refusal;
+use ox_outside::Which;
+
+/// Why no store was made.
+#[derive(Clone, Copy, Debug, PartialEq, Eq)]
+pub enum MakeFault {
+    /// A file's length isn't 0. Nothing was written.
+    NotEmpty,
+    /// A call on a file failed.
+    DiskFault,
+    /// There is no memory for the store. Nothing was written.
+    Memory,
+}
+
+/// Why no store was opened.
+#[derive(Clone, Copy, Debug, PartialEq, Eq)]
+pub enum OpenFault {
+    /// The files are no store.
+    NotStore {
+        /// The file in which the first test fails.
+        file: Which,
+        /// The place in the file that this test is of.
+        at: u64,
+    },
+    /// A call on a file failed.
+    DiskFault,
+    /// There is no memory for what the files hold.
+    Memory,
+}
+
+/// Why a command isn't prepared.
+#[derive(Clone, Copy, Debug, PartialEq, Eq)]
+pub enum Why {
+    /// The command is refused.
+    Refused(Refusal),
+    /// There is no memory for it.
+    Memory,
+}
+
+/// The store, which is as before, and why the command isn't prepared.
+#[derive(Drop)]
+pub struct Kept {
+    /// The store as before the command.
+    pub store: Store,
+    /// The cause.
+    pub why: Why,
+}

@@ -1,0 +1,47 @@
+//! The opening of two files.
+
+ghost use Rattle.std.specs.Prelude.{◌≡◌, Ok, IsTrue, IfOk, IfErr, IsErrOf};
+ghost use Rattle.ox_outside.specs.Counts.{Rose};
+ghost use Rattle.ox_outside.specs.Crash.{OnlyLooks};
+ghost use Rattle.ox_gated.specs.Tail.{Holds};
+
+use crate::fault::OpenFault;
+use crate::replay::{Unjudged, judge};
+use crate::store::Store;
+use ox_gated::{Before, GateFault, Tail};
+use ox_outside::Site;
+use std::alloc::Global;
+
+impl Store {
+    ghost use Rattle.ox_model.specs.Stands.{stands};
+    ghost use Rattle.ox_store.specs.Fault.{IsMisfit};
+
+    /// Opens two files of version 1 and carries out the commands of their records again. It begins with a sync of both
+    /// files, and changes nothing: at no moment does a crash leave anything that it didn't leave before.
+    ///
+    /// `NotStore` exactly where the files stand for nothing, with the file and the place of the first test that fails;
+    /// `DiskFault` only where a call on a file failed; `Memory` where there is none for what the files hold.
+    pub fn open<S: Site>(alloc: Global, site: &mut S) -> Result<Store, OpenFault>
+        ensures stands { IsTrue (S.told site.old) → IfOk result (λ store. stands (S.seen site.old) ≡ Ok store.stack) }
+        ensures fresh { IfOk result (λ store. store.commands ≡ 0) }
+        ensures holds { IsTrue (S.told site.old) → IfOk result (λ store. Holds S.seen S.may_leave store.tail site.new) }
+        ensures not_store { IsTrue (S.told site.old) → IfErr result (IsMisfit (stands (S.seen site.old))) }
+        ensures failed { IsErrOf result OpenFault.DiskFault → Rose (S.counts site.old).disk (S.counts site.new).disk }
+        ensures looks { OnlyLooks S.told S.seen S.log S.counts S.clock S.may_leave S.left_since site.old site.new }
+    {
+        match Tail::open(alloc, site) {
+            Ok(opened) => match judge(alloc, &opened.head, &opened.body, &opened.records) {
+                Ok(live) => Ok(Store {
+                    alloc,
+                    live,
+                    tail: opened.tail,
+                    commands: 0,
+                }),
+                Err(unjudged) => Err(unjudged.in_file(opened.file)),
+            },
+            Err(GateFault::NotStore { file, at, before }) => Err(earliest(alloc, before, at)?.in_file(file)),
+            Err(GateFault::DiskFault) => Err(OpenFault::DiskFault),
+            Err(GateFault::Memory) => Err(OpenFault::Memory),
+        }
+    }
+}
