@@ -1,4 +1,5 @@
 pub mod Fault
 pub mod Make
 pub mod Ready
+pub mod Replay
 pub mod Store
