@@ -1,6 +1,8 @@
 -- What the answers of a store say of the definitions. Want of memory is free, and nothing else.
 use Rattle.std.specs.Prelude.{◌≡◌, Result, Err}
 use Rattle.ox_feed.specs.declared.command.Command.{Command}
+use Rattle.ox_index.specs.declared.fault.ConnectFault.{ConnectFault}
+use Rattle.ox_index.specs.declared.fault.ConnectFault.TheVariants as connects
 use Rattle.ox_model.specs.Stack.{Stack, obeyed_on}
 use Rattle.ox_model.specs.Stands.{Misfit}
 use Rattle.ox_store.specs.declared.fault.OpenFault.{OpenFault}
@@ -18,3 +20,8 @@ IsMisfit standing opens.Memory = Unit {0}
 abbrev pub IsRefused : Stack → Command → Why → Type 0
 IsRefused stack command (whys.Refused refusal) = obeyed_on stack command ≡ Err refusal
 IsRefused stack command whys.Memory = Unit {0}
+
+-- why a block that isn't connected isn't prepared
+abbrev pub why_not : ConnectFault → Why
+why_not (connects.Refused refusal) = whys.Refused refusal
+why_not connects.Memory = whys.Memory

@@ -1,7 +1,6 @@
 -- What a store holds.
 use Rattle.std.specs.Prelude.{ℕ, ◌-◌, List, length, Option, option_map, slice_get}
 use Rattle.ox_gated.specs.Tail.{Kept}
-use Rattle.ox_sat.specs.declared.profiles.Profile.{Profile}
 use Rattle.ox_index.specs.Live.{profile_in, index_in}
 use Rattle.ox_index.specs.declared.live.Live.{Live}
 use Rattle.ox_model.specs.Index.{Index}

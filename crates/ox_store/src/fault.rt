@@ -1,8 +1,13 @@
 //! Why a store isn't made or opened, and why a command isn't prepared.
 
+ghost use Rattle.std.specs.Prelude.{◌≡◌};
+
 use crate::store::Store;
+use ox_bytes::Memory;
+use ox_gated::DiskFault;
+use ox_index::ConnectFault;
 use ox_model::Refusal;
-use ox_outside::Which;
+use ox_outside::{Failed, Which};
 
 /// Why no store was made.
 #[derive(Clone, Copy, Debug, PartialEq, Eq)]
@@ -13,6 +18,36 @@ pub enum MakeFault {
     DiskFault,
     /// There is no memory for the store. Nothing was written.
     Memory,
+}
+
+impl From<Failed> for MakeFault {
+    ghost use Rattle.ox_store.specs.declared.fault.MakeFault.TheVariants as faults;
+
+    ghost from_gives = { λ _ e. e ≡ faults.DiskFault };
+
+    fn from(_failed: Failed) -> MakeFault {
+        MakeFault::DiskFault
+    }
+}
+
+impl From<DiskFault> for MakeFault {
+    ghost use Rattle.ox_store.specs.declared.fault.MakeFault.TheVariants as faults;
+
+    ghost from_gives = { λ _ e. e ≡ faults.DiskFault };
+
+    fn from(_fault: DiskFault) -> MakeFault {
+        MakeFault::DiskFault
+    }
+}
+
+impl From<Memory> for MakeFault {
+    ghost use Rattle.ox_store.specs.declared.fault.MakeFault.TheVariants as faults;
+
+    ghost from_gives = { λ _ e. e ≡ faults.Memory };
+
+    fn from(_memory: Memory) -> MakeFault {
+        MakeFault::Memory
+    }
 }
 
 /// Why no store was opened.
@@ -38,6 +73,19 @@ pub enum Why {
     Refused(Refusal),
     /// There is no memory for it.
     Memory,
+}
+
+impl From<ConnectFault> for Why {
+    ghost use Rattle.ox_store.specs.Fault.{why_not};
+
+    ghost from_gives = { λ fault why. why ≡ why_not fault };
+
+    fn from(fault: ConnectFault) -> Why {
+        match fault {
+            ConnectFault::Refused(refusal) => Why::Refused(refusal),
+            ConnectFault::Memory => Why::Memory,
+        }
+    }
 }
 
 /// The store, which is as before, and why the command isn't prepared.

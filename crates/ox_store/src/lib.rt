@@ -10,6 +10,3 @@ mod store;
 pub use fault::{Kept, MakeFault, OpenFault, Why};
 pub use ready::Ready;
 pub use store::{About, Store};
-
-#[cfg(test)]
-mod tests;

@@ -1,20 +1,23 @@
 //! The opening of two files.
 
-ghost use Rattle.std.specs.Prelude.{◌≡◌, Ok, IsTrue, IfOk, IfErr, IsErrOf};
+ghost use Rattle.std.specs.Prelude.{◌≡◌, Ok, Result, IsTrue, IfOk, IfErr, IsErrOf};
 ghost use Rattle.ox_outside.specs.Counts.{Rose};
 ghost use Rattle.ox_outside.specs.Crash.{OnlyLooks};
+ghost use Rattle.ox_gated.specs.Opened.{IsFault, found_of};
+ghost use Rattle.ox_gated.specs.Reading.{Found, Fault};
 ghost use Rattle.ox_gated.specs.Tail.{Holds};
+ghost use Rattle.ox_model.specs.Stands.{stack_in};
+ghost use Rattle.ox_store.specs.Fault.{IsMisfit};
 
 use crate::fault::OpenFault;
-use crate::replay::{Unjudged, judge};
+use crate::replay::{earliest, judge};
 use crate::store::Store;
-use ox_gated::{Before, GateFault, Tail};
+use ox_gated::{GateFault, Opened, Tail};
 use ox_outside::Site;
 use std::alloc::Global;
 
 impl Store {
     ghost use Rattle.ox_model.specs.Stands.{stands};
-    ghost use Rattle.ox_store.specs.Fault.{IsMisfit};
 
     /// Opens two files of version 1 and carries out the commands of their records again. It begins with a sync of both
     /// files, and changes nothing: at no moment does a crash leave anything that it didn't leave before.
@@ -30,18 +33,40 @@ impl Store {
         ensures looks { OnlyLooks S.told S.seen S.log S.counts S.clock S.may_leave S.left_since site.old site.new }
     {
         match Tail::open(alloc, site) {
-            Ok(opened) => match judge(alloc, &opened.head, &opened.body, &opened.records) {
-                Ok(live) => Ok(Store {
-                    alloc,
-                    live,
-                    tail: opened.tail,
-                    commands: 0,
-                }),
-                Err(unjudged) => Err(unjudged.in_file(opened.file)),
-            },
-            Err(GateFault::NotStore { file, at, before }) => Err(earliest(alloc, before, at)?.in_file(file)),
-            Err(GateFault::DiskFault) => Err(OpenFault::DiskFault),
-            Err(GateFault::Memory) => Err(OpenFault::Memory),
+            Ok(opened) => store_of(alloc, opened),
+            Err(fault) => Err(fault_of(alloc, fault)),
         }
+    }
+}
+
+// The store of files that were read.
+fn store_of(alloc: Global, opened: Opened) -> Result<Store, OpenFault>
+    requires { (opened.tail.head ≡ opened.head) × (opened.head.version ≡ 1) }
+    ensures stack { IfOk result (λ store. stack_in (Ok (found_of opened)) ≡ Ok store.stack) }
+    ensures fresh { IfOk result (λ store. store.commands ≡ 0) }
+    ensures tail { IfOk result (λ store. store.tail ≡ opened.tail) }
+    ensures misfit { IfErr result (IsMisfit (stack_in (Ok (found_of opened)))) }
+    ensures not_disk { IsErrOf result OpenFault.DiskFault → ⊥ }
+{
+    match judge(alloc, &opened.head, &opened.body, &opened.records) {
+        Ok(live) => Ok(Store {
+            alloc,
+            live,
+            tail: opened.tail,
+            commands: 0,
+        }),
+        Err(unjudged) => Err(unjudged.in_file(opened.file)),
+    }
+}
+
+// What is wrong with files that weren't read.
+fn fault_of(alloc: Global, fault: GateFault) -> OpenFault
+    ensures misfit { (reading : Result Found Fault) → IsFault reading fault → IsMisfit (stack_in reading) result }
+    ensures disk { result ≡ OpenFault.DiskFault → fault ≡ GateFault.DiskFault }
+{
+    match fault {
+        GateFault::NotStore { file, at, before } => earliest(alloc, before, at).in_file(file),
+        GateFault::DiskFault => OpenFault::DiskFault,
+        GateFault::Memory => OpenFault::Memory,
     }
 }

@@ -24,12 +24,16 @@ pub struct Ready {
 }
 
 impl Model for Ready {
-    ghost use Rattle.std.specs.Prelude.{◌<◌, ◌^◌, ◌-◌, length};
+    ghost use Rattle.std.specs.Prelude.{◌≡◌, ◌<◌, ◌^◌, ◌-◌, length};
+    ghost use Rattle.std.specs.Coded.{codes};
+    ghost use Rattle.std.specs.FinMap as map;
     ghost use Rattle.ox_gated.specs.Tail.{Fits};
     ghost use Rattle.ox_store.specs.Ready.{Prepared};
     ghost use Rattle.ox_store.specs.Store.{stack_with};
 
     ghost Value = { Prepared };
+
+    ghost coded = { Prim.hlevel (codes, map.code) };
 
     ghost view = { λ r. record { stack = stack_with r.tail.head.depth r.live; tail = r.tail; commands = r.commands; payload = r.framed } };
 

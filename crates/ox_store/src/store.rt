@@ -1,21 +1,28 @@
 //! A store between two commands.
 
-ghost use Rattle.std.specs.Prelude.{◌≡◌, ◌≢◌, ◌≤◌, ◌<◌, ◌^◌, ℕ, Ok, IsTrue, IfOk, IfErr, IsErrOf, OnOk};
+ghost use Rattle.std.specs.Prelude.{◌≡◌, ◌≢◌, ◌≤◌, ◌<◌, ◌^◌, ◌+◌, ◌-◌, ◌∷◌, ◌↔◌, ◌⊎◌, length, Ok, Err, IsTrue, IfOk, IfErr, IsErrOf, OnOk, OnErr};
 ghost use Rattle.ox_outside.specs.Counts.{Rose};
 ghost use Rattle.ox_outside.specs.Crash.{Calls, OnlyLooks};
 ghost use Rattle.ox_gated.specs.Tail.{Holds};
+ghost use Rattle.ox_store.specs.Make.{no_files};
 
-use crate::fault::{Kept, MakeFault, OpenFault, Why};
+use crate::fault::{Kept, MakeFault, Why};
 use crate::ready::Ready;
-use crate::replay::{Replayed, replay};
+use ox_bytes::Memory;
 use ox_feed::Command;
-use ox_gated::{Head, Tail, checkpoint_of, frame_parts};
-use ox_index::{ConnectFault, Live};
-use ox_model::{Refusal, View};
-use ox_outside::{Site, Which};
+use ox_gated::{Framed, Head, Tail, checkpoint_of, frame_parts};
+use ox_index::Live;
+use ox_model::Refusal;
+use ox_outside::{Failed, Site, Which};
 use ox_sat::{ProfileName, profile_of};
 use std::alloc::Global;
 use std::marker::Model;
+
+/// The first byte of a record's payload; the block that is connected stands behind it.
+const CONNECT: u8 = 1;
+
+/// The greatest number of bytes of a block that has a record: the length of its payload fits 4 bytes.
+const LONGEST_BLOCK: usize = 0xffff_fffe;
 
 /// How many blocks may be kept to be taken back at most, and how many are.
 #[derive(Clone, Copy, Debug, PartialEq, Eq)]
@@ -37,9 +44,14 @@ pub struct Store {
 }
 
 impl Model for Store {
+    ghost use Rattle.std.specs.Prelude.{◌≡◌};
+    ghost use Rattle.std.specs.Coded.{codes};
+    ghost use Rattle.std.specs.FinMap as map;
     ghost use Rattle.ox_store.specs.Store.{Stored, stack_with};
 
     ghost Value = { Stored };
+
+    ghost coded = { Prim.hlevel (codes, map.code) };
 
     ghost view = { λ s. record { stack = stack_with s.tail.head.depth s.live; tail = s.tail; commands = s.commands } };
 
@@ -47,11 +59,12 @@ impl Model for Store {
 }
 
 impl Store {
-    ghost use Rattle.ox_feed.specs.declared.command.Command.{Command};
+    ghost use Rattle.ox_feed.specs.declared.command.Command.TheVariants.{Connect};
+    ghost use Rattle.ox_gated.specs.Tail.{Fits};
     ghost use Rattle.ox_index.specs.Live.{profile_in, index_in};
     ghost use Rattle.ox_model.specs.Stands.{stands};
-    ghost use Rattle.ox_store.specs.Fault.{IsMisfit, IsRefused};
-    ghost use Rattle.ox_store.specs.Make.{no_files, made_stack};
+    ghost use Rattle.ox_store.specs.Fault.{IsRefused};
+    ghost use Rattle.ox_store.specs.Make.{made_stack};
     ghost use Rattle.ox_store.specs.Ready.{Prepares};
 
     /// Makes two empty files a store without a block, whose chain counts by this profile and of whose blocks at most
@@ -77,7 +90,7 @@ impl Store {
         ensures logged { S.log site.new ≡ S.log site.old }
         ensures calls { Calls S.told S.counts S.clock S.left_since site.old site.new }
     {
-        if site.len(Which::A)? != 0 || site.len(Which::B)? != 0 {
+        if !are_empty(site)? {
             return Err(MakeFault::NotEmpty);
         }
         let profile = profile_of(name);
@@ -135,4 +148,73 @@ impl Store {
             Command::Disconnect => Err(self.keeping(Why::Refused(Refusal::Depth))),
         }
     }
+
+    // Prepares a connect: its record is taken first, and the block is connected last, so that want of memory leaves all
+    // as it was.
+    fn prepare_connect(self, block: &[u8]) -> Result<Ready, Kept>
+        requires { self.commands < 2 ^ 64 - 1 }
+        ensures ready { IfOk result (λ ready. Prepares self (Connect block.now) ready) }
+        ensures refused { IfErr result (λ kept. IsRefused self.stack (Connect block.now) kept.why) }
+        ensures kept { IfErr result (λ kept. kept.store ≡ self) }
+    {
+        let framed = match self.record_of(block) {
+            Ok(framed) => framed,
+            Err(Memory) => return Err(self.keeping(Why::Memory)),
+        };
+        let Store {
+            alloc,
+            mut live,
+            tail,
+            commands,
+        } = self;
+        match live.connect(block) {
+            Ok(()) => Ok(Ready {
+                alloc,
+                live,
+                tail,
+                commands,
+                framed,
+            }),
+            Err(fault) => Err(Kept {
+                store: Store {
+                    alloc,
+                    live,
+                    tail,
+                    commands,
+                },
+                why: fault.into(),
+            }),
+        }
+    }
+
+    // The record of a block. `Memory` where the block is too long for one, where the file has no room for it, and where
+    // there is none.
+    fn record_of(&self, block: &[u8]) -> Result<Framed, Memory>
+        ensures payload { IfOk result (λ framed. framed ≡ 1 ∷ block.now) }
+        ensures fits { IfOk result (λ framed. Fits self.now.tail (length framed)) }
+    {
+        if block.len() > LONGEST_BLOCK || !self.tail.fits(block.len() as u64 + 1) {
+            return Err(Memory);
+        }
+        frame_parts(self.alloc, &[CONNECT], block)
+    }
+
+    // The store as it is, and why a command isn't prepared.
+    fn keeping(self, why: Why) -> Kept
+        ensures store { result.store ≡ self }
+        ensures why { result.why ≡ why }
+    {
+        Kept { store: self, why }
+    }
+}
+
+// Whether the length of both files is 0.
+fn are_empty<S: Site>(site: &mut S) -> Result<bool, Failed>
+    ensures empty { IsTrue (S.told site.old) → IfOk result (λ empty. IsTrue empty ↔ (S.seen site.old ≡ no_files)) }
+    ensures looks { OnlyLooks S.told S.seen S.log S.counts S.clock S.may_leave S.left_since site.old site.new }
+    ensures failed { OnErr result (Rose (S.counts site.old).disk (S.counts site.new).disk) }
+{
+    let a = site.len(Which::A)?;
+    let b = site.len(Which::B)?;
+    Ok(a == 0 && b == 0)
 }
