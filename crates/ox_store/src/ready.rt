@@ -1,6 +1,6 @@
 //! A command between its preparation and its record.
 
-ghost use Rattle.std.specs.Prelude.{◌≡◌, ◌+◌, Ok, IsTrue, IfOk, OnErr};
+ghost use Rattle.std.specs.Prelude.{◌≡◌, ◌+◌, Some, Ok, IsTrue, IfOk, OnErr};
 ghost use Rattle.ox_outside.specs.Counts.{Rose};
 ghost use Rattle.ox_outside.specs.Crash.{Calls, LeavesOnly};
 ghost use Rattle.ox_gated.specs.Tail.{Holds};
@@ -68,6 +68,7 @@ impl Ready {
         ensures any_moment { IsTrue (S.told site.old) → (before : Stack) → stands (S.seen site.old) ≡ Ok before → Leads before self → LeavesOnly S.clock S.left_since site.old site.new (λ r. StandsForEither before self.stack r.files) }
         ensures failed { OnErr result (Rose (S.counts site.old).disk (S.counts site.new).disk) }
         ensures logged { S.log site.new ≡ S.log site.old }
+        ensures log_stays { LeavesOnly S.clock S.left_since site.old site.new (λ r. S.log site.old ≡ Some r.log) }
         ensures calls { Calls S.told S.counts S.clock S.left_since site.old site.new }
     {
         let Ready {

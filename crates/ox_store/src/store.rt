@@ -1,8 +1,8 @@
 //! A store between two commands.
 
-ghost use Rattle.std.specs.Prelude.{◌≡◌, ◌≢◌, ◌≤◌, ◌<◌, ◌^◌, ◌+◌, ◌-◌, ◌∷◌, ◌↔◌, ◌⊎◌, length, Ok, Err, IsTrue, IfOk, IfErr, IsErrOf, OnOk, OnErr};
+ghost use Rattle.std.specs.Prelude.{◌≡◌, ◌≢◌, ◌≤◌, ◌<◌, ◌^◌, ◌+◌, ◌-◌, ◌∷◌, ◌↔◌, ◌⊎◌, length, Some, Ok, Err, IsTrue, IfOk, IfErr, IsErrOf, OnOk, OnErr};
 ghost use Rattle.ox_outside.specs.Counts.{Rose};
-ghost use Rattle.ox_outside.specs.Crash.{Calls, OnlyLooks};
+ghost use Rattle.ox_outside.specs.Crash.{Calls, LeavesOnly, OnlyLooks};
 ghost use Rattle.ox_gated.specs.Tail.{Holds};
 ghost use Rattle.ox_store.specs.Make.{no_files};
 
@@ -88,6 +88,7 @@ impl Store {
         ensures wrote_nothing { (result ≡ Err MakeFault.NotEmpty) ⊎ (result ≡ Err MakeFault.Memory) → OnlyLooks S.told S.seen S.log S.counts S.clock S.may_leave S.left_since site.old site.new }
         ensures failed { IsErrOf result MakeFault.DiskFault → Rose (S.counts site.old).disk (S.counts site.new).disk }
         ensures logged { S.log site.new ≡ S.log site.old }
+        ensures log_stays { LeavesOnly S.clock S.left_since site.old site.new (λ r. S.log site.old ≡ Some r.log) }
         ensures calls { Calls S.told S.counts S.clock S.left_since site.old site.new }
     {
         if !are_empty(site)? {
