@@ -10,3 +10,6 @@ mod store;
 pub use fault::{Kept, MakeFault, OpenFault, Why};
 pub use ready::Ready;
 pub use store::{About, Store};
+
+#[cfg(test)]
+mod tests;
