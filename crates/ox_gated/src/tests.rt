@@ -1,5 +1,5 @@
 // What no clause says: that the calls succeed where there is ample memory, and the bytes of an empty store.
-use crate::{Checkpoint, GateFault, Head, Opened, Tail, checkpoint_of, frame};
+use crate::{Checkpoint, GateFault, Head, Opened, Tail, checkpoint_of, frame, frame_parts};
 use ox_memsite::{Choice, MemSite};
 use ox_outside::Which;
 use std::alloc::Global;
@@ -53,6 +53,13 @@ fn an_empty_store_has_these_bytes(rt: HostRuntime) -> Result<(), Fail> {
     assert!(rt; tail.is_ok());
     assert_eq!(rt; site.file(Which::A), EMPTY.as_slice());
     assert_eq!(rt; site.file(Which::B), b"\0".as_slice());
+    Ok(())
+}
+
+#[test]
+fn two_parts_make_one_payload(rt: HostRuntime) -> Result<(), Fail> {
+    let framed = frame_parts(rt.alloc(), b"a", b"bc")?;
+    assert_eq!(rt; framed.as_slice(), b"\x03\0\0\0abc\0".as_slice());
     Ok(())
 }
 
