@@ -71,7 +71,8 @@ impl Store {
     /// `depth` may be kept, from 1 to 1,000. At `Ok` it is on the disk: each crash then leaves that store.
     ///
     /// `NotEmpty` exactly where a file's length isn't 0; `DiskFault` only where a call on a file failed; `Memory` where
-    /// there is none for the store. Nothing was written at `NotEmpty` and `Memory`.
+    /// there is none for the store. Nothing was written at `NotEmpty` and `Memory`, nor ever into files that aren't both
+    /// empty.
     pub fn make<S: Site>(
         alloc: Global,
         site: &mut S,
@@ -85,6 +86,7 @@ impl Store {
         ensures holds { IsTrue (S.told site.old) → IfOk result (λ store. Holds S.seen S.may_leave store.tail site.new) }
         ensures empty { IsTrue (S.told site.old) → OnOk result (S.seen site.old ≡ no_files) }
         ensures not_empty { IsTrue (S.told site.old) → IsErrOf result MakeFault.NotEmpty → S.seen site.old ≢ no_files }
+        ensures spared { IsTrue (S.told site.old) → S.seen site.old ≢ no_files → OnlyLooks S.told S.seen S.log S.counts S.clock S.may_leave S.left_since site.old site.new }
         ensures wrote_nothing { (result ≡ Err MakeFault.NotEmpty) ⊎ (result ≡ Err MakeFault.Memory) → OnlyLooks S.told S.seen S.log S.counts S.clock S.may_leave S.left_since site.old site.new }
         ensures failed { IsErrOf result MakeFault.DiskFault → Rose (S.counts site.old).disk (S.counts site.new).disk }
         ensures logged { S.log site.new ≡ S.log site.old }
