@@ -133,7 +133,7 @@ impl View for Live {
 }
 
 // The line of an accepted command, by the hashes of the chain.
-#[tactic(auto, unfolding(ox_model::specs::Text::ok_text))]
+#[tactic(auto, unfolding(ox_model::specs::Text::ok_text, ox_model::specs::Text::block_line))]
 fn ok_line_of(alloc: Global, hashes: &[[u8; 32]]) -> Result<Bytes, Memory>
     ensures { IfOk result (λ line. line ≡ ok_text hashes.now) }
 {

@@ -13,7 +13,7 @@ use Rattle.ox_model.specs.Machine.{Machine, indexed, with_block, obeyed, obeyed_
 use Rattle.ox_model.specs.Stack.{Stack, stack_of, with_index, obeyed_on, obeyed_on_if, turn_on}
 use Rattle.ox_model.specs.Replies.{after_turn, reply_by, after_by, replies_by, after, replies, index_on, after_on, replies_on}
 use Rattle.ox_model.specs.Step.{step}
-use Rattle.ox_model.specs.Text.{ok_text, ok_line, refusal_line}
+use Rattle.ox_model.specs.Text.{block_line, ok_text, ok_line, refusal_line}
 use Rattle.ox_model.specs.declared.refusal.Refusal.{Refusal}
 use Rattle.ox_model.specs.declared.refusal.Refusal.TheVariants.{TooLong, Syntax, Malformed, ChainEnd, Unlinked, BadRoot, Coinbase, BadWitness, UnknownOutput, Overspend, Overclaim, Depth}
 
@@ -128,7 +128,7 @@ either_some true x y p q = p
 either_some false x y p q = q
 
 ok_some : (hashes : List (List ℕ)) → 0 < length (ok_text hashes)
-unfolding ok_text
+unfolding ok_text block_line
 ok_some hashes = either_some (length hashes == 0) _ _ (omega arith) (omega arith)
 
 pub reply_some : {X : Type 0} (index : X → Index) (r : Result X Refusal) → 0 < length (reply_by index r)

@@ -34,11 +34,13 @@ refusal_line (Overspend tx inputs outputs) = codes "refused 9 " ++ decimal tx ++
 refusal_line (Overclaim claimable claimed) = codes "refused 10 " ++ pair_text claimable claimed ++ codes "\n"
 refusal_line Depth = codes "refused 11\n"
 
--- the line of an accepted command, by the hashes of the chain then: the height and the hash of the newest block
+-- the line of a newest block, by its height and its hash
+unfoldable pub block_line : ℕ → List ℕ → List ℕ
+block_line height hash = codes "ok " ++ decimal height ++ codes " " ++ hash_text hash ++ codes "\n"
+
+-- the line of an accepted command, by the hashes of the chain then
 unfoldable pub ok_text : List (List ℕ) → List ℕ
-ok_text hashes =
-    if length hashes == 0 then codes "ok empty\n"
-    else codes "ok " ++ decimal (length hashes - 1) ++ codes " " ++ hash_text (newest_of hashes) ++ codes "\n"
+ok_text hashes = if length hashes == 0 then codes "ok empty\n" else block_line (length hashes - 1) (newest_of hashes)
 
 -- the same, by the index
 abbrev pub ok_line : Index → List ℕ
