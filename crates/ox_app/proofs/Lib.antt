@@ -1,4 +1,9 @@
+pub mod Carrying
+pub mod Feeding
+pub mod Following
 pub mod Fresh
-pub mod Folding
+pub mod Going
+pub mod Looking
 pub mod Showing
+pub mod Surviving
 pub mod Words

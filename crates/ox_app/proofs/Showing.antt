@@ -80,3 +80,10 @@ showing_failed bytes rest first mid now = grows_add (fault_events 0) (Showing by
 pub shown_whole : (bytes rest : List ℕ) (first now : Option (List Event)) → rest ≡ [] → Grows (Showing bytes rest) first now → Grows (ShowsWhole bytes) first now
 shown_whole bytes rest first now none = grows_weaker (Showing bytes rest) (ShowsWhole bytes) first now
     (λ x so_far. record { quiet = so_far.quiet; shown = sym (append-nil (shown_bytes 0 x)) ∙ ap (λ (l : List ℕ). shown_bytes 0 x ++ l) (sym none) ∙ so_far.shown })
+
+-- what was shown so far is a front of all
+pub showing_front : (bytes rest : List ℕ) (first now : Option (List Event)) → Grows (Showing bytes rest) first now → Grows (ShowsFront bytes) first now
+showing_front bytes rest first now = grows_weaker (Showing bytes rest) (ShowsFront bytes) first now (λ x so_far. record { quiet = so_far.quiet; shown = (rest, so_far.shown) })
+
+pub front_none : (bytes : List ℕ) → ShowsFront bytes []
+front_none bytes = record { quiet = quiet_none; shown = (bytes, refl) }

@@ -1,69 +1,26 @@
-//! A feed, read to its end and answered line by line.
+//! A feed, read to its end and answered line by line, without files.
 
-ghost use Rattle.std.specs.Prelude.{◌≡◌, ◌<◌, ◌≤◌, [], Some, Ok, IsErrOf};
+ghost use Rattle.std.specs.Prelude.{◌≡◌, ◌<◌, ◌≤◌, IsErrOf};
 ghost use Rattle.ox_outside.specs.Counts.{Rose};
-ghost use Rattle.ox_outside.specs.Crash.{Calls};
+ghost use Rattle.ox_outside.specs.Crash.{OnlyTalks};
 ghost use Rattle.ox_outside.specs.Log.{Grows};
-ghost use Rattle.ox_feed.specs.Feed.{IsTooMuch, feed_limit, left};
-ghost use Rattle.ox_app.specs.Fold.{Answered, HasAnswer, chain_in, status_of};
+ghost use Rattle.ox_feed.specs.Feed.{IsTooMuch, Listens, feed_limit, left};
+ghost use Rattle.ox_model.specs.Machine.{begun};
+ghost use Rattle.ox_model.specs.Replies.{replies_on};
+ghost use Rattle.ox_model.specs.Stack.{stack_of};
 ghost use Rattle.ox_sat.specs.Profiles.{IsProfile};
-ghost use Rattle.ox_app.specs.Run.{Folds};
+ghost use Rattle.ox_app.specs.Fold.{Answered, Anything, HasAnswer, fold_depth, stack_in, status_of};
+ghost use Rattle.ox_app.specs.Run.{RunsFeed};
 
 use crate::answer::answer;
 use crate::show::show_all;
-use ox_bytes::{Bytes, Memory};
-use ox_feed::{FeedFault, Lines};
+use crate::stop::Stop;
+use ox_bytes::Bytes;
+use ox_feed::Lines;
 use ox_index::Live;
-use ox_outside::{Failed, Site};
+use ox_outside::Site;
 use ox_sat::Profile;
 use std::alloc::Global;
-
-/// Why a run over a feed ended before the feed did.
-#[derive(Clone, Copy, Debug, PartialEq, Eq)]
-pub enum Stop {
-    /// Hearing on channel 0 failed.
-    HearFault,
-    /// Showing on channel 0 failed.
-    ShowFault,
-    /// There is no memory.
-    Memory,
-    /// As many bytes were heard as a feed may have, and it goes on.
-    TooMuch,
-}
-
-impl From<FeedFault> for Stop {
-    ghost use Rattle.ox_app.specs.Fold.{stop_of};
-
-    ghost from_gives = { λ fault stop. stop ≡ stop_of fault };
-
-    fn from(fault: FeedFault) -> Stop {
-        match fault {
-            FeedFault::HearFault => Stop::HearFault,
-            FeedFault::TooMuch => Stop::TooMuch,
-            FeedFault::Memory => Stop::Memory,
-        }
-    }
-}
-
-impl From<Failed> for Stop {
-    ghost use Rattle.ox_app.specs.declared.fold.Stop.TheVariants.{ShowFault};
-
-    ghost from_gives = { λ _ stop. stop ≡ ShowFault };
-
-    fn from(_failed: Failed) -> Stop {
-        Stop::ShowFault
-    }
-}
-
-impl From<Memory> for Stop {
-    ghost use Rattle.ox_app.specs.declared.fold.Stop.TheVariants.{Memory};
-
-    ghost from_gives = { λ _ stop. stop ≡ Memory };
-
-    fn from(_memory: Memory) -> Stop {
-        Stop::Memory
-    }
-}
 
 // Hears the next line and answers it; `None` at the end of the feed.
 fn next_answer<S: Site>(
@@ -72,13 +29,14 @@ fn next_answer<S: Site>(
     live: &mut Live,
     site: &mut S,
 ) -> Result<Option<Bytes>, Stop>
-    ensures told { Grows (Answered lines.old (chain_in live.old) result lines.new (chain_in live.new)) (S.log site.old) (S.log site.new) }
+    ensures told { Grows (Answered lines.old (stack_in live.old) result lines.new (stack_in live.new)) (S.log site.old) (S.log site.new) }
     ensures hear_fault { IsErrOf result Stop.HearFault → Rose ((S.counts site.old).hear 0) ((S.counts site.new).hear 0) }
     ensures no_show_fault { IsErrOf result Stop.ShowFault → ⊥ }
+    ensures no_disk_fault { IsErrOf result Stop.DiskFault → ⊥ }
     ensures too_much { IsErrOf result Stop.TooMuch → IsTooMuch lines.new }
     ensures fewer { HasAnswer result → left lines.new < left lines.old }
     ensures count { lines.new.heard ≤ feed_limit }
-    ensures call { Calls S.told S.counts S.clock S.left_since site.old site.new }
+    ensures talks { OnlyTalks S.told S.seen S.log S.counts S.clock S.may_leave S.left_since (Listens lines.old) site.old site.new }
 {
     let line = lines.next(site)?;
     Ok(answer(alloc, live, line)?)
@@ -87,10 +45,11 @@ fn next_answer<S: Site>(
 /// Reads the feed of channel 0 to its end, and shows the answer to each line. The chain counts by this profile.
 pub fn fold<S: Site>(alloc: Global, p: &Profile, site: &mut S) -> Result<(), Stop>
     requires { IsProfile p.now }
-    ensures told { Grows (Folds p.now (status_of result)) (S.log site.old) (S.log site.new) }
+    ensures told { Grows (RunsFeed (replies_on (stack_of (begun p.now fold_depth))) (status_of result)) (S.log site.old) (S.log site.new) }
     ensures hear_fault { IsErrOf result Stop.HearFault → Rose ((S.counts site.old).hear 0) ((S.counts site.new).hear 0) }
     ensures show_fault { IsErrOf result Stop.ShowFault → Rose ((S.counts site.old).show 0) ((S.counts site.new).show 0) }
-    ensures call { Calls S.told S.counts S.clock S.left_since site.old site.new }
+    ensures no_disk_fault { IsErrOf result Stop.DiskFault → ⊥ }
+    ensures talks { OnlyTalks S.told S.seen S.log S.counts S.clock S.may_leave S.left_since Anything site.old site.new }
 {
     let mut lines = Lines::new(alloc);
     let mut live = Live::new(alloc, p);

@@ -2,11 +2,18 @@
 #![tactic(auto)]
 
 mod answer;
+mod apply;
+mod carry;
 mod fold;
+mod init;
+mod program;
+mod query;
 mod rows;
 mod show;
+mod stop;
+mod unopened;
 
-pub use rows::run;
+pub use program::run;
 
 #[cfg(test)]
 mod tests;

@@ -1,22 +1,27 @@
 //! The rows of words.
 
-ghost use Rattle.std.specs.Prelude.{◌≡◌, ◌⊎◌, length, true, Some, IfSome};
-ghost use Rattle.ox_outside.specs.Event.{has_ended, heard_bytes};
-ghost use Rattle.ox_feed.specs.Feed.{feed_limit};
-ghost use Rattle.ox_outside.specs.Counts.{Rose};
-ghost use Rattle.ox_outside.specs.Crash.{Calls};
-ghost use Rattle.ox_outside.specs.Log.{Grows};
-ghost use Rattle.ox_app.specs.Fold.{status_of};
-ghost use Rattle.ox_app.specs.Run.{Folds, IsFoldStatus, IsNoRow, ShowsFront, ShowsWhole, fold_words, profile_word, usage_line};
-ghost use Rattle.ox_sat.specs.Profiles.{profile_named};
+ghost use Rattle.std.specs.Prelude.{◌≡◌, ◌≢◌, ℕ, Some, IfSome, IfNone, decimal};
+ghost use Rattle.ox_model.specs.Status.{profile_word};
 ghost use Rattle.ox_sat.specs.declared.profiles.ProfileName.{ProfileName};
+ghost use Rattle.ox_app.specs.Words.{IsDepth, IsRow};
 
-use crate::fold::{Stop, fold};
-use crate::show::show_all;
 use ox_bytes::Bytes;
-use ox_outside::Site;
-use ox_sat::{ProfileName, profile_of};
-use std::alloc::Global;
+use ox_sat::{ProfileName, read_number};
+
+/// What a run is asked for.
+#[derive(Clone, Copy, Debug)]
+pub enum Row<'a> {
+    /// A run over a feed, without files.
+    Fold(ProfileName),
+    /// The making of a store of this depth.
+    Init(ProfileName, u16),
+    /// A run over a feed and a store.
+    Apply,
+    /// A query of a path.
+    Query(&'a [u8]),
+    /// The words are no row.
+    Unknown,
+}
 
 // The profile that a word names.
 fn profile_in(word: &[u8]) -> Option<ProfileName>
@@ -31,71 +36,47 @@ fn profile_in(word: &[u8]) -> Option<ProfileName>
     }
 }
 
-// The profile of the words of a run over a feed.
-fn fold_profile(words: &[Bytes]) -> Option<ProfileName>
-    ensures found { IfSome result (λ name. words.now ≡ fold_words name) }
-    ensures only { (name : ProfileName) → words.now ≡ fold_words name → result ≡ Some name }
+// The depth that a text writes.
+fn read_depth(text: &str) -> Option<u16>
+    ensures found { IfSome result (λ depth. IsDepth depth × (text.now ≡ decimal depth)) }
+    ensures only { IfNone result ((depth : ℕ) → IsDepth depth → text.now ≢ decimal depth) }
 {
-    match words {
-        [row, profile] if row.as_slice() == b"fold".as_slice() => profile_in(profile.as_slice()),
+    match read_number(text) {
+        Some(number) if 1 <= number && number <= 1000 => Some(number as u16),
         _ => None,
     }
 }
 
-// The status of a run over a feed.
-fn status(outcome: Result<(), Stop>) -> u8
-    ensures { result ≡ status_of outcome }
+// The depth that a word writes: decimal digits with no sign and no leading zero, from 1 to 1,000.
+fn depth_in(word: &[u8]) -> Option<u16>
+    ensures found { IfSome result (λ depth. IsDepth depth × (word.now ≡ decimal depth)) }
+    ensures only { IfNone result ((depth : ℕ) → IsDepth depth → word.now ≢ decimal depth) }
 {
-    match outcome {
-        Ok(()) => 0,
-        Err(Stop::HearFault) => 5,
-        Err(Stop::ShowFault) => 6,
-        Err(Stop::Memory) => 8,
-        Err(Stop::TooMuch) => 9,
+    match str::from_utf8(word) {
+        Ok(text) => read_depth(text),
+        Err(_) => None,
     }
 }
 
-/// Runs the program: channel 0 is its input and output, and the result is its status.
-///
-/// The words `fold` and a profile, `mainnet`, `regtest` or `lab`: the feed of channel 0 is read to its end, and each line is answered by one. The index of
-/// the chain is kept in memory and is gone at the end. Every other words: `usage` is shown, and the status is 1; if
-/// showing it fails, the status stays.
-///
-/// | Status | Comes |
-/// |---|---|
-/// | 0 | where channel 0 was read to its end and each line was answered |
-/// | 1 | exactly where the words are no row |
-/// | 5 | only where hearing on channel 0 failed in this run |
-/// | 6 | only where showing on channel 0 failed in this run |
-/// | 8 | where there is no memory |
-/// | 9 | exactly where 4,611,686,018,427,387,904 bytes were heard and channel 0 hasn't ended |
-///
-/// A status other than 0 and 1 ends the run at once, and shows nothing further.
-pub fn run<S: Site>(alloc: Global, words: &[Bytes], site: &mut S) -> u8
-    // Of a feed, where the log is told: what was shown begins the answers to the lines heard, and with status 0 is all
-    // of them; 9 comes at the limit of a feed alone; only events of channel 0 are logged.
-    ensures folds { (name : ProfileName) → words.now ≡ fold_words name → Grows (Folds (profile_named name) result) (S.log site.old) (S.log site.new) }
-
-    // Of other words: the usage line is shown, or a front of it where a showing failed.
-    ensures usage { IsNoRow words.now → Grows (ShowsWhole usage_line) (S.log site.old) (S.log site.new)
-        ⊎ (Rose ((S.counts site.old).show 0) ((S.counts site.new).show 0) × Grows (ShowsFront usage_line) (S.log site.old) (S.log site.new)) }
-
-    // The statuses, at every site.
-    ensures fold_status { (name : ProfileName) → words.now ≡ fold_words name → IsFoldStatus result }
-    ensures usage_status { IsNoRow words.now → result ≡ 1 }
-    ensures hear_fault { result ≡ 5 → Rose ((S.counts site.old).hear 0) ((S.counts site.new).hear 0) }
-    ensures show_fault { result ≡ 6 → Rose ((S.counts site.old).show 0) ((S.counts site.new).show 0) }
-    // On a feed that ends, without a fault, each line is answered, unless memory runs out.
-    ensures completes { (name : ProfileName) → words.now ≡ fold_words name → ¬ Rose ((S.counts site.old).hear 0) ((S.counts site.new).hear 0)
-        → ¬ Rose ((S.counts site.old).show 0) ((S.counts site.new).show 0)
-        → Grows (λ events. (length (heard_bytes 0 events) ≡ feed_limit → has_ended 0 events ≡ true) → (result ≡ 0) ⊎ (result ≡ 8)) (S.log site.old) (S.log site.new) }
-    ensures call { Calls S.told S.counts S.clock S.left_since site.old site.new }
+/// The row that words are.
+pub fn row_of(words: &[Bytes]) -> Row<'_>
+    ensures { IsRow words.now result }
 {
-    match fold_profile(words) {
-        Some(name) => status(fold(alloc, &profile_of(name), site)),
-        None => {
-            let _shown = show_all(site, b"usage\n");
-            1
+    match words {
+        [row] if row.as_slice() == b"apply".as_slice() => Row::Apply,
+        [row, path] if row.as_slice() == b"query".as_slice() => Row::Query(path.as_slice()),
+        [row, profile] if row.as_slice() == b"fold".as_slice() => match profile_in(
+            profile.as_slice(),
+        ) {
+            Some(name) => Row::Fold(name),
+            None => Row::Unknown,
+        },
+        [row, profile, depth] if row.as_slice() == b"init".as_slice() => {
+            match (profile_in(profile.as_slice()), depth_in(depth.as_slice())) {
+                (Some(name), Some(depth)) => Row::Init(name, depth),
+                _ => Row::Unknown,
+            }
         }
+        _ => Row::Unknown,
     }
 }

@@ -97,7 +97,8 @@ impl Lines {
         ensures size { length self.new.rest ≤ line_limit + 1 + room_size }
         ensures count { self.new.heard ≤ feed_limit }
 
-        // A crash at any moment of the call leaves the files as before it, and a log that has grown by hearings alone.
+        // A crash at any moment of the call leaves files that it left before, and a log that has grown by hearings alone, by
+        // none where the feed has ended.
         ensures talks { OnlyTalks S.told S.seen S.log S.counts S.clock S.may_leave S.left_since (Listens self.old) site.old site.new }
     {
         self.held.next(site)

@@ -1,0 +1,18 @@
+use Rattle.std.proofs.Common.{◌∙◌, ap, inl}
+use Rattle.std.specs.Prelude.{Err, Ok}
+use Rattle.ox_app.proofs.Looking.{looked_then_talked, made_then_talked}
+use Rattle.ox_app.proofs.init.init.Goals as goal
+
+pub returns-in-Ok-show_all-clause-made_before : goal.returns-in-Ok-show_all-clause-made_before
+returns-in-Ok-show_all-clause-made_before g c told isnt =
+    made_then_talked g.S.Site.told g.S.Site.seen g.S.Site.log g.S.Site.counts g.S.Site.clock g.S.Site.may_leave g.S.Site.left_since _ c.args.name c.args.depth c.args.site.now c.make.new.site c.show_all.new.site
+    c.make.ensures.log_stays c.make.ensures.logged (c.in-Ok.ensures.holds told).settled (c.in-Ok.ensures.stands told ∙ ap Ok c.in-Ok.ensures.stack) c.show_all.ensures.talks
+
+pub returns-in-Ok-clause-made_before : goal.returns-in-Ok-clause-made_before
+returns-in-Ok-clause-made_before g c told isnt =
+    made_then_talked g.S.Site.told g.S.Site.seen g.S.Site.log g.S.Site.counts g.S.Site.clock g.S.Site.may_leave g.S.Site.left_since _ c.args.name c.args.depth c.args.site.now c.make.new.site c.show_all.new.site
+    c.make.ensures.log_stays c.make.ensures.logged (c.in-Ok.ensures.holds told).settled (c.in-Ok.ensures.stands told ∙ ap Ok c.in-Ok.ensures.stack) c.show_all.ensures.talks
+
+pub returns-in-Err-NotEmpty-clause-looks : goal.returns-in-Err-NotEmpty-clause-looks
+returns-in-Err-NotEmpty-clause-looks g c is =
+    looked_then_talked g.S.Site.told g.S.Site.seen g.S.Site.log g.S.Site.counts g.S.Site.clock g.S.Site.may_leave g.S.Site.left_since _ c.args.site.now c.make.new.site c.say.new.site (c.in-Err-NotEmpty.ensures.wrote_nothing (inl (ap Err c.in-Err-NotEmpty.field-0-is))) c.say.ensures.talks

@@ -1,0 +1,96 @@
+//! A run over a feed and a store.
+
+ghost use Rattle.std.specs.Prelude.{◌≡◌, ◌≢◌, ◌⊎◌, ◌+◌, ◌-◌, ◌<◌, ◌≤◌, ◌^◌, ℕ, Some, Ok, Err, IsTrue, IfOk, IfSome, IsErrOf};
+ghost use Rattle.ox_outside.specs.Counts.{Rose};
+ghost use Rattle.ox_outside.specs.Crash.{Calls, LeavesOnly, OnlyTalks};
+ghost use Rattle.ox_outside.specs.Log.{Grows};
+ghost use Rattle.ox_feed.specs.Feed.{IsTooMuch, feed_limit, left};
+ghost use Rattle.ox_gated.specs.Tail.{Holds};
+ghost use Rattle.ox_model.specs.Replies.{after_on, replies_on};
+ghost use Rattle.ox_model.specs.Stack.{Stack};
+ghost use Rattle.ox_model.specs.Stands.{Misfit, stands};
+ghost use Rattle.ox_app.specs.Apply.{CarriedOn, DuringLine, IsApplyStatus, IsUnopened, SaysNotStore};
+ghost use Rattle.ox_app.specs.Crash.{Leaves, LeavesOld, Survives};
+ghost use Rattle.ox_app.specs.Fold.{status_of};
+ghost use Rattle.ox_app.specs.Run.{RunsFeed};
+
+use crate::carry::{Carried, carry_out};
+use crate::show::show_all;
+use crate::stop::{Stop, status};
+use crate::unopened::unopened;
+use ox_bytes::Bytes;
+use ox_feed::Lines;
+use ox_outside::Site;
+use ox_store::Store;
+use std::alloc::Global;
+
+// Hears the next line and carries it out; `None` at the end of the feed.
+fn next_carried<S: Site>(
+    alloc: Global,
+    lines: &mut Lines,
+    store: Store,
+    site: &mut S,
+) -> Result<Option<Carried>, Stop>
+    requires holds { IsTrue (S.told site.old) → Holds S.seen S.may_leave store.tail site.old }
+    requires few { store.commands < 2 ^ 64 - 1 }
+    ensures told { Grows (CarriedOn lines.old store.stack result lines.new) (S.log site.old) (S.log site.new) }
+    ensures during { IsTrue (S.told site.old) → stands (S.seen site.old) ≡ Ok store.stack → LeavesOnly S.clock S.left_since site.old site.new (λ r. Grows (DuringLine lines.old store.stack lines.new r.files) (S.log site.old) (Some r.log)) }
+    ensures holds { IsTrue (S.told site.old) → IfOk result (λ carried. IfSome carried (λ c. Holds S.seen S.may_leave c.store.tail site.new)) }
+    ensures stands { IsTrue (S.told site.old) → stands (S.seen site.old) ≡ Ok store.stack → IfOk result (λ carried. IfSome carried (λ c. stands (S.seen site.new) ≡ Ok c.store.stack)) }
+    ensures one_more { IfOk result (λ carried. IfSome carried (λ c. c.store.commands ≤ store.commands + 1)) }
+    ensures fewer { IfOk result (λ carried. IfSome carried (λ c. left lines.new < left lines.old)) }
+    ensures count { lines.new.heard ≤ feed_limit }
+    ensures too_much { IsErrOf result Stop.TooMuch → IsTooMuch lines.new }
+    ensures hear_fault { IsErrOf result Stop.HearFault → Rose ((S.counts site.old).hear 0) ((S.counts site.new).hear 0) }
+    ensures disk_fault { IsErrOf result Stop.DiskFault → Rose (S.counts site.old).disk (S.counts site.new).disk }
+    ensures no_show_fault { IsErrOf result Stop.ShowFault → ⊥ }
+    ensures calls { Calls S.told S.counts S.clock S.left_since site.old site.new }
+{
+    let line = lines.next(site)?;
+    carry_out(alloc, store, &line, site)
+}
+
+// Reads the feed of channel 0 to its end; each line is carried out, and its answer shown.
+fn follow<S: Site>(alloc: Global, store: Store, site: &mut S) -> Result<(), Stop>
+    requires holds { IsTrue (S.told site.old) → Holds S.seen S.may_leave store.tail site.old }
+    requires fresh { store.commands ≡ 0 }
+    ensures told { Grows (RunsFeed (replies_on store.stack) (status_of result)) (S.log site.old) (S.log site.new) }
+    ensures survives { IsTrue (S.told site.old) → stands (S.seen site.old) ≡ Ok store.stack → LeavesOnly S.clock S.left_since site.old site.new (λ r. Grows (λ events. Survives (replies_on store.stack) (after_on store.stack) events r.files) (S.log site.old) (Some r.log)) }
+    ensures hear_fault { IsErrOf result Stop.HearFault → Rose ((S.counts site.old).hear 0) ((S.counts site.new).hear 0) }
+    ensures show_fault { IsErrOf result Stop.ShowFault → Rose ((S.counts site.old).show 0) ((S.counts site.new).show 0) }
+    ensures disk_fault { IsErrOf result Stop.DiskFault → Rose (S.counts site.old).disk (S.counts site.new).disk }
+    ensures calls { Calls S.told S.counts S.clock S.left_since site.old site.new }
+{
+    let mut lines = Lines::new(alloc);
+    let mut store = store;
+    while let Some(carried) = next_carried(alloc, &mut lines, store, site)? {
+        show_all(site, carried.answer.as_slice())?;
+        store = carried.store;
+    }
+    Ok(())
+}
+
+/// Opens the store and carries out the commands of channel 0: each line is answered by one, once its record is on the
+/// disk.
+pub fn apply<S: Site>(alloc: Global, site: &mut S) -> u8
+    // On files that stand for a stack.
+    ensures feeds { IsTrue (S.told site.old) → (stack : Stack) → stands (S.seen site.old) ≡ Ok stack → (result ≢ 3) × Grows (RunsFeed (replies_on stack) result) (S.log site.old) (S.log site.new) }
+    ensures survives { IsTrue (S.told site.old) → (stack : Stack) → stands (S.seen site.old) ≡ Ok stack → LeavesOnly S.clock S.left_since site.old site.new (λ r. Grows (Leaves S.may_leave site.old (replies_on stack) (after_on stack) r.files) (S.log site.old) (Some r.log)) }
+
+    // On files that stand for none.
+    ensures unopened { IsTrue (S.told site.old) → (misfit : Misfit) → stands (S.seen site.old) ≡ Err misfit → IsUnopened result }
+    ensures looks { IsTrue (S.told site.old) → (misfit : Misfit) → stands (S.seen site.old) ≡ Err misfit → LeavesOnly S.clock S.left_since site.old site.new (LeavesOld S.may_leave site.old) }
+    ensures no_store { result ≡ 3 → LeavesOnly S.clock S.left_since site.old site.new (LeavesOld S.may_leave site.old) }
+    ensures not_store { result ≡ 3 → SaysNotStore (S.told site.old) (S.seen site.old) ((S.counts site.old).show 0) ((S.counts site.new).show 0) (S.log site.old) (S.log site.new) }
+
+    ensures status { IsApplyStatus result }
+    ensures hear_fault { result ≡ 5 → Rose ((S.counts site.old).hear 0) ((S.counts site.new).hear 0) }
+    ensures show_fault { result ≡ 6 → Rose ((S.counts site.old).show 0) ((S.counts site.new).show 0) }
+    ensures disk_fault { result ≡ 4 → Rose (S.counts site.old).disk (S.counts site.new).disk }
+    ensures calls { Calls S.told S.counts S.clock S.left_since site.old site.new }
+{
+    match Store::open(alloc, site) {
+        Ok(store) => status(follow(alloc, store, site)),
+        Err(fault) => unopened(alloc, fault, site),
+    }
+}

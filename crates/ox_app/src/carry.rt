@@ -1,0 +1,143 @@
+//! One line of a feed, carried out by a store and answered.
+
+ghost use Rattle.std.specs.Prelude.{◌≡◌, ◌⊎◌, ◌+◌, ◌-◌, ◌<◌, ◌≤◌, ◌^◌, ◌++◌, [], Some, Ok, IsTrue, IfOk, IfErr, IfSome, IsErrOf};
+ghost use Rattle.ox_outside.specs.Counts.{Rose};
+ghost use Rattle.ox_outside.specs.Crash.{Calls, LeavesOnly};
+ghost use Rattle.ox_gated.specs.Tail.{Holds};
+ghost use Rattle.ox_model.specs.Replies.{after_turn, index_on, reply_by};
+ghost use Rattle.ox_model.specs.Stack.{obeyed_on};
+ghost use Rattle.ox_model.specs.Stands.{stands};
+ghost use Rattle.ox_model.specs.Text.{block_line, refusal_line};
+ghost use Rattle.ox_app.specs.Apply.{BeforeOrAfter, CarriesOut, after_line, tip_line};
+ghost use Rattle.ox_app.specs.declared.stop.Stop.TheVariants as stops;
+
+use crate::stop::Stop;
+use itoa::Buffer;
+use ox_bytes::{Bytes, Memory, Room};
+use ox_feed::{Command, Line, SyntaxFault, command_of};
+use ox_model::Refusal;
+use ox_outside::Site;
+use ox_store::{Kept, Store, Why};
+use std::alloc::Global;
+
+/// A line that was carried out: the store after it, and its answer.
+#[derive(Drop)]
+pub struct Carried {
+    /// The store as the line leaves it.
+    pub store: Store,
+    /// The line that answers, with its line feed.
+    pub answer: Bytes,
+}
+
+// How many bytes the line of an accepted command has at most: `ok`, a height of at most ten digits, 64 digits of a hash,
+// two spaces and a line feed.
+const LONGEST_OK: usize = 79;
+
+// Puts the line of a newest block.
+#[tactic(auto, unfolding(ox_model::specs::Text::block_line, ox_model::specs::Text::hash_text))]
+fn put_block_line(room: &mut Room, height: u32, hash: &[u8; 32])
+    requires { room.old.spare ≡ 79 }
+    ensures { room.new.filled ≡ room.old.filled ++ block_line height hash.now }
+{
+    let mut reversed = *hash;
+    reversed.reverse();
+    let mut digits = [0; 64];
+    let _ = hex::encode_to_slice(&reversed[..], &mut digits);
+    room.put(b"ok ");
+    room.put(Buffer::new().format(height).as_bytes());
+    room.put(b" ");
+    room.put(&digits);
+    room.put(b"\n");
+}
+
+// The line of an accepted command, by the newest block's height and hash, in memory that was taken before.
+fn ok_line_in(room: Room, tip: Option<(u32, [u8; 32])>) -> Bytes
+    requires empty { room.filled ≡ [] }
+    requires spare { room.spare ≡ 79 }
+    ensures { result ≡ tip_line tip }
+{
+    let mut room = room;
+    match tip {
+        Some(newest) => put_block_line(&mut room, newest.0, &newest.1),
+        None => room.put(b"ok empty\n"),
+    }
+    room.done()
+}
+
+// The store as it is, and the line of a refusal.
+fn refused(alloc: Global, store: Store, refusal: Refusal) -> Result<Carried, Memory>
+    ensures store { IfOk result (λ carried. carried.store ≡ store) }
+    ensures answer { IfOk result (λ carried. carried.answer ≡ refusal_line refusal) }
+{
+    let answer = refusal.line(alloc)?;
+    Ok(Carried { store, answer })
+}
+
+// Carries out a command. The memory of its answer is taken first.
+fn carry_command<S: Site>(
+    alloc: Global,
+    store: Store,
+    command: &Command,
+    site: &mut S,
+) -> Result<Carried, Stop>
+    requires holds { IsTrue (S.told site.old) → Holds S.seen S.may_leave store.tail site.old }
+    requires few { store.commands < 2 ^ 64 - 1 }
+    ensures answer { IfOk result (λ carried. carried.answer ≡ reply_by index_on (obeyed_on store.stack command.now)) }
+    ensures leads { IfOk result (λ carried. carried.store.stack ≡ after_turn store.stack (obeyed_on store.stack command.now)) }
+    ensures one_more { IfOk result (λ carried. carried.store.commands ≤ store.commands + 1) }
+    ensures holds { IsTrue (S.told site.old) → IfOk result (λ carried. Holds S.seen S.may_leave carried.store.tail site.new) }
+    ensures stands { IsTrue (S.told site.old) → stands (S.seen site.old) ≡ Ok store.stack → IfOk result (λ carried. stands (S.seen site.new) ≡ Ok carried.store.stack) }
+    ensures any_moment { IsTrue (S.told site.old) → stands (S.seen site.old) ≡ Ok store.stack → LeavesOnly S.clock S.left_since site.old site.new (λ r. BeforeOrAfter store.stack (after_turn store.stack (obeyed_on store.stack command.now)) r.files) }
+    ensures log_stays { LeavesOnly S.clock S.left_since site.old site.new (λ r. S.log site.old ≡ Some r.log) }
+    ensures logged { S.log site.new ≡ S.log site.old }
+    ensures stops { IfErr result (λ stop. (stop ≡ stops.DiskFault) ⊎ (stop ≡ stops.Memory)) }
+    ensures failed { IsErrOf result Stop.DiskFault → Rose (S.counts site.old).disk (S.counts site.new).disk }
+    ensures calls { Calls S.told S.counts S.clock S.left_since site.old site.new }
+{
+    let room = Room::new(alloc, LONGEST_OK)?;
+    match store.prepare(command) {
+        Ok(ready) => {
+            let answer = ok_line_in(room, ready.tip());
+            let store = ready.commit(site)?;
+            Ok(Carried { store, answer })
+        }
+        Err(Kept { store, why }) => match why {
+            Why::Refused(refusal) => Ok(refused(alloc, store, refusal)?),
+            Why::Memory => Err(Stop::Memory),
+        },
+    }
+}
+
+/// Carries out a line and answers it; `None` at the end of the feed. All memory of a command and its answer is taken
+/// before its record is written. At any moment of the call a crash leaves files that stand for the stack before the line
+/// or for the one after it. `DiskFault` only where a call on a file failed; `Memory` where there is none.
+pub fn carry_out<S: Site>(
+    alloc: Global,
+    store: Store,
+    line: &Line,
+    site: &mut S,
+) -> Result<Option<Carried>, Stop>
+    requires holds { IsTrue (S.told site.old) → Holds S.seen S.may_leave store.tail site.old }
+    requires few { store.commands < 2 ^ 64 - 1 }
+    ensures carried { IfOk result (λ carried. CarriesOut line.now store.stack carried) }
+    ensures one_more { IfOk result (λ carried. IfSome carried (λ c. c.store.commands ≤ store.commands + 1)) }
+    ensures holds { IsTrue (S.told site.old) → IfOk result (λ carried. IfSome carried (λ c. Holds S.seen S.may_leave c.store.tail site.new)) }
+    ensures stands { IsTrue (S.told site.old) → stands (S.seen site.old) ≡ Ok store.stack → IfOk result (λ carried. IfSome carried (λ c. stands (S.seen site.new) ≡ Ok c.store.stack)) }
+    ensures any_moment { IsTrue (S.told site.old) → stands (S.seen site.old) ≡ Ok store.stack → LeavesOnly S.clock S.left_since site.old site.new (λ r. BeforeOrAfter store.stack (after_line store.stack line.now) r.files) }
+    ensures log_stays { LeavesOnly S.clock S.left_since site.old site.new (λ r. S.log site.old ≡ Some r.log) }
+    ensures logged { S.log site.new ≡ S.log site.old }
+    ensures stops { IfErr result (λ stop. (stop ≡ stops.DiskFault) ⊎ (stop ≡ stops.Memory)) }
+    ensures failed { IsErrOf result Stop.DiskFault → Rose (S.counts site.old).disk (S.counts site.new).disk }
+    ensures calls { Calls S.told S.counts S.clock S.left_since site.old site.new }
+{
+    let text = match line {
+        Line::Text(text) => text,
+        Line::Long => return Ok(Some(refused(alloc, store, Refusal::TooLong)?)),
+        Line::End => return Ok(None),
+    };
+    match command_of(alloc, text.as_slice()) {
+        Ok(command) => Ok(Some(carry_command(alloc, store, &command, site)?)),
+        Err(SyntaxFault::Syntax) => Ok(Some(refused(alloc, store, Refusal::Syntax)?)),
+        Err(SyntaxFault::Memory) => Err(Stop::Memory),
+    }
+}

@@ -1,0 +1,112 @@
+//! A query of a store.
+
+ghost use Rattle.std.specs.Prelude.{◌≡◌, ◌≢◌, Some, Ok, Err, IsTrue, IfOk, string_bytes};
+ghost use Rattle.std.specs.Option.{option_map};
+ghost use Rattle.serde_json.specs.View.{view};
+ghost use Rattle.serde_json.specs.Data.{Data};
+ghost use Rattle.ox_outside.specs.Counts.{Rose};
+ghost use Rattle.ox_outside.specs.Crash.{Calls, LeavesOnly};
+ghost use Rattle.ox_outside.specs.Log.{Grows};
+ghost use Rattle.ox_index.specs.Live.{index_in};
+ghost use Rattle.ox_model.specs.Stack.{Stack};
+ghost use Rattle.ox_model.specs.Stands.{Misfit, name_at, stands};
+ghost use Rattle.ox_model.specs.Status.{data_at, profile_word, query_body, status_data, tip_data};
+ghost use Rattle.ox_app.specs.Apply.{IsUnopened, SaysNotStore};
+ghost use Rattle.ox_app.specs.Crash.{LeavesOld};
+ghost use Rattle.ox_app.specs.Query.{IsQueryStatus};
+ghost use Rattle.ox_app.specs.Run.{ShowsReply};
+
+use crate::show::show_all;
+use crate::unopened::unopened;
+use ox_index::Live;
+use ox_model::{View, hash_text};
+use ox_outside::{Failed, Site};
+use ox_store::Store;
+use serde_json::{Value, json};
+use std::alloc::{AllocError, Global};
+
+// The word of a profile, by its byte.
+fn word_of(byte: u8) -> &'static str
+    ensures { result.now ≡ profile_word (name_at byte) }
+{
+    match byte {
+        0 => "mainnet",
+        1 => "regtest",
+        _ => "lab",
+    }
+}
+
+// The newest block's hash, or null.
+fn tip_value(alloc: Global, live: &Live) -> Result<Value, AllocError>
+    ensures { IfOk result (λ value. view value ≡ tip_data (index_in live.now).hashes) }
+{
+    match live
+        .blocks()
+        .checked_sub(1)
+        .and_then(|height| live.hash_of(height))
+    {
+        Some(hash) => Ok(Value::String(hash_text(alloc, hash)?)),
+        None => Ok(Value::Null),
+    }
+}
+
+// What is told of the chain.
+fn status_value(alloc: Global, store: &Store) -> Result<Value, AllocError>
+    ensures { IfOk result (λ value. view value ≡ status_data store.now.stack) }
+{
+    let live = store.live();
+    let about = store.about();
+    let tip = tip_value(alloc, live)?;
+    json!(in alloc; {
+        "blocks": live.blocks(),
+        "depth": about.depth,
+        "kept": about.kept,
+        "profile": word_of(live.profile().byte),
+        "tip": tip,
+    })
+}
+
+// What is at a path.
+fn value_at(alloc: Global, path: &[u8], store: &Store) -> Result<Value, AllocError>
+    ensures { IfOk result (λ value. view value ≡ data_at path.now store.now.stack) }
+{
+    if path == b"/status".as_slice() {
+        status_value(alloc, store)
+    } else {
+        json!(in alloc; { "error": 404u16 })
+    }
+}
+
+// The body of the reply to a query of a path.
+#[tactic(auto, unfolding(ox_model::specs::Status::query_body))]
+fn body_of(alloc: Global, path: &[u8], store: &Store) -> Result<String, AllocError>
+    ensures { IfOk result (λ body. string_bytes body ≡ query_body path.now store.now.stack) }
+{
+    value_at(alloc, path, store)?.to_string(alloc)
+}
+
+/// Opens the store and shows the body of the reply to a query of this path.
+pub fn query<S: Site>(alloc: Global, site: &mut S, path: &[u8]) -> u8
+    // On files that stand for a stack.
+    ensures shows { IsTrue (S.told site.old) → (stack : Stack) → stands (S.seen site.old) ≡ Ok stack → (result ≢ 3) × Grows (ShowsReply (query_body path.now stack) result) (S.log site.old) (S.log site.new) }
+    // On files that stand for none.
+    ensures unopened { IsTrue (S.told site.old) → (misfit : Misfit) → stands (S.seen site.old) ≡ Err misfit → IsUnopened result }
+    ensures not_store { result ≡ 3 → SaysNotStore (S.told site.old) (S.seen site.old) ((S.counts site.old).show 0) ((S.counts site.new).show 0) (S.log site.old) (S.log site.new) }
+
+    ensures looks { LeavesOnly S.clock S.left_since site.old site.new (LeavesOld S.may_leave site.old) }
+    ensures status { IsQueryStatus result }
+    ensures show_fault { result ≡ 6 → Rose ((S.counts site.old).show 0) ((S.counts site.new).show 0) }
+    ensures disk_fault { result ≡ 4 → Rose (S.counts site.old).disk (S.counts site.new).disk }
+    ensures calls { Calls S.told S.counts S.clock S.left_since site.old site.new }
+{
+    match Store::open(alloc, site) {
+        Ok(store) => match body_of(alloc, path, &store) {
+            Ok(body) => match show_all(site, body.as_bytes()) {
+                Ok(()) => 0,
+                Err(Failed) => 6,
+            },
+            Err(_) => 8,
+        },
+        Err(fault) => unopened(alloc, fault, site),
+    }
+}

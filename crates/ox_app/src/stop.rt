@@ -1,0 +1,82 @@
+//! Why a run over a feed ends before the feed does.
+
+ghost use Rattle.std.specs.Prelude.{◌≡◌};
+ghost use Rattle.ox_app.specs.Fold.{status_of};
+
+use ox_bytes::Memory;
+use ox_feed::FeedFault;
+use ox_gated::DiskFault;
+use ox_outside::Failed;
+
+/// Why a run over a feed ended before the feed did.
+#[derive(Clone, Copy, Debug, PartialEq, Eq)]
+pub enum Stop {
+    /// A call on a file failed.
+    DiskFault,
+    /// Hearing on channel 0 failed.
+    HearFault,
+    /// Showing on channel 0 failed.
+    ShowFault,
+    /// There is no memory.
+    Memory,
+    /// As many bytes were heard as a feed may have, and it goes on.
+    TooMuch,
+}
+
+/// The status of a run over a feed.
+pub fn status(outcome: Result<(), Stop>) -> u8
+    ensures { result ≡ status_of outcome }
+{
+    match outcome {
+        Ok(()) => 0,
+        Err(Stop::DiskFault) => 4,
+        Err(Stop::HearFault) => 5,
+        Err(Stop::ShowFault) => 6,
+        Err(Stop::Memory) => 8,
+        Err(Stop::TooMuch) => 9,
+    }
+}
+
+impl From<FeedFault> for Stop {
+    ghost use Rattle.ox_app.specs.Fold.{stop_of};
+
+    ghost from_gives = { λ fault stop. stop ≡ stop_of fault };
+
+    fn from(fault: FeedFault) -> Stop {
+        match fault {
+            FeedFault::HearFault => Stop::HearFault,
+            FeedFault::TooMuch => Stop::TooMuch,
+            FeedFault::Memory => Stop::Memory,
+        }
+    }
+}
+
+impl From<Failed> for Stop {
+    ghost use Rattle.ox_app.specs.declared.stop.Stop.TheVariants.{ShowFault};
+
+    ghost from_gives = { λ _ stop. stop ≡ ShowFault };
+
+    fn from(_failed: Failed) -> Stop {
+        Stop::ShowFault
+    }
+}
+
+impl From<DiskFault> for Stop {
+    ghost use Rattle.ox_app.specs.declared.stop.Stop.TheVariants as stops;
+
+    ghost from_gives = { λ _ stop. stop ≡ stops.DiskFault };
+
+    fn from(_fault: DiskFault) -> Stop {
+        Stop::DiskFault
+    }
+}
+
+impl From<Memory> for Stop {
+    ghost use Rattle.ox_app.specs.declared.stop.Stop.TheVariants.{Memory};
+
+    ghost from_gives = { λ _ stop. stop ≡ Memory };
+
+    fn from(_memory: Memory) -> Stop {
+        Stop::Memory
+    }
+}
