@@ -140,7 +140,7 @@ fn a_line_may_have_as_many_bytes_as_the_largest_block(rt: HostRuntime) -> Result
     assert_eq!(rt; run(alloc, words.as_slice(), &mut site), 0);
     assert_eq!(rt;
         site.shown(0)?.as_slice(),
-        b"refused 3 80\nrefused 1\nrefused 3 0\n".as_slice()
+        b"refused 3 80\nrefused 2\nrefused 3 0\n".as_slice()
     );
     Ok(())
 }
