@@ -1,9 +1,16 @@
-//! Whole runs over a site in memory. What is shown is Bitcoin's first block's hash, and the places of faults counted by hand.
+//! Whole runs over a site in memory. What is shown is Bitcoin's first block's hash, hashes of small blocks by a script of
+//! another language, and the places of faults counted by hand.
 
 use crate::run;
+use ox_block::{
+    Block, Header, Inputs, OutPoint, Outs, Tx, TxIn, TxOut, Txid, Txs, Witness, hash, root,
+    write_block,
+};
 use ox_bytes::Bytes;
-use ox_memsite::MemSite;
+use ox_memsite::{Choice, MemSite};
+use ox_outside::Which;
 use std::alloc::Global;
+use std::process::Abort;
 use std::test::Fail;
 
 const GENESIS: &str =
@@ -181,4 +188,294 @@ fn other_words_show_the_usage_line(rt: HostRuntime) -> Result<(), Fail> {
         assert_eq!(rt; broken.shown(0)?.as_slice(), b"".as_slice());
     }
     Ok(())
+}
+
+// The head of file A of an empty regtest store of depth 100, and a closed gate behind it.
+const EMPTY_A: &str = "016f78696478010164000100000000000000000000000000000000";
+
+// The three plain blocks, as their hashes are by a script of another language.
+const THREE_OK: &[u8] =
+    b"ok 0 9df1369ffe84c7f9f18795eda8438c9452ca65ebb35668f5a83ab42b94430908\nok 1 0722e5045444f199ce474c0d06e47da62974b16d17bf01d351665bc1f12e3b4f\nok 2 7054e587fec28cf6b25c1f9597629789b86bae696e32960fd80b6521aa1c8a2a\n";
+
+// What `query /status` shows of the regtest store with the first so many of the three plain blocks.
+fn status_body(blocks: u64) -> &'static str {
+    match blocks {
+        0 => r#"{"blocks":0,"depth":100,"kept":0,"profile":"regtest","tip":null}"#,
+        1 => {
+            r#"{"blocks":1,"depth":100,"kept":0,"profile":"regtest","tip":"9df1369ffe84c7f9f18795eda8438c9452ca65ebb35668f5a83ab42b94430908"}"#
+        }
+        2 => {
+            r#"{"blocks":2,"depth":100,"kept":0,"profile":"regtest","tip":"0722e5045444f199ce474c0d06e47da62974b16d17bf01d351665bc1f12e3b4f"}"#
+        }
+        _ => {
+            r#"{"blocks":3,"depth":100,"kept":0,"profile":"regtest","tip":"7054e587fec28cf6b25c1f9597629789b86bae696e32960fd80b6521aa1c8a2a"}"#
+        }
+    }
+}
+
+// Runs these words: the status, and what this run showed.
+fn outcome(alloc: Global, site: &mut MemSite, words: &[&[u8]]) -> Result<(u8, Bytes), Fail> {
+    let before = site.shown(0)?.as_slice().len();
+    let words = words_of(alloc, words)?;
+    let status = run(alloc, words.as_slice(), site);
+    let all = site.shown(0)?;
+    let shown = all.as_slice().get(before..).unwrap_or(&[]);
+    Ok((status, Bytes::copy(alloc, shown)?))
+}
+
+// Runs these words, and tests the status and what is shown.
+fn ends(
+    rt: &impl Abort,
+    alloc: Global,
+    site: &mut MemSite,
+    words: &[&[u8]],
+    status: u8,
+    shown: &[u8],
+) -> Result<(), Fail> {
+    let (found, said) = outcome(alloc, site, words)?;
+    assert_eq!(rt; said.as_slice(), shown, "of {words:?}");
+    assert_eq!(rt; found, status, "of {words:?}");
+    Ok(())
+}
+
+// Two files of these bytes, all on the disk, with an empty log and no call made.
+fn site_with(alloc: Global, a: &[u8], b: &[u8]) -> Result<MemSite, Fail> {
+    let mut site = MemSite::new(alloc)?;
+    site.write(Which::A, 0, a)?;
+    site.write(Which::B, 0, b)?;
+    site.sync(Which::A)?;
+    site.sync(Which::B)?;
+    let choice = Choice {
+        moment: site.now(),
+        fill: 0,
+        keep: 0,
+    };
+    Ok(site.crash(&choice)?)
+}
+
+// An empty regtest store of depth 100.
+fn empty_store(alloc: Global) -> Result<MemSite, Fail> {
+    let a = hex::decode(alloc, EMPTY_A)?;
+    site_with(alloc, a.as_slice(), b"\0")
+}
+
+// A coinbase that claims the whole subsidy, whose script makes its id its own.
+fn coinbase(alloc: Global, mark: u8) -> Result<Tx, Fail> {
+    let from = OutPoint {
+        txid: Txid([0; 32]),
+        index: u32::MAX,
+    };
+    let mut inputs = Vec::new(alloc);
+    inputs.push(TxIn {
+        from,
+        script: Bytes::copy(alloc, &[1, mark])?,
+        sequence: 0,
+        witness: Witness::from_vec(Vec::new(alloc)),
+    })?;
+    let mut outputs = Vec::new(alloc);
+    outputs.push(TxOut {
+        value: 5_000_000_000,
+        script: Bytes::copy(alloc, &[0x51])?,
+    })?;
+    Ok(Tx {
+        version: 2,
+        marked: false,
+        inputs: Inputs::from_vec(inputs),
+        outputs: Outs::from_vec(outputs),
+        lock: 0,
+    })
+}
+
+// The line that connects a block of a coinbase alone, and the block's hash.
+fn plain(
+    rt: &impl Abort,
+    alloc: Global,
+    previous: [u8; 32],
+    mark: u8,
+) -> Result<(Bytes, [u8; 32]), Fail> {
+    let mut txs = Vec::new(alloc);
+    txs.push(coinbase(alloc, mark)?)?;
+    let mut block = Block {
+        header: Header {
+            version: 1,
+            previous,
+            root: [0; 32],
+            time: 0,
+            bits: 0,
+            nonce: 0,
+        },
+        txs: Txs::from_vec(txs),
+    };
+    assert!(rt; block.txs.len() > 0);
+    block.header.root = root(alloc, &block)?;
+    let bytes = write_block(alloc, &block)?;
+    Ok((line_of(alloc, bytes.as_slice())?, hash(&block.header)))
+}
+
+// The lines that connect three plain blocks, each on the one before.
+fn three_blocks(rt: &impl Abort, alloc: Global) -> Result<Bytes, Fail> {
+    let mut feed = Bytes::empty(alloc);
+    let mut tip = [0; 32];
+    for mark in 0..3u8 {
+        let (line, hash) = plain(rt, alloc, tip, mark)?;
+        feed.append(line.as_slice())?;
+        tip = hash;
+    }
+    Ok(feed)
+}
+
+#[test]
+fn init_makes_two_files_and_makes_them_once(rt: HostRuntime) -> Result<(), Fail> {
+    let alloc = rt.alloc();
+    let words: [&[u8]; 3] = [b"init", b"regtest", b"100"];
+    let a = hex::decode(alloc, EMPTY_A)?;
+    let mut site = MemSite::new(alloc)?;
+    ends(&rt, alloc, &mut site, &words, 0, b"ok empty\n")?;
+    assert_eq!(rt; site.file(Which::A), a.as_slice());
+    assert_eq!(rt; site.file(Which::B), b"\0".as_slice());
+    ends(&rt, alloc, &mut site, &words, 2, b"not empty\n")?;
+    assert_eq!(rt; site.file(Which::A), a.as_slice());
+    assert_eq!(rt; site.file(Which::B), b"\0".as_slice());
+    Ok(())
+}
+
+// Tests that words are no row, and that the files stay empty.
+fn is_usage(rt: &impl Abort, alloc: Global, words: &[&[u8]]) -> Result<(), Fail> {
+    let mut site = MemSite::new(alloc)?;
+    ends(rt, alloc, &mut site, words, 1, b"usage\n")?;
+    assert_eq!(rt; site.file(Which::A).len(), 0);
+    assert_eq!(rt; site.file(Which::B).len(), 0);
+    Ok(())
+}
+
+#[test]
+fn rows_of_a_store_have_exact_words(rt: HostRuntime) -> Result<(), Fail> {
+    let alloc = rt.alloc();
+    is_usage(&rt, alloc, &[b"init", b"lab", b"0"])?;
+    is_usage(&rt, alloc, &[b"init", b"lab", b"1001"])?;
+    is_usage(&rt, alloc, &[b"init", b"lab", b"01"])?;
+    is_usage(&rt, alloc, &[b"init", b"lab", b"+1"])?;
+    is_usage(&rt, alloc, &[b"init", b"regtest"])?;
+    is_usage(&rt, alloc, &[b"apply", b"x"])?;
+    is_usage(&rt, alloc, &[b"query"])
+}
+
+// The depths 1 and 1,000 are the words' least and greatest.
+#[test]
+fn init_takes_the_least_and_the_greatest_depth(rt: HostRuntime) -> Result<(), Fail> {
+    let alloc = rt.alloc();
+    let mut least = MemSite::new(alloc)?;
+    ends(
+        &rt,
+        alloc,
+        &mut least,
+        &[b"init", b"lab", b"1"],
+        0,
+        b"ok empty\n",
+    )?;
+    let mut greatest = MemSite::new(alloc)?;
+    ends(
+        &rt,
+        alloc,
+        &mut greatest,
+        &[b"init", b"mainnet", b"1000"],
+        0,
+        b"ok empty\n",
+    )?;
+    let a = hex::decode(
+        alloc,
+        "016f786964780100e8030100000000000000000000000000000000",
+    )?;
+    assert_eq!(rt; greatest.file(Which::A), a.as_slice());
+    Ok(())
+}
+
+// Behind the head of 26 bytes: an open gate, the length 286, the byte of a connect, the block, and a closed gate.
+#[test]
+fn a_connected_block_is_a_record_of_its_bytes(rt: HostRuntime) -> Result<(), Fail> {
+    let alloc = rt.alloc();
+    let mut site = empty_store(alloc)?;
+    let line = joined(alloc, &[b"connect ", GENESIS.as_bytes(), b"\n"])?;
+    site.input(line.as_slice())?;
+    ends(&rt, alloc, &mut site, &[b"apply"], 0, OK)?;
+    let mut a = hex::decode(alloc, EMPTY_A)?;
+    a.pop();
+    a.extend_from_slice(b"\x01\x1e\x01\0\0\x01")?;
+    a.extend_from_slice(hex::decode(alloc, GENESIS)?.as_slice())?;
+    a.push(0)?;
+    assert_eq!(rt; site.file(Which::A), a.as_slice());
+    assert_eq!(rt; site.file(Which::A).len(), 318);
+    assert_eq!(rt; site.file(Which::B), b"\0".as_slice());
+    Ok(())
+}
+
+#[test]
+fn files_that_are_no_store_are_not_opened(rt: HostRuntime) -> Result<(), Fail> {
+    let alloc = rt.alloc();
+    let mut site = empty_store(alloc)?;
+    site.write(Which::A, 0, b"\0")?;
+    site.input(b"disconnect\n")?;
+    ends(&rt, alloc, &mut site, &[b"apply"], 3, b"not a store a 0\n")?;
+    ends(
+        &rt,
+        alloc,
+        &mut site,
+        &[b"query", b"/status"],
+        3,
+        b"not a store a 0\n",
+    )?;
+    let mut none = MemSite::new(alloc)?;
+    ends(&rt, alloc, &mut none, &[b"apply"], 3, b"not a store a 0\n")
+}
+
+#[test]
+fn refused_lines_leave_a_store_as_it_is(rt: HostRuntime) -> Result<(), Fail> {
+    let alloc = rt.alloc();
+    let mut site = empty_store(alloc)?;
+    let cut = joined(
+        alloc,
+        &[
+            b"connect ",
+            GENESIS.as_bytes().get(..400).unwrap_or(&[]),
+            b"\n",
+        ],
+    )?;
+    let digits = zeros(alloc, 8_000_001)?;
+    let feed = joined(
+        alloc,
+        &[
+            cut.as_slice(),
+            b"connect \nconnect 0\ndisconnect\nconnect ",
+            digits.as_slice(),
+            b"\n",
+        ],
+    )?;
+    site.input(feed.as_slice())?;
+    let answers = b"refused 3 200\nrefused 3 0\nrefused 1\nrefused 11\nrefused 2\n";
+    ends(&rt, alloc, &mut site, &[b"apply"], 0, answers)?;
+    assert_eq!(rt;
+        site.file(Which::A),
+        hex::decode(alloc, EMPTY_A)?.as_slice()
+    );
+    assert_eq!(rt; site.file(Which::B), b"\0".as_slice());
+    Ok(())
+}
+
+#[test]
+fn a_status_tells_of_the_blocks_that_were_applied(rt: HostRuntime) -> Result<(), Fail> {
+    let alloc = rt.alloc();
+    let query: [&[u8]; 2] = [b"query", b"/status"];
+    let mut site = empty_store(alloc)?;
+    ends(&rt, alloc, &mut site, &query, 0, status_body(0).as_bytes())?;
+    site.input(three_blocks(&rt, alloc)?.as_slice())?;
+    ends(&rt, alloc, &mut site, &[b"apply"], 0, THREE_OK)?;
+    ends(&rt, alloc, &mut site, &query, 0, status_body(3).as_bytes())?;
+    ends(
+        &rt,
+        alloc,
+        &mut site,
+        &[b"query", b"/x"],
+        0,
+        br#"{"error":404}"#,
+    )
 }
