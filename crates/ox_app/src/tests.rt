@@ -259,6 +259,28 @@ fn empty_store(alloc: Global) -> Result<MemSite, Fail> {
     site_with(alloc, a.as_slice(), b"\0")
 }
 
+// The store as a crash now leaves it.
+fn after_crash(alloc: Global, site: &MemSite, fill: u8) -> Result<MemSite, Fail> {
+    let choice = Choice {
+        moment: site.now(),
+        fill,
+        keep: u64::MAX,
+    };
+    Ok(site.crash(&choice)?)
+}
+
+// How many of the three plain blocks a store has.
+fn blocks_in(rt: &impl Abort, alloc: Global, site: &mut MemSite) -> Result<u64, Fail> {
+    let (status, body) = outcome(alloc, site, &[b"query", b"/status"])?;
+    assert_eq!(rt; status, 0);
+    for blocks in 0..4u64 {
+        if body.as_slice() == status_body(blocks).as_bytes() {
+            return Ok(blocks);
+        }
+    }
+    panic!(rt; "another status");
+}
+
 // A coinbase that claims the whole subsidy, whose script makes its id its own.
 fn coinbase(alloc: Global, mark: u8) -> Result<Tx, Fail> {
     let from = OutPoint {
@@ -478,4 +500,125 @@ fn a_status_tells_of_the_blocks_that_were_applied(rt: HostRuntime) -> Result<(),
         0,
         br#"{"error":404}"#,
     )
+}
+
+// Opening makes eight calls, the line is heard by the ninth, the record is written by the next and synced by call 10.
+#[test]
+fn a_block_whose_record_is_not_synced_is_not_answered(rt: HostRuntime) -> Result<(), Fail> {
+    let alloc = rt.alloc();
+    let mut site = empty_store(alloc)?;
+    site.input(plain(&rt, alloc, [0; 32], 0)?.0.as_slice())?;
+    site.fail(10)?;
+    ends(&rt, alloc, &mut site, &[b"apply"], 4, b"")?;
+    let mut left = after_crash(alloc, &site, 255)?;
+    assert_eq!(rt; blocks_in(&rt, alloc, &mut left)?, 0);
+    Ok(())
+}
+
+// What this crash leaves has as many blocks as were answered, or one more; and the same feed leads on to all three.
+fn stop_by(
+    rt: &impl Abort,
+    alloc: Global,
+    site: &MemSite,
+    feed: &[u8],
+    choice: &Choice,
+) -> Result<(), Fail> {
+    assert!(rt; choice.moment <= site.now());
+    let mut left = site.crash(choice)?;
+    let shown = left.shown(0)?;
+    let lines = shown
+        .as_slice()
+        .iter()
+        .filter(|byte| **byte == b'\n')
+        .count();
+    let blocks = blocks_in(rt, alloc, &mut left)?;
+    let more = blocks.checked_sub(lines as u64);
+    assert!(rt;
+        matches!(more, Some(0 | 1)),
+        "{blocks} blocks and {lines} lines by {choice:?}"
+    );
+    left.input(feed)?;
+    let (status, _) = outcome(alloc, &mut left, &[b"apply"])?;
+    assert_eq!(rt; status, 0);
+    assert_eq!(rt; blocks_in(rt, alloc, &mut left)?, 3);
+    Ok(())
+}
+
+// Crashes at this moment, which change bytes to 00, 01 and 255 and cut the files to some lengths.
+fn stop_at(
+    rt: &impl Abort,
+    alloc: Global,
+    site: &MemSite,
+    feed: &[u8],
+    moment: u64,
+) -> Result<(), Fail> {
+    for fill in [0, 1, 255] {
+        for keep in [0, 30, 200, u64::MAX] {
+            let choice = Choice { moment, fill, keep };
+            stop_by(rt, alloc, site, feed, &choice)?;
+        }
+    }
+    Ok(())
+}
+
+#[test]
+fn a_stop_at_any_moment_keeps_what_was_answered(rt: HostRuntime) -> Result<(), Fail> {
+    let alloc = rt.alloc();
+    let mut site = empty_store(alloc)?;
+    let feed = three_blocks(&rt, alloc)?;
+    site.input(feed.as_slice())?;
+    ends(&rt, alloc, &mut site, &[b"apply"], 0, THREE_OK)?;
+    for moment in 0..=site.now() {
+        stop_at(&rt, alloc, &site, feed.as_slice(), moment)?;
+    }
+    Ok(())
+}
+
+// The status of an `apply` of one block at which the call of this number fails. Calls 0 to 7 open the store, 8 hears the
+// line, 9 to 12 write the record and its gate and sync each, 13 shows the answer, and 14 hears the end.
+fn status_by(call: u64) -> u8 {
+    match call {
+        8 | 14 => 5,
+        13 => 6,
+        0..=12 => 4,
+        _ => 0,
+    }
+}
+
+// How many blocks a crash leaves then that changes bytes to this one: until the gate's write nothing counts, and from its
+// sync on the block does.
+fn blocks_by(call: u64, fill: u8) -> u64 {
+    match call {
+        0..=10 => 0,
+        11 | 12 => u64::from(fill != 0),
+        _ => 1,
+    }
+}
+
+// One block is applied, and the call of this number fails.
+fn fail_at(rt: &impl Abort, alloc: Global, line: &[u8], call: u64) -> Result<(), Fail> {
+    let mut site = empty_store(alloc)?;
+    site.input(line)?;
+    site.fail(call)?;
+    let (status, _) = outcome(alloc, &mut site, &[b"apply"])?;
+    assert_eq!(rt; status, status_by(call), "at call {call}");
+    for fill in [0, 1, 255] {
+        let mut left = after_crash(alloc, &site, fill)?;
+        assert_eq!(rt;
+            blocks_in(rt, alloc, &mut left)?,
+            blocks_by(call, fill),
+            "at call {call}"
+        );
+    }
+    Ok(())
+}
+
+#[test]
+fn a_fault_at_any_call_of_an_apply_ends_it(rt: HostRuntime) -> Result<(), Fail> {
+    let alloc = rt.alloc();
+    let (line, _) = plain(&rt, alloc, [0; 32], 0)?;
+    for call in 0..16u64 {
+        fail_at(&rt, alloc, line.as_slice(), call)?;
+    }
+    Ok(())
 }
