@@ -1,0 +1,203 @@
+#!/usr/bin/env python3
+"""Kills a running `apply` again and again, and looks at what the store has then.
+
+    python3 bench/store/kill.py [KILLS [SEED [PROGRAM]]]
+
+applies a feed of regtest blocks, most of them small and some of up to two million bytes, to a store below out/ beside
+this script, and kills the program (SIGKILL, by the number of its own process): while it starts and opens the store, a
+random time after a random number of lines was shown, or as soon as file A grows by a large block. Then it tests that
+
+- `query /status` opens the store, which has at least as many blocks as `ok` lines were shown, and one more at most;
+- its newest block is the one that `fold regtest` shows after the first that many lines of the feed;
+- the lines that were shown, the last of them maybe in part, are those that `fold` shows;
+- file A begins with the bytes that docs/FORMATS.md says, and file B is one byte 00.
+
+The next `apply` goes on with the line behind. After fifty kills, or at the feed's end, a new store is begun. With KILLS
+(300 without a word) done it tells what the kills met and ends with `passed` and status 0. At the first test that fails it
+tells which, keeps the store, and ends with status 1. SEED is 1 and PROGRAM is crates/ox_main/out/ox_main without a word.
+What was written outlives a killed program even where the disk hasn't got it, so this tries no loss of power.
+"""
+
+import collections
+import json
+import pathlib
+import random
+import shutil
+import subprocess
+import sys
+import tempfile
+import time
+
+from chain import SHORT, chain, file_a, line
+
+HERE = pathlib.Path(__file__).resolve().parent
+PROGRAM = HERE.parent.parent / "crates" / "ox_main" / "out" / "ox_main"
+LINES = 1000
+KILLS_OF_A_STORE = 50
+
+
+class Failed(Exception):
+    pass
+
+
+def demand(holds, what):
+    if not holds:
+        raise Failed(what)
+
+
+class Feed:
+    """A feed, where each line of it begins, and what `fold` answers to it."""
+
+    def __init__(self, program, top, chance):
+        self.blocks, self.tips = chain(LINES, lambda height: script_of(chance))
+        self.path = top / "feed"
+        self.places = [0]
+        with open(self.path, "wb") as feed:
+            for block in self.blocks:
+                feed.write(line(block))
+                self.places.append(feed.tell())
+        with open(self.path, "rb") as given:
+            shown = subprocess.run([program, top, "fold", "regtest"], check=True, stdin=given, stdout=subprocess.PIPE)
+        self.answers = shown.stdout.splitlines(keepends=True)
+        demand(len(self.answers) == LINES, "`fold` doesn't answer each line")
+        for height, answer in enumerate(self.answers):
+            demand(answer == f"ok {height} {self.tips[height]}\n".encode(), f"`fold` answers line {height} otherwise")
+
+
+def script_of(chance):
+    """A script of one byte, or of as many as a write can be torn in."""
+    if chance.randrange(30):
+        return SHORT
+    return chance.randbytes(chance.choice([20_000, 200_000, 2_000_000]))
+
+
+def begin(program, folder):
+    """An empty store in a folder that is made anew."""
+    shutil.rmtree(folder, ignore_errors=True)
+    folder.mkdir()
+    subprocess.run([program, folder, "init", "regtest", "100"], check=True, stdout=subprocess.DEVNULL)
+
+
+def wait_for(child, folder, when):
+    """Waits for the moment, or until the program has ended."""
+    shown, a = folder / "shown", folder / "a.ox"
+    while child.poll() is None and shown.read_bytes().count(b"\n") < when.lines:
+        time.sleep(0.0002)
+    size = a.stat().st_size
+    while when.grows and child.poll() is None and a.stat().st_size <= size:
+        pass
+    time.sleep(when.seconds)
+
+
+def apply_and_kill(program, folder, feed, first, when):
+    """Applies the feed from this line on, waits for the moment and kills the program. Answers what it showed, and whether
+    it was still running."""
+    shown = folder / "shown"
+    with open(feed.path, "rb", buffering=0) as given, open(shown, "wb") as taken:
+        given.seek(feed.places[first])
+        child = subprocess.Popen([program, folder, "apply"], stdin=given, stdout=taken, stderr=subprocess.DEVNULL)
+        wait_for(child, folder, when)
+        child.kill()
+        status = child.wait()
+    demand(status in (0, -9), f"`apply` ended with {status}")
+    return shown.read_bytes(), status == -9
+
+
+def look(program, folder, feed):
+    """How many blocks the store has, by `query`, which has to show the newest of them rightly; and how long it took."""
+    begun = time.perf_counter()
+    asked = subprocess.run([program, folder, "query", "/status"], stdout=subprocess.PIPE, stderr=subprocess.PIPE)
+    seconds = time.perf_counter() - begun
+    demand(asked.returncode == 0, f"`query` ended with {asked.returncode} and showed {asked.stdout}")
+    body = json.loads(asked.stdout)
+    count = body["blocks"]
+    tip = feed.answers[count - 1].split()[2].decode() if count else None
+    wanted = {"blocks": count, "depth": 100, "kept": 0, "profile": "regtest", "tip": tip}
+    demand(body == wanted, f"`query` shows {body} where {wanted} was wanted")
+    return count, seconds
+
+
+def look_at_files(folder, feed, count):
+    """What stands behind the last gate: nothing, a part of the next record, or all of it."""
+    a, wanted = (folder / "a.ox").read_bytes(), file_a(feed.blocks[:count])
+    demand(a.startswith(wanted), "file A doesn't begin with its blocks")
+    demand((folder / "b.ox").read_bytes() == b"\0", "file B isn't closed")
+    more = len(a) - len(wanted)
+    if more == 0:
+        return "nothing"
+    # file A with one block more, but for the gate
+    whole = file_a(feed.blocks[: count + 1])[len(wanted) :]
+    demand(whole.startswith(a[len(wanted) :]), "another record stands behind the last gate")
+    return "a whole record" if more == len(whole) else "a part of a record"
+
+
+# So many lines are shown, file A has grown where `grows`, and so many seconds have passed.
+Moment = collections.namedtuple("Moment", "lines grows seconds")
+
+
+def moment(chance, feed, first, opening):
+    """When to kill an `apply` from this line on. Starting and opening took so long last."""
+    kind = chance.randrange(5)
+    if kind == 0:
+        return Moment(0, False, chance.uniform(0, opening))
+    large = [n for n, block in enumerate(feed.blocks[first : first + 50]) if len(block) > 100_000]
+    if kind == 1 and large:
+        return Moment(large[0], True, 0)
+    return Moment(chance.randint(1, 20), False, chance.uniform(0, chance.choice([0.0002, 0.001, 0.005])))
+
+
+def kill_once(program, folder, feed, before, when, met):
+    """Applies and kills once, and tests what is left. Answers how many blocks there are, and how long it took
+    to open the store."""
+    shown, was_killed = apply_and_kill(program, folder, feed, before, when)
+    answers = b"".join(feed.answers[before:])
+    demand(answers.startswith(shown), "other lines were shown than `fold` shows")
+    lines = shown.count(b"\n")
+    count, opening = look(program, folder, feed)
+    unshown = count - before - lines
+    demand(unshown in (0, 1), f"there were {before} blocks, {lines} lines were shown, and there are {count} blocks")
+    behind = look_at_files(folder, feed, count)
+    met["killed while it ran"] += was_killed
+    met["killed before a line was shown"] += was_killed and not shown
+    met["a block more than lines"] += unshown
+    met[f"{behind} behind the last gate"] += 1
+    met["blocks"] += count - before
+    return count, opening
+
+
+def kill_often(program, top, kills, chance, met):
+    feed = Feed(program, top, chance)
+    folder = top / "store"
+    count, opening = LINES, 0
+    for turn in range(kills):
+        if count == LINES or turn % KILLS_OF_A_STORE == 0:
+            begin(program, folder)
+            count, opening = look(program, folder, feed)
+            met["stores"] += 1
+        when = moment(chance, feed, count, opening)
+        count, opening = kill_once(program, folder, feed, count, when, met)
+
+
+def main():
+    words = sys.argv[1:]
+    kills, seed = [int(word) for word in words[:2]] + [300, 1][len(words[:2]):]
+    program = pathlib.Path(words[2]).resolve() if len(words) > 2 else PROGRAM
+    if not program.exists():
+        sys.exit(f"{program} isn't built")
+    met = collections.Counter()
+    out = HERE / "out"
+    out.mkdir(exist_ok=True)
+    top = pathlib.Path(tempfile.mkdtemp(dir=out))
+    try:
+        kill_often(program, top, kills, random.Random(seed), met)
+    except Failed as failed:
+        print(f"FAILED: {failed}; the store is in {top}")
+        sys.exit(1)
+    shutil.rmtree(top)
+    for what, times in sorted(met.items()):
+        print(f"{times:7,} {what}")
+    print(f"passed: after {kills} kills no block was lost whose line was shown")
+
+
+if __name__ == "__main__":
+    main()
