@@ -20,7 +20,7 @@ use Rattle.ox_model.specs.Replies.{after_on, replies_on}
 use Rattle.ox_store.specs.Fault.{IsMisfit}
 use Rattle.ox_store.specs.declared.fault.OpenFault.{OpenFault}
 use Rattle.ox_store.specs.declared.fault.OpenFault.TheVariants as opens
-use Rattle.ox_app.specs.Apply.{LogsUnopened}
+use Rattle.ox_app.specs.Apply.{LogsUnopened, UnopenedAs}
 use Rattle.ox_app.specs.Crash.{Leaves, LeavesOld, Survives}
 use Rattle.ox_app.specs.Init.{MadeBefore}
 use Rattle.ox_app.specs.Run.{ShowsFront, ShowsReply, ShowsWhole}
@@ -93,6 +93,13 @@ no_misfit : (standing : Result Stack Misfit) (stack : Stack) (fault : OpenFault)
 no_misfit standing stack (opens.NotStore file at) events is misfit logs = cc (sym is ∙ misfit)
 no_misfit standing stack opens.DiskFault events is misfit logs = logs
 no_misfit standing stack opens.Memory events is misfit logs = logs
+
+-- where no line is shown, nothing is logged
+pub unsaid : (fault : OpenFault) (status before after : ℕ) (old new : Option (List Event)) → UnopenedAs fault status before after old new → (status ≡ 3 → ⊥) → new ≡ old
+unsaid (opens.NotStore file at) status before after old new (inl said) isnt = absurd (isnt said.0)
+unsaid (opens.NotStore file at) status before after old new (inr quiet) isnt = quiet.1
+unsaid opens.DiskFault status before after old new quiet isnt = quiet.1
+unsaid opens.Memory status before after old new quiet isnt = quiet.1
 
 lines_none : lines_in [] ≡ []
 unfolding lines_of

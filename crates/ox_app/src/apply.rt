@@ -79,6 +79,7 @@ pub fn apply<S: Site>(alloc: Global, site: &mut S) -> u8
 
     // On files that stand for none.
     ensures unopened { IsTrue (S.told site.old) → (misfit : Misfit) → stands (S.seen site.old) ≡ Err misfit → IsUnopened result }
+    ensures unsaid { IsTrue (S.told site.old) → (misfit : Misfit) → stands (S.seen site.old) ≡ Err misfit → result ≢ 3 → S.log site.new ≡ S.log site.old }
     ensures looks { IsTrue (S.told site.old) → (misfit : Misfit) → stands (S.seen site.old) ≡ Err misfit → LeavesOnly S.clock S.left_since site.old site.new (LeavesOld S.may_leave site.old) }
     ensures no_store { result ≡ 3 → LeavesOnly S.clock S.left_since site.old site.new (LeavesOld S.may_leave site.old) }
     ensures not_store { result ≡ 3 → SaysNotStore (S.told site.old) (S.seen site.old) ((S.counts site.old).show 0) ((S.counts site.new).show 0) (S.log site.old) (S.log site.new) }

@@ -83,8 +83,9 @@ pub fn run<S: Site>(alloc: Global, words: &[Bytes], site: &mut S) -> u8
     ensures queries { IsTrue (S.told site.old) → (path : List ℕ) → words.now ≡ query_words path → (stack : Stack) → stands (S.seen site.old) ≡ Ok stack
         → (result ≢ 3) × Grows (ShowsReply (query_body path stack) result) (S.log site.old) (S.log site.new) }
 
-    // On files that stand for no stack the first test that fails is shown.
+    // On files that stand for no stack the first test that fails is shown, and nothing else.
     ensures unopened { IsTrue (S.told site.old) → IsOpening words.now → (misfit : Misfit) → stands (S.seen site.old) ≡ Err misfit → IsUnopened result }
+    ensures unsaid { IsTrue (S.told site.old) → IsOpening words.now → (misfit : Misfit) → stands (S.seen site.old) ≡ Err misfit → result ≢ 3 → S.log site.new ≡ S.log site.old }
     ensures not_store { result ≡ 3 → SaysNotStore (S.told site.old) (S.seen site.old) ((S.counts site.old).show 0) ((S.counts site.new).show 0) (S.log site.old) (S.log site.new) }
 
     // Of other words the usage line is shown, or a front of it where a showing failed.

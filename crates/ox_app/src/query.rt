@@ -91,6 +91,7 @@ pub fn query<S: Site>(alloc: Global, site: &mut S, path: &[u8]) -> u8
     ensures shows { IsTrue (S.told site.old) → (stack : Stack) → stands (S.seen site.old) ≡ Ok stack → (result ≢ 3) × Grows (ShowsReply (query_body path.now stack) result) (S.log site.old) (S.log site.new) }
     // On files that stand for none.
     ensures unopened { IsTrue (S.told site.old) → (misfit : Misfit) → stands (S.seen site.old) ≡ Err misfit → IsUnopened result }
+    ensures unsaid { IsTrue (S.told site.old) → (misfit : Misfit) → stands (S.seen site.old) ≡ Err misfit → result ≢ 3 → S.log site.new ≡ S.log site.old }
     ensures not_store { result ≡ 3 → SaysNotStore (S.told site.old) (S.seen site.old) ((S.counts site.old).show 0) ((S.counts site.new).show 0) (S.log site.old) (S.log site.new) }
 
     ensures looks { LeavesOnly S.clock S.left_since site.old site.new (LeavesOld S.may_leave site.old) }

@@ -6,7 +6,7 @@ use Rattle.ox_model.specs.Replies.{after_on, replies_on}
 use Rattle.ox_model.specs.Stack.{Stack}
 use Rattle.ox_model.specs.Stands.{stands}
 use Rattle.ox_app.specs.Crash.{Leaves}
-use Rattle.ox_app.proofs.Looking.{looked_then_talked, opened_then_followed, same_stack, unopened_yet}
+use Rattle.ox_app.proofs.Looking.{looked_then_talked, opened_then_followed, same_stack, unopened_yet, unsaid}
 use Rattle.ox_app.proofs.apply.apply.Goals as goal
 
 pub returns-in-Ok-clause-survives : goal.returns-in-Ok-clause-survives
@@ -29,3 +29,7 @@ returns-in-Err-clause-looks g c told misfit stood =
 pub returns-in-Err-clause-no_store : goal.returns-in-Err-clause-no_store
 returns-in-Err-clause-no_store g c is =
     looked_then_talked g.S.Site.told g.S.Site.seen g.S.Site.log g.S.Site.counts g.S.Site.clock g.S.Site.may_leave g.S.Site.left_since _ c.args.site.now c.open.new.site c.unopened.new.site c.open.ensures.looks c.unopened.ensures.talks
+
+pub returns-in-Err-clause-unsaid : goal.returns-in-Err-clause-unsaid
+returns-in-Err-clause-unsaid g c told misfit stood isnt =
+    unsaid c.in-Err.fault c.unopened.result _ _ (g.S.Site.log c.open.new.site) (g.S.Site.log c.unopened.new.site) c.unopened.ensures.says isnt ∙ c.open.ensures.looks.nothing.as_logged

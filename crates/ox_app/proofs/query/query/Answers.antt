@@ -3,7 +3,7 @@ use Rattle.ox_outside.specs.Log.{Grows}
 use Rattle.ox_model.specs.Stands.{stands}
 use Rattle.ox_model.specs.Status.{query_body}
 use Rattle.ox_app.specs.Run.{ShowsReply}
-use Rattle.ox_app.proofs.Looking.{looked_then_talked, reply_none, reply_whole, same_stack}
+use Rattle.ox_app.proofs.Looking.{looked_then_talked, reply_none, reply_whole, same_stack, unsaid}
 use Rattle.ox_app.proofs.query.query.Goals as goal
 
 pub returns-in-Ok-show_all-clause-shows : goal.returns-in-Ok-show_all-clause-shows
@@ -32,3 +32,7 @@ returns-in-Ok-body_of-clause-looks g c =
 pub returns-clause-looks : goal.returns-clause-looks
 returns-clause-looks g c =
     looked_then_talked g.S.Site.told g.S.Site.seen g.S.Site.log g.S.Site.counts g.S.Site.clock g.S.Site.may_leave g.S.Site.left_since _ c.args.site.now c.open.new.site c.unopened.new.site c.open.ensures.looks c.unopened.ensures.talks
+
+pub returns-clause-unsaid : goal.returns-clause-unsaid
+returns-clause-unsaid g c told misfit stood isnt =
+    unsaid c.in-Err.fault c.unopened.result _ _ (g.S.Site.log c.open.new.site) (g.S.Site.log c.unopened.new.site) c.unopened.ensures.says isnt ∙ c.open.ensures.looks.nothing.as_logged
