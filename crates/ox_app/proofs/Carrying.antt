@@ -1,8 +1,8 @@
 -- One line that a store carries out: the line of its newest block, and files that no call touches.
-use Rattle.std.proofs.Common.{◌≡◌, ◌∙◌, ◌<◌, ◌-◌, inl, ℕ, List, [], ◌∷◌, length, refl, sym, ap, arith}
+use Rattle.std.proofs.Common.{◌≡◌, ◌∙◌, ◌-◌, inl, ℕ, List, [], ◌∷◌, length, refl, ap, arith}
 use Rattle.std.proofs.lemmas.Bool.Decides.{nat_tests}
 use Rattle.std.proofs.lemmas.Option.{slice_get-get_or}
-use Rattle.std.specs.Prelude.{Bool, false, Ok, Option, option_map, slice_get, ◌==◌}
+use Rattle.std.specs.Prelude.{false, Ok, option_map, slice_get, ◌==◌}
 use Rattle.ox_outside.specs.Crash.{Remains, LeavesOnly}
 use Rattle.ox_outside.specs.Files.{Files}
 use Rattle.ox_outside.proofs.Calls.{leaves_at_first}
@@ -11,7 +11,8 @@ use Rattle.ox_model.specs.Stack.{Stack}
 use Rattle.ox_model.specs.Stands.{stands}
 use Rattle.ox_model.specs.Step.{zero_hash}
 use Rattle.ox_model.specs.Text.{ok_text}
-use Rattle.ox_app.specs.Apply.{BeforeOrAfter, tip_line}
+use Rattle.ox_store.specs.Ready.{StandsForEither}
+use Rattle.ox_app.specs.Apply.{tip_line}
 
 some_first : (h : List ℕ) (t : List (List ℕ)) → (length (h ∷ t) == 0) ≡ false
 some_first h t = grind (arith, nat_tests)
@@ -25,6 +26,6 @@ tip_says (h ∷ t) = rw (some_first h t, slice_get-get_or (h ∷ t) (length (h �
 -- where no call is made, a crash leaves what it left before
 module _ {S : Type 0} (seen : S → Files) (clock : S → ℕ) (may_leave : S → Remains → Type 0) (left_since : S → ℕ → Remains → Type 0) where
   pub untouched : ((site : S) (r : Remains) → left_since site (clock site) r → may_leave site r) → (site : S) (before after : Stack) → IsSettled seen may_leave site
-      → stands (seen site) ≡ Ok before → LeavesOnly clock left_since site site (λ r. BeforeOrAfter before after r.files)
+      → stands (seen site) ≡ Ok before → LeavesOnly clock left_since site site (λ r. StandsForEither before after r.files)
   untouched only_now site before after settled stood =
-      leaves_at_first clock left_since site (λ r. BeforeOrAfter before after r.files) (λ r left. inl (ap stands (settled r (only_now site r left)) ∙ stood))
+      leaves_at_first clock left_since site (λ r. StandsForEither before after r.files) (λ r left. inl (ap stands (settled r (only_now site r left)) ∙ stood))

@@ -1,6 +1,5 @@
 -- A run over a feed goes on: which lines are done, what was shown of their answers, and what is still to come.
 use Rattle.std.proofs.Common.{◌≡◌, ◌∙◌, ℕ, ◌≤◌, ◌||◌, Bool, true, false, List, [], ◌∷◌, ◌++◌, length, refl, sym, ap, arith, append_assoc, length-append}
-use Rattle.std.proofs.Common.{◌⊎◌, inl, inr}
 use Rattle.std.specs.Prelude.{All, IsTrue, Option, Some, None, Ok, Err}
 use Rattle.std.specs.List.{concat}
 use Rattle.std.proofs.lemmas.Bool.{eqb-true}
@@ -25,7 +24,7 @@ use Rattle.ox_index.specs.declared.live.Live.{Live}
 use Rattle.ox_model.specs.Index.{Index, no_blocks}
 use Rattle.ox_model.specs.Machine.{begun}
 use Rattle.ox_app.specs.Fold.{Answered, AnswersLine, Carried, NextLine, Owing, fold_depth, stack_in, status_of}
-use Rattle.ox_app.specs.Run.{HearsNothing, IsFrontOf, OnlyOwn, RunsFeed, ShowsFront, ShowsWhole}
+use Rattle.ox_app.specs.Run.{HearsNothing, OnlyOwn, RunsFeed, ShowsFront, ShowsWhole}
 use Rattle.ox_app.proofs.Showing.{Own}
 
 -- ---- hearings show nothing
@@ -113,13 +112,13 @@ module _ (first : Stack) where
       → AnswersLine line stack answer stack' → Answers lines (Ok line) lines' events → Answered lines stack (Ok answer) lines' stack' events
   answered_line (Text l) lines lines' stack stack' answer events a h = record {
     hears = h.hears;
-    answer = rw a.says (record { line = text l; comes = h.line; says = refl; leaves = a.leaves });
+    came = rw a.says (record { line = text l; comes = h.line; says = refl; leaves = a.leaves });
   }
   answered_line Long lines lines' stack stack' answer events a h = record {
     hears = h.hears;
-    answer = rw a.says (record { line = too_long; comes = h.line; says = refl; leaves = a.leaves });
+    came = rw a.says (record { line = too_long; comes = h.line; says = refl; leaves = a.leaves });
   }
-  answered_line End lines lines' stack stack' answer events a h = record { hears = h.hears; answer = rw a h.line }
+  answered_line End lines lines' stack stack' answer events a h = record { hears = h.hears; came = rw a h.line }
 
   -- before the first line
   pub carried_none : (log : Option (List Event)) → Grows (Carried first unheard first) log log
@@ -155,7 +154,7 @@ module _ (first : Stack) where
       → Grows (Carried first lines stack) log mid → Grows (Answered lines stack (Ok (Some answer)) lines' stack') mid now → Grows (Owing first answer lines' stack') log now
   grows_owing lines lines' stack stack' answer log mid now =
       grows_then (Carried first lines stack) (Answered lines stack (Ok (Some answer)) lines' stack') (Owing first answer lines' stack') log mid now
-      (λ x y f q. owing lines lines' stack stack' answer x y f q.hears q.answer)
+      (λ x y f q. owing lines lines' stack stack' answer x y f q.hears q.came)
 
   ended_kept : (a b : Bool) → b ≡ false → a ≡ (a || b)
   ended_kept true b e = refl
@@ -311,7 +310,7 @@ module _ (first : Stack) where
       → Grows (Carried first lines stack) log mid → Grows (Answered lines stack (Ok None) lines' stack') mid now → Grows (RunsFeed (replies_on first) 0) log now
   grows_whole lines lines' stack stack' log mid now within =
       grows_then (Carried first lines stack) (Answered lines stack (Ok None) lines' stack') (RunsFeed (replies_on first) 0) log mid now
-      (λ x y f q. answered_all lines lines' stack x y within f q.hears q.answer)
+      (λ x y f q. answered_all lines lines' stack x y within f q.hears q.came)
 
 -- ---- an index in memory without a block
 

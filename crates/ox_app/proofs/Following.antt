@@ -1,16 +1,16 @@
 -- A run over a feed and a store goes on: what a crash leaves at each moment, and what holds between two lines.
-use Rattle.std.proofs.Common.{◌≡◌, ◌∙◌, ◌⊎◌, ⊎_elim, inl, inr, ℕ, ◌≤◌, Bool, List, [], ◌++◌, length, Option, Some, None, refl, sym, ap, subst}
+use Rattle.std.proofs.Common.{◌≡◌, ◌∙◌, ⊎_elim, inl, inr, ℕ, ◌≤◌, Bool, List, [], ◌++◌, length, Option, Some, None, refl, sym, ap, subst}
 use Rattle.std.specs.Prelude.{Result, Ok, Err, IfOk}
 use Rattle.std.proofs.lemmas.List.{append-nil}
 use Rattle.std.proofs.lemmas.List.Elements.{All-nil}
 use Rattle.ox_outside.specs.Counts.{Counts}
 use Rattle.ox_outside.specs.Crash.{Remains, LeavesFiles, LeavesOnly, OnlyTalks}
-use Rattle.ox_outside.specs.Event.{Event, heard_bytes}
+use Rattle.ox_outside.specs.Event.{Event}
 use Rattle.ox_outside.specs.Files.{Files, file_of, other}
 use Rattle.ox_outside.specs.Log.{Grows}
 use Rattle.ox_outside.proofs.Calls.{leaves_at_first, leaves_then, leaves_weaker}
-use Rattle.ox_outside.proofs.Log.{grows_none, grows_same, grows_then, grows_weaker}
-use Rattle.ox_feed.specs.Feed.{Answers, Feed, Hears, IsTooMuch, Listens, feed_limit, text, too_long, unheard}
+use Rattle.ox_outside.proofs.Log.{grows_same, grows_then, grows_weaker}
+use Rattle.ox_feed.specs.Feed.{Answers, Feed, IsTooMuch, Listens, feed_limit, text, too_long, unheard}
 use Rattle.ox_feed.specs.declared.lines.FeedFault.{FeedFault}
 use Rattle.ox_feed.specs.declared.lines.Line.{Line}
 use Rattle.ox_feed.specs.declared.lines.Line.TheVariants.{Text, Long, End}
@@ -20,10 +20,11 @@ use Rattle.ox_gated.specs.Tail.{Holds, IsSettled, Keeps, Kept}
 use Rattle.ox_model.specs.Replies.{after_on, after_turn, index_on, replies_on, reply_by}
 use Rattle.ox_model.specs.Stack.{Stack, turn_on}
 use Rattle.ox_model.specs.Stands.{stands}
-use Rattle.ox_app.specs.Apply.{BeforeOrAfter, CarriedOn, CarriesOut, DuringLine, HeardWhole, after_line}
+use Rattle.ox_store.specs.Ready.{StandsForEither}
+use Rattle.ox_app.specs.Apply.{CarriedOn, CarriesOut, DuringLine, after_line}
 use Rattle.ox_app.specs.Crash.{Survives}
 use Rattle.ox_app.specs.Fold.{Carried, Owing, status_of}
-use Rattle.ox_app.specs.Run.{RunsFeed, ShowsFront, ShowsWhole}
+use Rattle.ox_app.specs.Run.{RunsFeed, ShowsFront}
 use Rattle.ox_app.specs.declared.carry.Carried.{Carried as CarriedOut}
 use Rattle.ox_app.specs.declared.stop.Stop.{Stop}
 use Rattle.ox_app.specs.declared.stop.Stop.TheVariants.{TooMuch}
@@ -41,17 +42,17 @@ carried_line : (line : Line) (lines lines' : Feed) (stack : Stack) (result : Res
     → Answers lines (Ok line) lines' y → IfOk result (CarriesOut line stack) → CarriedOn lines stack result lines' y
 carried_line (Text l) lines lines' stack (Ok (Some c)) y answers out = record {
   hears = answers.hears;
-  carried = record { line = text l; comes = answers.line; says = same_some _ _ out.says; leaves = out.leaves };
+  came = record { line = text l; comes = answers.line; says = same_some _ _ out.says; leaves = out.leaves };
 }
 carried_line Long lines lines' stack (Ok (Some c)) y answers out = record {
   hears = answers.hears;
-  carried = record { line = too_long; comes = answers.line; says = same_some _ _ out.says; leaves = out.leaves };
+  came = record { line = too_long; comes = answers.line; says = same_some _ _ out.says; leaves = out.leaves };
 }
 carried_line End lines lines' stack (Ok (Some c)) y answers out = absurd out
 carried_line (Text l) lines lines' stack (Ok None) y answers out = absurd out
 carried_line Long lines lines' stack (Ok None) y answers out = absurd out
-carried_line End lines lines' stack (Ok None) y answers out = record { hears = answers.hears; carried = answers.line }
-carried_line line lines lines' stack (Err stop) y answers out = record { hears = answers.hears; carried = tt }
+carried_line End lines lines' stack (Ok None) y answers out = record { hears = answers.hears; came = answers.line }
+carried_line line lines lines' stack (Err stop) y answers out = record { hears = answers.hears; came = tt }
 
 pub grows_line : (line : Line) (lines lines' : Feed) (stack : Stack) (result : Result (Option CarriedOut) Stop) (log mid now : Option (List Event))
     → Grows (Answers lines (Ok line) lines') log mid → IfOk result (CarriesOut line stack) → now ≡ mid → Grows (CarriedOn lines stack result lines') log now
@@ -63,9 +64,9 @@ grows_line line lines lines' stack result log mid now grows out same =
 pub grows_no_line : (fault : FeedFault) (stop : Stop) (lines lines' : Feed) (stack : Stack) (log now : Option (List Event))
     → Grows (Answers lines (Err fault) lines') log now → Grows (CarriedOn lines stack (Err stop) lines') log now
 grows_no_line fault stop lines lines' stack log now =
-    grows_weaker (Answers lines (Err fault) lines') (CarriedOn lines stack (Err stop) lines') log now (λ y answers. record { hears = answers.hears; carried = tt })
+    grows_weaker (Answers lines (Err fault) lines') (CarriedOn lines stack (Err stop) lines') log now (λ y answers. record { hears = answers.hears; came = tt })
 
-by_line : (line : Line) (lines lines' : Feed) (stack : Stack) (files : Files) (y : List Event) → Answers lines (Ok line) lines' y → BeforeOrAfter stack (after_line stack line) files
+by_line : (line : Line) (lines lines' : Feed) (stack : Stack) (files : Files) (y : List Event) → Answers lines (Ok line) lines' y → StandsForEither stack (after_line stack line) files
     → DuringLine lines stack lines' files y
 by_line line lines lines' stack files y answers (inl before) = inl (record { only = answers.hears.only; quiet = answers.hears.quiet }, before)
 by_line (Text l) lines lines' stack files y answers (inr after) = inr (record { line = text l; hears = answers.hears; comes = answers.line; stands_for = after })
@@ -103,7 +104,7 @@ module _ {S : Type 0} (told : S → Bool) (seen : S → Files) (log : S → Opti
   -- and carried out
   pub during_carried : (line : Line) (lines lines' : Feed) (stack : Stack) (old mid new : S) → OnlyTalks told seen log counts clock may_leave left_since (Listens lines) old mid
       → IsSettled seen may_leave old → stands (seen old) ≡ Ok stack → Grows (Answers lines (Ok line) lines') (log old) (log mid)
-      → Only mid new (λ r. log mid ≡ Some r.log) → Only mid new (λ r. BeforeOrAfter stack (after_line stack line) r.files) → Only old new (During lines stack lines' old)
+      → Only mid new (λ r. log mid ≡ Some r.log) → Only mid new (λ r. StandsForEither stack (after_line stack line) r.files) → Only old new (During lines stack lines' old)
   during_carried line lines lines' stack old mid new talks settled stood grows logged either =
       leaves_then clock left_since old mid new (During lines stack lines' old) (during_heard lines lines' stack old mid talks settled stood)
       (leaves_weaker clock left_since mid new _ (During lines stack lines' old) (λ r is.
@@ -178,7 +179,7 @@ module _ (first : Stack) where
       → Grows (Carried first lines stack) log mid → Grows (CarriedOn lines stack (Ok (Some carried)) lines') mid now → Grows (Owing first carried.answer lines' carried.store.stack) log now
   grows_owing_store carried lines lines' stack log mid now =
       grows_then (Carried first lines stack) (CarriedOn lines stack (Ok (Some carried)) lines') (Owing first carried.answer lines' carried.store.stack) log mid now
-      (λ x y f q. owing first lines lines' stack carried.store.stack carried.answer x y f q.hears q.carried)
+      (λ x y f q. owing first lines lines' stack carried.store.stack carried.answer x y f q.hears q.came)
 
   pub grows_stopped_store : (lines lines' : Feed) (stack : Stack) (stop : Stop) (log mid now : Option (List Event)) → lines'.heard ≤ feed_limit → (stop ≡ TooMuch → IsTooMuch lines')
       → Grows (Carried first lines stack) log mid → Grows (CarriedOn lines stack (Err stop) lines') mid now → Grows (RunsFeed (replies_on first) (status_of (Err stop))) log now
@@ -190,4 +191,4 @@ module _ (first : Stack) where
       → Grows (Carried first lines stack) log mid → Grows (CarriedOn lines stack (Ok None) lines') mid now → Grows (RunsFeed (replies_on first) 0) log now
   grows_whole_store lines lines' stack log mid now within =
       grows_then (Carried first lines stack) (CarriedOn lines stack (Ok None) lines') (RunsFeed (replies_on first) 0) log mid now
-      (λ x y f q. answered_all first lines lines' stack x y within f q.hears q.carried)
+      (λ x y f q. answered_all first lines lines' stack x y within f q.hears q.came)

@@ -1,11 +1,11 @@
 -- A run that only talks goes on, whatever it says.
-use Rattle.std.proofs.Common.{◌≡◌, ℕ, Bool, List, Option, Some}
+use Rattle.std.proofs.Common.{ℕ, Bool, List, Option}
 use Rattle.ox_outside.specs.Counts.{Counts}
 use Rattle.ox_outside.specs.Crash.{Remains, OnlyTalks}
 use Rattle.ox_outside.specs.Event.{Event}
 use Rattle.ox_outside.specs.Files.{Files}
 use Rattle.ox_outside.specs.Log.{Grows}
-use Rattle.ox_outside.proofs.Talking.{talks_none, talks_then}
+use Rattle.ox_outside.proofs.Talking.{talks_then}
 use Rattle.ox_app.specs.Fold.{Anything}
 
 module _ {S : Type 0} (told : S → Bool) (seen : S → Files) (log : S → Option (List Event)) (counts : S → Counts) (clock : S → ℕ) (may_leave : S → Remains → Type 0) (left_since : S → ℕ → Remains → Type 0) where

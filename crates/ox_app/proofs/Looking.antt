@@ -1,9 +1,9 @@
 -- Runs that look at the files and then only talk, and what is shown in them.
-use Rattle.std.proofs.Common.{◌≡◌, ◌∙◌, inl, inr, ℕ, zero, suc, Bool, List, [], ◌∷◌, ◌++◌, take, Option, Some, refl, sym, ap, subst}
-use Rattle.std.specs.Prelude.{Result, Ok, Err}
+use Rattle.std.proofs.Common.{◌≡◌, ◌∙◌, inl, inr, ℕ, zero, suc, Bool, List, [], ◌∷◌, take, Option, Some, refl, sym, ap, subst}
+use Rattle.std.specs.Prelude.{Result, Ok}
 use Rattle.std.proofs.lemmas.List.{append-nil}
 use Rattle.ox_outside.specs.Counts.{Counts}
-use Rattle.ox_outside.specs.Crash.{Remains, LeavesOnly, OnlyLooks, OnlyTalks}
+use Rattle.ox_outside.specs.Crash.{Remains, LeavesOnly, MayLeaveFiles, OnlyLooks, OnlyTalks}
 use Rattle.ox_outside.specs.Event.{Event, shown_bytes}
 use Rattle.ox_outside.specs.Files.{Files}
 use Rattle.ox_outside.specs.Log.{Grows}
@@ -21,7 +21,7 @@ use Rattle.ox_store.specs.Fault.{IsMisfit}
 use Rattle.ox_store.specs.declared.fault.OpenFault.{OpenFault}
 use Rattle.ox_store.specs.declared.fault.OpenFault.TheVariants as opens
 use Rattle.ox_app.specs.Apply.{LogsUnopened, UnopenedAs}
-use Rattle.ox_app.specs.Crash.{Leaves, LeavesOld, Survives}
+use Rattle.ox_app.specs.Crash.{Leaves, Survives}
 use Rattle.ox_app.specs.Init.{MadeBefore}
 use Rattle.ox_app.specs.Run.{ShowsFront, ShowsReply, ShowsWhole}
 use Rattle.ox_app.proofs.Showing.{front_none}
@@ -62,17 +62,17 @@ made_any name depth files [] stood = tt
 made_any name depth files (event ∷ events) stood = stood
 
 module _ {S : Type 0} (told : S → Bool) (seen : S → Files) (log : S → Option (List Event)) (counts : S → Counts) (clock : S → ℕ) (may_leave : S → Remains → Type 0) (left_since : S → ℕ → Remains → Type 0) where
-  pub looked : (old new : S) → OnlyLooks told seen log counts clock may_leave left_since old new → LeavesOnly clock left_since old new (LeavesOld may_leave old)
-  looked old new looks = leaves_weaker clock left_since old new (may_leave old) (LeavesOld may_leave old) (λ r left. (r, left, refl)) looks.moments
+  pub looked : (old new : S) → OnlyLooks told seen log counts clock may_leave left_since old new → LeavesOnly clock left_since old new (λ r. MayLeaveFiles may_leave old r.files)
+  looked old new looks = leaves_weaker clock left_since old new (may_leave old) (λ r. MayLeaveFiles may_leave old r.files) (λ r left. (r, left, refl)) looks.moments
 
   pub looked_then_talked : (P : List Event → Type 0) (old mid new : S) → OnlyLooks told seen log counts clock may_leave left_since old mid → OnlyTalks told seen log counts clock may_leave left_since P mid new
-      → LeavesOnly clock left_since old new (LeavesOld may_leave old)
+      → LeavesOnly clock left_since old new (λ r. MayLeaveFiles may_leave old r.files)
   looked_then_talked P old mid new looks talks =
-      leaves_then clock left_since old mid new (LeavesOld may_leave old) (looked old mid looks)
-      (leaves_weaker clock left_since mid new _ (LeavesOld may_leave old) (λ r talked. (talked.files.0, looks.nothing.crash talked.files.0 talked.files.1, talked.files.2)) talks.moments)
+      leaves_then clock left_since old mid new (λ r. MayLeaveFiles may_leave old r.files) (looked old mid looks)
+      (leaves_weaker clock left_since mid new _ (λ r. MayLeaveFiles may_leave old r.files) (λ r talked. (talked.files.0, looks.nothing.crash talked.files.0 talked.files.1, talked.files.2)) talks.moments)
 
-  pub talked_old : (P : List Event → Type 0) (old new : S) → OnlyTalks told seen log counts clock may_leave left_since P old new → LeavesOnly clock left_since old new (LeavesOld may_leave old)
-  talked_old P old new talks = leaves_weaker clock left_since old new _ (LeavesOld may_leave old) (λ r talked. talked.files) talks.moments
+  pub talked_old : (P : List Event → Type 0) (old new : S) → OnlyTalks told seen log counts clock may_leave left_since P old new → LeavesOnly clock left_since old new (λ r. MayLeaveFiles may_leave old r.files)
+  talked_old P old new talks = leaves_weaker clock left_since old new _ (λ r. MayLeaveFiles may_leave old r.files) (λ r talked. talked.files) talks.moments
 
   -- a store is made, and then a line is shown
   pub made_then_talked : (P : List Event → Type 0) (name : ProfileName) (depth : ℕ) (old mid new : S) → LeavesOnly clock left_since old mid (λ r. log old ≡ Some r.log) → log mid ≡ log old

@@ -1,23 +1,22 @@
 -- What survives a crash during a run over a feed and a store.
-use Rattle.std.proofs.Common.{◌≡◌, ◌∙◌, ℕ, suc, List, [], ◌∷◌, ◌++◌, length, take, refl, sym, ap, subst, append_assoc}
+use Rattle.std.proofs.Common.{◌≡◌, ◌∙◌, ℕ, suc, List, [], ◌∷◌, ◌++◌, length, take, refl, sym, ap, subst}
 use Rattle.std.proofs.Common.{◌⊎◌, inl, inr}
 use Rattle.std.specs.Prelude.{All, Ok, ◌≤◌}
 use Rattle.std.specs.List.{concat}
-use Rattle.std.proofs.lemmas.List.{append-nil}
 use Rattle.std.proofs.lemmas.List.Elements.{All-cons, All-nil}
 use Rattle.ox_outside.specs.Event.{Event, has_ended, heard_bytes, shown_bytes}
 use Rattle.ox_outside.specs.Files.{Files}
 use Rattle.ox_outside.proofs.Event.{shown_bytes-append}
-use Rattle.ox_feed.specs.Feed.{Feed, FeedLine, Hears, Listens, lines_from}
+use Rattle.ox_feed.specs.Feed.{Feed, FeedLine, Listens, lines_from}
 use Rattle.ox_model.specs.Moments.{acknowledged_in, count, lines_in, moments, acknowledged}
 use Rattle.ox_model.specs.Replies.{after_on, after_turn, index_on, replies_on, reply_by}
 use Rattle.ox_model.specs.Stack.{Stack, turn_on}
 use Rattle.ox_model.specs.Stands.{stands}
 use Rattle.ox_model.proofs.Counting.{HasByte, acknowledged_ahead, acknowledged_at_rest, count_ahead, count_at_rest}
-use Rattle.ox_model.proofs.Turning.{after_joined, after_one, replies_joined, replies_length, replies_line, replies_none, reply_some}
+use Rattle.ox_model.proofs.Turning.{replies_joined, replies_length, replies_line, replies_none, reply_some}
 use Rattle.ox_app.specs.Crash.{Survives}
 use Rattle.ox_app.specs.Fold.{Carried, Owing}
-use Rattle.ox_app.specs.Run.{HearsNothing, IsFrontOf, ShowsFront}
+use Rattle.ox_app.specs.Run.{ShowsFront}
 use Rattle.ox_app.proofs.Feeding.{lines_heard, lines_owing, shown_as_before}
 
 -- every answer has a byte

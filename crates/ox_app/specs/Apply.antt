@@ -1,5 +1,5 @@
 -- A run over a feed and a store.
-use Rattle.std.specs.Prelude.{◌≡◌, ◌≢◌, ◌⊎◌, ℕ, Bool, IsTrue, List, [], ◌++◌, codes, decimal, Option, Some, None, Result, Ok, Err, IfOk}
+use Rattle.std.specs.Prelude.{◌≡◌, ◌⊎◌, ℕ, Bool, IsTrue, List, [], ◌++◌, codes, decimal, Option, Some, None, Result, Ok, Err}
 use Rattle.ox_outside.specs.Event.{Event, heard_bytes}
 use Rattle.ox_outside.specs.Files.{Files}
 use Rattle.ox_outside.specs.declared.site.Which.{Which}
@@ -11,7 +11,7 @@ use Rattle.ox_model.specs.Replies.{after_turn}
 use Rattle.ox_model.specs.Stack.{Stack, turn_on}
 use Rattle.ox_model.specs.Stands.{Misfit, stands}
 use Rattle.ox_model.specs.Text.{block_line}
-use Rattle.ox_app.specs.Fold.{NextLine, Replies}
+use Rattle.ox_app.specs.Fold.{LineDone, NextLine, Replies}
 use Rattle.ox_app.specs.Run.{Says}
 use Rattle.ox_app.specs.declared.carry.Carried.{Carried as CarriedOut}
 use Rattle.ox_store.specs.declared.fault.OpenFault.{OpenFault}
@@ -38,19 +38,14 @@ CarriesOut Long stack (Some carried) = Replies too_long stack (Some carried.answ
 CarriesOut End stack None = Unit {0}
 CarriesOut End stack (Some carried) = ⊥
 
--- the files stand for the stack before a line, or for the one after it
-abbrev pub BeforeOrAfter : Stack → Stack → Files → Type 0
-BeforeOrAfter before after files = (stands files ≡ Ok before) ⊎ (stands files ≡ Ok after)
-
 -- a line comes next and was carried out, or all lines are answered
 abbrev pub ComesCarried : Option CarriedOut → Feed → Stack → List ℕ → Feed → Type 0
 ComesCarried (Some carried) lines stack heard lines' = NextLine lines stack carried.answer heard lines' carried.store.stack
 ComesCarried None lines stack heard lines' = IsDone lines heard lines'
 
--- what hearing and carrying out one line says of the events that it logged
-pub record CarriedOn (lines : Feed) (stack : Stack) (result : Result (Option CarriedOut) Stop) (lines' : Feed) (events : List Event) : Type 0 where
-  pub hears : Hears lines lines' events
-  pub carried : IfOk result (λ carried. ComesCarried carried lines stack (heard_bytes 0 events) lines')
+-- one line is heard and carried out
+abbrev pub CarriedOn : Feed → Stack → Result (Option CarriedOut) Stop → Feed → List Event → Type 0
+CarriedOn lines stack result lines' = LineDone (λ carried heard. ComesCarried carried lines stack heard lines') lines result lines'
 
 -- the line was heard whole, and the files stand for the stack after it
 pub record HeardWhole (lines : Feed) (stack : Stack) (lines' : Feed) (files : Files) (events : List Event) : Type 0 where

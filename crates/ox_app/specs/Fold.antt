@@ -1,5 +1,5 @@
 -- A run over a feed, part by part.
-use Rattle.std.specs.Prelude.{◌≡◌, ◌≢◌, ℕ, List, [], ◌∷◌, ◌++◌, length, Bool, Option, Some, None, Result, Ok, Err, IfOk}
+use Rattle.std.specs.Prelude.{◌≡◌, ℕ, List, [], ◌∷◌, ◌++◌, length, Bool, Option, Some, None, Result, Ok, Err, IfOk}
 use Rattle.std.specs.List.{concat}
 use Rattle.ox_outside.specs.Event.{Event, heard_bytes, shown_bytes, has_ended}
 use Rattle.ox_feed.specs.Feed.{Feed, FeedLine, text, too_long, GivesLine, Hears, IsDone, MayCome, lines_from, lines_of}
@@ -61,10 +61,14 @@ abbrev pub Comes : Option (List ℕ) → Feed → Stack → List ℕ → Feed �
 Comes (Some answer) lines stack heard lines' stack' = NextLine lines stack answer heard lines' stack'
 Comes None lines stack heard lines' stack' = IsDone lines heard lines'
 
--- what hearing and answering one line says of the events that it logged
-pub record Answered (lines : Feed) (stack : Stack) (result : Result (Option (List ℕ)) Stop) (lines' : Feed) (stack' : Stack) (events : List Event) : Type 0 where
+-- what hearing a line and seeing to it says of the events that it logged: the bytes heard, and what came with them
+pub record LineDone {C : Type 0} (comes : C → List ℕ → Type 0) (lines : Feed) (result : Result C Stop) (lines' : Feed) (events : List Event) : Type 0 where
   pub hears : Hears lines lines' events
-  pub answer : IfOk result (λ answer. Comes answer lines stack (heard_bytes 0 events) lines' stack')
+  pub came : IfOk result (λ what. comes what (heard_bytes 0 events))
+
+-- one line is heard and answered
+abbrev pub Answered : Feed → Stack → Result (Option (List ℕ)) Stop → Feed → Stack → List Event → Type 0
+Answered lines stack result lines' stack' = LineDone (λ answer heard. Comes answer lines stack heard lines' stack') lines result lines'
 
 -- In a run from a stack: the lines that are done lead to this one, all their answers are shown, and these are still to come.
 pub record Carried (first : Stack) (lines : Feed) (stack : Stack) (events : List Event) : Type 0 where

@@ -2,7 +2,7 @@
 
 ghost use Rattle.std.specs.Prelude.{◌≡◌, ◌≢◌, ◌⊎◌, ◌+◌, ◌-◌, ◌<◌, ◌≤◌, ◌^◌, ℕ, Some, Ok, Err, IsTrue, IfOk, IfSome, IsErrOf};
 ghost use Rattle.ox_outside.specs.Counts.{Rose};
-ghost use Rattle.ox_outside.specs.Crash.{Calls, LeavesOnly, OnlyTalks};
+ghost use Rattle.ox_outside.specs.Crash.{Calls, LeavesOnly, MayLeaveFiles, OnlyTalks};
 ghost use Rattle.ox_outside.specs.Log.{Grows};
 ghost use Rattle.ox_feed.specs.Feed.{IsTooMuch, feed_limit, left};
 ghost use Rattle.ox_gated.specs.Tail.{Holds};
@@ -10,7 +10,7 @@ ghost use Rattle.ox_model.specs.Replies.{after_on, replies_on};
 ghost use Rattle.ox_model.specs.Stack.{Stack};
 ghost use Rattle.ox_model.specs.Stands.{Misfit, stands};
 ghost use Rattle.ox_app.specs.Apply.{CarriedOn, DuringLine, IsApplyStatus, IsUnopened, SaysNotStore};
-ghost use Rattle.ox_app.specs.Crash.{Leaves, LeavesOld, Survives};
+ghost use Rattle.ox_app.specs.Crash.{Leaves, Survives};
 ghost use Rattle.ox_app.specs.Fold.{status_of};
 ghost use Rattle.ox_app.specs.Run.{RunsFeed};
 
@@ -80,8 +80,8 @@ pub fn apply<S: Site>(alloc: Global, site: &mut S) -> u8
     // On files that stand for none.
     ensures unopened { IsTrue (S.told site.old) → (misfit : Misfit) → stands (S.seen site.old) ≡ Err misfit → IsUnopened result }
     ensures unsaid { IsTrue (S.told site.old) → (misfit : Misfit) → stands (S.seen site.old) ≡ Err misfit → result ≢ 3 → S.log site.new ≡ S.log site.old }
-    ensures looks { IsTrue (S.told site.old) → (misfit : Misfit) → stands (S.seen site.old) ≡ Err misfit → LeavesOnly S.clock S.left_since site.old site.new (LeavesOld S.may_leave site.old) }
-    ensures no_store { result ≡ 3 → LeavesOnly S.clock S.left_since site.old site.new (LeavesOld S.may_leave site.old) }
+    ensures looks { IsTrue (S.told site.old) → (misfit : Misfit) → stands (S.seen site.old) ≡ Err misfit → LeavesOnly S.clock S.left_since site.old site.new (λ r. MayLeaveFiles S.may_leave site.old r.files) }
+    ensures no_store { result ≡ 3 → LeavesOnly S.clock S.left_since site.old site.new (λ r. MayLeaveFiles S.may_leave site.old r.files) }
     ensures not_store { result ≡ 3 → SaysNotStore (S.told site.old) (S.seen site.old) ((S.counts site.old).show 0) ((S.counts site.new).show 0) (S.log site.old) (S.log site.new) }
 
     ensures status { IsApplyStatus result }

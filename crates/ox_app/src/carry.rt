@@ -8,7 +8,8 @@ ghost use Rattle.ox_model.specs.Replies.{after_turn, index_on, reply_by};
 ghost use Rattle.ox_model.specs.Stack.{obeyed_on};
 ghost use Rattle.ox_model.specs.Stands.{stands};
 ghost use Rattle.ox_model.specs.Text.{block_line, refusal_line};
-ghost use Rattle.ox_app.specs.Apply.{BeforeOrAfter, CarriesOut, after_line, tip_line};
+ghost use Rattle.ox_store.specs.Ready.{StandsForEither};
+ghost use Rattle.ox_app.specs.Apply.{CarriesOut, after_line, tip_line};
 ghost use Rattle.ox_app.specs.declared.stop.Stop.TheVariants as stops;
 
 use crate::stop::Stop;
@@ -87,7 +88,7 @@ fn carry_command<S: Site>(
     ensures one_more { IfOk result (λ carried. carried.store.commands ≤ store.commands + 1) }
     ensures holds { IsTrue (S.told site.old) → IfOk result (λ carried. Holds S.seen S.may_leave carried.store.tail site.new) }
     ensures stands { IsTrue (S.told site.old) → stands (S.seen site.old) ≡ Ok store.stack → IfOk result (λ carried. stands (S.seen site.new) ≡ Ok carried.store.stack) }
-    ensures any_moment { IsTrue (S.told site.old) → stands (S.seen site.old) ≡ Ok store.stack → LeavesOnly S.clock S.left_since site.old site.new (λ r. BeforeOrAfter store.stack (after_turn store.stack (obeyed_on store.stack command.now)) r.files) }
+    ensures any_moment { IsTrue (S.told site.old) → stands (S.seen site.old) ≡ Ok store.stack → LeavesOnly S.clock S.left_since site.old site.new (λ r. StandsForEither store.stack (after_turn store.stack (obeyed_on store.stack command.now)) r.files) }
     ensures log_stays { LeavesOnly S.clock S.left_since site.old site.new (λ r. S.log site.old ≡ Some r.log) }
     ensures logged { S.log site.new ≡ S.log site.old }
     ensures stops { IfErr result (λ stop. (stop ≡ stops.DiskFault) ⊎ (stop ≡ stops.Memory)) }
@@ -123,7 +124,7 @@ pub fn carry_out<S: Site>(
     ensures one_more { IfOk result (λ carried. IfSome carried (λ c. c.store.commands ≤ store.commands + 1)) }
     ensures holds { IsTrue (S.told site.old) → IfOk result (λ carried. IfSome carried (λ c. Holds S.seen S.may_leave c.store.tail site.new)) }
     ensures stands { IsTrue (S.told site.old) → stands (S.seen site.old) ≡ Ok store.stack → IfOk result (λ carried. IfSome carried (λ c. stands (S.seen site.new) ≡ Ok c.store.stack)) }
-    ensures any_moment { IsTrue (S.told site.old) → stands (S.seen site.old) ≡ Ok store.stack → LeavesOnly S.clock S.left_since site.old site.new (λ r. BeforeOrAfter store.stack (after_line store.stack line.now) r.files) }
+    ensures any_moment { IsTrue (S.told site.old) → stands (S.seen site.old) ≡ Ok store.stack → LeavesOnly S.clock S.left_since site.old site.new (λ r. StandsForEither store.stack (after_line store.stack line.now) r.files) }
     ensures log_stays { LeavesOnly S.clock S.left_since site.old site.new (λ r. S.log site.old ≡ Some r.log) }
     ensures logged { S.log site.new ≡ S.log site.old }
     ensures stops { IfErr result (λ stop. (stop ≡ stops.DiskFault) ⊎ (stop ≡ stops.Memory)) }

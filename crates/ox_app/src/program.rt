@@ -2,7 +2,7 @@
 
 ghost use Rattle.std.specs.Prelude.{◌≡◌, ◌≢◌, ◌⊎◌, ℕ, List, Some, Ok, Err, IsTrue};
 ghost use Rattle.ox_outside.specs.Counts.{Rose};
-ghost use Rattle.ox_outside.specs.Crash.{Calls, LeavesOnly};
+ghost use Rattle.ox_outside.specs.Crash.{Calls, LeavesOnly, MayLeaveFiles};
 ghost use Rattle.ox_outside.specs.Log.{Grows};
 ghost use Rattle.ox_gated.specs.Tail.{IsSettled};
 ghost use Rattle.ox_model.specs.Machine.{Machine, begun};
@@ -14,7 +14,7 @@ ghost use Rattle.ox_sat.specs.Profiles.{profile_named};
 ghost use Rattle.ox_sat.specs.declared.profiles.ProfileName.{ProfileName};
 ghost use Rattle.ox_store.specs.Make.{made_stack, no_files};
 ghost use Rattle.ox_app.specs.Apply.{IsApplyStatus, IsUnopened, SaysNotStore};
-ghost use Rattle.ox_app.specs.Crash.{Leaves, LeavesOld};
+ghost use Rattle.ox_app.specs.Crash.{Leaves};
 ghost use Rattle.ox_app.specs.Fold.{fold_depth};
 ghost use Rattle.ox_app.specs.Init.{IsInitStatus, MadeBefore, made_line, not_empty_line};
 ghost use Rattle.ox_app.specs.Query.{IsQueryStatus};
@@ -92,7 +92,7 @@ pub fn run<S: Site>(alloc: Global, words: &[Bytes], site: &mut S) -> u8
     ensures usage { IsNoRow words.now → Says usage_line ((S.counts site.old).show 0) ((S.counts site.new).show 0) (S.log site.old) (S.log site.new) }
 
     // At no moment does a run that only reads, or one of status 1, 2 or 3, add to the files that a crash leaves.
-    ensures no_image { IsReading words.now ⊎ (result ≡ 1) ⊎ (result ≡ 2) ⊎ (result ≡ 3) → LeavesOnly S.clock S.left_since site.old site.new (LeavesOld S.may_leave site.old) }
+    ensures no_image { IsReading words.now ⊎ (result ≡ 1) ⊎ (result ≡ 2) ⊎ (result ≡ 3) → LeavesOnly S.clock S.left_since site.old site.new (λ r. MayLeaveFiles S.may_leave site.old r.files) }
 
     // The statuses, at every site.
     ensures fold_status { (name : ProfileName) → words.now ≡ fold_words name → IsFoldStatus result }

@@ -5,14 +5,13 @@ ghost use Rattle.std.specs.Option.{option_map};
 ghost use Rattle.serde_json.specs.View.{view};
 ghost use Rattle.serde_json.specs.Data.{Data};
 ghost use Rattle.ox_outside.specs.Counts.{Rose};
-ghost use Rattle.ox_outside.specs.Crash.{Calls, LeavesOnly};
+ghost use Rattle.ox_outside.specs.Crash.{Calls, LeavesOnly, MayLeaveFiles};
 ghost use Rattle.ox_outside.specs.Log.{Grows};
 ghost use Rattle.ox_index.specs.Live.{index_in};
 ghost use Rattle.ox_model.specs.Stack.{Stack};
 ghost use Rattle.ox_model.specs.Stands.{Misfit, name_at, stands};
 ghost use Rattle.ox_model.specs.Status.{data_at, profile_word, query_body, status_data, tip_data};
 ghost use Rattle.ox_app.specs.Apply.{IsUnopened, SaysNotStore};
-ghost use Rattle.ox_app.specs.Crash.{LeavesOld};
 ghost use Rattle.ox_app.specs.Query.{IsQueryStatus};
 ghost use Rattle.ox_app.specs.Run.{ShowsReply};
 
@@ -94,7 +93,7 @@ pub fn query<S: Site>(alloc: Global, site: &mut S, path: &[u8]) -> u8
     ensures unsaid { IsTrue (S.told site.old) → (misfit : Misfit) → stands (S.seen site.old) ≡ Err misfit → result ≢ 3 → S.log site.new ≡ S.log site.old }
     ensures not_store { result ≡ 3 → SaysNotStore (S.told site.old) (S.seen site.old) ((S.counts site.old).show 0) ((S.counts site.new).show 0) (S.log site.old) (S.log site.new) }
 
-    ensures looks { LeavesOnly S.clock S.left_since site.old site.new (LeavesOld S.may_leave site.old) }
+    ensures looks { LeavesOnly S.clock S.left_since site.old site.new (λ r. MayLeaveFiles S.may_leave site.old r.files) }
     ensures status { IsQueryStatus result }
     ensures show_fault { result ≡ 6 → Rose ((S.counts site.old).show 0) ((S.counts site.new).show 0) }
     ensures disk_fault { result ≡ 4 → Rose (S.counts site.old).disk (S.counts site.new).disk }

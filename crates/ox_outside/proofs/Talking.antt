@@ -24,7 +24,7 @@ module _ {S : Type 0} (seen : S → Files) (may_leave : S → Remains → Type 0
     none_gone = λ q left.
         let m = first.none_gone q left in
         let r = then_.none_gone m.0 m.1 in
-        (r.0, r.1, r.2 ∙ m.2);
+        (r.0, r.1, m.2 ∙ r.2);
   }
 
 -- what remains of a run that only talks
@@ -126,5 +126,5 @@ module _ {S : Type 0} (told : S → Bool) (seen : S → Files) (log : S → Opti
     none_new = λ r left. (r, looks.nothing.crash r left, refl);
     none_gone = λ q left.
         let now = reads_now new (subst (λ (b : Bool). IsTrue b) (sym looks.calls.as_told) tells) in
-        (record { files = seen new; log = now.0 }, now.2, looks.nothing.files ∙ sym (settled q left));
+        (record { files = seen new; log = now.0 }, now.2, settled q left ∙ sym looks.nothing.files);
   }

@@ -30,11 +30,15 @@ pub record AddsNothing {S : Type 0} (seen : S → Files) (log : S → Option (Li
   pub as_logged : log new ≡ log old
   pub crash : (r : Remains) → may_leave new r → may_leave old r
 
+-- a crash at this site may leave these files
+abbrev pub MayLeaveFiles : {S : Type 0} → (S → Remains → Type 0) → S → Files → Type 0
+MayLeaveFiles may_leave site files = (q : Remains) × may_leave site q × (files ≡ q.files)
+
 -- The files read as before, and a crash leaves the files that it left before, whatever the log says.
 pub record LeavesFiles {S : Type 0} (seen : S → Files) (may_leave : S → Remains → Type 0) (old new : S) : Type 0 where
   pub files : seen new ≡ seen old
-  pub none_new : (r : Remains) → may_leave new r → (q : Remains) × may_leave old q × (r.files ≡ q.files)
-  pub none_gone : (q : Remains) → may_leave old q → (r : Remains) × may_leave new r × (r.files ≡ q.files)
+  pub none_new : (r : Remains) → may_leave new r → MayLeaveFiles may_leave old r.files
+  pub none_gone : (r : Remains) → may_leave old r → MayLeaveFiles may_leave new r.files
 
 -- What every call of a site promises, whatever it is: no count falls, what is told stays told, and time goes on. What
 -- might remain of a crash since t is what might have remained before the call, or what may remain now.
@@ -67,7 +71,7 @@ pub record OnlyLooks {S : Type 0} (told : S → Bool) (seen : S → Files) (log 
 
 -- what remains has files that a crash might have left before, and its log has grown by events with P
 pub record Talked {S : Type 0} (log : S → Option (List Event)) (may_leave : S → Remains → Type 0) (P : List Event → Type 0) (old : S) (r : Remains) : Type 0 where
-  pub files : (q : Remains) × may_leave old q × (r.files ≡ q.files)
+  pub files : MayLeaveFiles may_leave old r.files
   pub grown : Grows P (log old) (Some r.log)
 
 -- A run of calls on channels: the files read as before, and at each moment of it a crash leaves files that it left

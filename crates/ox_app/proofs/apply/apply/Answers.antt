@@ -1,5 +1,4 @@
-use Rattle.std.proofs.Common.{◌∙◌, Some, ap, subst, sym}
-use Rattle.std.specs.Prelude.{Ok}
+use Rattle.std.proofs.Common.{◌∙◌, Some, ap, subst}
 use Rattle.ox_outside.specs.Crash.{LeavesOnly}
 use Rattle.ox_outside.specs.Log.{Grows}
 use Rattle.ox_model.specs.Replies.{after_on, replies_on}
