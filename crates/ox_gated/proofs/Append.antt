@@ -1,17 +1,15 @@
 -- What the two writes of a record make of files that stand for something.
-use Rattle.std.proofs.Common.{◌≡◌, ◌≢◌, ◌∙◌, ◌⊎◌, ◌≤◌, ◌<◌, ◌+◌, ◌^◌, inl, inr, ⊎_elim, ℕ, zero, suc, Bool, true, false, List, [], ◌∷◌, ◌++◌, length, get_or, take, drop, refl, sym, ap, subst, arith, length-append, length-drop, take-append-drop, append_assoc}
-use Rattle.std.specs.Prelude.{Result, Ok, Err}
+use Rattle.std.proofs.Common.{◌≡◌, ◌≢◌, ◌∙◌, ◌≤◌, ◌<◌, ◌+◌, ◌^◌, inl, inr, ℕ, List, [], ◌∷◌, ◌++◌, length, get_or, take, drop, refl, sym, ap, arith, length-append, take-append-drop, append_assoc}
+use Rattle.std.specs.Prelude.{Ok}
 use Rattle.std.specs.Int.{w32, to_le_bytes}
 use Rattle.std.proofs.lemmas.Bool.{cases_eq}
-use Rattle.std.proofs.lemmas.List.{append-nil, length-take, take_at, drop_at, drop_more, drop-drop}
+use Rattle.std.proofs.lemmas.List.{append-nil, take_at, drop_at, drop_more}
 use Rattle.ox_bytes.specs.Reading.{number_at, run_at, ◌>>=◌}
 use Rattle.ox_bytes.proofs.Laws.{number_law, run_law, wide32}
-use Rattle.ox_outside.specs.Files.{Files, file_of, with_file, other, written, Torn, TornFile}
-use Rattle.ox_outside.specs.declared.site.Which.{Which}
-use Rattle.ox_outside.specs.declared.site.Which.TheVariants.{A, B}
+use Rattle.ox_outside.specs.Files.{Files, file_of, with_file, written, Torn}
 use Rattle.ox_gated.specs.Gate.{with_record}
-use Rattle.ox_gated.specs.Layout.{is_closed, record_bytes}
-use Rattle.ox_gated.specs.Reading.{payload_at, Chain, chain, Found, Fault, judged, reading, appended}
+use Rattle.ox_gated.specs.Layout.{record_bytes}
+use Rattle.ox_gated.specs.Reading.{payload_at, Chain, Found, judged, reading, appended}
 use Rattle.ox_gated.specs.Tail.{IsBeforeOrAfter}
 use Rattle.ox_gated.specs.declared.records.Record.{Record}
 use Rattle.ox_gated.proofs.Chain.{chain_shut, chain_more}

@@ -1,5 +1,5 @@
 -- The two writes of a record, by what the tail keeps.
-use Rattle.std.proofs.Common.{◌≡◌, ◌∙◌, ◌⊎◌, ◌≤◌, ◌<◌, ◌+◌, ◌^◌, inl, inr, ⊎_elim, ℕ, Bool, true, false, List, [], ◌∷◌, ◌++◌, length, take, drop, refl, sym, ap, subst, arith, length-append}
+use Rattle.std.proofs.Common.{◌≡◌, ◌∙◌, ◌≤◌, ◌<◌, ◌+◌, ◌^◌, inl, ℕ, List, [], ◌∷◌, ◌++◌, length, take, drop, refl, sym, ap, subst, arith, length-append}
 use Rattle.std.specs.Prelude.{Result, Ok, Err}
 use Rattle.std.proofs.lemmas.List.{length_push}
 use Rattle.ox_outside.specs.Crash.{Remains, Only, LeavesOnly}
@@ -10,7 +10,6 @@ use Rattle.ox_outside.proofs.Calls.{leaves_then, leaves_weaker}
 use Rattle.ox_gated.specs.Layout.{is_closed, record_bytes}
 use Rattle.ox_gated.specs.Reading.{Found, Fault, reading, appended}
 use Rattle.ox_gated.specs.Tail.{Kept, KeepsFound, Keeps, Holds, IsSettled, IsBeforeOrAfter}
-use Rattle.ox_gated.specs.declared.records.Record.{Record}
 use Rattle.ox_gated.proofs.Append.{here, behind, staged, staging, opening, opened, stands_appended, gate_within, gate_within_staged, length-record_bytes}
 
 -- ---- two files of which one is replaced

@@ -1,10 +1,10 @@
 -- The gates of a file: one step of reading them, and what they are behind the last one that is closed.
-use Rattle.std.proofs.Common.{◌≡◌, ◌≢◌, ◌∙◌, ◌⊎◌, ◌≤◌, ◌<◌, ◌+◌, inl, inr, ⊎_elim, ℕ, zero, suc, Bool, true, false, List, [], ◌∷◌, ◌++◌, length, get_or, take, drop, ◌==◌, if◌then◌else◌, refl, sym, ap, subst, arith, length-append, length-drop, take-append-drop, append_assoc}
+use Rattle.std.proofs.Common.{◌≡◌, ◌≢◌, ◌∙◌, ◌≤◌, ◌+◌, inl, inr, ⊎_elim, ℕ, zero, suc, Bool, false, List, [], ◌∷◌, ◌++◌, length, take, drop, ◌==◌, if◌then◌else◌, refl, sym, ap, subst, arith, length-append, length-drop, take-append-drop, append_assoc}
 use Rattle.std.specs.Prelude.{Result, Ok, Err, IfOk, nat_lt}
 use Rattle.std.specs.Int.{w32, from_le_bytes}
 use Rattle.std.proofs.lemmas.Bool.{cases_eq, eq-eqb, ltb-false, le-ltb}
 use Rattle.std.proofs.lemmas.Bool.Decides.{eqb_tells}
-use Rattle.std.proofs.lemmas.List.{append-nil, length-take, take_at, take-take, drop_at, drop-drop, drop-take, take-append-le, drop-append-le}
+use Rattle.std.proofs.lemmas.List.{append-nil, length-take, take-take, drop-drop, drop-take, take-append-le, drop-append-le}
 use Rattle.ox_bytes.specs.Reading.{number_at, run_at, ◌>>=◌}
 use Rattle.ox_bytes.proofs.Laws.{bind_ok, guard_ok, ok_is, run_law}
 use Rattle.ox_gated.specs.Gate.{with_record, IsShut, IsBroken, IsOpen}

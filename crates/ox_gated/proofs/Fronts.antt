@@ -1,19 +1,13 @@
 -- What two files stand for where the current one goes on otherwise behind its last gate.
-use Rattle.std.proofs.Common.{◌≡◌, ◌≢◌, ◌∙◌, ◌⊎◌, ◌≤◌, ◌<◌, ◌+◌, ◌-◌, inl, inr, ⊎_elim, ℕ, zero, suc, Bool, true, false, List, [], ◌∷◌, ◌++◌, length, get_or, take, drop, ◌==◌, ◌&&◌, not, if◌then◌else◌, Option, Some, None, refl, sym, ap, subst, arith, length-append, length-drop, take-append-drop, append_assoc}
-use Rattle.std.specs.Prelude.{Result, Ok, Err, nat_lt, slice_range, slice_index}
+use Rattle.std.proofs.Common.{◌≡◌, ◌∙◌, ◌≤◌, ◌<◌, ◌+◌, ◌-◌, ℕ, Bool, false, List, [], ◌∷◌, ◌++◌, length, take, drop, ◌==◌, ◌&&◌, not, if◌then◌else◌, Some, None, refl, sym, ap, arith, length-append, length-drop}
+use Rattle.std.specs.Prelude.{nat_lt, slice_range, slice_index}
 use Rattle.std.specs.Int.{w16, w64, from_le_bytes}
-use Rattle.std.proofs.lemmas.Bool.{ltb-false, le-ltb}
-use Rattle.std.proofs.lemmas.List.{append-nil, length-take, take_at, take-take, drop_at, drop-drop, drop-take, take-append-le, drop-append-le, get_or_append_left}
-use Rattle.ox_bytes.proofs.Laws.{guard_ok, ok_is}
-use Rattle.ox_outside.specs.Files.{Files, file_of, with_file}
+use Rattle.std.proofs.lemmas.Bool.{le-ltb}
+use Rattle.std.proofs.lemmas.List.{take_at, drop_at, take-append-le, drop-append-le, get_or_append_left}
 use Rattle.ox_outside.specs.declared.site.Which.{Which}
-use Rattle.ox_outside.specs.declared.site.Which.TheVariants.{A, B}
 use Rattle.ox_gated.specs.Layout.{is_closed, is_magic, has_magic, is_lawful, opening_at, head_of}
-use Rattle.ox_gated.specs.Reading.{Chain, chain, Found, Fault, refused, judged, current, alone, greater, chosen, reading}
-use Rattle.ox_gated.specs.declared.head.Head.{Head}
+use Rattle.ox_gated.specs.Reading.{chain, refused, judged, current}
 use Rattle.ox_gated.specs.declared.head.Opening.{Opening}
-use Rattle.ox_gated.specs.declared.records.Record.{Record}
-use Rattle.ox_gated.proofs.Chain.{Fronts, fronts}
 
 -- ---- a head depends on its 26 bytes alone
 

@@ -1,16 +1,15 @@
 -- Two files that were made stand for what they were made of.
-use Rattle.std.proofs.Common.{◌≡◌, ◌∙◌, ◌≤◌, ◌<◌, ◌+◌, ◌^◌, ℕ, Bool, true, false, List, [], ◌∷◌, ◌++◌, length, take, drop, not, ◌&&◌, if◌then◌else◌, Option, Some, None, refl, sym, ap, subst, arith, length-append, append_assoc}
-use Rattle.std.specs.Prelude.{Result, Ok, Err, IsTrue, nat_lt}
-use Rattle.std.specs.Int.{w16, w64, to_le_bytes, from_le_bytes}
+use Rattle.std.proofs.Common.{◌≡◌, ◌∙◌, ◌<◌, ◌+◌, ◌^◌, ℕ, Bool, true, false, List, [], ◌∷◌, ◌++◌, length, drop, not, ◌&&◌, if◌then◌else◌, Some, None, refl, sym, ap, arith}
+use Rattle.std.specs.Prelude.{Ok, IsTrue, nat_lt}
 use Rattle.std.proofs.lemmas.Bool.{le-ltb, eq-eqb}
 use Rattle.std.proofs.lemmas.Nat.{from_le_bytes-to_le_bytes_2, from_le_bytes-to_le_bytes_8}
 use Rattle.std.proofs.lemmas.List.{drop_all, append-nil}
 use Rattle.ox_outside.specs.Files.{Files, file_of, with_file, written}
 use Rattle.ox_outside.specs.declared.site.Which.TheVariants.{A, B}
-use Rattle.ox_gated.specs.Layout.{Whole, is_closed, has_magic, is_lawful, opening_at, head_of, head_bytes, checkpoint_bytes}
-use Rattle.ox_gated.specs.Reading.{Chain, chain, Found, Fault, refused, judged, current, alone, reading}
+use Rattle.ox_gated.specs.Layout.{has_magic, is_lawful, opening_at, head_of, head_bytes, checkpoint_bytes}
+use Rattle.ox_gated.specs.Reading.{Chain, chain, refused, judged, current, alone, reading}
 use Rattle.ox_outside.specs.Crash.{Remains, Only, Follows, Tears}
-use Rattle.ox_gated.specs.Tail.{KeepsFound, Keeps, Holds, made, just_made}
+use Rattle.ox_gated.specs.Tail.{KeepsFound, made, just_made}
 use Rattle.ox_gated.specs.declared.head.Head.{Head}
 use Rattle.ox_gated.specs.declared.head.Opening.{Opening}
 use Rattle.ox_gated.proofs.Chain.{chain_shut}

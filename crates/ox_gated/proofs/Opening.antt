@@ -1,14 +1,14 @@
 -- What is opened holds.
 use Rattle.std.proofs.Common.{◌≡◌, ◌∙◌, ◌≤◌, ℕ, Bool, List, length, refl, sym, ap, subst}
-use Rattle.std.specs.Prelude.{Result, Ok, Err, IfOk, IfErr}
+use Rattle.std.specs.Prelude.{Result, Ok, Err, IfOk}
 use Rattle.ox_outside.specs.Crash.{Remains}
 use Rattle.ox_outside.specs.Files.{Files, file_of, other}
 use Rattle.ox_outside.specs.declared.site.Which.{Which}
 use Rattle.ox_gated.specs.Layout.{is_closed}
 use Rattle.ox_gated.specs.Opened.{IsFault, IsUnpicked, found_of, tail_of}
 use Rattle.ox_gated.specs.Pick.{picked, resolved}
-use Rattle.ox_gated.specs.Reading.{Found, Fault, current, reading}
-use Rattle.ox_gated.specs.Tail.{Kept, KeepsFound, Keeps, Holds, IsSettled}
+use Rattle.ox_gated.specs.Reading.{Found, current, reading}
+use Rattle.ox_gated.specs.Tail.{Kept, Keeps, Holds, IsSettled}
 use Rattle.ox_gated.specs.declared.fault.GateFault.{GateFault}
 use Rattle.ox_gated.specs.declared.fault.GateFault.TheVariants as gates
 use Rattle.ox_gated.specs.declared.head.Opening.{Opening}

@@ -1,15 +1,15 @@
 -- The current file is picked by the fronts of the two.
-use Rattle.std.proofs.Common.{◌≡◌, ◌≢◌, ◌∙◌, ◌⊎◌, ◌≤◌, ◌<◌, ◌+◌, ◌-◌, min, inl, inr, ⊎_elim, ℕ, zero, suc, Bool, true, false, List, [], ◌∷◌, ◌++◌, length, take, drop, ◌==◌, if◌then◌else◌, Option, Some, None, refl, sym, ap, subst, arith, not, length-drop, take-append-drop}
-use Rattle.std.specs.Prelude.{Result, Ok, Err, nat_lt, slice_range}
+use Rattle.std.proofs.Common.{◌≡◌, ◌≢◌, ◌∙◌, ◌≤◌, ◌+◌, ◌-◌, min, inl, inr, ⊎_elim, ℕ, suc, Bool, true, false, List, [], ◌∷◌, length, take, drop, ◌==◌, if◌then◌else◌, Option, Some, None, refl, sym, ap, arith, not, length-drop, take-append-drop}
+use Rattle.std.specs.Prelude.{Ok, Err, nat_lt, slice_range}
 use Rattle.std.proofs.lemmas.Bool.{cases_lt, ltb-false, eq-eqb}
 use Rattle.std.proofs.lemmas.Bool.Decides.{eqb_tells}
 use Rattle.std.proofs.lemmas.List.{length-take, take_all, take_min, drop-drop}
-use Rattle.ox_outside.specs.Files.{Files, file_of}
+use Rattle.ox_outside.specs.Files.{Files}
 use Rattle.ox_outside.specs.declared.site.Which.{Which}
 use Rattle.ox_outside.specs.declared.site.Which.TheVariants.{A, B}
 use Rattle.ox_gated.specs.Layout.{is_closed, head_of}
-use Rattle.ox_gated.specs.Pick.{Picked, lone, greater_of, picked_by, picked, resolved}
-use Rattle.ox_gated.specs.Reading.{Found, Fault, chain, judged, refused, current, alone, greater, chosen, reading}
+use Rattle.ox_gated.specs.Pick.{lone, greater_of, picked_by, picked, resolved}
+use Rattle.ox_gated.specs.Reading.{chain, judged, refused, current, alone, greater, chosen, reading}
 use Rattle.ox_gated.specs.declared.head.Opening.{Opening}
 use Rattle.ox_gated.proofs.Fronts.{head_of_front}
 

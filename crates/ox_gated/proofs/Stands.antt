@@ -1,9 +1,9 @@
 -- Two files that stand for something: what stands before the current one's last gate, and what any bytes from there on
 -- make of the two.
-use Rattle.std.proofs.Common.{◌≡◌, ◌≢◌, ◌∙◌, ◌⊎◌, ◌≤◌, ◌<◌, ◌+◌, inl, inr, ⊎_elim, ℕ, zero, suc, Bool, true, false, List, [], ◌∷◌, ◌++◌, length, take, drop, ◌==◌, not, if◌then◌else◌, Option, Some, None, refl, sym, ap, subst, arith, length-append, length-drop, take-append-drop, append_assoc}
+use Rattle.std.proofs.Common.{◌≡◌, ◌∙◌, ◌⊎◌, ◌≤◌, ◌+◌, inl, inr, ⊎_elim, ℕ, Bool, true, false, List, ◌∷◌, ◌++◌, length, take, drop, ◌==◌, not, if◌then◌else◌, Option, Some, None, refl, sym, ap, subst, arith, length-append, take-append-drop, append_assoc}
 use Rattle.std.specs.Prelude.{Result, Ok, Err, nat_lt}
 use Rattle.std.proofs.lemmas.Bool.{eqb-true, ltb-false}
-use Rattle.std.proofs.lemmas.List.{append-nil, length-take, drop-drop}
+use Rattle.std.proofs.lemmas.List.{length-take}
 use Rattle.ox_bytes.proofs.Laws.{guard_ok, ok_is}
 use Rattle.ox_outside.specs.Files.{Files, file_of, with_file}
 use Rattle.ox_outside.specs.declared.site.Which.{Which}
@@ -13,7 +13,7 @@ use Rattle.ox_gated.specs.Reading.{Chain, chain, Found, Fault, refused, judged, 
 use Rattle.ox_gated.specs.declared.head.Head.{Head}
 use Rattle.ox_gated.specs.declared.head.Opening.{Opening}
 use Rattle.ox_gated.specs.declared.records.Record.{Record}
-use Rattle.ox_gated.proofs.Chain.{Fronts, fronts}
+use Rattle.ox_gated.proofs.Chain.{fronts}
 use Rattle.ox_gated.proofs.Fronts.{current_on, head_same, closed_same}
 
 -- what stands before the last gate of a current file, and what any bytes from there on make of it

@@ -1,7 +1,6 @@
 -- What the first of some bytes is as a gate.
 use Rattle.std.specs.Prelude.{◌≡◌, ℕ, ◌+◌, List, [], ◌∷◌, length, Ok, Err}
 use Rattle.ox_gated.specs.Reading.{Chain, chain}
-use Rattle.ox_gated.specs.declared.records.Record.{Record}
 
 -- a record in front of the others
 abbrev pub with_record : ℕ → List ℕ → Chain → Chain

@@ -1,5 +1,5 @@
 -- What the opening of two files gives, in the words of what they stand for.
-use Rattle.std.specs.Prelude.{◌≡◌, ℕ, Bool, length, List, Option, Some, None, Result, Ok, Err}
+use Rattle.std.specs.Prelude.{◌≡◌, Bool, length, Option, Some, None, Result, Err}
 use Rattle.ox_gated.specs.Pick.{Picked}
 use Rattle.ox_gated.specs.Reading.{Found, Fault, Sound}
 use Rattle.ox_gated.specs.Tail.{Kept}

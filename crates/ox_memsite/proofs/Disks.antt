@@ -1,21 +1,21 @@
 -- What the exact clauses of a write and of a sync say of the files of a site.
-use Rattle.std.proofs.Common.{◌≡◌, ◌∙◌, ◌⊎◌, ◌≤◌, ◌+◌, inl, inr, ⊎_elim, ℕ, Bool, true, false, List, [], ◌∷◌, ◌++◌, length, if◌then◌else◌, Option, Some, refl, sym, ap, subst, arith}
+use Rattle.std.proofs.Common.{◌≡◌, ◌∙◌, ◌≤◌, ⊎_elim, ℕ, true, List, [], ◌∷◌, ◌++◌, length, Option, Some, refl, sym, ap, subst, arith}
 use Rattle.std.specs.Prelude.{Result, Ok, Err, OnOk, OnErr}
 use Rattle.std.proofs.lemmas.List.{append-nil}
 use Rattle.ox_outside.specs.Crash.{Remains, OneCall, AddsNothing, Only, Tears, Follows}
-use Rattle.ox_outside.specs.Disk.{Disk, IsImage, synced, after_write, after_torn}
+use Rattle.ox_outside.specs.Disk.{Disk, IsImage, synced}
 use Rattle.ox_outside.specs.Event.{Event}
-use Rattle.ox_outside.specs.Files.{Files, file_of, with_file, written, other, Torn, TornFile}
+use Rattle.ox_outside.specs.Files.{Files, file_of, with_file, written, Torn, TornFile}
 use Rattle.ox_outside.specs.declared.site.Failed.{Failed}
 use Rattle.ox_outside.specs.declared.site.Which.{Which}
 use Rattle.ox_outside.specs.declared.site.Which.TheVariants.{A, B}
 use Rattle.ox_outside.proofs.Disk.{synced_image, torn_from, same_outside, written_same_outside, seen_is_image}
 use Rattle.ox_memsite.specs.Laws.{disk_is}
-use Rattle.ox_memsite.specs.World.{World, same, disk_step, disk_after, disk_of, events_of, seen_of, log_of, Left, MayLeave, LeftSince, counts_of, called, did, starves, disk_fails, Ends}
+use Rattle.ox_memsite.specs.World.{World, disk_step, disk_of, events_of, seen_of, log_of, MayLeave, LeftSince, counts_of, called, did, disk_fails, Ends}
 use Rattle.ox_memsite.specs.declared.step.Step.{Step}
 use Rattle.ox_memsite.specs.declared.step.Step.TheVariants as steps
-use Rattle.ox_memsite.proofs.Kept.{disk_after-append, events_of-push, seen_write, seen_torn, seen_synced}
-use Rattle.ox_memsite.proofs.Moves.{Moves, one_call, failed_disk, starved_disk, did_one, failed_did}
+use Rattle.ox_memsite.proofs.Kept.{disk_after-append, events_of-push, seen_torn, seen_synced}
+use Rattle.ox_memsite.proofs.Moves.{one_call, failed_disk, starved_disk, did_one, failed_did}
 
 -- the other file and the log, after a step on one file
 disk_push : (first : Files) (done : List Step) (step : Step) (which : Which) → disk_of first (done ++ step ∷ []) which ≡ disk_step which (disk_of first done which) step

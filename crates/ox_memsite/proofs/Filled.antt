@@ -1,6 +1,6 @@
 -- The kept bytes, one more.
 use Rattle.std.proofs.Common.{◌≡◌, ◌∙◌, ◌<◌, ◌+◌, ℕ, zero, suc, Bool, true, false, List, [], ◌∷◌, ◌++◌, length, get_or, take, refl, ap, add-one, arith}
-use Rattle.std.specs.Prelude.{Option, Some, None, slice_get}
+use Rattle.std.specs.Prelude.{slice_get}
 use Rattle.ox_outside.specs.Disk.{filled}
 use Rattle.ox_memsite.specs.Kept.{kept_at}
 

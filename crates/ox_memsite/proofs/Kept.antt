@@ -1,7 +1,7 @@
 -- One more step keeps the fields of a site in order.
 use Rattle.std.proofs.Common.{◌≡◌, ◌∙◌, ◌≤◌, ℕ, Bool, true, false, List, [], ◌∷◌, ◌++◌, ◌||◌, if◌then◌else◌, refl, sym, ap, subst, append_assoc}
 use Rattle.std.proofs.lemmas.List.{append-nil}
-use Rattle.ox_outside.specs.Disk.{Disk, synced, after_torn}
+use Rattle.ox_outside.specs.Disk.{Disk, synced}
 use Rattle.ox_outside.specs.Event.{Event, has_broken}
 use Rattle.ox_outside.specs.Files.{Files, file_of, written}
 use Rattle.ox_outside.specs.declared.site.Which.{Which}

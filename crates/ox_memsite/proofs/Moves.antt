@@ -1,14 +1,14 @@
 -- What the exact clauses of a site in memory say of it as a site.
-use Rattle.std.proofs.Common.{◌≡◌, ◌∙◌, ◌⊎◌, ◌≤◌, ◌<◌, ◌+◌, inl, inr, ⊎_elim, ℕ, Bool, true, false, List, [], ◌∷◌, ◌++◌, ◌==◌, length, take, drop, if◌then◌else◌, Option, Some, refl, sym, ap, subst, arith, length-append, append_assoc}
-use Rattle.std.specs.Prelude.{nat_lt, Result, Ok, Err}
+use Rattle.std.proofs.Common.{◌≡◌, ◌∙◌, ◌⊎◌, ◌≤◌, ◌<◌, ◌+◌, inl, inr, ⊎_elim, ℕ, Bool, true, false, List, [], ◌∷◌, ◌++◌, ◌==◌, length, take, drop, if◌then◌else◌, refl, sym, ap, subst, arith, length-append, append_assoc}
+use Rattle.std.specs.Prelude.{Result, Ok, Err}
 use Rattle.std.proofs.lemmas.Bool.{cases_lt}
 use Rattle.std.proofs.lemmas.Bool.Decides.{nat_tests}
 use Rattle.std.proofs.lemmas.List.{append-nil, length-take, take_all, take_at, take-append-le}
-use Rattle.ox_outside.specs.Counts.{Counts, NoneFell, Rose, greatest}
-use Rattle.ox_outside.specs.Crash.{Remains, OneCall, AddsNothing, LeavesFiles, Only, Tears, Follows}
-use Rattle.ox_outside.specs.Disk.{Disk, IsImage, synced, after_write, after_torn}
+use Rattle.ox_outside.specs.Counts.{NoneFell, Rose, greatest}
+use Rattle.ox_outside.specs.Crash.{Remains, OneCall, LeavesFiles}
+use Rattle.ox_outside.specs.Disk.{Disk, IsImage, synced}
 use Rattle.ox_outside.specs.Event.{Event, Heard, Ended, Showed, Broke, has_broken, fault_events, hear_events, show_events}
-use Rattle.ox_outside.specs.Files.{Files, file_of, with_file, written, other, Torn, TornFile}
+use Rattle.ox_outside.specs.Files.{Files, file_of}
 use Rattle.ox_outside.specs.declared.site.Failed.{Failed}
 use Rattle.ox_outside.specs.declared.site.Heard.{Heard as HeardAnswer}
 use Rattle.ox_outside.specs.declared.site.Heard.TheVariants.{Bytes, NotYet, End}
@@ -16,14 +16,11 @@ use Rattle.ox_outside.specs.declared.site.Shown.{Shown as ShownAnswer}
 use Rattle.ox_outside.specs.declared.site.Shown.TheVariants.{Took, NotYet as TookNothing}
 use Rattle.ox_outside.specs.declared.site.Which.{Which}
 use Rattle.ox_outside.specs.declared.site.Which.TheVariants.{A, B}
-use Rattle.ox_outside.proofs.Counts.{none_fell_yet, none_fell_then}
-use Rattle.ox_outside.proofs.Disk.{synced_image, torn_from, same_outside, written_same_outside}
 use Rattle.ox_memsite.specs.Heard.{Hears}
-use Rattle.ox_memsite.specs.Laws.{disk_is}
-use Rattle.ox_memsite.specs.World.{World, same, disk_step, disk_after, disk_of, event_of, events_of, seen_of, log_of, Left, MayLeave, LeftSince, counts_of, counted, called, is_listed, did, starves, disk_fails, breaks, hear_fails, show_fails, Ends, EndsUnlessListed}
+use Rattle.ox_memsite.specs.World.{World, disk_after, disk_of, events_of, seen_of, log_of, Left, MayLeave, LeftSince, counts_of, counted, called, did, starves, disk_fails, hear_fails, show_fails, Ends}
 use Rattle.ox_memsite.specs.declared.step.Step.{Step}
 use Rattle.ox_memsite.specs.declared.step.Step.TheVariants as steps
-use Rattle.ox_memsite.proofs.Kept.{disk_after-append, events_of-append, events_of-push}
+use Rattle.ox_memsite.proofs.Kept.{disk_after-append, events_of-append}
 
 counted_more : (n : ℕ) → n ≤ counted n
 counted_more n = grind (arith, nat_tests)

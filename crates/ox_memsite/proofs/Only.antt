@@ -1,5 +1,5 @@
 -- No step opens a link, so channel 0 is the only one that is there.
-use Rattle.std.proofs.Common.{◌≡◌, ◌∙◌, ℕ, Bool, true, false, List, [], ◌∷◌, ◌++◌, ◌||◌, ◌&&◌, ◌==◌, not, refl, sym, ap}
+use Rattle.std.proofs.Common.{◌≡◌, ◌∙◌, ℕ, Bool, true, false, List, [], ◌∷◌, ◌++◌, ◌||◌, ◌&&◌, ◌==◌, not, refl}
 use Rattle.std.proofs.lemmas.Bool.{eqb-true}
 use Rattle.ox_outside.specs.Event.{was_opened, was_shut, is_there}
 use Rattle.ox_outside.proofs.Event.{was_opened-append}

@@ -1,8 +1,8 @@
 -- One more step of a replay, of a log, and of what was shown.
-use Rattle.std.proofs.Common.{◌≡◌, ◌∙◌, ◌<◌, ◌+◌, ℕ, List, [], ◌∷◌, ◌++◌, length, get_or, take, refl, sym, ap, append_assoc}
-use Rattle.std.proofs.lemmas.List.{append-nil, take_more}
+use Rattle.std.proofs.Common.{◌≡◌, ◌∙◌, ◌<◌, ◌+◌, ℕ, List, [], ◌∷◌, ◌++◌, length, get_or, take, ap}
+use Rattle.std.proofs.lemmas.List.{take_more}
 use Rattle.ox_outside.specs.Disk.{Disk}
-use Rattle.ox_outside.specs.Event.{Event, shown_bytes}
+use Rattle.ox_outside.specs.Event.{shown_bytes}
 use Rattle.ox_outside.specs.declared.site.Which.{Which}
 use Rattle.ox_outside.proofs.Event.{shown_bytes-append}
 use Rattle.ox_memsite.specs.World.{disk_step, disk_after, event_of, events_of}

@@ -1,8 +1,7 @@
 -- What a crash at a chosen moment makes of a site in memory.
-use Rattle.std.specs.Prelude.{◌≡◌, ℕ, List, [], ◌++◌, take}
+use Rattle.std.specs.Prelude.{ℕ, List, ◌++◌, take}
 use Rattle.ox_outside.specs.Crash.{Remains}
 use Rattle.ox_outside.specs.Disk.{image_with}
-use Rattle.ox_outside.specs.Files.{Files}
 use Rattle.ox_outside.specs.declared.site.Which.{Which}
 use Rattle.ox_outside.specs.declared.site.Which.TheVariants.{A, B}
 use Rattle.ox_memsite.specs.World.{World, fresh, disk_of, events_of, seen_of, log_of}

@@ -1,5 +1,5 @@
 -- The laws of a site, for a site in memory.
-use Rattle.std.proofs.Common.{◌≡◌, ℕ, ◌≤◌, Bool, true, false, List, [], ◌∷◌, ◌++◌, length, take, Option, Some, if◌then◌else◌, refl, sym, ap, subst}
+use Rattle.std.proofs.Common.{◌≡◌, ℕ, ◌≤◌, Bool, true, false, List, [], ◌∷◌, length, Some, if◌then◌else◌, refl, sym, ap, subst}
 use Rattle.std.proofs.Math.Nat.{le_refl, le_trans}
 use Rattle.std.proofs.lemmas.List.{take_all}
 use Rattle.ox_outside.specs.Crash.{Remains}

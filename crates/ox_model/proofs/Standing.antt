@@ -1,5 +1,5 @@
 -- What files stand for once a record is appended, and of which chain that is.
-use Rattle.std.proofs.Common.{◌≡◌, ◌∙◌, ℕ, List, [], ◌∷◌, ◌++◌, sym, ap, refl, subst}
+use Rattle.std.proofs.Common.{◌≡◌, ◌∙◌, ℕ, List, [], ◌∷◌, ◌++◌, ap, refl, subst}
 use Rattle.std.specs.Prelude.{Option, Some, None, Result, Ok, Err}
 use Rattle.std.specs.Result.{result_ok}
 use Rattle.ox_bytes.specs.Reading.{◌>>=◌}
@@ -13,7 +13,7 @@ use Rattle.ox_feed.specs.declared.command.Command.TheVariants.{Connect}
 use Rattle.ox_model.specs.Machine.{Machine, begun, obeyed}
 use Rattle.ox_model.specs.Sound.{Sound}
 use Rattle.ox_model.specs.Stack.{Stack, stack_of, obeyed_on}
-use Rattle.ox_model.specs.Stands.{name_at, begun_at, block_in, accepts, or_at, replayed, judged, Misfit, in_file, cut_at, stack_in, stands}
+use Rattle.ox_model.specs.Stands.{name_at, begun_at, block_in, accepts, or_at, replayed, judged, in_file, cut_at, stack_in, stands}
 use Rattle.ox_model.specs.declared.refusal.Refusal.{Refusal}
 use Rattle.ox_model.proofs.Soundness.{sound_chain}
 use Rattle.ox_model.proofs.Turning.{on_stack, obeys_alike}

@@ -1,7 +1,6 @@
 -- A machine's answers are those of its stack, and lines that come later go on from where the earlier ones lead.
-use Rattle.std.proofs.Common.{◌≡◌, ◌∙◌, ◌<◌, ℕ, suc, List, [], ◌∷◌, ◌++◌, length, refl, sym, ap, arith}
+use Rattle.std.proofs.Common.{◌≡◌, ◌∙◌, ◌<◌, ℕ, suc, List, [], ◌∷◌, ◌++◌, length, refl, ap, arith}
 use Rattle.std.specs.Prelude.{Option, Some, None, Result, Ok, Err, ◌==◌, Bool, true, false, if◌then◌else◌}
-use Rattle.std.specs.List.{concat}
 use Rattle.std.proofs.lemmas.List.Sums.{fold_push}
 use Rattle.ox_feed.specs.Command.{command_of}
 use Rattle.ox_feed.specs.Feed.{FeedLine, text, too_long}
@@ -13,7 +12,7 @@ use Rattle.ox_model.specs.Machine.{Machine, indexed, with_block, obeyed, obeyed_
 use Rattle.ox_model.specs.Stack.{Stack, stack_of, with_index, obeyed_on, obeyed_on_if, turn_on}
 use Rattle.ox_model.specs.Replies.{after_turn, reply_by, after_by, replies_by, after, replies, index_on, after_on, replies_on}
 use Rattle.ox_model.specs.Step.{step}
-use Rattle.ox_model.specs.Text.{block_line, ok_text, ok_line, refusal_line}
+use Rattle.ox_model.specs.Text.{block_line, ok_text, refusal_line}
 use Rattle.ox_model.specs.declared.refusal.Refusal.{Refusal}
 use Rattle.ox_model.specs.declared.refusal.Refusal.TheVariants.{TooLong, Syntax, Malformed, ChainEnd, Unlinked, BadRoot, Coinbase, BadWitness, UnknownOutput, Overspend, Overclaim, Depth}
 

@@ -1,6 +1,6 @@
 -- When the commands of a feed are carried out, by what a run has heard and shown. The moment of a line is the first event
 -- of the log after which the line stands whole in what was heard and all answers before its own are wholly shown.
-use Rattle.std.specs.Prelude.{ℕ, zero, suc, List, [], ◌∷◌, length, drop, nat_le, if◌then◌else◌}
+use Rattle.std.specs.Prelude.{ℕ, suc, List, [], ◌∷◌, length, drop, nat_le, if◌then◌else◌}
 use Rattle.ox_outside.specs.Event.{Event, heard_bytes, shown_bytes, has_ended}
 use Rattle.ox_feed.specs.Feed.{FeedLine, lines_of}
 

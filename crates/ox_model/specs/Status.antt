@@ -1,9 +1,8 @@
 -- The replies of queries: compact JSON with sorted keys.
-use Rattle.std.specs.Prelude.{ℕ, ◌==◌, ◌-◌, bytes_eq, List, length, codes, Option, Some, None, slice_get, if◌then◌else◌}
+use Rattle.std.specs.Prelude.{ℕ, ◌-◌, bytes_eq, List, length, codes, slice_get, if◌then◌else◌}
 use Rattle.std.specs.Option.{option_map_or}
-use Rattle.serde_json.specs.Data.{Data, null, number, string, object, Members, no_members, member, unsigned}
+use Rattle.serde_json.specs.Data.{Data, null, number, string, object, no_members, member, unsigned}
 use Rattle.serde_json.specs.Written.{compact_text}
-use Rattle.ox_sat.specs.declared.profiles.Profile.{Profile}
 use Rattle.ox_sat.specs.declared.profiles.ProfileName.{ProfileName}
 use Rattle.ox_sat.specs.declared.profiles.ProfileName.TheVariants.{Mainnet, Regtest, Lab}
 use Rattle.ox_model.specs.Stack.{Stack}

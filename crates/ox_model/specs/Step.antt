@@ -1,7 +1,6 @@
 -- What one block makes of an index, or why it is refused. The tests come in this order, and the first that fails decides.
 use Rattle.std.specs.Prelude.{ℕ, ◌+◌, ◌-◌, Bool, not, slice_get, unwrap_or, bytes_eq, List, [], ◌∷◌, ◌++◌, length, replicate, Option, Some, None, option_map, position, Result, Ok, Err, nat_lt, ◌==◌, ◌&&◌, if◌then◌else◌}
 use Rattle.std.specs.List.{list_any}
-use Rattle.std.specs.Cmp.Lexicographic.{pointwise}
 use Rattle.ox_bytes.specs.Reading.{◌>>=◌}
 use Rattle.ox_block.specs.declared.block.Tx.{Tx}
 use Rattle.ox_block.specs.declared.block.TxIn.{TxIn}

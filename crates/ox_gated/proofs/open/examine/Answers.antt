@@ -1,8 +1,8 @@
-use Rattle.std.proofs.Common.{◌≡◌, ◌∙◌, List, ℕ, take, ap, subst}
+use Rattle.std.proofs.Common.{◌≡◌, ◌∙◌, take, ap, subst}
 use Rattle.std.specs.Prelude.{Ok, IfOk, IfErr}
 use Rattle.ox_outside.specs.Files.{Files}
 use Rattle.ox_gated.specs.Opened.{IsUnpicked}
-use Rattle.ox_gated.specs.Pick.{Picked, picked}
+use Rattle.ox_gated.specs.Pick.{Picked}
 use Rattle.ox_gated.proofs.Picking.{picked_read}
 use Rattle.ox_gated.proofs.open.examine.Goals as goal
 

@@ -1,4 +1,4 @@
-use Rattle.std.proofs.Common.{◌≡◌, ◌∙◌, ◌+◌, ◌-◌, List, ℕ, sym, ap, subst}
+use Rattle.std.proofs.Common.{◌≡◌, ◌∙◌, ◌+◌, ◌-◌, sym, ap, subst}
 use Rattle.std.specs.Prelude.{Result, Ok, IfOk, IfErr, slice_range}
 use Rattle.ox_outside.specs.Files.{Files, file_of}
 use Rattle.ox_gated.specs.Opened.{IsFault, found_of}

@@ -1,4 +1,4 @@
-use Rattle.std.proofs.Common.{◌≡◌, ◌∙◌, ◌+◌, ap}
+use Rattle.std.proofs.Common.{◌∙◌, ◌+◌, ap}
 use Rattle.std.specs.Prelude.{slice_range}
 use Rattle.ox_outside.specs.Files.{Files, file_of}
 use Rattle.ox_gated.proofs.Picking.{front_is}

@@ -1,5 +1,5 @@
 use Rattle.std.proofs.Common.{◌≡◌, ◌≤◌, ◌+◌, ◌++◌, length}
-use Rattle.ox_gated.specs.Reading.{Chain, chain}
+use Rattle.ox_gated.specs.Reading.{chain}
 use Rattle.ox_gated.proofs.records.walk_on.Given as goal
 
 abbrev pub invariant-gates : goal.invariant-gates

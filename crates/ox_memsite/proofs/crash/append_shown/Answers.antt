@@ -1,4 +1,4 @@
-use Rattle.std.proofs.Common.{◌∙◌, ◌++◌, ℕ, List, ap, sym, get_or, take, append_assoc}
+use Rattle.std.proofs.Common.{◌∙◌, ◌++◌, ℕ, List, ap, sym, take, append_assoc}
 use Rattle.ox_outside.specs.Event.{shown_bytes}
 use Rattle.ox_memsite.specs.World.{event_of, events_of}
 use Rattle.ox_memsite.specs.declared.step.Step.{Step}

@@ -1,6 +1,5 @@
-use Rattle.std.proofs.Common.{◌≡◌, ◌∙◌, ◌≤◌, ◌+◌, ℕ, List, length, sym, ap, subst}
+use Rattle.std.proofs.Common.{◌≡◌, ◌∙◌, ◌+◌, ℕ, sym, subst}
 use Rattle.ox_outside.specs.Crash.{LeavesOnly}
-use Rattle.ox_outside.specs.Files.{file_of}
 use Rattle.ox_gated.specs.Reading.{reading, appended}
 use Rattle.ox_gated.specs.Tail.{Kept, Holds, IsBeforeOrAfter}
 use Rattle.ox_gated.proofs.Appending.{first_within, moments_first, moments_both, staged_within, staged_settled, reads_after, holds_after}

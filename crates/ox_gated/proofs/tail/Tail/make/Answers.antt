@@ -1,10 +1,9 @@
-use Rattle.std.proofs.Common.{◌≡◌, ◌∙◌, ◌≤◌, ◌+◌, ℕ, List, [], ◌∷◌, length, true, refl, sym, ap, subst, arith}
-use Rattle.std.specs.Prelude.{Ok}
+use Rattle.std.proofs.Common.{◌≡◌, ◌∙◌, ◌≤◌, ℕ, List, [], ◌∷◌, length, true, sym, ap, subst, arith}
 use Rattle.ox_outside.specs.Files.{Files}
 use Rattle.ox_outside.specs.declared.site.Which.TheVariants.{A}
 use Rattle.ox_gated.specs.Layout.{is_closed}
 use Rattle.ox_gated.specs.Reading.{reading}
-use Rattle.ox_gated.specs.Tail.{Kept, Keeps, Holds, made, just_made}
+use Rattle.ox_gated.specs.Tail.{Kept, Keeps, Holds, made}
 use Rattle.ox_gated.specs.declared.head.Head.{Head}
 use Rattle.ox_gated.proofs.Making.{stands_made, made_is, first_b, made_settled, made_keeps}
 use Rattle.ox_gated.proofs.tail.Tail.make.Goals as goal

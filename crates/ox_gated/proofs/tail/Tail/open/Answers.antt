@@ -1,11 +1,11 @@
-use Rattle.std.proofs.Common.{◌≡◌, ◌∙◌, ℕ, sym, ap, subst}
+use Rattle.std.proofs.Common.{◌≡◌, ◌∙◌, sym, subst}
 use Rattle.std.specs.Prelude.{Result, Ok, IfOk, IfErr}
 use Rattle.ox_outside.specs.Crash.{Remains}
 use Rattle.ox_outside.specs.Files.{Files, file_of, other}
 use Rattle.ox_gated.specs.Layout.{is_closed}
 use Rattle.ox_gated.specs.Opened.{IsFault, IsUnpicked, found_of}
 use Rattle.ox_gated.specs.Pick.{picked}
-use Rattle.ox_gated.specs.Reading.{Found, Fault, current, reading}
+use Rattle.ox_gated.specs.Reading.{Found, Fault, current}
 use Rattle.ox_gated.proofs.Opening.{unpicked_fault, reading_is, all_hold}
 use Rattle.ox_gated.proofs.tail.Tail.open.Goals as goal
 

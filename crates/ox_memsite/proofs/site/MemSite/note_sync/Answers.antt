@@ -1,4 +1,4 @@
-use Rattle.std.proofs.Common.{arith, rules, ◌≡◌, ◌++◌, ◌∷◌, []}
+use Rattle.std.proofs.Common.{arith, ◌≡◌, ◌++◌, ◌∷◌, []}
 use Rattle.ox_memsite.proofs.Kept.{kept_synced}
 use Rattle.ox_memsite.specs.declared.step.Step.TheVariants.{Synced}
 use Rattle.ox_memsite.proofs.site.MemSite.note_sync.Goals as goal

@@ -1,4 +1,4 @@
-use Rattle.std.proofs.Common.{◌≡◌, ◌∙◌, ◌++◌, [], List, ℕ, ap, sym}
+use Rattle.std.proofs.Common.{◌≡◌, ◌∙◌, ◌++◌, List, ℕ, ap, sym}
 use Rattle.ox_outside.specs.Event.{shown_bytes}
 use Rattle.ox_outside.proofs.Event.{shown_bytes-append}
 use Rattle.ox_memsite.specs.World.{World, events_of, log_of}
