@@ -1,5 +1,8 @@
 //! The two files of a folder.
 
+ghost use Rattle.std.specs.Prelude.{◌≡◌};
+ghost use Rattle.ox_outside.specs.declared.site.Which.TheVariants.{A, B};
+
 use ox_outside::Which;
 use std::alloc::Global;
 use std::fs::{File, OpenOptions};
@@ -35,7 +38,11 @@ impl FilePair {
         })
     }
 
-    fn file(&self, file: Which) -> &File {
+    // The file of this letter.
+    fn file(&self, file: Which) -> &File
+        ensures first { file ≡ A → result.now ≡ self.now.a }
+        ensures second { file ≡ B → result.now ≡ self.now.b }
+    {
         match file {
             Which::A => &self.a,
             Which::B => &self.b,

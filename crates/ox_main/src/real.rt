@@ -1,7 +1,7 @@
 //! The real site: the files of a folder, and the program's standard input and output as channel 0. It tells nothing of
 //! what it reads, hears and shows, and is trusted for it.
 
-ghost use Rattle.std.specs.Prelude.{◌≡◌, ◌≤◌, length, IfSome};
+ghost use Rattle.std.specs.Prelude.{◌≡◌, ◌≤◌, length, IfOk, IfSome};
 ghost use Rattle.ox_outside.specs.Counts.{Rose};
 
 use crate::files::FilePair;
@@ -24,14 +24,18 @@ pub struct RealSite {
 }
 
 impl RealSite {
-    /// Opens the folder's files.
+    /// Opens the folder's files; nothing has failed yet. An error where one of them can't be opened or made.
     pub fn open<R: Files<File = File>>(
         rt: &R,
         alloc: Global,
         folder: &[u8],
         input: Stdin,
         output: Stdout,
-    ) -> io::Result<RealSite> {
+    ) -> io::Result<RealSite>
+        ensures disk { IfOk result (λ site. site.disk_faults ≡ 0) }
+        ensures hear { IfOk result (λ site. site.hear_faults ≡ 0) }
+        ensures show { IfOk result (λ site. site.show_faults ≡ 0) }
+    {
         Ok(RealSite {
             files: FilePair::open(rt, alloc, folder)?,
             input,
