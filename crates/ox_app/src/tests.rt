@@ -78,141 +78,6 @@ fn joined(alloc: Global, lines: &[&[u8]]) -> Result<Bytes, Fail> {
     Ok(all)
 }
 
-#[test]
-fn each_line_is_answered_by_one(rt: HostRuntime) -> Result<(), Fail> {
-    let alloc = rt.alloc();
-    let words = words_of(alloc, &[b"fold", b"regtest"])?;
-    let block = hex::decode(alloc, GENESIS)?;
-    let first = line_of(alloc, block.as_slice())?;
-    let no_feed_at_end = joined(alloc, &[b"connect ", GENESIS.as_bytes()])?;
-    let another_transaction = changed(alloc, 205, 1)?;
-    let two_transactions = changed(alloc, 80, 2)?;
-    let no_input = changed(alloc, 85, 0)?;
-    let cut = line_of(alloc, block.get(..200).unwrap_or(&[]))?;
-    let twice = joined(alloc, &[first.as_slice(), first.as_slice()])?;
-    let among_bad_lines = joined(alloc, &[b"\nconnect\n", first.as_slice(), b"disconnect"])?;
-    let feeds: [(&[u8], &[u8]); 11] = [
-        (b"", b""),
-        (first.as_slice(), OK),
-        (no_feed_at_end.as_slice(), OK),
-        (another_transaction.as_slice(), OTHER_ROOT),
-        (two_transactions.as_slice(), b"refused 3 285\n"),
-        (no_input.as_slice(), b"refused 3 86\n"),
-        (cut.as_slice(), b"refused 3 200\n"),
-        (b"connect \n", b"refused 3 0\n"),
-        (b"connect 0\n", b"refused 1\n"),
-        (twice.as_slice(), TWICE),
-        (among_bad_lines.as_slice(), AFTER_BAD_LINES),
-    ];
-    for (feed, answers) in feeds {
-        let mut site = site_of(alloc, feed, None)?;
-        assert_eq!(rt; run(alloc, words.as_slice(), &mut site), 0);
-        assert_eq!(rt; site.shown(0)?.as_slice(), answers);
-        assert_eq!(rt; site.starved(), 0);
-    }
-    Ok(())
-}
-
-#[test]
-fn each_profile_begins_with_any_first_block(rt: HostRuntime) -> Result<(), Fail> {
-    let alloc = rt.alloc();
-    let block = hex::decode(alloc, GENESIS)?;
-    let first = line_of(alloc, block.as_slice())?;
-    for profile in [
-        b"mainnet".as_slice(),
-        b"regtest".as_slice(),
-        b"lab".as_slice(),
-    ] {
-        let words = words_of(alloc, &[b"fold", profile])?;
-        let mut site = site_of(alloc, first.as_slice(), None)?;
-        assert_eq!(rt; run(alloc, words.as_slice(), &mut site), 0);
-        assert_eq!(rt; site.shown(0)?.as_slice(), OK);
-    }
-    Ok(())
-}
-
-// A block of 4,000,000 bytes has 8,000,008 in its line: eighty bytes of header, and then a count of 0.
-#[test]
-fn a_line_may_have_as_many_bytes_as_the_largest_block(rt: HostRuntime) -> Result<(), Fail> {
-    let alloc = rt.alloc();
-    let words = words_of(alloc, &[b"fold", b"regtest"])?;
-    let digits = zeros(alloc, 8_000_000)?;
-    let longest = joined(alloc, &[b"connect ", digits.as_slice(), b"\n"])?;
-    let too_long = joined(alloc, &[b"connect ", digits.as_slice(), b"0\n"])?;
-    let both = joined(
-        alloc,
-        &[longest.as_slice(), too_long.as_slice(), b"connect \n"],
-    )?;
-    let mut site = site_of(alloc, both.as_slice(), None)?;
-    assert_eq!(rt; run(alloc, words.as_slice(), &mut site), 0);
-    assert_eq!(rt;
-        site.shown(0)?.as_slice(),
-        b"refused 3 80\nrefused 2\nrefused 3 0\n".as_slice()
-    );
-    Ok(())
-}
-
-// A run over one line hears it, shows its answer, and hears the end.
-#[test]
-fn a_fault_at_any_call_ends_the_run(rt: HostRuntime) -> Result<(), Fail> {
-    let alloc = rt.alloc();
-    let words = words_of(alloc, &[b"fold", b"regtest"])?;
-    let block = hex::decode(alloc, GENESIS)?;
-    let first = line_of(alloc, block.as_slice())?;
-    let faults: [(u64, u8, &[u8]); 4] = [(0, 5, b""), (1, 6, b""), (2, 5, OK), (3, 0, OK)];
-    for (call, status, shown) in faults {
-        let mut site = site_of(alloc, first.as_slice(), Some(call))?;
-        assert_eq!(rt; run(alloc, words.as_slice(), &mut site), status);
-        assert_eq!(rt; site.shown(0)?.as_slice(), shown);
-    }
-    Ok(())
-}
-
-#[test]
-fn other_words_show_the_usage_line(rt: HostRuntime) -> Result<(), Fail> {
-    let alloc = rt.alloc();
-    let rows: [&[&[u8]]; 5] = [
-        &[],
-        &[b"fold"],
-        &[b"fold", b"testnet"],
-        &[b"regtest", b"fold"],
-        &[b"fold", b"regtest", b""],
-    ];
-    for row in rows {
-        let words = words_of(alloc, row)?;
-        let mut site = site_of(alloc, b"connect \n", None)?;
-        assert_eq!(rt; run(alloc, words.as_slice(), &mut site), 1);
-        assert_eq!(rt; site.shown(0)?.as_slice(), b"usage\n".as_slice());
-        let mut broken = site_of(alloc, b"", Some(0))?;
-        assert_eq!(rt; run(alloc, words.as_slice(), &mut broken), 1);
-        assert_eq!(rt; broken.shown(0)?.as_slice(), b"".as_slice());
-    }
-    Ok(())
-}
-
-// The head of file A of an empty regtest store of depth 100, and a closed gate behind it.
-const EMPTY_A: &str = "016f78696478010164000100000000000000000000000000000000";
-
-// The three plain blocks, as their hashes are by a script of another language.
-const THREE_OK: &[u8] =
-    b"ok 0 9df1369ffe84c7f9f18795eda8438c9452ca65ebb35668f5a83ab42b94430908\nok 1 0722e5045444f199ce474c0d06e47da62974b16d17bf01d351665bc1f12e3b4f\nok 2 7054e587fec28cf6b25c1f9597629789b86bae696e32960fd80b6521aa1c8a2a\n";
-
-// What `query /status` shows of the regtest store with the first so many of the three plain blocks.
-fn status_body(blocks: u64) -> &'static str {
-    match blocks {
-        0 => r#"{"blocks":0,"depth":100,"kept":0,"profile":"regtest","tip":null}"#,
-        1 => {
-            r#"{"blocks":1,"depth":100,"kept":0,"profile":"regtest","tip":"9df1369ffe84c7f9f18795eda8438c9452ca65ebb35668f5a83ab42b94430908"}"#
-        }
-        2 => {
-            r#"{"blocks":2,"depth":100,"kept":0,"profile":"regtest","tip":"0722e5045444f199ce474c0d06e47da62974b16d17bf01d351665bc1f12e3b4f"}"#
-        }
-        _ => {
-            r#"{"blocks":3,"depth":100,"kept":0,"profile":"regtest","tip":"7054e587fec28cf6b25c1f9597629789b86bae696e32960fd80b6521aa1c8a2a"}"#
-        }
-    }
-}
-
 // Runs these words: the status, and what this run showed.
 fn outcome(alloc: Global, site: &mut MemSite, words: &[&[u8]]) -> Result<(u8, Bytes), Fail> {
     let before = site.shown(0)?.as_slice().len();
@@ -236,6 +101,156 @@ fn ends(
     assert_eq!(rt; said.as_slice(), shown, "of {words:?}");
     assert_eq!(rt; found, status, "of {words:?}");
     Ok(())
+}
+
+// Runs `fold` over a feed without a fault, and tests what is shown.
+fn folds(
+    rt: &impl Abort,
+    alloc: Global,
+    profile: &[u8],
+    feed: &[u8],
+    answers: &[u8],
+) -> Result<(), Fail> {
+    let mut site = site_of(alloc, feed, None)?;
+    ends(rt, alloc, &mut site, &[b"fold", profile], 0, answers)?;
+    assert_eq!(rt; site.starved(), 0);
+    Ok(())
+}
+
+#[test]
+fn each_line_is_answered_by_one(rt: HostRuntime) -> Result<(), Fail> {
+    let alloc = rt.alloc();
+    let block = hex::decode(alloc, GENESIS)?;
+    let first = line_of(alloc, block.as_slice())?;
+    let no_feed_at_end = joined(alloc, &[b"connect ", GENESIS.as_bytes()])?;
+    let twice = joined(alloc, &[first.as_slice(), first.as_slice()])?;
+    let among_bad_lines = joined(alloc, &[b"\nconnect\n", first.as_slice(), b"disconnect"])?;
+    folds(&rt, alloc, b"regtest", b"", b"")?;
+    folds(&rt, alloc, b"regtest", first.as_slice(), OK)?;
+    folds(&rt, alloc, b"regtest", no_feed_at_end.as_slice(), OK)?;
+    folds(&rt, alloc, b"regtest", twice.as_slice(), TWICE)?;
+    folds(
+        &rt,
+        alloc,
+        b"regtest",
+        among_bad_lines.as_slice(),
+        AFTER_BAD_LINES,
+    )
+}
+
+// Byte 205 is the lowest of the output's value; bytes 80 and 85 count the transactions and the inputs.
+#[test]
+fn a_block_that_is_not_taken_in_has_its_refusal(rt: HostRuntime) -> Result<(), Fail> {
+    let alloc = rt.alloc();
+    let another_transaction = changed(alloc, 205, 1)?;
+    let two_transactions = changed(alloc, 80, 2)?;
+    let no_input = changed(alloc, 85, 0)?;
+    let block = hex::decode(alloc, GENESIS)?;
+    let cut = line_of(alloc, block.get(..200).unwrap_or(&[]))?;
+    folds(
+        &rt,
+        alloc,
+        b"regtest",
+        another_transaction.as_slice(),
+        OTHER_ROOT,
+    )?;
+    folds(
+        &rt,
+        alloc,
+        b"regtest",
+        two_transactions.as_slice(),
+        b"refused 3 285\n",
+    )?;
+    folds(
+        &rt,
+        alloc,
+        b"regtest",
+        no_input.as_slice(),
+        b"refused 3 86\n",
+    )?;
+    folds(&rt, alloc, b"regtest", cut.as_slice(), b"refused 3 200\n")?;
+    folds(&rt, alloc, b"regtest", b"connect \n", b"refused 3 0\n")?;
+    folds(&rt, alloc, b"regtest", b"connect 0\n", b"refused 1\n")
+}
+
+#[test]
+fn each_profile_begins_with_any_first_block(rt: HostRuntime) -> Result<(), Fail> {
+    let alloc = rt.alloc();
+    let first = joined(alloc, &[b"connect ", GENESIS.as_bytes()])?;
+    folds(&rt, alloc, b"mainnet", first.as_slice(), OK)?;
+    folds(&rt, alloc, b"regtest", first.as_slice(), OK)?;
+    folds(&rt, alloc, b"lab", first.as_slice(), OK)
+}
+
+// A block of 4,000,000 bytes has 8,000,008 in its line: eighty bytes of header, and then a count of 0.
+#[test]
+fn a_line_may_have_as_many_bytes_as_the_largest_block(rt: HostRuntime) -> Result<(), Fail> {
+    let alloc = rt.alloc();
+    let digits = zeros(alloc, 8_000_000)?;
+    let longest = joined(alloc, &[b"connect ", digits.as_slice(), b"\n"])?;
+    let too_long = joined(alloc, &[b"connect ", digits.as_slice(), b"0\n"])?;
+    let both = joined(
+        alloc,
+        &[longest.as_slice(), too_long.as_slice(), b"connect \n"],
+    )?;
+    let answers = b"refused 3 80\nrefused 2\nrefused 3 0\n";
+    folds(&rt, alloc, b"regtest", both.as_slice(), answers)
+}
+
+// A run over one line hears it, shows its answer, and hears the end.
+#[test]
+fn a_fault_at_any_call_ends_the_run(rt: HostRuntime) -> Result<(), Fail> {
+    let alloc = rt.alloc();
+    let first = joined(alloc, &[b"connect ", GENESIS.as_bytes(), b"\n"])?;
+    let faults: [(u64, u8, &[u8]); 4] = [(0, 5, b""), (1, 6, b""), (2, 5, OK), (3, 0, OK)];
+    for (call, status, shown) in faults {
+        let mut site = site_of(alloc, first.as_slice(), Some(call))?;
+        ends(&rt, alloc, &mut site, &[b"fold", b"regtest"], status, shown)?;
+    }
+    Ok(())
+}
+
+// Tests that words are no row: the usage line is shown, or nothing where showing fails, and the files stay empty.
+fn is_usage(rt: &impl Abort, alloc: Global, words: &[&[u8]]) -> Result<(), Fail> {
+    let mut site = site_of(alloc, b"connect \n", None)?;
+    ends(rt, alloc, &mut site, words, 1, b"usage\n")?;
+    assert_eq!(rt; site.file(Which::A).len(), 0);
+    assert_eq!(rt; site.file(Which::B).len(), 0);
+    let mut broken = site_of(alloc, b"", Some(0))?;
+    ends(rt, alloc, &mut broken, words, 1, b"")
+}
+
+#[test]
+fn other_words_show_the_usage_line(rt: HostRuntime) -> Result<(), Fail> {
+    let alloc = rt.alloc();
+    is_usage(&rt, alloc, &[])?;
+    is_usage(&rt, alloc, &[b"fold"])?;
+    is_usage(&rt, alloc, &[b"fold", b"testnet"])?;
+    is_usage(&rt, alloc, &[b"regtest", b"fold"])?;
+    is_usage(&rt, alloc, &[b"fold", b"regtest", b""])
+}
+
+// The head of file A of an empty regtest store of depth 100, and a closed gate behind it.
+const EMPTY_A: &str = "016f78696478010164000100000000000000000000000000000000";
+
+// The three plain blocks, as their hashes are by a script of another language.
+const THREE_OK: &[u8] =
+    b"ok 0 9df1369ffe84c7f9f18795eda8438c9452ca65ebb35668f5a83ab42b94430908\nok 1 0722e5045444f199ce474c0d06e47da62974b16d17bf01d351665bc1f12e3b4f\nok 2 7054e587fec28cf6b25c1f9597629789b86bae696e32960fd80b6521aa1c8a2a\n";
+
+// What `query /status` shows of the regtest store with the first so many of the three plain blocks.
+fn status_body(blocks: u64) -> &'static str {
+    match blocks {
+        0 => r#"{"blocks":0,"depth":100,"kept":0,"profile":"regtest","tip":null}"#,
+        1 => {
+            r#"{"blocks":1,"depth":100,"kept":0,"profile":"regtest","tip":"9df1369ffe84c7f9f18795eda8438c9452ca65ebb35668f5a83ab42b94430908"}"#
+        }
+        2 => {
+            r#"{"blocks":2,"depth":100,"kept":0,"profile":"regtest","tip":"0722e5045444f199ce474c0d06e47da62974b16d17bf01d351665bc1f12e3b4f"}"#
+        }
+        _ => {
+            r#"{"blocks":3,"depth":100,"kept":0,"profile":"regtest","tip":"7054e587fec28cf6b25c1f9597629789b86bae696e32960fd80b6521aa1c8a2a"}"#
+        }
+    }
 }
 
 // Two files of these bytes, all on the disk, with an empty log and no call made.
@@ -358,15 +373,6 @@ fn init_makes_two_files_and_makes_them_once(rt: HostRuntime) -> Result<(), Fail>
     ends(&rt, alloc, &mut site, &words, 2, b"not empty\n")?;
     assert_eq!(rt; site.file(Which::A), a.as_slice());
     assert_eq!(rt; site.file(Which::B), b"\0".as_slice());
-    Ok(())
-}
-
-// Tests that words are no row, and that the files stay empty.
-fn is_usage(rt: &impl Abort, alloc: Global, words: &[&[u8]]) -> Result<(), Fail> {
-    let mut site = MemSite::new(alloc)?;
-    ends(rt, alloc, &mut site, words, 1, b"usage\n")?;
-    assert_eq!(rt; site.file(Which::A).len(), 0);
-    assert_eq!(rt; site.file(Which::B).len(), 0);
     Ok(())
 }
 
