@@ -6,9 +6,10 @@
     python3 bench/blocks/blocks.py [BLOCKS..]
 
 makes a chain of as many blocks as the greatest number says (400 and 4,000 without a word) in a temporary folder: each
-block but the first two spends 500 outputs, chosen at random, into two each. It runs both programs over the first so
-many blocks of it and prints blocks and megabytes of blocks a second of processor time, and the memory that an output
-takes at the end; and how long the last tenth of the greatest number took, beside the first. Nothing here is proved.
+block but the first two spends 500 outputs, chosen at random, into two each. It runs both programs three times over the
+first so many blocks of it and prints, of the run that took least, blocks and megabytes of blocks a second of processor
+time, and the memory that an output takes at the end; and how long the last tenth of the greatest number took, beside
+the first. Nothing here is proved.
 """
 
 import concurrent.futures
@@ -26,6 +27,7 @@ PROGRAMS = {
     "ox": TOP / "crates" / "ox_main" / "out" / "ox_main",
     "plain": TOP / "bench" / "blocks" / "plain" / "target" / "release" / "plain",
 }
+RUNS = 3
 SPENDS = 500
 SUBSIDY = 5_000_000_000
 
@@ -113,7 +115,7 @@ def main():
             outputs = 1000 + max(count - 2, 0) * (SPENDS + 1)
             answers = []
             for name, program in PROGRAMS.items():
-                seconds, memory, shown = run(program, folder, feed)
+                seconds, memory, shown = min(run(program, folder, feed) for _ in range(RUNS))
                 times[name, count] = seconds
                 answers.append(shown)
                 megabytes = ends[count - 1] / 2e6
