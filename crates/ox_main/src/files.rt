@@ -1,6 +1,6 @@
 //! The two files of a folder.
 
-ghost use Rattle.std.specs.Prelude.{◌≡◌};
+ghost use Rattle.std.specs.Prelude.{◌≡◌, IsUtf8, OnOk};
 ghost use Rattle.ox_outside.specs.declared.site.Which.TheVariants.{A, B};
 
 use ox_outside::Which;
@@ -20,12 +20,11 @@ pub struct FilePair {
 }
 
 impl FilePair {
-    /// Opens both files of the folder to read and to write, and makes them empty where they are absent.
-    pub fn open<R: Files<File = File>>(
-        rt: &R,
-        alloc: Global,
-        folder: &[u8],
-    ) -> io::Result<FilePair> {
+    /// Opens both files of the folder to read and to write, and makes them empty where they are absent. An error where
+    /// the folder's name isn't UTF-8, or one of them can't be opened or made.
+    pub fn open<R: Files<File = File>>(rt: &R, alloc: Global, folder: &[u8]) -> io::Result<FilePair>
+        ensures text { OnOk result (IsUtf8 folder.now) }
+    {
         let Ok(folder) = str::from_utf8(folder) else {
             return Err(io::Error::from(ErrorKind::InvalidInput));
         };

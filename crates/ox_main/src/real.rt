@@ -1,7 +1,7 @@
 //! The real site: the files of a folder, and the program's standard input and output as channel 0. It tells nothing of
 //! what it reads, hears and shows, and is trusted for it.
 
-ghost use Rattle.std.specs.Prelude.{◌≡◌, ◌≤◌, length, IfOk, IfSome};
+ghost use Rattle.std.specs.Prelude.{◌≡◌, ◌≤◌, length, IfOk, IfSome, IsUtf8, OnOk};
 ghost use Rattle.ox_outside.specs.Counts.{Rose};
 
 use crate::files::FilePair;
@@ -24,7 +24,8 @@ pub struct RealSite {
 }
 
 impl RealSite {
-    /// Opens the folder's files; nothing has failed yet. An error where one of them can't be opened or made.
+    /// Opens the folder's files; nothing has failed yet. An error where the folder's name isn't UTF-8, or one of them
+    /// can't be opened or made.
     pub fn open<R: Files<File = File>>(
         rt: &R,
         alloc: Global,
@@ -32,6 +33,7 @@ impl RealSite {
         input: Stdin,
         output: Stdout,
     ) -> io::Result<RealSite>
+        ensures text { OnOk result (IsUtf8 folder.now) }
         ensures disk { IfOk result (λ site. site.disk_faults ≡ 0) }
         ensures hear { IfOk result (λ site. site.hear_faults ≡ 0) }
         ensures show { IfOk result (λ site. site.show_faults ≡ 0) }
