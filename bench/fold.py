@@ -9,7 +9,6 @@ runs each program over it five times, prints the least processor time as megabyt
 the built program to the plain one. Nothing here is proved. Build the program first, as the README says.
 """
 
-import hashlib
 import os
 import pathlib
 import random
@@ -19,20 +18,12 @@ import sys
 import tempfile
 
 HERE = pathlib.Path(__file__).resolve().parent
+sys.path.append(str(HERE / "store"))
+
+from chain import compact, line, twice  # noqa: E402
+
 PROGRAM = HERE.parent / "crates" / "ox_main" / "out" / "ox_main"
 RUNS = 5
-
-
-def twice_hashed(message):
-    return hashlib.sha256(hashlib.sha256(message).digest()).digest()
-
-
-def compact(n):
-    if n < 253:
-        return bytes([n])
-    if n < 1 << 16:
-        return b"\xfd" + n.to_bytes(2, "little")
-    return b"\xfe" + n.to_bytes(4, "little")
 
 
 def block(previous, script):
@@ -40,8 +31,8 @@ def block(previous, script):
     inputs = b"\x01" + bytes(32) + b"\xff" * 4 + b"\x03abc" + b"\xff" * 4
     outputs = b"\x01" + (5_000_000_000).to_bytes(8, "little") + compact(len(script)) + script
     tx = (1).to_bytes(4, "little") + inputs + outputs + bytes(4)
-    header = (1).to_bytes(4, "little") + previous + twice_hashed(tx) + bytes(12)
-    return header + b"\x01" + tx, twice_hashed(header)
+    header = (1).to_bytes(4, "little") + previous + twice(tx) + bytes(12)
+    return header + b"\x01" + tx, twice(header)
 
 
 def write_feed(path, size):
@@ -54,14 +45,14 @@ def write_feed(path, size):
             bytes_, hash_ = block(previous, script)
             kind = chance.randrange(10)
             if kind == 0:
-                line = b"connect " + bytes_[:-1].hex().encode() + b"\n"
+                shown = line(bytes_[:-1])
             elif kind == 1 and size >= 50_000_000:
-                line = b"connect " + bytes_.hex().encode() * (8_100_000 // (2 * len(bytes_)) + 1) + b"\n"
+                shown = line(bytes_ * (8_100_000 // (2 * len(bytes_)) + 1))
             else:
-                line = b"connect " + bytes_.hex().encode() + b"\n"
+                shown = line(bytes_)
                 previous = hash_
-            feed.write(line)
-            written += len(line)
+            feed.write(shown)
+            written += len(shown)
             lines += 1
     return lines, written
 
