@@ -37,6 +37,15 @@ impl Ids {
         }
     }
 
+    /// The same ids, copied. `Memory` where there is none for them.
+    pub fn copy(&self, alloc: Global) -> Result<Ids, Memory>
+        ensures { IfOk result (λ ids. ids ≡ self.now) }
+    {
+        Ok(Ids {
+            items: Vec::from_slice(alloc, self.as_slice())?,
+        })
+    }
+
     /// The ids, in order.
     pub fn as_slice(&self) -> &[InsId]
         ensures { result.now ≡ self.now }
