@@ -1,6 +1,6 @@
 //! What an envelope says.
 
-ghost use Rattle.std.specs.Prelude.{◌≡◌, ◌∷◌, ◌++◌, [], length, IfOk, OnErr, OnOk};
+ghost use Rattle.std.specs.Prelude.{◌≡◌, IfOk};
 ghost use Rattle.ox_envelope.specs.Payload.{inscribed_of};
 
 use crate::envelope::Envelope;
@@ -8,51 +8,11 @@ use crate::id::InsId;
 use crate::payload::{
     all_ids, copy_first, first_id, join_body, join_values, marks_of, split_payload,
 };
-use ox_bytes::{Bytes, Memory};
+use ox_bytes::{Bytes, List, Memory};
 use std::alloc::Global;
-use std::marker::Model;
 
-/// Ids in an order. Contracts see the list of them.
-#[derive(Debug, Drop)]
-pub struct Ids {
-    items: Vec<InsId>,
-}
-
-impl Model for Ids {
-    ghost use Rattle.std.specs.Prelude.{List};
-    ghost use Rattle.ox_envelope.specs.declared.id.InsId.{InsId};
-
-    ghost Value = { List InsId };
-
-    ghost view = { λ ids. ids.items.items };
-}
-
-impl Ids {
-    /// No ids.
-    pub fn new(alloc: Global) -> Ids
-        ensures { result ≡ [] }
-    {
-        Ids {
-            items: Vec::new(alloc),
-        }
-    }
-
-    /// The ids, in order.
-    pub fn as_slice(&self) -> &[InsId]
-        ensures { result.now ≡ self.now }
-    {
-        self.items.as_slice()
-    }
-
-    /// Appends an id. `Memory` where there is none for it: nothing has changed then.
-    pub fn push(&mut self, id: InsId) -> Result<(), Memory>
-        ensures ok { OnOk result (self.new ≡ self.old ++ id ∷ []) }
-        ensures err { OnErr result (self.new ≡ self.old) }
-    {
-        self.items.push(id)?;
-        Ok(())
-    }
-}
+/// Ids in an order.
+pub type Ids = List<InsId>;
 
 /// What an envelope says: its fields by their tags, and its body.
 #[derive(Debug, Drop)]
