@@ -2,7 +2,7 @@ use Rattle.std.proofs.Common.{◌≡◌, ℕ, zero, suc, ◌+◌, ◌-◌, ◌<�
 use Rattle.std.proofs.lemmas.List.{drop_more, take_more, drop_all, set-append_left, set_split, get_or_append_left, get_or_default}
 use Rattle.ox_range.specs.declared.runs.Run.{Run}
 use Rattle.ox_range.specs.Numbers.{numbers_from}
-use Rattle.ox_range.specs.Runs.{numbers_of, EndsBefore, AreMaximal, front_of, rest_of, joined, GoesOn}
+use Rattle.ox_range.specs.Runs.{numbers_of, EndsBefore, AreMaximal, front_of, rest_of, joined_run, GoesOn}
 use Rattle.ox_range.proofs.RunLemmas.{zero_run, numbers-none, numbers-cons, numbers-append, length-numbers_from, numbers_from-add, maximal-at, maximal-drop, maximal-take, maximal_join, maximal_last, maximal_first}
 
 pub numbers-one : (r : Run) → numbers_of (r ∷ []) ≡ numbers_from r.first r.count
@@ -83,7 +83,7 @@ append_maximal (x ∷ []) (y ∷ ys) m n apart = (m.0, m.1, (λ e. apart (record
 append_maximal (x ∷ x' ∷ xs) ys m n apart = (m.0, m.1, m.2, append_maximal (x' ∷ xs) ys m.3 n (λ g. apart (goes_on_behind x x' xs ys g)))
 
 -- runs that go on with each other are maximal once the two that meet are one
-pub joined_maximal : (runs tail : List Run) → AreMaximal runs → AreMaximal tail → GoesOn runs tail → AreMaximal (take (length runs - 1) runs ++ joined (get_or runs (length runs - 1) zero_run) (get_or tail 0 zero_run) ∷ drop 1 tail)
+pub joined_maximal : (runs tail : List Run) → AreMaximal runs → AreMaximal tail → GoesOn runs tail → AreMaximal (take (length runs - 1) runs ++ joined_run (get_or runs (length runs - 1) zero_run) (get_or tail 0 zero_run) ∷ drop 1 tail)
 joined_maximal runs tail m n g =
     let d : Run = zero_run in
     let last = maximal-at runs (length runs - 1) d m (omega (arith, g.some)) in
@@ -92,11 +92,11 @@ joined_maximal runs tail m n g =
     let whole : take (length runs - 1 + 1) runs ≡ runs = take_all (length runs - 1 + 1) runs (omega arith) in
     let upto : AreMaximal (take (length runs - 1) runs ++ get_or runs (length runs - 1) d ∷ []) = rw (sym whole ∙ take_more runs (length runs - 1) d (omega (arith, g.some))) at m in
     let from : AreMaximal (get_or tail 0 d ∷ drop 1 tail) = rw (drop_more tail 0 d g.more) at n in
-    maximal_join (take (length runs - 1) runs) (joined (get_or runs (length runs - 1) d) (get_or tail 0 d)) (drop 1 tail)
-    (maximal_last (take (length runs - 1) runs) (get_or runs (length runs - 1) d) (joined (get_or runs (length runs - 1) d) (get_or tail 0 d)) refl (omega (arith, last)) (omega (arith, next, meets)) upto)
-    (maximal_first (get_or tail 0 d) (joined (get_or runs (length runs - 1) d) (get_or tail 0 d)) (drop 1 tail) (omega (arith, meets)) (omega (arith, last)) from)
+    maximal_join (take (length runs - 1) runs) (joined_run (get_or runs (length runs - 1) d) (get_or tail 0 d)) (drop 1 tail)
+    (maximal_last (take (length runs - 1) runs) (get_or runs (length runs - 1) d) (joined_run (get_or runs (length runs - 1) d) (get_or tail 0 d)) refl (omega (arith, last)) (omega (arith, next, meets)) upto)
+    (maximal_first (get_or tail 0 d) (joined_run (get_or runs (length runs - 1) d) (get_or tail 0 d)) (drop 1 tail) (omega (arith, meets)) (omega (arith, last)) from)
 
-pub joined_numbers : (runs tail : List Run) → GoesOn runs tail → numbers_of (take (length runs - 1) runs ++ joined (get_or runs (length runs - 1) zero_run) (get_or tail 0 zero_run) ∷ drop 1 tail) ≡ numbers_of runs ++ numbers_of tail
+pub joined_numbers : (runs tail : List Run) → GoesOn runs tail → numbers_of (take (length runs - 1) runs ++ joined_run (get_or runs (length runs - 1) zero_run) (get_or tail 0 zero_run) ∷ drop 1 tail) ≡ numbers_of runs ++ numbers_of tail
 joined_numbers runs tail g =
     let d : Run = zero_run in
     let r : Run = get_or runs (length runs - 1) d in
@@ -107,8 +107,8 @@ joined_numbers runs tail g =
     let runs_are : numbers_of runs ≡ numbers_of xs ++ numbers_from r.first r.count = ap numbers_of (sym whole ∙ take_more runs (length runs - 1) d (omega (arith, g.some))) ∙ numbers-append xs (r ∷ []) ∙ ap (λ ns. numbers_of xs ++ ns) (numbers-one r) in
     let tail_is : numbers_of tail ≡ numbers_from s.first s.count ++ numbers_of ys = ap numbers_of (drop_more tail 0 d g.more) ∙ numbers-cons s ys in
     let both : numbers_from r.first (r.count + s.count) ≡ numbers_from r.first r.count ++ numbers_from s.first s.count = numbers_from-add r.first r.count s.count ∙ ap (λ f. numbers_from r.first r.count ++ numbers_from f s.count) g.meets in
-    numbers-append xs (joined r s ∷ ys)
-    ∙ ap (λ ns. numbers_of xs ++ ns) (numbers-cons (joined r s) ys ∙ ap (λ ns. ns ++ numbers_of ys) both ∙ append_assoc (numbers_from r.first r.count) (numbers_from s.first s.count) (numbers_of ys))
+    numbers-append xs (joined_run r s ∷ ys)
+    ∙ ap (λ ns. numbers_of xs ++ ns) (numbers-cons (joined_run r s) ys ∙ ap (λ ns. ns ++ numbers_of ys) both ∙ append_assoc (numbers_from r.first r.count) (numbers_from s.first s.count) (numbers_of ys))
     ∙ sym (append_assoc (numbers_of xs) (numbers_from r.first r.count) (numbers_from s.first s.count ++ numbers_of ys))
     ∙ (rw (runs_are, tail_is) refl)
 
@@ -125,15 +125,15 @@ one_back runs index before d some within long =
 
 -- what a write into the last run makes of it
 pub joined_items : (runs tail all : List Run) (x : Run) → GoesOn runs tail → all ≡ runs ++ drop 1 tail → x ≡ get_or all (length runs - 1) x
-    → set all (length runs - 1) (joined x (get_or tail 0 zero_run)) ≡ take (length runs - 1) runs ++ joined (get_or runs (length runs - 1) zero_run) (get_or tail 0 zero_run) ∷ drop 1 tail
+    → set all (length runs - 1) (joined_run x (get_or tail 0 zero_run)) ≡ take (length runs - 1) runs ++ joined_run (get_or runs (length runs - 1) zero_run) (get_or tail 0 zero_run) ∷ drop 1 tail
 joined_items runs tail all x g is read =
     let last : length runs - 1 < length runs = omega (arith, g.some) in
     let same : x ≡ get_or runs (length runs - 1) zero_run = read ∙ ap (λ rs. get_or rs (length runs - 1) x) is ∙ get_or_append_left runs (drop 1 tail) x (length runs - 1) last ∙ get_or_default runs (length runs - 1) x zero_run last in
     let none : drop (suc (length runs - 1)) runs ≡ [] = drop_all (suc (length runs - 1)) runs (omega arith) in
-    let one : Run = joined (get_or runs (length runs - 1) zero_run) (get_or tail 0 zero_run) in
+    let one : Run = joined_run (get_or runs (length runs - 1) zero_run) (get_or tail 0 zero_run) in
     let written : set runs (length runs - 1) one ≡ take (length runs - 1) runs ++ one ∷ [] = set_split runs (length runs - 1) one last ∙ ap (λ rs. take (length runs - 1) runs ++ one ∷ rs) none in
-    ap (λ rs. set rs (length runs - 1) (joined x (get_or tail 0 zero_run))) is
-    ∙ ap (λ r. set (runs ++ drop 1 tail) (length runs - 1) (joined r (get_or tail 0 zero_run))) same
+    ap (λ rs. set rs (length runs - 1) (joined_run x (get_or tail 0 zero_run))) is
+    ∙ ap (λ r. set (runs ++ drop 1 tail) (length runs - 1) (joined_run r (get_or tail 0 zero_run))) same
     ∙ set-append_left runs (drop 1 tail) (length runs - 1) one last
     ∙ ap (λ rs. rs ++ drop 1 tail) written
     ∙ append_assoc (take (length runs - 1) runs) (one ∷ []) (drop 1 tail)

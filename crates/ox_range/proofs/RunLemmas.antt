@@ -1,10 +1,10 @@
 use Rattle.std.proofs.Common.{◌≡◌, ℕ, zero, suc, ◌+◌, ◌-◌, ◌^◌, ◌<◌, ◌≤◌, ◌==◌, ◌⊎◌, List, [], ◌∷◌, ◌++◌, length, get_or, take, drop, inl, inr, refl, sym, ap, ap₂, ◌∙◌, arith, lit<, add-zero, zero-add, suc-add, length-append, append_assoc, append-nil, ⊎_elim, true, false, Some, None, nat_lt}
 use Rattle.std.specs.List.{position_or_len, position}
-use Rattle.std.proofs.lemmas.Bool.{cases_lt, ne_eqb, eq-eqb, lt-leb, le-leb}
+use Rattle.std.proofs.lemmas.Bool.{cases_lt, cases_eq, ne_eqb, eq-eqb, lt-leb, le-leb}
 use Rattle.std.proofs.lemmas.List.{drop_more, drop_all, get_or_append_left, get_or-append_right, append_cancel_left}
 use Rattle.ox_range.specs.declared.runs.Run.{Run}
 use Rattle.ox_range.specs.Numbers.{numbers_from}
-use Rattle.ox_range.specs.Runs.{numbers_of, EndsBefore, AreMaximal, AreRunsOf}
+use Rattle.ox_range.specs.Runs.{numbers_of, EndsBefore, AreMaximal, AreRunsOf, runs_with, runs_of}
 
 pub numbers-none : numbers_of [] ≡ []
 unfolding numbers_of
@@ -235,3 +235,63 @@ numbers_from-zero first = refl
 pub kept_one : (first count : ℕ) → 0 < count → first + count < 2 ^ 64 → AreRunsOf (record { first = first; count = count } ∷ []) count
 unfolding AreMaximal EndsBefore
 kept_one first count some fits = record { maximal = (some, fits, tt, tt); len = one_long first count; fits = omega (arith, fits) }
+
+-- a number in front of runs stands in front of their numbers
+numbers_of-runs_with : (n : ℕ) (rs : List Run) → numbers_of (runs_with n rs) ≡ n ∷ numbers_of rs
+unfolding numbers_of numbers_from
+numbers_of-runs_with n [] = refl
+numbers_of-runs_with n (r ∷ rs) =
+    elim (cases_eq (n + 1) r.first) [
+      | inl meets ↦
+          let same : (n + 1 == r.first) ≡ true = eq-eqb (n + 1) r.first meets in
+          let more : r.count + 1 ≡ suc r.count = omega arith in
+          rw (same, more) (ap (λ first. n ∷ (numbers_from first r.count ++ numbers_of rs)) meets)
+      | inr apart ↦
+          let other : (n + 1 == r.first) ≡ false = ne_eqb (n + 1) r.first apart in
+          rw other refl
+    ]
+
+pub numbers_of-runs_of : (numbers : List ℕ) → numbers_of (runs_of numbers) ≡ numbers
+unfolding runs_of
+numbers_of-runs_of [] = numbers-none
+numbers_of-runs_of (n ∷ ns) =
+    numbers_of-runs_with n (runs_of ns) ∙ ap (λ numbers. n ∷ numbers) (numbers_of-runs_of ns)
+
+-- a number that the first run doesn't go on behind is a run of its own
+runs_with-apart : (first : ℕ) (rs : List Run) → EndsBefore (record { first = first; count = 1 }) rs
+    → runs_with first rs ≡ record { first = first; count = 1 } ∷ rs
+unfolding EndsBefore
+runs_with-apart first [] ends = refl
+runs_with-apart first (r ∷ rs) ends = rw (ne_eqb (first + 1) r.first ends) refl
+
+runs_with-meets : (first count : ℕ) (rs : List Run)
+    → runs_with first (record { first = first + 1; count = count } ∷ rs) ≡ record { first = first; count = suc count } ∷ rs
+runs_with-meets first count rs =
+    let more : count + 1 ≡ suc count = omega arith in
+    rw (eq-eqb (first + 1) (first + 1) refl, more) refl
+
+-- consecutive numbers in front are one run, where the runs behind don't go on with it
+runs_of-run : (first count : ℕ) (rs : List Run) (ns : List ℕ) → runs_of ns ≡ rs → 0 < count
+    → EndsBefore (record { first = first; count = count }) rs
+    → runs_of (numbers_from first count ++ ns) ≡ record { first = first; count = count } ∷ rs
+unfolding runs_of numbers_from
+runs_of-run first zero rs ns is some ends = absurd (omega (arith, some))
+runs_of-run first (suc zero) rs ns is some ends = ap (runs_with first) is ∙ runs_with-apart first rs ends
+runs_of-run first (suc (suc count)) rs ns is some ends =
+    let long : Run = record { first = first; count = suc (suc count) } in
+    let short : Run = record { first = first + 1; count = suc count } in
+    let behind : EndsBefore short rs = ends_as long short rs (omega arith) ends in
+    ap (runs_with first) (runs_of-run (first + 1) (suc count) rs ns is (omega arith) behind)
+    ∙ runs_with-meets first (suc count) rs
+
+runs_of-none : runs_of [] ≡ []
+unfolding runs_of
+runs_of-none = refl
+
+-- maximal runs are the runs of their numbers
+pub runs_of-numbers_of : (runs : List Run) → AreMaximal runs → runs_of (numbers_of runs) ≡ runs
+unfolding AreMaximal
+runs_of-numbers_of [] m = ap runs_of numbers-none ∙ runs_of-none
+runs_of-numbers_of (r ∷ rs) m =
+    ap runs_of (numbers-cons r rs)
+    ∙ runs_of-run r.first r.count rs (numbers_of rs) (runs_of-numbers_of rs m.3) m.0 m.2

@@ -1,4 +1,5 @@
-use Rattle.std.specs.Prelude.{◌≡◌, ◌≢◌, ℕ, ◌+◌, ◌-◌, ◌^◌, ◌<◌, List, [], ◌∷◌, ◌++◌, length, slice_index_or, take, drop}
+use Rattle.std.specs.Prelude.{◌≡◌, ◌≢◌, ℕ, ◌+◌, ◌-◌, ◌^◌, ◌<◌, List, [], ◌∷◌, ◌++◌, length}
+use Rattle.std.specs.Prelude.{slice_index_or, take, drop, ◌==◌, if◌then◌else◌}
 use Rattle.ox_range.specs.declared.runs.Run.{Run}
 use Rattle.ox_range.specs.Numbers.{numbers_from}
 
@@ -17,6 +18,18 @@ unfoldable pub AreMaximal : List Run → Type 0
 AreMaximal [] = Unit {0}
 AreMaximal (run ∷ runs) =
     (0 < run.count) × (run.first + run.count < 2 ^ 64) × EndsBefore run runs × AreMaximal runs
+
+-- a number in front of runs: it joins the first of them where that goes on behind it
+abbrev pub runs_with : ℕ → List Run → List Run
+runs_with number [] = record { first = number; count = 1 } ∷ []
+runs_with number (run ∷ runs) =
+    if number + 1 == run.first then record { first = number; count = run.count + 1 } ∷ runs
+    else record { first = number; count = 1 } ∷ run ∷ runs
+
+-- the maximal runs of a list of numbers, in order
+unfoldable pub runs_of : List ℕ → List Run
+runs_of [] = []
+runs_of (number ∷ numbers) = runs_with number (runs_of numbers)
 
 -- runs that a list of numbers is kept as, beside the list's length
 pub record AreRunsOf (runs : List Run) (count : ℕ) : Type 0 where
@@ -41,8 +54,8 @@ abbrev pub rest_of : ℕ → Run → Run
 rest_of keep run = record { first = run.first + keep; count = run.count - keep }
 
 -- two runs as one, where the second goes on with the first
-abbrev pub joined : Run → Run → Run
-joined run next = record { first = run.first; count = run.count + next.count }
+abbrev pub joined_run : Run → Run → Run
+joined_run run next = record { first = run.first; count = run.count + next.count }
 
 -- the first run of a list goes on where the last run of another ends
 pub record GoesOn (runs tail : List Run) : Type 0 where
@@ -54,4 +67,4 @@ pub record GoesOn (runs tail : List Run) : Type 0 where
 abbrev pub Joins : List Run → List Run → List Run → Type 0
 Joins runs tail new =
     let last = length runs - 1 in
-    new ≡ take last runs ++ joined (run_at runs last) (run_at tail 0) ∷ drop 1 tail
+    new ≡ take last runs ++ joined_run (run_at runs last) (run_at tail 0) ∷ drop 1 tail

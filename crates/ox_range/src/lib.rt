@@ -5,34 +5,22 @@
 //! runs, so that five billion numbers cost as much as one.
 #![tactic(auto)]
 
-ghost use Rattle.std.specs.Prelude.{◌≡◌, ℕ, ◌+◌, ◌^◌, ◌<◌, ◌≤◌, ◌==◌, ◌↔◌, List, [], ◌++◌, length, take, drop, slice_index, position, IsTrue, IfOk, OnOk, OnErr};
+ghost use Rattle.std.specs.Prelude.{◌≡◌, ℕ, ◌+◌, ◌^◌, ◌<◌, ◌≤◌, ◌==◌, ◌↔◌, List, [], ◌++◌, length};
+ghost use Rattle.std.specs.Prelude.{take, drop, slice_index, position, IsTrue, IfOk, OnOk, OnErr};
 ghost use Rattle.ox_range.specs.Numbers.{numbers_from};
-ghost use Rattle.ox_range.specs.Runs.{numbers_of, AreMaximal};
+ghost use Rattle.ox_range.specs.Runs.{numbers_of, AreMaximal, runs_of};
 
-use cuts::{append, split};
+use cuts::{append, shorten, split};
 use runs::{Runs, number_at, place_among};
 use smallvec::SmallVec;
-use std::alloc::{AllocError, Global};
+use std::alloc::Global;
 use std::marker::Model;
 
 mod cuts;
 mod runs;
 
-pub use runs::{Run, runs_are_determined};
-
-/// There is no memory left.
-#[derive(Clone, Copy, Debug, PartialEq, Eq)]
-pub struct Memory;
-
-impl From<AllocError> for Memory {
-    ghost use Rattle.std.specs.Prelude.{◌≡◌};
-
-    ghost from_gives = { λ _ e. e ≡ record {} };
-
-    fn from(_e: AllocError) -> Memory {
-        Memory
-    }
-}
+pub use ox_bytes::Memory;
+pub use runs::{Run, runs_are_determined, runs_have_their_numbers};
 
 /// A list of satoshi numbers, kept as its maximal runs of consecutive numbers.
 #[derive(Debug, Drop)]
@@ -152,8 +140,19 @@ impl Ranges {
         Ok(rest)
     }
 
+    /// Keeps the numbers before this place and drops the others. It takes no memory, and costs by
+    /// the runs that it drops.
+    pub fn truncate(&mut self, len: u64)
+        requires { len ≤ length self.old }
+        ensures { self.new ≡ take len self.old }
+    {
+        shorten(&mut self.runs, self.len, len);
+        self.len = len;
+    }
+
     /// The maximal runs of consecutive numbers, in order.
     pub fn runs(&self) -> &[Run]
+        ensures exact { result.now ≡ runs_of self.now }
         ensures numbers { numbers_of result.now ≡ self.now }
         ensures maximal { AreMaximal result.now }
     {

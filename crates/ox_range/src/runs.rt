@@ -1,5 +1,6 @@
-ghost use Rattle.std.specs.Prelude.{◌≡◌, ℕ, ◌+◌, ◌^◌, ◌<◌, ◌==◌, List, length, slice_index, position};
-ghost use Rattle.ox_range.specs.Runs.{numbers_of, AreMaximal};
+ghost use Rattle.std.specs.Prelude.{◌≡◌, ℕ, ◌+◌, ◌^◌, ◌<◌, ◌==◌, List, length, slice_index};
+ghost use Rattle.std.specs.Prelude.{position};
+ghost use Rattle.ox_range.specs.Runs.{numbers_of, AreMaximal, runs_of};
 
 use smallvec::SmallVec;
 
@@ -50,4 +51,9 @@ pub(crate) fn place_among(runs: &[Run], number: u64) -> Option<u64>
 /// One list of numbers has one list of maximal runs.
 pub fn runs_are_determined()
     ensures { (a b : List Run) → AreMaximal a → AreMaximal b → numbers_of a ≡ numbers_of b → a ≡ b }
+{}
+
+/// The runs of any list have its numbers, in order.
+pub fn runs_have_their_numbers()
+    ensures { (numbers : List ℕ) → numbers_of (runs_of numbers) ≡ numbers }
 {}

@@ -1,84 +1,122 @@
 use super::*;
 use std::process::Abort;
-use std::test::Fail;
+
+/// The numbers from `first` on, `count` of them.
+fn one(rt: &impl Abort, alloc: Global, first: u64, count: u64) -> Ranges {
+    assert!(rt; first <= u64::MAX - count);
+    Ranges::one(alloc, first, count).expect(rt, "memory")
+}
 
 /// Cuts a list at a place that it has.
-fn cut(rt: &impl Abort, list: &mut Ranges, place: u64) -> Result<Ranges, Memory> {
+fn cut(rt: &impl Abort, list: &mut Ranges, place: u64) -> Ranges {
     let len = list.len();
     assert!(rt; place <= len);
-    list.split_off(place)
+    list.split_off(place).expect(rt, "memory")
 }
 
 /// Joins two lists that aren't too long together.
-fn join(rt: &impl Abort, list: &mut Ranges, tail: &Ranges) -> Result<(), Memory> {
+fn join(rt: &impl Abort, list: &mut Ranges, tail: &Ranges) {
     let len = list.len();
     let more = tail.len();
     assert!(rt; len <= u64::MAX - more);
-    list.join(tail)
+    list.join(tail).expect(rt, "memory")
 }
 
-/// The runs of a list, as pairs of the first number and the number behind the last.
-fn ends(alloc: Global, list: &Ranges) -> Result<Vec<(u64, u64)>, Fail> {
-    let mut pairs = Vec::new(alloc);
-    for run in list.runs() {
-        pairs.push((run.first, run.first.saturating_add(run.count)))?;
+/// Drops the numbers from a place on that the list has.
+fn shorten(rt: &impl Abort, list: &mut Ranges, len: u64) {
+    let all = list.len();
+    assert!(rt; len <= all);
+    list.truncate(len)
+}
+
+/// `count` runs of ten numbers each, the first at `first` and each a hundred behind the one before.
+fn comb(rt: &impl Abort, alloc: Global, first: u64, count: u64) -> Ranges {
+    let mut list = Ranges::empty(alloc);
+    for tooth in 0..count {
+        join(
+            rt,
+            &mut list,
+            &one(
+                rt,
+                alloc,
+                first.saturating_add(tooth.saturating_mul(100)),
+                10,
+            ),
+        );
     }
-    Ok(pairs)
+    list
+}
+
+/// Whether the list's runs are these, as pairs of the first number and the number behind the last.
+fn has_runs(list: &Ranges, ends: &[(u64, u64)]) -> bool {
+    let runs = list.runs();
+    if runs.len() != ends.len() {
+        return false;
+    }
+    for (run, (first, end)) in runs.iter().zip(ends) {
+        if run.first != *first || run.first.saturating_add(run.count) != *end {
+            return false;
+        }
+    }
+    true
+}
+
+/// Whether the list has this number at this place.
+fn has_at(list: &Ranges, place: u64, number: u64) -> bool {
+    place < list.len() && list.at(place) == number
 }
 
 // Block 2 spends the output of block 0 into two outputs of 2,000,000,000 and 1,000,000,000, and its
 // coinbase claims its own subsidy and the rest as a fee.
 #[test]
-fn satoshis_are_dealt_first_in_first_out(rt: HostRuntime) -> Result<(), Fail> {
-    let mut spent = Ranges::one(rt.alloc(), 0, 5_000_000_000)?;
-    let fee = cut(&rt, &mut spent, 3_000_000_000)?;
-    let second = cut(&rt, &mut spent, 2_000_000_000)?;
-    assert_eq!(rt;
-        ends(rt.alloc(), &spent)?.as_slice(),
-        [(0, 2_000_000_000)].as_slice()
-    );
-    assert_eq!(rt;
-        ends(rt.alloc(), &second)?.as_slice(),
-        [(2_000_000_000, 3_000_000_000)].as_slice()
-    );
-    let mut claimed = Ranges::one(rt.alloc(), 10_000_000_000, 5_000_000_000)?;
-    join(&rt, &mut claimed, &fee)?;
-    assert_eq!(rt; claimed.len(), 7_000_000_000);
+fn satoshis_are_dealt_first_in_first_out(rt: HostRuntime) {
+    let mut spent = one(&rt, rt.alloc(), 0, 5_000_000_000);
+    let fee = cut(&rt, &mut spent, 3_000_000_000);
+    let second = cut(&rt, &mut spent, 2_000_000_000);
+    assert!(rt; has_runs(&spent, &[(0, 2_000_000_000)]));
+    assert!(rt; has_runs(&second, &[(2_000_000_000, 3_000_000_000)]));
+    assert!(rt; has_runs(&fee, &[(3_000_000_000, 5_000_000_000)]));
+}
+
+#[test]
+fn a_fee_stands_behind_the_subsidy(rt: HostRuntime) {
+    let fee = one(&rt, rt.alloc(), 3_000_000_000, 2_000_000_000);
+    let mut claimed = one(&rt, rt.alloc(), 10_000_000_000, 5_000_000_000);
+    join(&rt, &mut claimed, &fee);
+    assert!(rt; claimed.len() == 7_000_000_000);
     let expected = [
         (10_000_000_000, 15_000_000_000),
         (3_000_000_000, 5_000_000_000),
     ];
-    assert_eq!(rt; ends(rt.alloc(), &claimed)?.as_slice(), expected.as_slice());
-    Ok(())
+    assert!(rt; has_runs(&claimed, &expected));
 }
 
 #[test]
-fn runs_that_meet_are_joined(rt: HostRuntime) -> Result<(), Fail> {
+fn runs_that_meet_are_joined(rt: HostRuntime) {
     let mut list = Ranges::empty(rt.alloc());
     for first in 0..1_000 {
-        join(&rt, &mut list, &Ranges::one(rt.alloc(), first * 10, 10)?)?;
+        join(&rt, &mut list, &one(&rt, rt.alloc(), first * 10, 10));
     }
-    assert_eq!(rt;
-        ends(rt.alloc(), &list)?.as_slice(),
-        [(0, 10_000)].as_slice()
-    );
-    let rest = cut(&rt, &mut list, 2_500)?;
-    assert_eq!(rt; rest.len(), 7_500);
-    join(&rt, &mut list, &rest)?;
-    join(&rt, &mut list, &Ranges::empty(rt.alloc()))?;
-    join(&rt, &mut list, &Ranges::one(rt.alloc(), 4, 3)?)?;
-    assert_eq!(rt;
-        ends(rt.alloc(), &list)?.as_slice(),
-        [(0, 10_000), (4, 7)].as_slice()
-    );
-    Ok(())
+    assert!(rt; has_runs(&list, &[(0, 10_000)]));
+    let rest = cut(&rt, &mut list, 2_500);
+    assert!(rt; rest.len() == 7_500);
+    join(&rt, &mut list, &rest);
+    assert!(rt; has_runs(&list, &[(0, 10_000)]));
 }
 
 #[test]
-fn numbers_stand_at_their_first_places(rt: HostRuntime) -> Result<(), Fail> {
-    let mut list = Ranges::one(rt.alloc(), u64::MAX - 2, 2)?;
-    join(&rt, &mut list, &Ranges::one(rt.alloc(), 5, 3)?)?;
-    join(&rt, &mut list, &Ranges::one(rt.alloc(), 0, 10)?)?;
+fn runs_that_do_not_meet_stay_apart(rt: HostRuntime) {
+    let mut list = one(&rt, rt.alloc(), 0, 10_000);
+    join(&rt, &mut list, &Ranges::empty(rt.alloc()));
+    join(&rt, &mut list, &one(&rt, rt.alloc(), 4, 3));
+    assert!(rt; has_runs(&list, &[(0, 10_000), (4, 7)]));
+}
+
+#[test]
+fn numbers_stand_at_their_first_places(rt: HostRuntime) {
+    let mut list = one(&rt, rt.alloc(), u64::MAX - 2, 2);
+    join(&rt, &mut list, &one(&rt, rt.alloc(), 5, 3));
+    join(&rt, &mut list, &one(&rt, rt.alloc(), 0, 10));
     for (place, number) in [
         (0, u64::MAX - 2),
         (1, u64::MAX - 1),
@@ -87,25 +125,58 @@ fn numbers_stand_at_their_first_places(rt: HostRuntime) -> Result<(), Fail> {
         (5, 0),
         (14, 9),
     ] {
-        if place < list.len() {
-            assert_eq!(rt; list.at(place), number);
-        }
+        assert!(rt; has_at(&list, place, number));
     }
-    assert_eq!(rt; list.len(), 15);
-    assert_eq!(rt; list.place_of(6), Some(3));
-    assert_eq!(rt; list.place_of(8), Some(13));
-    assert_eq!(rt; list.place_of(10), None);
-    assert_eq!(rt; list.place_of(u64::MAX), None);
-    Ok(())
+    assert!(rt; list.len() == 15);
+    for (number, place) in [(6, Some(3)), (8, Some(13)), (10, None), (u64::MAX, None)] {
+        assert!(rt; list.place_of(number) == place);
+    }
 }
 
 #[test]
-fn an_empty_list_has_no_runs(rt: HostRuntime) -> Result<(), Fail> {
-    let mut list = Ranges::one(rt.alloc(), 7, 0)?;
+fn an_empty_list_has_no_runs(rt: HostRuntime) {
+    let mut list = one(&rt, rt.alloc(), 7, 0);
     assert!(rt; list.is_empty());
-    assert_eq!(rt; list.runs().len(), 0);
-    assert_eq!(rt; list.place_of(7), None);
-    let rest = cut(&rt, &mut list, 0)?;
+    assert!(rt; has_runs(&list, &[]));
+    assert!(rt; list.place_of(7) == None);
+    let rest = cut(&rt, &mut list, 0);
     assert!(rt; rest.is_empty());
-    Ok(())
+}
+
+// Runs of more than one list, so that they don't fit a list's own place.
+#[test]
+fn lists_of_several_runs_are_joined_and_copied(rt: HostRuntime) {
+    let mut list = comb(&rt, rt.alloc(), 0, 3);
+    join(&rt, &mut list, &comb(&rt, rt.alloc(), 210, 3));
+    let expected = [(0, 10), (100, 110), (200, 220), (310, 320), (410, 420)];
+    assert!(rt; has_runs(&list, &expected));
+    let copy = list.copy(rt.alloc()).expect(&rt, "memory");
+    assert!(rt; has_runs(&copy, &expected));
+    join(&rt, &mut list, &copy);
+    assert!(rt; list.len() == 120 && list.runs().len() == 10);
+}
+
+#[test]
+fn lists_of_several_runs_are_cut(rt: HostRuntime) {
+    let mut list = comb(&rt, rt.alloc(), 0, 100);
+    let mut rest = cut(&rt, &mut list, 25);
+    assert!(rt; has_runs(&list, &[(0, 10), (100, 110), (200, 205)]));
+    assert!(rt; rest.len() == 975 && rest.runs().len() == 98);
+    let last = cut(&rt, &mut rest, 965);
+    assert!(rt; has_runs(&last, &[(9_900, 9_910)]));
+    shorten(&rt, &mut rest, 15);
+    assert!(rt; has_runs(&rest, &[(205, 210), (300, 310)]));
+}
+
+#[test]
+fn a_list_is_shortened_within_a_run_and_between_two(rt: HostRuntime) {
+    let mut list = comb(&rt, rt.alloc(), 0, 3);
+    shorten(&rt, &mut list, 30);
+    assert!(rt; has_runs(&list, &[(0, 10), (100, 110), (200, 210)]));
+    shorten(&rt, &mut list, 15);
+    assert!(rt; has_runs(&list, &[(0, 10), (100, 105)]));
+    shorten(&rt, &mut list, 10);
+    assert!(rt; has_runs(&list, &[(0, 10)]));
+    shorten(&rt, &mut list, 0);
+    assert!(rt; list.is_empty() && has_runs(&list, &[]));
 }

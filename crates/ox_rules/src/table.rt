@@ -19,12 +19,6 @@ impl From<ox_bytes::Memory> for Memory {
     }
 }
 
-impl From<ox_range::Memory> for Memory {
-    fn from(_e: ox_range::Memory) -> Memory {
-        Memory
-    }
-}
-
 impl From<AllocError> for Memory {
     fn from(_e: AllocError) -> Memory {
         Memory

@@ -2,7 +2,8 @@ use Rattle.std.specs.Prelude.{ℕ, ◌-◌, ◌/◌, ◌%◌, ◌==◌, ◌&&◌
 use Rattle.ox_sat.specs.declared.profiles.Profile.{Profile}
 use Rattle.ox_sat.specs.declared.degrees.Degree.{Degree}
 use Rattle.ox_sat.specs.declared.degrees.Rarity.{Rarity}
-use Rattle.ox_sat.specs.declared.degrees.Rarity.TheVariants.{Common, Uncommon, Rare, Epic, Legendary, Mythic}
+use Rattle.ox_sat.specs.declared.degrees.Rarity.TheVariants.{Common, Uncommon, Rare, Epic}
+use Rattle.ox_sat.specs.declared.degrees.Rarity.TheVariants.{Legendary, Mythic}
 use Rattle.ox_sat.specs.Heights.{first_at, height_minting}
 
 -- the satoshi's place in the cycle, in the halving epoch, in the difficulty period and in its block

@@ -1,4 +1,4 @@
-use Rattle.std.specs.Prelude.{◌≡◌, true, false}
+use Rattle.std.specs.Prelude.{◌≡◌, ℕ, List, true, false, codes, ◌==◌, if◌then◌else◌}
 use Rattle.ox_sat.specs.declared.profiles.Profile.{Profile}
 use Rattle.ox_sat.specs.declared.profiles.ProfileName.{ProfileName}
 use Rattle.ox_sat.specs.declared.profiles.ProfileName.TheVariants.{Mainnet, Regtest, Lab}
@@ -44,6 +44,28 @@ profile_named Lab = record {
   commitment = 30;
   last = 40;
 }
+
+-- the word that names a profile
+abbrev pub profile_word : ProfileName → List ℕ
+profile_word Mainnet = codes "mainnet"
+profile_word Regtest = codes "regtest"
+profile_word Lab = codes "lab"
+
+-- the byte that stands for a profile in a file's head
+abbrev pub profile_byte : ProfileName → ℕ
+profile_byte Mainnet = 0
+profile_byte Regtest = 1
+profile_byte Lab = 2
+
+-- the profile for which a head's byte stands; a head's byte is at most 2
+abbrev pub name_at : ℕ → ProfileName
+name_at byte = if byte == 0 then Mainnet else if byte == 1 then Regtest else Lab
+
+-- Each profile has a byte and a word of its own, and its table has its byte.
+pub record AreTold : Type 0 where
+  pub byte : (name : ProfileName) → (profile_named name).byte ≡ profile_byte name
+  pub name : (name : ProfileName) → name_at (profile_byte name) ≡ name
+  pub word : (a b : ProfileName) → profile_word a ≡ profile_word b → a ≡ b
 
 -- it is the profile of some name
 pub record IsProfile (p : Profile) : Type 0 where

@@ -1,4 +1,6 @@
-use Rattle.std.specs.Prelude.{◌≡◌, ◌≢◌, ℕ, ◌+◌, ◌<◌, ◌⊎◌, List, ◌∷◌, ◌++◌, length, slice_index, decimal, ◌-◌, Bool, ◌&&◌, ◌==◌, Option, Some, None, nat_lt, if◌then◌else◌}
+use Rattle.std.specs.Prelude.{◌≡◌, ◌≢◌, ℕ, ◌+◌, ◌<◌, ◌⊎◌, List, ◌∷◌, ◌++◌, length, slice_index}
+use Rattle.std.specs.Prelude.{decimal, ◌-◌, Bool, ◌&&◌, ◌==◌, Option, Some, None, nat_lt}
+use Rattle.std.specs.Prelude.{if◌then◌else◌}
 use Rattle.std.specs.List.{before_first, after_first}
 use Rattle.std.specs.Option.{option_or}
 use Rattle.std.specs.Str.{bytes_eq}
@@ -36,9 +38,12 @@ sat_in p text =
     let height = digits_value 10 (before_first (λ c. c == 46) text) in
     let offset = digits_value 10 (after_first (λ c. c == 46) text) in
     let named = p.supply - letters_value text in
-    option_or (only_if (nat_lt number p.supply && bytes_eq text (decimal number)) number)
-    (option_or (only_if (nat_lt offset (subsidy_at p height) && bytes_eq text (decimal height ++ 46 ∷ decimal offset)) (first_at p height + offset))
-    (only_if (nat_lt named p.supply && bytes_eq text (name_of p named)) named))
+    let is_number = nat_lt number p.supply && bytes_eq text (decimal number) in
+    let is_decimal =
+    nat_lt offset (subsidy_at p height) && bytes_eq text (decimal height ++ 46 ∷ decimal offset) in
+    let is_name = nat_lt named p.supply && bytes_eq text (name_of p named) in
+    option_or (only_if is_number number)
+    (option_or (only_if is_decimal (first_at p height + offset)) (only_if is_name named))
 
 -- neither a plus nor a zero stands in front, but for the zero of `0`
 abbrev pub IsPlain : List ℕ → Type 0

@@ -67,7 +67,8 @@ pub fn height_of(p: &Profile, sat: u64) -> u64
 /// No block mints anything from the 33rd halving on, and all blocks together mint the supply.
 pub fn supply_is_minted(p: &Profile)
     requires { IsProfile p.now }
-    ensures all { (height : ℕ) → 33 * p.now.halving ≤ height → first_at p.now height ≡ p.now.supply }
+    ensures all { (height : ℕ) →
+        33 * p.now.halving ≤ height → first_at p.now height ≡ p.now.supply }
     ensures most { (height : ℕ) → first_at p.now height ≤ p.now.supply }
 {
     let _supply = p.supply;

@@ -19,7 +19,7 @@ pub use heights::{
     first, first_never_falls, height_of, holds_one_height, subsidy, supply_is_minted,
 };
 pub use names::{names_are_letters, write_name};
-pub use profiles::{Profile, ProfileName, profile_of};
+pub use profiles::{Profile, ProfileName, profile_of, profiles_are_told};
 pub use spellings::{NotSat, read_number, read_sat, spellings_read_back};
 
 #[cfg(test)]

@@ -1,5 +1,8 @@
-ghost use Rattle.std.specs.Prelude.{◌≡◌};
-ghost use Rattle.ox_sat.specs.Profiles.{profile_named, IsProfile};
+ghost use Rattle.std.specs.Prelude.{◌≡◌, Some, IfSome};
+ghost use Rattle.ox_sat.specs.declared.profiles.ProfileName.{ProfileName};
+ghost use Rattle.ox_sat.specs.Profiles.{profile_named, profile_word, profile_byte, name_at};
+ghost use Rattle.ox_sat.specs.Profiles.{IsProfile};
+ghost use Rattle.ox_sat.specs.Profiles.{AreTold};
 
 /// The chains that an index can follow.
 #[derive(Clone, Copy, Debug, PartialEq, Eq)]
@@ -11,6 +14,59 @@ pub enum ProfileName {
     /// A chain of 41 blocks in which every rule comes into play soon.
     Lab,
 }
+
+impl ProfileName {
+    /// The word that names the profile: `mainnet`, `regtest` or `lab`.
+    pub fn word(self) -> &'static str
+        ensures { result.now ≡ profile_word self }
+    {
+        match self {
+            ProfileName::Mainnet => "mainnet",
+            ProfileName::Regtest => "regtest",
+            ProfileName::Lab => "lab",
+        }
+    }
+
+    /// The profile that this word names. `None` exactly where it names none.
+    pub fn of_word(word: &[u8]) -> Option<ProfileName>
+        ensures found { IfSome result (λ name. word.now ≡ profile_word name) }
+        ensures only { (name : ProfileName) → word.now ≡ profile_word name → result ≡ Some name }
+    {
+        match word {
+            b"mainnet" => Some(ProfileName::Mainnet),
+            b"regtest" => Some(ProfileName::Regtest),
+            b"lab" => Some(ProfileName::Lab),
+            _ => None,
+        }
+    }
+
+    /// The byte that stands for the profile in a file's head: 0, 1 or 2.
+    pub fn byte(self) -> u8
+        ensures { result ≡ profile_byte self }
+    {
+        match self {
+            ProfileName::Mainnet => 0,
+            ProfileName::Regtest => 1,
+            ProfileName::Lab => 2,
+        }
+    }
+
+    /// The profile for which this byte of a file's head stands. A head's byte is at most 2.
+    pub fn of_byte(byte: u8) -> ProfileName
+        ensures { result ≡ name_at byte }
+    {
+        match byte {
+            0 => ProfileName::Mainnet,
+            1 => ProfileName::Regtest,
+            _ => ProfileName::Lab,
+        }
+    }
+}
+
+/// Each profile has a byte and a word of its own, and its table has its byte.
+pub fn profiles_are_told()
+    ensures { AreTold }
+{}
 
 /// The numbers by which a chain counts, as `profile_of` gives them.
 #[derive(Clone, Copy, Debug, PartialEq, Eq)]
@@ -27,7 +83,8 @@ pub struct Profile {
     pub supply: u64,
     /// The height from which runes are read.
     pub rune_start: u64,
-    /// The number of blocks after which the shortest name that a rune may take gets one letter shorter.
+    /// The number of blocks after which the shortest name that a rune may take gets one letter
+    /// shorter.
     pub interval: u64,
     /// Whether the rune of id 1:0 is there from the start.
     pub first_rune: bool,

@@ -1,4 +1,6 @@
-ghost use Rattle.std.specs.Prelude.{◌≡◌, ◌≢◌, ℕ, ◌+◌, ◌^◌, ◌<◌, ◌≤◌, ◌↔◌, ◌⊎◌, List, ◌∷◌, ◌++◌, length, slice_index, All, IsTrue, IfSome, IfNone, IfOk, OnErr, decimal};
+ghost use Rattle.std.specs.Prelude.{◌≡◌, ◌≢◌, ℕ, ◌+◌, ◌^◌, ◌<◌, ◌≤◌, ◌↔◌, ◌⊎◌, List, ◌∷◌, ◌++◌};
+ghost use Rattle.std.specs.Prelude.{length, slice_index, All, IsTrue, IfSome, IfNone, IfOk, OnErr};
+ghost use Rattle.std.specs.Prelude.{decimal};
 ghost use Rattle.ox_sat.specs.Profiles.{IsProfile};
 ghost use Rattle.ox_sat.specs.Heights.{subsidy_at, first_at};
 ghost use Rattle.ox_sat.specs.Names.{IsLetter, letters_value, name_of, IsNameOf};
@@ -23,8 +25,8 @@ fn begins_plainly(text: &[u8]) -> bool
     }
 }
 
-/// The number that this text writes: decimal digits with no sign and no leading zero, `0` aside. `None` exactly where
-/// the text writes none below 18,446,744,073,709,551,616.
+/// The number that this text writes: decimal digits with no sign and no leading zero, `0` aside.
+/// `None` exactly where the text writes none below 18,446,744,073,709,551,616.
 pub fn read_number(text: &str) -> Option<u64>
     ensures reads { IfSome result (λ n. text.now ≡ decimal n) }
     ensures small { IfSome result (λ n. n < 2 ^ 64) }
@@ -70,7 +72,8 @@ fn read_name(p: &Profile, text: &[u8]) -> Option<u64>
 fn read_decimal(p: &Profile, height: &str, offset: &str) -> Option<u64>
     requires { IsProfile p.now }
     ensures reads { IfSome result (λ sat. IsDecimalOf p.now sat (height.now ++ 46 ∷ offset.now)) }
-    ensures none { IfNone result ((h o : ℕ) → o < subsidy_at p.now h → height.now ≡ decimal h → offset.now ≢ decimal o) }
+    ensures none { IfNone result ((h o : ℕ) →
+        o < subsidy_at p.now h → height.now ≡ decimal h → offset.now ≢ decimal o) }
 {
     let height = read_number(height)?;
     let offset = read_number(offset)?;
@@ -84,7 +87,8 @@ fn read_decimal(p: &Profile, height: &str, offset: &str) -> Option<u64>
 /// The satoshi of this number or this name.
 fn read_undivided(p: &Profile, text: &str) -> Option<u64>
     requires { IsProfile p.now }
-    ensures reads { IfSome result (λ sat. IsNumberOf p.now sat text.now ⊎ IsNameOf p.now sat text.now) }
+    ensures reads { IfSome result (λ sat.
+        IsNumberOf p.now sat text.now ⊎ IsNameOf p.now sat text.now) }
     ensures number { IfNone result ((sat : ℕ) → ¬ IsNumberOf p.now sat text.now) }
     ensures name { IfNone result ((sat : ℕ) → ¬ IsNameOf p.now sat text.now) }
 {
@@ -127,9 +131,11 @@ pub fn read_sat(p: &Profile, text: &str) -> Result<u64, NotSat>
 pub fn spellings_read_back(p: &Profile)
     requires { IsProfile p.now }
     ensures number { (sat : ℕ) → sat < p.now.supply → Spells p.now sat (decimal sat) }
-    ensures decimal { (height offset : ℕ) → offset < subsidy_at p.now height → Spells p.now (first_at p.now height + offset) (decimal height ++ 46 ∷ decimal offset) }
+    ensures decimal { (height offset : ℕ) → offset < subsidy_at p.now height →
+        Spells p.now (first_at p.now height + offset) (decimal height ++ 46 ∷ decimal offset) }
     ensures name { (sat : ℕ) → sat < p.now.supply → Spells p.now sat (name_of p.now sat) }
-    ensures one { (text : List ℕ) (a b : ℕ) → Spells p.now a text → Spells p.now b text → a ≡ b }
+    ensures one { (text : List ℕ) (a b : ℕ) →
+        Spells p.now a text → Spells p.now b text → a ≡ b }
 {
     let _supply = p.supply;
 }

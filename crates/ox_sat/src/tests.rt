@@ -24,6 +24,25 @@ fn the_first_heights_and_the_last_mint_what_they_should(rt: HostRuntime) {
     assert_eq!(rt; profile_of(ProfileName::Regtest).supply, mainnet.supply);
 }
 
+/// Whether the profile has this word and this byte, and is told by each of them.
+fn is_told_by(name: ProfileName, word: &str, byte: u8) -> bool {
+    name.word() == word
+        && ProfileName::of_word(word.as_bytes()) == Some(name)
+        && name.byte() == byte
+        && ProfileName::of_byte(byte) == name
+        && profile_of(name).byte == byte
+}
+
+#[test]
+fn profiles_have_a_word_and_a_byte(rt: HostRuntime) {
+    assert!(rt; is_told_by(ProfileName::Mainnet, "mainnet", 0));
+    assert!(rt; is_told_by(ProfileName::Regtest, "regtest", 1));
+    assert!(rt; is_told_by(ProfileName::Lab, "lab", 2));
+    for word in ["", "Mainnet", "mainne", "mainnet ", "signet"] {
+        assert!(rt; ProfileName::of_word(word.as_bytes()) == None);
+    }
+}
+
 // The table of the Ordinal Theory Handbook's chapter on rarity, and ord's own examples.
 #[test]
 fn each_rarity_has_its_satoshis(rt: HostRuntime) {

@@ -23,10 +23,10 @@ impl From<ox_rules::Memory> for TransferFault {
     }
 }
 
-impl From<ox_range::Memory> for TransferFault {
+impl From<ox_bytes::Memory> for TransferFault {
     ghost from_gives = { λ _ e. e ≡ faults.Memory };
 
-    fn from(_e: ox_range::Memory) -> TransferFault {
+    fn from(_e: ox_bytes::Memory) -> TransferFault {
         TransferFault::Memory
     }
 }
