@@ -9,8 +9,8 @@ use Rattle.ox_outside.proofs.Calls.{leaves_at_first}
 use Rattle.ox_gated.specs.Tail.{IsSettled}
 use Rattle.ox_model.specs.Stack.{Stack}
 use Rattle.ox_model.specs.Stands.{stands}
-use Rattle.ox_model.specs.Step.{zero_hash}
-use Rattle.ox_model.specs.Text.{ok_text}
+use Rattle.ox_rules.specs.Newest.{zero_hash}
+use Rattle.ox_rules.specs.Text.{ok_text}
 use Rattle.ox_store.specs.Ready.{StandsForEither}
 use Rattle.ox_app.specs.Apply.{tip_line}
 

@@ -10,7 +10,7 @@ use Rattle.ox_feed.specs.declared.lines.Line.TheVariants.{Text, Long, End}
 use Rattle.ox_model.specs.Replies.{after_turn}
 use Rattle.ox_model.specs.Stack.{Stack, turn_on}
 use Rattle.ox_model.specs.Stands.{Misfit, stands}
-use Rattle.ox_model.specs.Text.{block_line}
+use Rattle.ox_rules.specs.Text.{block_line}
 use Rattle.ox_app.specs.Fold.{LineDone, NextLine, Replies}
 use Rattle.ox_app.specs.Run.{Says}
 use Rattle.ox_app.specs.declared.carry.Carried.{Carried as CarriedOut}

@@ -7,7 +7,7 @@ ghost use Rattle.ox_gated.specs.Tail.{Holds};
 ghost use Rattle.ox_model.specs.Replies.{after_turn, index_on, reply_by};
 ghost use Rattle.ox_model.specs.Stack.{obeyed_on};
 ghost use Rattle.ox_model.specs.Stands.{stands};
-ghost use Rattle.ox_model.specs.Text.{block_line, refusal_line};
+ghost use Rattle.ox_rules.specs.Text.{block_line, refusal_line};
 ghost use Rattle.ox_store.specs.Ready.{StandsForEither};
 ghost use Rattle.ox_app.specs.Apply.{CarriesOut, after_line, tip_line};
 ghost use Rattle.ox_app.specs.declared.stop.Stop.TheVariants as stops;
@@ -35,7 +35,7 @@ pub struct Carried {
 const LONGEST_OK: usize = 79;
 
 // Puts the line of a newest block.
-#[tactic(auto, unfolding(ox_model::specs::Text::block_line, ox_model::specs::Text::hash_text))]
+#[tactic(auto, unfolding(ox_rules::specs::Text::block_line, ox_rules::specs::Text::hash_text))]
 fn put_block_line(room: &mut Room, height: u32, hash: &[u8; 32])
     requires { room.old.spare ≡ 79 }
     ensures { room.new.filled ≡ room.old.filled ++ block_line height hash.now }

@@ -11,14 +11,15 @@ use Rattle.ox_block.specs.declared.fault.BlockFault.TheVariants.{Malformed as Ba
 use Rattle.ox_sat.specs.Profiles.{IsProfile}
 use Rattle.ox_sat.specs.Heights.{first_at, subsidy_at}
 use Rattle.ox_sat.specs.declared.profiles.Profile.{Profile}
-use Rattle.ox_model.specs.declared.refusal.Refusal.{Refusal}
+use Rattle.ox_rules.specs.declared.refusal.Refusal.{Refusal}
 use Rattle.ox_model.specs.Index.{Index}
-use Rattle.ox_model.specs.Outputs.{sats_held}
-use Rattle.ox_model.specs.Transfer.{Transferred, transfer_of}
+use Rattle.ox_rules.specs.Outputs.{sats_held}
+use Rattle.ox_rules.specs.Transfer.{Transferred, transfer_of}
 use Rattle.ox_model.specs.Step.{or_malformed, admitted, grown, accept, step}
 use Rattle.ox_model.specs.Sound.{Sound}
-use Rattle.ox_model.proofs.Conservation.{times-append}
-use Rattle.ox_model.proofs.Soundness.{first_next, admitted_right, grown_sound}
+use Rattle.ox_rules.proofs.Conservation.{times-append}
+use Rattle.ox_rules.proofs.Transfers.{first_next}
+use Rattle.ox_model.proofs.Soundness.{admitted_right, grown_sound}
 use Rattle.ox_transfer.specs.Apart.{HoldsOnce}
 use Rattle.ox_transfer.specs.Answer as transfers
 use Rattle.ox_transfer.specs.declared.fault.TransferFault.{TransferFault}

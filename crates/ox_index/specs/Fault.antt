@@ -4,8 +4,8 @@ use Rattle.ox_block.specs.declared.fault.BlockFault.{BlockFault}
 use Rattle.ox_block.specs.declared.fault.BlockFault.TheVariants.{Malformed as BadBlock, Memory as NoMemory}
 use Rattle.ox_transfer.specs.declared.fault.TransferFault.{TransferFault}
 use Rattle.ox_transfer.specs.declared.fault.TransferFault.TheVariants.{Refused as BadTransfer, Memory as NoRoom}
-use Rattle.ox_model.specs.declared.refusal.Refusal.{Refusal}
-use Rattle.ox_model.specs.declared.refusal.Refusal.TheVariants.{Malformed}
+use Rattle.ox_rules.specs.declared.refusal.Refusal.{Refusal}
+use Rattle.ox_rules.specs.declared.refusal.Refusal.TheVariants.{Malformed}
 use Rattle.ox_index.specs.declared.fault.ConnectFault.{ConnectFault}
 use Rattle.ox_index.specs.declared.fault.ConnectFault.TheVariants.{Refused, Memory}
 

@@ -3,7 +3,8 @@
 ghost use Rattle.std.specs.Prelude.{◌≡◌, ◌≤◌, length, map, position, IfSome, Ok, IfOk, IfErr, OnOk};
 ghost use Rattle.ox_block.specs.Hashes.{txid};
 ghost use Rattle.ox_block.specs.Spelling.{Lawful};
-ghost use Rattle.ox_model.specs.Step.{newest_of, is_null as names_none, is_coinbase as is_only_null, has_null as names_none_somewhere, misplaced as first_misplaced, admitted};
+ghost use Rattle.ox_rules.specs.Newest.{newest_of};
+ghost use Rattle.ox_model.specs.Step.{is_null as names_none, is_coinbase as is_only_null, has_null as names_none_somewhere, misplaced as first_misplaced, admitted};
 ghost use Rattle.ox_index.specs.Fault.{Refuses};
 
 use crate::fault::ConnectFault;

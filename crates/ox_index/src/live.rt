@@ -4,7 +4,7 @@ ghost use Rattle.std.specs.Prelude.{◌≡◌, Ok, IfOk, IfErr, OnOk, OnErr};
 ghost use Rattle.ox_sat.specs.Profiles.{IsProfile};
 ghost use Rattle.ox_sat.proofs.Known.{IsProfile-prop};
 ghost use Rattle.ox_model.specs.Sound.{Sound};
-ghost use Rattle.ox_model.specs.Text.{ok_text};
+ghost use Rattle.ox_rules.specs.Text.{ok_text};
 ghost use Rattle.ox_outputs.specs.Table.{rows_in};
 
 use crate::admit::{admit, newest};
@@ -33,7 +33,7 @@ pub struct Live {
 impl Live {
     ghost use Rattle.ox_model.specs.Index.{no_blocks};
     ghost use Rattle.ox_model.specs.Step.{step};
-    ghost use Rattle.ox_model.specs.Text.{ok_line};
+    ghost use Rattle.ox_model.specs.Replies.{ok_line};
     ghost use Rattle.ox_index.specs.Live.{profile_in, index_in};
     ghost use Rattle.ox_index.specs.Fault.{Refuses};
 
@@ -133,7 +133,7 @@ impl View for Live {
 }
 
 // The line of an accepted command, by the hashes of the chain.
-#[tactic(auto, unfolding(ox_model::specs::Text::ok_text, ox_model::specs::Text::block_line))]
+#[tactic(auto, unfolding(ox_rules::specs::Text::ok_text, ox_rules::specs::Text::block_line))]
 fn ok_line_of(alloc: Global, hashes: &[[u8; 32]]) -> Result<Bytes, Memory>
     ensures { IfOk result (λ line. line ≡ ok_text hashes.now) }
 {

@@ -1,6 +1,3 @@
-pub mod MapSums
-pub mod Orders
-pub mod Conservation
 pub mod Soundness
 pub mod Counting
 pub mod Standing

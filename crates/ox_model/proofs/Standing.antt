@@ -14,7 +14,7 @@ use Rattle.ox_model.specs.Machine.{Machine, begun, obeyed}
 use Rattle.ox_model.specs.Sound.{Sound}
 use Rattle.ox_model.specs.Stack.{Stack, stack_of, obeyed_on}
 use Rattle.ox_model.specs.Stands.{name_at, begun_at, block_in, accepts, or_at, replayed, judged, in_file, cut_at, stack_in, stands}
-use Rattle.ox_model.specs.declared.refusal.Refusal.{Refusal}
+use Rattle.ox_rules.specs.declared.refusal.Refusal.{Refusal}
 use Rattle.ox_model.proofs.Soundness.{sound_chain}
 use Rattle.ox_model.proofs.Turning.{on_stack, obeys_alike}
 

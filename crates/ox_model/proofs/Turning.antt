@@ -12,9 +12,9 @@ use Rattle.ox_model.specs.Machine.{Machine, indexed, with_block, obeyed, obeyed_
 use Rattle.ox_model.specs.Stack.{Stack, stack_of, with_index, obeyed_on, obeyed_on_if, turn_on}
 use Rattle.ox_model.specs.Replies.{after_turn, reply_by, after_by, replies_by, after, replies, index_on, after_on, replies_on}
 use Rattle.ox_model.specs.Step.{step}
-use Rattle.ox_model.specs.Text.{block_line, ok_text, refusal_line}
-use Rattle.ox_model.specs.declared.refusal.Refusal.{Refusal}
-use Rattle.ox_model.specs.declared.refusal.Refusal.TheVariants.{TooLong, Syntax, Malformed, ChainEnd, Unlinked, BadRoot, Coinbase, BadWitness, UnknownOutput, Overspend, Overclaim, Depth}
+use Rattle.ox_rules.specs.Text.{block_line, ok_text, refusal_line}
+use Rattle.ox_rules.specs.declared.refusal.Refusal.{Refusal}
+use Rattle.ox_rules.specs.declared.refusal.Refusal.TheVariants.{TooLong, Syntax, Malformed, ChainEnd, Unlinked, BadRoot, Coinbase, BadWitness, UnknownOutput, Overspend, Overclaim, Depth}
 
 abbrev pub on_stack : Result Machine Refusal → Result Stack Refusal
 on_stack (Ok machine) = Ok (stack_of machine)

@@ -1,7 +1,7 @@
 -- The index of a chain: fresh indexing of its blocks, from none on.
 use Rattle.std.specs.Prelude.{ℕ, List, fold, Result, Ok, Err}
 use Rattle.ox_sat.specs.declared.profiles.Profile.{Profile}
-use Rattle.ox_model.specs.declared.refusal.Refusal.{Refusal}
+use Rattle.ox_rules.specs.declared.refusal.Refusal.{Refusal}
 use Rattle.ox_model.specs.Index.{Index, no_blocks}
 use Rattle.ox_model.specs.Step.{step}
 

@@ -1,7 +1,7 @@
 -- What the blocks of a chain leave.
 use Rattle.std.specs.Prelude.{ℕ, List, []}
 use Rattle.std.specs.FinMap.{empty}
-use Rattle.ox_model.specs.Outputs.{Outputs}
+use Rattle.ox_rules.specs.Outputs.{Outputs}
 
 pub record Index : Type 0 where
   -- the blocks' hashes, by height, each as serialized

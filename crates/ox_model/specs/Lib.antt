@@ -1,12 +1,8 @@
-pub mod Outputs
 pub mod Index
-pub mod Deal
-pub mod Transfer
 pub mod Where
 pub mod Step
 pub mod Chain
 pub mod Sound
-pub mod Text
 pub mod Machine
 pub mod Stack
 pub mod Replies

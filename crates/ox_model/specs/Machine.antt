@@ -8,8 +8,8 @@ use Rattle.ox_sat.specs.declared.profiles.Profile.{Profile}
 use Rattle.ox_model.specs.Chain.{index_of}
 use Rattle.ox_model.specs.Index.{Index}
 use Rattle.ox_model.specs.Step.{step}
-use Rattle.ox_model.specs.declared.refusal.Refusal.{Refusal}
-use Rattle.ox_model.specs.declared.refusal.Refusal.TheVariants.{TooLong, Syntax, Depth}
+use Rattle.ox_rules.specs.declared.refusal.Refusal.{Refusal}
+use Rattle.ox_rules.specs.declared.refusal.Refusal.TheVariants.{TooLong, Syntax, Depth}
 
 pub record Machine : Type 0 where
   -- the profile by which its chain counts

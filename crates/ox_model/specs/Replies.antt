@@ -5,13 +5,17 @@ use Rattle.ox_model.specs.Index.{Index}
 use Rattle.ox_model.specs.Machine as machines
 use Rattle.ox_model.specs.Machine.{Machine}
 use Rattle.ox_model.specs.Stack.{Stack, turn_on}
-use Rattle.ox_model.specs.Text.{ok_line, refusal_line}
-use Rattle.ox_model.specs.declared.refusal.Refusal.{Refusal}
+use Rattle.ox_rules.specs.Text.{ok_text, refusal_line}
+use Rattle.ox_rules.specs.declared.refusal.Refusal.{Refusal}
 
 -- a refusal changes nothing
 abbrev pub after_turn : {X : Type 0} → X → Result X Refusal → X
 after_turn state (Ok new) = new
 after_turn state (Err refusal) = state
+
+-- the line of an accepted command, by the index then
+abbrev pub ok_line : Index → List ℕ
+ok_line index = ok_text index.hashes
 
 -- the line that answers, by the index of the state after it
 abbrev pub reply_by : {X : Type 0} → (X → Index) → Result X Refusal → List ℕ

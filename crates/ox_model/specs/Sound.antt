@@ -1,16 +1,9 @@
 -- What holds of the index of every chain: each satoshi that a block could claim so far is in one place, and no other is.
-use Rattle.std.specs.Prelude.{◌≡◌, ℕ, ◌+◌, ◌<◌, ◌≤◌, ◌++◌, length, nat_lt, if◌then◌else◌, Some}
-use Rattle.std.specs.FinMap.{get}
-use Rattle.ox_block.specs.declared.block.OutPoint.{OutPoint}
+use Rattle.std.specs.Prelude.{◌≡◌, ℕ, ◌+◌, ◌≤◌, ◌++◌, length, nat_lt, if◌then◌else◌}
 use Rattle.ox_sat.specs.declared.profiles.Profile.{Profile}
 use Rattle.ox_sat.specs.Heights.{first_at}
-use Rattle.ox_model.specs.declared.rows.OutRow.{OutRow}
-use Rattle.ox_model.specs.Outputs.{Outputs, sats_held, times}
+use Rattle.ox_rules.specs.Outputs.{AreBelow, sats_held, times}
 use Rattle.ox_model.specs.Index.{Index}
-
--- each output comes from a block below this height
-abbrev pub AreBelow : ℕ → Outputs → Type 0
-AreBelow height outs = (at : OutPoint) (row : OutRow) → get outs at ≡ Some row → row.height < height
 
 pub record Sound (p : Profile) (index : Index) : Type 0 where
   -- no block stands above the last height

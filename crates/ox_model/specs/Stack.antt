@@ -8,8 +8,8 @@ use Rattle.ox_sat.specs.declared.profiles.Profile.{Profile}
 use Rattle.ox_model.specs.Index.{Index}
 use Rattle.ox_model.specs.Machine.{Machine, indexed}
 use Rattle.ox_model.specs.Step.{step}
-use Rattle.ox_model.specs.declared.refusal.Refusal.{Refusal}
-use Rattle.ox_model.specs.declared.refusal.Refusal.TheVariants.{TooLong, Syntax, Depth}
+use Rattle.ox_rules.specs.declared.refusal.Refusal.{Refusal}
+use Rattle.ox_rules.specs.declared.refusal.Refusal.TheVariants.{TooLong, Syntax, Depth}
 
 pub record Stack : Type 0 where
   pub profile : Profile

@@ -7,7 +7,7 @@ use Rattle.ox_sat.specs.declared.profiles.ProfileName.{ProfileName}
 use Rattle.ox_sat.specs.declared.profiles.ProfileName.TheVariants.{Mainnet, Regtest, Lab}
 use Rattle.ox_model.specs.Stack.{Stack}
 use Rattle.ox_model.specs.Stands.{name_at}
-use Rattle.ox_model.specs.Text.{hash_text}
+use Rattle.ox_rules.specs.Text.{hash_text}
 
 -- the word of a profile
 abbrev pub profile_word : ProfileName → List ℕ

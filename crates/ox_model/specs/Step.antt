@@ -1,5 +1,5 @@
 -- What one block makes of an index, or why it is refused. The tests come in this order, and the first that fails decides.
-use Rattle.std.specs.Prelude.{ℕ, ◌+◌, ◌-◌, Bool, not, slice_get, unwrap_or, bytes_eq, List, [], ◌∷◌, ◌++◌, length, replicate, Option, Some, None, option_map, position, Result, Ok, Err, nat_lt, ◌==◌, ◌&&◌, if◌then◌else◌}
+use Rattle.std.specs.Prelude.{ℕ, ◌+◌, Bool, not, bytes_eq, List, [], ◌∷◌, ◌++◌, length, Option, Some, None, option_map, position, Result, Ok, Err, nat_lt, ◌==◌, ◌&&◌, if◌then◌else◌}
 use Rattle.std.specs.List.{list_any}
 use Rattle.ox_bytes.specs.Reading.{◌>>=◌}
 use Rattle.ox_block.specs.declared.block.Tx.{Tx}
@@ -8,10 +8,11 @@ use Rattle.ox_block.specs.declared.block.Block.{Block}
 use Rattle.ox_block.specs.Reading.{block_of}
 use Rattle.ox_block.specs.Hashes.{block_hash, block_root}
 use Rattle.ox_sat.specs.declared.profiles.Profile.{Profile}
-use Rattle.ox_model.specs.declared.refusal.Refusal.{Refusal}
-use Rattle.ox_model.specs.declared.refusal.Refusal.TheVariants.{Malformed, ChainEnd, Unlinked, BadRoot, Coinbase}
+use Rattle.ox_rules.specs.declared.refusal.Refusal.{Refusal}
+use Rattle.ox_rules.specs.declared.refusal.Refusal.TheVariants.{Malformed, ChainEnd, Unlinked, BadRoot, Coinbase}
 use Rattle.ox_model.specs.Index.{Index}
-use Rattle.ox_model.specs.Transfer.{Transferred, transfer_of}
+use Rattle.ox_rules.specs.Newest.{zero_hash, newest_of}
+use Rattle.ox_rules.specs.Transfer.{Transferred, transfer_of}
 
 -- where a test fails it is this refusal
 abbrev pub refuse_if : Bool → Refusal → Result (Unit {0}) Refusal
@@ -19,13 +20,6 @@ refuse_if fails refusal = if fails then Err refusal else Ok tt
 
 abbrev pub differ : List ℕ → List ℕ → Bool
 differ a b = not (bytes_eq a b)
-
-abbrev pub zero_hash : List ℕ
-zero_hash = replicate 32 0
-
--- the newest block's hash, or zeros before the first block
-abbrev pub newest_of : List (List ℕ) → List ℕ
-newest_of hashes = unwrap_or (slice_get hashes (length hashes - 1)) zero_hash
 
 -- an input that names no output: a txid of zeros and the greatest index
 abbrev pub is_null : TxIn → Bool

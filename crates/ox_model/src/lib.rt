@@ -1,11 +1,6 @@
 //! What the index is, in definitions, and the plain types that they and the crates above share.
 #![tactic(auto)]
 
-mod moved;
-mod place;
-mod refusal;
-mod rows;
-mod table;
 mod view;
 
 ghost use Rattle.std.specs.Prelude.{◌≡◌, ℕ, List, ◌++◌, Ok};
@@ -19,11 +14,10 @@ ghost use Rattle.ox_model.specs.Stands.{stands};
 ghost use Rattle.ox_outside.specs.Files.{Files};
 ghost use Rattle.ox_feed.specs.Feed.{FeedLine};
 
-pub use moved::{Moved, MovedTx, MovedTxs, SpentRows};
-pub use place::Place;
-pub use refusal::{Refusal, hash_text, outpoint_text};
-pub use rows::OutRow;
-pub use table::{Memory, OutTable, Unplaced};
+pub use ox_rules::{
+    Memory, Moved, MovedTx, MovedTxs, OutRow, OutTable, Place, Refusal, SpentRows, Unplaced,
+    hash_text, outpoint_text,
+};
 pub use view::View;
 
 /// The law of satoshis: the index of every chain holds each satoshi that its blocks could claim once, in an output or

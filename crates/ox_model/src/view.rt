@@ -7,9 +7,8 @@ ghost use Rattle.ox_model.specs.Index.{Index};
 ghost use Rattle.ox_model.specs.Where.{where_is};
 ghost use Rattle.ox_model.specs.Sound.{Sound};
 
-use crate::place::Place;
-use crate::rows::OutRow;
 use ox_block::OutPoint;
+use ox_rules::{OutRow, Place};
 use ox_sat::Profile;
 
 /// An index that is sound for its profile, to be read. Nothing here takes memory.

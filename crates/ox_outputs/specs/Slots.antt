@@ -5,12 +5,12 @@ use Rattle.std.specs.Map.{lookup}
 use Rattle.std.specs.BTreeMap.{is_at}
 use Rattle.std.specs.FinMap.{empty, insert, remove}
 use Rattle.ox_block.specs.declared.block.OutPoint.{OutPoint}
-use Rattle.ox_model.specs.declared.rows.OutRow.{OutRow}
+use Rattle.ox_rules.specs.declared.rows.OutRow.{OutRow}
 use Rattle.std.specs.Option.{option_map_or}
-use Rattle.ox_model.specs.declared.place.Place.{Place}
-use Rattle.ox_model.specs.declared.place.Place.TheVariants.{Out}
-use Rattle.ox_model.specs.Outputs.{Outputs, outpoint_cmp}
-use Rattle.ox_model.specs.Where.{place_in}
+use Rattle.ox_rules.specs.declared.place.Place.{Place}
+use Rattle.ox_rules.specs.declared.place.Place.TheVariants.{Out}
+use Rattle.ox_rules.specs.Outputs.{Outputs, outpoint_cmp}
+use Rattle.ox_rules.specs.Where.{place_in}
 
 abbrev pub SlotList : Type 0
 SlotList = List (OutPoint × Option OutRow)

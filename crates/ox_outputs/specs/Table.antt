@@ -1,5 +1,5 @@
 -- What the unspent outputs in memory show.
-use Rattle.ox_model.specs.Outputs.{Outputs as Rows}
+use Rattle.ox_rules.specs.Outputs.{Outputs as Rows}
 use Rattle.ox_outputs.specs.Slots.{rows_of}
 use Rattle.ox_outputs.specs.declared.outputs.Outputs.{Outputs}
 

@@ -9,7 +9,7 @@ use crate::slots::{
     Slots, fill, fill_twice, find, forget, go_back, row_at, settle, take_slot, take_twice,
 };
 use ox_block::OutPoint;
-use ox_model::{Memory, OutRow, OutTable, Place, Unplaced};
+use ox_rules::{Memory, OutRow, OutTable, Place, Unplaced};
 use std::alloc::Global;
 use std::collections::BTreeMap;
 
@@ -29,7 +29,7 @@ pub struct Outputs {
 }
 
 impl Outputs {
-    ghost use Rattle.ox_model.specs.Where.{place_among};
+    ghost use Rattle.ox_rules.specs.Where.{place_among};
     ghost use Rattle.ox_outputs.specs.Table.{rows_in};
 
     /// No outputs, and no mark. It takes no memory until a row is placed.

@@ -5,12 +5,12 @@ ghost use Rattle.std.specs.Option.{option_copied, option_map};
 ghost use Rattle.std.specs.FinMap as map;
 ghost use Rattle.ox_block.specs.declared.block.OutPoint.{OutPoint};
 ghost use Rattle.ox_outputs.specs.Slots.{slot_at, put_slot, rows_of, undone, are_slots, found_among};
-ghost use Rattle.ox_model.specs.Where.{place_among};
-ghost use Rattle.ox_model.specs.Outputs.{outpoint_cmp};
+ghost use Rattle.ox_rules.specs.Where.{place_among};
+ghost use Rattle.ox_rules.specs.Outputs.{outpoint_cmp};
 ghost use Rattle.std.specs.BTreeMap.{IsOrdered};
 
 use ox_block::OutPoint;
-use ox_model::{Memory, OutRow, Place, Unplaced};
+use ox_rules::{Memory, OutRow, Place, Unplaced};
 use std::alloc::Global;
 use std::collections::BTreeMap;
 

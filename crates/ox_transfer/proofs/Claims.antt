@@ -11,15 +11,15 @@ use Rattle.ox_sat.specs.Profiles.{IsProfile}
 use Rattle.ox_sat.specs.Heights.{first_at, subsidy_at}
 use Rattle.ox_sat.proofs.Epochs.{counts, first_most}
 use Rattle.ox_range.specs.Numbers.{numbers_from}
-use Rattle.ox_model.specs.declared.rows.OutRow.{OutRow}
-use Rattle.ox_model.specs.declared.moved.MovedTx.{MovedTx}
-use Rattle.ox_model.specs.declared.refusal.Refusal.{Refusal}
-use Rattle.ox_model.specs.declared.refusal.Refusal.TheVariants.{Overclaim}
-use Rattle.ox_model.specs.Deal.{deal}
-use Rattle.ox_model.specs.Outputs.{Outputs, sats_of, times}
-use Rattle.ox_model.specs.Transfer.{or_refuse, named, Placed, place_rows, values_of, Spent, spend_all, Transferred, claimed_by, claimable, claim, transfer_of}
-use Rattle.ox_model.proofs.Conservation.{times-append, times_held, joined, deal_keeps, place_keeps, bind_ok}
-use Rattle.ox_model.proofs.Soundness.{spend_all_keeps, claim_keeps, counts_numbers}
+use Rattle.ox_rules.specs.declared.rows.OutRow.{OutRow}
+use Rattle.ox_rules.specs.declared.moved.MovedTx.{MovedTx}
+use Rattle.ox_rules.specs.declared.refusal.Refusal.{Refusal}
+use Rattle.ox_rules.specs.declared.refusal.Refusal.TheVariants.{Overclaim}
+use Rattle.ox_rules.specs.Deal.{deal}
+use Rattle.ox_rules.specs.Outputs.{Outputs, sats_of, times}
+use Rattle.ox_rules.specs.Transfer.{or_refuse, named, Placed, place_rows, values_of, Spent, spend_all, Transferred, claimed_by, claimable, claim, transfer_of}
+use Rattle.ox_rules.proofs.Conservation.{times-append, times_held, joined, deal_keeps, place_keeps, bind_ok}
+use Rattle.ox_rules.proofs.Transfers.{spend_all_keeps, claim_keeps, counts_numbers}
 use Rattle.ox_transfer.specs.declared.fault.TransferFault.{TransferFault}
 use Rattle.ox_transfer.specs.declared.fault.TransferFault.TheVariants.{Refused, Memory}
 use Rattle.ox_transfer.specs.Answer.{Refuses}

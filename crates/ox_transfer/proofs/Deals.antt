@@ -6,7 +6,7 @@ use Rattle.std.proofs.lemmas.List.{append-nil, drop-drop, drop-take, take-take, 
 use Rattle.std.proofs.lemmas.List.Sums.{sum_by-cons, sum_by_push, sum-map}
 use Rattle.std.proofs.lemmas.Bool.Decides.{nat_tests}
 use Rattle.ox_block.specs.declared.block.TxOut.{TxOut}
-use Rattle.ox_model.specs.Deal.{deal}
+use Rattle.ox_rules.specs.Deal.{deal}
 use Rattle.ox_transfer.specs.Parts.{values}
 
 abbrev onto : List ℕ → Option (List (List ℕ) × List ℕ) → Option (List (List ℕ) × List ℕ)

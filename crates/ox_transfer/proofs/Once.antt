@@ -6,12 +6,12 @@ use Rattle.std.specs.FinMap.{get, insert, remove, entries, empty, len-empty, len
 use Rattle.std.proofs.lemmas.List.Sums.{sum_by-cons}
 use Rattle.std.proofs.lemmas.Bool.Decides.{nat_tests}
 use Rattle.ox_block.specs.declared.block.OutPoint.{OutPoint}
-use Rattle.ox_model.specs.declared.rows.OutRow.{OutRow}
-use Rattle.ox_model.specs.Outputs.{Outputs, outpoint_cmp, sats_of, sats_held, times, MayStand}
-use Rattle.ox_model.specs.Transfer.{as_list}
-use Rattle.ox_model.proofs.MapSums.{total, total_insert, total_remove}
-use Rattle.ox_model.proofs.Orders.{outpoints_total, outpoints_exact}
-use Rattle.ox_model.proofs.Conservation.{times-append, held, times_held}
+use Rattle.ox_rules.specs.declared.rows.OutRow.{OutRow}
+use Rattle.ox_rules.specs.Outputs.{Outputs, outpoint_cmp, sats_of, sats_held, times, MayStand}
+use Rattle.ox_rules.specs.Transfer.{as_list}
+use Rattle.ox_rules.proofs.MapSums.{total, total_insert, total_remove}
+use Rattle.ox_rules.proofs.Orders.{outpoints_total, outpoints_exact}
+use Rattle.ox_rules.proofs.Conservation.{times-append, held, times_held}
 use Rattle.ox_transfer.specs.Apart.{at_most, HoldsOnce, Apart}
 
 pub times-cons : (sat x : ℕ) (xs : List ℕ) → times sat (x ∷ xs) ≡ cond (x == sat) 1 0 + times sat xs

@@ -7,10 +7,10 @@ use Rattle.std.proofs.lemmas.List.Concat.{flat_map-append}
 use Rattle.ox_block.specs.declared.block.Txid.{Txid}
 use Rattle.ox_block.specs.declared.block.OutPoint.{OutPoint}
 use Rattle.ox_block.specs.declared.block.TxOut.{TxOut}
-use Rattle.ox_model.specs.declared.rows.OutRow.{OutRow}
-use Rattle.ox_model.specs.Outputs.{Outputs, sats_of}
-use Rattle.ox_model.specs.Transfer.{Placed, as_list, place_rows}
-use Rattle.ox_model.proofs.Conservation.{times-append}
+use Rattle.ox_rules.specs.declared.rows.OutRow.{OutRow}
+use Rattle.ox_rules.specs.Outputs.{Outputs, sats_of}
+use Rattle.ox_rules.specs.Transfer.{Placed, as_list, place_rows}
+use Rattle.ox_rules.proofs.Conservation.{times-append}
 use Rattle.ox_transfer.specs.Apart.{Apart}
 use Rattle.ox_transfer.specs.Parts.{joined, placed_of}
 use Rattle.ox_transfer.proofs.Once.{fits, apart_less, apart_place, row_held}

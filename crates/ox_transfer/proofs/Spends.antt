@@ -7,15 +7,15 @@ use Rattle.ox_block.specs.declared.block.Txid.{Txid}
 use Rattle.ox_block.specs.declared.block.TxOut.{TxOut}
 use Rattle.ox_block.specs.declared.block.Tx.{Tx}
 use Rattle.ox_block.specs.Hashes as hashes
-use Rattle.ox_model.specs.declared.rows.OutRow.{OutRow}
-use Rattle.ox_model.specs.declared.moved.MovedTx.{MovedTx}
-use Rattle.ox_model.specs.declared.refusal.Refusal.{Refusal}
-use Rattle.ox_model.specs.declared.refusal.Refusal.TheVariants.{Overspend}
-use Rattle.ox_model.specs.Deal.{deal}
-use Rattle.ox_model.specs.Outputs.{Outputs, sats_of, times}
-use Rattle.ox_model.specs.Transfer.{or_refuse, named, Taken, take_rows, Placed, place_rows, values_of, Spent, spent_by, spend, spend_all}
-use Rattle.ox_model.proofs.Conservation.{times-append, times_held, joined, deal_keeps, take_keeps, bind_ok}
-use Rattle.ox_model.proofs.Soundness.{spend_keeps}
+use Rattle.ox_rules.specs.declared.rows.OutRow.{OutRow}
+use Rattle.ox_rules.specs.declared.moved.MovedTx.{MovedTx}
+use Rattle.ox_rules.specs.declared.refusal.Refusal.{Refusal}
+use Rattle.ox_rules.specs.declared.refusal.Refusal.TheVariants.{Overspend}
+use Rattle.ox_rules.specs.Deal.{deal}
+use Rattle.ox_rules.specs.Outputs.{Outputs, sats_of, times}
+use Rattle.ox_rules.specs.Transfer.{or_refuse, named, Taken, take_rows, Placed, place_rows, values_of, Spent, spent_by, spend, spend_all}
+use Rattle.ox_rules.proofs.Conservation.{times-append, times_held, joined, deal_keeps, take_keeps, bind_ok}
+use Rattle.ox_rules.proofs.Transfers.{spend_keeps}
 use Rattle.ox_transfer.specs.declared.fault.TransferFault.{TransferFault}
 use Rattle.ox_transfer.specs.declared.fault.TransferFault.TheVariants.{Refused, Memory}
 use Rattle.ox_transfer.specs.Answer.{Refuses}

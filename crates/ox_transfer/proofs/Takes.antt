@@ -6,11 +6,11 @@ use Rattle.ox_bytes.specs.Reading.{◌>>=◌}
 use Rattle.std.proofs.lemmas.List.Concat.{flat_map-append}
 use Rattle.ox_block.specs.declared.block.OutPoint.{OutPoint}
 use Rattle.ox_block.specs.declared.block.TxIn.{TxIn}
-use Rattle.ox_model.specs.declared.rows.OutRow.{OutRow}
-use Rattle.ox_model.specs.declared.refusal.Refusal.{Refusal}
-use Rattle.ox_model.specs.declared.refusal.Refusal.TheVariants.{UnknownOutput}
-use Rattle.ox_model.specs.Outputs.{Outputs, sats_of}
-use Rattle.ox_model.specs.Transfer.{or_refuse, Taken, take_rows}
+use Rattle.ox_rules.specs.declared.rows.OutRow.{OutRow}
+use Rattle.ox_rules.specs.declared.refusal.Refusal.{Refusal}
+use Rattle.ox_rules.specs.declared.refusal.Refusal.TheVariants.{UnknownOutput}
+use Rattle.ox_rules.specs.Outputs.{Outputs, sats_of}
+use Rattle.ox_rules.specs.Transfer.{or_refuse, Taken, take_rows}
 use Rattle.ox_transfer.specs.declared.fault.TransferFault.{TransferFault}
 use Rattle.ox_transfer.specs.declared.fault.TransferFault.TheVariants.{Refused, Memory}
 use Rattle.ox_transfer.specs.Answer.{Refuses}

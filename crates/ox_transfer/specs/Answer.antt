@@ -1,6 +1,6 @@
 -- What a call answers against what the definition does. Want of memory is free, and nothing else.
 use Rattle.std.specs.Prelude.{◌≡◌, Result, Ok, Err}
-use Rattle.ox_model.specs.declared.refusal.Refusal.{Refusal}
+use Rattle.ox_rules.specs.declared.refusal.Refusal.{Refusal}
 use Rattle.ox_transfer.specs.declared.fault.TransferFault.{TransferFault}
 use Rattle.ox_transfer.specs.declared.fault.TransferFault.TheVariants.{Refused, Memory}
 

@@ -1,6 +1,6 @@
 -- Each satoshi is in one place.
 use Rattle.std.specs.Prelude.{ℕ, ◌+◌, ◌≤◌, List, nat_lt, if◌then◌else◌}
-use Rattle.ox_model.specs.Outputs.{Outputs, sats_held, times}
+use Rattle.ox_rules.specs.Outputs.{Outputs, sats_held, times}
 
 -- how often a satoshi may stand where those below a bound are known
 abbrev pub at_most : ℕ → ℕ → ℕ

@@ -3,11 +3,11 @@ use Rattle.std.specs.Prelude.{ℕ, List, ◌++◌, map, Result, Ok}
 use Rattle.std.specs.List.{flat_map}
 use Rattle.ox_bytes.specs.Reading.{◌>>=◌}
 use Rattle.ox_block.specs.declared.block.TxOut.{TxOut}
-use Rattle.ox_model.specs.declared.rows.OutRow.{OutRow}
-use Rattle.ox_model.specs.declared.moved.Moved.{Moved}
-use Rattle.ox_model.specs.declared.refusal.Refusal.{Refusal}
-use Rattle.ox_model.specs.Outputs.{Outputs}
-use Rattle.ox_model.specs.Transfer.{Taken, Placed, Spent, Transferred}
+use Rattle.ox_rules.specs.declared.rows.OutRow.{OutRow}
+use Rattle.ox_rules.specs.declared.moved.Moved.{Moved}
+use Rattle.ox_rules.specs.declared.refusal.Refusal.{Refusal}
+use Rattle.ox_rules.specs.Outputs.{Outputs}
+use Rattle.ox_rules.specs.Transfer.{Taken, Placed, Spent, Transferred}
 use Rattle.ox_transfer.specs.declared.spend.Work.{Work}
 
 -- the satoshis of all outputs, one by one

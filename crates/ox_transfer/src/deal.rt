@@ -2,12 +2,12 @@
 
 ghost use Rattle.std.specs.Prelude.{◌≡◌, ◌≤◌, length, reverse, sum, sum_by, Some, IfOk};
 ghost use Rattle.ox_block.specs.Spelling.{most_value};
-ghost use Rattle.ox_model.specs.Deal.{deal};
+ghost use Rattle.ox_rules.specs.Deal.{deal};
 ghost use Rattle.ox_transfer.specs.Parts.{values};
 
 use ox_block::TxOut;
-use ox_model::Memory;
 use ox_range::Ranges;
+use ox_rules::Memory;
 use std::alloc::Global;
 
 /// The parts of the outputs, the last output's first, and what is left over.

@@ -3,7 +3,7 @@
 ghost use Rattle.std.specs.Prelude.{◌≡◌};
 ghost use Rattle.ox_transfer.specs.declared.fault.TransferFault.TheVariants as faults;
 
-use ox_model::Refusal;
+use ox_rules::Refusal;
 use std::alloc::{AllocError, AllocFailed};
 
 /// Why a block's satoshis can't be moved.
@@ -15,10 +15,10 @@ pub enum TransferFault {
     Memory,
 }
 
-impl From<ox_model::Memory> for TransferFault {
+impl From<ox_rules::Memory> for TransferFault {
     ghost from_gives = { λ _ e. e ≡ faults.Memory };
 
-    fn from(_e: ox_model::Memory) -> TransferFault {
+    fn from(_e: ox_rules::Memory) -> TransferFault {
         TransferFault::Memory
     }
 }

@@ -5,7 +5,7 @@ ghost use Rattle.ox_sat.specs.Profiles.{IsProfile};
 ghost use Rattle.ox_sat.specs.Heights.{first_at};
 ghost use Rattle.ox_block.specs.Hashes.{txid};
 ghost use Rattle.ox_block.specs.Spelling.{Lawful};
-ghost use Rattle.ox_model.specs.Transfer.{claim, transfer_of};
+ghost use Rattle.ox_rules.specs.Transfer.{claim, transfer_of};
 ghost use Rattle.ox_transfer.specs.Answer.{Answers, Refuses};
 ghost use Rattle.ox_transfer.specs.Apart.{HoldsOnce, Apart};
 ghost use Rattle.ox_transfer.specs.Counts.{Counted};
@@ -16,8 +16,8 @@ use crate::fault::TransferFault;
 use crate::place::place_outputs;
 use crate::spend::{Work, spend_txs};
 use ox_block::{Block, Tx, Txid, Txids};
-use ox_model::{Moved, MovedTx, MovedTxs, OutTable, Refusal, SpentRows};
 use ox_range::Ranges;
+use ox_rules::{Moved, MovedTx, MovedTxs, OutTable, Refusal, SpentRows};
 use ox_sat::{Profile, first, subsidy};
 use std::alloc::Global;
 

@@ -3,15 +3,15 @@
 ghost use Rattle.std.specs.Prelude.{◌≡◌, ◌≤◌, ◌^◌, ◌++◌, length, reverse, IfOk, OnOk};
 ghost use Rattle.std.specs.FinMap as map;
 ghost use Rattle.ox_block.specs.Spelling.{most_bytes};
-ghost use Rattle.ox_model.specs.Outputs.{sats_of};
-ghost use Rattle.ox_model.specs.Transfer.{as_list, place_rows};
+ghost use Rattle.ox_rules.specs.Outputs.{sats_of};
+ghost use Rattle.ox_rules.specs.Transfer.{as_list, place_rows};
 ghost use Rattle.ox_transfer.specs.Apart.{Apart};
 ghost use Rattle.ox_transfer.specs.Parts.{joined, placed_of};
 
 use ox_block::{OutPoint, TxOut, Txid};
 use ox_bytes::Bytes;
-use ox_model::{Memory, OutRow, OutTable};
 use ox_range::Ranges;
+use ox_rules::{Memory, OutRow, OutTable};
 use std::alloc::Global;
 
 /// Places a row. One that it displaces goes to the displaced ones, and its satoshis are lost.

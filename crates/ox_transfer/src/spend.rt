@@ -4,7 +4,7 @@ ghost use Rattle.std.specs.Prelude.{◌≡◌, ◌≤◌, ◌^◌, ◌++◌, [],
 ghost use Rattle.std.specs.List.{All};
 ghost use Rattle.ox_block.specs.Hashes.{txid};
 ghost use Rattle.ox_block.specs.Spelling.{most_bytes};
-ghost use Rattle.ox_model.specs.Transfer.{spend, spend_all};
+ghost use Rattle.ox_rules.specs.Transfer.{spend, spend_all};
 ghost use Rattle.ox_transfer.specs.Answer.{Answers};
 ghost use Rattle.ox_transfer.specs.Apart.{Apart};
 ghost use Rattle.ox_transfer.specs.Counts.{Counted};
@@ -15,8 +15,8 @@ use crate::fault::TransferFault;
 use crate::place::place_outputs;
 use crate::take::take_inputs;
 use ox_block::{Tx, Txid};
-use ox_model::{MovedTx, OutTable, Refusal, SpentRows};
 use ox_range::Ranges;
+use ox_rules::{MovedTx, OutTable, Refusal, SpentRows};
 use std::alloc::Global;
 
 /// What transactions did so far: their entries, the satoshis that are lost by displacement, and the fees.

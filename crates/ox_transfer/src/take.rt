@@ -3,16 +3,16 @@
 ghost use Rattle.std.specs.Prelude.{◌≡◌, ◌≤◌, ◌^◌, [], length, IfOk, OnOk};
 ghost use Rattle.std.specs.FinMap as map;
 ghost use Rattle.ox_block.specs.Spelling.{most_bytes};
-ghost use Rattle.ox_model.specs.Outputs.{sats_of};
-ghost use Rattle.ox_model.specs.Transfer.{or_refuse, take_rows};
+ghost use Rattle.ox_rules.specs.Outputs.{sats_of};
+ghost use Rattle.ox_rules.specs.Transfer.{or_refuse, take_rows};
 ghost use Rattle.ox_transfer.specs.Answer.{Answers};
 ghost use Rattle.ox_transfer.specs.Apart.{Apart};
 ghost use Rattle.ox_transfer.specs.Parts.{taken_of};
 
 use crate::fault::TransferFault;
 use ox_block::{OutPoint, TxIn};
-use ox_model::{OutRow, OutTable, Refusal};
 use ox_range::Ranges;
+use ox_rules::{OutRow, OutTable, Refusal};
 use std::alloc::Global;
 
 /// Rows that were taken out of the table, and their satoshis, joined.

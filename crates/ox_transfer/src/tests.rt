@@ -8,9 +8,9 @@ ghost use Rattle.ox_transfer.specs.Apart.{HoldsOnce};
 
 use crate::{TransferFault, transfer};
 use ox_block::{Block, OutPoint, Txid, read_block, txid_of, txids_of};
-use ox_model::{Moved, MovedTx, OutTable, Refusal};
 use ox_outputs::Outputs;
 use ox_range::Ranges;
+use ox_rules::{Moved, MovedTx, OutTable, Refusal};
 use ox_sat::{ProfileName, profile_of};
 use std::alloc::Global;
 use std::process::Abort;

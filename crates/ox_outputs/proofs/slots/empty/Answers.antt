@@ -2,7 +2,7 @@ use Rattle.std.proofs.Common.{◌∙◌, sym, ap, subst, refl, Option}
 use Rattle.std.specs.Prelude.{IsSome}
 use Rattle.std.specs.BTreeMap.{BTreeMap}
 use Rattle.ox_block.specs.declared.block.OutPoint.{OutPoint}
-use Rattle.ox_model.specs.declared.rows.OutRow.{OutRow}
+use Rattle.ox_rules.specs.declared.rows.OutRow.{OutRow}
 use Rattle.ox_outputs.specs.Slots.{rows_of, put_slot}
 use Rattle.ox_outputs.proofs.SlotLemmas.{held, get-rows_of, rows_of_put, still_there, put_none}
 use Rattle.ox_outputs.proofs.slots.empty.Goals as goal

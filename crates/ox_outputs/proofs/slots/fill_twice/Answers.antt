@@ -1,7 +1,7 @@
 use Rattle.std.proofs.Common.{◌≡◌, ◌∙◌, sym, ap, Option, Some, None}
 use Rattle.std.specs.FinMap as map
-use Rattle.ox_model.specs.declared.rows.OutRow.{OutRow}
-use Rattle.ox_model.specs.Outputs.{Outputs}
+use Rattle.ox_rules.specs.declared.rows.OutRow.{OutRow}
+use Rattle.ox_rules.specs.Outputs.{Outputs}
 use Rattle.ox_outputs.specs.Slots.{rows_of}
 use Rattle.ox_outputs.proofs.SlotLemmas.{get-put_slot_same, put_again}
 use Rattle.ox_outputs.proofs.slots.fill_twice.Goals as goal

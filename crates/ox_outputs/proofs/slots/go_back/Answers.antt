@@ -1,5 +1,5 @@
 use Rattle.std.proofs.Common.{◌≡◌, ◌∙◌, ◌<◌, sym, ap, arith, length, length-append, List, Option, [], ◌∷◌}
-use Rattle.ox_model.specs.declared.rows.OutRow.{OutRow}
+use Rattle.ox_rules.specs.declared.rows.OutRow.{OutRow}
 use Rattle.ox_outputs.specs.Slots.{rows_of, undone}
 use Rattle.ox_outputs.proofs.SlotLemmas.{no_rows, undo_step, slots_kept, slot_known}
 use Rattle.ox_outputs.proofs.slots.go_back.Goals as goal

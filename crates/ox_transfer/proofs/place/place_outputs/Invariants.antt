@@ -1,7 +1,7 @@
 use Rattle.std.proofs.Common.{◌≡◌, ◌+◌, ◌^◌, ◌++◌, drop, length}
 use Rattle.std.specs.Prelude.{reverse}
-use Rattle.ox_model.specs.Outputs.{sats_of}
-use Rattle.ox_model.specs.Transfer.{place_rows}
+use Rattle.ox_rules.specs.Outputs.{sats_of}
+use Rattle.ox_rules.specs.Transfer.{place_rows}
 use Rattle.ox_transfer.specs.Apart.{Apart}
 use Rattle.ox_transfer.specs.Parts.{joined}
 use Rattle.ox_transfer.proofs.Places.{behind_placed}

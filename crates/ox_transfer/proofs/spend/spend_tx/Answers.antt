@@ -1,7 +1,7 @@
 use Rattle.std.proofs.Common.{◌∙◌, ◌++◌, ◌∷◌, [], List, ℕ, arith, ◌^◌}
 use Rattle.std.specs.Prelude.{reverse}
 use Rattle.std.proofs.lemmas.Result.{err_from_is_err_and}
-use Rattle.ox_model.proofs.Conservation.{times-append}
+use Rattle.ox_rules.proofs.Conservation.{times-append}
 use Rattle.ox_transfer.specs.Parts.{spent_of}
 use Rattle.ox_transfer.proofs.Once.{apart_less}
 use Rattle.ox_transfer.proofs.Spends.{untaken, too_much, spent_whole, apart_taken, apart_dealt, as_many, length-values, fits_behind, apart_spent}

@@ -1,5 +1,5 @@
 use Rattle.std.proofs.Common.{◌≡◌, ◌+◌, ◌^◌, ◌++◌, drop}
-use Rattle.ox_model.specs.Transfer.{spend_all}
+use Rattle.ox_rules.specs.Transfer.{spend_all}
 use Rattle.ox_transfer.specs.Apart.{Apart}
 use Rattle.ox_transfer.specs.Parts.{spent_of, all_behind}
 use Rattle.ox_transfer.proofs.spend.spend_txs.Given as goal

@@ -1,6 +1,6 @@
 use Rattle.std.proofs.Common.{◌∙◌, refl, sym, ap, subst, ◌^◌}
 use Rattle.std.proofs.lemmas.Result.{err_from_is_err_and}
-use Rattle.ox_model.specs.Outputs.{sats_of}
+use Rattle.ox_rules.specs.Outputs.{sats_of}
 use Rattle.ox_transfer.specs.Apart.{Apart}
 use Rattle.ox_transfer.proofs.Takes.{behind_no_row, take_more, take_fails, take_done, found, joined_more, apart_more, taken_fits}
 use Rattle.ox_transfer.proofs.take.take_inputs.Goals as goal

@@ -1,6 +1,6 @@
 use Rattle.std.proofs.Common.{◌≡◌, ◌^◌, drop}
-use Rattle.ox_model.specs.Outputs.{sats_of}
-use Rattle.ox_model.specs.Transfer.{take_rows}
+use Rattle.ox_rules.specs.Outputs.{sats_of}
+use Rattle.ox_rules.specs.Transfer.{take_rows}
 use Rattle.ox_transfer.specs.Apart.{Apart}
 use Rattle.ox_transfer.proofs.Takes.{behind_rows}
 use Rattle.ox_transfer.proofs.take.take_inputs.Given as goal

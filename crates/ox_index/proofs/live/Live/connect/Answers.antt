@@ -4,7 +4,7 @@ use Rattle.std.specs.Prelude.{Ok}
 use Rattle.ox_model.specs.Index.{Index}
 use Rattle.ox_model.specs.Sound.{Sound}
 use Rattle.ox_model.specs.Step.{admitted}
-use Rattle.ox_model.specs.Transfer.{Transferred, transfer_of}
+use Rattle.ox_rules.specs.Transfer.{Transferred, transfer_of}
 use Rattle.ox_model.proofs.Soundness.{admitted_right, grown_sound}
 use Rattle.ox_outputs.specs.Table.{rows_in}
 use Rattle.ox_transfer.specs.Answer as transfers

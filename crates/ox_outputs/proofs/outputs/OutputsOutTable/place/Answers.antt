@@ -1,6 +1,6 @@
 use Rattle.std.proofs.Common.{◌≡◌, ◌∙◌, ap, List, Option, Some, [], ◌∷◌, ◌++◌}
 use Rattle.ox_block.specs.declared.block.OutPoint.{OutPoint}
-use Rattle.ox_model.specs.declared.rows.OutRow.{OutRow}
+use Rattle.ox_rules.specs.declared.rows.OutRow.{OutRow}
 use Rattle.ox_outputs.specs.Slots.{rows_of}
 use Rattle.ox_outputs.proofs.SlotLemmas.{known_more, known_still, both_grown, both_still, mark_kept, same_mark}
 use Rattle.ox_outputs.proofs.outputs.OutputsOutTable.place.Goals as goal

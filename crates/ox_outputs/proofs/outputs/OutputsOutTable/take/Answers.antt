@@ -2,7 +2,7 @@ use Rattle.std.proofs.Common.{◌≡◌, ◌∙◌, sym, ap, List, Option, Some,
 use Rattle.std.specs.Prelude.{IsSome}
 use Rattle.std.specs.FinMap as map
 use Rattle.ox_block.specs.declared.block.OutPoint.{OutPoint}
-use Rattle.ox_model.specs.declared.rows.OutRow.{OutRow}
+use Rattle.ox_rules.specs.declared.rows.OutRow.{OutRow}
 use Rattle.ox_outputs.specs.Slots.{rows_of, slot_at}
 use Rattle.ox_outputs.proofs.SlotLemmas.{put_none, row_known, known_more, known_still, both_grown, both_still, mark_kept, mark_still, same_mark, twice_none, twice_some}
 use Rattle.ox_outputs.proofs.outputs.OutputsOutTable.take.Goals as goal

@@ -1,7 +1,7 @@
 //! Why a command is refused, and the line that says so.
 
 ghost use Rattle.std.specs.Prelude.{◌≡◌, ◌++◌, IfOk, codes, decimal, string_bytes};
-ghost use Rattle.ox_model.specs.Text.{hash_text as printed, outpoint_text as printed_outpoint, pair_text as printed_pair, refusal_line};
+ghost use Rattle.ox_rules.specs.Text.{hash_text as printed, outpoint_text as printed_outpoint, pair_text as printed_pair, refusal_line};
 
 use ox_block::OutPoint;
 use ox_bytes::{Bytes, Memory};

@@ -7,7 +7,7 @@ use Rattle.std.specs.Cmp.Lexicographic.{nat_list_cmp_total}
 use Rattle.std.specs.FinMap.{IsAntisymmetric, nat_cmp-IsAntisymmetric, slice_cmp-IsAntisymmetric}
 use Rattle.std.proofs.lemmas.Cmp.{then_total, on_total, nat_cmp_total}
 use Rattle.ox_block.specs.declared.block.OutPoint.{OutPoint}
-use Rattle.ox_model.specs.Outputs.{outpoint_cmp}
+use Rattle.ox_rules.specs.Outputs.{outpoint_cmp}
 
 pub outpoints_total : IsTotalOrder outpoint_cmp
 outpoints_total = then_total (on_total (λ (o : OutPoint). o.txid.0) nat_list_cmp_total) (on_total (λ (o : OutPoint). o.index) nat_cmp_total)

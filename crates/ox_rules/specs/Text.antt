@@ -1,11 +1,10 @@
--- The lines that answer a command.
+-- The lines that answer a command, and how the hashes and outpoints in them are printed.
 use Rattle.std.specs.Prelude.{ℕ, ◌-◌, ◌==◌, List, ◌++◌, length, reverse, codes, decimal, if◌then◌else◌}
 use Rattle.hex.specs.Hex.{encode_lower}
 use Rattle.ox_block.specs.declared.block.OutPoint.{OutPoint}
-use Rattle.ox_model.specs.Index.{Index}
-use Rattle.ox_model.specs.Step.{newest_of}
-use Rattle.ox_model.specs.declared.refusal.Refusal.{Refusal}
-use Rattle.ox_model.specs.declared.refusal.Refusal.TheVariants.{TooLong, Syntax, Malformed, ChainEnd, Unlinked, BadRoot, Coinbase, BadWitness, UnknownOutput, Overspend, Overclaim, Depth}
+use Rattle.ox_rules.specs.Newest.{newest_of}
+use Rattle.ox_rules.specs.declared.refusal.Refusal.{Refusal}
+use Rattle.ox_rules.specs.declared.refusal.Refusal.TheVariants.{TooLong, Syntax, Malformed, ChainEnd, Unlinked, BadRoot, Coinbase, BadWitness, UnknownOutput, Overspend, Overclaim, Depth}
 
 -- a hash as it is printed: its bytes in reversed order, each as two lower-case hex digits
 unfoldable pub hash_text : List ℕ → List ℕ
@@ -41,7 +40,3 @@ block_line height hash = codes "ok " ++ decimal height ++ codes " " ++ hash_text
 -- the line of an accepted command, by the hashes of the chain then
 unfoldable pub ok_text : List (List ℕ) → List ℕ
 ok_text hashes = if length hashes == 0 then codes "ok empty\n" else block_line (length hashes - 1) (newest_of hashes)
-
--- the same, by the index
-abbrev pub ok_line : Index → List ℕ
-ok_line index = ok_text index.hashes

@@ -15,7 +15,7 @@ pub struct SpentRows {
 
 impl Model for SpentRows {
     ghost use Rattle.std.specs.Prelude.{List};
-    ghost use Rattle.ox_model.specs.declared.rows.OutRow.{OutRow};
+    ghost use Rattle.ox_rules.specs.declared.rows.OutRow.{OutRow};
 
     ghost Value = { List OutRow };
 
@@ -80,7 +80,7 @@ pub struct MovedTxs {
 
 impl Model for MovedTxs {
     ghost use Rattle.std.specs.Prelude.{List};
-    ghost use Rattle.ox_model.specs.declared.moved.MovedTx.{MovedTx};
+    ghost use Rattle.ox_rules.specs.declared.moved.MovedTx.{MovedTx};
 
     ghost Value = { List MovedTx };
 

@@ -13,13 +13,13 @@ use Rattle.ox_block.specs.Hashes.{txid}
 use Rattle.ox_sat.specs.declared.profiles.Profile.{Profile}
 use Rattle.ox_sat.specs.Heights.{subsidy_at, first_at}
 use Rattle.ox_range.specs.Numbers.{numbers_from}
-use Rattle.ox_model.specs.declared.rows.OutRow.{OutRow}
-use Rattle.ox_model.specs.declared.moved.MovedTx.{MovedTx}
-use Rattle.ox_model.specs.declared.moved.Moved.{Moved}
-use Rattle.ox_model.specs.declared.refusal.Refusal.{Refusal}
-use Rattle.ox_model.specs.declared.refusal.Refusal.TheVariants.{UnknownOutput, Overspend, Overclaim}
-use Rattle.ox_model.specs.Outputs.{Outputs, sats_of}
-use Rattle.ox_model.specs.Deal.{deal}
+use Rattle.ox_rules.specs.declared.rows.OutRow.{OutRow}
+use Rattle.ox_rules.specs.declared.moved.MovedTx.{MovedTx}
+use Rattle.ox_rules.specs.declared.moved.Moved.{Moved}
+use Rattle.ox_rules.specs.declared.refusal.Refusal.{Refusal}
+use Rattle.ox_rules.specs.declared.refusal.Refusal.TheVariants.{UnknownOutput, Overspend, Overclaim}
+use Rattle.ox_rules.specs.Outputs.{Outputs, sats_of}
+use Rattle.ox_rules.specs.Deal.{deal}
 
 -- a transaction's id, as an outpoint has it
 abbrev pub named : Tx → Txid

@@ -3,7 +3,7 @@
 ghost use Rattle.std.specs.Prelude.{◌≡◌, Option, Some, None, IsSome, IfOk, IfErr, OnOk, OnErr};
 ghost use Rattle.std.specs.Option.{option_copied};
 ghost use Rattle.std.specs.FinMap as map;
-ghost use Rattle.ox_model.specs.Outputs.{Outputs, MayStand};
+ghost use Rattle.ox_rules.specs.Outputs.{Outputs, MayStand};
 
 use crate::rows::OutRow;
 use ox_block::OutPoint;

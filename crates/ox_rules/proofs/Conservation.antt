@@ -11,14 +11,14 @@ use Rattle.ox_block.specs.declared.block.Txid.{Txid}
 use Rattle.ox_block.specs.declared.block.OutPoint.{OutPoint}
 use Rattle.ox_block.specs.declared.block.TxIn.{TxIn}
 use Rattle.ox_block.specs.declared.block.TxOut.{TxOut}
-use Rattle.ox_model.specs.declared.rows.OutRow.{OutRow}
-use Rattle.ox_model.specs.declared.refusal.Refusal.{Refusal}
-use Rattle.ox_model.specs.declared.refusal.Refusal.TheVariants.{UnknownOutput}
-use Rattle.ox_model.specs.Deal.{deal}
-use Rattle.ox_model.specs.Outputs.{Outputs, sats_of, sats_held, times}
-use Rattle.ox_model.specs.Transfer.{or_refuse, Taken, take_rows, Placed, as_list, place_rows}
-use Rattle.ox_model.proofs.MapSums.{total, total_insert, total_remove}
-use Rattle.ox_model.proofs.Orders.{outpoints_total, outpoints_exact}
+use Rattle.ox_rules.specs.declared.rows.OutRow.{OutRow}
+use Rattle.ox_rules.specs.declared.refusal.Refusal.{Refusal}
+use Rattle.ox_rules.specs.declared.refusal.Refusal.TheVariants.{UnknownOutput}
+use Rattle.ox_rules.specs.Deal.{deal}
+use Rattle.ox_rules.specs.Outputs.{Outputs, sats_of, sats_held, times}
+use Rattle.ox_rules.specs.Transfer.{or_refuse, Taken, take_rows, Placed, as_list, place_rows}
+use Rattle.ox_rules.proofs.MapSums.{total, total_insert, total_remove}
+use Rattle.ox_rules.proofs.Orders.{outpoints_total, outpoints_exact}
 
 pub times-append : (sat : ℕ) (xs ys : List ℕ) → times sat (xs ++ ys) ≡ times sat xs + times sat ys
 times-append sat xs ys = sum_by-append (λ s. cond (s == sat) 1 0) xs ys

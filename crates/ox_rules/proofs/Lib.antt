@@ -1,0 +1,4 @@
+pub mod MapSums
+pub mod Orders
+pub mod Conservation
+pub mod Transfers

@@ -1,0 +1,6 @@
+pub mod Outputs
+pub mod Deal
+pub mod Transfer
+pub mod Where
+pub mod Newest
+pub mod Text
