@@ -1,4 +1,4 @@
-//! Reads a block from standard input and hashes it, as often as the first argument says, to be timed: see bench/block.
+//! Reads a block from standard input and hashes it, as often as the first argument says, to be timed: see bench/read_block.py.
 #![tactic(auto)]
 
 use ox_block::{read_block, root, witness_root};

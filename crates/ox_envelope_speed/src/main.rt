@@ -1,5 +1,5 @@
 //! Searches the script on standard input for envelopes, and reads what each says, as often as the first argument says,
-//! to be timed: see bench/envelope. With a second argument the script's items are counted instead.
+//! to be timed: see bench/find_envelopes.py. With a second argument the script's items are counted instead.
 #![tactic(auto)]
 
 use ox_bytes::Memory;

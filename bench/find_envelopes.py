@@ -1,30 +1,31 @@
 #!/usr/bin/env python3
-"""The search for envelopes in the largest scripts, beside a plain scan over their items, each also at a tenth of the size, so that growth shows.
+"""Times the search for envelopes in the largest scripts, beside a scan over their items.
 
-Build the program first:
-    (cd crates/ox_envelope_speed && rt run < stdin)
-and then, at the top:
-    bench/envelope/envelope.py crates/ox_envelope_speed/out/ox_envelope_speed
+    python3 bench/find_envelopes.py
+
+has crates/ox_envelope_speed go over scripts of 3,990,000 bytes, and over a tenth of each, so that growth shows. Build it
+first, as bench/README.md says.
 """
+import pathlib
 import subprocess
-import sys
 import time
 
+TOP = pathlib.Path(__file__).resolve().parent.parent
+PROGRAM = TOP / "crates" / "ox_envelope_speed" / "out" / "ox_envelope_speed"
 TIMES = 10
 
 
-def seconds(program, script, words):
+def seconds(script, words):
     """Seconds of one time over the script, and the line that was shown."""
     took = {}
     for times in (0, TIMES):
         start = time.perf_counter()
-        answer = subprocess.run([program, str(times), *words], input=script, stdout=subprocess.PIPE, check=True).stdout
+        answer = subprocess.run([PROGRAM, str(times), *words], input=script, stdout=subprocess.PIPE, check=True).stdout
         took[times] = time.perf_counter() - start
     return (took[TIMES] - took[0]) / TIMES, answer.decode().strip()
 
 
 def main():
-    program = sys.argv[1]
     opening = b"\0\x63\x03ord"
     for name, head, part in (
         ("empty pushes", b"", b"\0"),
@@ -35,8 +36,8 @@ def main():
     ):
         for size in (399_000, 3_990_000):
             script = head + part * ((size - len(head)) // len(part))
-            scan, items = seconds(program, script, ["items"])
-            search, found = seconds(program, script, [])
+            scan, items = seconds(script, ["items"])
+            search, found = seconds(script, [])
             print(f"{name}, {len(script):,} bytes: {items}, scan {scan * 1e3:.1f} ms; {found}, search {search * 1e3:.1f} ms")
 
 

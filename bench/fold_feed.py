@@ -1,12 +1,12 @@
 #!/usr/bin/env python3
-"""Times the built program over a large feed, beside `cat` of the feed and a plain C program.
+"""Times `fold regtest` over a large feed, beside `cat` of the feed and a plain C program.
 
-    python3 bench/fold.py [MEGABYTES]
+    python3 bench/fold_feed.py [MEGABYTES]
 
 makes a feed of so many megabytes (100 without a word) in a temporary folder: blocks of one transaction with scripts of
 up to a megabyte, each following the one before, blocks that are refused at their end, and lines that are too long. It
 runs each program over it five times, prints the least processor time as megabytes of feed a second, and the ratio of
-the built program to the plain one. Nothing here is proved. Build the program first, as the README says.
+the built program to the plain one. Nothing here is proved. Build the program first, as bench/README.md says.
 """
 
 import os
@@ -18,7 +18,7 @@ import sys
 import tempfile
 
 HERE = pathlib.Path(__file__).resolve().parent
-sys.path.append(str(HERE / "store"))
+sys.path.append(str(HERE.parent / "checks"))
 
 from chain import compact, line, twice  # noqa: E402
 
@@ -80,7 +80,7 @@ def main():
         feed = pathlib.Path(folder) / "feed"
         lines, size = write_feed(feed, megabytes * 1_000_000)
         plain = pathlib.Path(folder) / "plain"
-        subprocess.run([compiler, "-O2", "-o", plain, HERE / "plain.c"], check=True)
+        subprocess.run([compiler, "-O2", "-o", plain, HERE / "plain" / "fold_feed.c"], check=True)
         rates = {}
         answers = pathlib.Path(folder) / "answers"
         for name, command, shown in (

@@ -1,17 +1,23 @@
 #!/usr/bin/env python3
-"""Reading and hashing a block of about 1 MB, in megabytes a second: crates/ox_block_speed beside the plain Rust program of the same work.
+"""Times reading and hashing a block of about 1 MB, beside a plain Rust program of the same work.
 
-Build both first (the plain program needs the crate sha2 0.10, as Debian's librust-sha2-dev has it):
-    (cd crates/ox_block_speed && rt run < stdin)
-    (cd bench/block/plain && cargo build --release)
-and then, at the top:
-    bench/block/block.py crates/ox_block_speed/out/ox_block_speed bench/block/plain/target/release/plain [TIMES]
+    python3 bench/read_block.py [TIMES]
+
+has crates/ox_block_speed and bench/plain/read_block read a block of 2,000 transactions with witnesses so many times (20
+without a word), hash each transaction both ways and make both roots, and prints megabytes a second. Build both first, as
+bench/README.md says.
 """
+import pathlib
 import random
 import struct
 import subprocess
 import sys
 import time
+
+
+TOP = pathlib.Path(__file__).resolve().parent.parent
+PROGRAM = TOP / "crates" / "ox_block_speed" / "out" / "ox_block_speed"
+PLAIN = TOP / "bench" / "plain" / "read_block" / "target" / "release" / "read_block"
 
 
 def size(n):
@@ -44,12 +50,11 @@ def block(count):
 
 
 def main():
-    program, plain = sys.argv[1], sys.argv[2]
-    times = sys.argv[3] if len(sys.argv) > 3 else "20"
+    times = sys.argv[1] if len(sys.argv) > 1 else "20"
     data = block(2000)
     print(f"a block of {len(data):,} bytes, 2,000 transactions with witnesses, {times} times")
     answers = []
-    for name, path in (("ox_block", program), ("plain Rust", plain)):
+    for name, path in (("ox_block", PROGRAM), ("plain Rust", PLAIN)):
         start = time.perf_counter()
         done = subprocess.run([path, times], input=data, stdout=subprocess.PIPE, check=True)
         seconds = time.perf_counter() - start

@@ -1,15 +1,18 @@
 #!/usr/bin/env python3
-"""Deciphering large runestones, in millions of integers a second, each also at ten times the size, so that growth shows.
+"""Times the deciphering of large runestones, in millions of integers a second.
 
-Build the program first:
-    (cd crates/ox_runestone_speed && rt run < stdin)
-and then, at the top:
-    bench/runestone/runestone.py crates/ox_runestone_speed/out/ox_runestone_speed
+    python3 bench/decipher_runestones.py
+
+has crates/ox_runestone_speed decipher many edicts and many tags, each also at ten times the size, so that growth shows.
+Build it first, as bench/README.md says.
 """
+import pathlib
 import struct
 import subprocess
-import sys
 import time
+
+TOP = pathlib.Path(__file__).resolve().parent.parent
+PROGRAM = TOP / "crates" / "ox_runestone_speed" / "out" / "ox_runestone_speed"
 
 
 def varint(n):
@@ -36,14 +39,13 @@ def tags(count):
 
 
 def main():
-    program = sys.argv[1]
     for name, make, count in (("edicts", edicts, 10_000), ("edicts", edicts, 100_000), ("tags", tags, 50_000), ("tags", tags, 500_000)):
         integers = make(count)
         data = script(integers)
         took = {}
         for times in (0, 10):
             start = time.perf_counter()
-            answer = subprocess.run([program, str(times)], input=data, stdout=subprocess.PIPE, check=True).stdout
+            answer = subprocess.run([PROGRAM, str(times)], input=data, stdout=subprocess.PIPE, check=True).stdout
             took[times] = time.perf_counter() - start
         seconds = (took[10] - took[0]) / 10
         print(f"{count:,} {name}, {len(data):,} bytes: {len(integers) / seconds / 1e6:.1f} million integers a second; {answer.decode().strip()}")

@@ -1,15 +1,14 @@
 #!/usr/bin/env python3
 """Times `fold regtest` over blocks of 500 transactions, beside a plain Rust program of the same work.
 
-    (cd crates/ox_main && rt run -- out fold regtest < ../../feeds/genesis.feed)
-    (cd bench/blocks/plain && cargo build --release)
-    python3 bench/blocks/blocks.py [BLOCKS..]
+    python3 bench/fold_blocks.py [BLOCKS..]
 
 makes a chain of as many blocks as the greatest number says (400 and 4,000 without a word) in a temporary folder: each
 block but the first two spends 500 outputs, chosen at random, into two each. It runs both programs three times over the
 first so many blocks of it and prints, of the run that took least, blocks and megabytes of blocks a second of processor
 time, and the memory that an output takes at the end; and how long the last tenth of the greatest number took, beside
-the first. Nothing here is proved.
+the first. Nothing here is proved. Build both programs
+first, as bench/README.md says.
 """
 
 import concurrent.futures
@@ -22,10 +21,10 @@ import subprocess
 import sys
 import tempfile
 
-TOP = pathlib.Path(__file__).resolve().parent.parent.parent
+TOP = pathlib.Path(__file__).resolve().parent.parent
 PROGRAMS = {
     "ox": TOP / "crates" / "ox_main" / "out" / "ox_main",
-    "plain": TOP / "bench" / "blocks" / "plain" / "target" / "release" / "plain",
+    "plain": TOP / "bench" / "plain" / "fold_blocks" / "target" / "release" / "fold_blocks",
 }
 RUNS = 3
 SPENDS = 500

@@ -1,7 +1,7 @@
 #!/usr/bin/env python3
-"""Times `apply` and `query` of the built program over a store on a real disk.
+"""Times `apply`, and the opening of a store by `query`, of the built program on a real disk.
 
-    python3 bench/store/store.py [APPLIED [OPENED [PROGRAM]]]
+    python3 bench/apply_and_open.py [APPLIED [OPENED [PROGRAM]]]
 
 makes a folder below out/ beside this script, which has to be on a disk, and in it stores that are gone at the end. It
 applies a feed of so many small regtest blocks (2,000 without a word) and, beside it, does what no store of this design can
@@ -21,10 +21,12 @@ import sys
 import tempfile
 import time
 
-from chain import chain, file_a, line, record
-
 HERE = pathlib.Path(__file__).resolve().parent
-PROGRAM = HERE.parent.parent / "crates" / "ox_main" / "out" / "ox_main"
+sys.path.append(str(HERE.parent / "checks"))
+
+from chain import chain, file_a, line, record  # noqa: E402
+
+PROGRAM = HERE.parent / "crates" / "ox_main" / "out" / "ox_main"
 RUNS = 5
 
 
