@@ -11,7 +11,14 @@ use Rattle.std.proofs.lemmas.List.{append_assoc, append-nil}
 use Rattle.std.proofs.lemmas.Bool.{cond-false, eqb-true, ne_eqb}
 use Rattle.ox_script.specs.Script.{Instruction, Push, Op}
 use Rattle.ox_envelope.specs.Envelope.{Enveloped, no_pushes, is_number, bytes_pushed, pushes_number, envelope_of, is_opening, stretch, is_end, envelope_at, envelopes_past, envelopes_among}
-use Rattle.ox_envelope.specs.Opening.{read_so_far, next_opened, with_more, envelopes_within}
+use Rattle.ox_envelope.specs.Opening.{next_opened, with_more, envelopes_within}
+
+-- the items of an opening that stand before the next item
+abbrev pub read_so_far : Opened → List Instruction
+read_so_far Nothing = []
+read_so_far Empty = Push [] ∷ []
+read_so_far If = Push [] ∷ Op 0x63 ∷ []
+read_so_far Whole = Push [] ∷ Op 0x63 ∷ Push (codes "ord") ∷ []
 
 -- passing items over is dropping them
 pub envelopes_past-drop : (skipped : ℕ) (items : List Instruction) → envelopes_past skipped items ≡ envelopes_among (drop skipped items)

@@ -1,4 +1,4 @@
--- How far an opening was read, and what follows a whole one.
+-- How far an opening is read, and what follows a whole one.
 use Rattle.std.specs.Prelude.{◌+◌, ◌||◌, List, [], ◌∷◌, ◌++◌, length, drop, slice_get, codes, ◌==◌}
 use Rattle.std.specs.Prelude.{bytes_eq, if◌then◌else◌}
 use Rattle.ox_script.specs.Script.{Instruction, Push, Op}
@@ -6,15 +6,8 @@ use Rattle.ox_envelope.specs.Envelope.{Enveloped, envelope_of, stretch, is_end, 
 use Rattle.ox_envelope.specs.declared.search.Opened.{Opened}
 use Rattle.ox_envelope.specs.declared.search.Opened.TheVariants.{Nothing, Empty, If, Whole}
 
--- the items of an opening that stand before the next item
-abbrev pub read_so_far : Opened → List Instruction
-read_so_far Nothing = []
-read_so_far Empty = Push [] ∷ []
-read_so_far If = Push [] ∷ Op 0x63 ∷ []
-read_so_far Whole = Push [] ∷ Op 0x63 ∷ Push (codes "ord") ∷ []
-
--- how much of one stands before the item after this one. An item that breaks an opening may begin
--- another.
+-- how much of an opening stands before the item after this one. An item that breaks one may
+-- begin another.
 abbrev pub next_opened : Opened → Instruction → Opened
 next_opened opened (Push []) = Empty
 next_opened If (Push (byte ∷ bytes)) =
