@@ -10,7 +10,7 @@ use Rattle.ox_bytes.specs.Reading.{◌>>=◌, Reader, number_at, run_at, long_si
 use Rattle.ox_bytes.specs.Reading as reading
 use Rattle.ox_bytes.proofs.Laws.{bind_ok, guard_ok, ok_is}
 use Rattle.ox_block.specs.Reading.{count_at}
-use Rattle.ox_block.specs.Fields.{Kind, Field, plain, size, count, size_width, size_len, size_least, size_len_at, size_at, Layout, Laid, nothing, one, ◌▹◌, repeated, bytes_of, text, counted, is_cut, is_long, is_fault, first_fault}
+use Rattle.ox_block.specs.Fields.{Kind, Field, plain, size, count, size_width, size_len, size_least, size_len_at, size_at, Layout, Laid, nothing, one, ◌▹◌, copies, bytes_of, text, counted, is_cut, is_long, is_fault, first_fault}
 
 abbrev pub Agrees : {X : Type 0} → List ℕ → Layout → Result (X × List ℕ) ℕ → Type 0
 Agrees bytes laid (Ok x) = (first_fault bytes laid.fields ≡ None) × (laid.behind ≤ length bytes) × (x.1 ≡ drop laid.behind bytes)
@@ -103,13 +103,13 @@ pub nothing_agrees : {X : Type 0} (bytes : List ℕ) (p : ℕ) (x : X) → p ≤
 unfolding first_fault
 nothing_agrees bytes p x le = (refl, le, refl)
 
-pub times_joins : {A : Type 0} (bytes : List ℕ) (laid : Laid) (read : Reader A) → Joins bytes laid read → (n : ℕ) → Joins bytes (repeated n laid) (times read n)
-unfolding times repeated
+pub times_joins : {A : Type 0} (bytes : List ℕ) (laid : Laid) (read : Reader A) → Joins bytes laid read → (n : ℕ) → Joins bytes (copies n laid) (times read n)
+unfolding times copies
 times_joins {A} bytes laid read j zero p le = nothing_agrees {X = List A} bytes p [] le
 times_joins {A} bytes laid read j (suc n) p le =
-    agrees_bind bytes (laid p) (repeated n laid) (read (drop p bytes)) (λ x. times read n x.1 >>= λ xs. Ok (x.0 ∷ xs.0, xs.1)) (j p le)
-    (λ x is inside at. subst (λ (t : List ℕ). Agrees {X = List A} bytes (repeated n laid (laid p).behind) (times read n t >>= λ xs. Ok (x.0 ∷ xs.0, xs.1))) (sym at)
-    (agrees_map (λ (xs : List A). x.0 ∷ xs) bytes (repeated n laid (laid p).behind) (times read n (drop (laid p).behind bytes)) (times_joins bytes laid read j n (laid p).behind inside)))
+    agrees_bind bytes (laid p) (copies n laid) (read (drop p bytes)) (λ x. times read n x.1 >>= λ xs. Ok (x.0 ∷ xs.0, xs.1)) (j p le)
+    (λ x is inside at. subst (λ (t : List ℕ). Agrees {X = List A} bytes (copies n laid (laid p).behind) (times read n t >>= λ xs. Ok (x.0 ∷ xs.0, xs.1))) (sym at)
+    (agrees_map (λ (xs : List A). x.0 ∷ xs) bytes (copies n laid (laid p).behind) (times read n (drop (laid p).behind bytes)) (times_joins bytes laid read j n (laid p).behind inside)))
 
 -- ---- plain fields
 
@@ -266,6 +266,6 @@ pub counted_joins : {A : Type 0} (bytes : List ℕ) (k : Kind) (laid : Laid) (rc
     → ((p : ℕ) (x : ℕ × List ℕ) → p ≤ length bytes → rc (drop p bytes) ≡ Ok x → x.0 ≡ size_at bytes p) → Joins bytes laid read → Joins bytes (counted k bytes laid) (reading.counted rc read)
 unfolding counted
 counted_joins bytes k laid rc read jc number j p le =
-    agrees_bind bytes (size_laid k bytes p) (repeated (size_at bytes p) laid) (rc (drop p bytes)) (λ n. times read n.0 n.1) (jc p le)
-    (λ x is inside at. subst (λ (n : ℕ × List ℕ). Agrees bytes (repeated (size_at bytes p) laid (p + size_len_at bytes p)) (times read n.0 n.1)) (pair_is x (size_at bytes p) (drop (p + size_len_at bytes p) bytes) (number p x le is) at)
+    agrees_bind bytes (size_laid k bytes p) (copies (size_at bytes p) laid) (rc (drop p bytes)) (λ n. times read n.0 n.1) (jc p le)
+    (λ x is inside at. subst (λ (n : ℕ × List ℕ). Agrees bytes (copies (size_at bytes p) laid (p + size_len_at bytes p)) (times read n.0 n.1)) (pair_is x (size_at bytes p) (drop (p + size_len_at bytes p) bytes) (number p x le is) at)
     (times_joins bytes laid read j (size_at bytes p) (p + size_len_at bytes p) inside))

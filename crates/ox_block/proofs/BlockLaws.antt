@@ -12,11 +12,12 @@ use Rattle.ox_block.specs.declared.block.TxOut.{TxOut}
 use Rattle.ox_block.specs.declared.block.Tx.{Tx}
 use Rattle.ox_block.specs.declared.block.Header.{Header}
 use Rattle.ox_block.specs.declared.block.Block.{Block}
-use Rattle.ox_block.specs.Spelling.{input, inputs, outputs, stacks, stripped, extended, tx, header, spell, most_bytes, has_witness, LawfulTx, FitsHeader, Lawful, Spells}
+use Rattle.ox_block.specs.Spelling.{input, inputs, outputs, stacks, stripped_form, extended_form, tx, header, spell, most_bytes, has_witness, LawfulTx, FitsHeader, Lawful, Spells}
 use Rattle.std.specs.Prelude.{IfOk}
 use Rattle.ox_block.specs.declared.fault.BlockFault.{BlockFault}
 use Rattle.ox_block.specs.Answer.{Gives}
-use Rattle.ox_block.specs.Reading.{count_at, inputs_at, outputs_at, stacks_of, witnesses_at, marker_at, maybe_witnesses_at, tx_at, header_at, block_at, whole_of, placed, block_of}
+use Rattle.ox_block.proofs.HeaderParts.{HeaderParts, header_from, header_parts, header_same}
+use Rattle.ox_block.specs.Reading.{count_at, inputs_at, outputs_at, stacks_of, witnesses_at, marker_at, maybe_witnesses_at, tx_at, header_at, block_at, whole_of, with_place, block_of}
 use Rattle.ox_block.proofs.Laws.{IsCount, count_law, count_from, FitsBare, inputs_law, FitsOutputs, outputs_law, bares, FitStacks, stacks_take, stacks_repeat, inputs_bare, length_bare, fits_bare, from_bare, bare_already, none_of_bare, bare_if_none}
 
 -- ---- marker and flag
@@ -102,7 +103,7 @@ regroup_6 a b c d e f = simp append_assoc
 regroup_4 : (a c d f : List ℕ) → a ++ c ++ d ++ f ≡ a ++ (c ++ (d ++ f))
 regroup_4 a c d f = simp append_assoc
 
-laid_is : (m : Bool) (t : Tx) → cond m (extended t) (stripped t) ≡ laid m t
+laid_is : (m : Bool) (t : Tx) → cond m (extended_form t) (stripped_form t) ≡ laid m t
 laid_is true t = regroup_6 (to_le_bytes w32 t.version) (mark true) (inputs t.inputs) (outputs t.outputs) (stacks t.inputs) (to_le_bytes w32 t.lock)
 laid_is false t = regroup_4 (to_le_bytes w32 t.version) (inputs t.inputs) (outputs t.outputs) (to_le_bytes w32 t.lock)
 
@@ -191,12 +192,8 @@ tx_law = record { takes = tx_take; again = tx_repeat }
 
 -- ---- a header
 
-abbrev HeaderParts : Type 0
-HeaderParts = ((((ℕ × List ℕ) × List ℕ) × ℕ) × ℕ) × ℕ
-
-header_law : Law FitsHeader header header_at
-unfolding header_at
-header_law =
+parts_law : Law FitsHeader header header_parts
+parts_law =
     let n = number_law w32 (2 ^ 32) wide32 in
     let r = run_law 32 in
     let F : ℕ → Type 0 = λ x. x < 2 ^ 32 in
@@ -210,11 +207,17 @@ header_law =
     let l4 = both_law (λ (p : (ℕ × List ℕ) × List ℕ). (F p.0.0 × R p.0.1) × R p.1) F (λ (p : (ℕ × List ℕ) × List ℕ). (s p.0.0 ++ t p.0.1) ++ t p.1) s (both (both at run) run) at l3 n in
     let l5 = both_law (λ (p : ((ℕ × List ℕ) × List ℕ) × ℕ). ((F p.0.0.0 × R p.0.0.1) × R p.0.1) × F p.1) F (λ (p : ((ℕ × List ℕ) × List ℕ) × ℕ). ((s p.0.0.0 ++ t p.0.0.1) ++ t p.0.1) ++ s p.1) s (both (both (both at run) run) at) at l4 n in
     let l6 = both_law (λ (p : (((ℕ × List ℕ) × List ℕ) × ℕ) × ℕ). (((F p.0.0.0.0 × R p.0.0.0.1) × R p.0.0.1) × F p.0.1) × F p.1) F (λ (p : (((ℕ × List ℕ) × List ℕ) × ℕ) × ℕ). (((s p.0.0.0.0 ++ t p.0.0.0.1) ++ t p.0.0.1) ++ s p.0.1) ++ s p.1) s (both (both (both (both at run) run) at) at) at l5 n in
-    mapped_law (λ (p : HeaderParts). record { version = p.0.0.0.0.0; previous = p.0.0.0.0.1; root = p.0.0.0.1; time = p.0.0.1; bits = p.0.1; nonce = p.1 }) (λ (h : Header). (((((h.version, h.previous), h.root), h.time), h.bits), h.nonce))
+    mapped_law header_from (λ (h : Header). (((((h.version, h.previous), h.root), h.time), h.bits), h.nonce))
     (λ (p : HeaderParts). ((((F p.0.0.0.0.0 × R p.0.0.0.0.1) × R p.0.0.0.1) × F p.0.0.1) × F p.0.1) × F p.1) FitsHeader
     (λ (p : HeaderParts). ((((s p.0.0.0.0.0 ++ t p.0.0.0.0.1) ++ t p.0.0.0.1) ++ s p.0.0.1) ++ s p.0.1) ++ s p.1) header (both (both (both (both (both at run) run) at) at) at)
     (λ p h. record { version = h.0.0.0.0.0; previous = h.0.0.0.0.1; root = h.0.0.0.1; time = h.0.0.1; bits = h.0.1; nonce = h.1 }) (λ p h. refl)
     (λ h f. (((((f.version, f.previous), f.root), f.time), f.bits), f.nonce)) (λ h f. refl) l6
+
+header_law : Law FitsHeader header header_at
+header_law = record {
+  takes = λ bytes z fits e. parts_law.takes bytes z fits (header_same bytes ∙ e);
+  again = λ h rest fits. sym (header_same (header h ++ rest)) ∙ parts_law.again h rest fits;
+}
 
 -- ---- a block
 
@@ -252,7 +255,7 @@ whole_again b h =
     let read : block_at (spell b) ≡ Ok (b, []) = ap block_at (sym (append-nil (spell b))) ∙ block_law.again b [] h in
     rw read refl
 
-placed_ok : {A : Type 0} (n : ℕ) (r : Result A ℕ) (x : A) → placed n r ≡ Ok x → r ≡ Ok x
+placed_ok : {A : Type 0} (n : ℕ) (r : Result A ℕ) (x : A) → with_place n r ≡ Ok x → r ≡ Ok x
 placed_ok n (Ok y) x e = e
 placed_ok n (Err d) x e = absurd cc
 
@@ -260,7 +263,7 @@ placed_ok n (Err d) x e = absurd cc
 pub block_takes : (bytes : List ℕ) (b : Block) → IsBytes bytes → block_of bytes ≡ Ok b → Lawful b × (bytes ≡ spell b)
 unfolding block_of
 block_takes bytes b fits e =
-    let g = guard_ok (ltb most_bytes (length bytes)) most_bytes (placed (length bytes) (whole_of bytes)) b e in
+    let g = guard_ok (ltb most_bytes (length bytes)) most_bytes (with_place (length bytes) (whole_of bytes)) b e in
     let t = whole_take bytes b fits (placed_ok (length bytes) (whole_of bytes) b g.1) in
     let few : length bytes ≤ most_bytes = ltb-false _ _ g.0 in
     (record { header = t.0.0; some_tx = positive (length b.txs) t.0.1.0.1; few_txs = t.0.1.0.0; txs = t.0.1.1; size = subst (λ (x : List ℕ). length x ≤ most_bytes) t.1 few }, t.1)

@@ -6,3 +6,4 @@ pub mod Loops
 pub mod Puts
 pub mod Rows
 pub mod Fronts
+pub mod HeaderParts

@@ -18,8 +18,9 @@ use Rattle.ox_block.specs.declared.fault.BlockFault.{BlockFault}
 use Rattle.ox_block.specs.declared.fault.BlockFault.TheVariants as BlockFaults
 use Rattle.ox_block.specs.Answer.{Gives, Tells}
 use Rattle.ox_block.specs.Spelling.{most_value, most_bytes, has_witness}
-use Rattle.ox_block.specs.Reading.{count_at, outpoint_at, input_at, inputs_at, output_at, outputs_of, outputs_at, stack_at, stacks_of, witnesses_at, marker_at, maybe_witnesses_at, tx_at, header_at, block_at, whole_of, placed, block_of}
-use Rattle.ox_block.specs.Fields.{Field, plain, size, count, value, flag, marker, surplus, size_len_at, size_at, value_at, Layout, Laid, one, ◌▹◌, repeated, bytes_of, text, counted, input, output, outputs, counted_outputs, stack, some_item, stacks, is_marker, behind_version, tx, header, block, surplus_from, fields_of, is_cut, is_fault, first_fault, fault_of, fault_in}
+use Rattle.ox_block.proofs.HeaderParts.{header_from, header_parts, header_same}
+use Rattle.ox_block.specs.Reading.{count_at, outpoint_at, input_at, inputs_at, output_at, outputs_of, outputs_at, stack_at, stacks_of, witnesses_at, marker_at, maybe_witnesses_at, tx_at, header_at, block_at, whole_of, with_place, block_of}
+use Rattle.ox_block.specs.Fields.{Field, plain, size, count, value, flag, marker, surplus, size_len_at, size_at, value_at, Layout, Laid, one, ◌▹◌, copies, bytes_of, text, counted, input, output, outputs, counted_outputs, stack, some_item, stacks, is_marker, behind_version, tx, header, block, surplus_from, fields_of, is_cut, is_fault, first_fault, fault_of, fault_in}
 use Rattle.ox_block.proofs.Agreement.{Agrees, Joins, cond_true, cond_false, or_left, or_right, or_none, after_none, after_some, single, shifted, agrees_bind, agrees_map, both_joins, mapped_joins, nothing_agrees, cut_agrees, stands_agrees, number_joins, run_joins, size_laid, size_joins, size_number, count_joins, count_number, text_joins, counted_joins, next_of, pair_is}
 
 -- ---- inputs
@@ -132,15 +133,15 @@ stack_number bytes p x le e =
     let n = bind_ok (compact_at (drop p bytes)) (λ n. times string_at n.0 n.1) x e in
     times_len string_at n.0.0 n.0.1 x n.2 ∙ size_number bytes p n.0 le n.1
 
-stacks_join : (bytes : List ℕ) (is : List TxIn) → Joins bytes (repeated (length is) (stack bytes)) (stacks_of is)
-unfolding repeated stacks_of
+stacks_join : (bytes : List ℕ) (is : List TxIn) → Joins bytes (copies (length is) (stack bytes)) (stacks_of is)
+unfolding copies stacks_of
 stacks_join bytes [] p le = nothing_agrees {X = List TxIn} bytes p [] le
 stacks_join bytes (i ∷ is) p le =
-    agrees_bind bytes (stack bytes p) (repeated (length is) (stack bytes)) (stack_at (drop p bytes)) (λ w. stacks_of is w.1 >>= λ xs. Ok (record i { witness = w.0 } ∷ xs.0, xs.1)) (stack_joins bytes p le)
+    agrees_bind bytes (stack bytes p) (copies (length is) (stack bytes)) (stack_at (drop p bytes)) (λ w. stacks_of is w.1 >>= λ xs. Ok (record i { witness = w.0 } ∷ xs.0, xs.1)) (stack_joins bytes p le)
     (λ x is_ inside at.
     let q = (stack bytes p).behind in
-    subst (λ (t : List ℕ). Agrees {X = List TxIn} bytes (repeated (length is) (stack bytes) q) (stacks_of is t >>= λ xs. Ok (record i { witness = x.0 } ∷ xs.0, xs.1))) (sym at)
-    (agrees_map (λ (xs : List TxIn). record i { witness = x.0 } ∷ xs) bytes (repeated (length is) (stack bytes) q) (stacks_of is (drop q bytes)) (stacks_join bytes is q inside)))
+    subst (λ (t : List ℕ). Agrees {X = List TxIn} bytes (copies (length is) (stack bytes) q) (stacks_of is t >>= λ xs. Ok (record i { witness = x.0 } ∷ xs.0, xs.1))) (sym at)
+    (agrees_map (λ (xs : List TxIn). record i { witness = x.0 } ∷ xs) bytes (copies (length is) (stack bytes) q) (stacks_of is (drop q bytes)) (stacks_join bytes is q inside)))
 
 -- where reading leaves off
 behind_of : {X : Type 0} (bytes : List ℕ) (laid : Layout) (r : Result (X × List ℕ) ℕ) (x : X × List ℕ) → Agrees bytes laid r → r ≡ Ok x → (laid.behind ≤ length bytes) × (x.1 ≡ drop laid.behind bytes)
@@ -170,9 +171,9 @@ witnesses_join : (bytes : List ℕ) (left place : ℕ) (is : List TxIn) (p : ℕ
 unfolding stacks witnesses_at
 witnesses_join bytes left place is p marker_in left_is le =
     let s = some_item bytes (length is) p in
-    agrees_bind bytes (repeated (length is) (stack bytes) p) (λ q. record { fields = record { place = place; kind = marker s } ∷ []; behind = q }) (stacks_of is (drop p bytes)) (λ x. cond (list_any has_witness x.0) (Ok x) (Err left)) (stacks_join bytes is p le)
+    agrees_bind bytes (copies (length is) (stack bytes) p) (λ q. record { fields = record { place = place; kind = marker s } ∷ []; behind = q }) (stacks_of is (drop p bytes)) (λ x. cond (list_any has_witness x.0) (Ok x) (Err left)) (stacks_join bytes is p le)
     (λ x is_ inside at.
-    let q = (repeated (length is) (stack bytes) p).behind in
+    let q = (copies (length is) (stack bytes) p).behind in
     subst (λ (b : Bool). Agrees {X = List TxIn} bytes (record { fields = record { place = place; kind = marker s } ∷ []; behind = q }) (cond b (Ok x) (Err left))) (sym (some_items bytes is p x le is_))
     (mark_agrees bytes left place q s x marker_in left_is inside at))
 
@@ -338,21 +339,25 @@ tx_joins bytes p le =
 
 -- ---- blocks
 
-header_joins : (bytes : List ℕ) → Joins bytes header header_at
-unfolding header header_at
-header_joins bytes =
+parts_joins : (bytes : List ℕ) → Joins bytes header header_parts
+unfolding header
+parts_joins bytes =
     let n = number_joins bytes w32 in
     let r = run_joins bytes 32 in
     let four = bytes_of 4 in
     let hash = bytes_of 32 in
     let at = number_at w32 in
     let run = run_at 32 in
-    mapped_joins (λ (p : ((((ℕ × List ℕ) × List ℕ) × ℕ) × ℕ) × ℕ). record { version = p.0.0.0.0.0; previous = p.0.0.0.0.1; root = p.0.0.0.1; time = p.0.0.1; bits = p.0.1; nonce = p.1 }) bytes
+    mapped_joins header_from bytes
     (four ▹ hash ▹ hash ▹ four ▹ four ▹ four) (both (both (both (both (both at run) run) at) at) at)
     (both_joins bytes (four ▹ hash ▹ hash ▹ four ▹ four) four (both (both (both (both at run) run) at) at) at
     (both_joins bytes (four ▹ hash ▹ hash ▹ four) four (both (both (both at run) run) at) at
     (both_joins bytes (four ▹ hash ▹ hash) four (both (both at run) run) at
     (both_joins bytes (four ▹ hash) hash (both at run) run (both_joins bytes four hash at run n r) r) n) n) n)
+
+header_joins : (bytes : List ℕ) → Joins bytes header header_at
+header_joins bytes p le =
+    subst (λ (r : Result (Header × List ℕ) ℕ). Agrees {X = Header} bytes (header p) r) (header_same (drop p bytes)) (parts_joins bytes p le)
 
 block_joins : (bytes : List ℕ) → Joins bytes (block bytes) block_at
 unfolding block block_at
@@ -361,12 +366,12 @@ block_joins bytes = mapped_joins (λ (p : Header × List Tx). record { header = 
 
 -- the fields, with what stands behind the last transaction, and what reading makes of it
 from_block : (bytes : List ℕ) (laid : Layout) (r : Result (Block × List ℕ) ℕ) → Agrees bytes laid r
-    → first_fault bytes (laid.fields ++ surplus_from bytes laid.behind) ≡ fault_in (placed (length bytes) (r >>= λ x. cond (eqb (length x.1) 0) (Ok x.0) (Err (length x.1))))
+    → first_fault bytes (laid.fields ++ surplus_from bytes laid.behind) ≡ fault_in (with_place (length bytes) (r >>= λ x. cond (eqb (length x.1) 0) (Ok x.0) (Err (length x.1))))
 unfolding first_fault
 from_block bytes laid (Err left) h = after_some bytes laid.fields (surplus_from bytes laid.behind) (length bytes - left) h.1
 from_block bytes laid (Ok x) h =
     let long : length x.1 ≡ length bytes - laid.behind = ap (λ (t : List ℕ). length t) h.2 ∙ length-drop laid.behind bytes in
-    let P : Bool → Type 0 = λ (b : Bool). first_fault bytes (surplus_from bytes laid.behind) ≡ fault_in (placed (length bytes) (cond b (done x.0) (Err (length x.1)))) in
+    let P : Bool → Type 0 = λ (b : Bool). first_fault bytes (surplus_from bytes laid.behind) ≡ fault_in (with_place (length bytes) (cond b (done x.0) (Err (length x.1)))) in
     after_none bytes laid.fields (surplus_from bytes laid.behind) h.0 ∙
     elim (cases_lt laid.behind (length bytes)) [
       | inl more_ ↦

@@ -2,11 +2,11 @@
 use Rattle.std.proofs.Common.{◌≡◌, ℕ, zero, suc, ◌+◌, ◌-◌, ◌*◌, ◌<◌, ◌≤◌, List, [], ◌∷◌, ◌++◌, length, get_or, take, drop, append_assoc, refl, sym, ap, ◌∙◌, arith, inl, inr}
 use Rattle.std.proofs.lemmas.Bool.{cases_lt, lt-ltb, le-ltb}
 use Rattle.std.proofs.lemmas.List.{append-nil, take_all}
-use Rattle.ox_block.specs.Hashes.{twice_hashed, paired, rows_up, first_hash, root_of}
+use Rattle.ox_block.specs.Hashes.{double_hash, next_row, rows_up, first_hash, root_of}
 
 -- a row above has about half as many hashes, and one at least
-pub length-paired : (row : List (List ℕ)) → (length row ≤ 2 * length (paired row)) × (2 * length (paired row) ≤ length row + 1)
-unfolding paired
+pub length-paired : (row : List (List ℕ)) → (length row ≤ 2 * length (next_row row)) × (2 * length (next_row row) ≤ length row + 1)
+unfolding next_row
 length-paired [] = (omega arith, omega arith)
 length-paired (a ∷ []) = (omega arith, omega arith)
 length-paired (a ∷ b ∷ row) = let more = length-paired row in (omega arith, omega arith)
@@ -25,11 +25,11 @@ steps (suc n) (suc m) row hn hm =
     elim (cases_lt 1 (length row)) [
       | inl more ↦
           let less = length-paired row in
-          rw (lt-ltb 1 (length row) more) (steps n m (paired row) (omega (arith, less.0, less.1)) (omega (arith, less.0, less.1)))
+          rw (lt-ltb 1 (length row) more) (steps n m (next_row row) (omega (arith, less.0, less.1)) (omega (arith, less.0, less.1)))
       | inr le ↦ rw (le-ltb 1 (length row) le) refl
     ]
 
-up_once : (n : ℕ) (row : List (List ℕ)) → 1 < length row → length row ≤ suc n → rows_up n row ≡ rows_up (n - 1) (paired row)
+up_once : (n : ℕ) (row : List (List ℕ)) → 1 < length row → length row ≤ suc n → rows_up n row ≡ rows_up (n - 1) (next_row row)
 unfolding rows_up
 up_once zero row more few = absurd (omega arith)
 up_once (suc n) row more few =
@@ -37,11 +37,11 @@ up_once (suc n) row more few =
     rw (lt-ltb 1 (length row) more, k) refl
 
 -- a row of more than one hash has the root of the row above
-pub root_above : (row : List (List ℕ)) → 1 < length row → root_of (paired row) ≡ root_of row
+pub root_above : (row : List (List ℕ)) → 1 < length row → root_of (next_row row) ≡ root_of row
 unfolding root_of
 root_above row more =
     let less = length-paired row in
-    ap first_hash (steps (length (paired row)) (length row - 1) (paired row) (omega arith) (omega (arith, less.0, less.1)) ∙ sym (up_once (length row) row more (omega arith)))
+    ap first_hash (steps (length (next_row row)) (length row - 1) (next_row row) (omega arith) (omega (arith, less.0, less.1)) ∙ sym (up_once (length row) row more (omega arith)))
 
 rows_alone : (n : ℕ) (row : List (List ℕ)) → length row ≤ 1 → rows_up n row ≡ row
 unfolding rows_up
@@ -68,22 +68,22 @@ is_root row all x more one is same = first_at row x more is ∙ sym (root_alone 
 
 -- ---- one pair after the other
 
-pub pair_put : (above rest total : List (List ℕ)) (h : List ℕ) → 2 ≤ length rest → h ≡ twice_hashed (get_or rest 0 [] ++ get_or rest 1 []) → above ++ paired rest ≡ total
-    → (above ++ h ∷ []) ++ paired (take (length rest - 2) (drop 2 rest)) ≡ total
-unfolding paired
+pub pair_put : (above rest total : List (List ℕ)) (h : List ℕ) → 2 ≤ length rest → h ≡ double_hash (get_or rest 0 [] ++ get_or rest 1 []) → above ++ next_row rest ≡ total
+    → (above ++ h ∷ []) ++ next_row (take (length rest - 2) (drop 2 rest)) ≡ total
+unfolding next_row
 pair_put above [] total h more is so_far = absurd (omega arith)
 pair_put above (a ∷ []) total h more is so_far = absurd (omega arith)
 pair_put above (a ∷ b ∷ row) total h more is so_far =
     let all : take (suc (suc (length row)) - 2) row ≡ row = take_all (suc (suc (length row)) - 2) row (omega arith) in
-    rw (all, is, append_assoc above (twice_hashed (a ++ b) ∷ []) (paired row)) so_far
+    rw (all, is, append_assoc above (double_hash (a ++ b) ∷ []) (next_row row)) so_far
 
-pub last_put : (above rest total : List (List ℕ)) (h : List ℕ) → 1 ≤ length rest → length rest < 2 → h ≡ twice_hashed (get_or rest 0 [] ++ get_or rest 0 []) → above ++ paired rest ≡ total → above ++ h ∷ [] ≡ total
-unfolding paired
+pub last_put : (above rest total : List (List ℕ)) (h : List ℕ) → 1 ≤ length rest → length rest < 2 → h ≡ double_hash (get_or rest 0 [] ++ get_or rest 0 []) → above ++ next_row rest ≡ total → above ++ h ∷ [] ≡ total
+unfolding next_row
 last_put above [] total h more few is so_far = absurd (omega arith)
 last_put above (a ∷ []) total h more few is so_far = rw is so_far
 last_put above (a ∷ b ∷ row) total h more few is so_far = absurd (omega arith)
 
-pub none_left : (above rest total : List (List ℕ)) → length rest < 1 → above ++ paired rest ≡ total → above ≡ total
-unfolding paired
+pub none_left : (above rest total : List (List ℕ)) → length rest < 1 → above ++ next_row rest ≡ total → above ≡ total
+unfolding next_row
 none_left above [] total few so_far = sym (append-nil above) ∙ so_far
 none_left above (a ∷ rest) total few so_far = absurd (omega arith)

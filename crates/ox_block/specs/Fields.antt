@@ -1,6 +1,10 @@
--- The fields of a block's bytes, in the order of reading, and the place of the first that is at fault.
--- Nothing here is read and nothing fails: each field is laid out from the counts and lengths before it, whether or not the bytes go so far.
-use Rattle.std.specs.Prelude.{ℕ, zero, suc, ◌+◌, ◌^◌, Bool, true, false, ◌||◌, ◌&&◌, not, List, [], ◌∷◌, ◌++◌, length, take, drop, slice_index, Option, Some, None, Result, Ok, Err, nat_lt, ◌==◌, if◌then◌else◌}
+-- The fields of a block's bytes, in the order of reading, and the place of the first that is at
+-- fault.
+-- Nothing here is read and nothing fails: each field is laid out from the counts and lengths before
+-- it, whether or not the bytes go so far.
+use Rattle.std.specs.Prelude.{ℕ, zero, suc, ◌+◌, ◌^◌, Bool, true, false, ◌||◌, ◌&&◌, not, List, []}
+use Rattle.std.specs.Prelude.{◌∷◌, ◌++◌, length, take, drop, slice_index, Option, Some, None}
+use Rattle.std.specs.Prelude.{Result, Ok, Err, nat_lt, ◌==◌, if◌then◌else◌}
 use Rattle.std.specs.Int.{Width, w16, w32, w64, byte_len, from_le_bytes}
 use Rattle.ox_block.specs.Spelling.{most_value, most_bytes}
 
@@ -38,7 +42,10 @@ size_len first = if nat_lt first 253 then 1 else 1 + byte_len (size_width first)
 
 -- the least number that needs so many bytes
 abbrev pub size_least : ℕ → ℕ
-size_least first = if nat_lt first 253 then 0 else if first == 253 then 253 else if first == 254 then 2 ^ 16 else 2 ^ 32
+size_least first =
+    if nat_lt first 253 then 0 else
+    if first == 253 then 253 else
+    if first == 254 then 2 ^ 16 else 2 ^ 32
 
 -- the compact size at a place: how many bytes it has, and its number
 unfoldable pub size_len_at : List ℕ → ℕ → ℕ
@@ -47,7 +54,9 @@ size_len_at bytes place = size_len (slice_index bytes place)
 unfoldable pub size_at : List ℕ → ℕ → ℕ
 size_at bytes place =
     let first = slice_index bytes place in
-    if nat_lt first 253 then first else from_le_bytes (size_width first) (take (byte_len (size_width first)) (drop (place + 1) bytes))
+    let width = size_width first in
+    if nat_lt first 253 then first
+    else from_le_bytes width (take (byte_len width) (drop (place + 1) bytes))
 
 -- the number of 8 bytes at a place
 unfoldable pub value_at : List ℕ → ℕ → ℕ
@@ -69,7 +78,8 @@ nothing place = record { fields = []; behind = place }
 
 -- one field, of that many bytes
 abbrev pub one : Kind → ℕ → Laid
-one kind len place = record { fields = record { place = place; kind = kind } ∷ []; behind = place + len }
+one kind len place =
+    record { fields = record { place = place; kind = kind } ∷ []; behind = place + len }
 
 -- one after the other
 infixl 12 ◌▹◌
@@ -80,9 +90,9 @@ abbrev pub ◌▹◌ : Laid → Laid → Laid
     record { fields = before.fields ++ after.fields; behind = after.behind }
 
 -- that many of them
-unfoldable pub repeated : ℕ → Laid → Laid
-repeated zero laid place = nothing place
-repeated (suc n) laid place = (laid ▹ repeated n laid) place
+unfoldable pub copies : ℕ → Laid → Laid
+copies zero laid place = nothing place
+copies (suc n) laid place = (laid ▹ copies n laid) place
 
 abbrev pub bytes_of : ℕ → Laid
 bytes_of n = one (plain n) n
@@ -93,7 +103,8 @@ text bytes place = (one size (size_len_at bytes place) ▹ bytes_of (size_at byt
 
 -- a count, and what it counts
 unfoldable pub counted : Kind → List ℕ → Laid → Laid
-counted kind bytes laid place = (one kind (size_len_at bytes place) ▹ repeated (size_at bytes place) laid) place
+counted kind bytes laid place =
+    (one kind (size_len_at bytes place) ▹ copies (size_at bytes place) laid) place
 
 -- an input: txid, index, script, sequence
 unfoldable pub input : List ℕ → Laid
@@ -106,10 +117,12 @@ output bytes before place = (one (value before) 8 ▹ text bytes) place
 -- that many outputs, with what the outputs before them have
 unfoldable pub outputs : List ℕ → ℕ → ℕ → Laid
 outputs bytes zero before place = nothing place
-outputs bytes (suc n) before place = (output bytes before ▹ outputs bytes n (before + value_at bytes place)) place
+outputs bytes (suc n) before place =
+    (output bytes before ▹ outputs bytes n (before + value_at bytes place)) place
 
 unfoldable pub counted_outputs : List ℕ → Laid
-counted_outputs bytes place = (one count (size_len_at bytes place) ▹ outputs bytes (size_at bytes place) 0) place
+counted_outputs bytes place =
+    (one count (size_len_at bytes place) ▹ outputs bytes (size_at bytes place) 0) place
 
 -- a witness stack: how many byte strings, and these
 unfoldable pub stack : List ℕ → Laid
@@ -118,22 +131,26 @@ stack bytes place = counted size bytes (text bytes) place
 -- whether one of that many stacks from a place on is not empty
 unfoldable pub some_item : List ℕ → ℕ → ℕ → Bool
 some_item bytes zero place = false
-some_item bytes (suc n) place = nat_lt 0 (size_at bytes place) || some_item bytes n (stack bytes place).behind
+some_item bytes (suc n) place =
+    nat_lt 0 (size_at bytes place) || some_item bytes n (stack bytes place).behind
 
 -- that many stacks, and the marker of that place looked at again
 unfoldable pub stacks : List ℕ → ℕ → ℕ → Laid
 stacks bytes at_marker n place =
-    let all = repeated n (stack bytes) place in
-    record { fields = all.fields ++ record { place = at_marker; kind = marker (some_item bytes n place) } ∷ []; behind = all.behind }
+    let all = copies n (stack bytes) place in
+    let looked_at : Field = record { place = at_marker; kind = marker (some_item bytes n place) } in
+    record { fields = all.fields ++ looked_at ∷ []; behind = all.behind }
 
 -- A byte 0 behind the version is the marker.
 unfoldable pub is_marker : List ℕ → ℕ → Bool
 is_marker bytes place = nat_lt place (length bytes) && slice_index bytes place == 0
 
--- a transaction's fields behind its version: with a marker there are also a flag, and a stack for each input
+-- a transaction's fields behind its version: with a marker there are also a flag, and a stack for
+-- each input
 unfoldable pub behind_version : Bool → List ℕ → Laid
 behind_version true bytes place =
-    ((bytes_of 1 ▹ one flag 1) ▹ (counted count bytes (input bytes) ▹ (counted_outputs bytes ▹ (stacks bytes place (size_at bytes (place + 2)) ▹ bytes_of 4)))) place
+    ((bytes_of 1 ▹ one flag 1) ▹ (counted count bytes (input bytes) ▹ (counted_outputs bytes
+    ▹ (stacks bytes place (size_at bytes (place + 2)) ▹ bytes_of 4)))) place
 behind_version false bytes place =
     (counted count bytes (input bytes) ▹ (counted_outputs bytes ▹ bytes_of 4)) place
 
@@ -149,7 +166,8 @@ block bytes place = (header ▹ counted count bytes (tx bytes)) place
 
 -- bytes behind a place are one field
 abbrev pub surplus_from : List ℕ → ℕ → List Field
-surplus_from bytes place = if nat_lt place (length bytes) then record { place = place; kind = surplus } ∷ [] else []
+surplus_from bytes place =
+    if nat_lt place (length bytes) then record { place = place; kind = surplus } ∷ [] else []
 
 -- The fields of the bytes.
 unfoldable pub fields_of : List ℕ → List Field
@@ -166,12 +184,16 @@ abbrev pub is_long : List ℕ → ℕ → Bool
 is_long bytes place = nat_lt (size_at bytes place) (size_least (slice_index bytes place))
 
 -- A field is at fault where it is cut, not in its shortest form, or against a rule:
--- a count is 0; a value brings the sum above all satoshis; a flag is not 1; a marker's stacks are all empty; bytes stand behind the last transaction.
+-- a count is 0; a value brings the sum above all satoshis; a flag is not 1; a marker's stacks are
+-- all empty; bytes stand behind the last transaction.
 abbrev pub is_fault : List ℕ → ℕ → Kind → Bool
 is_fault bytes place (plain n) = is_cut bytes place n
 is_fault bytes place size = is_cut bytes place (size_len_at bytes place) || is_long bytes place
-is_fault bytes place count = is_cut bytes place (size_len_at bytes place) || (is_long bytes place || size_at bytes place == 0)
-is_fault bytes place (value before) = is_cut bytes place 8 || nat_lt most_value (before + value_at bytes place)
+is_fault bytes place count =
+    is_cut bytes place (size_len_at bytes place)
+    || (is_long bytes place || size_at bytes place == 0)
+is_fault bytes place (value before) =
+    is_cut bytes place 8 || nat_lt most_value (before + value_at bytes place)
 is_fault bytes place flag = is_cut bytes place 1 || not (slice_index bytes place == 1)
 is_fault bytes place (marker some) = not some
 is_fault bytes place surplus = true
@@ -179,11 +201,16 @@ is_fault bytes place surplus = true
 -- the place of the first field that is at fault
 unfoldable pub first_fault : List ℕ → List Field → Option ℕ
 first_fault bytes [] = None
-first_fault bytes (field ∷ fields) = if is_fault bytes field.place field.kind then Some field.place else first_fault bytes fields
+first_fault bytes (field ∷ fields) =
+    if is_fault bytes field.place field.kind then Some field.place
+    else first_fault bytes fields
 
--- The place of the first fault, or none. Where the bytes are too many it is behind the last one allowed.
+-- The place of the first fault, or none. Where the bytes are too many it is behind the last one
+-- allowed.
 unfoldable pub fault_of : List ℕ → Option ℕ
-fault_of bytes = if nat_lt most_bytes (length bytes) then Some most_bytes else first_fault bytes (fields_of bytes)
+fault_of bytes =
+    if nat_lt most_bytes (length bytes) then Some most_bytes
+    else first_fault bytes (fields_of bytes)
 
 -- the fault of what reading gives
 abbrev pub fault_in : {A : Type 0} → Result A ℕ → Option ℕ

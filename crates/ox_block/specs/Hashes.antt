@@ -1,39 +1,40 @@
 -- Hashes of blocks and transactions, in serialized order.
-use Rattle.std.specs.Prelude.{ℕ, zero, suc, List, [], ◌∷◌, ◌++◌, length, map, replicate, nat_lt, if◌then◌else◌}
+use Rattle.std.specs.Prelude.{ℕ, zero, suc, List, [], ◌∷◌, ◌++◌, length, map, replicate, nat_lt}
+use Rattle.std.specs.Prelude.{if◌then◌else◌}
 use Rattle.sha2.specs.Sha256.{sha256}
-use Rattle.ox_block.specs.Spelling.{header, stripped, tx}
+use Rattle.ox_block.specs.Spelling.{header, stripped_form, tx}
 use Rattle.ox_block.specs.declared.block.Header.{Header}
 use Rattle.ox_block.specs.declared.block.Tx.{Tx}
 use Rattle.ox_block.specs.declared.block.Block.{Block}
 
 -- SHA-256 applied twice
-abbrev pub twice_hashed : List ℕ → List ℕ
-twice_hashed message = sha256 (sha256 message)
+abbrev pub double_hash : List ℕ → List ℕ
+double_hash message = sha256 (sha256 message)
 
 -- a block's hash, over the 80 bytes of its header
 unfoldable pub block_hash : Header → List ℕ
-block_hash h = twice_hashed (header h)
+block_hash h = double_hash (header h)
 
 -- a transaction's id, over the form without witnesses
 unfoldable pub txid : Tx → List ℕ
-txid t = twice_hashed (stripped t)
+txid t = double_hash (stripped_form t)
 
 -- the id over the whole form (BIP 141)
 unfoldable pub wtxid : Tx → List ℕ
-wtxid t = twice_hashed (tx t)
+wtxid t = double_hash (tx t)
 
 -- ---- the root of a row of hashes
 
 -- the row above: pairs are hashed, and an odd last one with itself
-unfoldable pub paired : List (List ℕ) → List (List ℕ)
-paired [] = []
-paired (a ∷ []) = twice_hashed (a ++ a) ∷ []
-paired (a ∷ b ∷ row) = twice_hashed (a ++ b) ∷ paired row
+unfoldable pub next_row : List (List ℕ) → List (List ℕ)
+next_row [] = []
+next_row (a ∷ []) = double_hash (a ++ a) ∷ []
+next_row (a ∷ b ∷ row) = double_hash (a ++ b) ∷ next_row row
 
 -- so many rows up, and none above a row of one hash
 unfoldable pub rows_up : ℕ → List (List ℕ) → List (List ℕ)
 rows_up zero row = row
-rows_up (suc n) row = if nat_lt 1 (length row) then rows_up n (paired row) else row
+rows_up (suc n) row = if nat_lt 1 (length row) then rows_up n (next_row row) else row
 
 -- the first hash of a row
 abbrev pub first_hash : List (List ℕ) → List ℕ

@@ -1,8 +1,11 @@
--- Reading a block from left to right: the block, or the place of the first fault. Each reader but the last tells a fault by the number of bytes left where the field at fault begins.
-use Rattle.std.specs.Prelude.{ℕ, zero, suc, ◌-◌, Bool, true, false, List, [], ◌∷◌, length, Result, Ok, Err, nat_lt, ◌==◌, if◌then◌else◌}
+-- Reading a block from left to right: the block, or the place of the first fault. Each reader but
+-- the last tells a fault by the number of bytes left where the field at fault begins.
+use Rattle.std.specs.Prelude.{ℕ, zero, suc, ◌-◌, Bool, true, false, List, [], ◌∷◌, length, Result}
+use Rattle.std.specs.Prelude.{Ok, Err, nat_lt, ◌==◌, if◌then◌else◌}
 use Rattle.std.specs.Int.{w32, w64}
 use Rattle.std.specs.List.{list_any}
-use Rattle.ox_bytes.specs.Reading.{◌>>=◌, Reader, number_at, run_at, compact_at, string_at, both, mapped, unless, counted}
+use Rattle.ox_bytes.specs.Reading.{◌>>=◌, Reader, number_at, run_at, compact_at, string_at, both}
+use Rattle.ox_bytes.specs.Reading.{mapped, unless, counted}
 use Rattle.ox_block.specs.Spelling.{most_value, most_bytes, has_witness}
 use Rattle.ox_block.specs.declared.block.OutPoint.{OutPoint}
 use Rattle.ox_block.specs.declared.block.TxIn.{TxIn}
@@ -16,23 +19,33 @@ unfoldable pub count_at : Reader ℕ
 count_at bytes = unless (λ n. n == 0) compact_at bytes
 
 unfoldable pub outpoint_at : Reader OutPoint
-outpoint_at bytes = mapped (λ p. record { txid = record { 0 = p.0 }; index = p.1 }) (both (run_at 32) (number_at w32)) bytes
+outpoint_at bytes =
+    mapped (λ p. record { txid = record { 0 = p.0 }; index = p.1 })
+    (both (run_at 32) (number_at w32)) bytes
 
 -- an input, whose witness stack comes later
 unfoldable pub input_at : Reader TxIn
-input_at bytes = mapped (λ p. record { from = p.0.0; script = p.0.1; sequence = p.1; witness = [] }) (both (both outpoint_at string_at) (number_at w32)) bytes
+input_at bytes =
+    mapped (λ p. record { from = p.0.0; script = p.0.1; sequence = p.1; witness = [] })
+    (both (both outpoint_at string_at) (number_at w32)) bytes
 
 unfoldable pub inputs_at : Reader (List TxIn)
 inputs_at bytes = counted count_at input_at bytes
 
 -- an output of at most that many satoshis
 unfoldable pub output_at : ℕ → Reader TxOut
-output_at most bytes = mapped (λ p. record { value = p.0; script = p.1 }) (both (unless (λ value. nat_lt most value) (number_at w64)) string_at) bytes
+output_at most bytes =
+    mapped (λ p. record { value = p.0; script = p.1 })
+    (both (unless (λ value. nat_lt most value) (number_at w64)) string_at) bytes
 
--- that many outputs, of at most that many satoshis together: the value that brings the sum above is at fault
+-- that many outputs, of at most that many satoshis together: the value that brings the sum above is
+-- at fault
 unfoldable pub outputs_of : ℕ → ℕ → Reader (List TxOut)
 outputs_of zero most bytes = Ok ([], bytes)
-outputs_of (suc n) most bytes = output_at most bytes >>= λ first. outputs_of n (most - first.0.value) first.1 >>= λ others. Ok (first.0 ∷ others.0, others.1)
+outputs_of (suc n) most bytes = do
+  first ← output_at most bytes
+  others ← outputs_of n (most - first.0.value) first.1
+  Ok (first.0 ∷ others.0, others.1)
 
 unfoldable pub outputs_at : Reader (List TxOut)
 outputs_at bytes = count_at bytes >>= λ n. outputs_of n.0 most_value n.1
@@ -43,11 +56,16 @@ stack_at bytes = counted compact_at string_at bytes
 -- a stack for each input
 unfoldable pub stacks_of : List TxIn → Reader (List TxIn)
 stacks_of [] bytes = Ok ([], bytes)
-stacks_of (i ∷ is) bytes = stack_at bytes >>= λ w. stacks_of is w.1 >>= λ others. Ok (record i { witness = w.0 } ∷ others.0, others.1)
+stacks_of (i ∷ is) bytes = do
+  w ← stack_at bytes
+  others ← stacks_of is w.1
+  Ok (record i { witness = w.0 } ∷ others.0, others.1)
 
--- Stacks that are all empty are the fault of the marker, which has that many bytes from its place to the end.
+-- Stacks that are all empty are the fault of the marker, which has that many bytes from its place
+-- to the end.
 unfoldable pub witnesses_at : ℕ → List TxIn → Reader (List TxIn)
-witnesses_at marker is bytes = stacks_of is bytes >>= λ x. if list_any has_witness x.0 then Ok x else Err marker
+witnesses_at marker is bytes =
+    stacks_of is bytes >>= λ x. if list_any has_witness x.0 then Ok x else Err marker
 
 -- A byte 0 behind the version is the marker, and a flag of 1 has to follow.
 unfoldable pub marker_at : Reader Bool
@@ -68,26 +86,54 @@ tx_at bytes = do
   outputs ← outputs_at bare.1
   inputs ← maybe_witnesses_at marked.0 (length version.1) bare.0 outputs.1
   lock ← number_at w32 inputs.1
-  Ok (record { version = version.0; marked = marked.0; inputs = inputs.0; outputs = outputs.0; lock = lock.0 }, lock.1)
+  Ok (
+    record {
+      version = version.0;
+      marked = marked.0;
+      inputs = inputs.0;
+      outputs = outputs.0;
+      lock = lock.0;
+    },
+    lock.1,
+  )
 
 unfoldable pub header_at : Reader Header
-header_at bytes = mapped
-    (λ p. record { version = p.0.0.0.0.0; previous = p.0.0.0.0.1; root = p.0.0.0.1; time = p.0.0.1; bits = p.0.1; nonce = p.1 })
-    (both (both (both (both (both (number_at w32) (run_at 32)) (run_at 32)) (number_at w32)) (number_at w32)) (number_at w32)) bytes
+header_at bytes = do
+  version ← number_at w32 bytes
+  previous ← run_at 32 version.1
+  root ← run_at 32 previous.1
+  time ← number_at w32 root.1
+  bits ← number_at w32 time.1
+  nonce ← number_at w32 bits.1
+  Ok (
+    record {
+      version = version.0;
+      previous = previous.0;
+      root = root.0;
+      time = time.0;
+      bits = bits.0;
+      nonce = nonce.0;
+    },
+    nonce.1,
+  )
 
 -- a block, and bytes behind it
 unfoldable pub block_at : Reader Block
-block_at bytes = mapped (λ p. record { header = p.0; txs = p.1 }) (both header_at (counted count_at tx_at)) bytes
+block_at bytes =
+    mapped (λ p. record { header = p.0; txs = p.1 }) (both header_at (counted count_at tx_at)) bytes
 
 -- Bytes behind the last transaction are a field at fault.
 unfoldable pub whole_of : List ℕ → Result Block ℕ
 whole_of bytes = block_at bytes >>= λ x. if length x.1 == 0 then Ok x.0 else Err (length x.1)
 
 -- a fault by its place from the first byte
-abbrev pub placed : {A : Type 0} → ℕ → Result A ℕ → Result A ℕ
-placed all (Ok x) = Ok x
-placed all (Err left) = Err (all - left)
+abbrev pub with_place : {A : Type 0} → ℕ → Result A ℕ → Result A ℕ
+with_place all (Ok x) = Ok x
+with_place all (Err left) = Err (all - left)
 
--- The block that the bytes spell, or the place of the first fault. Bytes that are too many are at fault behind the last one allowed.
+-- The block that the bytes spell, or the place of the first fault. Bytes that are too many are at
+-- fault behind the last one allowed.
 unfoldable pub block_of : List ℕ → Result Block ℕ
-block_of bytes = if nat_lt most_bytes (length bytes) then Err most_bytes else placed (length bytes) (whole_of bytes)
+block_of bytes =
+    if nat_lt most_bytes (length bytes) then Err most_bytes
+    else with_place (length bytes) (whole_of bytes)

@@ -1,5 +1,7 @@
--- What is a lawful block, and the one spelling of each (Bitcoin's serialization; BIP 144 for marker, flag and witnesses).
-use Rattle.std.specs.Prelude.{◌≡◌, ℕ, ◌<◌, ◌≤◌, ◌^◌, Bool, List, [], ◌∷◌, ◌++◌, length, nat_lt, sum_by, if◌then◌else◌}
+-- What is a lawful block, and the one spelling of each (Bitcoin's serialization; BIP 144 for
+-- marker, flag and witnesses).
+use Rattle.std.specs.Prelude.{◌≡◌, ℕ, ◌<◌, ◌≤◌, ◌^◌, Bool, List, [], ◌∷◌, ◌++◌, length, nat_lt}
+use Rattle.std.specs.Prelude.{sum_by, if◌then◌else◌}
 use Rattle.std.specs.Int.{w32, w64, to_le_bytes}
 use Rattle.std.specs.List.{flat_map, AllByRecursion, list_any}
 use Rattle.ox_bytes.specs.Spelling.{compact, string}
@@ -38,20 +40,25 @@ abbrev pub stacks : List TxIn → List ℕ
 stacks is = flat_map (λ i. stack i.witness) is
 
 -- the form without marker, flag and witnesses
-abbrev pub stripped : Tx → List ℕ
-stripped t = to_le_bytes w32 t.version ++ inputs t.inputs ++ outputs t.outputs ++ to_le_bytes w32 t.lock
+abbrev pub stripped_form : Tx → List ℕ
+stripped_form t =
+    to_le_bytes w32 t.version ++ inputs t.inputs ++ outputs t.outputs ++ to_le_bytes w32 t.lock
 
 -- the form with them
-abbrev pub extended : Tx → List ℕ
-extended t = to_le_bytes w32 t.version ++ 0 ∷ 1 ∷ [] ++ inputs t.inputs ++ outputs t.outputs ++ stacks t.inputs ++ to_le_bytes w32 t.lock
+abbrev pub extended_form : Tx → List ℕ
+extended_form t =
+    to_le_bytes w32 t.version ++ 0 ∷ 1 ∷ [] ++ inputs t.inputs ++ outputs t.outputs
+    ++ stacks t.inputs ++ to_le_bytes w32 t.lock
 
 -- a transaction
 abbrev pub tx : Tx → List ℕ
-tx t = if t.marked then extended t else stripped t
+tx t = if t.marked then extended_form t else stripped_form t
 
 -- the 80 bytes of a header
 abbrev pub header : Header → List ℕ
-header h = to_le_bytes w32 h.version ++ h.previous ++ h.root ++ to_le_bytes w32 h.time ++ to_le_bytes w32 h.bits ++ to_le_bytes w32 h.nonce
+header h =
+    to_le_bytes w32 h.version ++ h.previous ++ h.root ++ to_le_bytes w32 h.time
+    ++ to_le_bytes w32 h.bits ++ to_le_bytes w32 h.nonce
 
 -- the bytes of a block
 unfoldable pub spell : Block → List ℕ
@@ -59,7 +66,8 @@ spell b = header b.header ++ (compact (length b.txs) ++ flat_map tx b.txs)
 
 -- ---- what is lawful
 
--- the most satoshis that an output may have, and that a transaction's outputs may have together: 21,000,000 coins
+-- the most satoshis that an output may have, and that a transaction's outputs may have together:
+-- 21,000,000 coins
 abbrev pub most_value : ℕ
 most_value = 2100000000000000
 
@@ -90,7 +98,8 @@ FitsStack items = (length items < 2 ^ 64) × AllByRecursion FitsString items
 abbrev pub has_witness : TxIn → Bool
 has_witness i = nat_lt 0 (length i.witness)
 
--- A transaction has an input and an output, its outputs have no more than all satoshis together, and it is marked exactly where some stack of it is not empty.
+-- A transaction has an input and an output, its outputs have no more than all satoshis together,
+-- and it is marked exactly where some stack of it is not empty.
 pub record LawfulTx (t : Tx) : Type 0 where
   pub version : t.version < 2 ^ 32
   pub some_input : 0 < length t.inputs

@@ -3,11 +3,13 @@
 use crate::lists::{Inputs, Outs, Txs, Witness};
 use ox_bytes::Bytes;
 
-/// What names a transaction: SHA-256 twice over its form without witnesses, in serialized order. It is shown in reversed order. Ids are ordered by their bytes.
+/// What names a transaction: SHA-256 twice over its form without witnesses, in serialized order. It
+/// is shown in reversed order. Ids are ordered by their bytes.
 #[derive(Clone, Copy, Debug, PartialEq, Eq)]
 pub struct Txid(pub [u8; 32]);
 
-/// An output, by the transaction that makes it and its index there. Outpoints are ordered by the serialized bytes of the txid, and then by the index.
+/// An output, by the transaction that makes it and its index there. Outpoints are ordered by the
+/// serialized bytes of the txid, and then by the index.
 #[derive(Clone, Copy, Debug, PartialEq, Eq, PartialOrd, Ord)]
 pub struct OutPoint {
     /// The transaction.

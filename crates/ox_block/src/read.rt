@@ -33,9 +33,13 @@ fn block_or_place(alloc: Global, bytes: &[u8]) -> Result<Block, BlockFault>
     }
 }
 
-/// The block that the bytes spell, all of the bytes. `Malformed` exactly where they spell no lawful block, with the place of the first fault from left to right: the first byte of the first field that is cut, not in its shortest form or against a rule, or 4,000,000 where there are more bytes than that. `Memory` where there is none for the block.
+/// The block that the bytes spell, all of the bytes. `Malformed` exactly where they spell no lawful
+/// block, with the place of the first fault from left to right: the first byte of the first field
+/// that is cut, not in its shortest form or against a rule, or 4,000,000 where there are more bytes
+/// than that. `Memory` where there is none for the block.
 ///
-/// One pass: each script is copied once, and a count takes room for at most four values before those that it announces are read.
+/// One pass: each script is copied once, and a count takes room for at most four values before
+/// those that it announces are read.
 pub fn read_block(alloc: Global, bytes: &[u8]) -> Result<Block, BlockFault>
     // What is read is lawful, and is spelled so.
     ensures found { IfOk result (λ block. Spells bytes.now block) }
@@ -49,7 +53,8 @@ pub fn read_block(alloc: Global, bytes: &[u8]) -> Result<Block, BlockFault>
     block_or_place(alloc, bytes)
 }
 
-/// The first field at fault stands where reading on lists stops, and there is none where that gives a block.
+/// The first field at fault stands where reading on lists stops, and there is none where that gives
+/// a block.
 pub fn fields_agree_with_reading()
     ensures { (bytes : List ℕ) → fault_of bytes ≡ fault_in (block_of bytes) }
 {}

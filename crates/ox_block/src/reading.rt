@@ -4,7 +4,10 @@ ghost use Rattle.std.specs.Prelude.{◌≡◌, ◌≤◌, length, Ok, IfOk};
 ghost use Rattle.ox_bytes.specs.Reading.{Gives, GivesOrMemory, run_at, times, string_at};
 ghost use Rattle.std.specs.List.{list_any};
 ghost use Rattle.ox_block.specs.Spelling.{has_witness};
-ghost use Rattle.ox_block.specs.Reading.{count_at, outpoint_at, input_at, inputs_at, output_at, outputs_of, outputs_at, stack_at, stacks_of, witnesses_at, marker_at, maybe_witnesses_at, tx_at, header_at, block_at, whole_of};
+ghost use Rattle.ox_block.specs.Reading.{count_at, outpoint_at, input_at, inputs_at, output_at};
+ghost use Rattle.ox_block.specs.Reading.{outputs_of, outputs_at, stack_at, stacks_of, witnesses_at};
+ghost use Rattle.ox_block.specs.Reading.{marker_at, maybe_witnesses_at, tx_at, header_at, block_at};
+ghost use Rattle.ox_block.specs.Reading.{whole_of};
 
 use crate::block::{Block, Header, OutPoint, Tx, TxIn, TxOut, Txid};
 use crate::lists::{Inputs, Outs, Txs, Witness};
@@ -36,10 +39,10 @@ fn count_of(bytes: &[u8]) -> Result<(u64, &[u8]), FieldFault>
     ensures { Gives (λ x. (x.0, x.1.now)) result (count_at bytes.now) }
 {
     let (count, rest) = compact_field(bytes)?;
-    if count == 0 {
-        return Err(FieldFault { left: bytes.len() });
+    match count {
+        0 => Err(FieldFault { left: bytes.len() }),
+        _ => Ok((count, rest)),
     }
-    Ok((count, rest))
 }
 
 #[tactic(auto, unfolding(crate::specs::Reading::outpoint_at))]
@@ -72,7 +75,8 @@ fn input_of(alloc: Global, bytes: &[u8]) -> Result<(TxIn, &[u8]), ReadError>
     Ok((input, rest))
 }
 
-/// How many inputs or outputs room is taken for before any is read. So few need no more than they fill, and a count that
+/// How many inputs or outputs room is taken for before any is read. So few need no more than they
+/// fill, and a count that
 /// lies takes no more room than one of 4.
 fn room_for(count: u64) -> usize
     ensures { result ≤ 4 }
@@ -191,7 +195,8 @@ fn any_witness(inputs: &[TxIn]) -> bool
     inputs.iter().any(|input| input.witness.len() > 0)
 }
 
-/// The stacks, which may not all be empty. The marker has that many bytes from its place to the end.
+/// The stacks, which may not all be empty. The marker has that many bytes from its place to the
+/// end.
 #[tactic(auto, unfolding(crate::specs::Reading::witnesses_at, crate::specs::Reading::maybe_witnesses_at))]
 fn witnesses_of(
     alloc: Global,
@@ -200,7 +205,8 @@ fn witnesses_of(
     mut inputs: Vec<TxIn>,
     bytes: &[u8],
 ) -> Result<(Vec<TxIn>, &[u8]), ReadError>
-    ensures { GivesOrMemory (λ x. (x.0.items, x.1.now)) result (maybe_witnesses_at marked marker inputs.items bytes.now) }
+    ensures { GivesOrMemory (λ x. (x.0.items, x.1.now)) result
+        (maybe_witnesses_at marked marker inputs.items bytes.now) }
 {
     if !marked {
         return Ok((inputs, bytes));

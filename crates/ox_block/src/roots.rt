@@ -1,7 +1,8 @@
 //! Roots over the ids of a block's transactions.
 
 ghost use Rattle.std.specs.Prelude.{◌≡◌, ◌<◌, length, map, IfOk};
-ghost use Rattle.ox_block.specs.Hashes.{paired, root_of, witness_ids, block_root, block_witness_root};
+ghost use Rattle.ox_block.specs.Hashes.{next_row, root_of, witness_ids, block_root};
+ghost use Rattle.ox_block.specs.Hashes.{block_witness_root};
 
 use crate::block::{Block, Tx};
 use crate::hashing::{hash_pair, wtxid_of};
@@ -11,7 +12,7 @@ use std::alloc::Global;
 
 /// The row above a row of hashes.
 fn row_above(alloc: Global, row: &[[u8; 32]]) -> Result<Vec<[u8; 32]>, Memory>
-    ensures { IfOk result (λ above. above.items ≡ paired row.now) }
+    ensures { IfOk result (λ above. above.items ≡ next_row row.now) }
 {
     let mut above = Vec::new(alloc);
     let mut rest = row;
@@ -60,7 +61,9 @@ fn wtxids(alloc: Global, txs: &[Tx]) -> Result<Vec<[u8; 32]>, Memory>
     Ok(ids)
 }
 
-/// The root of transactions' ids, of which there is at least one: hashes in a row are paired and hashed by SHA-256 twice, an odd last one with itself, until one is left. `Memory` where there is none for the rows above the ids.
+/// The root of transactions' ids, of which there is at least one: hashes in a row are paired and
+/// hashed by SHA-256 twice, an odd last one with itself, until one is left. `Memory` where there is
+/// none for the rows above the ids.
 pub fn root_over(alloc: Global, ids: &Txids) -> Result<[u8; 32], Memory>
     requires { 0 < length ids.now }
     ensures { IfOk result (λ root. root ≡ root_of ids.now) }
@@ -68,7 +71,8 @@ pub fn root_over(alloc: Global, ids: &Txids) -> Result<[u8; 32], Memory>
     root_of_row(alloc, ids.as_slice())
 }
 
-/// The root of the ids of a block's transactions, as `root_over` makes it. The block has at least one transaction. `Memory` where there is none for the row of ids.
+/// The root of the ids of a block's transactions, as `root_over` makes it. The block has at least
+/// one transaction. `Memory` where there is none for the row of ids.
 #[tactic(auto, unfolding(crate::specs::Hashes::block_root))]
 pub fn root(alloc: Global, block: &Block) -> Result<[u8; 32], Memory>
     requires { 0 < length block.now.txs }
@@ -78,7 +82,8 @@ pub fn root(alloc: Global, block: &Block) -> Result<[u8; 32], Memory>
     root_over(alloc, &ids)
 }
 
-/// The root of the ids over the whole forms (BIP 141), the coinbase's counting as 32 zero bytes. The block has at least one transaction. `Memory` where there is none for the row of ids.
+/// The root of the ids over the whole forms (BIP 141), the coinbase's counting as 32 zero bytes.
+/// The block has at least one transaction. `Memory` where there is none for the row of ids.
 #[tactic(auto, unfolding(crate::specs::Hashes::block_witness_root))]
 pub fn witness_root(alloc: Global, block: &Block) -> Result<[u8; 32], Memory>
     requires { 0 < length block.now.txs }

@@ -5,7 +5,9 @@ ghost use Rattle.std.specs.Int.{w32, w64, to_le_bytes};
 ghost use Rattle.std.specs.List.{flat_map};
 ghost use Rattle.ox_bytes.specs.Spelling.{compact, string};
 ghost use Rattle.ox_block.specs.Putting.{Puts};
-ghost use Rattle.ox_block.specs.Spelling.{input, output, inputs, outputs, stack, stacks, stripped, extended, tx, header, spell};
+ghost use Rattle.ox_block.specs.Spelling.{input, output, inputs, outputs, stack, stacks};
+ghost use Rattle.ox_block.specs.Spelling.{stripped_form};
+ghost use Rattle.ox_block.specs.Spelling.{extended_form, tx, header, spell};
 
 use crate::block::{Block, Header, Tx, TxIn, TxOut};
 use crate::sink::Sink;
@@ -127,7 +129,7 @@ fn put_stacks<S: Sink>(sink: &mut S, items: &[TxIn]) -> Result<(), S::Fault>
 
 /// A transaction without marker, flag and witnesses.
 pub fn put_stripped<S: Sink>(sink: &mut S, tx: &Tx) -> Result<(), S::Fault>
-    ensures { OnOk result (Puts S.holds (stripped tx.now) sink.old sink.new) }
+    ensures { OnOk result (Puts S.holds (stripped_form tx.now) sink.old sink.new) }
 {
     put_u32(sink, tx.version)?;
     put_inputs(sink, tx.inputs.as_slice())?;
@@ -137,7 +139,7 @@ pub fn put_stripped<S: Sink>(sink: &mut S, tx: &Tx) -> Result<(), S::Fault>
 
 /// A transaction with marker, flag and witnesses.
 fn put_extended<S: Sink>(sink: &mut S, tx: &Tx) -> Result<(), S::Fault>
-    ensures { OnOk result (Puts S.holds (extended tx.now) sink.old sink.new) }
+    ensures { OnOk result (Puts S.holds (extended_form tx.now) sink.old sink.new) }
 {
     put_u32(sink, tx.version)?;
     sink.put(&[0, 1])?;

@@ -8,10 +8,11 @@ use crate::hashing::txid_of;
 use ox_bytes::{List, Memory};
 use std::alloc::Global;
 
-/// The ids of a block's transactions, in order. Contracts see the list of their bytes, which stand in serialized order.
+/// The ids of a block's transactions, in order. Contracts see the list of their bytes, which stand
+/// in serialized order.
 pub type Txids = List<[u8; 32]>;
 
-fn hashed(alloc: Global, txs: &[Tx]) -> Result<Vec<[u8; 32]>, Memory>
+fn ids_of(alloc: Global, txs: &[Tx]) -> Result<Vec<[u8; 32]>, Memory>
     ensures { IfOk result (λ ids. ids.items ≡ map txid txs.now) }
 {
     let mut ids = Vec::with_capacity(alloc, txs.len())?;
@@ -21,10 +22,11 @@ fn hashed(alloc: Global, txs: &[Tx]) -> Result<Vec<[u8; 32]>, Memory>
     Ok(ids)
 }
 
-/// The ids of a block's transactions, in order. Each transaction is hashed once. `Memory` where there is none for them.
+/// The ids of a block's transactions, in order. Each transaction is hashed once. `Memory` where
+/// there is none for them.
 pub fn txids_of(alloc: Global, block: &Block) -> Result<Txids, Memory>
     ensures { IfOk result (λ ids. ids ≡ map txid block.now.txs) }
 {
-    let ids = hashed(alloc, block.txs.as_slice())?;
+    let ids = ids_of(alloc, block.txs.as_slice())?;
     Ok(Txids::from_vec(ids))
 }

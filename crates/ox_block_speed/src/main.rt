@@ -1,4 +1,5 @@
-//! Reads a block from standard input and hashes it, as often as the first argument says, to be timed: see bench/read_block.py.
+//! Reads a block from standard input and hashes it, as often as the first argument says, to be
+//! timed: see bench/read_block.py.
 #![tactic(auto)]
 
 use ox_block::{read_block, root, witness_root};
@@ -6,7 +7,8 @@ use std::alloc::Global;
 use std::env;
 use std::io::Read;
 
-/// The roots of the block, one over the other bit by bit, or nothing where there is no block or no memory.
+/// The roots of the block, one over the other bit by bit, or nothing where there is no block or no
+/// memory.
 fn work(alloc: Global, bytes: &[u8]) -> Option<[u8; 32]> {
     let block = read_block(alloc, bytes).ok()?;
     if block.txs.is_empty() {

@@ -6,7 +6,8 @@ use crate::memory::Memory;
 use std::alloc::Global;
 use std::marker::Model;
 
-/// Values in an order. Contracts see the list of them: a list of lists is a list of lists, and not vectors with their memory.
+/// Values in an order. Contracts see the list of them: a list of lists is a list of lists, and not
+/// vectors with their memory.
 #[derive(Debug, Drop)]
 pub struct List<T> {
     items: Vec<T>,

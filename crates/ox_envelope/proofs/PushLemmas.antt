@@ -3,7 +3,7 @@ use Rattle.std.proofs.Common.{◌≡◌, ℕ, zero, suc, ◌+◌, Bool, true, fa
 use Rattle.std.specs.Prelude.{is_some, slice_get}
 use Rattle.std.specs.List.{AllByRecursion, filter_map, cons_option}
 use Rattle.ox_script.specs.Script.{Instruction, Push, Op, IsPartOf, items_of, is_cut}
-use Rattle.ox_envelope.specs.Envelope.{Enveloped, IsPushOf, HasPushesOf, is_number, number_of, pushed, enveloped, is_opening, stretch, is_end, envelope_at, envelopes_past, envelopes_among, envelopes}
+use Rattle.ox_envelope.specs.Envelope.{Enveloped, IsPushOf, HasPushesOf, is_number, number_of, bytes_pushed, envelope_of, is_opening, stretch, is_end, envelope_at, envelopes_past, envelopes_among, envelopes}
 
 either : {X : Type 0} (P : X → Type 0) (test : Bool) (first second : X) → P first → P second → P (cond test first second)
 either P true first second holds_first holds_second = holds_first
@@ -21,16 +21,16 @@ all_append P (x ∷ xs) ys all_xs all_ys = (all_xs.0, all_append P xs ys all_xs.
 all_stretch : (script : List ℕ) (items : List Instruction) → AllByRecursion (IsPartOf script) items → AllByRecursion (IsPartOf script) (stretch items)
 all_stretch script [] all = tt
 all_stretch script (item ∷ items) all =
-    either (λ found. AllByRecursion (IsPartOf script) found) (is_some (pushed item)) (item ∷ stretch items) [] (all.0, all_stretch script items all.1) tt
+    either (λ found. AllByRecursion (IsPartOf script) found) (is_some (bytes_pushed item)) (item ∷ stretch items) [] (all.0, all_stretch script items all.1) tt
 
 op_pushes : (script : List ℕ) (op : ℕ) (number : Bool) (pushes : List (List ℕ)) → is_number op ≡ number → AllByRecursion (IsPushOf script) pushes → AllByRecursion (IsPushOf script) (cons_option (cond number (Some (number_of op ∷ [])) None) pushes)
 op_pushes script op true pushes is all = (inr (op, is, refl), all)
 op_pushes script op false pushes is all = all
 
-all_pushed : (script : List ℕ) (items : List Instruction) → AllByRecursion (IsPartOf script) items → AllByRecursion (IsPushOf script) (filter_map pushed items)
+all_pushed : (script : List ℕ) (items : List Instruction) → AllByRecursion (IsPartOf script) items → AllByRecursion (IsPushOf script) (filter_map bytes_pushed items)
 all_pushed script [] all = tt
 all_pushed script (Push bytes ∷ items) all = (inl all.0, all_pushed script items all.1)
-all_pushed script (Op op ∷ items) all = op_pushes script op (is_number op) (filter_map pushed items) refl (all_pushed script items all.1)
+all_pushed script (Op op ∷ items) all = op_pushes script op (is_number op) (filter_map bytes_pushed items) refl (all_pushed script items all.1)
 
 all_envelopes : (script : List ℕ) (skipped : ℕ) (items : List Instruction) → AllByRecursion (IsPartOf script) items → AllByRecursion (HasPushesOf script) (envelopes_past skipped items)
 all_envelopes script skipped [] all = tt
@@ -39,7 +39,7 @@ all_envelopes script zero (item ∷ items) all =
     let inside = drop 2 items in
     let Has : List Enveloped → Type 0 = λ found. AllByRecursion (HasPushesOf script) found in
     let whole = all_pushed script (stretch inside) (all_stretch script inside (all_drop (IsPartOf script) 2 items all.1)) in
-    let here : Has (envelope_at inside) = either Has (is_end (slice_get inside (length (stretch inside)))) (enveloped (stretch inside) ∷ []) [] (whole, tt) tt in
+    let here : Has (envelope_at inside) = either Has (is_end (slice_get inside (length (stretch inside)))) (envelope_of (stretch inside) ∷ []) [] (whole, tt) tt in
     let later = all_envelopes script (3 + length (stretch inside)) items all.1 in
     let next = all_envelopes script zero items all.1 in
     either Has (is_opening (item ∷ items)) (envelope_at inside ++ envelopes_past (3 + length (stretch inside)) items) (envelopes_past zero items) (all_append (HasPushesOf script) (envelope_at inside) (envelopes_past (3 + length (stretch inside)) items) here later) next

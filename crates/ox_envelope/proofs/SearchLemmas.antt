@@ -10,8 +10,15 @@ use Rattle.ox_envelope.specs.declared.search.Opened.TheVariants.{Nothing, Empty,
 use Rattle.std.proofs.lemmas.List.{append_assoc, append-nil}
 use Rattle.std.proofs.lemmas.Bool.{cond-false, eqb-true, ne_eqb}
 use Rattle.ox_script.specs.Script.{Instruction, Push, Op}
-use Rattle.ox_envelope.specs.Envelope.{Enveloped, no_pushes, is_number, pushed, pushes_number, enveloped, is_opening, stretch, is_end, envelope_at, envelopes_past, envelopes_among}
-use Rattle.ox_envelope.specs.Opening.{read_so_far, next_opened, joined, envelopes_within}
+use Rattle.ox_envelope.specs.Envelope.{Enveloped, no_pushes, is_number, bytes_pushed, pushes_number, envelope_of, is_opening, stretch, is_end, envelope_at, envelopes_past, envelopes_among}
+use Rattle.ox_envelope.specs.Opening.{next_opened, with_more, envelopes_within}
+
+-- the items of an opening that stand before the next item
+abbrev pub read_so_far : Opened → List Instruction
+read_so_far Nothing = []
+read_so_far Empty = Push [] ∷ []
+read_so_far If = Push [] ∷ Op 0x63 ∷ []
+read_so_far Whole = Push [] ∷ Op 0x63 ∷ Push (codes "ord") ∷ []
 
 -- passing items over is dropping them
 pub envelopes_past-drop : (skipped : ℕ) (items : List Instruction) → envelopes_past skipped items ≡ envelopes_among (drop skipped items)
@@ -40,19 +47,19 @@ envelopes_among-opening rest =
     let count = length (stretch rest) in
     let passed : 3 + count ≡ suc (suc (count + 1)) = omega arith in
     let after = envelopes_past-drop (3 + count) (Op 0x63 ∷ Push (codes "ord") ∷ rest) ∙ ap (λ n. envelopes_among (drop n (Op 0x63 ∷ Push (codes "ord") ∷ rest))) passed in
-    ap (λ envelopes. envelope_at rest ++ envelopes) after ∙ chosen (is_end (slice_get rest count)) (enveloped (stretch rest)) (envelopes_among (drop (count + 1) rest))
+    ap (λ envelopes. envelope_at rest ++ envelopes) after ∙ chosen (is_end (slice_get rest count)) (envelope_of (stretch rest)) (envelopes_among (drop (count + 1) rest))
 
 -- an item that pushes is one more push
-pushed_more : (before new : Enveloped) (item : Instruction) (bytes : List ℕ) (inside : List Instruction) → pushed item ≡ Some bytes
-    → new.pushes ≡ before.pushes ++ bytes ∷ [] → new.has_number ≡ (before.has_number || pushes_number item) → joined before (enveloped (item ∷ stretch inside)) ≡ joined new (enveloped (stretch inside))
+pushed_more : (before new : Enveloped) (item : Instruction) (bytes : List ℕ) (inside : List Instruction) → bytes_pushed item ≡ Some bytes
+    → new.pushes ≡ before.pushes ++ bytes ∷ [] → new.has_number ≡ (before.has_number || pushes_number item) → with_more before (envelope_of (item ∷ stretch inside)) ≡ with_more new (envelope_of (stretch inside))
 pushed_more before new item bytes inside is pushes number =
-    let all : before.pushes ++ filter_map pushed (item ∷ stretch inside) ≡ new.pushes ++ filter_map pushed (stretch inside) =
-    ap (λ first. before.pushes ++ cons_option first (filter_map pushed (stretch inside))) is ∙ sym (append_assoc before.pushes (bytes ∷ []) (filter_map pushed (stretch inside))) ∙ ap (λ front. front ++ filter_map pushed (stretch inside)) (sym pushes) in
+    let all : before.pushes ++ filter_map bytes_pushed (item ∷ stretch inside) ≡ new.pushes ++ filter_map bytes_pushed (stretch inside) =
+    ap (λ first. before.pushes ++ cons_option first (filter_map bytes_pushed (stretch inside))) is ∙ sym (append_assoc before.pushes (bytes ∷ []) (filter_map bytes_pushed (stretch inside))) ∙ ap (λ front. front ++ filter_map bytes_pushed (stretch inside)) (sym pushes) in
     let some : (before.has_number || list_any pushes_number (item ∷ stretch inside)) ≡ (new.has_number || list_any pushes_number (stretch inside)) =
     sym (or_assoc before.has_number (pushes_number item) (list_any pushes_number (stretch inside))) ∙ ap (λ first. first || list_any pushes_number (stretch inside)) (sym number) in
     ap₂ (λ (pushes : List (List ℕ)) (number : Bool). record { pushes = pushes; has_number = number }) all some
 
-pub envelopes_within-push : (before new : Enveloped) (item : Instruction) (bytes : List ℕ) (inside : List Instruction) → pushed item ≡ Some bytes
+pub envelopes_within-push : (before new : Enveloped) (item : Instruction) (bytes : List ℕ) (inside : List Instruction) → bytes_pushed item ≡ Some bytes
     → new.pushes ≡ before.pushes ++ bytes ∷ [] → new.has_number ≡ (before.has_number || pushes_number item) → envelopes_within before (item ∷ inside) ≡ envelopes_within new inside
 unfolding envelopes_within
 envelopes_within-push before new item bytes inside is pushes number =
@@ -61,20 +68,20 @@ envelopes_within-push before new item bytes inside is pushes number =
     let passed : suc count + 1 ≡ suc (count + 1) = omega arith in
     let after = ap (λ n. envelopes_among (drop n (item ∷ inside))) passed in
     let same = pushed_more before new item bytes inside is pushes number in
-    ap (λ pushes. cond (is_end (slice_get (item ∷ inside) (length pushes))) (joined before (enveloped pushes) ∷ envelopes_among (drop (length pushes + 1) (item ∷ inside))) (envelopes_among (drop (length pushes + 1) (item ∷ inside)))) front
+    ap (λ pushes. cond (is_end (slice_get (item ∷ inside) (length pushes))) (with_more before (envelope_of pushes) ∷ envelopes_among (drop (length pushes + 1) (item ∷ inside))) (envelopes_among (drop (length pushes + 1) (item ∷ inside)))) front
     ∙ ap₂ (λ first rest. cond (is_end (slice_get inside count)) (first ∷ rest) rest) same after
 
-joined-nothing : (before : Enveloped) → joined before (enveloped []) ≡ before
-joined-nothing before = ap₂ (λ (pushes : List (List ℕ)) (number : Bool). record { pushes = pushes; has_number = number }) (append-nil before.pushes) (or-false before.has_number)
+with_more-nothing : (before : Enveloped) → with_more before (envelope_of []) ≡ before
+with_more-nothing before = ap₂ (λ (pushes : List (List ℕ)) (number : Bool). record { pushes = pushes; has_number = number }) (append-nil before.pushes) (or-false before.has_number)
 
 -- another opcode is the stop
-pub envelopes_within-stop : (before : Enveloped) (op : ℕ) (inside : List Instruction) → pushed (Op op) ≡ None
+pub envelopes_within-stop : (before : Enveloped) (op : ℕ) (inside : List Instruction) → bytes_pushed (Op op) ≡ None
     → envelopes_within before (Op op ∷ inside) ≡ (if op == 0x68 then before ∷ envelopes_among inside else envelopes_among inside)
 unfolding envelopes_within
 envelopes_within-stop before op inside is =
     let front : stretch (Op op ∷ inside) ≡ [] = ap (λ (found : Option (List ℕ)). cond (is_some found) (Op op ∷ stretch inside) []) is in
-    ap (λ pushes. cond (is_end (slice_get (Op op ∷ inside) (length pushes))) (joined before (enveloped pushes) ∷ envelopes_among (drop (length pushes + 1) (Op op ∷ inside))) (envelopes_among (drop (length pushes + 1) (Op op ∷ inside)))) front
-    ∙ ap (λ first. cond (op == 0x68) (first ∷ envelopes_among inside) (envelopes_among inside)) (joined-nothing before)
+    ap (λ pushes. cond (is_end (slice_get (Op op ∷ inside) (length pushes))) (with_more before (envelope_of pushes) ∷ envelopes_among (drop (length pushes + 1) (Op op ∷ inside))) (envelopes_among (drop (length pushes + 1) (Op op ∷ inside)))) front
+    ∙ ap (λ first. cond (op == 0x68) (first ∷ envelopes_among inside) (envelopes_among inside)) (with_more-nothing before)
 
 pub envelopes_within-nil : (before : Enveloped) → envelopes_within before [] ≡ []
 unfolding envelopes_within envelopes_among
@@ -122,14 +129,14 @@ read_step opened next item left rest all so_far begins part is =
     ap (λ opened. envelopes_among (read_so_far opened ++ rest)) is ∙ sym (read_more opened item rest part) ∙ ap (λ left. envelopes_among (read_so_far opened ++ left)) (sym begins) ∙ so_far
 
 -- one more push, as a step of a loop
-pub push_step : (before new : Enveloped) (item : Instruction) (bytes : List ℕ) (left rest : List Instruction) (all : List Enveloped) → envelopes_within before left ≡ all → left ≡ item ∷ rest → pushed item ≡ Some bytes
+pub push_step : (before new : Enveloped) (item : Instruction) (bytes : List ℕ) (left rest : List Instruction) (all : List Enveloped) → envelopes_within before left ≡ all → left ≡ item ∷ rest → bytes_pushed item ≡ Some bytes
     → new.pushes ≡ before.pushes ++ bytes ∷ [] → new.has_number ≡ (before.has_number || pushes_number item) → envelopes_within new rest ≡ all
 push_step before new item bytes left rest all so_far begins is pushes number =
     sym (envelopes_within-push before new item bytes rest is pushes number) ∙ ap (envelopes_within before) (sym begins) ∙ so_far
 
-pushes_number-op : (op : ℕ) (bytes : List ℕ) (number : Bool) → is_number op ≡ number → pushed (Op op) ≡ Some bytes → number ≡ true
+pushes_number-op : (op : ℕ) (bytes : List ℕ) (number : Bool) → is_number op ≡ number → bytes_pushed (Op op) ≡ Some bytes → number ≡ true
 pushes_number-op op bytes true is some = refl
-pushes_number-op op bytes false is some = let none : pushed (Op op) ≡ None = rw is refl in cc
+pushes_number-op op bytes false is some = let none : bytes_pushed (Op op) ≡ None = rw is refl in cc
 
 -- bytes of the script that are pushed
 pub bytes_step : (before new : Enveloped) (item : Instruction) (bytes : List ℕ) (left rest : List Instruction) (all : List Enveloped) → envelopes_within before left ≡ all → left ≡ item ∷ rest → item ≡ Push bytes
@@ -138,7 +145,7 @@ bytes_step before new item bytes left rest all so_far begins is pushes number =
     push_step before new (Push bytes) bytes left rest all so_far (begins ∙ ap (λ item. item ∷ rest) is) refl pushes (number ∙ sym (or-false before.has_number))
 
 -- a number that is pushed
-pub number_step : (before new : Enveloped) (item : Instruction) (op : ℕ) (bytes : List ℕ) (left rest : List Instruction) (all : List Enveloped) → envelopes_within before left ≡ all → left ≡ item ∷ rest → item ≡ Op op → Some bytes ≡ pushed (Op op)
+pub number_step : (before new : Enveloped) (item : Instruction) (op : ℕ) (bytes : List ℕ) (left rest : List Instruction) (all : List Enveloped) → envelopes_within before left ≡ all → left ≡ item ∷ rest → item ≡ Op op → Some bytes ≡ bytes_pushed (Op op)
     → new.pushes ≡ before.pushes ++ bytes ∷ [] → new.has_number ≡ true → envelopes_within new rest ≡ all
 number_step before new item op bytes left rest all so_far begins is some pushes number =
     let numbers = pushes_number-op op bytes (is_number op) refl (sym some) in
@@ -149,5 +156,5 @@ pub end_step : (before : Enveloped) (item : Instruction) (op : ℕ) (left rest :
 end_step before item op left rest all so_far begins is ends = sym so_far ∙ ap (envelopes_within before) (begins ∙ ap (λ item. item ∷ rest) (is ∙ ap Op ends)) ∙ envelopes_within-stop before 0x68 rest refl
 
 -- another opcode voids it
-pub void_step : (before : Enveloped) (item : Instruction) (op : ℕ) (left rest : List Instruction) (all : List Enveloped) → envelopes_within before left ≡ all → left ≡ item ∷ rest → item ≡ Op op → None ≡ pushed (Op op) → op ≢ 0x68 → all ≡ envelopes_among rest
+pub void_step : (before : Enveloped) (item : Instruction) (op : ℕ) (left rest : List Instruction) (all : List Enveloped) → envelopes_within before left ≡ all → left ≡ item ∷ rest → item ≡ Op op → None ≡ bytes_pushed (Op op) → op ≢ 0x68 → all ≡ envelopes_among rest
 void_step before item op left rest all so_far begins is none other = sym so_far ∙ ap (envelopes_within before) (begins ∙ ap (λ item. item ∷ rest) is) ∙ envelopes_within-stop before op rest (sym none) ∙ cond-false _ _ _ (ne_eqb op 0x68 other)

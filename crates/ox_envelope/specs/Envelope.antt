@@ -1,5 +1,7 @@
 -- The envelopes of a script: the Ordinal Theory Handbook, "Inscriptions".
-use Rattle.std.specs.Prelude.{◌≡◌, ◌⊎◌, ℕ, zero, suc, ◌+◌, ◌-◌, Bool, true, false, ◌&&◌, List, [], ◌∷◌, ◌++◌, length, drop, Option, Some, None, is_some, slice_get, ◌==◌, nat_le, bytes_eq, codes, if◌then◌else◌}
+use Rattle.std.specs.Prelude.{◌≡◌, ◌⊎◌, ℕ, zero, suc, ◌+◌, ◌-◌, Bool, true, false, ◌&&◌, List, []}
+use Rattle.std.specs.Prelude.{◌∷◌, ◌++◌, length, drop, Option, Some, None, is_some, slice_get, ◌==◌}
+use Rattle.std.specs.Prelude.{nat_le, bytes_eq, codes, if◌then◌else◌}
 use Rattle.std.specs.List.{AllByRecursion, list_any, filter_map}
 use Rattle.ox_script.specs.Script.{Instruction, Push, Op, StandsIn, items_of, is_cut}
 
@@ -22,16 +24,17 @@ abbrev pub number_of : ℕ → ℕ
 number_of op = if op == 0x4f then 0x81 else op - 0x50
 
 -- the bytes that an item pushes, if it is a push
-abbrev pub pushed : Instruction → Option (List ℕ)
-pushed (Push bytes) = Some bytes
-pushed (Op op) = if is_number op then Some (number_of op ∷ []) else None
+abbrev pub bytes_pushed : Instruction → Option (List ℕ)
+bytes_pushed (Push bytes) = Some bytes
+bytes_pushed (Op op) = if is_number op then Some (number_of op ∷ []) else None
 
 abbrev pub pushes_number : Instruction → Bool
 pushes_number (Push bytes) = false
 pushes_number (Op op) = is_number op
 
-abbrev pub enveloped : List Instruction → Enveloped
-enveloped items = record { pushes = filter_map pushed items; has_number = list_any pushes_number items }
+abbrev pub envelope_of : List Instruction → Enveloped
+envelope_of items =
+    record { pushes = filter_map bytes_pushed items; has_number = list_any pushes_number items }
 
 -- an opening stands at the front: an empty push, OP_IF and the push of "ord"
 abbrev pub is_opening : List Instruction → Bool
@@ -41,7 +44,7 @@ is_opening _ = false
 -- the pushes at the front, up to the first other item: the stop
 abbrev pub stretch : List Instruction → List Instruction
 stretch [] = []
-stretch (item ∷ items) = if is_some (pushed item) then item ∷ stretch items else []
+stretch (item ∷ items) = if is_some (bytes_pushed item) then item ∷ stretch items else []
 
 -- the stop is there, and it is OP_ENDIF
 abbrev pub is_end : Option Instruction → Bool
@@ -50,14 +53,18 @@ is_end _ = false
 
 -- the envelope after an opening, if its stop is OP_ENDIF
 abbrev pub envelope_at : List Instruction → List Enveloped
-envelope_at inside = if is_end (slice_get inside (length (stretch inside))) then enveloped (stretch inside) ∷ [] else []
+envelope_at inside =
+    if is_end (slice_get inside (length (stretch inside)))
+    then envelope_of (stretch inside) ∷ [] else []
 
--- the envelopes whose opening begins after so many items. Behind an opening the next one is looked for after the stop.
+-- the envelopes whose opening begins after so many items. Behind an opening the next one is looked
+-- for after the stop.
 abbrev pub envelopes_past : ℕ → List Instruction → List Enveloped
 envelopes_past _ [] = []
 envelopes_past (suc skipped) (item ∷ items) = envelopes_past skipped items
 envelopes_past zero (item ∷ items) =
-    if is_opening (item ∷ items) then envelope_at (drop 2 items) ++ envelopes_past (3 + length (stretch (drop 2 items))) items
+    if is_opening (item ∷ items)
+    then envelope_at (drop 2 items) ++ envelopes_past (3 + length (stretch (drop 2 items))) items
     else envelopes_past zero items
 
 -- the envelopes among these items
@@ -68,9 +75,11 @@ envelopes_among items = envelopes_past 0 items
 abbrev pub envelopes : List ℕ → List Enveloped
 envelopes script = if is_cut script then [] else envelopes_among (items_of script)
 
--- a push of an envelope is a part of the script, or the byte of OP_1NEGATE or of one of OP_1 to OP_16
+-- a push of an envelope is a part of the script, or the byte of OP_1NEGATE or of one of OP_1 to
+-- OP_16
 abbrev pub IsPushOf : List ℕ → List ℕ → Type 0
-IsPushOf script bytes = StandsIn script bytes ⊎ ((op : ℕ) × (is_number op ≡ true) × (bytes ≡ number_of op ∷ []))
+IsPushOf script bytes =
+    StandsIn script bytes ⊎ ((op : ℕ) × (is_number op ≡ true) × (bytes ≡ number_of op ∷ []))
 
 abbrev pub HasPushesOf : List ℕ → Enveloped → Type 0
 HasPushesOf script envelope = AllByRecursion (IsPushOf script) envelope.pushes

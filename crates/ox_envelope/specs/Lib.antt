@@ -1,5 +1,6 @@
 pub mod Envelope
 pub mod Opening
+pub mod Tag
 pub mod Payload
 pub mod Walk
 pub mod Id

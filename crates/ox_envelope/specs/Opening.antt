@@ -1,31 +1,31 @@
--- How far an opening was read, and what follows a whole one.
-use Rattle.std.specs.Prelude.{◌+◌, ◌||◌, List, [], ◌∷◌, ◌++◌, length, drop, slice_get, codes, ◌==◌, bytes_eq, if◌then◌else◌}
+-- How far an opening is read, and what follows a whole one.
+use Rattle.std.specs.Prelude.{◌+◌, ◌||◌, List, [], ◌∷◌, ◌++◌, length, drop, slice_get, codes, ◌==◌}
+use Rattle.std.specs.Prelude.{bytes_eq, if◌then◌else◌}
 use Rattle.ox_script.specs.Script.{Instruction, Push, Op}
-use Rattle.ox_envelope.specs.Envelope.{Enveloped, enveloped, stretch, is_end, envelopes_among}
+use Rattle.ox_envelope.specs.Envelope.{Enveloped, envelope_of, stretch, is_end, envelopes_among}
 use Rattle.ox_envelope.specs.declared.search.Opened.{Opened}
 use Rattle.ox_envelope.specs.declared.search.Opened.TheVariants.{Nothing, Empty, If, Whole}
 
--- the items of an opening that stand before the next item
-abbrev pub read_so_far : Opened → List Instruction
-read_so_far Nothing = []
-read_so_far Empty = Push [] ∷ []
-read_so_far If = Push [] ∷ Op 0x63 ∷ []
-read_so_far Whole = Push [] ∷ Op 0x63 ∷ Push (codes "ord") ∷ []
-
--- how much of one stands before the item after this one. An item that breaks an opening may begin another.
+-- how much of an opening stands before the item after this one. An item that breaks one may
+-- begin another.
 abbrev pub next_opened : Opened → Instruction → Opened
 next_opened opened (Push []) = Empty
-next_opened If (Push (byte ∷ bytes)) = if bytes_eq (byte ∷ bytes) (codes "ord") then Whole else Nothing
+next_opened If (Push (byte ∷ bytes)) =
+    if bytes_eq (byte ∷ bytes) (codes "ord") then Whole else Nothing
 next_opened Empty (Op op) = if op == 0x63 then If else Nothing
 next_opened _ _ = Nothing
 
 -- pushes, and more of them
-abbrev pub joined : Enveloped → Enveloped → Enveloped
-joined first second = record { pushes = first.pushes ++ second.pushes; has_number = first.has_number || second.has_number }
+abbrev pub with_more : Enveloped → Enveloped → Enveloped
+with_more first second = record {
+  pushes = first.pushes ++ second.pushes;
+  has_number = first.has_number || second.has_number;
+}
 
 -- the envelopes from within one on, of which some pushes were read
 unfoldable pub envelopes_within : Enveloped → List Instruction → List Enveloped
 envelopes_within before inside =
     let pushes = stretch inside in
     let after = envelopes_among (drop (length pushes + 1) inside) in
-    if is_end (slice_get inside (length pushes)) then joined before (enveloped pushes) ∷ after else after
+    if is_end (slice_get inside (length pushes))
+    then with_more before (envelope_of pushes) ∷ after else after

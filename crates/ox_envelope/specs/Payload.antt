@@ -1,8 +1,11 @@
 -- What the pushes of an envelope say: the Ordinal Theory Handbook, "Inscriptions", "Fields".
-use Rattle.std.specs.Prelude.{ℕ, ◌+◌, ◌%◌, Bool, true, false, not, ◌&&◌, ◌||◌, List, [], ◌∷◌, length, is_some, Option, Some, None, option_map, ◌==◌, nat_lt, bytes_eq, if◌then◌else◌}
+use Rattle.std.specs.Prelude.{ℕ, ◌+◌, ◌%◌, Bool, true, false, not, ◌&&◌, ◌||◌, List, [], ◌∷◌}
+use Rattle.std.specs.Prelude.{length, is_some, Option, Some, None, option_map, ◌==◌, nat_lt}
+use Rattle.std.specs.Prelude.{bytes_eq, if◌then◌else◌}
 use Rattle.std.specs.List.{list_any, filter_map, concat}
 use Rattle.ox_envelope.specs.Envelope.{Enveloped}
 use Rattle.ox_envelope.specs.Id.{id_of_value}
+use Rattle.ox_envelope.specs.Tag as tag
 use Rattle.ox_envelope.specs.declared.inscribed.Inscribed.{Inscribed}
 use Rattle.ox_envelope.specs.declared.id.InsId.{InsId}
 
@@ -17,14 +20,16 @@ is_empty _ = false
 
 -- tags and values take turns, up to an empty push in a tag's place
 abbrev pub fields : List (List ℕ) → List Field
-fields (tag ∷ value ∷ pushes) = if is_empty tag then [] else record { tag = tag; value = value } ∷ fields pushes
+fields (tag ∷ value ∷ pushes) =
+    if is_empty tag then [] else record { tag = tag; value = value } ∷ fields pushes
 fields _ = []
 
 -- the pushes after that one, if it is there
 abbrev pub body_pushes : List (List ℕ) → Option (List (List ℕ))
 body_pushes [] = None
 body_pushes (tag ∷ []) = if is_empty tag then Some [] else None
-body_pushes (tag ∷ value ∷ pushes) = if is_empty tag then Some (value ∷ pushes) else body_pushes pushes
+body_pushes (tag ∷ value ∷ pushes) =
+    if is_empty tag then Some (value ∷ pushes) else body_pushes pushes
 
 -- a last tag has no value
 abbrev pub is_incomplete : List (List ℕ) → Bool
@@ -35,7 +40,8 @@ is_incomplete (tag ∷ value ∷ pushes) = if is_empty tag then false else is_in
 -- the values of a tag, in order
 abbrev pub values_of : List ℕ → List Field → List (List ℕ)
 values_of tag [] = []
-values_of tag (field ∷ fields) = if bytes_eq field.tag tag then field.value ∷ values_of tag fields else values_of tag fields
+values_of tag (field ∷ fields) =
+    if bytes_eq field.tag tag then field.value ∷ values_of tag fields else values_of tag fields
 
 -- the first of some values
 abbrev pub first_of : List (List ℕ) → Option (List ℕ)
@@ -54,7 +60,9 @@ first_id (value ∷ _) = id_of_value value
 
 -- content type, pointer, parent, metadata, metaprotocol, content encoding and delegate
 abbrev pub known_tags : List (List ℕ)
-known_tags = (1 ∷ []) ∷ (2 ∷ []) ∷ (3 ∷ []) ∷ (5 ∷ []) ∷ (7 ∷ []) ∷ (9 ∷ []) ∷ (11 ∷ []) ∷ []
+known_tags =
+    (tag.content_type ∷ []) ∷ (tag.pointer ∷ []) ∷ (tag.parent ∷ []) ∷ (tag.metadata ∷ [])
+    ∷ (tag.metaprotocol ∷ []) ∷ (tag.content_encoding ∷ []) ∷ (tag.delegate ∷ []) ∷ []
 
 -- a tag is even by its first byte
 abbrev pub is_even : List ℕ → Bool
@@ -62,16 +70,18 @@ is_even [] = false
 is_even (byte ∷ _) = byte % 2 == 0
 
 abbrev pub is_unknown_even : List ℕ → Bool
-is_unknown_even tag = is_even tag && not (list_any (bytes_eq tag) known_tags)
+is_unknown_even name = is_even name && not (list_any (bytes_eq name) known_tags)
 
 -- parents and metadata may have several values
 abbrev pub is_single : List ℕ → Bool
-is_single tag = not (bytes_eq tag (3 ∷ [])) && not (bytes_eq tag (5 ∷ []))
+is_single name =
+    not (bytes_eq name (tag.parent ∷ [])) && not (bytes_eq name (tag.metadata ∷ []))
 
 -- the tags of which a second value is marked
 abbrev pub single_tags : List Field → List (List ℕ)
 single_tags [] = []
-single_tags (field ∷ fields) = if is_single field.tag then field.tag ∷ single_tags fields else single_tags fields
+single_tags (field ∷ fields) =
+    if is_single field.tag then field.tag ∷ single_tags fields else single_tags fields
 
 -- one of them stands there again
 abbrev pub has_repeat : List (List ℕ) → Bool
@@ -80,30 +90,37 @@ has_repeat (tag ∷ tags) = list_any (bytes_eq tag) tags || has_repeat tags
 
 -- a second pointer counts as an unknown even tag
 abbrev pub has_unknown_even : List Field → Bool
-has_unknown_even fields = list_any (λ field. is_unknown_even field.tag) fields || nat_lt 1 (length (values_of (2 ∷ []) fields))
+has_unknown_even fields =
+    list_any (λ field. is_unknown_even field.tag) fields
+    || nat_lt 1 (length (values_of (tag.pointer ∷ []) fields))
 
 -- a bit's worth, if it is set
 abbrev pub bit : Bool → ℕ → ℕ
 bit true worth = worth
 bit false worth = 0
 
--- the marks, by the fields, and by whether the last tag has no value and whether a push is by OP_1NEGATE or OP_1 to OP_16
+-- the marks, by the fields, and by whether the last tag has no value and whether a push is by
+-- OP_1NEGATE or OP_1 to OP_16
 abbrev pub marks_of : List Field → Bool → Bool → ℕ
 marks_of all incomplete number =
-    bit (has_unknown_even all) 1 + bit (has_repeat (single_tags all)) 2 + bit incomplete 4 + bit (is_some (first_of (values_of (2 ∷ []) all))) 32 + bit number 64
+    bit (has_unknown_even all) tag.unknown_even_mark
+    + bit (has_repeat (single_tags all)) tag.repeat_mark
+    + bit incomplete tag.incomplete_mark
+    + bit (is_some (first_of (values_of (tag.pointer ∷ []) all))) tag.pointer_mark
+    + bit number tag.number_mark
 
 -- what an envelope says
 abbrev pub inscribed_of : Enveloped → Inscribed
 inscribed_of envelope =
     let all = fields envelope.pushes in
     record {
-      content_type = first_of (values_of (1 ∷ []) all);
-      pointer = first_of (values_of (2 ∷ []) all);
-      metadata = joined_of (values_of (5 ∷ []) all);
-      metaprotocol = first_of (values_of (7 ∷ []) all);
-      encoding = first_of (values_of (9 ∷ []) all);
+      content_type = first_of (values_of (tag.content_type ∷ []) all);
+      pointer = first_of (values_of (tag.pointer ∷ []) all);
+      metadata = joined_of (values_of (tag.metadata ∷ []) all);
+      metaprotocol = first_of (values_of (tag.metaprotocol ∷ []) all);
+      encoding = first_of (values_of (tag.content_encoding ∷ []) all);
       body = option_map concat (body_pushes envelope.pushes);
-      parents = filter_map id_of_value (values_of (3 ∷ []) all);
-      delegate = first_id (values_of (11 ∷ []) all);
+      parents = filter_map id_of_value (values_of (tag.parent ∷ []) all);
+      delegate = first_id (values_of (tag.delegate ∷ []) all);
       marks = marks_of all (is_incomplete envelope.pushes) envelope.has_number;
     }

@@ -19,7 +19,10 @@ impl<'a> Model for Envelope<'a> {
 
     ghost Value = { Enveloped };
 
-    ghost view = { λ e. record { pushes = map (λ p. p.now) e.items.items; has_number = e.numbered } };
+    ghost view = { λ e. record {
+      pushes = map (λ p. p.now) e.items.items;
+      has_number = e.numbered;
+    } };
 }
 
 impl<'a> Envelope<'a> {
@@ -34,7 +37,8 @@ impl<'a> Envelope<'a> {
         }
     }
 
-    /// The pushes, in order. Each is a part of the script, but for those of OP_1NEGATE and OP_1 to OP_16, which are constants.
+    /// The pushes, in order. Each is a part of the script, but for those of OP_1NEGATE and OP_1 to
+    /// OP_16, which are constants.
     pub fn pushes(&self) -> &[&'a [u8]]
         ensures { map (λ p. p.now) result.now ≡ self.now.pushes }
     {

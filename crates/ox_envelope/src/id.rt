@@ -1,6 +1,7 @@
 //! Inscription ids.
 
-ghost use Rattle.std.specs.Prelude.{◌≡◌, ◌+◌, ◌≤◌, ◌++◌, Some, None, Ok, IfSome, reverse, take, drop, length, bytes_eq, if◌then◌else◌};
+ghost use Rattle.std.specs.Prelude.{◌≡◌, ◌+◌, ◌≤◌, ◌++◌, Some, None, Ok, IfSome, reverse, take};
+ghost use Rattle.std.specs.Prelude.{drop, length, bytes_eq, if◌then◌else◌};
 ghost use Rattle.std.specs.Str.Parse.{digits_value};
 ghost use Rattle.hex.specs.Hex.{encode_lower, decode_sized};
 ghost use Rattle.ox_script.specs.Script.{little_endian};
@@ -8,7 +9,8 @@ ghost use Rattle.ox_envelope.specs.Id.{is_index, is_number, id_of_value, id_of_t
 
 use itoa::Buffer;
 
-/// The id of an inscription: the transaction that revealed it, and which of that transaction's envelopes it is.
+/// The id of an inscription: the transaction that revealed it, and which of that transaction's
+/// envelopes it is.
 #[derive(Clone, Copy, Debug, PartialEq, Eq, PartialOrd, Ord)]
 pub struct InsId {
     /// The transaction's id in serialized byte order, the reverse of what is printed.
@@ -17,7 +19,8 @@ pub struct InsId {
     pub index: u32,
 }
 
-/// The index that these bytes are: at most 3, low byte first, of which the last isn't 0, or exactly 4.
+/// The index that these bytes are: at most 3, low byte first, of which the last isn't 0, or exactly
+/// 4.
 fn read_index(bytes: &[u8]) -> Option<u32>
     ensures { result ≡ (if is_index bytes.now then Some (little_endian bytes.now) else None) }
 {
@@ -31,7 +34,10 @@ fn read_index(bytes: &[u8]) -> Option<u32>
     }
 }
 
-/// The id that a field's value is, as a parent's or a delegate's: the txid's 32 bytes, and the index low byte first, in at most 3 bytes of which the last isn't 0, or in exactly 4 bytes. `None` where the value is anything else (Ordinal Theory Handbook, "Inscriptions", "Provenance" and "Delegate").
+/// The id that a field's value is, as a parent's or a delegate's: the txid's 32 bytes, and the
+/// index low byte first, in at most 3 bytes of which the last isn't 0, or in exactly 4 bytes.
+/// `None` where the value is anything else (Ordinal Theory Handbook, "Inscriptions", "Provenance"
+/// and "Delegate").
 pub fn read_id(value: &[u8]) -> Option<InsId>
     ensures { result ≡ id_of_value value.now }
 {
@@ -80,7 +86,9 @@ fn txid_digits(txid: &[u8]) -> [u8; 64]
     digits
 }
 
-/// Writes an id as text at the front: the txid in 64 lower-case hex digits, from its last byte to its first, the letter `i`, and the index. The answer is the text's length, at most 75; what stands behind it stays.
+/// Writes an id as text at the front: the txid in 64 lower-case hex digits, from its last byte to
+/// its first, the letter `i`, and the index. The answer is the text's length, at most 75; what
+/// stands behind it stays.
 pub fn write_id(id: &InsId, into: &mut [u8; 75]) -> usize
     ensures len { result ≡ length (id_text id.now) }
     ensures text { take result into.new ≡ id_text id.now }
@@ -108,7 +116,9 @@ fn has_text(id: &InsId, text: &[u8]) -> bool
     front == text
 }
 
-/// The id that a text is: the txid in 64 lower-case hex digits, from its last byte to its first, the letter `i`, and the index, below 2^32, without sign or leading zero. `None` where the text is anything else.
+/// The id that a text is: the txid in 64 lower-case hex digits, from its last byte to its first,
+/// the letter `i`, and the index, below 2^32, without sign or leading zero. `None` where the text
+/// is anything else.
 pub fn read_id_text(text: &[u8]) -> Option<InsId>
     ensures id { result ≡ id_of_text text.now }
     ensures text { IfSome result (λ id. id_text id ≡ text.now) }

@@ -8,6 +8,7 @@ use crate::id::InsId;
 use crate::payload::{
     all_ids, copy_first, first_id, join_body, join_values, marks_of, split_payload,
 };
+use crate::tag;
 use ox_bytes::{Bytes, List, Memory};
 use std::alloc::Global;
 
@@ -33,25 +34,31 @@ pub struct Inscribed {
     pub parents: Ids,
     /// Tag 11, the first value, if it is an id.
     pub delegate: Option<InsId>,
-    /// Bit 0: an unknown even tag. Bit 1: a tag other than 3 and 5 with two values. Bit 2: a last tag without a value. Bit 5: a pointer. Bit 6: a push by OP_1NEGATE or OP_1 to OP_16.
+    /// Bit 0: an unknown even tag. Bit 1: a tag other than 3 and 5 with two values. Bit 2: a last
+    /// tag without a value. Bit 5: a pointer. Bit 6: a push by OP_1NEGATE or OP_1 to OP_16.
     pub marks: u16,
 }
 
-/// What an envelope says. Its pushes are tags and values in turns, up to an empty push in a tag's place: all pushes after that are the body, joined, and without it there is none. A last tag without a value counts for nothing but its mark. Of a field's several values, the first is taken; those of metadata are joined, and each parent is kept. A tag of another length than one byte is unknown, and a parent or a delegate that is no id is left out. `Memory` where there is none for what is kept (Ordinal Theory Handbook, "Inscriptions", "Fields").
+/// What an envelope says. Its pushes are tags and values in turns, up to an empty push in a tag's
+/// place: all pushes after that are the body, joined, and without it there is none. A last tag
+/// without a value counts for nothing but its mark. Of a field's several values, the first is
+/// taken; those of metadata are joined, and each parent is kept. A tag of another length than one
+/// byte is unknown, and a parent or a delegate that is no id is left out. `Memory` where there is
+/// none for what is kept (Ordinal Theory Handbook, "Inscriptions", "Fields").
 pub fn parse(alloc: Global, envelope: &Envelope<'_>) -> Result<Inscribed, Memory>
     ensures { IfOk result (λ inscribed. inscribed ≡ inscribed_of envelope.now) }
 {
     let payload = split_payload(alloc, envelope.pushes())?;
     let fields = payload.fields.as_slice();
     Ok(Inscribed {
-        content_type: copy_first(alloc, fields, 1)?,
-        pointer: copy_first(alloc, fields, 2)?,
-        metadata: join_values(alloc, fields, 5)?,
-        metaprotocol: copy_first(alloc, fields, 7)?,
-        encoding: copy_first(alloc, fields, 9)?,
+        content_type: copy_first(alloc, fields, tag::CONTENT_TYPE)?,
+        pointer: copy_first(alloc, fields, tag::POINTER)?,
+        metadata: join_values(alloc, fields, tag::METADATA)?,
+        metaprotocol: copy_first(alloc, fields, tag::METAPROTOCOL)?,
+        encoding: copy_first(alloc, fields, tag::CONTENT_ENCODING)?,
         body: join_body(alloc, payload.body)?,
-        parents: all_ids(alloc, fields, 3)?,
-        delegate: first_id(fields, 11),
+        parents: all_ids(alloc, fields, tag::PARENT)?,
+        delegate: first_id(fields, tag::DELEGATE),
         marks: marks_of(alloc, fields, payload.incomplete, envelope.has_number())?,
     })
 }

@@ -6,6 +6,7 @@ mod id;
 mod inscribed;
 mod payload;
 mod search;
+mod tag;
 
 pub use envelope::{Envelope, Envelopes};
 pub use id::{InsId, read_id, read_id_text, write_id};

@@ -1,13 +1,18 @@
 //! The fields and the body among the pushes of an envelope.
 
-ghost use Rattle.std.specs.Prelude.{◌≡◌, ◌≤◌, ◌∷◌, ℕ, List, [], ◌||◌, not, bytes_eq, option_map, map, IfOk, OnOk};
+ghost use Rattle.std.specs.Prelude.{◌≡◌, ◌≤◌, ◌∷◌, ℕ, List, [], ◌||◌, not, bytes_eq, option_map};
+ghost use Rattle.std.specs.Prelude.{map, IfOk, OnOk};
 ghost use Rattle.std.specs.List.{concat, filter_map, list_any};
 ghost use Rattle.ox_envelope.specs.Id.{id_of_value};
-ghost use Rattle.ox_envelope.specs.Payload.{bit, body_pushes, fields, first_id, first_of, has_repeat, has_unknown_even, is_incomplete, is_single, is_unknown_even, joined_of, marks_of, single_tags, values_of};
-ghost use Rattle.ox_envelope.specs.Walk.{is_among, seen_field, texts};
+ghost use Rattle.ox_envelope.specs.Payload.{bit, first_id, first_of, has_repeat};
+ghost use Rattle.ox_envelope.specs.Payload.{has_unknown_even, is_incomplete, is_single};
+ghost use Rattle.ox_envelope.specs.Payload.{is_unknown_even, joined_of, marks_of, single_tags};
+ghost use Rattle.ox_envelope.specs.Walk.{body_in, fields_in, is_among, seen_fields, texts};
+ghost use Rattle.ox_envelope.specs.Walk.{values_at};
 
 use crate::id::{InsId, read_id};
 use crate::inscribed::Ids;
+use crate::tag;
 use ox_bytes::{Bytes, Memory};
 use std::alloc::Global;
 use std::collections::BTreeSet;
@@ -29,13 +34,15 @@ pub(crate) struct Payload<'p, 'a> {
     pub(crate) incomplete: bool,
 }
 
-/// Tells the pushes apart: tags and values take turns up to an empty push in a tag's place, which the body follows.
+/// Tells the pushes apart: tags and values take turns up to an empty push in a tag's place, which
+/// the body follows.
 pub(crate) fn split_payload<'p, 'a>(
     alloc: Global,
     pushes: &'p [&'a [u8]],
 ) -> Result<Payload<'p, 'a>, Memory>
-    ensures fields { IfOk result (λ r. map seen_field r.fields.items ≡ fields (texts pushes.now)) }
-    ensures body { IfOk result (λ r. option_map (λ body. texts body.now) r.body ≡ body_pushes (texts pushes.now)) }
+    ensures fields { IfOk result (λ r. seen_fields r.fields.items ≡ fields_in pushes.now) }
+    ensures body { IfOk result (λ r.
+        option_map (λ body. texts body.now) r.body ≡ body_in pushes.now) }
     ensures incomplete { IfOk result (λ r. r.incomplete ≡ is_incomplete (texts pushes.now)) }
 {
     let mut fields = Vec::new(alloc);
@@ -69,7 +76,7 @@ pub(crate) fn split_payload<'p, 'a>(
 
 /// The first value of a tag.
 pub(crate) fn first_value<'a>(fields: &[Field<'a>], tag: u8) -> Option<&'a [u8]>
-    ensures { option_map (λ v. v.now) result ≡ first_of (values_of (tag ∷ []) (map seen_field fields.now)) }
+    ensures { option_map (λ v. v.now) result ≡ first_of (values_at tag fields.now) }
 {
     for field in fields {
         if field.tag == [tag].as_slice() {
@@ -85,7 +92,7 @@ pub(crate) fn values<'a>(
     fields: &[Field<'a>],
     tag: u8,
 ) -> Result<Vec<&'a [u8]>, Memory>
-    ensures { IfOk result (λ v. texts v.items ≡ values_of (tag ∷ []) (map seen_field fields.now)) }
+    ensures { IfOk result (λ v. texts v.items ≡ values_at tag fields.now) }
 {
     let mut found = Vec::new(alloc);
     for field in fields {
@@ -130,11 +137,19 @@ pub(crate) fn ids(alloc: Global, values: &[&[u8]]) -> Result<Ids, Memory>
 }
 
 /// Whether the tag isn't known, and its first byte is even.
-fn is_unknown_even(tag: &[u8]) -> bool
-    ensures { result ≡ is_unknown_even tag.now }
+fn is_unknown_even(name: &[u8]) -> bool
+    ensures { result ≡ is_unknown_even name.now }
 {
-    match tag {
-        [1 | 2 | 3 | 5 | 7 | 9 | 11] => false,
+    match name {
+        [
+            tag::CONTENT_TYPE
+            | tag::POINTER
+            | tag::PARENT
+            | tag::METADATA
+            | tag::METAPROTOCOL
+            | tag::CONTENT_ENCODING
+            | tag::DELEGATE,
+        ] => false,
         [first, ..] => *first % 2 == 0,
         [] => false,
     }
@@ -142,7 +157,7 @@ fn is_unknown_even(tag: &[u8]) -> bool
 
 /// Whether some tag isn't known, and its first byte is even.
 pub(crate) fn any_unknown_even(fields: &[Field<'_>]) -> bool
-    ensures { result ≡ list_any (λ field. is_unknown_even field.tag) (map seen_field fields.now) }
+    ensures { result ≡ list_any (λ field. is_unknown_even field.tag) (seen_fields fields.now) }
 {
     for field in fields {
         if is_unknown_even(field.tag) {
@@ -153,23 +168,24 @@ pub(crate) fn any_unknown_even(fields: &[Field<'_>]) -> bool
 }
 
 /// Whether a second value of the tag is marked: parents and metadata may have several.
-fn is_single(tag: &[u8]) -> bool
-    ensures { result ≡ is_single tag.now }
+fn is_single(name: &[u8]) -> bool
+    ensures { result ≡ is_single name.now }
 {
-    !matches!(tag, [3] | [5])
+    !matches!(name, [tag::PARENT] | [tag::METADATA])
 }
 
 /// Adds a tag to those that are known, and says whether it is new.
 fn add_tag<'a>(known: &mut BTreeSet<&'a [u8]>, tag: &'a [u8]) -> Result<bool, Memory>
     ensures added { IfOk result (λ added. added ≡ not (is_among known.old.keys tag.now)) }
-    ensures known { OnOk result ((q : List ℕ) → is_among known.new.keys q ≡ (bytes_eq tag.now q || is_among known.old.keys q)) }
+    ensures known { OnOk result ((q : List ℕ)
+        → is_among known.new.keys q ≡ (bytes_eq tag.now q || is_among known.old.keys q)) }
 {
     Ok(known.insert(tag)?)
 }
 
 /// Whether one of the tags other than 3 and 5 has two values.
 pub(crate) fn has_repeat(alloc: Global, fields: &[Field<'_>]) -> Result<bool, Memory>
-    ensures { IfOk result (λ repeats. repeats ≡ has_repeat (single_tags (map seen_field fields.now))) }
+    ensures { IfOk result (λ repeats. repeats ≡ has_repeat (single_tags (seen_fields fields.now))) }
 {
     let mut known = BTreeSet::new(alloc);
     for field in fields {
@@ -186,7 +202,7 @@ pub(crate) fn copy_first(
     fields: &[Field<'_>],
     tag: u8,
 ) -> Result<Option<Bytes>, Memory>
-    ensures { IfOk result (λ value. value ≡ first_of (values_of (tag ∷ []) (map seen_field fields.now))) }
+    ensures { IfOk result (λ value. value ≡ first_of (values_at tag fields.now)) }
 {
     match first_value(fields, tag) {
         Some(value) => Ok(Some(Bytes::copy(alloc, value)?)),
@@ -200,7 +216,7 @@ pub(crate) fn join_values(
     fields: &[Field<'_>],
     tag: u8,
 ) -> Result<Option<Bytes>, Memory>
-    ensures { IfOk result (λ value. value ≡ joined_of (values_of (tag ∷ []) (map seen_field fields.now))) }
+    ensures { IfOk result (λ value. value ≡ joined_of (values_at tag fields.now)) }
 {
     let values = values(alloc, fields, tag)?;
     if values.is_empty() {
@@ -211,7 +227,7 @@ pub(crate) fn join_values(
 
 /// The values of a tag that are ids, in order.
 pub(crate) fn all_ids(alloc: Global, fields: &[Field<'_>], tag: u8) -> Result<Ids, Memory>
-    ensures { IfOk result (λ ids. ids ≡ filter_map id_of_value (values_of (tag ∷ []) (map seen_field fields.now))) }
+    ensures { IfOk result (λ ids. ids ≡ filter_map id_of_value (values_at tag fields.now)) }
 {
     let values = values(alloc, fields, tag)?;
     ids(alloc, values.as_slice())
@@ -219,14 +235,15 @@ pub(crate) fn all_ids(alloc: Global, fields: &[Field<'_>], tag: u8) -> Result<Id
 
 /// The first value of a tag, if it is an id.
 pub(crate) fn first_id(fields: &[Field<'_>], tag: u8) -> Option<InsId>
-    ensures { result ≡ first_id (values_of (tag ∷ []) (map seen_field fields.now)) }
+    ensures { result ≡ first_id (values_at tag fields.now) }
 {
     read_id(first_value(fields, tag)?)
 }
 
 /// The body, joined.
 pub(crate) fn join_body(alloc: Global, body: Option<&[&[u8]]>) -> Result<Option<Bytes>, Memory>
-    ensures { IfOk result (λ value. value ≡ option_map (λ pushes. concat (texts pushes.now)) body.entry) }
+    ensures { IfOk result (λ value.
+        value ≡ option_map (λ pushes. concat (texts pushes.now)) body.entry) }
 {
     match body {
         Some(pushes) => Ok(Some(join(alloc, pushes)?)),
@@ -242,23 +259,27 @@ fn bit(set: bool, worth: u16) -> u16
     if set { worth } else { 0 }
 }
 
-/// The marks, by the fields, and by whether the last tag has no value and whether a push is by OP_1NEGATE or OP_1 to OP_16.
+/// The marks, by the fields, and by whether the last tag has no value and whether a push is by
+/// OP_1NEGATE or OP_1 to OP_16.
 pub(crate) fn marks_of(
     alloc: Global,
     fields: &[Field<'_>],
     incomplete: bool,
     number: bool,
 ) -> Result<u16, Memory>
-    ensures { IfOk result (λ marks. marks ≡ marks_of (map seen_field fields.now) incomplete number) }
+    ensures { IfOk result (λ marks. marks ≡ marks_of (seen_fields fields.now) incomplete number) }
 {
-    let pointers = values(alloc, fields, 2)?;
+    let pointers = values(alloc, fields, tag::POINTER)?;
     let unknown_even = any_unknown_even(fields) || pointers.len() > 1;
     let repeat = has_repeat(alloc, fields)?;
     Ok(
-        bit(unknown_even, 1)
-            + bit(repeat, 2)
-            + bit(incomplete, 4)
-            + bit(first_value(fields, 2).is_some(), 32)
-            + bit(number, 64),
+        bit(unknown_even, tag::UNKNOWN_EVEN_MARK)
+            + bit(repeat, tag::REPEAT_MARK)
+            + bit(incomplete, tag::INCOMPLETE_MARK)
+            + bit(
+                first_value(fields, tag::POINTER).is_some(),
+                tag::POINTER_MARK,
+            )
+            + bit(number, tag::NUMBER_MARK),
     )
 }

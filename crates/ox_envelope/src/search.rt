@@ -1,10 +1,12 @@
 //! Finding the envelopes of a script in one pass over its items.
 
-ghost use Rattle.std.specs.Prelude.{◌≡◌, ◌≢◌, ◌∷◌, ◌++◌, ◌<◌, ◌≤◌, List, [], Some, None, length, map, IfOk, option_to_list, option_map};
+ghost use Rattle.std.specs.Prelude.{◌≡◌, ◌≢◌, ◌∷◌, ◌++◌, ◌<◌, ◌≤◌, List, [], Some, None, length};
+ghost use Rattle.std.specs.Prelude.{map, IfOk, option_to_list, option_map};
 ghost use Rattle.std.specs.List.{AllByRecursion};
 ghost use Rattle.std.specs.Bool.{OnTrue, OnFalse};
 ghost use Rattle.ox_script.specs.Script.{Op, seen};
-ghost use Rattle.ox_envelope.specs.Envelope.{pushed, envelopes_among, envelopes, no_pushes, HasPushesOf};
+ghost use Rattle.ox_envelope.specs.Envelope.{bytes_pushed, envelopes_among, envelopes, no_pushes};
+ghost use Rattle.ox_envelope.specs.Envelope.{HasPushesOf};
 ghost use Rattle.ox_envelope.specs.Opening.{next_opened, envelopes_within};
 
 use crate::envelope::{Envelope, Envelopes};
@@ -56,7 +58,7 @@ fn next_opened(opened: Opened, item: Item<'_>) -> Opened
 
 /// The byte that OP_1NEGATE or one of OP_1 to OP_16 pushes.
 fn number_pushed(op: u8) -> Option<&'static [u8]>
-    ensures { option_map (λ b. b.now) result ≡ pushed (Op op) }
+    ensures { option_map (λ b. b.now) result ≡ bytes_pushed (Op op) }
 {
     match op {
         OP_1NEGATE => Some(&[0x81]),
@@ -82,7 +84,8 @@ fn number_pushed(op: u8) -> Option<&'static [u8]>
 
 /// Reads on to the end of the next opening. `false` where there is none: then the items have ended.
 fn find_opening(items: &mut Instructions<'_>) -> bool
-    ensures found { OnTrue result (envelopes_among items.old.left ≡ envelopes_within no_pushes items.new.left) }
+    ensures found { OnTrue result (
+        envelopes_among items.old.left ≡ envelopes_within no_pushes items.new.left) }
     ensures fewer { OnTrue result (length items.new.left < length items.old.left) }
     ensures none { OnFalse result (envelopes_among items.old.left ≡ []) }
     ensures end { OnFalse result (items.new.met_cut ≡ items.old.ends_cut) }
@@ -98,12 +101,15 @@ fn find_opening(items: &mut Instructions<'_>) -> bool
     false
 }
 
-/// Reads an envelope from the end of its opening to its stop. `None` where that isn't OP_ENDIF, or the items end before it.
+/// Reads an envelope from the end of its opening to its stop. `None` where that isn't OP_ENDIF, or
+/// the items end before it.
 fn read_envelope<'a>(
     alloc: Global,
     items: &mut Instructions<'a>,
 ) -> Result<Option<Envelope<'a>>, Memory>
-    ensures found { IfOk result (λ r. envelopes_within no_pushes items.old.left ≡ option_to_list r ++ envelopes_among items.new.left) }
+    ensures found { IfOk result (λ r.
+        envelopes_within no_pushes items.old.left
+        ≡ option_to_list r ++ envelopes_among items.new.left) }
     ensures fewer { length items.new.left ≤ length items.old.left }
     ensures ends { items.new.ends_cut ≡ items.old.ends_cut }
 {
@@ -121,7 +127,12 @@ fn read_envelope<'a>(
     Ok(None)
 }
 
-/// The envelopes of a script, from the first to the last, by one pass over it. An envelope begins with an empty push, OP_IF and the push of "ord", has pushes, and ends with OP_ENDIF; OP_1NEGATE and OP_1 to OP_16 count as pushes of one byte. Any other opcode inside voids it, and the search goes on after that opcode; where an opening is broken, at the item that breaks it. A script that ends at a push cut short has none. `Memory` where there is none for the list (Ordinal Theory Handbook, "Inscriptions").
+/// The envelopes of a script, from the first to the last, by one pass over it. An envelope begins
+/// with an empty push, OP_IF and the push of "ord", has pushes, and ends with OP_ENDIF; OP_1NEGATE
+/// and OP_1 to OP_16 count as pushes of one byte. Any other opcode inside voids it, and the search
+/// goes on after that opcode; where an opening is broken, at the item that breaks it. A script that
+/// ends at a push cut short has none. `Memory` where there is none for the list (Ordinal Theory
+/// Handbook, "Inscriptions").
 pub fn envelopes_of(alloc: Global, script: &[u8]) -> Result<Envelopes<'_>, Memory>
     ensures found { IfOk result (λ found. found ≡ envelopes script.now) }
 

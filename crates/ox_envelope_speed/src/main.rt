@@ -1,5 +1,6 @@
-//! Searches the script on standard input for envelopes, and reads what each says, as often as the first argument says,
-//! to be timed: see bench/find_envelopes.py. With a second argument the script's items are counted instead.
+//! Searches the script on standard input for envelopes, and reads what each says, as often as the
+//! first argument says, to be timed: see bench/find_envelopes.py. With a second argument the
+//! script's items are counted instead.
 #![tactic(auto)]
 
 use ox_bytes::Memory;
@@ -9,7 +10,8 @@ use std::alloc::Global;
 use std::env;
 use std::io::Read;
 
-/// How many envelopes a script has, and how many of them have a body. `Memory` where there is none for them.
+/// How many envelopes a script has, and how many of them have a body. `Memory` where there is none
+/// for them.
 fn envelopes_in(alloc: Global, script: &[u8]) -> Result<(usize, usize), Memory> {
     let found = envelopes_of(alloc, script)?;
     let mut bodies: usize = 0;

@@ -1,5 +1,5 @@
 use Rattle.std.proofs.Common.{length, ◌∙◌, ap, arith}
-use Rattle.ox_block.specs.Hashes.{root_of, paired}
+use Rattle.ox_block.specs.Hashes.{root_of, next_row}
 use Rattle.ox_block.proofs.Rows.{length-paired, root_above, root_only, is_root}
 use Rattle.ox_block.proofs.roots.root_of_row.Goals as goal
 
@@ -15,13 +15,13 @@ rows-init c =
 pub rows-smaller : goal.rows-smaller
 rows-smaller c =
     let less = length-paired c.rows.row.items in
-    let many = ap (λ (xs : _). length xs) (c.in_ok-row-2.ensures ∙ ap paired c.deref.ensures.value) in
+    let many = ap (λ (xs : _). length xs) (c.in_ok-row-2.ensures ∙ ap next_row c.deref.ensures.value) in
     omega (arith, less.0, less.1, many)
 
 pub rows-preserved : goal.rows-preserved
 rows-preserved c =
     let less = length-paired c.rows.row.items in
-    let is = c.in_ok-row-2.ensures ∙ ap paired c.deref.ensures.value in
+    let is = c.in_ok-row-2.ensures ∙ ap next_row c.deref.ensures.value in
     let many = ap (λ (xs : _). length xs) is in
     (omega (arith, less.0, less.1, many), ap root_of is ∙ root_above c.rows.row.items (omega arith) ∙ c.rows.invariant.1)
 

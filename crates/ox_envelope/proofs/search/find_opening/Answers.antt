@@ -1,7 +1,7 @@
 use Rattle.std.proofs.Common.{◌++◌, length, sym, ap, ◌∙◌, arith}
 use Rattle.ox_script.specs.Script.{seen}
 use Rattle.ox_envelope.specs.Envelope.{envelopes_among}
-use Rattle.ox_envelope.specs.Opening.{read_so_far}
+use Rattle.ox_envelope.proofs.SearchLemmas.{read_so_far}
 use Rattle.ox_envelope.proofs.SearchLemmas.{read_step, read_all, envelopes_among-opening}
 use Rattle.ox_envelope.proofs.search.find_opening.Goals as goal
 

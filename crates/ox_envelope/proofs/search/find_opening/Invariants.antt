@@ -1,6 +1,6 @@
 use Rattle.std.proofs.Common.{◌≡◌, ◌≢◌, ◌++◌, ◌≤◌, length}
 use Rattle.ox_envelope.specs.Envelope.{envelopes_among}
-use Rattle.ox_envelope.specs.Opening.{read_so_far}
+use Rattle.ox_envelope.proofs.SearchLemmas.{read_so_far}
 use Rattle.ox_envelope.specs.declared.search.Opened.TheVariants.{Whole}
 use Rattle.ox_envelope.proofs.search.find_opening.Given as goal
 
