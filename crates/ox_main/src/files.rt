@@ -1,6 +1,7 @@
 //! The two files of a folder.
 
-ghost use Rattle.std.specs.Prelude.{◌≡◌, IsUtf8, OnOk};
+ghost use Rattle.std.specs.Prelude.{◌≡◌, ◌↔◌, IfOk, IsTrue, IsUtf8, OnOk};
+ghost use Rattle.ox_main.specs.Streams.{IsApart};
 ghost use Rattle.ox_outside.specs.declared.site.Which.TheVariants.{A, B};
 
 use ox_outside::Which;
@@ -8,6 +9,7 @@ use std::alloc::Global;
 use std::fs::{File, OpenOptions};
 use std::io;
 use std::io::ErrorKind;
+use std::os::fd::AsRawFd;
 use std::os::unix::fs::FileExt;
 use std::path::Path;
 use std::rt::Files;
@@ -20,10 +22,14 @@ pub struct FilePair {
 }
 
 impl FilePair {
-    /// Opens both files of the folder to read and to write, and makes them empty where they are absent. An error where
-    /// the folder's name isn't UTF-8, or one of them can't be opened or made.
+    /// Opens both files of the folder to read and to write, and makes them empty where they are
+    /// absent. Then waits until the disk has the folder's list of names, which may be new, whether
+    /// this run made the files or one before it that was stopped. An error where the folder's name
+    /// isn't UTF-8, one of them can't be opened or made, a standard stream is closed, so that a
+    /// file would get its number, or the system can't say that the disk has the list.
     pub fn open<R: Files<File = File>>(rt: &R, alloc: Global, folder: &[u8]) -> io::Result<FilePair>
         ensures text { OnOk result (IsUtf8 folder.now) }
+        ensures apart { IfOk result (λ pair. IsApart pair.a × IsApart pair.b) }
     {
         let Ok(folder) = str::from_utf8(folder) else {
             return Err(io::Error::from(ErrorKind::InvalidInput));
@@ -31,10 +37,15 @@ impl FilePair {
         let folder = Path::new(folder);
         let mut how = OpenOptions::new();
         how.read(true).write(true).create(true);
-        Ok(FilePair {
+        let pair = FilePair {
             a: how.open(rt, folder.join(alloc, "a.ox")?.as_path())?,
             b: how.open(rt, folder.join(alloc, "b.ox")?.as_path())?,
-        })
+        };
+        if !is_apart(&pair.a) || !is_apart(&pair.b) {
+            return Err(io::Error::from(ErrorKind::InvalidInput));
+        }
+        File::open(rt, folder)?.sync_all()?;
+        Ok(pair)
     }
 
     // The file of this letter.
@@ -67,4 +78,12 @@ impl FilePair {
     pub fn sync(&self, file: Which) -> io::Result<()> {
         self.file(file).sync_all()
     }
+}
+
+// Whether the file's number is none of the three of the standard streams. It is one of them where
+// that stream was closed when the file was opened.
+fn is_apart(file: &File) -> bool
+    ensures { IsTrue result ↔ IsApart file.now }
+{
+    file.as_raw_fd() > 2
 }
