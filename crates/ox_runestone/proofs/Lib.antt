@@ -6,3 +6,4 @@ pub mod Scripts
 pub mod Back
 pub mod Said
 pub mod Range
+pub mod Split

@@ -2,6 +2,7 @@
 #![tactic(auto)]
 
 mod fields;
+mod laws;
 mod message;
 mod payload;
 mod reading;
@@ -9,6 +10,7 @@ mod stone;
 mod writing;
 
 pub use ox_bytes::Memory;
+pub use laws::{cenotaphs_have_causes, integers_are_the_split, supplies_are_amounts};
 pub use payload::is_stone;
 pub use reading::decipher;
 pub use stone::{Artifact, Edict, Edicts, Etching, RuneId, Runestone, Terms};
