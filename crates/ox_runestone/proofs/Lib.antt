@@ -7,3 +7,5 @@ pub mod Back
 pub mod Said
 pub mod Range
 pub mod Split
+pub mod Cenotaphs
+pub mod Rising

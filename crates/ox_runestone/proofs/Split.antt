@@ -1,19 +1,16 @@
 -- The integers of a payload are the only ones into whose varints it can be split.
-use Rattle.std.proofs.Common.{◌≡◌, ◌≢◌, ℕ, zero, suc, ◌+◌, ◌-◌, ◌*◌, ◌<◌, ◌≤◌, ◌^◌, List, [], ◌∷◌, ◌++◌, length, take, drop, get_or}
-use Rattle.std.proofs.Common.{cond, leb, ltb, Option, Some, None, Result, Ok, Err, refl, sym, ap, subst, ◌∙◌, arith, lit<, inl, inr}
+use Rattle.std.proofs.Common.{◌≡◌, ℕ, zero, suc, ◌+◌, ◌-◌, ◌*◌, ◌<◌, ◌^◌, List, [], ◌∷◌, ◌++◌, length, take, drop}
+use Rattle.std.proofs.Common.{cond, leb, ltb, Option, Some, None, Result, Ok, Err, refl, sym, ap, subst, ◌∙◌, arith, inl, inr}
 use Rattle.std.proofs.Math.Seq.{drop-append_seam}
 use Rattle.std.proofs.Math.Nat.{pow-suc}
 use Rattle.std.proofs.lemmas.Bool.{cases_Bool, leb-true, ltb-true}
-use Rattle.std.proofs.lemmas.List.{length-append, length-take-le, take-append-drop, get_or-append-add, get_or_append_left}
-use Rattle.std.specs.List.{AllByRecursion}
-use Rattle.ox_script.specs.Script.{Instruction, Push, Op, IsPartOf, StandsIn, items_of, is_cut}
-use Rattle.ox_script.proofs.PartLemmas.{all_parts}
+use Rattle.std.proofs.lemmas.List.{length-append, length-take-le, take-append-drop}
 use Rattle.ox_varint.specs.Varint.{IsVarint, behind, varint_at, varint_within}
 use Rattle.ox_varint.specs.declared.VarintFault.TheVariants.{Overflow}
 use Rattle.ox_varint.specs.declared.VarintFault.{VarintFault}
 use Rattle.ox_varint.proofs.Laws.{Found, IsBytes, is_found, is_read}
 use Rattle.ox_runestone.specs.Causes.{AreIntegers, IsInteger}
-use Rattle.ox_runestone.specs.Payload.{before, integers_of, joined, payload_of}
+use Rattle.ox_runestone.specs.Payload.{before, integers_of}
 use Rattle.ox_runestone.proofs.Payloads.{integers_of-nil, integers_of-more, integers_of-fault}
 
 -- ---- what is split so is read so
@@ -95,7 +92,7 @@ within_fits (suc more) (b ∷ bytes) n len fit is =
           let some : 0 < 128 ^ more = some_pow more in
           omega (arith, ltb-true b 128 low)
       | inr high ↦ let e : behind b (varint_within more bytes) ≡ Ok (n, len)
-            = sym (ap (λ t. cond t (Ok (b, 1)) (behind b (varint_within more bytes))) high) ∙ is in
+          = sym (ap (λ t. cond t (Ok (b, 1)) (behind b (varint_within more bytes))) high) ∙ is in
           behind_fits more b n len (varint_within more bytes) (fit 0) (λ m j h. within_fits more bytes m j (λ i. fit (suc i)) h) e
     ]
 
@@ -117,7 +114,7 @@ front_of payload n integers fit long (Err fault) at is =
 front_of payload n integers fit long (Ok found) at is =
     let f = found_number payload found.0 found.1 fit at in
     let ahead = before_cons found.0 n integers (integers_of (drop found.1 payload))
-        (sym (integers_of-more payload found.0 found.1 long f.some at) ∙ is) in record {
+    (sym (integers_of-more payload found.0 found.1 long f.some at) ∙ is) in record {
       len = found.1;
       found = subst (λ (m : ℕ). Found 18 payload m found.1) ahead.same f;
       fits = subst (λ (m : ℕ). m < 2 ^ 128) ahead.same (small_number payload found.0 found.1 fit at);
@@ -132,12 +129,11 @@ nothing_left (b ∷ payload) fit (Err fault) at is =
 nothing_left (b ∷ payload) fit (Ok found) at is =
     let f = found_number (b ∷ payload) found.0 found.1 fit at in
     absurd (before_nil found.0 (integers_of (drop found.1 (b ∷ payload)))
-      (sym (integers_of-more (b ∷ payload) found.0 found.1 (omega arith) f.some at) ∙ is))
+    (sym (integers_of-more (b ∷ payload) found.0 found.1 (omega arith) f.some at) ∙ is))
 
 some_payload : (payload : List ℕ) (n : ℕ) (integers : List ℕ) → integers_of payload ≡ Some (n ∷ integers) → 0 < length payload
 some_payload [] n integers is = let none : Some [] ≡ Some (n ∷ integers) = sym integers_of-nil ∙ is in absurd cc
 some_payload (b ∷ payload) n integers is = omega arith
-
 
 pub read_is_split : (integers payload : List ℕ) → IsBytes payload → integers_of payload ≡ Some integers → AreIntegers payload integers
 read_is_split [] payload fit is = nothing_left payload fit (varint_at payload) refl is
@@ -145,9 +141,13 @@ read_is_split (n ∷ integers) payload fit is =
     let f = front_of payload n integers fit (some_payload payload n integers is) (varint_at payload) refl is in
     let long : length (take f.len payload) ≡ f.len = length-take-le f.len payload f.found.within in
     let one : IsInteger (take f.len payload) n = record {
-          varint = f.found.spelled;
-          bytes = omega (arith, long, f.found.short);
-          fits = f.fits;
-        } in
-    (take f.len payload, drop f.len payload, sym (take-append-drop f.len payload), one,
-      read_is_split integers (drop f.len payload) (bytes_behind payload f.len fit) f.rest)
+      varint = f.found.spelled;
+      bytes = omega (arith, long, f.found.short);
+      fits = f.fits;
+    } in (
+      take f.len payload,
+      drop f.len payload,
+      sym (take-append-drop f.len payload),
+      one,
+      read_is_split integers (drop f.len payload) (bytes_behind payload f.len fit) f.rest,
+    )

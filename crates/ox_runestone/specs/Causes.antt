@@ -1,6 +1,6 @@
 -- Why a runestone is malformed, each cause by itself: Runes specification, "Cenotaphs".
 use Rattle.std.specs.Prelude.{◌≡◌, ◌≢◌, ◌⊎◌, IfSome, ℕ, ◌+◌, ◌%◌, ◌^◌, ◌<◌, ◌≤◌, Bool, true, false}
-use Rattle.std.specs.Prelude.{List, [], ◌∷◌, ◌++◌, length, drop, Option, Some, None, unwrap_or}
+use Rattle.std.specs.Prelude.{List, [], ◌∷◌, ◌++◌, length, drop, Some, None, unwrap_or}
 use Rattle.std.specs.List.{list_any}
 use Rattle.ox_script.specs.Script.{Instruction, Push, Op, items_of, is_cut}
 use Rattle.ox_varint.specs.Varint.{IsVarint}

@@ -149,3 +149,8 @@ DontFallAfter id (edict ∷ edicts) = NotBelow id edict.id × DontFallAfter edic
 -- the ids of the edicts don't fall
 abbrev pub DontFall : List Edict → Type 0
 DontFall edicts = DontFallAfter (record { block = 0; tx = 0 }) edicts
+
+-- of an artifact, that the ids of its runestone's edicts don't fall
+abbrev pub EdictsDontFall : Artifact → Type 0
+EdictsDontFall (Stone stone) = DontFall stone.edicts
+EdictsDontFall (Cenotaph mint name) = Unit {0}

@@ -9,8 +9,8 @@ mod reading;
 mod stone;
 mod writing;
 
-pub use ox_bytes::Memory;
 pub use laws::{cenotaphs_have_causes, integers_are_the_split, supplies_are_amounts};
+pub use ox_bytes::Memory;
 pub use payload::is_stone;
 pub use reading::decipher;
 pub use stone::{Artifact, Edict, Edicts, Etching, RuneId, Runestone, Terms};
