@@ -43,7 +43,8 @@ pub record IsInteger (text : List ℕ) (n : ℕ) : Type 0 where
 abbrev pub AreIntegers : List ℕ → List ℕ → Type 0
 AreIntegers payload [] = payload ≡ []
 AreIntegers payload (n ∷ integers) =
-    (text : List ℕ) × (rest : List ℕ) × (payload ≡ text ++ rest) × IsInteger text n × AreIntegers rest integers
+    (text : List ℕ) × (rest : List ℕ) × (payload ≡ text ++ rest) × IsInteger text n
+    × AreIntegers rest integers
 
 -- the script's pushes, joined, are the varints of these integers
 pub record Says (script integers : List ℕ) : Type 0 where
@@ -60,12 +61,14 @@ pub record SaysNothing (script : List ℕ) : Type 0 where
 -- an edict, told behind this id, has an id that isn't valid
 abbrev pub HasBadId : RuneId → List ℕ → Type 0
 HasBadId id (block ∷ tx ∷ amount ∷ output ∷ rest) =
-    (id_after id block tx ≡ None) ⊎ ((next : RuneId) × (id_after id block tx ≡ Some next) × HasBadId next rest)
+    (id_after id block tx ≡ None)
+    ⊎ ((next : RuneId) × (id_after id block tx ≡ Some next) × HasBadId next rest)
 HasBadId id _ = ⊥
 
 -- an edict has an output above the number of outputs
 abbrev pub HasBadOutput : ℕ → List ℕ → Type 0
-HasBadOutput outputs (block ∷ tx ∷ amount ∷ output ∷ rest) = (outputs < output) ⊎ HasBadOutput outputs rest
+HasBadOutput outputs (block ∷ tx ∷ amount ∷ output ∷ rest) =
+    (outputs < output) ⊎ HasBadOutput outputs rest
 HasBadOutput outputs _ = ⊥
 
 -- a tag is even, and has more values than its field takes
@@ -101,4 +104,5 @@ pub data HasCause (script : List ℕ) (outputs : ℕ) : Type 0 where
   cut_push : is_cut script ≡ true → HasCause script outputs
   -- a varint that is cut short, or of a number beyond 128 bits
   varint : SaysNothing script → HasCause script outputs
-  message : (integers : List ℕ) → Says script integers → IsFlawed (message_of integers) outputs → HasCause script outputs
+  message : (integers : List ℕ) → Says script integers → IsFlawed (message_of integers) outputs
+      → HasCause script outputs

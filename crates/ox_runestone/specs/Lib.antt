@@ -6,3 +6,4 @@ pub mod Artifact
 pub mod Causes
 pub mod Kept
 pub mod Spelling
+pub mod Tags

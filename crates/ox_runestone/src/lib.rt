@@ -7,6 +7,7 @@ mod message;
 mod payload;
 mod reading;
 mod stone;
+mod tags;
 mod writing;
 
 pub use laws::{cenotaphs_have_causes, integers_are_the_split, supplies_are_amounts};

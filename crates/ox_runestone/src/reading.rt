@@ -76,9 +76,10 @@ fn judge(fields: &Fields, lone: bool, edicts: Option<Vec<Edict>>, outputs: u32) 
     })
 }
 
-/// The artifact that a runestone's script deciphers as, in a transaction with so many outputs (Runes
-/// specification, "Deciphering"). The script is one that `is_stone` accepts. A runestone that is
-/// given can be enciphered again: its numbers are in range, and the ids of its edicts don't fall.
+/// The artifact that a runestone's script deciphers as, in a transaction with so many outputs
+/// (Runes specification, "Deciphering"). The script is one that `is_stone` accepts. A runestone
+/// that is given can be enciphered again: its numbers are in range, and the ids of its edicts don't
+/// fall.
 ///
 /// `Memory` where there is none for the payload, the integers or the edicts.
 pub fn decipher(alloc: Global, script: &[u8], outputs: u32) -> Result<Artifact, Memory>
