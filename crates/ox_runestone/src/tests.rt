@@ -1,4 +1,5 @@
 use super::*;
+use ox_bytes::Bytes;
 use std::alloc::Global;
 use std::process::Abort;
 
@@ -40,30 +41,31 @@ fn read(rt: &impl Abort, alloc: Global, script: &[u8], outputs: u32) -> Artifact
 /// What a payload of less than 76 bytes deciphers as, for four outputs.
 fn read_payload(rt: &impl Abort, alloc: Global, payload: &[u8]) -> Artifact {
     assert!(rt; payload.len() < 76);
-    let mut script = Vec::from_slice(alloc, &[0x6a, 0x5d, payload.len() as u8]).expect(
-        rt, "memory",
-    );
+    let mut script = Vec::from_slice(alloc, &[0x6a, 0x5d]).expect(rt, "memory");
+    script.push(payload.len() as u8).expect(rt, "memory");
     script.extend_from_slice(payload).expect(rt, "memory");
     read(rt, alloc, script.as_slice(), 4)
 }
 
+/// Whether the artifact is a runestone that etches this alone.
 fn etches(artifact: &Artifact, etching: Etching) -> bool {
     match artifact {
         Artifact::Stone(stone) => {
             stone.etching == Some(etching)
-                && stone.mint.is_none()
-                && stone.pointer.is_none()
+                && stone.mint == None
+                && stone.pointer == None
                 && stone.edicts.is_empty()
         }
         Artifact::Cenotaph { .. } => false,
     }
 }
 
-fn allocates(artifact: &Artifact, pointer: Option<u32>, edicts: &[Edict]) -> bool {
+/// Whether the artifact is a runestone that has these edicts and this pointer alone.
+fn deals(artifact: &Artifact, edicts: &[Edict], pointer: Option<u32>) -> bool {
     match artifact {
         Artifact::Stone(stone) => {
-            stone.etching.is_none()
-                && stone.mint.is_none()
+            stone.etching == None
+                && stone.mint == None
                 && stone.pointer == pointer
                 && stone.edicts.as_slice() == edicts
         }
@@ -71,7 +73,8 @@ fn allocates(artifact: &Artifact, pointer: Option<u32>, edicts: &[Edict]) -> boo
     }
 }
 
-fn is_cenotaph(artifact: &Artifact, mint: Option<RuneId>, name: Option<u128>) -> bool {
+/// Whether the artifact is a cenotaph of which this is kept.
+fn keeps(artifact: &Artifact, mint: Option<RuneId>, name: Option<u128>) -> bool {
     match artifact {
         Artifact::Stone(_) => false,
         Artifact::Cenotaph {
@@ -81,39 +84,8 @@ fn is_cenotaph(artifact: &Artifact, mint: Option<RuneId>, name: Option<u128>) ->
     }
 }
 
-/// Whether the script deciphers as a runestone that is enciphered as the same script.
-fn is_written_again(rt: &impl Abort, alloc: Global, script: &[u8], outputs: u32) -> bool {
-    assert!(rt; is_stone(script));
-    match decipher(alloc, script, outputs).expect(rt, "memory") {
-        Artifact::Stone(stone) => {
-            encipher(alloc, &stone, outputs)
-                .expect(rt, "memory")
-                .as_slice()
-                == script
-        }
-        Artifact::Cenotaph { .. } => false,
-    }
-}
-
 #[test]
-fn op_return_and_op_13_mark_a_runestone(rt: HostRuntime) {
-    assert!(rt; is_stone(b"\x6a\x5d"));
-    // OP_12, OP_14, the push of one byte 13, the marks exchanged, one mark, and none
-    let others: [&[u8]; 6] = [
-        b"\x6a\x5c\x00",
-        b"\x6a\x5e\x00",
-        b"\x6a\x01\x0d",
-        b"\x5d\x6a",
-        b"\x6a",
-        b"",
-    ];
-    for script in &others {
-        assert!(rt; !is_stone(script));
-    }
-}
-
-#[test]
-fn etchings_of_payloads(rt: HostRuntime) {
+fn scripts_of_etchings(rt: HostRuntime) {
     let alloc = rt.alloc();
     let terms = Terms {
         amount: Some(5),
@@ -125,56 +97,72 @@ fn etchings_of_payloads(rt: HostRuntime) {
         terms: Some(terms),
         ..NO_FIELDS
     };
+    let script = b"\x6a\x5d\x08\x02\x03\x06\x07\x08\x0a\x0a\x05";
+    assert!(rt; etches(&read(&rt, alloc, script, 1), minted));
     let premined = Etching {
         premine: Some(10),
         ..NO_FIELDS
     };
-    let rows: [(&[u8], Etching); 2] = [
-        (b"\x02\x03\x06\x07\x08\x0a\x0a\x05", minted),
-        (b"\x02\x01\x06\x0a", premined),
-    ];
-    for (payload, etching) in &rows {
-        assert!(rt; etches(&read_payload(&rt, alloc, payload), *etching));
-    }
+    assert!(rt;
+        etches(
+            &read(&rt, alloc, b"\x6a\x5d\x04\x02\x01\x06\x0a", 1),
+            premined
+        )
+    );
 }
 
-/// A value of an odd tag that is too great is passed over.
+/// The greatest divisibility and spacers that are taken, and each term but one.
 #[test]
-fn the_greatest_divisibility_and_spacers(rt: HostRuntime) {
+fn fields_at_their_bounds(rt: HostRuntime) {
     let alloc = rt.alloc();
-    let rows: [(&[u8], Option<u8>, Option<u32>); 4] = [
-        (b"\x02\x01\x01\x26", Some(38), None),
-        (b"\x02\x01\x01\x27", None, None),
-        (b"\x02\x01\x03\xff\xff\xff\x3f", None, Some(134_217_727)),
-        (b"\x02\x01\x03\x80\x80\x80\x40", None, None),
-    ];
-    for (payload, divisibility, spacers) in &rows {
-        let etching = Etching {
-            divisibility: *divisibility,
-            spacers: *spacers,
-            ..NO_FIELDS
-        };
-        assert!(rt; etches(&read_payload(&rt, alloc, payload), etching));
-    }
+    let bounds = Etching {
+        divisibility: Some(38),
+        spacers: Some(134_217_727),
+        ..NO_FIELDS
+    };
+    let payload = b"\x02\x01\x01\x26\x03\xff\xff\xff\x3f";
+    assert!(rt; etches(&read_payload(&rt, alloc, payload), bounds));
+    // One more of each is an odd tag's value that isn't taken.
+    let payload = b"\x02\x01\x01\x27\x03\x80\x80\x80\x40";
+    assert!(rt; etches(&read_payload(&rt, alloc, payload), NO_FIELDS));
+    let terms = Terms {
+        height_start: Some(1),
+        height_end: Some(2),
+        offset_start: Some(3),
+        offset_end: Some(4),
+        ..NO_TERMS
+    };
+    let termed = Etching {
+        terms: Some(terms),
+        turbo: true,
+        ..NO_FIELDS
+    };
+    let payload = b"\x02\x07\x0c\x01\x0e\x02\x10\x03\x12\x04";
+    assert!(rt; etches(&read_payload(&rt, alloc, payload), termed));
 }
 
 #[test]
-fn edicts_and_pointers_of_scripts(rt: HostRuntime) {
+fn scripts_of_edicts_and_pointers(rt: HostRuntime) {
     let alloc = rt.alloc();
-    let all = read(&rt, alloc, b"\x6a\x5d\x05\x00\x03\x01\x00\x04", 4);
-    assert!(rt; allocates(&all, None, &[edict(3, 1, 0, 4)]));
-    let four = read(&rt, alloc, b"\x6a\x5d\x05\x00\x03\x01\x04\x04", 4);
-    assert!(rt; allocates(&four, None, &[edict(3, 1, 4, 4)]));
+    let script = b"\x6a\x5d\x05\x00\x03\x01\x00\x04";
+    assert!(rt; deals(&read(&rt, alloc, script, 4), &[edict(3, 1, 0, 4)], None));
+    let script = b"\x6a\x5d\x05\x00\x03\x01\x04\x04";
+    assert!(rt; deals(&read(&rt, alloc, script, 4), &[edict(3, 1, 4, 4)], None));
+    // A varint goes over the border of two pushes, and an odd tag is ignored.
+    let script = b"\x6a\x5d\x03\x16\x01\x7f\x4c\x01\x00";
+    assert!(rt; deals(&read(&rt, alloc, script, 4), &[], Some(1)));
+    let script = b"\x6a\x5d\x02\x16\x81\x01\x00";
+    assert!(rt; deals(&read(&rt, alloc, script, 4), &[], Some(1)));
 }
 
+/// Only OP_RETURN and OP_13 begin a runestone's script.
 #[test]
-fn integers_go_over_the_border_of_two_pushes(rt: HostRuntime) {
-    let alloc = rt.alloc();
-    // An odd tag is ignored.
-    let odd = read(&rt, alloc, b"\x6a\x5d\x03\x16\x01\x7f\x4c\x01\x00", 4);
-    assert!(rt; allocates(&odd, Some(1), &[]));
-    let split = read(&rt, alloc, b"\x6a\x5d\x02\x16\x81\x01\x00", 4);
-    assert!(rt; allocates(&split, Some(1), &[]));
+fn scripts_that_carry_no_runestone(rt: HostRuntime) {
+    assert!(rt; is_stone(b"\x6a\x5d"));
+    assert!(rt; !is_stone(b"\x6a\x5c"));
+    assert!(rt; !is_stone(b"\x6a\x5e"));
+    assert!(rt; !is_stone(b"\x5d\x6a"));
+    assert!(rt; !is_stone(b"\x6a\x01\x5d"));
 }
 
 /// The example of the Runes specification: edicts sorted by id, each told behind the one before.
@@ -189,7 +177,7 @@ fn edicts_by_delta(rt: HostRuntime) {
         edict(10, 7, 1, 8),
         edict(50, 1, 25, 4),
     ];
-    assert!(rt; allocates(&read(&rt, alloc, script, 9), None, &edicts));
+    assert!(rt; deals(&read(&rt, alloc, script, 9), &edicts, None));
 }
 
 /// Payloads of malformed messages, with what is kept of each.
@@ -238,113 +226,86 @@ const CAUSES: [(&[u8], Option<RuneId>, Option<u128>); 20] = [
 ];
 
 #[test]
-fn each_cause_of_a_cenotaph(rt: HostRuntime) {
+fn each_cause_in_a_message(rt: HostRuntime) {
     let alloc = rt.alloc();
     for (payload, mint, name) in &CAUSES {
-        assert!(rt; is_cenotaph(&read_payload(&rt, alloc, payload), *mint, *name));
+        assert!(rt; keeps(&read_payload(&rt, alloc, payload), *mint, *name));
     }
 }
 
 #[test]
-fn cenotaphs_without_integers(rt: HostRuntime) {
+fn each_cause_in_a_script(rt: HostRuntime) {
     let alloc = rt.alloc();
     // An opcode that isn't a push, a push that is cut short, and an integer that is.
-    let scripts: [&[u8]; 3] = [
-        b"\x6a\x5d\x04\x14\x03\x14\x01\x51",
-        b"\x6a\x5d\x04\x14\x03\x14\x01\x02\x16",
-        b"\x6a\x5d\x05\x14\x03\x14\x01\x80",
-    ];
-    for script in &scripts {
-        assert!(rt; is_cenotaph(&read(&rt, alloc, script, 4), None, None));
-    }
+    let script = b"\x6a\x5d\x04\x14\x03\x14\x01\x51";
+    assert!(rt; keeps(&read(&rt, alloc, script, 4), None, None));
+    let script = b"\x6a\x5d\x04\x14\x03\x14\x01\x02\x16";
+    assert!(rt; keeps(&read(&rt, alloc, script, 4), None, None));
+    assert!(rt;
+        keeps(
+            &read_payload(&rt, alloc, b"\x14\x03\x14\x01\x80"),
+            None,
+            None
+        )
+    );
     // A mint, and a tag of 126.
-    let other = read(&rt, alloc, b"\x6a\x5d\x06\x14\x03\x14\x01\x7e\x00", 1);
-    assert!(rt; is_cenotaph(&other, Some(MINT), None));
+    let script = b"\x6a\x5d\x06\x14\x03\x14\x01\x7e\x00";
+    assert!(rt; keeps(&read(&rt, alloc, script, 1), Some(MINT), None));
+    // A premine of the greatest amount and one mint of 1.
+    let payload = b"\x02\x03\x04\x07\x06\xff\xff\xff\xff\xff\xff\xff\xff\xff\xff\xff\xff\
+        \xff\xff\xff\xff\xff\xff\x03\x08\x01\x0a\x01";
+    assert!(rt; keeps(&read_payload(&rt, alloc, payload), None, Some(7)));
 }
 
-/// A premine of the greatest amount and one mint of 1.
-#[test]
-fn a_supply_beyond_128_bits(rt: HostRuntime) {
-    let alloc = rt.alloc();
-    let payload = [
-        2, 3, 4, 7, 6, 255, 255, 255, 255, 255, 255, 255, 255, 255, 255, 255, 255, 255, 255, 255,
-        255, 255, 255, 3, 8, 1, 10, 1,
-    ];
-    assert!(rt; is_cenotaph(&read_payload(&rt, alloc, &payload), None, Some(7)));
+/// The script of a runestone, enciphered for one output.
+fn write(rt: &impl Abort, alloc: Global, stone: &Runestone) -> Bytes {
+    assert!(rt; ids_rise(stone.edicts.as_slice()));
+    encipher(alloc, stone, 1).expect(rt, "memory")
 }
 
-#[test]
-fn what_is_enciphered_deciphers_as_the_same(rt: HostRuntime) {
-    let alloc = rt.alloc();
-    // An edict, the flag of a turbo, and all terms.
-    let scripts: [&[u8]; 3] = [
-        b"\x6a\x5d\x05\x00\x03\x01\x00\x04",
-        b"\x6a\x5d\x02\x02\x05",
-        b"\x6a\x5d\x0e\x02\x03\x08\x0a\x0a\x05\x0c\x01\x0e\x02\x10\x03\x12\x04",
-    ];
-    for script in &scripts {
-        assert!(rt; is_written_again(&rt, alloc, script, 4));
-    }
-}
-
-#[test]
-fn ids_that_rise(rt: HostRuntime) {
-    let low = edict(3, 1, 0, 4);
-    let high = edict(3, 2, 0, 4);
-    assert!(rt; ids_rise(&[low, low, high]));
-    assert!(rt; !ids_rise(&[high, low]));
-}
-
-/// A payload of 801 bytes, which takes two pushes: 200 edicts of the runes 1:1 to 1:200.
-fn long_payload(rt: &impl Abort, alloc: Global) -> Vec<u8> {
-    let mut payload = Vec::from_slice(alloc, &[0, 1, 1, 5, 0]).expect(rt, "memory");
-    for _ in 1..200 {
-        payload
-            .extend_from_slice(&[0, 1, 5, 0])
+/// A script of 200 edicts of an amount of 1 to output 0, each of the next block's first rune: 801
+/// bytes of payload in two pushes.
+fn long_script(rt: &impl Abort, alloc: Global) -> Vec<u8> {
+    let mut script = Vec::from_slice(alloc, b"\x6a\x5d\x4d\x08\x02\x00").expect(rt, "memory");
+    for place in 0..800 {
+        if place == 519 {
+            script
+                .extend_from_slice(b"\x4d\x19\x01")
+                .expect(rt, "memory");
+        }
+        script
+            .push(if place % 2 == 0 { 1 } else { 0 })
             .expect(rt, "memory");
     }
-    payload
-}
-
-/// That payload in a push of 520 bytes and one of 281.
-fn long_script(rt: &impl Abort, alloc: Global) -> Vec<u8> {
-    let payload = long_payload(rt, alloc);
-    assert!(rt; payload.len() == 801);
-    let (first, second) = payload.as_slice().split_at(520);
-    let mut script = Vec::from_slice(alloc, &[0x6a, 0x5d, 0x4d, 0x08, 0x02]).expect(rt, "memory");
-    script.extend_from_slice(first).expect(rt, "memory");
-    script
-        .extend_from_slice(&[0x4d, 0x19, 0x01])
-        .expect(rt, "memory");
-    script.extend_from_slice(second).expect(rt, "memory");
     script
 }
 
-fn long_edicts(rt: &impl Abort, alloc: Global) -> Vec<Edict> {
-    let mut edicts = Vec::new(alloc);
-    for tx in 1..201 {
-        edicts.push(edict(1, tx, 5, 0)).expect(rt, "memory");
+/// Whether the edicts are those of the long script.
+fn are_long(edicts: &[Edict]) -> bool {
+    let mut block = 0;
+    for one in edicts {
+        block += 1;
+        if *one != edict(block, 0, 1, 0) {
+            return false;
+        }
     }
-    edicts
+    block == 200
 }
 
 #[test]
-fn a_payload_beyond_520_bytes_is_read(rt: HostRuntime) {
+fn a_payload_of_two_pushes_both_ways(rt: HostRuntime) {
     let alloc = rt.alloc();
     let script = long_script(&rt, alloc);
-    let edicts = long_edicts(&rt, alloc);
-    let stone = read(&rt, alloc, script.as_slice(), 4);
-    assert!(rt; allocates(&stone, None, edicts.as_slice()));
+    match read(&rt, alloc, script.as_slice(), 1) {
+        Artifact::Stone(stone) => {
+            assert!(rt; are_long(stone.edicts.as_slice()));
+            assert!(rt; write(&rt, alloc, &stone).as_slice() == script.as_slice());
+        }
+        Artifact::Cenotaph { .. } => assert!(rt; false, "a cenotaph"),
+    }
 }
 
-#[test]
-fn a_payload_beyond_520_bytes_is_written(rt: HostRuntime) {
-    let alloc = rt.alloc();
-    let script = long_script(&rt, alloc);
-    assert!(rt; is_written_again(&rt, alloc, script.as_slice(), 4));
-}
-
-/// The fields of UNCOMMON•GOODS, mainnet's first rune.
+/// The fields of UNCOMMON•GOODS, mainnet's first rune, as a script says them.
 #[test]
 fn the_first_rune_of_mainnet(rt: HostRuntime) {
     let alloc = rt.alloc();
@@ -369,6 +330,6 @@ fn the_first_rune_of_mainnet(rt: HostRuntime) {
         pointer: None,
         edicts: Edicts::empty(alloc),
     };
-    let script = encipher(alloc, &stone, 1).expect(&rt, "memory");
+    let script = write(&rt, alloc, &stone);
     assert!(rt; etches(&read(&rt, alloc, script.as_slice(), 1), etching));
 }
