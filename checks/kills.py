@@ -1,7 +1,7 @@
 #!/usr/bin/env python3
 """Kills a running `apply` again and again, and looks at what the store has then.
 
-    python3 bench/store/kill.py [KILLS [SEED [PROGRAM]]]
+    python3 checks/kills.py [KILLS [SEED [PROGRAM]]]
 
 applies a feed of regtest blocks, most of them small and some of up to two million bytes, to a store below out/ beside
 this script, and kills the program (SIGKILL, by the number of its own process): while it starts and opens the store, a
@@ -31,7 +31,7 @@ import time
 from chain import SHORT, chain, file_a, line
 
 HERE = pathlib.Path(__file__).resolve().parent
-PROGRAM = HERE.parent.parent / "crates" / "ox_main" / "out" / "ox_main"
+PROGRAM = HERE.parent / "crates" / "ox_main" / "out" / "ox_main"
 LINES = 1000
 KILLS_OF_A_STORE = 50
 

@@ -6,7 +6,7 @@ use Rattle.std.proofs.lemmas.Bool.{cases_lt, le-ltb, lt-ltb}
 use Rattle.std.proofs.lemmas.List.{length-drop, drop-drop, drop_all, get_or_past}
 use Rattle.ox_bytes.specs.declared.compact.CompactFault.{CompactFault}
 use Rattle.ox_bytes.specs.declared.compact.CompactFault.TheVariants.{Short, NotShortest}
-use Rattle.ox_bytes.specs.Reading.{◌>>=◌, Reader, number_at, run_at, long_size, size_of, begun, compact_at, string_at, both, mapped, unless, times}
+use Rattle.ox_bytes.specs.Reading.{◌>>=◌, Reader, number_at, run_at, long_size, size_of, result_at, compact_at, string_at, both, mapped, unless, times}
 use Rattle.ox_bytes.specs.Reading as reading
 use Rattle.ox_bytes.proofs.Laws.{bind_ok, guard_ok, ok_is}
 use Rattle.ox_block.specs.Reading.{count_at}
@@ -147,14 +147,14 @@ SizeIs bytes p (Ok x) = (is_cut bytes p (size_len_at bytes p) ≡ false) × (is_
 SizeIs bytes p (Err left) = ((is_cut bytes p (size_len_at bytes p) || is_long bytes p) ≡ true) × (left ≡ length bytes - p)
 
 big_is : (bytes : List ℕ) (p : ℕ) (w : Width) (least left : ℕ) → p < length bytes → size_len_at bytes p ≡ 1 + byte_len w → size_at bytes p ≡ from_le_bytes w (take (byte_len w) (drop (p + 1) bytes)) → size_least (get_or bytes p 0) ≡ least
-    → left ≡ length bytes - p → SizeIs bytes p (begun left (long_size w least (drop (p + 1) bytes)))
+    → left ≡ length bytes - p → SizeIs bytes p (result_at left (long_size w least (drop (p + 1) bytes)))
 unfolding long_size
 big_is bytes p w least left lt lens num lst is =
     let long = length-drop (p + 1) bytes in
     let n = from_le_bytes w (take (byte_len w) (drop (p + 1) bytes)) in
     let cut = is_cut bytes p (size_len_at bytes p) in
-    let P : Bool → Type 0 = λ (b : Bool). SizeIs bytes p (begun left (cond b (Err Short) (cond (ltb n least) (Err NotShortest) (Ok (n, drop (byte_len w) (drop (p + 1) bytes)))))) in
-    let Q : Bool → Type 0 = λ (b : Bool). SizeIs bytes p (begun left (cond b (Err NotShortest) (Ok (n, drop (byte_len w) (drop (p + 1) bytes))))) in
+    let P : Bool → Type 0 = λ (b : Bool). SizeIs bytes p (result_at left (cond b (Err Short) (cond (ltb n least) (Err NotShortest) (Ok (n, drop (byte_len w) (drop (p + 1) bytes)))))) in
+    let Q : Bool → Type 0 = λ (b : Bool). SizeIs bytes p (result_at left (cond b (Err NotShortest) (Ok (n, drop (byte_len w) (drop (p + 1) bytes))))) in
     let least_is : ltb (size_at bytes p) (size_least (get_or bytes p 0)) ≡ ltb n least = ap (λ (m : ℕ). ltb m (size_least (get_or bytes p 0))) num ∙ ap (λ (m : ℕ). ltb n m) lst in
     elim (cases_lt (length (drop (p + 1) bytes)) (byte_len w)) [
       | inl short ↦ subst P (sym (lt-ltb _ _ short)) (or_left cut (is_long bytes p) (lt-ltb _ _ (omega (arith, lens, long))), is)
@@ -186,7 +186,7 @@ size_cons bytes p lt =
     let long = length-drop (p + 1) bytes in
     let left : length (first ∷ rest) ≡ length bytes - p = omega (arith, long) in
     let whole = cond (eqb first 253) (long_size w16 253 rest) (cond (eqb first 254) (long_size w32 (2 ^ 16) rest) (long_size w64 (2 ^ 32) rest)) in
-    let P : Result (ℕ × List ℕ) CompactFault → Type 0 = λ (r : Result (ℕ × List ℕ) CompactFault). SizeIs bytes p (begun (length (first ∷ rest)) r) in
+    let P : Result (ℕ × List ℕ) CompactFault → Type 0 = λ (r : Result (ℕ × List ℕ) CompactFault). SizeIs bytes p (result_at (length (first ∷ rest)) r) in
     elim (cases_lt first 253) [
       | inl small ↦
           let few : size_len_at bytes p ≡ 1 = cond_true (ltb first 253) 1 (1 + byte_len (size_width first)) (lt-ltb _ _ small) in

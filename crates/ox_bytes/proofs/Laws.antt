@@ -9,7 +9,7 @@ use Rattle.std.proofs.lemmas.Nat.{le_bytes_2, le_bytes_4, le_bytes_8, from_le_by
 use Rattle.ox_bytes.specs.declared.compact.CompactFault.{CompactFault}
 use Rattle.ox_bytes.specs.declared.compact.CompactFault.TheVariants.{Short, NotShortest}
 use Rattle.ox_bytes.specs.Spelling.{compact, string}
-use Rattle.ox_bytes.specs.Reading.{◌>>=◌, Reading, Reader, number_at, run_at, long_size, size_of, begun, compact_at, string_at, both, mapped, unless, times, counted}
+use Rattle.ox_bytes.specs.Reading.{◌>>=◌, Reading, Reader, number_at, run_at, long_size, size_of, result_at, compact_at, string_at, both, mapped, unless, times, counted}
 
 abbrev pub IsBytes : List ℕ → Type 0
 IsBytes bytes = (i : ℕ) → get_or bytes i 0 < 256
@@ -222,7 +222,7 @@ size_again n rest lt =
 pub size_law : Law (λ n. n < 2 ^ 64) compact size_of
 size_law = record { takes = size_takes; again = size_again }
 
-begun_ok : {X F : Type 0} (left : ℕ) (r : Result X F) (x : X) → begun left r ≡ Ok x → r ≡ Ok x
+begun_ok : {X F : Type 0} (left : ℕ) (r : Result X F) (x : X) → result_at left r ≡ Ok x → r ≡ Ok x
 begun_ok left (Ok y) x e = ap (λ (z : _). Ok z) (ok_is {F = ℕ} y x e)
 begun_ok left (Err d) x e = absurd cc
 
@@ -230,7 +230,7 @@ pub compact_law : Law (λ n. n < 2 ^ 64) compact compact_at
 unfolding compact_at
 compact_law = record {
   takes = λ bytes x fits e. size_takes bytes x fits (begun_ok (length bytes) (size_of bytes) x e);
-  again = λ n rest lt. ap (begun (length (compact n ++ rest))) (size_again n rest lt);
+  again = λ n rest lt. ap (result_at (length (compact n ++ rest))) (size_again n rest lt);
 }
 
 -- ---- readers of readers

@@ -1,5 +1,7 @@
--- Readers: functions on lists of bytes that give a value and the bytes after it, or the first fault from left to right.
-use Rattle.std.specs.Prelude.{◌≡◌, ℕ, zero, suc, ◌^◌, List, [], ◌∷◌, length, take, drop, Bool, Result, Ok, Err, nat_lt, ◌==◌, if◌then◌else◌}
+-- Readers: functions on lists of bytes that give a value and the bytes after it, or the first fault
+-- from left to right.
+use Rattle.std.specs.Prelude.{◌≡◌, ℕ, zero, suc, ◌^◌, List, [], ◌∷◌, length, take, drop, Bool}
+use Rattle.std.specs.Prelude.{Result, Ok, Err, nat_lt, ◌==◌, if◌then◌else◌}
 use Rattle.std.specs.Int.{Width, w16, w32, w64, byte_len, from_le_bytes}
 use Rattle.ox_bytes.specs.declared.fault.FieldFault.{FieldFault}
 use Rattle.ox_bytes.specs.declared.fault.ReadError.{ReadError}
@@ -30,9 +32,11 @@ number_at w bytes =
 
 -- that many bytes
 unfoldable pub run_at : ℕ → Reader (List ℕ)
-run_at n bytes = if nat_lt (length bytes) n then Err (length bytes) else Ok (take n bytes, drop n bytes)
+run_at n bytes =
+    if nat_lt (length bytes) n then Err (length bytes) else Ok (take n bytes, drop n bytes)
 
--- the number of a compact size behind its first byte, which has to be the least one that needs this form or above it
+-- the number of a compact size behind its first byte, which has to be the least one that needs this
+-- form or above it
 unfoldable pub long_size : Width → ℕ → Reading ℕ CompactFault
 long_size w least bytes =
     if nat_lt (length bytes) (byte_len w) then Err Short else
@@ -49,13 +53,13 @@ size_of (first ∷ rest) =
     long_size w64 (2 ^ 32) rest
 
 -- What is wrong with a field is wrong where the field begins.
-abbrev pub begun : {X F : Type 0} → ℕ → Result X F → Result X ℕ
-begun left (Ok x) = Ok x
-begun left (Err e) = Err left
+abbrev pub result_at : {X F : Type 0} → ℕ → Result X F → Result X ℕ
+result_at left (Ok x) = Ok x
+result_at left (Err e) = Err left
 
 -- a compact size
 unfoldable pub compact_at : Reader ℕ
-compact_at bytes = begun (length bytes) (size_of bytes)
+compact_at bytes = result_at (length bytes) (size_of bytes)
 
 -- a byte string: its length and its bytes are two fields
 unfoldable pub string_at : Reader (List ℕ)
@@ -101,6 +105,7 @@ Fails errors.Memory read = Unit {0}
 Fails (errors.Fault fault) read = read ≡ Err fault.left
 
 -- The same, unless memory ran out.
-abbrev pub GivesOrMemory : {X Y : Type 0} → (X → Y) → Result X ReadError → Result Y ℕ → Type 0
+abbrev pub GivesOrMemory : {X Y : Type 0}
+    → (X → Y) → Result X ReadError → Result Y ℕ → Type 0
 GivesOrMemory view (Ok x) read = read ≡ Ok (view x)
 GivesOrMemory view (Err e) read = Fails e read

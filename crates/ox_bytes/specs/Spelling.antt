@@ -2,7 +2,8 @@
 use Rattle.std.specs.Prelude.{ℕ, ◌^◌, List, [], ◌∷◌, ◌++◌, length, nat_lt, if◌then◌else◌}
 use Rattle.std.specs.Int.{w16, w32, w64, to_le_bytes}
 
--- A compact size in its shortest form: one byte below 253; else a byte that says how many follow, 2, 4 or 8 of them.
+-- A compact size in its shortest form: one byte below 253; else a byte that says how many follow,
+-- 2, 4 or 8 of them.
 abbrev pub compact : ℕ → List ℕ
 compact n =
     if nat_lt n 253 then n ∷ [] else

@@ -76,7 +76,8 @@ impl Bytes {
         self.items.is_empty()
     }
 
-    /// Appends the bytes at the end. `Memory` where there is none for them: nothing has changed then.
+    /// Appends the bytes at the end. `Memory` where there is none for them: nothing has changed
+    /// then.
     pub fn append(&mut self, bytes: &[u8]) -> Result<(), Memory>
         ensures ok { OnOk result (self.new ≡ self.old ++ bytes.now) }
         ensures err { OnErr result (self.new ≡ self.old) }

@@ -14,7 +14,8 @@ use std::marker::Model;
 #[derive(Clone, Copy, Debug, PartialEq, Eq)]
 pub struct Short;
 
-/// A place in bytes. Contracts see its place, counted from the first byte, and the bytes that are left.
+/// A place in bytes. Contracts see its place, counted from the first byte, and the bytes that are
+/// left.
 #[derive(Drop)]
 pub struct Cursor<'a> {
     left: &'a [u8],
@@ -53,7 +54,8 @@ impl<'a> Cursor<'a> {
 
     /// The next bytes, that many. `Short` exactly where fewer are left: the cursor stays.
     pub fn take(&mut self, n: usize) -> Result<&'a [u8], Short>
-        ensures taken { IfOk result (λ bytes. (length bytes.now ≡ n) × GoesOver bytes.now self.old self.new) }
+        ensures taken { IfOk result (λ bytes.
+            (length bytes.now ≡ n) × GoesOver bytes.now self.old self.new) }
         ensures short { OnErr result (length self.old.left < n) }
         ensures stays { OnErr result (self.new ≡ self.old) }
     {
@@ -88,7 +90,8 @@ impl<'a> Cursor<'a> {
         Ok(number)
     }
 
-    /// A compact size, in its shortest form alone. `Short` exactly where it is cut, `NotShortest` exactly where a longer form than needed stands there: the cursor stays in both.
+    /// A compact size, in its shortest form alone. `Short` exactly where it is cut, `NotShortest`
+    /// exactly where a longer form than needed stands there: the cursor stays in both.
     pub fn compact(&mut self) -> Result<u64, CompactFault>
         ensures taken { IfOk result (λ n. GoesOver (compact n) self.old self.new) }
         ensures fault { IfErr result (λ e. size_of self.old.left ≡ Err e) }

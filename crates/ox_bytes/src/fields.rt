@@ -1,8 +1,10 @@
-//! Fields at the front of a slice: each call gives the value and the bytes after it, or the fault with the number of bytes left where the field begins.
+//! Fields at the front of a slice: each call gives the value and the bytes after it, or the fault
+//! with the number of bytes left where the field begins.
 
 ghost use Rattle.std.specs.Prelude.{length};
 ghost use Rattle.std.specs.Int.{w32, w64};
-ghost use Rattle.ox_bytes.specs.Reading.{Gives, GivesOrMemory, number_at, run_at, compact_at, string_at};
+ghost use Rattle.ox_bytes.specs.Reading.{Gives, GivesOrMemory, number_at, run_at, compact_at};
+ghost use Rattle.ox_bytes.specs.Reading.{string_at};
 
 use crate::bytes::Bytes;
 use crate::compact::compact_size;
@@ -48,7 +50,8 @@ pub fn run_field(bytes: &[u8], len: u64) -> Result<(&[u8], &[u8]), FieldFault>
     Ok(bytes.split_at(len as usize))
 }
 
-/// A compact size, in its shortest form alone. The fault comes exactly where it is cut or longer than it has to be.
+/// A compact size, in its shortest form alone. The fault comes exactly where it is cut or longer
+/// than it has to be.
 #[tactic(auto, unfolding(crate::specs::Reading::compact_at))]
 pub fn compact_field(bytes: &[u8]) -> Result<(u64, &[u8]), FieldFault>
     ensures { Gives (λ x. (x.0, x.1.now)) result (compact_at bytes.now) }
@@ -59,7 +62,8 @@ pub fn compact_field(bytes: &[u8]) -> Result<(u64, &[u8]), FieldFault>
     }
 }
 
-/// A byte string, copied: its length as a compact size, and its bytes. The length and the bytes are two fields. `Memory` where there is none for the copy.
+/// A byte string, copied: its length as a compact size, and its bytes. The length and the bytes are
+/// two fields. `Memory` where there is none for the copy.
 #[tactic(auto, unfolding(crate::specs::Reading::string_at))]
 pub fn string_field(alloc: Global, bytes: &[u8]) -> Result<(Bytes, &[u8]), ReadError>
     ensures { GivesOrMemory (λ x. (x.0, x.1.now)) result (string_at bytes.now) }

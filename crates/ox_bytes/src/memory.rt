@@ -1,4 +1,4 @@
-//! Want of memory.
+//! Memory that has run out.
 
 use std::alloc::{AllocError, AllocFailed};
 

@@ -7,7 +7,8 @@ use crate::memory::Memory;
 use std::alloc::Global;
 use std::marker::Model;
 
-/// Bytes, and memory for a number of more, so that they can be put where want of memory must not come up. Contracts see the bytes that are filled and the number that is spare.
+/// Bytes, and memory for a number of more, so that they can be put where memory must not run out.
+/// Contracts see the bytes that are filled and the number that is spare.
 #[derive(Debug, Drop)]
 pub struct Room {
     items: Vec<u8>,

@@ -7,7 +7,8 @@ ghost use Rattle.ox_bytes.specs.Spelling.{compact};
 use crate::bytes::Bytes;
 use crate::memory::Memory;
 
-/// Appends a number in 4 bytes, low byte first. `Memory` where there is none: nothing has changed then.
+/// Appends a number in 4 bytes, low byte first. `Memory` where there is none: nothing has changed
+/// then.
 pub fn put_u32le(bytes: &mut Bytes, number: u32) -> Result<(), Memory>
     ensures ok { OnOk result (bytes.new ≡ bytes.old ++ to_le_bytes w32 number) }
     ensures err { OnErr result (bytes.new ≡ bytes.old) }
@@ -15,7 +16,8 @@ pub fn put_u32le(bytes: &mut Bytes, number: u32) -> Result<(), Memory>
     bytes.append(&number.to_le_bytes())
 }
 
-/// Appends a number in 8 bytes, low byte first. `Memory` where there is none: nothing has changed then.
+/// Appends a number in 8 bytes, low byte first. `Memory` where there is none: nothing has changed
+/// then.
 pub fn put_u64le(bytes: &mut Bytes, number: u64) -> Result<(), Memory>
     ensures ok { OnOk result (bytes.new ≡ bytes.old ++ to_le_bytes w64 number) }
     ensures err { OnErr result (bytes.new ≡ bytes.old) }
@@ -23,7 +25,8 @@ pub fn put_u64le(bytes: &mut Bytes, number: u64) -> Result<(), Memory>
     bytes.append(&number.to_le_bytes())
 }
 
-/// Appends a compact size in its shortest form. `Memory` where there is none: nothing has changed then.
+/// Appends a compact size in its shortest form. `Memory` where there is none: nothing has changed
+/// then.
 pub fn put_compact(bytes: &mut Bytes, number: u64) -> Result<(), Memory>
     ensures ok { OnOk result (bytes.new ≡ bytes.old ++ compact number) }
     ensures err { OnErr result (bytes.new ≡ bytes.old) }

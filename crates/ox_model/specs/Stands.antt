@@ -5,7 +5,7 @@ use Rattle.std.specs.Result.{result_ok}
 use Rattle.ox_bytes.specs.Reading.{◌>>=◌}
 use Rattle.ox_outside.specs.Files.{Files}
 use Rattle.ox_outside.specs.declared.site.Which.{Which}
-use Rattle.ox_gated.specs.Reading.{Found, Fault, Sound as Before, reading}
+use Rattle.ox_gated.specs.Reading.{Found, Fault, IntactPart, reading}
 use Rattle.ox_gated.specs.declared.head.Head.{Head}
 use Rattle.ox_gated.specs.declared.records.Record.{Record}
 use Rattle.ox_sat.specs.Profiles.{profile_named}
@@ -57,7 +57,7 @@ in_file file (Ok x) = Ok x
 in_file file (Err at) = Err (record { file = file; at = at })
 
 -- where a gate or a record is cut: the body and the records before it are tested first
-abbrev pub cut_at : ℕ → Option Before → Result Stack ℕ
+abbrev pub cut_at : ℕ → Option IntactPart → Result Stack ℕ
 cut_at at None = Err at
 cut_at at (Some before) = judged before.head before.body before.records >>= λ stack. Err at
 

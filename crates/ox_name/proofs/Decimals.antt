@@ -7,7 +7,7 @@ use Rattle.std.proofs.lemmas.List.{take_more_set, length-set, length-take-le, ta
 use Rattle.std.proofs.lemmas.Nat.{pow-add, div_below, mod_below}
 use Rattle.std.specs.Fmt.{decimal}
 use Rattle.ox_name.proofs.Turned.{stays_behind}
-use Rattle.ox_name.specs.Amount.{decimals, pointed, amount_text}
+use Rattle.ox_name.specs.Amount.{decimals, with_point, amount_text}
 
 pub decimals-none : (places : ℕ) → decimals places 0 ≡ []
 decimals-none zero = refl
@@ -16,11 +16,11 @@ decimals-none (suc places) = refl
 pub decimals-some : (places part : ℕ) → 0 < part → decimals (suc places) part ≡ (48 + part / 10 ^ places) ∷ decimals places (part % 10 ^ places)
 decimals-some places part some = rw (ne_eqb part 0 (omega arith)) refl
 
-short : (places part : ℕ) → length (decimals places part) ≤ places
-short zero part = omega arith
-short (suc places) part =
+pub decimals-short : (places part : ℕ) → length (decimals places part) ≤ places
+decimals-short zero part = omega arith
+decimals-short (suc places) part =
     elim (cases_lt 0 part) [
-      | inl some ↦ let ih = short places (part % 10 ^ places) in rw (decimals-some places part some) (omega (arith, ih))
+      | inl some ↦ let ih = decimals-short places (part % 10 ^ places) in rw (decimals-some places part some) (omega (arith, ih))
       | inr none ↦ let e : part ≡ 0 = omega arith in rw e (omega arith)
     ]
 
@@ -49,12 +49,12 @@ whole_short amount k lt le =
 text_whole' : (amount k : ℕ) → amount % 10 ^ k ≡ 0 → amount_text amount k ≡ decimal (amount / 10 ^ k)
 unfolding amount_text
 text_whole' amount k e =
-    ap (λ part. decimal (amount / 10 ^ k) ++ pointed (decimals k part)) e ∙ ap (λ t. decimal (amount / 10 ^ k) ++ pointed t) (decimals-none k) ∙ append-nil (decimal (amount / 10 ^ k))
+    ap (λ part. decimal (amount / 10 ^ k) ++ with_point (decimals k part)) e ∙ ap (λ t. decimal (amount / 10 ^ k) ++ with_point t) (decimals-none k) ∙ append-nil (decimal (amount / 10 ^ k))
 
 pub text_whole : (amount k unit : ℕ) → unit ≡ 10 ^ k → amount % unit ≡ 0 → amount_text amount k ≡ decimal (amount / unit)
 text_whole amount k unit u e = let f : amount % 10 ^ k ≡ 0 = rw u at e in rw u (text_whole' amount k f)
 
-pointed-decimals : (places part : ℕ) → 0 < part → part < 10 ^ places → pointed (decimals places part) ≡ 46 ∷ decimals places part
+pub pointed-decimals : (places part : ℕ) → 0 < part → part < 10 ^ places → with_point (decimals places part) ≡ 46 ∷ decimals places part
 pointed-decimals zero part some lt = absurd (omega arith)
 pointed-decimals (suc places) part some lt = rw (decimals-some places part some) refl
 

@@ -4,3 +4,5 @@ pub mod Gaps
 pub mod Texting
 pub mod Bytes
 pub mod Decimals
+pub mod LeastNames
+pub mod Values

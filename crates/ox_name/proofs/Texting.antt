@@ -7,9 +7,9 @@ use Rattle.std.proofs.lemmas.List.Elements.{All-head, All-tail}
 use Rattle.std.proofs.lemmas.List.{nil_from_length}
 use Rattle.std.proofs.lemmas.Nat.{mod-pow-add}
 use Rattle.ox_name.specs.declared.reading.Named.{Named}
-use Rattle.ox_name.specs.Name.{IsLetter, IsName, followed, number_after, number_of, name_of}
-use Rattle.ox_name.specs.Texts.{dotted, BeginsWithNone}
-use Rattle.ox_name.specs.Spaced.{bullet, spaced, is_letter, Mark, with_letter, with_spacer, marks, letters_of, spacers_of, fitting, begun, named, ReadsBack}
+use Rattle.ox_name.specs.Name.{IsLetter, IsName, number_with, number_after, number_of, name_of}
+use Rattle.ox_name.specs.Texts.{dotted_text, BeginsWithNone}
+use Rattle.ox_name.specs.Spaced.{bullet, spaced_name, is_letter, Mark, with_letter, with_spacer, marks, letters_of, spacers_of, name_if_fits, name_of_marks, name_in, ReadsBack}
 use Rattle.ox_name.proofs.Names.{number_after-ge, name_of-is, number_of-name_of}
 
 letter-is : (c : ℕ) → IsLetter c → is_letter c ≡ true
@@ -28,24 +28,24 @@ letter-not c h =
 
 -- ---- U+2022
 
-dotted-other : (c : ℕ) (cs : List ℕ) → c ≢ 0xe2 → dotted (c ∷ cs) ≡ c ∷ dotted cs
+dotted-other : (c : ℕ) (cs : List ℕ) → c ≢ 0xe2 → dotted_text (c ∷ cs) ≡ c ∷ dotted_text cs
 dotted-other c [] ne = refl
 dotted-other c (d ∷ []) ne = refl
 dotted-other c (d ∷ e ∷ cs) ne = rw (ne_eqb c 0xe2 ne) refl
 
 -- what is in front of a text is in front of the text with dots, but for a dot itself
-dotted-none : (c : ℕ) (cs : List ℕ) → (IsLetter c → ⊥) → BeginsWithNone IsLetter (dotted (c ∷ cs))
+dotted-none : (c : ℕ) (cs : List ℕ) → (IsLetter c → ⊥) → BeginsWithNone IsLetter (dotted_text (c ∷ cs))
 dotted-none c [] h = h
 dotted-none c (d ∷ []) h = h
 dotted-none c (d ∷ e ∷ cs) h =
     let A : List ℕ → Type 0 = λ (t : List ℕ). BeginsWithNone IsLetter t in
-    cond_both (eqb c 0xe2 && (eqb d 0x80 && eqb e 0xa2)) (46 ∷ dotted cs) (c ∷ dotted (d ∷ e ∷ cs)) A (λ t. λ letter. let l : 65 ≤ 46 = letter.0 in absurd (omega arith)) (λ t. h)
+    cond_both (eqb c 0xe2 && (eqb d 0x80 && eqb e 0xa2)) (46 ∷ dotted_text cs) (c ∷ dotted_text (d ∷ e ∷ cs)) A (λ t. λ letter. let l : 65 ≤ 46 = letter.0 in absurd (omega arith)) (λ t. h)
 
-dotted-long : (text : List ℕ) → 0 < length text → 0 < length (dotted text)
+dotted-long : (text : List ℕ) → 0 < length text → 0 < length (dotted_text text)
 dotted-long [] h = h
 dotted-long (c ∷ []) h = h
 dotted-long (c ∷ d ∷ []) h = omega arith
-dotted-long (c ∷ d ∷ e ∷ cs) h = cond_both (eqb c 0xe2 && (eqb d 0x80 && eqb e 0xa2)) (46 ∷ dotted cs) (c ∷ dotted (d ∷ e ∷ cs)) (λ t. 0 < length t) (λ t. omega arith) (λ f. omega arith)
+dotted-long (c ∷ d ∷ e ∷ cs) h = cond_both (eqb c 0xe2 && (eqb d 0x80 && eqb e 0xa2)) (46 ∷ dotted_text cs) (c ∷ dotted_text (d ∷ e ∷ cs)) (λ t. 0 < length t) (λ t. omega arith) (λ f. omega arith)
 
 -- ---- the letters of a text
 
@@ -64,7 +64,7 @@ with_spacer-twice (Some []) = refl
 with_spacer-twice (Some ((true, c) ∷ ms)) = refl
 with_spacer-twice (Some ((false, c) ∷ ms)) = refl
 
-begun-spacer : (ms : Option (List Mark)) → begun (with_spacer ms) ≡ None
+begun-spacer : (ms : Option (List Mark)) → name_of_marks (with_spacer ms) ≡ None
 begun-spacer None = refl
 begun-spacer (Some []) = refl
 begun-spacer (Some ((true, c) ∷ ms)) = refl
@@ -89,9 +89,9 @@ none-in-front (c ∷ cs) long h ne = marks-bad c cs h ne
 -- what the rest of a text adds to a number and its spacers
 abbrev pub finished : ℕ → ℕ → ℕ → Option (List Mark) → Option Named
 finished n spacers place None = None
-finished n spacers place (Some ms) = fitting (number_after n (letters_of ms)) (spacers + 2 ^ place * spacers_of ms)
+finished n spacers place (Some ms) = name_if_fits (number_after n (letters_of ms)) (spacers + 2 ^ place * spacers_of ms)
 
-begun-letter : (c : ℕ) (ms : Option (List Mark)) → begun (with_letter c ms) ≡ finished (c - 65) 0 0 ms
+begun-letter : (c : ℕ) (ms : Option (List Mark)) → name_of_marks (with_letter c ms) ≡ finished (c - 65) 0 0 ms
 begun-letter c None = refl
 begun-letter c (Some ms) = let e : 0 + 2 ^ 0 * spacers_of ms ≡ spacers_of ms = omega arith in rw e refl
 
@@ -99,17 +99,17 @@ begun-letter c (Some ms) = let e : 0 + 2 ^ 0 * spacers_of ms ≡ spacers_of ms =
 abbrev pub led : Bool → ℕ → Option (List Mark) → Option (List Mark)
 led b c ms = cond b (with_spacer (with_letter c ms)) (with_letter c ms)
 
-finished-letter : (n spacers place c : ℕ) (b : Bool) (ms : Option (List Mark)) → finished n spacers place (led b c ms) ≡ finished (followed n c) (spacers + cond b (2 ^ place) 0) (place + 1) ms
+finished-letter : (n spacers place c : ℕ) (b : Bool) (ms : Option (List Mark)) → finished n spacers place (led b c ms) ≡ finished (number_with n c) (spacers + cond b (2 ^ place) 0) (place + 1) ms
 finished-letter n spacers place c true None = refl
 finished-letter n spacers place c false None = refl
 finished-letter n spacers place c true (Some ms) =
     let p : 2 ^ (place + 1) ≡ 2 ^ place * 2 = ap (λ k. 2 ^ k) (add-one place) ∙ pow-suc 2 place in
     let e : spacers + 2 ^ place * (1 + 2 * spacers_of ms) ≡ spacers + 2 ^ place + 2 ^ (place + 1) * spacers_of ms = rw p (omega arith) in
-    ap (fitting (number_after (followed n c) (letters_of ms))) e
+    ap (name_if_fits (number_after (number_with n c) (letters_of ms))) e
 finished-letter n spacers place c false (Some ms) =
     let p : 2 ^ (place + 1) ≡ 2 ^ place * 2 = ap (λ k. 2 ^ k) (add-one place) ∙ pow-suc 2 place in
     let e : spacers + 2 ^ place * (0 + 2 * spacers_of ms) ≡ spacers + 0 + 2 ^ (place + 1) * spacers_of ms = rw p (omega arith) in
-    ap (fitting (number_after (followed n c) (letters_of ms))) e
+    ap (name_if_fits (number_after (number_with n c) (letters_of ms))) e
 
 finished-over : (n spacers place : ℕ) (ms : Option (List Mark)) → 2 ^ 128 ≤ n → finished n spacers place ms ≡ None
 finished-over n spacers place None over = refl
@@ -121,53 +121,53 @@ finished-end : (n spacers place : ℕ) → n < 2 ^ 128 → finished n spacers pl
 finished-end n spacers place lt = let e : spacers + 2 ^ place * 0 ≡ spacers = omega arith in rw (e, lt-ltb n (2 ^ 128) lt) refl
 
 -- what stands in front of the rest, where a letter follows at once or behind a spacer
-marks-led : (b : Bool) (rest behind after : List ℕ) (c : ℕ) → (b ≡ true → dotted rest ≡ 46 ∷ dotted behind) → (b ≡ false → behind ≡ rest) → IsLetter c → behind ≡ c ∷ after → marks (dotted rest) ≡ led b c (marks (dotted after))
+marks-led : (b : Bool) (rest behind after : List ℕ) (c : ℕ) → (b ≡ true → dotted_text rest ≡ 46 ∷ dotted_text behind) → (b ≡ false → behind ≡ rest) → IsLetter c → behind ≡ c ∷ after → marks (dotted_text rest) ≡ led b c (marks (dotted_text after))
 marks-led b rest behind after c spacer none letter is =
     let low : 65 ≤ c = letter.0 in
     let up : c ≤ 90 = letter.1 in
     let ne : c ≢ 0xe2 = omega arith in
-    let text : dotted behind ≡ c ∷ dotted after = ap dotted is ∙ dotted-other c after ne in
-    let here : marks (dotted behind) ≡ with_letter c (marks (dotted after)) = ap marks text ∙ marks-letter c (dotted after) letter in
-    let P : Bool → Type 0 = λ (x : Bool). b ≡ x → marks (dotted rest) ≡ led x c (marks (dotted after)) in
-    let q : P b = elim b as (λ x. b ≡ x → marks (dotted rest) ≡ led x c (marks (dotted after))) [
-      | true ↦ λ t. ap marks (spacer t) ∙ marks-dot (dotted behind) ∙ ap with_spacer here
-      | false ↦ λ f. ap (λ t. marks (dotted t)) (sym (none f)) ∙ here
+    let text : dotted_text behind ≡ c ∷ dotted_text after = ap dotted_text is ∙ dotted-other c after ne in
+    let here : marks (dotted_text behind) ≡ with_letter c (marks (dotted_text after)) = ap marks text ∙ marks-letter c (dotted_text after) letter in
+    let P : Bool → Type 0 = λ (x : Bool). b ≡ x → marks (dotted_text rest) ≡ led x c (marks (dotted_text after)) in
+    let q : P b = elim b as (λ x. b ≡ x → marks (dotted_text rest) ≡ led x c (marks (dotted_text after))) [
+      | true ↦ λ t. ap marks (spacer t) ∙ marks-dot (dotted_text behind) ∙ ap with_spacer here
+      | false ↦ λ f. ap (λ t. marks (dotted_text t)) (sym (none f)) ∙ here
     ] in
     q refl
 
-none-behind : (behind : List ℕ) → BeginsWithNone IsLetter behind → BeginsWithNone IsLetter (dotted behind)
+none-behind : (behind : List ℕ) → BeginsWithNone IsLetter behind → BeginsWithNone IsLetter (dotted_text behind)
 none-behind [] h = h
 none-behind (c ∷ cs) h = dotted-none c cs h
 
 -- what stands in front of the rest is neither a letter nor a spacer and a letter
-marks-none : (b : Bool) (rest behind : List ℕ) → 0 < length rest → (b ≡ true → dotted rest ≡ 46 ∷ dotted behind) → (b ≡ false → (behind ≡ rest) × BeginsWithNone (λ c. c ≡ 46) (dotted rest)) → BeginsWithNone IsLetter behind → marks (dotted rest) ≡ None
+marks-none : (b : Bool) (rest behind : List ℕ) → 0 < length rest → (b ≡ true → dotted_text rest ≡ 46 ∷ dotted_text behind) → (b ≡ false → (behind ≡ rest) × BeginsWithNone (λ c. c ≡ 46) (dotted_text rest)) → BeginsWithNone IsLetter behind → marks (dotted_text rest) ≡ None
 marks-none b rest behind long spacer none letter =
     elim (cases_Bool b) [
-      | inl t ↦ ap marks (spacer t) ∙ marks-dot (dotted behind) ∙ spacer-then-none (dotted behind) (none-behind behind letter)
+      | inl t ↦ ap marks (spacer t) ∙ marks-dot (dotted_text behind) ∙ spacer-then-none (dotted_text behind) (none-behind behind letter)
       | inr f ↦
           let n = none f in
-          let A : List ℕ → Type 0 = λ (t : List ℕ). BeginsWithNone IsLetter (dotted t) in
-          none-in-front (dotted rest) (dotted-long rest long) (subst A n.0 (none-behind behind letter)) n.1
+          let A : List ℕ → Type 0 = λ (t : List ℕ). BeginsWithNone IsLetter (dotted_text t) in
+          none-in-front (dotted_text rest) (dotted-long rest long) (subst A n.0 (none-behind behind letter)) n.1
     ]
 
-begun-none : (text : List ℕ) → BeginsWithNone IsLetter text → begun (marks text) ≡ None
+begun-none : (text : List ℕ) → BeginsWithNone IsLetter text → name_of_marks (marks text) ≡ None
 begun-none [] h = refl
 begun-none (c ∷ cs) h =
     elim (cases_eq c 46) [
       | inl dot ↦ rw dot (begun-spacer (marks cs))
-      | inr ne ↦ ap begun (marks-bad c cs h ne)
+      | inr ne ↦ ap name_of_marks (marks-bad c cs h ne)
     ]
 
 -- a text that doesn't begin with a letter names nothing
-pub named-none : (text : List ℕ) → BeginsWithNone IsLetter text → named text ≡ None
-unfolding named
-named-none text h = begun-none (dotted text) (none-behind text h)
+pub named-none : (text : List ℕ) → BeginsWithNone IsLetter text → name_in text ≡ None
+unfolding name_in
+named-none text h = begun-none (dotted_text text) (none-behind text h)
 
-pub named-first : (text after : List ℕ) (c : ℕ) → IsLetter c → text ≡ c ∷ after → finished (c - 65) 0 0 (marks (dotted after)) ≡ named text
-unfolding named
+pub named-first : (text after : List ℕ) (c : ℕ) → IsLetter c → text ≡ c ∷ after → finished (c - 65) 0 0 (marks (dotted_text after)) ≡ name_in text
+unfolding name_in
 named-first text after c letter is =
     let same : (t : List ℕ) → t ≡ t = λ t. refl in
-    sym (ap begun (marks-led false text text after c (λ t. absurd (false≢true t)) (λ f. refl) letter is) ∙ begun-letter c (marks (dotted after)))
+    sym (ap name_of_marks (marks-led false text text after c (λ t. absurd (false≢true t)) (λ f. refl) letter is) ∙ begun-letter c (marks (dotted_text after)))
 
 -- ---- numbers in the loop
 
@@ -196,7 +196,7 @@ place_small place n low lt =
           absurd (omega arith)
     ]
 
-place_more : (place n c : ℕ) → 26 ^ place ≤ n + 1 → 26 ^ (place + 1) ≤ followed n c + 1
+place_more : (place n c : ℕ) → 26 ^ place ≤ n + 1 → 26 ^ (place + 1) ≤ number_with n c + 1
 place_more place n c low =
     let p : 26 ^ (place + 1) ≡ 26 ^ place * 26 = ap (λ k. 26 ^ k) (add-one place) ∙ pow-suc 26 place in
     rw p (omega arith)
@@ -213,32 +213,32 @@ bits_fit spacers place b small lt =
 
 -- the state after so many letters
 pub record Read (text rest : List ℕ) (n spacers place : ℕ) : Type 0 where
-  pub is : finished n spacers place (marks (dotted rest)) ≡ named text
+  pub is : finished n spacers place (marks (dotted_text rest)) ≡ name_in text
   pub letters : 26 ^ place ≤ n + 1
   pub bits : spacers < 2 ^ place
   pub small : n < 2 ^ 128
 
-pub reads_on : (text rest behind after : List ℕ) (n spacers place c : ℕ) (b : Bool) → Read text rest n spacers place → (b ≡ true → dotted rest ≡ 46 ∷ dotted behind) → (b ≡ false → behind ≡ rest) → IsLetter c → behind ≡ c ∷ after → followed n c < 2 ^ 128 → Read text after (followed n c) (spacers + cond b (2 ^ place) 0) (place + 1)
+pub reads_on : (text rest behind after : List ℕ) (n spacers place c : ℕ) (b : Bool) → Read text rest n spacers place → (b ≡ true → dotted_text rest ≡ 46 ∷ dotted_text behind) → (b ≡ false → behind ≡ rest) → IsLetter c → behind ≡ c ∷ after → number_with n c < 2 ^ 128 → Read text after (number_with n c) (spacers + cond b (2 ^ place) 0) (place + 1)
 reads_on text rest behind after n spacers place c b read spacer none letter is lt = record {
-  is = sym (finished-letter n spacers place c b (marks (dotted after))) ∙ ap (finished n spacers place) (sym (marks-led b rest behind after c spacer none letter is)) ∙ read.is;
+  is = sym (finished-letter n spacers place c b (marks (dotted_text after))) ∙ ap (finished n spacers place) (sym (marks-led b rest behind after c spacer none letter is)) ∙ read.is;
   letters = place_more place n c read.letters;
   bits = bits_more spacers place b read.bits;
   small = lt;
 }
 
-pub reads_over : (text rest behind after : List ℕ) (n spacers place c : ℕ) (b : Bool) → Read text rest n spacers place → (b ≡ true → dotted rest ≡ 46 ∷ dotted behind) → (b ≡ false → behind ≡ rest) → IsLetter c → behind ≡ c ∷ after → 2 ^ 128 ≤ followed n c → named text ≡ None
+pub reads_over : (text rest behind after : List ℕ) (n spacers place c : ℕ) (b : Bool) → Read text rest n spacers place → (b ≡ true → dotted_text rest ≡ 46 ∷ dotted_text behind) → (b ≡ false → behind ≡ rest) → IsLetter c → behind ≡ c ∷ after → 2 ^ 128 ≤ number_with n c → name_in text ≡ None
 reads_over text rest behind after n spacers place c b read spacer none letter is over =
-    let next : finished (followed n c) (spacers + cond b (2 ^ place) 0) (place + 1) (marks (dotted after)) ≡ named text = sym (finished-letter n spacers place c b (marks (dotted after))) ∙ ap (finished n spacers place) (sym (marks-led b rest behind after c spacer none letter is)) ∙ read.is in
-    sym next ∙ finished-over (followed n c) (spacers + cond b (2 ^ place) 0) (place + 1) (marks (dotted after)) over
+    let next : finished (number_with n c) (spacers + cond b (2 ^ place) 0) (place + 1) (marks (dotted_text after)) ≡ name_in text = sym (finished-letter n spacers place c b (marks (dotted_text after))) ∙ ap (finished n spacers place) (sym (marks-led b rest behind after c spacer none letter is)) ∙ read.is in
+    sym next ∙ finished-over (number_with n c) (spacers + cond b (2 ^ place) 0) (place + 1) (marks (dotted_text after)) over
 
-pub reads_none : (text rest behind : List ℕ) (n spacers place : ℕ) (b : Bool) → Read text rest n spacers place → 0 < length rest → (b ≡ true → dotted rest ≡ 46 ∷ dotted behind) → (b ≡ false → (behind ≡ rest) × BeginsWithNone (λ c. c ≡ 46) (dotted rest)) → BeginsWithNone IsLetter behind → named text ≡ None
+pub reads_none : (text rest behind : List ℕ) (n spacers place : ℕ) (b : Bool) → Read text rest n spacers place → 0 < length rest → (b ≡ true → dotted_text rest ≡ 46 ∷ dotted_text behind) → (b ≡ false → (behind ≡ rest) × BeginsWithNone (λ c. c ≡ 46) (dotted_text rest)) → BeginsWithNone IsLetter behind → name_in text ≡ None
 reads_none text rest behind n spacers place b read long spacer none letter =
     sym read.is ∙ ap (finished n spacers place) (marks-none b rest behind long spacer none letter)
 
-pub reads_all : (text rest : List ℕ) (n spacers place : ℕ) → Read text rest n spacers place → length rest ≡ 0 → named text ≡ Some (record { name = n; spacers = spacers })
+pub reads_all : (text rest : List ℕ) (n spacers place : ℕ) → Read text rest n spacers place → length rest ≡ 0 → name_in text ≡ Some (record { name = n; spacers = spacers })
 reads_all text rest n spacers place read end =
     let none : rest ≡ [] = nil_from_length rest end in
-    sym read.is ∙ ap (λ t. finished n spacers place (marks (dotted t))) none ∙ finished-end n spacers place read.small
+    sym read.is ∙ ap (λ t. finished n spacers place (marks (dotted_text t))) none ∙ finished-end n spacers place read.small
 
 -- ---- what was written reads back
 
@@ -246,18 +246,18 @@ marks_of : ℕ → List ℕ → List Mark
 marks_of spacers [] = []
 marks_of spacers (c ∷ cs) = (eqb (spacers % 2) 1, c) ∷ marks_of (spacers / 2) cs
 
-marks-spaced : (cs : List ℕ) (spacers c : ℕ) → All IsLetter (c ∷ cs) → marks (dotted (spaced spacers (c ∷ cs))) ≡ Some ((false, c) ∷ marks_of spacers cs)
+marks-spaced : (cs : List ℕ) (spacers c : ℕ) → All IsLetter (c ∷ cs) → marks (dotted_text (spaced_name spacers (c ∷ cs))) ≡ Some ((false, c) ∷ marks_of spacers cs)
 unfolding marks_of
 marks-spaced [] spacers c all = marks-letter c [] (All-head IsLetter c [] all)
 marks-spaced (d ∷ ds) spacers c all =
     let letter = All-head IsLetter c (d ∷ ds) all in
     let up : c ≤ 90 = letter.1 in
     let ne : c ≢ 0xe2 = omega arith in
-    let r : List ℕ = spaced (spacers / 2) (d ∷ ds) in
-    let ih : marks (dotted (spaced (spacers / 2) (d ∷ ds))) ≡ Some ((false, d) ∷ marks_of (spacers / 2) ds) = marks-spaced ds (spacers / 2) d (All-tail IsLetter c (d ∷ ds) all) in
+    let r : List ℕ = spaced_name (spacers / 2) (d ∷ ds) in
+    let ih : marks (dotted_text (spaced_name (spacers / 2) (d ∷ ds))) ≡ Some ((false, d) ∷ marks_of (spacers / 2) ds) = marks-spaced ds (spacers / 2) d (All-tail IsLetter c (d ∷ ds) all) in
     elim (cases_Bool (eqb (spacers % 2) 1)) [
-      | inl odd ↦ rw odd (ap marks (dotted-other c (bullet ++ r) ne) ∙ marks-letter c (46 ∷ dotted r) letter ∙ ap (λ m. with_letter c (with_spacer m)) ih)
-      | inr even ↦ rw even (ap marks (dotted-other c r ne) ∙ marks-letter c (dotted r) letter ∙ ap (with_letter c) ih)
+      | inl odd ↦ rw odd (ap marks (dotted-other c (bullet ++ r) ne) ∙ marks-letter c (46 ∷ dotted_text r) letter ∙ ap (λ m. with_letter c (with_spacer m)) ih)
+      | inr even ↦ rw even (ap marks (dotted-other c r ne) ∙ marks-letter c (dotted_text r) letter ∙ ap (with_letter c) ih)
     ]
 
 letters_of-marks_of : (spacers : ℕ) (cs : List ℕ) → letters_of (marks_of spacers cs) ≡ cs
@@ -282,13 +282,13 @@ spacers_of-marks_of spacers (c ∷ cs) =
     let ih : spacers_of (marks_of (spacers / 2) cs) ≡ spacers / 2 % 2 ^ length cs = spacers_of-marks_of (spacers / 2) cs in
     rw (bit-is spacers, ih, p, m) (omega arith)
 
-written_back : (text : List ℕ) (spacers : ℕ) → IsName text → number_of text < 2 ^ 128 → named (spaced spacers text) ≡ Some (record { name = number_of text; spacers = spacers % 2 ^ (length text - 1) })
-unfolding named
+written_back : (text : List ℕ) (spacers : ℕ) → IsName text → number_of text < 2 ^ 128 → name_in (spaced_name spacers text) ≡ Some (record { name = number_of text; spacers = spacers % 2 ^ (length text - 1) })
+unfolding name_in
 written_back [] spacers is lt = absurd (omega (arith, is.0))
 written_back (c ∷ cs) spacers is lt =
     let k : suc (length cs) - 1 ≡ length cs = omega arith in
     let n : number_after (c - 65) cs < 2 ^ 128 = lt in
-    ap begun (marks-spaced cs spacers c is.1) ∙ rw (letters_of-marks_of spacers cs, spacers_of-marks_of spacers cs, k, lt-ltb (number_after (c - 65) cs) (2 ^ 128) n) refl
+    ap name_of_marks (marks-spaced cs spacers c is.1) ∙ rw (letters_of-marks_of spacers cs, spacers_of-marks_of spacers cs, k, lt-ltb (number_after (c - 65) cs) (2 ^ 128) n) refl
 
 pub all_read_back : ReadsBack
 all_read_back n spacers lt =

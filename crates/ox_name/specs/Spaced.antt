@@ -1,7 +1,9 @@
--- Names with spacers: U+2022 between letters where a bit is set, the lowest bit for the gap behind the first
--- letter (Runes specification, "Name"). A reader takes `.` for a spacer too.
-use Rattle.std.specs.Prelude.{◌≡◌, ℕ, ◌+◌, ◌-◌, ◌*◌, ◌/◌, ◌%◌, ◌^◌, ◌<◌, List, [], ◌∷◌, ◌++◌, length, map, Bool, true, false, Option, Some, None, nat_lt, nat_le, ◌==◌, ◌&&◌, if◌then◌else◌}
-use Rattle.ox_name.specs.Texts.{dotted}
+-- Names with spacers: U+2022 between letters where a bit is set, the lowest bit for the gap behind
+-- the first letter (Runes specification, "Name"). A reader takes `.` for a spacer too.
+use Rattle.std.specs.Prelude.{◌≡◌, ℕ, ◌+◌, ◌-◌, ◌*◌, ◌/◌, ◌%◌, ◌^◌, ◌<◌, List, [], ◌∷◌, ◌++◌}
+use Rattle.std.specs.Prelude.{length, map, Bool, true, false, Option, Some, None, nat_lt, nat_le}
+use Rattle.std.specs.Prelude.{◌==◌, ◌&&◌, if◌then◌else◌}
+use Rattle.ox_name.specs.Texts.{dotted_text}
 use Rattle.ox_name.specs.declared.reading.Named.{Named}
 use Rattle.ox_name.specs.Name.{number_after, name_of}
 
@@ -14,10 +16,10 @@ abbrev pub gap : ℕ → List ℕ
 gap spacers = if spacers % 2 == 1 then bullet else []
 
 -- the letters with their spacers; none stands behind the last
-abbrev pub spaced : ℕ → List ℕ → List ℕ
-spaced spacers [] = []
-spaced spacers (c ∷ []) = c ∷ []
-spaced spacers (c ∷ d ∷ cs) = c ∷ (gap spacers ++ spaced (spacers / 2) (d ∷ cs))
+abbrev pub spaced_name : ℕ → List ℕ → List ℕ
+spaced_name spacers [] = []
+spaced_name spacers (c ∷ []) = c ∷ []
+spaced_name spacers (c ∷ d ∷ cs) = c ∷ (gap spacers ++ spaced_name (spacers / 2) (d ∷ cs))
 
 -- ---- reading
 
@@ -44,7 +46,8 @@ with_spacer (Some ((false, c) ∷ ms)) = Some ((true, c) ∷ ms)
 abbrev pub marks : List ℕ → Option (List Mark)
 marks [] = Some []
 marks (c ∷ cs) =
-    if is_letter c then with_letter c (marks cs) else (if c == 46 then with_spacer (marks cs) else None)
+    if is_letter c then with_letter c (marks cs) else
+    if c == 46 then with_spacer (marks cs) else None
 
 abbrev pub letters_of : List Mark → List ℕ
 letters_of ms = map (λ m. m.1) ms
@@ -55,22 +58,25 @@ spacers_of [] = 0
 spacers_of ((spaced, c) ∷ ms) = (if spaced then 1 else 0) + 2 * spacers_of ms
 
 -- a name's number, which has at most 128 bits, and its spacers
-abbrev pub fitting : ℕ → ℕ → Option Named
-fitting n spacers = if nat_lt n (2 ^ 128) then Some (record { name = n; spacers = spacers }) else None
+abbrev pub name_if_fits : ℕ → ℕ → Option Named
+name_if_fits n spacers =
+    if nat_lt n (2 ^ 128) then Some (record { name = n; spacers = spacers }) else None
 
 -- a name begins with a letter
-abbrev pub begun : Option (List Mark) → Option Named
-begun None = None
-begun (Some []) = None
-begun (Some ((true, c) ∷ ms)) = None
-begun (Some ((false, c) ∷ ms)) = fitting (number_after (c - 65) (letters_of ms)) (spacers_of ms)
+abbrev pub name_of_marks : Option (List Mark) → Option Named
+name_of_marks None = None
+name_of_marks (Some []) = None
+name_of_marks (Some ((true, c) ∷ ms)) = None
+name_of_marks (Some ((false, c) ∷ ms)) =
+    name_if_fits (number_after (c - 65) (letters_of ms)) (spacers_of ms)
 
 -- what a text names, if it is a name
-unfoldable pub named : List ℕ → Option Named
-named text = begun (marks (dotted text))
+unfoldable pub name_in : List ℕ → Option Named
+name_in text = name_of_marks (marks (dotted_text text))
 
 -- A written name reads back as its number, with its spacers: of the bits those between two letters.
 abbrev pub ReadsBack : Type 0
 ReadsBack =
     (n spacers : ℕ) → n < 2 ^ 128 →
-    named (spaced spacers (name_of n)) ≡ Some (record { name = n; spacers = spacers % 2 ^ (length (name_of n) - 1) })
+    name_in (spaced_name spacers (name_of n))
+    ≡ Some (record { name = n; spacers = spacers % 2 ^ (length (name_of n) - 1) })

@@ -1,12 +1,15 @@
 -- The least name that may be etched at a height, and the commitment to a name (Runes specification,
 -- "Etching"; ord's `Rune::minimum_at_height`).
-use Rattle.std.specs.Prelude.{ℕ, zero, suc, ◌+◌, ◌-◌, ◌*◌, ◌/◌, ◌%◌, List, [], ◌∷◌, ◌^◌, nat_lt, nat_le, ◌==◌, if◌then◌else◌}
+use Rattle.std.specs.Prelude.{◌≡◌, ◌<◌, ◌≤◌, ℕ, zero, suc, ◌+◌, ◌-◌, ◌*◌, ◌/◌, ◌%◌, List, [], ◌∷◌}
+use Rattle.std.specs.Prelude.{◌^◌, nat_lt, nat_le, ◌==◌, if◌then◌else◌}
 use Rattle.ox_name.specs.Name.{first_of}
 
--- Between two lengths the least name falls evenly: at place blocks into an interval that begins at the
--- first name with so many letters more than one, and ends at the first name with one letter less.
+-- Between two lengths the least name falls evenly: at place blocks into an interval that begins at
+-- the first name with so many letters more than one, and ends at the first name with one letter
+-- less.
 abbrev pub falling : ℕ → ℕ → ℕ → ℕ
-falling more interval place = first_of more - (first_of more - first_of (more - 1)) * place / interval
+falling more interval place =
+    first_of more - (first_of more - first_of (more - 1)) * place / interval
 
 -- where p heights are open at the next height
 abbrev pub least_after : ℕ → ℕ → ℕ
@@ -17,6 +20,14 @@ least_after interval p =
 unfoldable pub least_name : ℕ → ℕ → ℕ → ℕ
 least_name start interval height =
     if nat_lt (height + 1) start then first_of 12 else least_after interval (height + 1 - start)
+
+-- The least name never rises from a height to a later one, and where an interval begins it is the
+-- first name of its length.
+pub record NeverRises : Type 0 where
+  pub later : (start interval low high : ℕ) → low ≤ high →
+      least_name start interval high ≤ least_name start interval low
+  pub at_start : (start interval gone height : ℕ) → 0 < interval → gone ≤ 12 →
+      height + 1 ≡ start + gone * interval → least_name start interval height ≡ first_of (12 - gone)
 
 -- the least of the names that are kept for etchings without a name: that of 27 letters A
 abbrev pub first_reserved : ℕ

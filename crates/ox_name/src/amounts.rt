@@ -1,6 +1,6 @@
-ghost use Rattle.std.specs.Prelude.{◌≡◌, ◌<◌, ◌≤◌, ◌++◌, ◌^◌, length, drop};
+ghost use Rattle.std.specs.Prelude.{◌≡◌, ◌<◌, ◌≤◌, ◌++◌, ◌^◌, length, take, drop};
 ghost use Rattle.std.specs.Fmt.{decimal};
-ghost use Rattle.ox_name.specs.Amount.{amount_text};
+ghost use Rattle.ox_name.specs.Amount.{amount_text, SaysAmount};
 
 use crate::letters::turn_front;
 
@@ -22,14 +22,15 @@ fn write_whole(whole: u128, into: &mut [u8; 41]) -> usize
     len
 }
 
-/// Writes an amount with `divisibility` decimals to the front of `into`, and answers how many bytes that
-/// took. Zeros at the end of the decimals are left out, and the point where no decimal is left. The bytes
-/// behind stay.
+/// Writes an amount with `divisibility` decimals to the front of `into`, and answers how many bytes
+/// that took. Zeros at the end of the decimals are left out, and the point where no decimal is
+/// left. The bytes behind stay.
 pub fn write_amount(amount: u128, divisibility: u8, into: &mut [u8; 41]) -> usize
     requires { divisibility ≤ 38 }
     ensures length { result ≡ length (amount_text amount divisibility) }
     ensures written { into.new ≡ amount_text amount divisibility ++ drop result into.old }
     ensures fits { result ≤ 41 }
+    ensures says { SaysAmount amount divisibility (take result into.new) }
 {
     let mut unit = 10u128.pow(divisibility as u32);
     let mut part = amount % unit;

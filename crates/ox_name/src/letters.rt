@@ -1,12 +1,4 @@
-ghost use Rattle.std.specs.Prelude.{
-  ◌≡◌,
-  ◌≤◌,
-  ◌++◌,
-  length,
-  take,
-  drop,
-  reverse,
-};
+ghost use Rattle.std.specs.Prelude.{◌≡◌, ◌≤◌, ◌++◌, length, take, drop, reverse};
 ghost use Rattle.ox_name.specs.Name.{IsName, number_of, name_of, AreOneToOne};
 
 /// Turns the first `len` bytes round.
@@ -17,8 +9,8 @@ pub(crate) fn turn_front(into: &mut [u8], len: usize)
     into[..len].reverse();
 }
 
-/// Writes the name of the number `name` to the front of `into`, letters A to Z, and answers how many there
-/// are, from 1 to 28. The bytes behind them stay.
+/// Writes the name of the number `name` to the front of `into`, letters A to Z, and answers how
+/// many there are, from 1 to 28. The bytes behind them stay.
 pub fn write_name(name: u128, into: &mut [u8; 28]) -> usize
     ensures length { result ≡ length (name_of name) }
     ensures written { into.new ≡ name_of name ++ drop result into.old }

@@ -1,24 +1,8 @@
-ghost use Rattle.std.specs.Prelude.{
-  ◌≡◌,
-  ◌↔◌,
-  ◌^◌,
-  ◌<◌,
-  ◌∷◌,
-  ◌≤◌,
-  length,
-  true,
-  false,
-  None,
-  Some,
-  IfOk,
-  IsErr,
-  MatchOption,
-  nat_lt,
-  if◌then◌else◌,
-};
-ghost use Rattle.ox_name.specs.Name.{IsLetter, followed};
-ghost use Rattle.ox_name.specs.Texts.{BeginsWithNone, dotted};
-ghost use Rattle.ox_name.specs.Spaced.{named, ReadsBack};
+ghost use Rattle.std.specs.Prelude.{◌≡◌, ◌↔◌, ◌^◌, ◌<◌, ◌∷◌, ◌≤◌, length, true, false, None, Some};
+ghost use Rattle.std.specs.Prelude.{IfOk, IsErr, MatchOption, nat_lt, if◌then◌else◌};
+ghost use Rattle.ox_name.specs.Name.{IsLetter, number_with};
+ghost use Rattle.ox_name.specs.Texts.{BeginsWithNone, dotted_text};
+ghost use Rattle.ox_name.specs.Spaced.{name_in, ReadsBack};
 
 /// What a text names.
 #[derive(Clone, Copy, Debug, PartialEq, Eq)]
@@ -35,11 +19,11 @@ pub struct NotName;
 
 /// Reads a name: letters A to Z, and U+2022 or `.` singly between two of them.
 ///
-/// Answers `NotName` exactly where the text is anything else: empty, with another character, with a spacer
-/// at an end or two in a row, or with a number above the greatest of 128 bits.
+/// Answers `NotName` exactly where the text is anything else: empty, with another character, with a
+/// spacer at an end or two in a row, or with a number above the greatest of 128 bits.
 pub fn read_name(text: &[u8]) -> Result<Named, NotName>
-    ensures found { IfOk result (λ name. named text.now ≡ Some name) }
-    ensures none { IsErr result ↔ (named text.now ≡ None) }
+    ensures found { IfOk result (λ name. name_in text.now ≡ Some name) }
+    ensures none { IsErr result ↔ (name_in text.now ≡ None) }
 {
     let Some((first, mut rest)) = letter_at(text) else {
         return Err(NotName);
@@ -63,7 +47,8 @@ pub fn read_name(text: &[u8]) -> Result<Named, NotName>
     Ok(Named { name, spacers })
 }
 
-/// The law of `write_spaced` and `read_name`: a written name reads back as its number, with its spacers.
+/// The law of `write_spaced` and `read_name`: a written name reads back as its number, with its
+/// spacers.
 pub fn reads_back()
     ensures { ReadsBack }
 {}
@@ -81,8 +66,9 @@ fn letter_at(text: &[u8]) -> Option<(u8, &[u8])>
 
 /// Whether a spacer is in front, and what follows it.
 fn spacer_at(text: &[u8]) -> (bool, &[u8])
-    ensures spacer { result.0 ≡ true → dotted text.now ≡ 46 ∷ dotted result.1.now }
-    ensures none { result.0 ≡ false → (result.1.now ≡ text.now) × BeginsWithNone (λ c. c ≡ 46) (dotted text.now) }
+    ensures spacer { result.0 ≡ true → dotted_text text.now ≡ 46 ∷ dotted_text result.1.now }
+    ensures none { result.0 ≡ false →
+        (result.1.now ≡ text.now) × BeginsWithNone (λ c. c ≡ 46) (dotted_text text.now) }
     ensures shorter { length result.1.now ≤ length text.now }
 {
     match text {
@@ -95,7 +81,8 @@ fn spacer_at(text: &[u8]) -> (bool, &[u8])
 /// The number of a name with one letter more behind it, if it has 128 bits.
 fn with_letter(name: u128, letter: u8) -> Option<u128>
     requires { IsLetter letter }
-    ensures { result ≡ (if nat_lt (followed name letter) (2 ^ 128) then Some (followed name letter) else None) }
+    ensures { result ≡ (if nat_lt (number_with name letter) (2 ^ 128)
+        then Some (number_with name letter) else None) }
 {
     let longer = name.checked_add(1)?.checked_mul(26)?;
     longer.checked_add((letter - b'A') as u128)

@@ -1,21 +1,8 @@
-ghost use Rattle.std.specs.Prelude.{
-  ◌≡◌,
-  ◌≢◌,
-  ◌<◌,
-  ◌≤◌,
-  ◌^◌,
-  ◌-◌,
-  ◌++◌,
-  ◌⊎◌,
-  ◌↔◌,
-  IsTrue,
-  length,
-  take,
-  drop,
-  slice_index,
-};
+ghost use Rattle.std.specs.Prelude.{◌≡◌, ◌≢◌, ◌<◌, ◌≤◌, ◌^◌, ◌-◌, ◌++◌, ◌⊎◌, ◌↔◌, IsTrue, length};
+ghost use Rattle.std.specs.Prelude.{take, drop, slice_index};
 ghost use Rattle.ox_name.specs.Name.{first_of};
-ghost use Rattle.ox_name.specs.Unlock.{least_name, least_after, first_reserved, reserved_name, commitment_of, bytes_value};
+ghost use Rattle.ox_name.specs.Unlock.{least_name, least_after, NeverRises, first_reserved};
+ghost use Rattle.ox_name.specs.Unlock.{reserved_name, commitment_of, bytes_value};
 
 /// The number of the name of so many letters A and one more.
 const FIRST: [u128; 13] = [
@@ -45,9 +32,9 @@ fn shortest(more: usize) -> u128
     FIRST[more]
 }
 
-/// The least name that may be etched at `height`, where names open from `start` on and the least one loses a
-/// letter in each `interval`. Up to the block before `start` it is that of 13 letters A, and from
-/// 12 intervals on 0.
+/// The least name that may be etched at `height`, where names open from `start` on and the least
+/// one loses a letter in each `interval`. Up to the block before `start` it is that of 13 letters
+/// A, and from 12 intervals on 0.
 pub fn minimum(start: u64, interval: u64, height: u64) -> u128
     ensures { result ≡ least_name start interval height }
 {
@@ -58,6 +45,12 @@ pub fn minimum(start: u64, interval: u64, height: u64) -> u128
     }
     falling(interval as u128, next - start)
 }
+
+/// The least name never rises with the height, and where an interval begins it is the first name of
+/// its length, of one letter less than in the interval before.
+pub fn minimum_never_rises()
+    ensures { NeverRises }
+{}
 
 /// The least name where `passed` heights are open at the next height.
 fn falling(interval: u128, passed: u128) -> u128
@@ -80,15 +73,16 @@ pub fn is_reserved(name: u128) -> bool
     name >= RESERVED
 }
 
-/// The number of the name of an etching without one, by its height and the place of its transaction.
+/// The number of the name of an etching without one, by its height and the place of its
+/// transaction.
 pub fn reserved(height: u32, tx: u32) -> u128
     ensures { result ≡ reserved_name height tx }
 {
     RESERVED + ((height as u128) << 32) + tx as u128
 }
 
-/// Writes the commitment to a name to the front of `into`, and answers how many bytes it has, from 0 to 16:
-/// its number's bytes, the lowest first, without zeros at the end. The bytes behind stay.
+/// Writes the commitment to a name to the front of `into`, and answers how many bytes it has, from
+/// 0 to 16: its number's bytes, the lowest first, without zeros at the end. The bytes behind stay.
 pub fn commitment(name: u128, into: &mut [u8; 16]) -> usize
     ensures length { result ≡ length (commitment_of name) }
     ensures written { into.new ≡ commitment_of name ++ drop result into.old }

@@ -1,3 +1,4 @@
 pub mod ScriptLemmas
 pub mod WitnessLemmas
 pub mod PartLemmas
+pub mod FormLemmas

@@ -2,44 +2,60 @@
 use Rattle.std.proofs.Common.{◌≡◌, ℕ, zero, suc, ◌<◌, ◌≤◌, Bool, true, false, ◌||◌, None, List, [], ◌∷◌, length, take, drop, refl, sym, ap, ◌∙◌}
 use Rattle.std.proofs.lemmas.Bool.{lt-ltb, le-ltb}
 use Rattle.std.proofs.lemmas.List.{nil_from_length}
-use Rattle.ox_script.specs.Script.{Push, Op, Reading, GivesItem, width_of, count_of, reach, items_past, is_cut_past, items_of, is_cut}
+use Rattle.ox_script.specs.Script.{Push, Op, Reading, GivesItem, width_of, count_of, reach, Parse, before, parse_past, items_of, is_cut}
 
 -- passing bytes over is dropping them
-pub items_past-drop : (skipped : ℕ) (script : List ℕ) → items_past skipped script ≡ items_of (drop skipped script)
-unfolding items_of
-items_past-drop zero script = refl
-items_past-drop (suc skipped) [] = refl
-items_past-drop (suc skipped) (byte ∷ bytes) = items_past-drop skipped bytes
+pub parse_past-drop : (skipped : ℕ) (script : List ℕ)
+    → parse_past skipped script ≡ parse_past 0 (drop skipped script)
+parse_past-drop zero script = refl
+parse_past-drop (suc skipped) [] = refl
+parse_past-drop (suc skipped) (byte ∷ bytes) = parse_past-drop skipped bytes
 
-pub is_cut_past-drop : (skipped : ℕ) (script : List ℕ) → is_cut_past skipped script ≡ is_cut (drop skipped script)
-unfolding is_cut
-is_cut_past-drop zero script = refl
-is_cut_past-drop (suc skipped) [] = refl
-is_cut_past-drop (suc skipped) (byte ∷ bytes) = is_cut_past-drop skipped bytes
+parse-op : (op : ℕ) (rest : List ℕ) → 78 < op
+    → parse_past 0 (op ∷ rest) ≡ before (Op op) (parse_past 0 rest)
+parse-op op rest above = rw (lt-ltb 78 op above) refl
+
+parse-short : (op : ℕ) (rest : List ℕ) → op ≤ 78 → length rest < reach op rest
+    → parse_past 0 (op ∷ rest) ≡ record { items = []; cut = true }
+parse-short op rest pushes short =
+    rw (le-ltb 78 op pushes, lt-ltb (length rest) (reach op rest) short) refl
+
+parse-push : (op : ℕ) (rest : List ℕ) → op ≤ 78 → reach op rest ≤ length rest
+    → parse_past 0 (op ∷ rest) ≡ before (Push (take (count_of op rest) (drop (width_of op) rest)))
+    (parse_past 0 (drop (reach op rest) rest))
+parse-push op rest pushes whole =
+    rw (le-ltb 78 op pushes, le-ltb (length rest) (reach op rest) whole)
+    (ap (before (Push (take (count_of op rest) (drop (width_of op) rest))))
+    (parse_past-drop (reach op rest) rest))
 
 pub items_of-op : (op : ℕ) (rest : List ℕ) → 78 < op → items_of (op ∷ rest) ≡ Op op ∷ items_of rest
 unfolding items_of
-items_of-op op rest above = rw (lt-ltb 78 op above) refl
+items_of-op op rest above = ap (λ (p : Parse). p.items) (parse-op op rest above)
 
 pub is_cut-op : (op : ℕ) (rest : List ℕ) → 78 < op → is_cut (op ∷ rest) ≡ is_cut rest
 unfolding is_cut
-is_cut-op op rest above = rw (lt-ltb 78 op above) refl
+is_cut-op op rest above = ap (λ (p : Parse). p.cut) (parse-op op rest above)
 
-pub items_of-short : (op : ℕ) (rest : List ℕ) → op ≤ 78 → length rest < reach op rest → items_of (op ∷ rest) ≡ []
+pub items_of-short : (op : ℕ) (rest : List ℕ) → op ≤ 78 → length rest < reach op rest
+    → items_of (op ∷ rest) ≡ []
 unfolding items_of
-items_of-short op rest pushes short = rw (le-ltb 78 op pushes, lt-ltb (length rest) (reach op rest) short) refl
+items_of-short op rest pushes short = ap (λ (p : Parse). p.items) (parse-short op rest pushes short)
 
-pub is_cut-short : (op : ℕ) (rest : List ℕ) → op ≤ 78 → length rest < reach op rest → is_cut (op ∷ rest) ≡ true
+pub is_cut-short : (op : ℕ) (rest : List ℕ) → op ≤ 78 → length rest < reach op rest
+    → is_cut (op ∷ rest) ≡ true
 unfolding is_cut
-is_cut-short op rest pushes short = rw (le-ltb 78 op pushes, lt-ltb (length rest) (reach op rest) short) refl
+is_cut-short op rest pushes short = ap (λ (p : Parse). p.cut) (parse-short op rest pushes short)
 
-pub items_of-push : (op : ℕ) (rest : List ℕ) → op ≤ 78 → reach op rest ≤ length rest → items_of (op ∷ rest) ≡ Push (take (count_of op rest) (drop (width_of op) rest)) ∷ items_of (drop (reach op rest) rest)
+pub items_of-push : (op : ℕ) (rest : List ℕ) → op ≤ 78 → reach op rest ≤ length rest
+    → items_of (op ∷ rest) ≡ Push (take (count_of op rest) (drop (width_of op) rest))
+    ∷ items_of (drop (reach op rest) rest)
 unfolding items_of
-items_of-push op rest pushes whole = rw (le-ltb 78 op pushes, le-ltb (length rest) (reach op rest) whole) (ap (λ items. Push (take (count_of op rest) (drop (width_of op) rest)) ∷ items) (items_past-drop (reach op rest) rest))
+items_of-push op rest pushes whole = ap (λ (p : Parse). p.items) (parse-push op rest pushes whole)
 
-pub is_cut-push : (op : ℕ) (rest : List ℕ) → op ≤ 78 → reach op rest ≤ length rest → is_cut (op ∷ rest) ≡ is_cut (drop (reach op rest) rest)
+pub is_cut-push : (op : ℕ) (rest : List ℕ) → op ≤ 78 → reach op rest ≤ length rest
+    → is_cut (op ∷ rest) ≡ is_cut (drop (reach op rest) rest)
 unfolding is_cut
-is_cut-push op rest pushes whole = rw (le-ltb 78 op pushes, le-ltb (length rest) (reach op rest) whole) (is_cut_past-drop (reach op rest) rest)
+is_cut-push op rest pushes whole = ap (λ (p : Parse). p.cut) (parse-push op rest pushes whole)
 
 -- an empty script has no item, and is not cut
 pub items_of-nil : items_of [] ≡ []

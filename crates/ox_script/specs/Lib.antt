@@ -1,3 +1,4 @@
 pub mod Script
+pub mod Form
 pub mod Shape
 pub mod Witness

@@ -1,5 +1,6 @@
 -- What a script's bytes read as: Bitcoin Core's src/script/script.cpp, GetScriptOp.
-use Rattle.std.specs.Prelude.{◌≡◌, Option, Some, None, ℕ, zero, suc, ◌+◌, ◌*◌, Bool, true, false, List, [], ◌∷◌, ◌++◌, length, take, drop, ◌==◌, nat_lt, if◌then◌else◌}
+use Rattle.std.specs.Prelude.{◌≡◌, Option, Some, None, ℕ, zero, suc, ◌+◌, ◌*◌, Bool, true, false}
+use Rattle.std.specs.Prelude.{List, [], ◌∷◌, ◌++◌, length, take, drop, ◌==◌, nat_lt, if◌then◌else◌}
 use Rattle.ox_script.specs.declared.instructions.Item.{Item}
 use Rattle.ox_script.specs.declared.instructions.Item.TheVariants as item
 
@@ -34,29 +35,31 @@ reach op rest = width_of op + count_of op rest
 abbrev pub is_short : ℕ → List ℕ → Bool
 is_short op rest = nat_lt (length rest) (reach op rest)
 
--- the items of a script, with some bytes at its front passed over. They end at a push that is cut short.
-abbrev pub items_past : ℕ → List ℕ → List Instruction
-items_past _ [] = []
-items_past (suc skipped) (byte ∷ bytes) = items_past skipped bytes
-items_past zero (op ∷ rest) =
-    if nat_lt 78 op then Op op ∷ items_past zero rest
-    else (if is_short op rest then []
-    else Push (take (count_of op rest) (drop (width_of op) rest)) ∷ items_past (reach op rest) rest)
+-- the items of a script, and whether they end at a push that is cut short
+pub record Parse : Type 0 where
+  pub items : List Instruction
+  pub cut : Bool
 
--- a push is cut short there
-abbrev pub is_cut_past : ℕ → List ℕ → Bool
-is_cut_past _ [] = false
-is_cut_past (suc skipped) (byte ∷ bytes) = is_cut_past skipped bytes
-is_cut_past zero (op ∷ rest) =
-    if nat_lt 78 op then is_cut_past zero rest
-    else (if is_short op rest then true else is_cut_past (reach op rest) rest)
+-- an item before them
+abbrev pub before : Instruction → Parse → Parse
+before item parse = record { items = item ∷ parse.items; cut = parse.cut }
+
+-- a script with some bytes at its front passed over
+abbrev pub parse_past : ℕ → List ℕ → Parse
+parse_past _ [] = record { items = []; cut = false }
+parse_past (suc skipped) (byte ∷ bytes) = parse_past skipped bytes
+parse_past zero (op ∷ rest) =
+    if nat_lt 78 op then before (Op op) (parse_past zero rest)
+    else (if is_short op rest then record { items = []; cut = true }
+    else before (Push (take (count_of op rest) (drop (width_of op) rest)))
+    (parse_past (reach op rest) rest))
 
 -- the items of a script, and whether they end at a push that is cut short
 unfoldable pub items_of : List ℕ → List Instruction
-items_of script = items_past 0 script
+items_of script = (parse_past 0 script).items
 
 unfoldable pub is_cut : List ℕ → Bool
-is_cut script = is_cut_past 0 script
+is_cut script = (parse_past 0 script).cut
 
 -- what is known while a script is read
 pub record Reading : Type 0 where
@@ -69,8 +72,12 @@ pub record Reading : Type 0 where
 
 -- the first item is given and the others stay, or the end is met
 abbrev pub GivesItem : Reading → Option Item → Reading → Type 0
-GivesItem old None new = (old.left ≡ []) × (new.left ≡ []) × (new.ends_cut ≡ old.ends_cut) × (new.met_cut ≡ old.ends_cut)
-GivesItem old (Some item) new = (old.left ≡ seen item ∷ new.left) × (new.ends_cut ≡ old.ends_cut) × (new.met_cut ≡ old.met_cut)
+GivesItem old None new =
+    (old.left ≡ []) × (new.left ≡ []) × (new.ends_cut ≡ old.ends_cut)
+    × (new.met_cut ≡ old.ends_cut)
+GivesItem old (Some item) new =
+    (old.left ≡ seen item ∷ new.left) × (new.ends_cut ≡ old.ends_cut)
+    × (new.met_cut ≡ old.met_cut)
 
 -- the items still to come
 abbrev pub left_of : Reading → List Instruction
@@ -78,7 +85,8 @@ left_of reading = reading.left
 
 -- the bytes stand in the script, one behind the other
 abbrev pub StandsIn : List ℕ → List ℕ → Type 0
-StandsIn script bytes = (front : List ℕ) × (back : List ℕ) × (script ≡ front ++ bytes ++ back)
+StandsIn script bytes =
+    (front : List ℕ) × (back : List ℕ) × (script ≡ front ++ bytes ++ back)
 
 -- what is pushed is a part of the script, and any other opcode a byte of it
 abbrev pub IsPartOf : List ℕ → Instruction → Type 0

@@ -1,5 +1,6 @@
 -- The tapscript among a witness's items: BIP 341, "Script validation rules".
-use Rattle.std.specs.Prelude.{ℕ, ◌-◌, Bool, false, ◌&&◌, List, [], ◌∷◌, reverse, Option, Some, None, ◌==◌, nat_le, slice_get, if◌then◌else◌}
+use Rattle.std.specs.Prelude.{ℕ, ◌-◌, Bool, false, ◌&&◌, List, [], ◌∷◌, reverse, Option, Some, None}
+use Rattle.std.specs.Prelude.{◌==◌, nat_le, slice_get, if◌then◌else◌}
 
 -- of two items or more, a last one that begins with 0x50 is the annex
 abbrev pub begins_annex : List ℕ → Bool
@@ -8,7 +9,8 @@ begins_annex (byte ∷ _) = byte == 0x50
 
 -- the items from the last to the first, without the annex
 abbrev pub drop_annex : List (List ℕ) → List (List ℕ)
-drop_annex (last ∷ before ∷ items) = if begins_annex last then before ∷ items else last ∷ before ∷ items
+drop_annex (last ∷ before ∷ items) =
+    if begins_annex last then before ∷ items else last ∷ before ∷ items
 drop_annex items = items
 
 -- of two items or more, the one before the last

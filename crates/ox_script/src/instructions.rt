@@ -1,7 +1,9 @@
 //! The items of a script, read in place.
 
-ghost use Rattle.std.specs.Prelude.{◌≡◌, ◌∷◌, ◌<◌, ◌≤◌, [], true, false, length, drop, IfSome, IfNone};
+ghost use Rattle.std.specs.Prelude.{◌≡◌, ◌∷◌, ◌<◌, ◌≤◌, ℕ, List, [], true, false, length, drop};
+ghost use Rattle.std.specs.Prelude.{map, IfSome, IfNone};
 ghost use Rattle.std.specs.List.{AllByRecursion};
+ghost use Rattle.ox_script.specs.Form.{Form, item_of, Splits, HasSplit, is_some_byte};
 ghost use Rattle.ox_script.specs.Script.{seen, width_of, count_of, items_of, is_cut, IsPartOf};
 
 use std::marker::Model;
@@ -16,7 +18,9 @@ const OP_PUSHDATA1: u8 = 0x4c;
 /// An item of a script.
 #[derive(Clone, Copy, Debug, PartialEq, Eq)]
 pub enum Item<'a> {
-    /// Bytes of the script that are pushed: by opcodes 0x00 to 0x4b, whose number is their count, or by OP_PUSHDATA1, OP_PUSHDATA2 and OP_PUSHDATA4, 0x4c to 0x4e, which a length of 1, 2 or 4 bytes follows, low byte first. A longer form than needed is the same push.
+    /// Bytes of the script that are pushed: by opcodes 0x00 to 0x4b, whose number is their count,
+    /// or by OP_PUSHDATA1, OP_PUSHDATA2 and OP_PUSHDATA4, 0x4c to 0x4e, which a length of 1, 2 or 4
+    /// bytes follows, low byte first. A longer form than needed is the same push.
     Push(&'a [u8]),
     /// Any other opcode, from 0x4f up.
     Op(u8),
@@ -48,10 +52,12 @@ fn split_length(op: u8, rest: &[u8]) -> Option<(usize, &[u8])>
     }
 }
 
-/// The item that an opcode begins, and what follows it. `None` where it is a push that is cut short.
+/// The item that an opcode begins, and what follows it. `None` where it is a push that is cut
+/// short.
 #[inline(always)]
 fn split_item(op: u8, rest: &[u8]) -> Option<(Item<'_>, &[u8])>
-    ensures cut { IfNone result ((items_of (op ∷ rest.now) ≡ []) × (is_cut (op ∷ rest.now) ≡ true)) }
+    ensures cut { IfNone result (
+        (items_of (op ∷ rest.now) ≡ []) × (is_cut (op ∷ rest.now) ≡ true)) }
     ensures items { IfSome result (λ r. items_of (op ∷ rest.now) ≡ seen r.0 ∷ items_of r.1.now) }
     ensures whole { IfSome result (λ r. is_cut (op ∷ rest.now) ≡ is_cut r.1.now) }
 {
@@ -66,7 +72,8 @@ fn split_item(op: u8, rest: &[u8]) -> Option<(Item<'_>, &[u8])>
     Some((Item::Push(bytes), rest))
 }
 
-/// The items of a script, from the first to the last. They end where the script does, or at a push whose length or bytes are cut short by its end.
+/// The items of a script, from the first to the last. They end where the script does, or at a push
+/// whose length or bytes are cut short by its end.
 #[derive(Debug, Drop)]
 pub struct Instructions<'a> {
     rest: &'a [u8],
@@ -79,7 +86,11 @@ impl<'a> Model for Instructions<'a> {
 
     ghost Value = { Reading };
 
-    ghost view = { λ r. record { left = items_of r.rest.now; ends_cut = r.met_cut || is_cut r.rest.now; met_cut = r.met_cut } };
+    ghost view = { λ r. record {
+      left = items_of r.rest.now;
+      ends_cut = r.met_cut || is_cut r.rest.now;
+      met_cut = r.met_cut;
+    } };
 }
 
 /// The items of a script.
@@ -97,8 +108,25 @@ pub fn instructions_of(script: &[u8]) -> Instructions<'_>
     }
 }
 
+/// What the items of a script are, in the words of their five forms: an opcode above 0x4e; at most
+/// 75 bytes behind their
+/// number; and bytes behind 0x4c, 0x4d or 0x4e and a length of 1, 2 or 4 bytes, low byte first.
+pub fn forms_spell_the_script()
+    // each script is such forms, one after the other, and an end at whose front none stands
+    ensures split { (script : List ℕ) → HasSplit script }
+
+    // however it is split so, the forms are its items
+    ensures items { (script : List ℕ) (forms : List Form) (end : List ℕ)
+        → Splits script forms end → items_of script ≡ map item_of forms }
+
+    // and it is cut short exactly where the end has a byte
+    ensures cut { (script : List ℕ) (forms : List Form) (end : List ℕ)
+        → Splits script forms end → is_cut script ≡ is_some_byte end }
+{}
+
 impl Instructions<'_> {
-    /// Whether the items have ended at a push that is cut short: it is false until `next` has answered `None` there.
+    /// Whether the items have ended at a push that is cut short: it is false until `next` has
+    /// answered `None` there.
     pub fn cut(&self) -> bool
         ensures { result ≡ self.now.met_cut }
     {

@@ -10,7 +10,8 @@ pub fn is_return(script: &[u8]) -> bool
     matches!(script, [0x6a, ..])
 }
 
-/// Whether the script is OP_1 and a push of 32 bytes, `51 20` and the bytes, and nothing else: a pay-to-taproot output of BIP 341.
+/// Whether the script is OP_1 and a push of 32 bytes, `51 20` and the bytes, and nothing else: a
+/// pay-to-taproot output of BIP 341.
 pub fn is_taproot(script: &[u8]) -> bool
     ensures { result ≡ is_taproot script.now }
 {

@@ -5,7 +5,7 @@ use Rattle.std.proofs.Math.Nat.{pow-suc}
 use Rattle.std.proofs.lemmas.List.Elements.{All-nil, All-cons, All-head, All-tail}
 use Rattle.ox_varint.specs.declared.VarintFault.{VarintFault}
 use Rattle.ox_varint.specs.declared.VarintFault.TheVariants.{Truncated, Overflow}
-use Rattle.ox_varint.specs.Varint.{IsVarint, IsShortest, GoesOn, behind, varint_within, varint_at, spelled, varint, ReadsBack}
+use Rattle.ox_varint.specs.Varint.{IsVarint, IsShortest, GoesOn, with_byte, varint_within, varint_at, spelling_within, varint, ReadsBack}
 use Rattle.ox_varint.proofs.Writing.{spelled-low, spelled-high}
 
 abbrev pub IsBytes : List ℕ → Type 0
@@ -21,7 +21,7 @@ within-last (suc more) b bs low = let lt : b < 128 = omega arith in rw (lt-ltb b
 within-low : (more b : ℕ) (bs : List ℕ) → b < 128 → varint_within (suc more) (b ∷ bs) ≡ done b 1
 within-low more b bs low = rw (lt-ltb b 128 low) refl
 
-within-high : (more b : ℕ) (bs : List ℕ) → 128 ≤ b → varint_within (suc more) (b ∷ bs) ≡ behind b (varint_within more bs)
+within-high : (more b : ℕ) (bs : List ℕ) → 128 ≤ b → varint_within (suc more) (b ∷ bs) ≡ with_byte b (varint_within more bs)
 within-high more b bs high = rw (le-ltb b 128 high) refl
 
 within-over : (b : ℕ) (bs : List ℕ) → 3 < b → varint_within zero (b ∷ bs) ≡ Err Overflow
@@ -46,7 +46,7 @@ found-one more b bs n len low e =
     let F : ℕ → Type 0 = λ (k : ℕ). Found more (b ∷ bs) n k in
     subst F p.1 (record { spelled = (low, sym p.0); some = omega arith; within = omega arith; short = omega arith })
 
-found-behind : (more b : ℕ) (bs : List ℕ) (r : Result (ℕ × ℕ) VarintFault) (n len : ℕ) → 128 ≤ b → b < 256 → ((m j : ℕ) → r ≡ done m j → Found more bs m j) → behind b r ≡ done n len → Found (suc more) (b ∷ bs) n len
+found-behind : (more b : ℕ) (bs : List ℕ) (r : Result (ℕ × ℕ) VarintFault) (n len : ℕ) → 128 ≤ b → b < 256 → ((m j : ℕ) → r ≡ done m j → Found more bs m j) → with_byte b r ≡ done n len → Found (suc more) (b ∷ bs) n len
 found-behind more b bs (Err fault) n len high up rest e = absurd cc
 found-behind more b bs (Ok x) n len high up rest e =
     let p = done-parts (b - 128 + 128 * x.0) (x.1 + 1) n len e in
@@ -84,11 +84,11 @@ is_read (suc more) (b ∷ c ∷ bs) rest n (low, up, (high, (e, h))) short lt =
     let ih : varint_within more ((c ∷ bs) ++ rest) ≡ done high (suc (length bs)) = is_read more (c ∷ bs) rest high h (omega arith) r in
     let v : b - 128 + 128 * high ≡ n = omega arith in
     let k : suc (length bs) + 1 ≡ suc (suc (length bs)) = omega arith in
-    within-high more b ((c ∷ bs) ++ rest) low ∙ ap (behind b) ih ∙ rw (v, k) refl
+    within-high more b ((c ∷ bs) ++ rest) low ∙ ap (with_byte b) ih ∙ rw (v, k) refl
 
 -- ---- the faults
 
-behind-fault : (b : ℕ) (r : Result (ℕ × ℕ) VarintFault) (fault : VarintFault) → behind b r ≡ Err fault → r ≡ Err fault
+behind-fault : (b : ℕ) (r : Result (ℕ × ℕ) VarintFault) (fault : VarintFault) → with_byte b r ≡ Err fault → r ≡ Err fault
 behind-fault b (Ok x) fault e = absurd cc
 behind-fault b (Err f) fault e = e
 
@@ -113,7 +113,7 @@ truncates zero [] short all = refl
 truncates (suc more) [] short all = refl
 truncates zero (b ∷ bs) short all = absurd (omega arith)
 truncates (suc more) (b ∷ bs) short all =
-    within-high more b bs (All-head GoesOn b bs all) ∙ ap (behind b) (truncates more bs (omega arith) (All-tail GoesOn b bs all))
+    within-high more b bs (All-head GoesOn b bs all) ∙ ap (with_byte b) (truncates more bs (omega arith) (All-tail GoesOn b bs all))
 
 pub overflowed : (more : ℕ) (bytes : List ℕ) → varint_within more bytes ≡ Err Overflow → (more < length bytes) × All GoesOn (take more bytes) × (3 < get_or bytes more 0)
 overflowed zero [] e = absurd cc
@@ -136,11 +136,11 @@ pub overflows : (more : ℕ) (bytes : List ℕ) → more < length bytes → All 
 overflows more [] long all over = absurd (omega arith)
 overflows zero (b ∷ bs) long all over = within-over b bs over
 overflows (suc more) (b ∷ bs) long all over =
-    within-high more b bs (All-head GoesOn b (take more bs) all) ∙ ap (behind b) (overflows more bs (omega arith) (All-tail GoesOn b (take more bs) all) over)
+    within-high more b bs (All-head GoesOn b (take more bs) all) ∙ ap (with_byte b) (overflows more bs (omega arith) (All-tail GoesOn b (take more bs) all) over)
 
 -- ---- the spelling that is written
 
-pub spelled-is : (more n : ℕ) → n < 4 * 128 ^ more → IsVarint (spelled more n) n
+pub spelled-is : (more n : ℕ) → n < 4 * 128 ^ more → IsVarint (spelling_within more n) n
 spelled-is zero n lt = (omega arith, refl)
 spelled-is (suc more) n lt =
     elim (cases_lt n 128) [
@@ -149,10 +149,10 @@ spelled-is (suc more) n lt =
           let p : 128 ^ suc more ≡ 128 ^ more * 128 = pow-suc 128 more in
           let q : n < 4 * (128 ^ more * 128) = rw p at lt in
           let r : n / 128 < 4 * 128 ^ more = omega arith in
-          rw (spelled-high more n high) (IsVarint-cons (n % 128 + 128) (spelled more (n / 128)) (n / 128) n (omega arith) (omega arith) (omega arith) (spelled-is more (n / 128) r))
+          rw (spelled-high more n high) (IsVarint-cons (n % 128 + 128) (spelling_within more (n / 128)) (n / 128) n (omega arith) (omega arith) (omega arith) (spelled-is more (n / 128) r))
     ]
 
-pub spelled-long : (more n : ℕ) → 0 < length (spelled more n)
+pub spelled-long : (more n : ℕ) → 0 < length (spelling_within more n)
 spelled-long zero n = lit< tt
 spelled-long (suc more) n =
     elim (cases_lt n 128) [
@@ -160,12 +160,12 @@ spelled-long (suc more) n =
       | inr high ↦ rw (spelled-high more n high) (omega arith)
     ]
 
-pub spelled-short : (more n : ℕ) → length (spelled more n) ≤ more + 1
+pub spelled-short : (more n : ℕ) → length (spelling_within more n) ≤ more + 1
 spelled-short zero n = omega arith
 spelled-short (suc more) n =
     elim (cases_lt n 128) [
       | inl low ↦ rw (spelled-low (suc more) n low) (omega arith)
-      | inr high ↦ let ih : length (spelled more (n / 128)) ≤ more + 1 = spelled-short more (n / 128) in rw (spelled-high more n high) (omega arith)
+      | inr high ↦ let ih : length (spelling_within more (n / 128)) ≤ more + 1 = spelled-short more (n / 128) in rw (spelled-high more n high) (omega arith)
     ]
 
 get_or-last : (b : ℕ) (bs : List ℕ) → 0 < length bs → get_or (b ∷ bs) (length (b ∷ bs) - 1) 0 ≡ get_or bs (length bs - 1) 0
@@ -175,17 +175,17 @@ get_or-last b (c ∷ cs) h =
     let f : suc (length cs) - 1 ≡ length cs = omega arith in
     rw (e, f) refl
 
-spelled-last : (more n : ℕ) → 0 < n → get_or (spelled more n) (length (spelled more n) - 1) 0 ≢ 0
+spelled-last : (more n : ℕ) → 0 < n → get_or (spelling_within more n) (length (spelling_within more n) - 1) 0 ≢ 0
 spelled-last zero n h = omega arith
 spelled-last (suc more) n h =
     elim (cases_lt n 128) [
       | inl low ↦ rw (spelled-low (suc more) n low) (omega arith)
       | inr high ↦
           let up : 0 < n / 128 = omega arith in
-          rw (spelled-high more n high) (λ z. spelled-last more (n / 128) up (sym (get_or-last (n % 128 + 128) (spelled more (n / 128)) (spelled-long more (n / 128))) ∙ z))
+          rw (spelled-high more n high) (λ z. spelled-last more (n / 128) up (sym (get_or-last (n % 128 + 128) (spelling_within more (n / 128)) (spelled-long more (n / 128))) ∙ z))
     ]
 
-pub spelled-shortest : (more n : ℕ) → IsShortest (spelled more n)
+pub spelled-shortest : (more n : ℕ) → IsShortest (spelling_within more n)
 spelled-shortest more n =
     elim (cases_lt n 128) [
       | inl low ↦ inl (ap length (spelled-low more n low))

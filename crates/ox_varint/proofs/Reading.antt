@@ -6,7 +6,7 @@ use Rattle.std.proofs.lemmas.Nat.{pow-add, shl_whole}
 use Rattle.std.proofs.Math.Nat.{pow-le-pow_right}
 use Rattle.ox_varint.specs.declared.VarintFault.{VarintFault}
 use Rattle.ox_varint.specs.declared.VarintFault.TheVariants.{Truncated, Overflow}
-use Rattle.ox_varint.specs.Varint.{behind, varint_within}
+use Rattle.ox_varint.specs.Varint.{with_byte, varint_within}
 
 abbrev pub with_front : ℕ → ℕ → Result (ℕ × ℕ) VarintFault → Result (ℕ × ℕ) VarintFault
 with_front value place (Ok x) = Ok (value + x.0 * 2 ^ (7 * place), place + x.1)
@@ -18,7 +18,7 @@ scale_more place =
     ap (λ n. 2 ^ n) e ∙ pow-add 2 (7 * place) 7 ∙ omega arith
 
 -- one byte more was read
-with_front-behind : (value place b : ℕ) (r : Result (ℕ × ℕ) VarintFault) → 128 ≤ b → b < 256 → with_front value place (behind b r) ≡ with_front (value + b % 128 * 2 ^ (7 * place)) (place + 1) r
+with_front-behind : (value place b : ℕ) (r : Result (ℕ × ℕ) VarintFault) → 128 ≤ b → b < 256 → with_front value place (with_byte b r) ≡ with_front (value + b % 128 * 2 ^ (7 * place)) (place + 1) r
 with_front-behind value place b (Err fault) low high = refl
 with_front-behind value place b (Ok x) low high =
     let p : 2 ^ (7 * (place + 1)) ≡ 128 * 2 ^ (7 * place) = scale_more place in
@@ -32,8 +32,8 @@ pub reads_on : (bytes : List ℕ) (value place b : ℕ) (target : Result (ℕ ×
 reads_on bytes value place b target room within is low high before =
     let more : 18 - place ≡ suc (18 - (place + 1)) = omega arith in
     let rest : drop place bytes ≡ b ∷ drop (place + 1) bytes = drop_more bytes place 0 within ∙ ap (λ x. x ∷ drop (place + 1) bytes) is in
-    let on : varint_within (suc (18 - (place + 1))) (b ∷ drop (place + 1) bytes) ≡ behind b (varint_within (18 - (place + 1)) (drop (place + 1) bytes)) = rw (le-ltb b 128 low) refl in
-    let here : varint_within (18 - place) (drop place bytes) ≡ behind b (varint_within (18 - (place + 1)) (drop (place + 1) bytes)) = rw (more, rest) on in
+    let on : varint_within (suc (18 - (place + 1))) (b ∷ drop (place + 1) bytes) ≡ with_byte b (varint_within (18 - (place + 1)) (drop (place + 1) bytes)) = rw (le-ltb b 128 low) refl in
+    let here : varint_within (18 - place) (drop place bytes) ≡ with_byte b (varint_within (18 - (place + 1)) (drop (place + 1) bytes)) = rw (more, rest) on in
     sym (with_front-behind value place b (varint_within (18 - (place + 1)) (drop (place + 1) bytes)) low high) ∙ ap (with_front value place) (sym here) ∙ before
 
 -- the last byte, below the greatest length

@@ -1,6 +1,8 @@
-use Rattle.std.proofs.Common.{arith}
+use Rattle.std.proofs.Common.{arith, sym, refl, ◌/◌}
+use Rattle.std.specs.Fmt.{decimal}
 use Rattle.ox_name.specs.Amount.{amount_text}
-use Rattle.ox_name.proofs.Decimals.{ten_pos, unit_fits, whole_short, text_whole, begins, goes_on, some_left}
+use Rattle.ox_name.proofs.Decimals.{ten_pos, unit_fits, whole_short, text_whole, begins, goes_on, some_left, ends}
+use Rattle.ox_name.proofs.Values.{says-front}
 use Rattle.ox_name.proofs.amounts.write_amount.Goals as goal
 
 pub pow-unit-requires : goal.pow-unit-requires
@@ -34,3 +36,13 @@ loop-part-smaller c =
 
 pub loop-part-preserved : goal.loop-part-preserved
 loop-part-preserved c = goes_on (amount_text c.args.amount c.args.divisibility) c.loop-part.into c.args.into.now c.loop-part.unit c.loop-part.part c.loop-part.len c.loop-part.invariant (omega arith)
+
+pub returns-then-part-eq0-clause-says : goal.returns-then-part-eq0-clause-says
+returns-then-part-eq0-clause-says c =
+    let text = text_whole c.args.amount c.args.divisibility c.pow-unit.result c.pow-unit.ensures c.if-part-eq0.true in
+    says-front c.args.amount c.args.divisibility c.write_whole-len.result c.write_whole-len.new.into c.args.into.now (decimal (c.args.amount / c.pow-unit.result)) (omega arith) (sym text) c.write_whole-len.ensures.length c.write_whole-len.ensures.written
+
+pub returns-clause-says : goal.returns-clause-says
+returns-clause-says c =
+    let end = ends (amount_text c.args.amount c.args.divisibility) c.loop-part.into c.args.into.now c.loop-part.unit c.loop-part.part c.loop-part.len c.loop-part.invariant c.loop-part-test.false in
+    says-front c.args.amount c.args.divisibility c.loop-part.len c.loop-part.into c.args.into.now (amount_text c.args.amount c.args.divisibility) (omega arith) refl end.1 end.0

@@ -1,6 +1,6 @@
 use Rattle.std.proofs.Common.{◌≡◌, Some, None, refl, sym, ◌∙◌, lit<, arith}
 use Rattle.std.proofs.lemmas.Bool.{eqb-true, eqb-false, false≢true}
-use Rattle.ox_name.specs.Name.{followed}
+use Rattle.ox_name.specs.Name.{number_with}
 use Rattle.ox_name.proofs.Texting.{named-none, named-first, reads_on, reads_over, reads_none, reads_all, below_from_some, above_from_none, place_small, bits_fit}
 use Rattle.ox_name.proofs.reading.read_name.Goals as goal
 
@@ -23,7 +23,7 @@ returns-in_default-letter_at-clause-none c = (
 
 pub returns-in_default-with_letter-clause-none : goal.returns-in_default-with_letter-clause-none
 returns-in_default-with_letter-clause-none c = (
-  λ t. reads_over c.args.text.now c.loop-rest.rest.now c.spacer_at-spaced.result.1.now c.in-Some-letter_at.behind.now c.loop-rest.name c.loop-rest.spacers c.loop-rest.place c.in-Some-letter_at.letter c.spacer_at-spaced.result.0 c.loop-rest.invariant c.spacer_at-spaced.ensures.spacer (λ f. (c.spacer_at-spaced.ensures.none f).0) c.in-Some-letter_at.ensures.0 c.in-Some-letter_at.ensures.1 (above_from_none (followed c.loop-rest.name c.in-Some-letter_at.letter) c.in_default-with_letter.ensures),
+  λ t. reads_over c.args.text.now c.loop-rest.rest.now c.spacer_at-spaced.result.1.now c.in-Some-letter_at.behind.now c.loop-rest.name c.loop-rest.spacers c.loop-rest.place c.in-Some-letter_at.letter c.spacer_at-spaced.result.0 c.loop-rest.invariant c.spacer_at-spaced.ensures.spacer (λ f. (c.spacer_at-spaced.ensures.none f).0) c.in-Some-letter_at.ensures.0 c.in-Some-letter_at.ensures.1 (above_from_none (number_with c.loop-rest.name c.in-Some-letter_at.letter) c.in_default-with_letter.ensures),
   λ e. refl,
 )
 
@@ -40,7 +40,7 @@ overflow_add-place c = omega (arith, place_small c.loop-rest.place c.loop-rest.n
 
 pub loop-rest-preserved : goal.loop-rest-preserved
 loop-rest-preserved c =
-    let next = below_from_some (followed c.loop-rest.name c.in-Some-letter_at.letter) c.in-Some-with_letter.longer c.in-Some-with_letter.ensures in
+    let next = below_from_some (number_with c.loop-rest.name c.in-Some-letter_at.letter) c.in-Some-with_letter.longer c.in-Some-with_letter.ensures in
     rw (c.gap_bit-spacers.ensures, next.0)
     (reads_on c.args.text.now c.loop-rest.rest.now c.spacer_at-spaced.result.1.now c.in-Some-letter_at.behind.now c.loop-rest.name c.loop-rest.spacers c.loop-rest.place c.in-Some-letter_at.letter c.spacer_at-spaced.result.0 c.loop-rest.invariant c.spacer_at-spaced.ensures.spacer (λ f. (c.spacer_at-spaced.ensures.none f).0) c.in-Some-letter_at.ensures.0 c.in-Some-letter_at.ensures.1 next.1)
 

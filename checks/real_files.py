@@ -1,0 +1,463 @@
+#!/usr/bin/env python3
+"""Runs the built program over real files and streams, and looks at its status, at what it shows and at the files' bytes.
+
+    python3 checks/real_files.py [PROGRAM]
+
+No proof says which bytes a real file gives or takes, so this tries it: each subcommand, each status but 9, which would take
+4,611,686,018,427,387,904 bytes, the bytes of the files, and fifty kills of a running `apply` (checks/kills.py). Each check
+has a new folder, below out/ beside this script, that is gone where it passed. A check that fails is told with its cause,
+and its folder stays. The last line says how many passed and how many failed, and the status is 1 where one failed.
+PROGRAM is crates/ox_main/out/ox_main without a word, which `rt ci` and `rt run` leave there. It takes about ten seconds.
+"""
+
+import collections
+import os
+import pathlib
+import random
+import resource
+import shutil
+import signal
+import subprocess
+import sys
+import tempfile
+import traceback
+
+from chain import chain, file_a, line, record
+from kills import Failed, demand, kill_often
+
+HERE = pathlib.Path(__file__).resolve().parent
+PROGRAM = HERE.parent / "crates" / "ox_main" / "out" / "ox_main"
+GENESIS = (HERE.parent / "feeds" / "genesis.feed").read_bytes()
+GENESIS_ANSWER = b"ok 0 000000000019d6689c085ae165831e934ff763ae46a2a6c172b3f1b60a8ce26f\n"
+KILLS = 50
+SEED = 1
+SECONDS = 60
+NOBODY = 65534
+MEMORY = 24_000_000
+
+# the bytes of a regtest store of depth 100 without a block, written out
+EMPTY_A = bytes.fromhex("016f78696478010164000100000000000000000000000000000000")
+EMPTY_B = bytes.fromhex("00")
+
+checks = []
+
+
+def check(what):
+    """Has the function below looked at, and tells it as `what` where it fails."""
+
+    def keep(function):
+        checks.append((what, function))
+        return function
+
+    return keep
+
+
+class Ox:
+    """The program over a folder of its own."""
+
+    def __init__(self, program, folder):
+        self.program, self.folder = program, folder
+
+    def run(self, *words, feed=b"", **how):
+        """The status, and what was shown. The feed is bytes, or what `stdin` may be."""
+        given = {"input": feed} if isinstance(feed, bytes) else {"stdin": feed}
+        how = {"stdout": subprocess.PIPE, "stderr": subprocess.DEVNULL, "timeout": SECONDS, **given, **how}
+        ran = subprocess.run([self.program, self.folder, *words], **how)
+        return ran.returncode, ran.stdout
+
+    def wants(self, wanted, *words, **how):
+        """Runs the program, which has to end with this status and show just this."""
+        got = self.run(*words, **how)
+        demand(got == wanted, f"{shown(words)} ended with {shown(got)}, and {shown(wanted)} was wanted")
+
+    def init(self):
+        self.wants((0, b"ok empty\n"), "init", "regtest", "100")
+
+    def files(self):
+        return tuple((self.folder / name).read_bytes() for name in ("a.ox", "b.ox"))
+
+    def write(self, a, b):
+        (self.folder / "a.ox").write_bytes(a)
+        (self.folder / "b.ox").write_bytes(b)
+
+    def has(self, a, b):
+        """The files have to be these."""
+        for name, got, wanted in zip("AB", self.files(), (a, b)):
+            demand(got == wanted, f"file {name} has {shown(got)}, and {shown(wanted)} was wanted")
+
+    def has_blocks(self, blocks):
+        self.has(file_a(blocks), EMPTY_B)
+
+    def status_is(self, count, tip):
+        """The reply to a query has to be this."""
+        tip = f'"{tip}"' if tip else "null"
+        body = f'{{"blocks":{count},"depth":100,"kept":0,"profile":"regtest","tip":{tip}}}'
+        self.wants((0, body.encode()), "query", "/status")
+
+
+def shown(value):
+    """A value as it is told, cut where it is long."""
+    text = value.hex() if isinstance(value, bytes) and len(value) > 80 else repr(value)
+    return text if len(text) < 300 else f"{text[:300]}.."
+
+
+def answer(height, tips):
+    return f"ok {height} {tips[height]}\n".encode()
+
+
+def full():
+    """A stream that takes no byte."""
+    return open("/dev/full", "wb")
+
+
+# What the subcommands show and write.
+
+
+@check("a store that is made has the bytes of the format")
+def empty_store(ox):
+    ox.init()
+    ox.has(EMPTY_A, EMPTY_B)
+    ox.status_is(0, None)
+
+
+@check("a store is made of empty files that are there already")
+def empty_files(ox):
+    ox.write(b"", b"")
+    ox.init()
+    ox.has(EMPTY_A, EMPTY_B)
+
+
+@check("a profile and a depth stand in the head")
+def heads(ox):
+    for code, profile in enumerate(["mainnet", "regtest", "lab"]):
+        ox.write(b"", b"")
+        ox.wants((0, b"ok empty\n"), "init", profile, "1000")
+        ox.has(EMPTY_A[:7] + bytes([code]) + (1000).to_bytes(2, "little") + EMPTY_A[10:], EMPTY_B)
+
+
+@check("Bitcoin's first block is answered and kept as one record")
+def first_block(ox):
+    ox.init()
+    ox.wants((0, GENESIS_ANSWER), "apply", feed=GENESIS)
+    a, b = ox.files()
+    block = bytes.fromhex(GENESIS.split()[1].decode())
+    demand(len(a) == 318 and b == EMPTY_B, f"file A has {len(a)} bytes, and file B {shown(b)}")
+    demand(a[:26] == EMPTY_A[:26], "file A begins with another head")
+    demand(a[26:32].hex() == "011e01000001", f"the record begins with {a[26:32].hex()}")
+    demand(a[32:317] == block and a[317] == 0, "the record has another block, or no closed gate behind it")
+    ox.status_is(1, GENESIS_ANSWER.split()[2].decode())
+
+
+@check("a later run goes on where the files stand")
+def runs(ox):
+    blocks, tips = chain(20)
+    ox.init()
+    for first, last in ((0, 7), (7, 7), (7, 20)):
+        wanted = b"".join(answer(height, tips) for height in range(first, last))
+        ox.wants((0, wanted), "apply", feed=b"".join(map(line, blocks[first:last])))
+        ox.has_blocks(blocks[:last])
+        ox.status_is(last, tips[last - 1])
+
+
+@check("an answer is shown once its record is in the file, and before the next line is heard")
+def line_by_line(ox):
+    blocks, tips = chain(12)
+    ox.init()
+    command = [ox.program, ox.folder, "apply"]
+    with subprocess.Popen(command, stdin=subprocess.PIPE, stdout=subprocess.PIPE, bufsize=0) as child:
+        for height, block in enumerate(blocks):
+            bytes_ = line(block)
+            for at in range(0, len(bytes_), 50):
+                child.stdin.write(bytes_[at : at + 50])
+            got = child.stdout.readline()
+            demand(got == answer(height, tips), f"{shown(got)} was shown for block {height}")
+            ox.has_blocks(blocks[: height + 1])
+        child.stdin.close()
+        demand(child.stdout.read() == b"" and child.wait(SECONDS) == 0, "the end of the feed doesn't end the program")
+
+
+@check("a block of nearly four million bytes is kept")
+def large_block(ox):
+    blocks, tips = chain(3, lambda height: bytes(3_999_800))
+    ox.init()
+    wanted = b"".join(answer(height, tips) for height in range(3))
+    ox.wants((0, wanted), "apply", feed=b"".join(map(line, blocks)))
+    ox.has_blocks(blocks)
+    ox.status_is(3, tips[2])
+
+
+@check("refused lines are told with their values, and change no byte of the files")
+def refused_lines(ox):
+    blocks, tips = chain(4)
+    ox.init()
+    ox.wants((0, answer(0, tips) + answer(1, tips)), "apply", feed=line(blocks[0]) + line(blocks[1]))
+    root = bytearray(blocks[2])
+    root[36] ^= 1
+    lines = [
+        (b"connect " + b"0" * 8_000_001, b"refused 2"),
+        (b"connect  00", b"refused 1"),
+        (b"disconnect", b"refused 11"),
+        (b"connect ", b"refused 3 0"),
+        (line(blocks[2][:90]).rstrip(), b"refused 3 86"),
+        (line(blocks[3]).rstrip(), f"refused 5 {tips[2]} {tips[1]}".encode()),
+        (line(bytes(root)).rstrip(), f"refused 6 {root[36:68][::-1].hex()} {blocks[2][36:68][::-1].hex()}".encode()),
+    ]
+    feed, wanted = (b"".join(part + b"\n" for part in parts) for parts in zip(*lines))
+    ox.wants((0, wanted), "apply", feed=feed)
+    ox.has_blocks(blocks[:2])
+
+
+@check("`fold` and `query` change no byte of the files")
+def only_apply_writes(ox):
+    blocks, tips = chain(3)
+    ox.init()
+    ox.run("apply", feed=line(blocks[0]))
+    ox.wants((0, answer(0, tips) + answer(1, tips)), "fold", "regtest", feed=line(blocks[0]) + line(blocks[1]))
+    ox.wants((0, b'{"error":404}'), "query", "/nothing")
+    ox.has_blocks(blocks[:1])
+
+
+@check("the open file of the greater generation is read, and gets the next record")
+def greater_generation(ox):
+    blocks, tips = chain(3)
+    newer = file_a(blocks[:1]).replace((1).to_bytes(8, "little"), (2).to_bytes(8, "little"), 1)
+    ox.write(EMPTY_A, newer)
+    ox.status_is(1, tips[0])
+    ox.wants((0, answer(1, tips)), "apply", feed=line(blocks[1]))
+    ox.has(EMPTY_A, newer[:-1] + b"\1" + record(blocks[1]))
+    ox.status_is(2, tips[1])
+
+
+@check("a record whose gate is closed doesn't count, and one whose gate is any other byte does")
+def gates(ox):
+    blocks, tips = chain(2)
+    ox.write(file_a(blocks[:1]) + record(blocks[1]), EMPTY_B)
+    ox.status_is(1, tips[0])
+    ox.write(file_a(blocks[:1])[:-1] + b"\7" + record(blocks[1]), EMPTY_B)
+    ox.status_is(2, tips[1])
+
+
+# The statuses, by what brings each about.
+
+
+@check("status 1: words that aren't a subcommand")
+def usage(ox):
+    rows = [(), ("init",), ("init", "lab", "0"), ("init", "lab", "1001"), ("init", "test", "1"), ("init", "lab", "1", "2")]
+    rows += [("apply", "regtest"), ("fold",), ("fold", "Lab"), ("query",), ("serve",), (b"\xff",)]
+    for words in rows:
+        ox.wants((1, b"usage\n"), *words, feed=GENESIS)
+    ox.has(b"", b"")
+    ran = subprocess.run([ox.program], stdin=subprocess.DEVNULL, stdout=subprocess.PIPE, timeout=SECONDS)
+    demand((ran.returncode, ran.stdout) == (1, b""), "without a word the program ends otherwise")
+
+
+@check("status 2: a store isn't made of files that aren't empty")
+def not_empty(ox):
+    for a, b in ((EMPTY_A, EMPTY_B), (b"", b"\0"), (b"\0", b""), (b"other", b"")):
+        ox.write(a, b)
+        ox.wants((2, b"not empty\n"), "init", "regtest", "100")
+        ox.has(a, b)
+
+
+@check("status 3: files that are no store are told by the first test that fails")
+def not_store(ox):
+    head, body = EMPTY_A[:18], EMPTY_A[18:26]
+    (block,), _ = chain(1)
+    whole = file_a([block])
+    rows = [
+        (b"", b"", b"a 0"),
+        (b"\0" + EMPTY_A[1:], EMPTY_B, b"a 0"),
+        (EMPTY_A, b"", b"b 0"),
+        (b"", EMPTY_A, b"a 0"),
+        (EMPTY_A[:25], EMPTY_B, b"a 1"),
+        (b"\1oxidy" + EMPTY_A[6:], EMPTY_B, b"a 1"),
+        (EMPTY_A, b"\1", b"b 1"),
+        (EMPTY_A, EMPTY_A, b"b 10"),
+        (b"\1oxidx\2" + EMPTY_A[7:], EMPTY_B, b"a 6"),
+        (head + b"\5" + body[1:] + b"abc", EMPTY_B, b"a 26"),
+        (head + b"\1" + body[1:] + b"a\0", EMPTY_B, b"a 26"),
+        (EMPTY_A[:26], EMPTY_B, b"a 26"),
+        (whole[:40], EMPTY_B, b"a 26"),
+        (whole[:-1], EMPTY_B, f"a {len(whole) - 1}".encode()),
+        (EMPTY_A[:26] + b"\1" + record(block[:-1]), EMPTY_B, b"a 26"),
+        (whole[:-1] + b"\1" + record(block), EMPTY_B, f"a {len(whole) - 1}".encode()),
+    ]
+    for a, b, told in rows:
+        ox.write(a, b)
+        ox.wants((3, b"not a store " + told + b"\n"), "apply", feed=GENESIS)
+        ox.wants((3, b"not a store " + told + b"\n"), "query", "/status")
+        ox.has(a, b)
+
+
+@check("status 4: a folder or a file that can't be opened")
+def cannot_open(ox):
+    (ox.folder / "a.ox").mkdir()
+    ox.wants((4, b""), "init", "regtest", "100")
+    for name in ("absent", b"\xff"):
+        folder = os.path.join(os.fsencode(ox.folder), os.fsencode(name))
+        if name != "absent":
+            os.mkdir(folder)
+        Ox(ox.program, folder).wants((4, b""), "init", "regtest", "100")
+
+
+@check("status 4: a folder that can't be synced, since it can't be read")
+def cannot_sync_folder(ox):
+    # in a place that another user may enter
+    top = pathlib.Path(tempfile.mkdtemp())
+    try:
+        top.chmod(0o711)
+        program, folder = top / "program", top / "store"
+        shutil.copy(ox.program, program)
+        program.chmod(0o755)
+        folder.mkdir()
+        folder.chmod(0o333)
+        drop = {"user": NOBODY, "group": NOBODY, "extra_groups": []} if os.geteuid() == 0 else {}
+        Ox(program, folder).wants((4, b""), "init", "regtest", "100", **drop)
+        folder.chmod(0o777)
+        Ox(program, folder).wants((0, b"ok empty\n"), "init", "regtest", "100", **drop)
+    finally:
+        shutil.rmtree(top)
+
+
+@check("status 4: a sync that fails, and nothing is shown")
+def cannot_sync_file(ox):
+    for name in ("a.ox", "b.ox"):
+        (ox.folder / name).symlink_to("/dev/null")
+        ox.wants((4, b""), "init", "regtest", "100")
+        for made in ("a.ox", "b.ox"):
+            (ox.folder / made).unlink()
+
+
+@check("status 4: a write that fails, and the store has the blocks that were shown")
+def cannot_write(ox):
+    blocks, tips = chain(6)
+    ox.init()
+    most = len(file_a(blocks[:3])) + 10
+
+    def limit():
+        signal.signal(signal.SIGXFSZ, signal.SIG_IGN)
+        resource.setrlimit(resource.RLIMIT_FSIZE, (most, most))
+
+    wanted = b"".join(answer(height, tips) for height in range(3))
+    ox.wants((4, wanted), "apply", feed=b"".join(map(line, blocks)), preexec_fn=limit)
+    ox.status_is(3, tips[2])
+    ox.wants((0, answer(3, tips)), "apply", feed=line(blocks[3]))
+    ox.has_blocks(blocks[:4])
+
+
+@check("status 4: a standard stream that is closed, and no file takes its place")
+def closed_streams(ox):
+    ox.init()
+    for stream in range(3):
+        ran = subprocess.run(
+            ["sh", "-c", f'"$0" "$@" {stream}>&-', ox.program, ox.folder, "apply"],
+            stdin=subprocess.DEVNULL,
+            stdout=subprocess.PIPE,
+            stderr=subprocess.DEVNULL,
+            timeout=SECONDS,
+        )
+        demand((ran.returncode, ran.stdout) == (4, b""), f"with stream {stream} closed it ended with {ran.returncode}")
+        ox.has(EMPTY_A, EMPTY_B)
+
+
+@check("status 5: a feed that can't be read")
+def cannot_hear(ox):
+    ox.init()
+    feed = os.open(ox.folder, os.O_RDONLY)
+    try:
+        ox.wants((5, b""), "fold", "regtest", feed=feed)
+        ox.wants((5, b""), "apply", feed=feed)
+    finally:
+        os.close(feed)
+    ox.has(EMPTY_A, EMPTY_B)
+
+
+@check("status 6: an answer that can't be shown is of a block that is kept")
+def cannot_show(ox):
+    with full() as stdout:
+        ox.wants((6, None), "init", "regtest", "100", stdout=stdout)
+        ox.has(EMPTY_A, EMPTY_B)
+        ox.wants((6, None), "apply", feed=GENESIS + b"disconnect\n", stdout=stdout)
+        ox.wants((6, None), "fold", "regtest", feed=GENESIS, stdout=stdout)
+        ox.wants((6, None), "query", "/status", stdout=stdout)
+    ox.status_is(1, GENESIS_ANSWER.split()[2].decode())
+
+
+@check("status 6: nobody reads any more what is shown")
+def cut_pipe(ox):
+    ox.init()
+    ours, theirs = os.pipe()
+    os.close(ours)
+    try:
+        ox.wants((6, None), "apply", feed=GENESIS, stdout=theirs)
+    finally:
+        os.close(theirs)
+    ox.status_is(1, GENESIS_ANSWER.split()[2].decode())
+
+
+@check("statuses 1, 2 and 3 stay where their line can't be shown")
+def statuses_stay(ox):
+    with full() as stdout:
+        ox.wants((1, None), "serve", stdout=stdout)
+        ox.wants((3, None), "query", "/status", stdout=stdout)
+        ox.write(EMPTY_A, EMPTY_B)
+        ox.wants((2, None), "init", "regtest", "100", stdout=stdout)
+
+
+@check("status 8: a block for which there is no memory, and the store has the blocks that were shown")
+def no_memory(ox):
+    blocks, tips = chain(3, lambda height: bytes(3_999_800) if height == 2 else b"\x51")
+    ox.init()
+
+    def limit():
+        resource.setrlimit(resource.RLIMIT_AS, (MEMORY, MEMORY))
+
+    wanted = answer(0, tips) + answer(1, tips)
+    ox.wants((8, wanted), "apply", feed=b"".join(map(line, blocks)), preexec_fn=limit)
+    ox.has_blocks(blocks[:2])
+    ox.wants((0, answer(2, tips)), "apply", feed=line(blocks[2]))
+
+
+@check(f"{KILLS} kills of a running `apply` lose no block whose line was shown")
+def killed(ox):
+    kill_often(ox.program, ox.folder, KILLS, random.Random(SEED), collections.Counter())
+
+
+def too_long(number, frame):
+    raise Failed(f"it took over {SECONDS} seconds")
+
+
+def passes(what, function, program, out):
+    """Whether the check passes, in a folder of its own."""
+    folder = pathlib.Path(tempfile.mkdtemp(dir=out))
+    signal.alarm(SECONDS)
+    try:
+        function(Ox(program, folder))
+    except Failed as failed:
+        print(f"FAILED: {what}: {failed}; the files are in {folder}")
+        return False
+    except Exception:
+        print(f"FAILED: {what}; the files are in {folder}\n{traceback.format_exc()}")
+        return False
+    finally:
+        signal.alarm(0)
+    shutil.rmtree(folder)
+    return True
+
+
+def main():
+    program = pathlib.Path(sys.argv[1]).resolve() if len(sys.argv) > 1 else PROGRAM
+    if not program.exists():
+        print(f"{program} isn't built")
+        print("0 passed, 1 failed")
+        sys.exit(1)
+    out = HERE / "out"
+    out.mkdir(exist_ok=True)
+    signal.signal(signal.SIGALRM, too_long)
+    results = [passes(what, function, program, out) for what, function in checks]
+    print(f"{results.count(True)} passed, {results.count(False)} failed")
+    sys.exit(0 if all(results) else 1)
+
+
+if __name__ == "__main__":
+    main()
