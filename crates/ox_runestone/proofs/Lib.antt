@@ -6,3 +6,6 @@ pub mod Scripts
 pub mod Back
 pub mod Said
 pub mod Range
+pub mod Split
+pub mod Cenotaphs
+pub mod Rising

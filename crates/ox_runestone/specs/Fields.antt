@@ -1,11 +1,17 @@
--- From tags with their values to fields: Runes specification, "Fields". `first` gives the first value of each
--- tag, where there is one.
-use Rattle.std.specs.Prelude.{ℕ, ◌+◌, ◌*◌, ◌/◌, ◌%◌, ◌^◌, Bool, true, false, List, length, Option, Some, None, is_some, unwrap_or, slice_get, ◌==◌, ◌&&◌, ◌||◌, nat_lt, nat_le, if◌then◌else◌}
+-- From tags with their values to fields: Runes specification, "Fields". `first` gives the first
+-- value of each tag, where there is one.
+use Rattle.std.specs.Prelude.{ℕ, ◌+◌, ◌*◌, ◌/◌, ◌%◌, ◌^◌, Bool, true, false, List, length, Option}
+use Rattle.std.specs.Prelude.{Some, None, is_some, unwrap_or, slice_get, ◌==◌, ◌&&◌, ◌||◌, nat_lt}
+use Rattle.std.specs.Prelude.{nat_le, if◌then◌else◌}
 use Rattle.std.specs.List.{list_any}
 use Rattle.ox_runestone.specs.declared.stone.RuneId.{RuneId}
 use Rattle.ox_runestone.specs.declared.stone.Terms.{Terms}
 use Rattle.ox_runestone.specs.declared.stone.Etching.{Etching}
 use Rattle.ox_runestone.specs.Message.{Field, values, id_of}
+use Rattle.ox_runestone.specs.Tags.{flags_tag, name_tag, divisibility_tag, spacers_tag, symbol_tag}
+use Rattle.ox_runestone.specs.Tags.{premine_tag, cap_tag, amount_tag, height_start_tag}
+use Rattle.ox_runestone.specs.Tags.{height_end_tag, offset_start_tag, offset_end_tag, mint_tag}
+use Rattle.ox_runestone.specs.Tags.{pointer_tag}
 
 abbrev pub Firsts : Type 0
 Firsts = ℕ → Option ℕ
@@ -14,7 +20,7 @@ abbrev pub first_of : List Field → Firsts
 first_of fields tag = slice_get (values fields tag) 0
 
 abbrev pub flags_of : Firsts → ℕ
-flags_of first = unwrap_or (first 2) 0
+flags_of first = unwrap_or (first flags_tag) 0
 
 abbrev pub is_etching : Firsts → Bool
 is_etching first = flags_of first % 2 == 1
@@ -27,25 +33,26 @@ is_turbo first = is_etching first && (flags_of first / 4 % 2 == 1)
 
 -- a flag that isn't taken: in an etching one above the third, else any
 abbrev pub has_strange_flag : Firsts → Bool
-has_strange_flag first = if is_etching first then nat_le 8 (flags_of first) else nat_lt 0 (flags_of first)
+has_strange_flag first =
+    if is_etching first then nat_le 8 (flags_of first) else nat_lt 0 (flags_of first)
 
 -- the number of a character
 abbrev pub is_character : ℕ → Bool
 is_character code = nat_lt code 0xd800 || (nat_le 0xe000 code && nat_le code 0x10ffff)
 
--- The table of tags: whether a tag's field takes a value. 1 is the divisibility, 2 the flags, 3 the spacers,
--- 4 the name, 5 the symbol, 6 the premine, 8 the cap, 10 the amount, 12 and 14 the heights, 16 and 18 the
--- offsets, 22 the pointer.
+-- The table of tags: whether a tag's field takes a value.
 abbrev pub takes : Firsts → ℕ → ℕ → ℕ → Bool
 takes first outputs tag value =
-    if tag == 2 then true
-    else (if tag == 4 || tag == 6 then is_etching first
-    else (if tag == 8 || tag == 10 then has_terms first
-    else (if tag == 12 || (tag == 14 || (tag == 16 || tag == 18)) then (has_terms first && nat_lt value (2 ^ 64))
-    else (if tag == 22 then nat_lt value outputs
-    else (if tag == 1 then (is_etching first && nat_le value 38)
-    else (if tag == 3 then (is_etching first && nat_lt value (2 ^ 27))
-    else (if tag == 5 then (is_etching first && is_character value) else false)))))))
+    if tag == flags_tag then true
+    else (if tag == name_tag || tag == premine_tag then is_etching first
+    else (if tag == cap_tag || tag == amount_tag then has_terms first
+    else (if tag == height_start_tag || (tag == height_end_tag
+    || (tag == offset_start_tag || tag == offset_end_tag))
+    then (has_terms first && nat_lt value (2 ^ 64))
+    else (if tag == pointer_tag then nat_lt value outputs
+    else (if tag == divisibility_tag then (is_etching first && nat_le value 38)
+    else (if tag == spacers_tag then (is_etching first && nat_lt value (2 ^ 27))
+    else (if tag == symbol_tag then (is_etching first && is_character value) else false)))))))
 
 abbrev pub only : Bool → ℕ → Option ℕ
 only true value = Some value
@@ -68,22 +75,22 @@ mint_of _ _ = None
 abbrev pub terms_of : Firsts → Option Terms
 terms_of first =
     if has_terms first then Some (record {
-      amount = field_of first 0 10;
-      cap = field_of first 0 8;
-      height_start = field_of first 0 12;
-      height_end = field_of first 0 14;
-      offset_start = field_of first 0 16;
-      offset_end = field_of first 0 18;
+      amount = field_of first 0 amount_tag;
+      cap = field_of first 0 cap_tag;
+      height_start = field_of first 0 height_start_tag;
+      height_end = field_of first 0 height_end_tag;
+      offset_start = field_of first 0 offset_start_tag;
+      offset_end = field_of first 0 offset_end_tag;
     }) else None
 
 abbrev pub etching_of : Firsts → Option Etching
 etching_of first =
     if is_etching first then Some (record {
-      name = field_of first 0 4;
-      spacers = field_of first 0 3;
-      divisibility = field_of first 0 1;
-      symbol = field_of first 0 5;
-      premine = field_of first 0 6;
+      name = field_of first 0 name_tag;
+      spacers = field_of first 0 spacers_tag;
+      divisibility = field_of first 0 divisibility_tag;
+      symbol = field_of first 0 symbol_tag;
+      premine = field_of first 0 premine_tag;
       terms = terms_of first;
       turbo = is_turbo first;
     }) else None
@@ -101,9 +108,15 @@ overflows (Some etching) = nat_le (2 ^ 128) (unwrap_or etching.premine 0 + minta
 -- how many values of a tag its field takes
 abbrev pub count_taken : Firsts → Option RuneId → ℕ → ℕ → ℕ
 count_taken first mint outputs tag =
-    if tag == 20 then (if is_some mint then 2 else 0) else (if is_some (field_of first outputs tag) then 1 else 0)
+    if tag == mint_tag then (if is_some mint then 2 else 0)
+    else (if is_some (field_of first outputs tag) then 1 else 0)
+
+-- a tag has more values than its field takes
+abbrev pub leaves_some : Firsts → Option RuneId → ℕ → List Field → ℕ → Bool
+leaves_some first mint outputs fields tag =
+    nat_lt (count_taken first mint outputs tag) (length (values fields tag))
 
 -- a value of an even tag isn't taken
 abbrev pub leaves_even : Firsts → Option RuneId → ℕ → List Field → Bool
 leaves_even first mint outputs fields =
-    list_any (λ field. (field.0 % 2 == 0) && nat_lt (count_taken first mint outputs field.0) (length (values fields field.0))) fields
+    list_any (λ field. (field.0 % 2 == 0) && leaves_some first mint outputs fields field.0) fields

@@ -1,13 +1,20 @@
 -- Fields by what one pass keeps.
-use Rattle.std.specs.Prelude.{◌≡◌, ℕ, ◌+◌, ◌^◌, Bool, List, Option, Some, None, unwrap_or, nat_lt, if◌then◌else◌}
+use Rattle.std.specs.Prelude.{◌≡◌, ℕ, ◌+◌, ◌^◌, Bool, List, Option, Some, None, unwrap_or, nat_lt}
+use Rattle.std.specs.Prelude.{if◌then◌else◌}
 use Rattle.ox_runestone.specs.declared.message.Fields.{Fields}
 use Rattle.ox_runestone.specs.declared.stone.Etching.{Etching}
 use Rattle.ox_runestone.specs.Message.{Field}
 use Rattle.ox_runestone.specs.Seen.{kept_at, Holds}
-use Rattle.ox_runestone.specs.Fields.{Firsts, first_of, mintable, leaves_even}
+use Rattle.ox_runestone.specs.Tags.{mint_tag}
+use Rattle.ox_runestone.specs.declared.stone.RuneId.{RuneId}
+use Rattle.ox_runestone.specs.Fields.{mint_of, Firsts, first_of, mintable, leaves_even}
 use Rattle.ox_runestone.specs.declared.stone.Edict.{Edict}
 use Rattle.ox_runestone.specs.declared.stone.Artifact.{Artifact}
 use Rattle.ox_runestone.specs.Artifact.{mint_in, are_flawed, cenotaph_of, judged}
+
+-- the mint by the first two values of its tag
+abbrev pub mint_kept : Fields → Option RuneId
+mint_kept fields = mint_of (kept_at fields mint_tag).first (kept_at fields mint_tag).second
 
 abbrev pub firsts_in : Fields → Firsts
 firsts_in fields tag = (kept_at fields tag).first
@@ -21,7 +28,8 @@ supply_of etching =
 -- the answer whether a value of an even tag isn't taken, of whatever list the fields hold
 abbrev pub SaysWhatIsLeft : Fields → ℕ → Bool → Type 0
 SaysWhatIsLeft fields outputs answer =
-    (list : List Field) → Holds fields list → answer ≡ leaves_even (first_of list) (mint_in list) outputs list
+    (list : List Field) → Holds fields list
+    → answer ≡ leaves_even (first_of list) (mint_in list) outputs list
 
 -- of whatever list the fields hold, the answer whether it is flawed, its cenotaph, and its artifact
 abbrev pub SaysWhetherFlawed : Fields → ℕ → Bool → Type 0

@@ -3,5 +3,7 @@ pub mod Message
 pub mod Seen
 pub mod Fields
 pub mod Artifact
+pub mod Causes
 pub mod Kept
 pub mod Spelling
+pub mod Tags

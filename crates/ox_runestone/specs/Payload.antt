@@ -1,5 +1,6 @@
 -- From a script to integers: Runes specification, "Deciphering", "Integer encoding".
-use Rattle.std.specs.Prelude.{ℕ, zero, suc, ◌-◌, Bool, false, List, [], ◌∷◌, ◌++◌, drop, Option, Some, None, Result, Ok, Err, ◌==◌, ◌&&◌, if◌then◌else◌}
+use Rattle.std.specs.Prelude.{ℕ, zero, suc, ◌-◌, Bool, false, List, [], ◌∷◌, ◌++◌, drop, Option}
+use Rattle.std.specs.Prelude.{Some, None, Result, Ok, Err, ◌==◌, ◌&&◌, if◌then◌else◌}
 use Rattle.ox_script.specs.Script.{Instruction, Push, Op, items_of, is_cut}
 use Rattle.ox_varint.specs.declared.VarintFault.{VarintFault}
 use Rattle.ox_varint.specs.Varint.{varint_at}
@@ -43,7 +44,8 @@ abbrev pub integers_past : ℕ → List ℕ → Option (List ℕ)
 integers_past _ [] = Some []
 integers_past (suc skipped) (byte ∷ bytes) = integers_past skipped bytes
 integers_past zero (byte ∷ bytes) =
-    integer_before (varint_at (byte ∷ bytes)) (integers_past (bytes_behind (varint_at (byte ∷ bytes))) bytes)
+    integer_before (varint_at (byte ∷ bytes))
+    (integers_past (bytes_behind (varint_at (byte ∷ bytes))) bytes)
 
 unfoldable pub integers_of : List ℕ → Option (List ℕ)
 integers_of payload = integers_past 0 payload

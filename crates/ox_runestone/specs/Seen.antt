@@ -1,5 +1,7 @@
 -- What one pass over tags and values keeps of them.
-use Rattle.std.specs.Prelude.{◌≡◌, ℕ, zero, suc, ◌<◌, ◌%◌, Bool, true, List, [], length, Option, Some, None, is_some, slice_get, slice_index_or, slice_set, ◌==◌, ◌&&◌, ◌||◌, nat_lt, nat_le, if◌then◌else◌}
+use Rattle.std.specs.Prelude.{◌≡◌, ℕ, zero, suc, ◌<◌, ◌%◌, Bool, true, List, [], length, Option}
+use Rattle.std.specs.Prelude.{Some, None, is_some, slice_get, slice_index_or, slice_set, ◌==◌}
+use Rattle.std.specs.Prelude.{◌&&◌, ◌||◌, nat_lt, nat_le, if◌then◌else◌}
 use Rattle.std.specs.List.{list_any}
 use Rattle.ox_runestone.specs.declared.message.Values.{Values}
 use Rattle.ox_runestone.specs.declared.message.Fields.{Fields}
@@ -7,12 +9,19 @@ use Rattle.ox_runestone.specs.Message.{Field, values}
 
 -- what is kept of a list of values
 abbrev pub kept : List ℕ → Values
-kept list = record { first = slice_get list 0; second = slice_get list 1; more = nat_lt 2 (length list) }
+kept list = record {
+  first = slice_get list 0;
+  second = slice_get list 1;
+  more = nat_lt 2 (length list);
+}
 
 abbrev pub pushed_onto : Option ℕ → Option ℕ → Bool → ℕ → Values
-pushed_onto None second more value = record { first = Some value; second = second; more = more }
-pushed_onto (Some first) None more value = record { first = Some first; second = Some value; more = more }
-pushed_onto (Some first) (Some second) more value = record { first = Some first; second = Some second; more = true }
+pushed_onto None second more value =
+    record { first = Some value; second = second; more = more }
+pushed_onto (Some first) None more value =
+    record { first = Some first; second = Some value; more = more }
+pushed_onto (Some first) (Some second) more value =
+    record { first = Some first; second = Some second; more = true }
 
 -- one value more
 abbrev pub pushed : Values → ℕ → Values
@@ -30,7 +39,10 @@ kept_at fields tag = slice_index_or fields.values tag (kept [])
 
 abbrev pub added : Fields → ℕ → ℕ → Fields
 added fields tag value =
-    if nat_lt tag 23 then record { values = slice_set fields.values tag (pushed (kept_at fields tag) value); strange = fields.strange }
+    if nat_lt tag 23 then record {
+      values = slice_set fields.values tag (pushed (kept_at fields tag) value);
+      strange = fields.strange;
+    }
     else record { values = fields.values; strange = fields.strange || (tag % 2 == 0) }
 
 -- an even tag without a field

@@ -1,5 +1,8 @@
--- From a runestone to integers, payload and script: Runes specification, "Fields", "Edicts"; ord's `encipher`.
-use Rattle.std.specs.Prelude.{◌≡◌, ℕ, ◌+◌, ◌-◌, ◌/◌, ◌%◌, ◌^◌, ◌<◌, ◌≤◌, ◌⊎◌, true, false, List, [], ◌∷◌, ◌++◌, length, Option, Some, None, is_some, IfSome, ◌==◌, nat_lt, if◌then◌else◌}
+-- From a runestone to integers, payload and script: Runes specification, "Fields", "Edicts"; ord's
+-- `encipher`.
+use Rattle.std.specs.Prelude.{◌≡◌, ℕ, ◌+◌, ◌-◌, ◌/◌, ◌%◌, ◌^◌, ◌<◌, ◌≤◌, ◌⊎◌, true, false, List}
+use Rattle.std.specs.Prelude.{[], ◌∷◌, ◌++◌, length, Option, Some, None, is_some, IfSome, ◌==◌}
+use Rattle.std.specs.Prelude.{nat_lt, if◌then◌else◌}
 use Rattle.std.specs.List.{flat_map, AllByRecursion}
 use Rattle.ox_varint.specs.Varint.{varint}
 use Rattle.ox_runestone.specs.declared.stone.RuneId.{RuneId}
@@ -11,6 +14,10 @@ use Rattle.ox_runestone.specs.declared.stone.Artifact.{Artifact}
 use Rattle.ox_runestone.specs.declared.stone.Artifact.TheVariants.{Stone, Cenotaph}
 use Rattle.ox_runestone.specs.Message.{Field}
 use Rattle.ox_runestone.specs.Fields.{is_character, overflows}
+use Rattle.ox_runestone.specs.Tags.{flags_tag, name_tag, divisibility_tag, spacers_tag, symbol_tag}
+use Rattle.ox_runestone.specs.Tags.{premine_tag, cap_tag, amount_tag, height_start_tag}
+use Rattle.ox_runestone.specs.Tags.{height_end_tag, offset_start_tag, offset_end_tag, mint_tag}
+use Rattle.ox_runestone.specs.Tags.{pointer_tag, etching_flag, terms_flag, turbo_flag}
 
 -- a tag and its value, where there is one
 abbrev pub pair : ℕ → Option ℕ → List Field
@@ -20,25 +27,31 @@ pair tag (Some value) = (tag, value) ∷ []
 abbrev pub terms_pairs : Option Terms → List Field
 terms_pairs None = []
 terms_pairs (Some terms) =
-    pair 8 terms.cap ++ (pair 10 terms.amount ++ (pair 12 terms.height_start ++ (pair 14 terms.height_end
-    ++ (pair 16 terms.offset_start ++ pair 18 terms.offset_end))))
+    pair cap_tag terms.cap ++ (pair amount_tag terms.amount
+    ++ (pair height_start_tag terms.height_start ++ (pair height_end_tag terms.height_end
+    ++ (pair offset_start_tag terms.offset_start ++ pair offset_end_tag terms.offset_end))))
 
 abbrev pub flags_for : Etching → ℕ
-flags_for etching = 1 + (if is_some etching.terms then 2 else 0) + (if etching.turbo then 4 else 0)
+flags_for etching =
+    etching_flag + (if is_some etching.terms then terms_flag else 0)
+    + (if etching.turbo then turbo_flag else 0)
 
 abbrev pub etching_pairs : Option Etching → List Field
 etching_pairs None = []
 etching_pairs (Some etching) =
-    (2, flags_for etching) ∷ (pair 4 etching.name ++ (pair 1 etching.divisibility ++ (pair 3 etching.spacers
-    ++ (pair 5 etching.symbol ++ (pair 6 etching.premine ++ terms_pairs etching.terms)))))
+    (flags_tag, flags_for etching)
+    ∷ (pair name_tag etching.name ++ (pair divisibility_tag etching.divisibility
+    ++ (pair spacers_tag etching.spacers ++ (pair symbol_tag etching.symbol
+    ++ (pair premine_tag etching.premine ++ terms_pairs etching.terms)))))
 
 abbrev pub mint_pairs : Option RuneId → List Field
 mint_pairs None = []
-mint_pairs (Some id) = (20, id.block) ∷ (20, id.tx) ∷ []
+mint_pairs (Some id) = (mint_tag, id.block) ∷ (mint_tag, id.tx) ∷ []
 
 -- the tags of a runestone with their values
 abbrev pub fields_of : Runestone → List Field
-fields_of stone = etching_pairs stone.etching ++ (mint_pairs stone.mint ++ pair 22 stone.pointer)
+fields_of stone =
+    etching_pairs stone.etching ++ (mint_pairs stone.mint ++ pair pointer_tag stone.pointer)
 
 -- tags and values in turn
 abbrev pub laid : List Field → List ℕ
@@ -49,7 +62,8 @@ laid (field ∷ fields) = field.0 ∷ field.1 ∷ laid fields
 abbrev pub deltas : RuneId → List Edict → List ℕ
 deltas id [] = []
 deltas id (edict ∷ edicts) =
-    (edict.id.block - id.block) ∷ (if edict.id.block == id.block then edict.id.tx - id.tx else edict.id.tx)
+    (edict.id.block - id.block)
+    ∷ (if edict.id.block == id.block then edict.id.tx - id.tx else edict.id.tx)
     ∷ edict.amount ∷ edict.output ∷ deltas edict.id edicts
 
 -- the tag 0 and the edicts, where there are any
@@ -66,7 +80,9 @@ payload_for stone = flat_map varint (integers_for stone)
 -- a push of at most 65,535 bytes: its opcode with their number, and the bytes
 abbrev pub push_head : ℕ → List ℕ
 push_head count =
-    if nat_lt count 76 then count ∷ [] else (if nat_lt count 256 then 76 ∷ count ∷ [] else 77 ∷ (count % 256) ∷ (count / 256) ∷ [])
+    if nat_lt count 76 then count ∷ []
+    else (if nat_lt count 256 then 76 ∷ count ∷ []
+    else 77 ∷ (count % 256) ∷ (count / 256) ∷ [])
 
 abbrev pub push : List ℕ → List ℕ
 push bytes = push_head (length bytes) ++ bytes
@@ -92,7 +108,8 @@ pub record IsPushed (text payload : List ℕ) : Type 0 where
 
 -- OP_RETURN, OP_13 and the payload in pushes
 abbrev pub Spells : List ℕ → Runestone → Type 0
-Spells script stone = (text : List ℕ) × (script ≡ 0x6a ∷ 0x5d ∷ text) × IsPushed text (payload_for stone)
+Spells script stone =
+    (text : List ℕ) × (script ≡ 0x6a ∷ 0x5d ∷ text) × IsPushed text (payload_for stone)
 
 -- ---- what a script can say
 
@@ -123,10 +140,11 @@ pub record IsEdict (outputs : ℕ) (edict : Edict) : Type 0 where
   pub amount : edict.amount < 2 ^ 128
   pub output : edict.output ≤ outputs
 
--- A runestone that a script can say in a transaction with so many outputs: the numbers are in the range of
--- their types, and
---   the spacers are below 2 ^ 27, the divisibility is at most 38, and premine and mints together have 128 bits,
---   block 0 has the transaction 0 alone, the pointer is below and an edict's output at most the number of outputs.
+-- A runestone that a script can say in a transaction with so many outputs: the numbers are in the
+-- range of their types, and
+--   the spacers are below 2 ^ 27, the divisibility is at most 38, and premine and mints together
+--   have 128 bits, block 0 has the transaction 0 alone, the pointer is below and an edict's output
+--   at most the number of outputs.
 pub record CanCome (stone : Runestone) (outputs : ℕ) : Type 0 where
   pub etching : IfSome stone.etching IsEtching
   pub mint : IfSome stone.mint IsId
@@ -149,3 +167,8 @@ DontFallAfter id (edict ∷ edicts) = NotBelow id edict.id × DontFallAfter edic
 -- the ids of the edicts don't fall
 abbrev pub DontFall : List Edict → Type 0
 DontFall edicts = DontFallAfter (record { block = 0; tx = 0 }) edicts
+
+-- of an artifact, that the ids of its runestone's edicts don't fall
+abbrev pub EdictsDontFall : Artifact → Type 0
+EdictsDontFall (Stone stone) = DontFall stone.edicts
+EdictsDontFall (Cenotaph mint name) = Unit {0}

@@ -18,38 +18,14 @@ ghost use Rattle.ox_runestone.specs.Fields.{
   overflows,
   count_taken,
 };
-ghost use Rattle.ox_runestone.specs.Kept.{firsts_in, supply_of, SaysWhatIsLeft};
+ghost use Rattle.ox_runestone.specs.Kept.{firsts_in, mint_kept, supply_of, SaysWhatIsLeft};
 
 use crate::message::{Fields, id_of};
 use crate::stone::{Etching, RuneId, Terms};
-
-const DIVISIBILITY: usize = 1;
-
-const FLAGS: usize = 2;
-
-const SPACERS: usize = 3;
-
-const NAME: usize = 4;
-
-const SYMBOL: usize = 5;
-
-const PREMINE: usize = 6;
-
-const CAP: usize = 8;
-
-const AMOUNT: usize = 10;
-
-const HEIGHT_START: usize = 12;
-
-const HEIGHT_END: usize = 14;
-
-const OFFSET_START: usize = 16;
-
-const OFFSET_END: usize = 18;
-
-const MINT: usize = 20;
-
-const POINTER: usize = 22;
+use crate::tags::{
+    AMOUNT, CAP, DIVISIBILITY, FLAGS, HEIGHT_END, HEIGHT_START, MINT, NAME, OFFSET_END,
+    OFFSET_START, POINTER, PREMINE, SPACERS, SYMBOL, TERMS_FLAG, TURBO_FLAG,
+};
 
 /// A value below 2^64.
 fn as_u64(value: Option<u128>) -> Option<u64>
@@ -124,13 +100,13 @@ impl Fields {
     fn has_terms(&self) -> bool
         ensures { result ≡ has_terms (firsts_in self.now) }
     {
-        self.is_etching() && self.flags() / 2 % 2 == 1
+        self.is_etching() && self.flags() / TERMS_FLAG % 2 == 1
     }
 
     fn is_turbo(&self) -> bool
         ensures { result ≡ is_turbo (firsts_in self.now) }
     {
-        self.is_etching() && self.flags() / 4 % 2 == 1
+        self.is_etching() && self.flags() / TURBO_FLAG % 2 == 1
     }
 
     /// Whether a flag isn't taken.
@@ -245,7 +221,8 @@ impl Fields {
     /// How many values of a tag its field takes.
     fn count_taken(&self, tag: usize, outputs: u32) -> usize
         requires { tag < 23 }
-        ensures count { result ≡ count_taken (firsts_in self.now) (mint_of (kept_at self.now 20).first (kept_at self.now 20).second) outputs tag }
+        ensures count { result ≡
+            count_taken (firsts_in self.now) (mint_kept self.now) outputs tag }
         ensures small { result ≤ 2 }
     {
         if tag == MINT {

@@ -2,12 +2,15 @@
 #![tactic(auto)]
 
 mod fields;
+mod laws;
 mod message;
 mod payload;
 mod reading;
 mod stone;
+mod tags;
 mod writing;
 
+pub use laws::{cenotaphs_have_causes, integers_are_the_split, supplies_are_amounts};
 pub use ox_bytes::Memory;
 pub use payload::is_stone;
 pub use reading::decipher;

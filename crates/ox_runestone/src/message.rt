@@ -170,14 +170,15 @@ fn id_after(id: RuneId, block: u128, tx: u128) -> Option<RuneId>
     }
 }
 
-/// The edicts that the integers of a body spell in fours. `None` where a rest isn't four integers, an id isn't
-/// valid, or an output is above the number of outputs.
+/// The edicts that the integers of a body spell in fours. `None` where a rest isn't four integers,
+/// an id isn't valid, or an output is above the number of outputs.
 pub(crate) fn edicts_of(
     alloc: Global,
     outputs: u32,
     body: &[u128],
 ) -> Result<Option<Vec<Edict>>, Memory>
-    ensures { IfOk result (λ edicts. option_map (λ v. v.items) edicts ≡ edicts_of outputs body.now) }
+    ensures { IfOk result (
+        λ edicts. option_map (λ v. v.items) edicts ≡ edicts_of outputs body.now) }
 {
     let mut edicts = Vec::with_capacity(alloc, body.len() / 4)?;
     let mut id = RuneId { block: 0, tx: 0 };

@@ -23,8 +23,8 @@ pub fn is_stone(script: &[u8]) -> bool
         && matches!(items.next(), Some(Item::Op(OP_13)))
 }
 
-/// What the script pushes behind its first two items, joined. `None` where another opcode stands there, or a
-/// push is cut short.
+/// What the script pushes behind its first two items, joined. `None` where another opcode stands
+/// there, or a push is cut short.
 pub(crate) fn payload_of(alloc: Global, script: &[u8]) -> Result<Option<Vec<u8>>, Memory>
     ensures { IfOk result (λ payload. option_map (λ v. v.items) payload ≡ payload_of script.now) }
 {
@@ -44,9 +44,11 @@ pub(crate) fn payload_of(alloc: Global, script: &[u8]) -> Result<Option<Vec<u8>>
     Ok(Some(payload))
 }
 
-/// The integers that the payload spells one after another. `None` where one is cut short or too great.
+/// The integers that the payload spells one after another. `None` where one is cut short or too
+/// great.
 pub(crate) fn integers_of(alloc: Global, payload: &[u8]) -> Result<Option<Vec<u128>>, Memory>
-    ensures { IfOk result (λ integers. option_map (λ v. v.items) integers ≡ integers_of payload.now) }
+    ensures { IfOk result (
+        λ integers. option_map (λ v. v.items) integers ≡ integers_of payload.now) }
 {
     let mut integers = Vec::new(alloc);
     let mut rest = payload;

@@ -6,7 +6,7 @@ ghost use Rattle.ox_runestone.specs.Message.{Field};
 ghost use Rattle.ox_runestone.specs.Seen.{Holds};
 ghost use Rattle.ox_runestone.specs.Payload.{is_stone};
 ghost use Rattle.ox_runestone.specs.Artifact.{name_in, artifact_of};
-ghost use Rattle.ox_runestone.specs.Spelling.{StoneCanCome};
+ghost use Rattle.ox_runestone.specs.Spelling.{EdictsDontFall, StoneCanCome};
 ghost use Rattle.ox_runestone.specs.Kept.{IsCenotaphOf, IsJudgedOf, SaysWhetherFlawed};
 
 use crate::fields::overflows;
@@ -76,14 +76,17 @@ fn judge(fields: &Fields, lone: bool, edicts: Option<Vec<Edict>>, outputs: u32) 
     })
 }
 
-/// The artifact that a runestone's script deciphers as, in a transaction with so many outputs. The script is
-/// one that `is_stone` accepts.
+/// The artifact that a runestone's script deciphers as, in a transaction with so many outputs
+/// (Runes specification, "Deciphering"). The script is one that `is_stone` accepts. A runestone
+/// that is given can be enciphered again: its numbers are in range, and the ids of its edicts don't
+/// fall.
 ///
 /// `Memory` where there is none for the payload, the integers or the edicts.
 pub fn decipher(alloc: Global, script: &[u8], outputs: u32) -> Result<Artifact, Memory>
     requires { is_stone script.now ≡ true }
     ensures exact { IfOk result (λ artifact. artifact ≡ artifact_of script.now outputs) }
     ensures possible { IfOk result (StoneCanCome outputs) }
+    ensures rising { IfOk result EdictsDontFall }
 {
     let Some(payload) = payload_of(alloc, script)? else {
         return Ok(SILENT);

@@ -5,8 +5,9 @@ ghost use Rattle.std.specs.Prelude.{◌≡◌, ◌==◌, [], length};
 use std::alloc::Global;
 use std::marker::Model;
 
-/// The id of a rune: the height of the block that etched it and the place of the transaction in that block.
-#[derive(Clone, Copy, Debug, PartialEq, Eq, PartialOrd, Ord)]
+/// The id of a rune: the height of the block that etched it and the place of the transaction in
+/// that block.
+#[derive(Clone, Copy, Debug, Default, PartialEq, Eq, PartialOrd, Ord)]
 pub struct RuneId {
     /// The height of the block.
     pub block: u64,

@@ -1,7 +1,7 @@
 use super::*;
+use ox_bytes::Bytes;
 use std::alloc::Global;
 use std::process::Abort;
-use std::test::Fail;
 
 const NO_TERMS: Terms = Terms {
     amount: None,
@@ -33,53 +33,59 @@ fn edict(block: u64, tx: u32, amount: u128, output: u32) -> Edict {
 }
 
 /// What the script deciphers as. It carries a runestone.
-fn read(rt: &impl Abort, alloc: Global, script: &[u8], outputs: u32) -> Result<Artifact, Memory> {
+fn read(rt: &impl Abort, alloc: Global, script: &[u8], outputs: u32) -> Artifact {
     assert!(rt; is_stone(script));
-    decipher(alloc, script, outputs)
+    decipher(alloc, script, outputs).expect(rt, "memory")
 }
 
 /// What a payload of less than 76 bytes deciphers as, for four outputs.
-fn read_payload(rt: &impl Abort, alloc: Global, payload: &[u8]) -> Result<Artifact, Memory> {
+fn read_payload(rt: &impl Abort, alloc: Global, payload: &[u8]) -> Artifact {
     assert!(rt; payload.len() < 76);
-    let mut script = Vec::from_slice(alloc, &[0x6a, 0x5d, payload.len() as u8])?;
-    script.extend_from_slice(payload)?;
+    let mut script = Vec::from_slice(alloc, &[0x6a, 0x5d]).expect(rt, "memory");
+    script.push(payload.len() as u8).expect(rt, "memory");
+    script.extend_from_slice(payload).expect(rt, "memory");
     read(rt, alloc, script.as_slice(), 4)
 }
 
-fn check_stone(
-    rt: &impl Abort,
-    artifact: &Artifact,
-    etching: Option<Etching>,
-    mint: Option<RuneId>,
-    pointer: Option<u32>,
-    edicts: &[Edict],
-) {
+/// Whether the artifact is a runestone that etches this alone.
+fn etches(artifact: &Artifact, etching: Etching) -> bool {
     match artifact {
         Artifact::Stone(stone) => {
-            assert_eq!(rt; stone.etching, etching);
-            assert_eq!(rt; stone.mint, mint);
-            assert_eq!(rt; stone.pointer, pointer);
-            assert_eq!(rt; stone.edicts.as_slice(), edicts);
+            stone.etching == Some(etching)
+                && stone.mint == None
+                && stone.pointer == None
+                && stone.edicts.is_empty()
         }
-        Artifact::Cenotaph { .. } => assert!(rt; false, "a cenotaph"),
+        Artifact::Cenotaph { .. } => false,
     }
 }
 
-fn check_cenotaph(rt: &impl Abort, artifact: &Artifact, mint: Option<RuneId>, name: Option<u128>) {
+/// Whether the artifact is a runestone that has these edicts and this pointer alone.
+fn deals(artifact: &Artifact, edicts: &[Edict], pointer: Option<u32>) -> bool {
     match artifact {
-        Artifact::Stone(_) => assert!(rt; false, "no cenotaph"),
+        Artifact::Stone(stone) => {
+            stone.etching == None
+                && stone.mint == None
+                && stone.pointer == pointer
+                && stone.edicts.as_slice() == edicts
+        }
+        Artifact::Cenotaph { .. } => false,
+    }
+}
+
+/// Whether the artifact is a cenotaph of which this is kept.
+fn keeps(artifact: &Artifact, mint: Option<RuneId>, name: Option<u128>) -> bool {
+    match artifact {
+        Artifact::Stone(_) => false,
         Artifact::Cenotaph {
             mint: kept,
             name: kept_name,
-        } => {
-            assert_eq!(rt; *kept, mint);
-            assert_eq!(rt; *kept_name, name);
-        }
+        } => *kept == mint && *kept_name == name,
     }
 }
 
 #[test]
-fn scripts_of_etchings_mints_and_edicts(rt: HostRuntime) -> Result<(), Fail> {
+fn scripts_of_etchings(rt: HostRuntime) {
     let alloc = rt.alloc();
     let terms = Terms {
         amount: Some(5),
@@ -91,59 +97,94 @@ fn scripts_of_etchings_mints_and_edicts(rt: HostRuntime) -> Result<(), Fail> {
         terms: Some(terms),
         ..NO_FIELDS
     };
-    let stone = read(
-        &rt,
-        alloc,
-        b"\x6a\x5d\x08\x02\x03\x06\x07\x08\x0a\x0a\x05",
-        1,
-    )?;
-    check_stone(&rt, &stone, Some(minted), None, None, &[]);
-
+    let script = b"\x6a\x5d\x08\x02\x03\x06\x07\x08\x0a\x0a\x05";
+    assert!(rt; etches(&read(&rt, alloc, script, 1), minted));
     let premined = Etching {
         premine: Some(10),
         ..NO_FIELDS
     };
-    let stone = read(&rt, alloc, b"\x6a\x5d\x04\x02\x01\x06\x0a", 1)?;
-    check_stone(&rt, &stone, Some(premined), None, None, &[]);
+    assert!(rt;
+        etches(
+            &read(&rt, alloc, b"\x6a\x5d\x04\x02\x01\x06\x0a", 1),
+            premined
+        )
+    );
+}
 
-    let stone = read(&rt, alloc, b"\x6a\x5d\x05\x00\x03\x01\x00\x04", 4)?;
-    check_stone(&rt, &stone, None, None, None, &[edict(3, 1, 0, 4)]);
-    let stone = read(&rt, alloc, b"\x6a\x5d\x05\x00\x03\x01\x04\x04", 4)?;
-    check_stone(&rt, &stone, None, None, None, &[edict(3, 1, 4, 4)]);
+/// The greatest divisibility and spacers that are taken, and each term but one.
+#[test]
+fn fields_at_their_bounds(rt: HostRuntime) {
+    let alloc = rt.alloc();
+    let bounds = Etching {
+        divisibility: Some(38),
+        spacers: Some(134_217_727),
+        ..NO_FIELDS
+    };
+    let payload = b"\x02\x01\x01\x26\x03\xff\xff\xff\x3f";
+    assert!(rt; etches(&read_payload(&rt, alloc, payload), bounds));
+    // One more of each is an odd tag's value that isn't taken.
+    let payload = b"\x02\x01\x01\x27\x03\x80\x80\x80\x40";
+    assert!(rt; etches(&read_payload(&rt, alloc, payload), NO_FIELDS));
+    let terms = Terms {
+        height_start: Some(1),
+        height_end: Some(2),
+        offset_start: Some(3),
+        offset_end: Some(4),
+        ..NO_TERMS
+    };
+    let termed = Etching {
+        terms: Some(terms),
+        turbo: true,
+        ..NO_FIELDS
+    };
+    let payload = b"\x02\x07\x0c\x01\x0e\x02\x10\x03\x12\x04";
+    assert!(rt; etches(&read_payload(&rt, alloc, payload), termed));
+}
 
-    // A mint, and a tag of 126.
-    let stone = read(&rt, alloc, b"\x6a\x5d\x06\x14\x03\x14\x01\x7e\x00", 1)?;
-    check_cenotaph(&rt, &stone, Some(MINT), None);
-
+#[test]
+fn scripts_of_edicts_and_pointers(rt: HostRuntime) {
+    let alloc = rt.alloc();
+    let script = b"\x6a\x5d\x05\x00\x03\x01\x00\x04";
+    assert!(rt; deals(&read(&rt, alloc, script, 4), &[edict(3, 1, 0, 4)], None));
+    let script = b"\x6a\x5d\x05\x00\x03\x01\x04\x04";
+    assert!(rt; deals(&read(&rt, alloc, script, 4), &[edict(3, 1, 4, 4)], None));
     // A varint goes over the border of two pushes, and an odd tag is ignored.
-    let stone = read(&rt, alloc, b"\x6a\x5d\x03\x16\x01\x7f\x4c\x01\x00", 4)?;
-    check_stone(&rt, &stone, None, None, Some(1), &[]);
-    let stone = read(&rt, alloc, b"\x6a\x5d\x02\x16\x81\x01\x00", 4)?;
-    check_stone(&rt, &stone, None, None, Some(1), &[]);
-    Ok(())
+    let script = b"\x6a\x5d\x03\x16\x01\x7f\x4c\x01\x00";
+    assert!(rt; deals(&read(&rt, alloc, script, 4), &[], Some(1)));
+    let script = b"\x6a\x5d\x02\x16\x81\x01\x00";
+    assert!(rt; deals(&read(&rt, alloc, script, 4), &[], Some(1)));
+}
+
+/// Only OP_RETURN and OP_13 begin a runestone's script.
+#[test]
+fn scripts_that_carry_no_runestone(rt: HostRuntime) {
+    assert!(rt; is_stone(b"\x6a\x5d"));
+    assert!(rt; !is_stone(b"\x6a\x5c"));
+    assert!(rt; !is_stone(b"\x6a\x5e"));
+    assert!(rt; !is_stone(b"\x5d\x6a"));
+    assert!(rt; !is_stone(b"\x6a\x01\x5d"));
 }
 
 /// The example of the Runes specification: edicts sorted by id, each told behind the one before.
 #[test]
-fn edicts_by_delta(rt: HostRuntime) -> Result<(), Fail> {
+fn edicts_by_delta(rt: HostRuntime) {
     let alloc = rt.alloc();
     let script =
         b"\x6a\x5d\x11\x00\x0a\x05\x05\x01\x00\x00\x0a\x03\x00\x02\x01\x08\x28\x01\x19\x04";
-    let stone = read(&rt, alloc, script, 9)?;
     let edicts = [
         edict(10, 5, 5, 1),
         edict(10, 5, 10, 3),
         edict(10, 7, 1, 8),
         edict(50, 1, 25, 4),
     ];
-    check_stone(&rt, &stone, None, None, None, &edicts);
-    Ok(())
+    assert!(rt; deals(&read(&rt, alloc, script, 9), &edicts, None));
 }
 
 /// Payloads of malformed messages, with what is kept of each.
-const CAUSES: [(&[u8], Option<RuneId>, Option<u128>); 18] = [
+const CAUSES: [(&[u8], Option<RuneId>, Option<u128>); 20] = [
     // a tag without a value
     (b"\x02\x01\x04\x07\x14\x03\x14\x01\x0c", Some(MINT), Some(7)),
+    (b"\x01", None, None),
     // three integers of an edict
     (b"\x14\x03\x14\x01\x00\x01\x01\x05", Some(MINT), None),
     // block 0, transaction 1
@@ -170,6 +211,8 @@ const CAUSES: [(&[u8], Option<RuneId>, Option<u128>); 18] = [
     // a name without an etching, and an amount without terms
     (b"\x04\x07", None, None),
     (b"\x02\x01\x04\x07\x0a\x05", None, Some(7)),
+    // a height without terms
+    (b"\x02\x01\x04\x07\x0c\x05", None, Some(7)),
     // a height of 2^64
     (
         b"\x02\x03\x04\x07\x0c\x80\x80\x80\x80\x80\x80\x80\x80\x80\x02",
@@ -183,62 +226,88 @@ const CAUSES: [(&[u8], Option<RuneId>, Option<u128>); 18] = [
 ];
 
 #[test]
-fn each_cause_of_a_cenotaph(rt: HostRuntime) -> Result<(), Fail> {
+fn each_cause_in_a_message(rt: HostRuntime) {
     let alloc = rt.alloc();
-    // An opcode that isn't a push, a push that is cut short, and an integer that is.
-    check_cenotaph(
-        &rt,
-        &read(&rt, alloc, b"\x6a\x5d\x04\x14\x03\x14\x01\x51", 4)?,
-        None,
-        None,
-    );
-    check_cenotaph(
-        &rt,
-        &read(&rt, alloc, b"\x6a\x5d\x04\x14\x03\x14\x01\x02\x16", 4)?,
-        None,
-        None,
-    );
-    check_cenotaph(
-        &rt,
-        &read_payload(&rt, alloc, b"\x14\x03\x14\x01\x80")?,
-        None,
-        None,
-    );
-
     for (payload, mint, name) in &CAUSES {
-        check_cenotaph(&rt, &read_payload(&rt, alloc, payload)?, *mint, *name);
+        assert!(rt; keeps(&read_payload(&rt, alloc, payload), *mint, *name));
     }
-    // A premine of the greatest amount and one mint of 1.
-    let payload =
-        b"\x02\x03\x04\x07\x06\xff\xff\xff\xff\xff\xff\xff\xff\xff\xff\xff\xff\xff\xff\xff\xff\xff\xff\x03\x08\x01\x0a\x01";
-    check_cenotaph(&rt, &read_payload(&rt, alloc, payload)?, None, Some(7));
-    Ok(())
 }
 
 #[test]
-fn what_is_enciphered_deciphers_as_the_same(rt: HostRuntime) -> Result<(), Fail> {
+fn each_cause_in_a_script(rt: HostRuntime) {
     let alloc = rt.alloc();
-    let script = b"\x6a\x5d\x05\x00\x03\x01\x00\x04";
-    assert!(rt; is_stone(script));
-    match decipher(alloc, script, 4)? {
+    // An opcode that isn't a push, a push that is cut short, and an integer that is.
+    let script = b"\x6a\x5d\x04\x14\x03\x14\x01\x51";
+    assert!(rt; keeps(&read(&rt, alloc, script, 4), None, None));
+    let script = b"\x6a\x5d\x04\x14\x03\x14\x01\x02\x16";
+    assert!(rt; keeps(&read(&rt, alloc, script, 4), None, None));
+    assert!(rt;
+        keeps(
+            &read_payload(&rt, alloc, b"\x14\x03\x14\x01\x80"),
+            None,
+            None
+        )
+    );
+    // A mint, and a tag of 126.
+    let script = b"\x6a\x5d\x06\x14\x03\x14\x01\x7e\x00";
+    assert!(rt; keeps(&read(&rt, alloc, script, 1), Some(MINT), None));
+    // A premine of the greatest amount and one mint of 1.
+    let payload = b"\x02\x03\x04\x07\x06\xff\xff\xff\xff\xff\xff\xff\xff\xff\xff\xff\xff\
+        \xff\xff\xff\xff\xff\xff\x03\x08\x01\x0a\x01";
+    assert!(rt; keeps(&read_payload(&rt, alloc, payload), None, Some(7)));
+}
+
+/// The script of a runestone, enciphered for one output.
+fn write(rt: &impl Abort, alloc: Global, stone: &Runestone) -> Bytes {
+    assert!(rt; ids_rise(stone.edicts.as_slice()));
+    encipher(alloc, stone, 1).expect(rt, "memory")
+}
+
+/// A script of 200 edicts of an amount of 1 to output 0, each of the next block's first rune: 801
+/// bytes of payload in two pushes.
+fn long_script(rt: &impl Abort, alloc: Global) -> Vec<u8> {
+    let mut script = Vec::from_slice(alloc, b"\x6a\x5d\x4d\x08\x02\x00").expect(rt, "memory");
+    for place in 0..800 {
+        if place == 519 {
+            script
+                .extend_from_slice(b"\x4d\x19\x01")
+                .expect(rt, "memory");
+        }
+        script
+            .push(if place % 2 == 0 { 1 } else { 0 })
+            .expect(rt, "memory");
+    }
+    script
+}
+
+/// Whether the edicts are those of the long script.
+fn are_long(edicts: &[Edict]) -> bool {
+    let mut block = 0;
+    for one in edicts {
+        block += 1;
+        if *one != edict(block, 0, 1, 0) {
+            return false;
+        }
+    }
+    block == 200
+}
+
+#[test]
+fn a_payload_of_two_pushes_both_ways(rt: HostRuntime) {
+    let alloc = rt.alloc();
+    let script = long_script(&rt, alloc);
+    match read(&rt, alloc, script.as_slice(), 1) {
         Artifact::Stone(stone) => {
-            assert!(rt; ids_rise(stone.edicts.as_slice()));
-            let script = encipher(alloc, &stone, 4)?;
-            assert_eq!(rt;
-                script.as_slice(),
-                b"\x6a\x5d\x05\x00\x03\x01\x00\x04".as_slice()
-            );
-            let once_more = read(&rt, alloc, script.as_slice(), 4)?;
-            check_stone(&rt, &once_more, None, None, None, &[edict(3, 1, 0, 4)]);
+            assert!(rt; are_long(stone.edicts.as_slice()));
+            assert!(rt; write(&rt, alloc, &stone).as_slice() == script.as_slice());
         }
         Artifact::Cenotaph { .. } => assert!(rt; false, "a cenotaph"),
     }
-    Ok(())
 }
 
-/// The fields of UNCOMMON•GOODS, mainnet's first rune.
+/// The fields of UNCOMMON•GOODS, mainnet's first rune, as a script says them.
 #[test]
-fn the_first_rune_of_mainnet(rt: HostRuntime) -> Result<(), Fail> {
+fn the_first_rune_of_mainnet(rt: HostRuntime) {
     let alloc = rt.alloc();
     let terms = Terms {
         amount: Some(1),
@@ -261,8 +330,6 @@ fn the_first_rune_of_mainnet(rt: HostRuntime) -> Result<(), Fail> {
         pointer: None,
         edicts: Edicts::empty(alloc),
     };
-    let script = encipher(alloc, &stone, 1)?;
-    let artifact = read(&rt, alloc, script.as_slice(), 1)?;
-    check_stone(&rt, &artifact, Some(etching), None, None, &[]);
-    Ok(())
+    let script = write(&rt, alloc, &stone);
+    assert!(rt; etches(&read(&rt, alloc, script.as_slice(), 1), etching));
 }

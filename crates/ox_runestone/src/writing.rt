@@ -1,6 +1,7 @@
 //! From a runestone to a script.
 
-ghost use Rattle.std.specs.Prelude.{◌≡◌, ◌≤◌, ◌<◌, ◌^◌, ◌++◌, length, [], ◌∷◌, ◌-◌, ◌==◌, if◌then◌else◌, true, IsTrue, ◌↔◌, IfOk, OnOk};
+ghost use Rattle.std.specs.Prelude.{◌≡◌, ◌≤◌, ◌<◌, ◌^◌, ◌++◌, length, [], ◌∷◌, ◌-◌, ◌==◌};
+ghost use Rattle.std.specs.Prelude.{if◌then◌else◌, true, IsTrue, ◌↔◌, IfOk, OnOk};
 ghost use Rattle.std.specs.List.{flat_map};
 ghost use Rattle.ox_varint.specs.Varint.{varint};
 ghost use Rattle.ox_runestone.specs.Payload.{is_stone};
@@ -27,6 +28,10 @@ ghost use Rattle.ox_runestone.specs.Spelling.{
 
 use crate::payload::{OP_13, OP_RETURN};
 use crate::stone::{Artifact, Edict, Etching, RuneId, Runestone, Terms};
+use crate::tags::{
+    AMOUNT, BODY, CAP, DIVISIBILITY, ETCHING_FLAG, FLAGS, HEIGHT_END, HEIGHT_START, MINT, NAME,
+    OFFSET_END, OFFSET_START, POINTER, PREMINE, SPACERS, SYMBOL, TERMS_FLAG, TURBO_FLAG,
+};
 use ox_bytes::{Bytes, Memory};
 use std::alloc::Global;
 
@@ -48,13 +53,13 @@ fn put(payload: &mut Vec<u8>, integer: u128) -> Result<(), Memory>
 }
 
 /// Appends a tag and its value, where there is one.
-fn put_pair(payload: &mut Vec<u8>, tag: u128, value: Option<u128>) -> Result<(), Memory>
+fn put_pair(payload: &mut Vec<u8>, tag: usize, value: Option<u128>) -> Result<(), Memory>
     ensures { OnOk result (payload.new.items ≡ payload.old.items ++ text_of (pair tag value)) }
 {
     let Some(value) = value else {
         return Ok(());
     };
-    put(payload, tag)?;
+    put(payload, tag as u128)?;
     put(payload, value)
 }
 
@@ -101,12 +106,12 @@ fn put_terms(payload: &mut Vec<u8>, terms: Option<Terms>) -> Result<(), Memory>
     let Some(terms) = terms else {
         return Ok(());
     };
-    put_pair(payload, 8, terms.cap)?;
-    put_pair(payload, 10, terms.amount)?;
-    put_pair(payload, 12, wide_64(terms.height_start))?;
-    put_pair(payload, 14, wide_64(terms.height_end))?;
-    put_pair(payload, 16, wide_64(terms.offset_start))?;
-    put_pair(payload, 18, wide_64(terms.offset_end))?;
+    put_pair(payload, CAP, terms.cap)?;
+    put_pair(payload, AMOUNT, terms.amount)?;
+    put_pair(payload, HEIGHT_START, wide_64(terms.height_start))?;
+    put_pair(payload, HEIGHT_END, wide_64(terms.height_end))?;
+    put_pair(payload, OFFSET_START, wide_64(terms.offset_start))?;
+    put_pair(payload, OFFSET_END, wide_64(terms.offset_end))?;
     Ok(())
 }
 
@@ -114,24 +119,29 @@ fn put_terms(payload: &mut Vec<u8>, terms: Option<Terms>) -> Result<(), Memory>
 fn flags_for(etching: &Etching) -> u128
     ensures { result ≡ flags_for etching.now }
 {
-    let terms = if etching.terms.is_some() { 2 } else { 0 };
-    let turbo = if etching.turbo { 4 } else { 0 };
-    1 + terms + turbo
+    let terms = if etching.terms.is_some() {
+        TERMS_FLAG
+    } else {
+        0
+    };
+    let turbo = if etching.turbo { TURBO_FLAG } else { 0 };
+    ETCHING_FLAG + terms + turbo
 }
 
 /// Appends the etching.
 fn put_etching(payload: &mut Vec<u8>, etching: Option<Etching>) -> Result<(), Memory>
-    ensures { OnOk result (payload.new.items ≡ payload.old.items ++ text_of (etching_pairs etching)) }
+    ensures { OnOk result (
+        payload.new.items ≡ payload.old.items ++ text_of (etching_pairs etching)) }
 {
     let Some(etching) = etching else {
         return Ok(());
     };
-    put_pair(payload, 2, Some(flags_for(&etching)))?;
-    put_pair(payload, 4, etching.name)?;
-    put_pair(payload, 1, wide_8(etching.divisibility))?;
-    put_pair(payload, 3, wide_32(etching.spacers))?;
-    put_pair(payload, 5, code_of(etching.symbol))?;
-    put_pair(payload, 6, etching.premine)?;
+    put_pair(payload, FLAGS, Some(flags_for(&etching)))?;
+    put_pair(payload, NAME, etching.name)?;
+    put_pair(payload, DIVISIBILITY, wide_8(etching.divisibility))?;
+    put_pair(payload, SPACERS, wide_32(etching.spacers))?;
+    put_pair(payload, SYMBOL, code_of(etching.symbol))?;
+    put_pair(payload, PREMINE, etching.premine)?;
     put_terms(payload, etching.terms)?;
     Ok(())
 }
@@ -143,8 +153,8 @@ fn put_mint(payload: &mut Vec<u8>, mint: Option<RuneId>) -> Result<(), Memory>
     let Some(id) = mint else {
         return Ok(());
     };
-    put_pair(payload, 20, Some(u128::from(id.block)))?;
-    put_pair(payload, 20, Some(u128::from(id.tx)))
+    put_pair(payload, MINT, Some(u128::from(id.block)))?;
+    put_pair(payload, MINT, Some(u128::from(id.tx)))
 }
 
 /// Whether an id isn't below another.
@@ -171,7 +181,8 @@ pub fn ids_rise(edicts: &[Edict]) -> bool
 /// Appends an edict behind an id.
 fn put_edict(payload: &mut Vec<u8>, id: RuneId, edict: &Edict) -> Result<(), Memory>
     requires { NotBelow id edict.now.id }
-    ensures { OnOk result (payload.new.items ≡ payload.old.items ++ flat_map varint (deltas id (edict.now ∷ []))) }
+    ensures { OnOk result (
+        payload.new.items ≡ payload.old.items ++ flat_map varint (deltas id (edict.now ∷ []))) }
 {
     let block = edict.id.block - id.block;
     put(payload, u128::from(block))?;
@@ -195,12 +206,13 @@ fn tx_behind(id: RuneId, next: RuneId) -> u32
 /// Appends the edicts behind the tag 0, where there are any.
 fn put_edicts(payload: &mut Vec<u8>, edicts: &[Edict]) -> Result<(), Memory>
     requires { DontFall edicts.now }
-    ensures { OnOk result (payload.new.items ≡ payload.old.items ++ flat_map varint (body_for edicts.now)) }
+    ensures { OnOk result (
+        payload.new.items ≡ payload.old.items ++ flat_map varint (body_for edicts.now)) }
 {
     if edicts.is_empty() {
         return Ok(());
     }
-    put(payload, 0)?;
+    put(payload, BODY as u128)?;
     let mut id = RuneId { block: 0, tx: 0 };
     for edict in edicts {
         put_edict(payload, id, edict)?;
@@ -217,7 +229,7 @@ fn payload_for(alloc: Global, stone: &Runestone) -> Result<Vec<u8>, Memory>
     let mut payload = Vec::new(alloc);
     put_etching(&mut payload, stone.etching)?;
     put_mint(&mut payload, stone.mint)?;
-    put_pair(&mut payload, 22, wide_32(stone.pointer))?;
+    put_pair(&mut payload, POINTER, wide_32(stone.pointer))?;
     put_edicts(&mut payload, stone.edicts.as_slice())?;
     Ok(payload)
 }
@@ -250,8 +262,9 @@ fn put_push(script: &mut Vec<u8>, bytes: &[u8]) -> Result<(), Memory>
     Ok(())
 }
 
-/// A script that says the runestone: OP_RETURN, OP_13 and the payload in pushes. The runestone is one that a
-/// script can say in a transaction with so many outputs, and the ids of its edicts don't fall.
+/// A script that says the runestone: OP_RETURN, OP_13 and the payload in pushes. The runestone is
+/// one that a script can say in a transaction with so many outputs, and the ids of its edicts don't
+/// fall.
 ///
 /// `Memory` where there is none for the payload or the script.
 pub fn encipher(alloc: Global, stone: &Runestone, outputs: u32) -> Result<Bytes, Memory>
@@ -260,7 +273,8 @@ pub fn encipher(alloc: Global, stone: &Runestone, outputs: u32) -> Result<Bytes,
     ensures spelled { IfOk result (λ script. Spells script stone.now) }
     // What is written deciphers as the same runestone.
     ensures marked { IfOk result (λ script. is_stone script ≡ true) }
-    ensures deciphered { IfOk result (λ script. artifact_of script outputs ≡ Artifact.Stone stone.now) }
+    ensures deciphered { IfOk result (
+        λ script. artifact_of script outputs ≡ Artifact.Stone stone.now) }
 {
     let _outputs = outputs;
     let payload = payload_for(alloc, stone)?;

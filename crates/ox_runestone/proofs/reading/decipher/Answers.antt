@@ -1,10 +1,12 @@
-use Rattle.std.proofs.Common.{ap, sym, ◌∙◌}
+use Rattle.std.proofs.Common.{ap, subst, sym, ◌∙◌}
 use Rattle.std.specs.Option.{option_map}
 use Rattle.ox_runestone.specs.Payload.{integers_of}
 use Rattle.ox_runestone.specs.Message.{message_of, edicts_of}
 use Rattle.ox_runestone.specs.Artifact.{judged, of_message}
 use Rattle.ox_runestone.proofs.Judging.{silent_payload, silent_integers, speaks}
 use Rattle.ox_runestone.proofs.Range.{artifact_can}
+use Rattle.ox_runestone.proofs.Rising.{rising_of}
+use Rattle.ox_runestone.specs.Spelling.{EdictsDontFall}
 use Rattle.ox_runestone.proofs.reading.decipher.Goals as goal
 
 pub returns-in_default-clause-exact : goal.returns-in_default-clause-exact
@@ -32,3 +34,6 @@ returns-clause-possible c =
     (c.judge.ensures (message_of c.as_slice-2.result.now).fields c.message_of-message.ensures.fields
     ∙ ap (λ l. judged c.args.outputs (message_of c.as_slice-2.result.now).fields l (option_map (λ v. v.items) c.in_ok-edicts.edicts)) c.message_of-message.ensures.lone
     ∙ ap (judged c.args.outputs (message_of c.as_slice-2.result.now).fields (message_of c.as_slice-2.result.now).lone) (c.in_ok-edicts.ensures ∙ ap (edicts_of c.args.outputs) c.message_of-message.ensures.body))
+
+pub returns-clause-rising : goal.returns-clause-rising
+returns-clause-rising c = subst EdictsDontFall (sym (returns-clause-exact c)) (rising_of c.args.script.now c.args.outputs)

@@ -1,0 +1,5 @@
+use Rattle.ox_runestone.proofs.Cenotaphs.{supply_small}
+use Rattle.ox_runestone.proofs.laws.supplies_are_amounts.Goals as goal
+
+pub returns : goal.returns
+returns c = supply_small
