@@ -22,6 +22,3 @@ pub use read::{fields_agree_with_reading, read_block};
 pub use roots::{root, root_over, witness_root};
 pub use txids::{Txids, txids_of};
 pub use write::{write_block, written_reads_back};
-
-#[cfg(test)]
-mod tests;

@@ -13,6 +13,3 @@ pub use id::{InsId, read_id, read_id_text, write_id};
 pub use inscribed::{Ids, Inscribed, parse};
 pub use ox_bytes::Memory;
 pub use search::envelopes_of;
-
-#[cfg(test)]
-mod tests;
