@@ -3,12 +3,14 @@
 
     python3 checks/all_tests.py [CRATE..]
 
-runs `rt try --test` in each crate that has tests, or in those that are named, the lowest first, and tells of each whether
-its tests passed and how long that took. Of a crate whose tests failed it shows what `rt try` said. The last line says how
-many crates passed and how many failed, and the status is 1 where one failed. Nothing is proved, no program is run, and a
-call that breaks a `requires` isn't seen.
+runs `rt try --test` in each crate that has tests, or in those that are named, in as many at once as there are processors,
+and tells of each whether its tests passed and how long that took. Of a crate whose tests failed it shows what `rt try`
+said. The last line says how many crates passed and how many failed, and the status is 1 where one failed. Nothing is
+proved, no program is run, and a call that breaks a `requires` isn't seen.
 """
 
+import concurrent.futures
+import os
 import pathlib
 import subprocess
 import sys
@@ -20,10 +22,10 @@ SECONDS = 600
 
 
 def names():
-    """The crates that have tests, in the order of crates.txt."""
+    """The crates that have tests, the highest first, since their tests take longest."""
     lines = (TOP / "crates.txt").read_text().splitlines()
     every = [line.split(":")[0].split()[0] for line in lines if line.strip() and not line.startswith("#")]
-    return [name for name in every if has_tests(TOP / "crates" / name)]
+    return [name for name in reversed(every) if has_tests(TOP / "crates" / name)]
 
 
 def has_tests(crate):
@@ -37,14 +39,14 @@ def passes(name):
         command, cwd=TOP / "crates" / name, stdin=subprocess.DEVNULL, stdout=subprocess.PIPE, stderr=subprocess.STDOUT
     )
     passed = ran.returncode == 0
-    print(f"{name}: {'passed' if passed else 'FAILED'}, {time.monotonic() - begun:.0f} s", flush=True)
-    if not passed:
-        print(ran.stdout.decode(errors="replace"))
+    said = "" if passed else ran.stdout.decode(errors="replace")
+    print(f"{name}: {'passed' if passed else 'FAILED'}, {time.monotonic() - begun:.0f} s\n{said}", end="", flush=True)
     return passed
 
 
 def main():
-    results = [passes(name) for name in sys.argv[1:] or names()]
+    with concurrent.futures.ThreadPoolExecutor(os.cpu_count()) as at_once:
+        results = list(at_once.map(passes, sys.argv[1:] or names()))
     print(f"{results.count(True)} passed, {results.count(False)} failed")
     sys.exit(0 if all(results) else 1)
 

@@ -64,12 +64,14 @@ impl FilePair {
         Ok(self.file(file).metadata()?.len())
     }
 
-    /// Fills the room with the file's bytes from this place on. An error where there are fewer, or reading fails.
+    /// Fills the room with the file's bytes from this place on. An error where there are fewer, or
+    /// reading fails.
     pub fn read(&self, file: Which, at: u64, into: &mut [u8]) -> io::Result<()> {
         self.file(file).read_exact_at(into, at)
     }
 
-    /// Writes all of the bytes from this place on. After an error some of them may have been written.
+    /// Writes all of the bytes from this place on. After an error some of them may have been
+    /// written.
     pub fn write(&self, file: Which, at: u64, bytes: &[u8]) -> io::Result<()> {
         self.file(file).write_all_at(bytes, at)
     }

@@ -26,8 +26,9 @@ pub struct RealSite {
 }
 
 impl RealSite {
-    /// Opens the folder's files; nothing has failed yet. An error where the folder's name isn't UTF-8, or one of them
-    /// can't be opened or made.
+    /// Opens the folder's files and syncs the folder; nothing has failed yet. An error where the
+    /// folder's name isn't UTF-8, one of the files can't be opened or made, a standard stream is
+    /// closed, or the folder can't be synced.
     pub fn open<R: Files<File = File>>(
         rt: &R,
         alloc: Global,

@@ -1,4 +1,5 @@
-//! Deciphers the script on standard input, as often as the first argument says, to be timed: see bench/decipher_runestones.py.
+//! Deciphers the script on standard input, as often as the first argument says, to be timed: see
+//! bench/decipher_runestones.py.
 #![tactic(auto)]
 
 use ox_runestone::{Artifact, decipher, is_stone};
