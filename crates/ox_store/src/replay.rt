@@ -2,7 +2,8 @@
 
 ghost use Rattle.std.specs.Prelude.{◌≡◌, ℕ, Some, None, Ok, IfOk, IfErr, OnOk, MatchOption};
 ghost use Rattle.ox_gated.specs.Opened.{sound};
-ghost use Rattle.ox_model.specs.Stands.{name_at as name_there, block_in as block_there, begun_at, judged, cut_at};
+ghost use Rattle.ox_model.specs.Stands.{block_in as block_there, empty_stack_at, stack_in_file, place_of_cut};
+ghost use Rattle.ox_sat.specs.Profiles.{name_at as name_there};
 ghost use Rattle.ox_store.specs.Replay.{IsUnjudged, redone, fault_in};
 ghost use Rattle.ox_store.specs.Store.{stack_with};
 
@@ -39,8 +40,8 @@ impl Unjudged {
 /// first test that fails: 26 where the body isn't empty, or the place of the gate of the first record that isn't
 /// accepted. `Memory` where there is none for the index.
 pub fn judge(alloc: Global, head: &Head, body: &Bytes, records: &Records) -> Result<Live, Unjudged>
-    ensures stack { IfOk result (λ live. judged head.now body.now records.now ≡ Ok (stack_with head.now.depth live)) }
-    ensures place { IfErr result (IsUnjudged (judged head.now body.now records.now)) }
+    ensures stack { IfOk result (λ live. stack_in_file head.now body.now records.now ≡ Ok (stack_with head.now.depth live)) }
+    ensures place { IfErr result (IsUnjudged (stack_in_file head.now body.now records.now)) }
 {
     if !body.is_empty() {
         return Err(Unjudged::At(26));
@@ -55,7 +56,7 @@ pub fn judge(alloc: Global, head: &Head, body: &Bytes, records: &Records) -> Res
 /// The first test that fails in a file whose gate or record at this place is cut: the body and the records before it are
 /// tested first.
 pub fn earliest(alloc: Global, before: Option<Before>, at: u64) -> Unjudged
-    ensures { IsUnjudged (cut_at at (sound before)) result }
+    ensures { IsUnjudged (place_of_cut at (sound before)) result }
 {
     let Some(before) = before else {
         return Unjudged::At(at);
@@ -79,7 +80,7 @@ fn name_at(byte: u8) -> ProfileName
 
 // The index of a file with this head and no record.
 fn begin(alloc: Global, head: &Head) -> Live
-    ensures { stack_with head.now.depth result ≡ begun_at head.now }
+    ensures { stack_with head.now.depth result ≡ empty_stack_at head.now }
 {
     Live::new(alloc, &profile_of(name_at(head.profile)))
 }

@@ -12,7 +12,7 @@ use ox_bytes::Memory;
 use ox_feed::Command;
 use ox_gated::{Framed, Head, Tail, checkpoint_of, frame_parts};
 use ox_index::Live;
-use ox_model::Refusal;
+use ox_model::{About, Refusal};
 use ox_outside::{Failed, Site, Which};
 use ox_sat::{ProfileName, profile_of};
 use std::alloc::Global;
@@ -23,15 +23,6 @@ const CONNECT: u8 = 1;
 
 /// The greatest number of bytes of a block that has a record: the length of its payload fits 4 bytes.
 const LONGEST_BLOCK: usize = 0xffff_fffe;
-
-/// How many blocks may be kept to be taken back at most, and how many are.
-#[derive(Clone, Copy, Debug, PartialEq, Eq)]
-pub struct About {
-    /// From 1 to 1,000.
-    pub depth: u16,
-    /// None yet.
-    pub kept: u16,
-}
 
 /// An index in memory and the tail of its records. Contracts see the stack that the files stand for, the tail, and the
 /// number of commands that were accepted since it was opened.
