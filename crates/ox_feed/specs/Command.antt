@@ -1,5 +1,6 @@
 -- The commands that a line may be.
-use Rattle.std.specs.Prelude.{ℕ, ◌==◌, bytes_eq, List, [], ◌∷◌, codes, Option, Some, None, Result, Ok, Err, if◌then◌else◌}
+use Rattle.std.specs.Prelude.{ℕ, ◌==◌, bytes_eq, List, [], ◌∷◌, codes, Option, Some, None, Result}
+use Rattle.std.specs.Prelude.{Ok, Err, if◌then◌else◌}
 use Rattle.hex.specs.Hex.{decode_of}
 use Rattle.hex.specs.declared.error.FromHexError.{FromHexError}
 use Rattle.ox_feed.specs.declared.command.Command.{Command}
@@ -20,7 +21,8 @@ abbrev pub command_of_digits : Option (List ℕ) → Option Command
 command_of_digits (Some digits) = connect_of (decode_of digits)
 command_of_digits None = None
 
--- the connect that a line is: the word, one space, and an even number of hex digits of either case, none allowed
+-- the connect that a line is: the word, one space, and an even number of hex digits of either case,
+-- none allowed
 unfoldable pub connect_in : List ℕ → Option Command
 connect_in line = command_of_digits (after_word (codes "connect ") line)
 

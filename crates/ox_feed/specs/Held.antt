@@ -1,11 +1,14 @@
 -- What a reader of lines keeps, by its parts.
-use Rattle.std.specs.Prelude.{◌≡◌, ℕ, ◌+◌, ◌-◌, ◌<◌, ◌≤◌, Bool, true, false, List, [], ◌∷◌, ◌++◌, length, take, drop, All, Option, Some, None, Result, Ok, Err, if◌then◌else◌}
+use Rattle.std.specs.Prelude.{◌≡◌, ℕ, ◌+◌, ◌-◌, ◌<◌, ◌≤◌, Bool, true, false, List, [], ◌∷◌, ◌++◌}
+use Rattle.std.specs.Prelude.{length, take, drop, All, Option, Some, None, Result, Ok, Err}
+use Rattle.std.specs.Prelude.{if◌then◌else◌}
 use Rattle.ox_outside.specs.Event.{Event, heard_bytes, has_ended}
 use Rattle.ox_feed.specs.declared.lines.Line.{Line}
 use Rattle.ox_feed.specs.declared.lines.Line.TheVariants.{Text, Long}
 use Rattle.ox_feed.specs.declared.lines.FeedFault.{FeedFault}
 use Rattle.ox_feed.specs.declared.held.Held.{Held}
-use Rattle.ox_feed.specs.Feed.{Feed, FeedLine, text, too_long, is_line_feed, line_limit, feed_limit, room_size, lines_from, left, Tells, Hears, OnlyHears}
+use Rattle.ox_feed.specs.Feed.{Feed, FeedLine, text, too_long, is_line_feed, line_limit, feed_limit}
+use Rattle.ox_feed.specs.Feed.{room_size, lines_from, bytes_left, Tells, Hears, OnlyHears}
 
 abbrev pub feed_of : Held → Feed
 feed_of held = record { rest = held.begun ++ held.piece; heard = held.heard; ended = held.ended }
@@ -44,10 +47,14 @@ line_as too_long = Long
 -- A whole line was cut off, or there is none and all bytes are looked at: nothing is heard by it.
 abbrev pub Cuts : Option Line → Held → Held → Type 0
 Cuts (Some line) old new = Tells line (feed_of old) [] (feed_of new)
-Cuts None old new = (new.piece ≡ []) × ((more : List ℕ) (ended : Bool) → lines_from (feed_of old) more ended ≡ lines_from (feed_of new) more ended)
+Cuts None old new =
+    (new.piece ≡ [])
+    × ((more : List ℕ) (ended : Bool)
+    → lines_from (feed_of old) more ended ≡ lines_from (feed_of new) more ended)
 
 -- what a hearing logged is what the piece now has, or that the channel has ended
-pub record Fills (result : Result Bool FeedFault) (piece : List ℕ) (events : List Event) : Type 0 where
+pub record Fills (result : Result Bool FeedFault) (piece : List ℕ)
+    (events : List Event) : Type 0 where
   pub only : OnlyHears events
   pub bytes : heard_bytes 0 events ≡ piece
   pub ended : has_ended 0 events ≡ is_end result
@@ -55,9 +62,10 @@ pub record Fills (result : Result Bool FeedFault) (piece : List ℕ) (events : L
 -- nothing was made into lines, and these events were logged
 pub record Waits (old new : Feed) (events : List Event) : Type 0 where
   pub hears : Hears old new events
-  pub same : (more : List ℕ) (ended : Bool) → lines_from old (heard_bytes 0 events ++ more) ended ≡ lines_from new more ended
+  pub same : (more : List ℕ) (ended : Bool)
+      → lines_from old (heard_bytes 0 events ++ more) ended ≡ lines_from new more ended
 
 -- a line takes at least one byte
 abbrev pub Shorter : Option Line → Feed → Feed → Type 0
-Shorter (Some line) old new = left new < left old
-Shorter None old new = left new ≤ left old
+Shorter (Some line) old new = bytes_left new < bytes_left old
+Shorter None old new = bytes_left new ≤ bytes_left old

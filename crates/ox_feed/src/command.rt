@@ -49,11 +49,12 @@ fn connect_in(alloc: Global, line: &[u8]) -> Result<Command, SyntaxFault>
     }
 }
 
-/// The command that a line is: `disconnect`; or `connect`, one space, and an even number of hex digits of either case,
-/// none of them allowed. The digits are decoded once, into the bytes of the command.
+/// The command that a line is: `disconnect`; or `connect`, one space, and an even number of hex
+/// digits of either case, none of them allowed. The digits are decoded once, into the bytes of the
+/// command.
 ///
-/// `Syntax` only where the line is no command, and a line that is none gives no command. `Memory` where
-/// there is none for the bytes.
+/// `Syntax` only where the line is no command, and a line that is none gives no command. `Memory`
+/// where there is none for the bytes.
 #[tactic(auto, unfolding(crate::specs::Command::command_of))]
 pub fn command_of(alloc: Global, line: &[u8]) -> Result<Command, SyntaxFault>
     ensures found { IfOk result (λ command. spelled line.now ≡ Some command) }

@@ -59,9 +59,12 @@ fn decode_into(digits: &[u8], bytes: &mut [u8]) -> bool
     all
 }
 
-/// The bytes of an even number of digits, of either case; `None` where there is an odd number, or another byte.
+/// The bytes of an even number of digits, of either case; `None` where there is an odd number, or
+/// another byte.
 pub fn decode(alloc: Global, digits: &[u8]) -> Result<Option<Vec<u8>>, AllocError>
-    ensures { IfOk result (λ found. MatchOption found (IsErr (decode_of digits.now)) (λ bytes. decode_of digits.now ≡ Ok bytes.items)) }
+    ensures { IfOk result (λ found.
+        MatchOption found (IsErr (decode_of digits.now))
+        (λ bytes. decode_of digits.now ≡ Ok bytes.items)) }
 {
     if digits.len() % 2 != 0 {
         return Ok(None);

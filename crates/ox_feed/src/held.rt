@@ -1,11 +1,15 @@
-//! What a reader of lines keeps: the line that has begun, and the bytes of the last hearing that it hasn't looked at.
+//! What a reader of lines keeps: the line that has begun, and the bytes of the last hearing that it
+//! hasn't looked at.
 
-ghost use Rattle.std.specs.Prelude.{◌≡◌, ◌+◌, ◌-◌, ◌<◌, ◌≤◌, ◌++◌, [], length, take, drop, vec_len, Ok, None, IfOk, OnOk, OnErr, IsErrOf, MatchOption, true, false};
+ghost use Rattle.std.specs.Prelude.{◌≡◌, ◌+◌, ◌-◌, ◌<◌, ◌≤◌, ◌++◌, [], length, take, drop, vec_len};
+ghost use Rattle.std.specs.Prelude.{Ok, None, IfOk, OnOk, OnErr, IsErrOf, MatchOption, true, false};
 ghost use Rattle.ox_outside.specs.Counts.{Rose};
-ghost use Rattle.ox_outside.specs.Crash.{OnlyTalks};
+ghost use Rattle.ox_outside.specs.Runs.{OnlyTalks};
 ghost use Rattle.ox_outside.specs.Log.{Grows};
-ghost use Rattle.ox_feed.specs.Feed.{Answers, IsLine, IsTooMuch, Listens, OnlyHears, Tells, feed_limit, left, line_limit, line_of, unheard};
-ghost use Rattle.ox_feed.specs.Held.{Cuts, EndsAt, HasNoFeed, IsHeld, Shorter, Waits, feed_of, hearings_left, line_as};
+ghost use Rattle.ox_feed.specs.Feed.{Answers, IsLine, IsTooMuch, Listens, OnlyHears, Tells};
+ghost use Rattle.ox_feed.specs.Feed.{feed_limit, bytes_left, line_limit, line_of, new_feed};
+ghost use Rattle.ox_feed.specs.Held.{Cuts, EndsAt, HasNoFeed, IsHeld, Shorter, Waits, feed_of};
+ghost use Rattle.ox_feed.specs.Held.{hearings_left, line_as};
 
 use crate::lines::{FeedFault, Line};
 use crate::piece::Piece;
@@ -19,8 +23,8 @@ const LINE_LIMIT: usize = 8_000_008;
 
 const FEED_LIMIT: u64 = 1 << 62;
 
-/// The line that has begun, of which a line that is too long keeps as many bytes as show this; the bytes
-/// heard behind it; and how much was heard in all.
+/// The line that has begun, of which a line that is too long keeps as many bytes as show this; the
+/// bytes heard behind it; and how much was heard in all.
 #[derive(Drop)]
 pub struct Held {
     pub alloc: Global,
@@ -39,7 +43,8 @@ fn line_end(bytes: &[u8]) -> Option<usize>
 
 // Appends bytes to a line, as many as it takes to show whether it is too long.
 fn add(begun: &mut Bytes, bytes: &[u8]) -> Result<(), Memory>
-    ensures ok { OnOk result (begun.new ≡ begun.old ++ take (line_limit + 1 - length begun.old) bytes.now) }
+    ensures ok { OnOk result
+        (begun.new ≡ begun.old ++ take (line_limit + 1 - length begun.old) bytes.now) }
     ensures err { OnErr result (begun.new ≡ begun.old) }
 {
     let most = (LINE_LIMIT + 1).saturating_sub(begun.len());
@@ -61,7 +66,7 @@ fn line_from(bytes: Bytes) -> Line
 impl Held {
     /// A reader that has heard nothing. It takes no memory yet.
     pub fn new(alloc: Global) -> Held
-        ensures unheard { feed_of result ≡ unheard }
+        ensures unheard { feed_of result ≡ new_feed }
         ensures sound { IsHeld result }
     {
         Held {
@@ -73,7 +78,8 @@ impl Held {
         }
     }
 
-    // Cuts off the line that the first line feed ends. Without one, all bytes are of the line that has begun.
+    // Cuts off the line that the first line feed ends. Without one, all bytes are of the line that
+    // has begun.
     fn whole_line(&mut self) -> Result<Option<Line>, Memory>
         requires { IsHeld self.old }
         ensures sound { IsHeld self.new }
@@ -115,7 +121,8 @@ impl Held {
         ensures tells { Tells result (feed_of self.old) [] (feed_of self.new) }
         ensures heard { self.new.heard ≡ self.old.heard }
         ensures ended { self.new.ended ≡ true }
-        ensures fewer { IsLine result → left (feed_of self.new) < left (feed_of self.old) }
+        ensures fewer { IsLine result
+            → bytes_left (feed_of self.new) < bytes_left (feed_of self.old) }
     {
         if self.begun.is_empty() {
             Line::End
@@ -130,12 +137,14 @@ impl Held {
         requires none { self.old.piece ≡ [] }
         requires more { self.old.ended ≡ false }
         ensures sound { IsHeld self.new }
-        ensures waits { Grows (Waits (feed_of self.old) (feed_of self.new)) (S.log site.old) (S.log site.new) }
+        ensures waits { Grows (Waits (feed_of self.old) (feed_of self.new))
+            (S.log site.old) (S.log site.new) }
         ensures fewer { OnOk result (hearings_left self.new < hearings_left self.old) }
-        ensures left { left (feed_of self.new) ≤ left (feed_of self.old) }
-        ensures hear_fault { IsErrOf result FeedFault.HearFault → Rose ((S.counts site.old).hear 0) ((S.counts site.new).hear 0) }
+        ensures left { bytes_left (feed_of self.new) ≤ bytes_left (feed_of self.old) }
+        ensures hear_fault { IsErrOf result FeedFault.HearFault
+            → Rose ((S.counts site.old).hear 0) ((S.counts site.new).hear 0) }
         ensures too_much { IsErrOf result FeedFault.TooMuch → IsTooMuch (feed_of self.new) }
-        ensures talks { OnlyTalks S.told S.seen S.log S.counts S.clock S.may_leave S.left_since OnlyHears site.old site.new }
+        ensures talks { OnlyTalks S.Site OnlyHears site.old site.new }
     {
         let most = FEED_LIMIT - self.heard;
         if most == 0 {
@@ -153,11 +162,14 @@ impl Held {
     pub fn next<S: Site>(&mut self, site: &mut S) -> Result<Line, FeedFault>
         requires sound { IsHeld self.old }
         ensures sound { IsHeld self.new }
-        ensures told { Grows (Answers (feed_of self.old) result (feed_of self.new)) (S.log site.old) (S.log site.new) }
-        ensures fewer { IfOk result (λ line. IsLine line → left (feed_of self.new) < left (feed_of self.old)) }
-        ensures hear_fault { IsErrOf result FeedFault.HearFault → Rose ((S.counts site.old).hear 0) ((S.counts site.new).hear 0) }
+        ensures told { Grows (Answers (feed_of self.old) result (feed_of self.new))
+            (S.log site.old) (S.log site.new) }
+        ensures fewer { IfOk result (λ line.
+            IsLine line → bytes_left (feed_of self.new) < bytes_left (feed_of self.old)) }
+        ensures hear_fault { IsErrOf result FeedFault.HearFault
+            → Rose ((S.counts site.old).hear 0) ((S.counts site.new).hear 0) }
         ensures too_much { IsErrOf result FeedFault.TooMuch → IsTooMuch (feed_of self.new) }
-        ensures talks { OnlyTalks S.told S.seen S.log S.counts S.clock S.may_leave S.left_since (Listens (feed_of self.old)) site.old site.new }
+        ensures talks { OnlyTalks S.Site (Listens (feed_of self.old)) site.old site.new }
     {
         loop {
             if let Some(line) = self.whole_line()? {

@@ -2,10 +2,11 @@
 
 ghost use Rattle.std.specs.Prelude.{◌≡◌, ◌+◌, ◌<◌, ◌≤◌, length, IfOk, IsErrOf};
 ghost use Rattle.ox_outside.specs.Counts.{Rose};
-ghost use Rattle.ox_outside.specs.Crash.{OnlyTalks};
+ghost use Rattle.ox_outside.specs.Runs.{OnlyTalks};
 ghost use Rattle.ox_outside.specs.Log.{Grows};
 ghost use Rattle.ox_feed.specs.declared.lines.FeedFault.TheVariants.{Memory as out_of_memory};
-ghost use Rattle.ox_feed.specs.Feed.{Answers, IsLine, IsTooMuch, Listens, feed_limit, left, line_limit, room_size, unheard};
+ghost use Rattle.ox_feed.specs.Feed.{Answers, IsLine, IsTooMuch, Listens, feed_limit, bytes_left};
+ghost use Rattle.ox_feed.specs.Feed.{line_limit, room_size, new_feed};
 
 use crate::held::Held;
 use ox_bytes::{Bytes, Memory};
@@ -51,8 +52,8 @@ impl From<Memory> for FeedFault {
     }
 }
 
-/// A reader of the lines of channel 0. Contracts see the bytes that it hasn't made lines of, how many bytes
-/// it has heard, and whether the channel has ended.
+/// A reader of the lines of channel 0. Contracts see the bytes that it hasn't made lines of, how
+/// many bytes it has heard, and whether the channel has ended.
 #[derive(Drop)]
 pub struct Lines {
     held: Held,
@@ -72,34 +73,38 @@ impl Model for Lines {
 impl Lines {
     /// A reader that has heard nothing. It takes no memory until it is asked for a line.
     pub fn new(alloc: Global) -> Lines
-        ensures { result ≡ unheard }
+        ensures { result ≡ new_feed }
     {
         Lines {
             held: Held::new(alloc),
         }
     }
 
-    /// The next line of channel 0, or its end. A line ends with a line feed; a last line without one counts
-    /// where the channel has ended and the line isn't empty. At most 65,536 bytes are heard at a time, and of
-    /// a line that is too long at most 8,000,009 are kept.
+    /// The next line of channel 0, or its end. A line ends with a line feed; a last line without
+    /// one counts where the channel has ended and the line isn't empty. At most 65,536 bytes are
+    /// heard at a time, and of a line that is too long at most 8,000,009 are kept.
     ///
-    /// `HearFault` only where channel 0 failed in this call. `TooMuch` only where 4,611,686,018,427,387,904 bytes
-    /// were heard, no line is left of them, and channel 0 hasn't ended: no more are heard. `Memory` where there is
-    /// none. After each of them the lines are given up: what comes next isn't said.
+    /// `HearFault` only where channel 0 failed in this call. `TooMuch` only where
+    /// 4,611,686,018,427,387,904 bytes were heard, no line is left of them, and channel 0 hasn't
+    /// ended: no more are heard. `Memory` where there is none. After each of them the lines are
+    /// given up: what comes next isn't said.
     pub fn next<S: Site>(&mut self, site: &mut S) -> Result<Line, FeedFault>
-        // Where the log is told: the answer is the next line of the bytes heard, and only hearings were logged.
+        // Where the log is told: the answer is the next line of the bytes heard, and only hearings
+        // were logged.
         ensures told { Grows (Answers self.old result self.new) (S.log site.old) (S.log site.new) }
 
-        ensures hear_fault { IsErrOf result FeedFault.HearFault → Rose ((S.counts site.old).hear 0) ((S.counts site.new).hear 0) }
+        ensures hear_fault { IsErrOf result FeedFault.HearFault
+            → Rose ((S.counts site.old).hear 0) ((S.counts site.new).hear 0) }
         ensures too_much { IsErrOf result FeedFault.TooMuch → IsTooMuch self.new }
 
-        ensures fewer { IfOk result (λ line. IsLine line → left self.new < left self.old) }
+        ensures fewer { IfOk result (λ line.
+            IsLine line → bytes_left self.new < bytes_left self.old) }
         ensures size { length self.new.rest ≤ line_limit + 1 + room_size }
         ensures count { self.new.heard ≤ feed_limit }
 
-        // A crash at any moment of the call leaves files that it left before, and a log that has grown by hearings alone, by
-        // none where the feed has ended.
-        ensures talks { OnlyTalks S.told S.seen S.log S.counts S.clock S.may_leave S.left_since (Listens self.old) site.old site.new }
+        // A crash at any moment of the call leaves files that it left before, and a log that has
+        // grown by hearings alone, by none where the feed has ended.
+        ensures talks { OnlyTalks S.Site (Listens self.old) site.old site.new }
     {
         self.held.next(site)
     }

@@ -1,8 +1,9 @@
 //! The bytes of one hearing.
 
-ghost use Rattle.std.specs.Prelude.{◌≡◌, ◌≤◌, ◌<◌, [], length, take, drop, vec_len, true, Ok, IfOk, OnErr, IsErrOf};
+ghost use Rattle.std.specs.Prelude.{◌≡◌, ◌≤◌, ◌<◌, [], length, take, drop, vec_len, true, Ok, IfOk};
+ghost use Rattle.std.specs.Prelude.{OnErr, IsErrOf};
 ghost use Rattle.ox_outside.specs.Counts.{Rose};
-ghost use Rattle.ox_outside.specs.Crash.{OnlyTalks};
+ghost use Rattle.ox_outside.specs.Runs.{OnlyTalks};
 ghost use Rattle.ox_outside.specs.Log.{Grows};
 ghost use Rattle.ox_feed.specs.Feed.{OnlyHears, room_size};
 ghost use Rattle.ox_feed.specs.Held.{Fills};
@@ -69,7 +70,8 @@ impl Piece {
         self.from += n;
     }
 
-    /// Hears bytes on channel 0, at most `most`, where all were passed over. `false` where the channel has ended.
+    /// Hears bytes on channel 0, at most `most`, where all were passed over. `false` where the
+    /// channel has ended.
     pub fn hear<S: Site>(
         &mut self,
         alloc: Global,
@@ -83,9 +85,10 @@ impl Piece {
         ensures most { length self.new ≤ most }
         ensures size { length self.new ≤ room_size }
         ensures empty { (result ≡ Ok true → ⊥) → self.new ≡ [] }
-        ensures hear_fault { IsErrOf result FeedFault.HearFault → Rose ((S.counts site.old).hear 0) ((S.counts site.new).hear 0) }
+        ensures hear_fault { IsErrOf result FeedFault.HearFault
+            → Rose ((S.counts site.old).hear 0) ((S.counts site.new).hear 0) }
         ensures too_much { IsErrOf result FeedFault.TooMuch → ⊥ }
-        ensures talks { OnlyTalks S.told S.seen S.log S.counts S.clock S.may_leave S.left_since OnlyHears site.old site.new }
+        ensures talks { OnlyTalks S.Site OnlyHears site.old site.new }
     {
         if self.room.is_empty() {
             self.room = room(alloc)?;

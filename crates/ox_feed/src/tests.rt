@@ -1,4 +1,5 @@
-//! The spelling of a command. Lines are read by the tests of the program's top call, over a site in memory.
+//! The spelling of a command. Lines are read by the tests of the program's top call, over a site in
+//! memory.
 
 use crate::{Command, SyntaxFault, command_of};
 use std::test::Fail;

@@ -7,8 +7,8 @@ use Rattle.std.proofs.lemmas.Bool.Decides.{eqb_tells}
 use Rattle.std.proofs.lemmas.List.{append-nil, length-take, take-take, drop-drop, drop-take, take-append-le, drop-append-le}
 use Rattle.ox_bytes.specs.Reading.{number_at, run_at, ◌>>=◌}
 use Rattle.ox_bytes.proofs.Laws.{bind_ok, guard_ok, ok_is, run_law}
-use Rattle.ox_gated.specs.Gate.{with_record, IsShut, IsBroken, IsOpen}
-use Rattle.ox_gated.specs.Reading.{payload_at, Chain, behind, gates, chain}
+use Rattle.ox_gated.specs.Gate.{IsShut, IsBroken, IsOpen}
+use Rattle.ox_gated.specs.Reading.{with_record, payload_at, Chain, behind, gates, chain}
 use Rattle.ox_gated.specs.declared.records.Record.{Record}
 
 -- ---- a payload

@@ -1,12 +1,12 @@
 -- What two files stand for where the current one goes on otherwise behind its last gate.
-use Rattle.std.proofs.Common.{◌≡◌, ◌∙◌, ◌≤◌, ◌<◌, ◌+◌, ◌-◌, ℕ, Bool, false, List, [], ◌∷◌, ◌++◌, length, take, drop, ◌==◌, ◌&&◌, not, if◌then◌else◌, Some, None, refl, sym, ap, arith, length-append, length-drop}
+use Rattle.std.proofs.Common.{◌≡◌, ◌∙◌, ◌≤◌, ◌<◌, ◌+◌, ◌-◌, ℕ, Bool, false, List, ◌++◌, length, take, drop, ◌==◌, ◌&&◌, not, if◌then◌else◌, Some, None, sym, ap, arith, length-append, length-drop}
 use Rattle.std.specs.Prelude.{nat_lt, slice_range, slice_index}
 use Rattle.std.specs.Int.{w16, w64, from_le_bytes}
 use Rattle.std.proofs.lemmas.Bool.{le-ltb}
 use Rattle.std.proofs.lemmas.List.{take_at, drop_at, take-append-le, drop-append-le, get_or_append_left}
 use Rattle.ox_outside.specs.declared.site.Which.{Which}
-use Rattle.ox_gated.specs.Layout.{is_closed, is_magic, has_magic, is_lawful, opening_at, head_of}
-use Rattle.ox_gated.specs.Reading.{chain, refused, judged, current}
+use Rattle.ox_gated.specs.Layout.{is_magic, has_magic, is_lawful, opening_at, head_of}
+use Rattle.ox_gated.specs.Reading.{chain, fault_at, found_or_fault, current}
 use Rattle.ox_gated.specs.declared.head.Opening.{Opening}
 
 -- ---- a head depends on its 26 bytes alone
@@ -49,26 +49,16 @@ module _ (front t : List ℕ) (long : 26 ≤ length front) where
       ∙ (λ i. if magic_front i && is_lawful (opening_front i).head then Some (opening_front i) else None)
       ∙ sym (ap (λ (b : Bool). if b then None else if has_magic front && is_lawful (opening_at front).head then Some (opening_at front) else None) enough_before)
 
-is_closed_front : (front t : List ℕ) → 1 ≤ length front → is_closed (front ++ t) ≡ is_closed front
-is_closed_front [] t long = absurd (omega arith)
-is_closed_front (x ∷ front) t long = refl
-
-pub head_same : (front t u : List ℕ) → 26 ≤ length front → head_of (front ++ t) ≡ head_of (front ++ u)
-head_same front t u long = head_of_front front t long ∙ sym (head_of_front front u long)
-
-pub closed_same : (front t u : List ℕ) → 26 ≤ length front → is_closed (front ++ t) ≡ is_closed (front ++ u)
-closed_same front t u long = is_closed_front front t (omega (arith, long)) ∙ sym (is_closed_front front u (omega (arith, long)))
-
 -- ---- the current file
 
 -- a file that begins with a head and a body
 pub current_on : (version : ℕ) (file : Which) (front t : List ℕ) (opening : Opening) → length front ≡ 26 + opening.size
-    → current version file (front ++ t) opening ≡ (if not (opening.head.version == version) then refused file 6 else judged file opening.head (drop 26 front) (chain (26 + opening.size) t).records (chain (26 + opening.size) t).end)
+    → current version file (front ++ t) opening ≡ (if not (opening.head.version == version) then fault_at file 6 else found_or_fault file opening.head (drop 26 front) (chain (26 + opening.size) t).records (chain (26 + opening.size) t).end)
 current_on version file front t opening size =
     let enough : nat_lt (length (front ++ t)) (26 + opening.size) ≡ false = le-ltb (length (front ++ t)) (26 + opening.size) (omega (arith, size, length-append front t)) in
     let behind : drop 26 (front ++ t) ≡ drop 26 front ++ t = drop-append-le 26 front t (omega (arith, size)) in
     let long : length (drop 26 front) ≡ opening.size = omega (arith, size, length-drop 26 front) in
     let body : take opening.size (drop 26 (front ++ t)) ≡ drop 26 front = ap (λ (l : List ℕ). take opening.size l) behind ∙ take_at (drop 26 front) t opening.size long in
     let rest : drop opening.size (drop 26 (front ++ t)) ≡ t = ap (λ (l : List ℕ). drop opening.size l) behind ∙ drop_at (drop 26 front) t opening.size long in
-    ap (λ (b : Bool). if not (opening.head.version == version) then refused file 6 else if b then refused file 26 else judged file opening.head (take opening.size (drop 26 (front ++ t))) (chain (26 + opening.size) (drop opening.size (drop 26 (front ++ t)))).records (chain (26 + opening.size) (drop opening.size (drop 26 (front ++ t)))).end) enough
-    ∙ (λ i. if not (opening.head.version == version) then refused file 6 else judged file opening.head (body i) (chain (26 + opening.size) (rest i)).records (chain (26 + opening.size) (rest i)).end)
+    ap (λ (b : Bool). if not (opening.head.version == version) then fault_at file 6 else if b then fault_at file 26 else found_or_fault file opening.head (take opening.size (drop 26 (front ++ t))) (chain (26 + opening.size) (drop opening.size (drop 26 (front ++ t)))).records (chain (26 + opening.size) (drop opening.size (drop 26 (front ++ t)))).end) enough
+    ∙ (λ i. if not (opening.head.version == version) then fault_at file 6 else found_or_fault file opening.head (body i) (chain (26 + opening.size) (rest i)).records (chain (26 + opening.size) (rest i)).end)

@@ -1,8 +1,9 @@
-mod Append
-mod Appending
+mod AppendKeepsTail
 mod Chain
+mod ChoiceByFronts
 mod Fronts
-mod Making
-mod Opening
-mod Picking
+mod NewFiles
+mod OneFile
+mod OpenedHolds
+mod RecordWrites
 mod Stands

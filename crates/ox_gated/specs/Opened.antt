@@ -1,7 +1,7 @@
 -- What the opening of two files gives, in the words of what they stand for.
 use Rattle.std.specs.Prelude.{◌≡◌, Bool, length, Option, Some, None, Result, Err}
-use Rattle.ox_gated.specs.Pick.{Picked}
-use Rattle.ox_gated.specs.Reading.{Found, Fault, Sound}
+use Rattle.ox_gated.specs.Pick.{Choice}
+use Rattle.ox_gated.specs.Reading.{Found, Fault, IntactPart}
 use Rattle.ox_gated.specs.Tail.{Kept}
 use Rattle.ox_gated.specs.declared.open.Opened.{Opened}
 use Rattle.ox_gated.specs.declared.fault.Before.{Before}
@@ -14,26 +14,41 @@ abbrev pub gate_fault : ReadFault → GateFault
 gate_fault reads.Disk = gates.DiskFault
 gate_fault reads.Memory = gates.Memory
 
-abbrev pub sound : Option Before → Option Sound
-sound None = None
-sound (Some before) = Some (record { head = before.head; body = before.body; records = before.records })
+-- what stands before a fault, where the body is there
+abbrev pub intact_part : Option Before → Option IntactPart
+intact_part None = None
+intact_part (Some before) =
+    Some (record { head = before.head; body = before.body; records = before.records })
 
 -- Where it isn't the disk or memory, the fault is the one that the files have.
 abbrev pub IsFault : Result Found Fault → GateFault → Type 0
 IsFault reading gates.DiskFault = Unit {0}
-IsFault reading (gates.NotStore file at before) = reading ≡ Err (record { file = file; at = at; before = sound before })
+IsFault reading (gates.NotStore file at before) =
+    reading ≡ Err (record { file = file; at = at; before = intact_part before })
 IsFault reading gates.Memory = Unit {0}
 
--- The fault is the one of the picking.
-abbrev pub IsUnpicked : Picked → GateFault → Type 0
-IsUnpicked picked gates.DiskFault = Unit {0}
-IsUnpicked picked (gates.NotStore file at before) = (picked ≡ Err (file, at)) × (before ≡ None)
-IsUnpicked picked gates.Memory = Unit {0}
+-- The fault is the one of the choice.
+abbrev pub IsUnpicked : Choice → GateFault → Type 0
+IsUnpicked choice gates.DiskFault = Unit {0}
+IsUnpicked choice (gates.NotStore file at before) = (choice ≡ Err (file, at)) × (before ≡ None)
+IsUnpicked choice gates.Memory = Unit {0}
 
 -- what the opening found
 abbrev pub found_of : Opened → Found
-found_of opened = record { file = opened.file; head = opened.head; body = opened.body; records = opened.records; gate = opened.tail.gate }
+found_of opened = record {
+  file = opened.file;
+  head = opened.head;
+  body = opened.body;
+  records = opened.records;
+  gate = opened.tail.gate;
+}
 
 -- the tail of what was opened
 abbrev pub tail_of : Opened → Bool → Kept
-tail_of opened other_closed = record { file = opened.file; head = opened.head; records = length opened.records; gate = opened.tail.gate; other_closed = other_closed }
+tail_of opened other_closed = record {
+  file = opened.file;
+  head = opened.head;
+  records = length opened.records;
+  gate = opened.tail.gate;
+  other_closed = other_closed;
+}

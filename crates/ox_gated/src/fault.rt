@@ -20,8 +20,8 @@ pub struct Before {
 pub enum GateFault {
     /// A call on a file failed.
     DiskFault,
-    /// The files are no store: the file and the place of the first test that fails, and what stands before it where the
-    /// body is there.
+    /// The files are no store: the file and the place of the first test that fails, and what stands
+    /// before it where the body is there.
     NotStore {
         file: Which,
         at: u64,

@@ -1,13 +1,15 @@
 // What is written: a record with the closed gate behind it, and a file without records.
 ghost use Rattle.std.specs.Prelude.{◌≡◌, ◌+◌, ◌<◌, ◌^◌, ◌++◌, length, IsTrue, IfOk};
-ghost use Rattle.ox_gated.specs.Layout.{is_lawful, record_bytes, checkpoint_bytes};
+ghost use Rattle.ox_gated.specs.Layout.{is_lawful, record_bytes, checkpoint_bytes, body_at};
 
 use crate::head::Head;
+use crate::layout::BODY_AT;
 use ox_bytes::{Bytes, Memory};
 use std::alloc::Global;
 use std::marker::Model;
 
-/// A record as it is written behind an open gate: its length, its payload and a closed gate. Contracts see the payload.
+/// A record as it is written behind an open gate: its length, its payload and a closed gate.
+/// Contracts see the payload.
 #[derive(Debug, Drop)]
 pub struct Framed {
     bytes: Bytes,
@@ -21,7 +23,9 @@ impl Model for Framed {
 
     ghost view = { λ f. take (length f.bytes - 5) (drop 4 f.bytes) };
 
-    ghost invariant = { λ f. (f.bytes ≡ record_bytes (take (length f.bytes - 5) (drop 4 f.bytes))) × (length f.bytes < 2 ^ 32 + 5) };
+    ghost invariant = { λ f.
+        (f.bytes ≡ record_bytes (take (length f.bytes - 5) (drop 4 f.bytes)))
+        × (length f.bytes < 2 ^ 32 + 5) };
 }
 
 impl Framed {
@@ -43,8 +47,8 @@ pub fn frame(alloc: Global, payload: &[u8]) -> Result<Framed, Memory>
     frame_parts(alloc, payload, &[])
 }
 
-/// The record whose payload is the bytes of `front` and then those of `rest`, each copied once. `Memory` where there is
-/// none for it.
+/// The record whose payload is the bytes of `front` and then those of `rest`, each copied once.
+/// `Memory` where there is none for it.
 pub fn frame_parts(alloc: Global, front: &[u8], rest: &[u8]) -> Result<Framed, Memory>
     requires { length front.now + length rest.now < 2 ^ 32 }
     ensures { IfOk result (λ framed. framed ≡ front.now ++ rest.now) }
@@ -69,13 +73,16 @@ pub struct Checkpoint {
 
 impl Model for Checkpoint {
     ghost use Rattle.std.specs.Prelude.{◌≡◌, ◌<◌, ◌+◌, ◌^◌, length, take, drop, ◌-◌, IsTrue};
-    ghost use Rattle.ox_gated.specs.Layout.{Whole, is_lawful, checkpoint_bytes};
+    ghost use Rattle.ox_gated.specs.Layout.{Whole, is_lawful, checkpoint_bytes, body_at, body_in};
 
     ghost Value = { Whole };
 
-    ghost view = { λ c. record { head = c.head; body = take (length c.bytes - 26) (drop 25 c.bytes) } };
+    ghost view = { λ c. record { head = c.head; body = body_in c.bytes } };
 
-    ghost invariant = { λ c. (c.bytes ≡ checkpoint_bytes c.head (take (length c.bytes - 26) (drop 25 c.bytes))) × IsTrue (is_lawful c.head) × (length c.bytes < 2 ^ 32 + 26) };
+    ghost invariant = { λ c.
+        (c.bytes ≡ checkpoint_bytes c.head (body_in c.bytes))
+        × IsTrue (is_lawful c.head)
+        × (length c.bytes < 2 ^ 32 + body_at) };
 }
 
 impl Checkpoint {
@@ -89,7 +96,7 @@ impl Checkpoint {
     /// The bytes that are written behind the first gate.
     pub fn as_slice(&self) -> &[u8]
         ensures bytes { result.now ≡ checkpoint_bytes self.now.head self.now.body }
-        ensures size { length result.now ≡ 26 + length self.now.body }
+        ensures size { length result.now ≡ body_at + length self.now.body }
         ensures small { length self.now.body < 2 ^ 32 }
         ensures lawful { IsTrue (is_lawful self.now.head) }
         ensures depth { self.now.head.depth < 2 ^ 16 }
@@ -106,7 +113,7 @@ pub fn checkpoint_of(alloc: Global, head: &Head, body: &[u8]) -> Result<Checkpoi
     requires head { IsTrue (is_lawful head.now) }
     ensures { IfOk result (λ checkpoint. checkpoint ≡ record { head = head.now; body = body.now }) }
 {
-    let mut bytes = Vec::with_capacity(alloc, body.len() + 26)?;
+    let mut bytes = Vec::with_capacity(alloc, body.len() + BODY_AT)?;
     bytes.extend_from_slice(b"oxidx")?;
     bytes.extend_from_slice(&[head.version, head.profile])?;
     bytes.extend_from_slice(&head.depth.to_le_bytes())?;

@@ -1,7 +1,9 @@
 // The head of a file.
 ghost use Rattle.std.specs.Prelude.{◌≡◌, ◌+◌, ◌≤◌, length, slice_range};
 ghost use Rattle.std.specs.Int.{w16, w64, from_le_bytes};
-ghost use Rattle.ox_gated.specs.Layout.{is_lawful, has_magic, is_closed, head_of};
+ghost use Rattle.ox_gated.specs.Layout.{is_lawful, has_magic, is_closed, head_of, body_at};
+
+use crate::layout::{BODY_AT, DEPTH_AT, GENERATION_AT, MAGIC_AT, PROFILE_AT, SIZE_AT, VERSION_AT};
 
 /// What a file's head says. It lies behind the file's gate, and the length of the body follows it.
 #[derive(Clone, Copy, Debug, PartialEq, Eq)]
@@ -24,7 +26,8 @@ pub struct Opening {
 }
 
 impl Head {
-    /// Whether a file may have it: version 1 or 2, a known profile, a depth from 1 to 1,000, a generation other than 0.
+    /// Whether a file may have it: version 1 or 2, a known profile, a depth from 1 to 1,000, a
+    /// generation other than 0.
     pub fn is_lawful(&self) -> bool
         ensures { result ≡ is_lawful self.now }
     {
@@ -36,22 +39,22 @@ impl Head {
     }
 }
 
-/// The head of an open file, of whose front these bytes are 26 or, where it has fewer, all. None where they are cut or
-/// break the form.
+/// The head of an open file, of whose front these bytes are 26 or, where it has fewer, all. None
+/// where they are cut or break the form.
 pub fn opening_of(front: &[u8]) -> Option<Opening>
     ensures { result ≡ head_of front.now }
 {
-    if front.len() < 26 {
+    if front.len() < BODY_AT {
         return None;
     }
     let opening = Opening {
         head: Head {
-            version: front[6],
-            profile: front[7],
-            depth: u16_at(front, 8),
-            generation: u64_at(front, 10),
+            version: front[VERSION_AT],
+            profile: front[PROFILE_AT],
+            depth: u16_at(front, DEPTH_AT),
+            generation: u64_at(front, GENERATION_AT),
         },
-        size: u64_at(front, 18),
+        size: u64_at(front, SIZE_AT),
     };
     if begins_with_magic(front) && opening.head.is_lawful() {
         Some(opening)
@@ -71,10 +74,14 @@ pub fn is_shut(front: &[u8]) -> bool
 }
 
 fn begins_with_magic(front: &[u8]) -> bool
-    requires { 26 ≤ length front.now }
+    requires { body_at ≤ length front.now }
     ensures { result ≡ has_magic front.now }
 {
-    front[1] == b'o' && front[2] == b'x' && front[3] == b'i' && front[4] == b'd' && front[5] == b'x'
+    front[MAGIC_AT] == b'o'
+        && front[MAGIC_AT + 1] == b'x'
+        && front[MAGIC_AT + 2] == b'i'
+        && front[MAGIC_AT + 3] == b'd'
+        && front[MAGIC_AT + 4] == b'x'
 }
 
 fn u16_at(bytes: &[u8], at: usize) -> u16

@@ -1,9 +1,11 @@
-//! Records in two files that survive a crash at any moment: heads, gates, and the tail behind which the next record comes.
+//! Records in two files that survive a crash at any moment: heads, gates, and the tail behind which
+//! the next record comes.
 #![tactic(auto)]
 
 mod fault;
 mod framed;
 mod head;
+mod layout;
 mod open;
 mod pick;
 mod records;

@@ -1,17 +1,20 @@
 // The opening of two files.
-ghost use Rattle.std.specs.Prelude.{◌≡◌, ◌+◌, ◌-◌, ◌≤◌, ◌<◌, ◌^◌, ℕ, List, length, take, slice_range, min, IsTrue, IfOk, IfErr, OnOk, OnErr, IsErrOf, nat_lt, Ok, None};
+ghost use Rattle.std.specs.Prelude.{◌≡◌, ◌+◌, ◌-◌, ◌≤◌, ◌<◌, ◌^◌, ℕ, List, length, take};
+ghost use Rattle.std.specs.Prelude.{slice_range, min, nat_lt};
+ghost use Rattle.std.specs.Prelude.{IsTrue, IfOk, IfErr, OnOk, OnErr, IsErrOf, Ok, None};
 ghost use Rattle.ox_outside.specs.Counts.{Rose};
-ghost use Rattle.ox_outside.specs.Crash.{OnlyLooks};
-ghost use Rattle.ox_outside.specs.Files.{file_of, other};
-ghost use Rattle.ox_gated.specs.Layout.{is_closed};
+ghost use Rattle.ox_outside.specs.Files.{Files, file_of, other};
+ghost use Rattle.ox_outside.specs.Runs.{OnlyLooks};
+ghost use Rattle.ox_gated.specs.Layout.{is_closed, body_at};
 ghost use Rattle.ox_gated.specs.Opened.{IsFault, IsUnpicked, found_of, tail_of};
-ghost use Rattle.ox_gated.specs.Pick.{picked, of_file};
-ghost use Rattle.ox_gated.specs.Reading.{judged, current, chain};
+ghost use Rattle.ox_gated.specs.Pick.{choice_of, of_file};
+ghost use Rattle.ox_gated.specs.Reading.{by_parts, current};
 ghost use Rattle.ox_gated.specs.Tail.{IsSettled};
 ghost use Rattle.ox_gated.specs.declared.fault.GateFault.TheVariants.{NotStore};
 
 use crate::fault::{Before, GateFault, ReadFault};
 use crate::head::{Head, Opening, is_shut};
+use crate::layout::{BODY_AT, VERSION_AT};
 use crate::pick::pick;
 use crate::records::{Records, Walk, walk_from};
 use crate::tail::Tail;
@@ -21,8 +24,8 @@ use std::alloc::{AllocError, Global};
 
 /// Syncs both files: then each crash image of the two is what a read gives.
 pub fn settle<S: Site>(site: &mut S) -> Result<(), Failed>
-    ensures settled { OnOk result (IsSettled S.seen S.may_leave site.new) }
-    ensures looks { OnlyLooks S.told S.seen S.log S.counts S.clock S.may_leave S.left_since site.old site.new }
+    ensures settled { OnOk result (IsSettled S.Site site.new) }
+    ensures looks { OnlyLooks S.Site site.old site.new }
     ensures failed { OnErr result (Rose (S.counts site.old).disk (S.counts site.new).disk) }
 {
     site.sync(Which::A)?;
@@ -38,10 +41,13 @@ pub fn read_part<S: Site>(
     size: u64,
 ) -> Result<Vec<u8>, ReadFault>
     requires { IsTrue (S.told site.old) → at + size ≤ length (file_of (S.seen site.old) file) }
-    ensures bytes { IsTrue (S.told site.old) → IfOk result (λ bytes. bytes.items ≡ slice_range (file_of (S.seen site.old) file) at (at + size)) }
+    ensures bytes { IsTrue (S.told site.old)
+        → IfOk result (λ bytes.
+        bytes.items ≡ slice_range (file_of (S.seen site.old) file) at (at + size)) }
     ensures size { IfOk result (λ bytes. length bytes.items ≡ size) }
-    ensures looks { OnlyLooks S.told S.seen S.log S.counts S.clock S.may_leave S.left_since site.old site.new }
-    ensures failed { IsErrOf result ReadFault.Disk → Rose (S.counts site.old).disk (S.counts site.new).disk }
+    ensures looks { OnlyLooks S.Site site.old site.new }
+    ensures failed { IsErrOf result ReadFault.Disk
+        → Rose (S.counts site.old).disk (S.counts site.new).disk }
 {
     let mut bytes = blank(alloc, size as usize)?;
     site.read(file, at, &mut bytes)?;
@@ -64,18 +70,22 @@ pub struct Front {
 
 /// Reads the front of a file.
 pub fn read_front<S: Site>(alloc: Global, site: &mut S, file: Which) -> Result<Front, ReadFault>
-    ensures len { IsTrue (S.told site.old) → IfOk result (λ front. front.len ≡ length (file_of (S.seen site.old) file)) }
-    ensures bytes { IsTrue (S.told site.old) → IfOk result (λ front. front.bytes.items ≡ take 26 (file_of (S.seen site.old) file)) }
-    ensures size { IfOk result (λ front. length front.bytes.items ≡ min 26 front.len) }
-    ensures looks { OnlyLooks S.told S.seen S.log S.counts S.clock S.may_leave S.left_since site.old site.new }
-    ensures failed { IsErrOf result ReadFault.Disk → Rose (S.counts site.old).disk (S.counts site.new).disk }
+    ensures len { IsTrue (S.told site.old)
+        → IfOk result (λ front. front.len ≡ length (file_of (S.seen site.old) file)) }
+    ensures bytes { IsTrue (S.told site.old)
+        → IfOk result (λ front. front.bytes.items ≡ take body_at (file_of (S.seen site.old) file)) }
+    ensures size { IfOk result (λ front. length front.bytes.items ≡ min body_at front.len) }
+    ensures looks { OnlyLooks S.Site site.old site.new }
+    ensures failed { IsErrOf result ReadFault.Disk
+        → Rose (S.counts site.old).disk (S.counts site.new).disk }
 {
     let len = site.len(file)?;
-    let bytes = read_part(alloc, site, file, 0, len.min(26))?;
+    let bytes = read_part(alloc, site, file, 0, len.min(BODY_AT as u64))?;
     Ok(Front { len, bytes })
 }
 
-/// The current file of two, its head and the length of its body, its length, and whether the other file is closed.
+/// The current file of two, its head and the length of its body, its length, and whether the other
+/// file is closed.
 #[derive(Clone, Copy)]
 pub struct Examined {
     pub file: Which,
@@ -85,10 +95,12 @@ pub struct Examined {
 }
 
 fn compare(a: &Front, b: &Front) -> Result<Examined, GateFault>
-    ensures found { IfOk result (λ e. picked a.now.bytes.items b.now.bytes.items ≡ Ok (e.file, e.opening)) }
+    ensures found { IfOk result (λ e.
+        choice_of a.now.bytes.items b.now.bytes.items ≡ Ok (e.file, e.opening)) }
     ensures len { IfOk result (λ e. e.len ≡ of_file e.file a.now.len b.now.len) }
-    ensures closed { IfOk result (λ e. e.other_closed ≡ is_closed (file_of (record { a = a.now.bytes.items; b = b.now.bytes.items }) (other e.file))) }
-    ensures fault { IfErr result (IsUnpicked (picked a.now.bytes.items b.now.bytes.items)) }
+    ensures closed { let fronts : Files = record { a = a.now.bytes.items; b = b.now.bytes.items } in
+        IfOk result (λ e. e.other_closed ≡ is_closed (file_of fronts (other e.file))) }
+    ensures fault { IfErr result (IsUnpicked (choice_of a.now.bytes.items b.now.bytes.items)) }
     ensures not_disk { IsErrOf result GateFault.DiskFault → ⊥ }
 {
     let (file, opening) = match pick(&a.bytes, &b.bytes) {
@@ -119,19 +131,26 @@ fn compare(a: &Front, b: &Front) -> Result<Examined, GateFault>
 
 /// Finds out which file is current.
 pub fn examine<S: Site>(alloc: Global, site: &mut S) -> Result<Examined, GateFault>
-    ensures found { IsTrue (S.told site.old) → IfOk result (λ e. picked (S.seen site.old).a (S.seen site.old).b ≡ Ok (e.file, e.opening)) }
-    ensures len { IsTrue (S.told site.old) → IfOk result (λ e. e.len ≡ length (file_of (S.seen site.old) e.file)) }
-    ensures closed { IsTrue (S.told site.old) → IfOk result (λ e. e.other_closed ≡ is_closed (file_of (S.seen site.old) (other e.file))) }
-    ensures fault { IsTrue (S.told site.old) → IfErr result (IsUnpicked (picked (S.seen site.old).a (S.seen site.old).b)) }
-    ensures looks { OnlyLooks S.told S.seen S.log S.counts S.clock S.may_leave S.left_since site.old site.new }
-    ensures failed { IsErrOf result GateFault.DiskFault → Rose (S.counts site.old).disk (S.counts site.new).disk }
+    ensures found { IsTrue (S.told site.old)
+        → IfOk result (λ e.
+        choice_of (S.seen site.old).a (S.seen site.old).b ≡ Ok (e.file, e.opening)) }
+    ensures len { IsTrue (S.told site.old)
+        → IfOk result (λ e. e.len ≡ length (file_of (S.seen site.old) e.file)) }
+    ensures closed { IsTrue (S.told site.old)
+        → IfOk result (λ e. e.other_closed ≡ is_closed (file_of (S.seen site.old) (other e.file))) }
+    ensures fault { IsTrue (S.told site.old)
+        → IfErr result (IsUnpicked (choice_of (S.seen site.old).a (S.seen site.old).b)) }
+    ensures looks { OnlyLooks S.Site site.old site.new }
+    ensures failed { IsErrOf result GateFault.DiskFault
+        → Rose (S.counts site.old).disk (S.counts site.new).disk }
 {
     let a = read_front(alloc, site, Which::A)?;
     let b = read_front(alloc, site, Which::B)?;
     compare(&a, &b)
 }
 
-/// What two files hold: the tail, and of the current file which it is, its head, its body and its records.
+/// What two files hold: the tail, and of the current file which it is, its head, its body and its
+/// records.
 #[derive(Debug, Drop)]
 pub struct Opened {
     pub tail: Tail,
@@ -148,16 +167,18 @@ fn judge(
     body: Vec<u8>,
     rest: &[u8],
 ) -> Result<Opened, GateFault>
-    requires { 26 + examined.now.opening.size + length rest.now < 2 ^ 64 }
-    ensures found { IfOk result (λ o. judged examined.now.file examined.now.opening.head body.items (chain (26 + examined.now.opening.size) rest.now).records (chain (26 + examined.now.opening.size) rest.now).end ≡ Ok (found_of o)) }
+    requires { body_at + examined.now.opening.size + length rest.now < 2 ^ 64 }
+    ensures found { let e = examined.now in
+        IfOk result (λ o. by_parts e.file e.opening body.items rest.now ≡ Ok (found_of o)) }
     ensures tail { IfOk result (λ o. o.tail ≡ tail_of o examined.now.other_closed) }
     ensures head { IfOk result (λ o. o.head ≡ examined.now.opening.head) }
-    ensures fault { IfErr result (IsFault (judged examined.now.file examined.now.opening.head body.items (chain (26 + examined.now.opening.size) rest.now).records (chain (26 + examined.now.opening.size) rest.now).end)) }
+    ensures fault { let e = examined.now in
+        IfErr result (IsFault (by_parts e.file e.opening body.items rest.now)) }
     ensures not_disk { IsErrOf result GateFault.DiskFault → ⊥ }
 {
     let head = examined.opening.head;
     let file = examined.file;
-    let Walk { records, end } = walk_from(alloc, 26 + examined.opening.size, rest)?;
+    let Walk { records, end } = walk_from(alloc, BODY_AT as u64 + examined.opening.size, rest)?;
     let body = Bytes::from_vec(body);
     match end {
         Ok(gate) => Ok(Opened {
@@ -192,32 +213,41 @@ pub fn read_current<S: Site>(
     version: u8,
     examined: &Examined,
 ) -> Result<Opened, GateFault>
-    requires { IsTrue (S.told site.old) → examined.now.len ≡ length (file_of (S.seen site.old) examined.now.file) }
-    ensures found { IsTrue (S.told site.old) → IfOk result (λ o. current version examined.now.file (file_of (S.seen site.old) examined.now.file) examined.now.opening ≡ Ok (found_of o)) }
+    requires { IsTrue (S.told site.old)
+        → examined.now.len ≡ length (file_of (S.seen site.old) examined.now.file) }
+    ensures found { let e = examined.now in
+        IsTrue (S.told site.old)
+        → IfOk result (λ o.
+        current version e.file (file_of (S.seen site.old) e.file) e.opening ≡ Ok (found_of o)) }
     ensures tail { IfOk result (λ o. o.tail ≡ tail_of o examined.now.other_closed) }
     ensures version { IfOk result (λ o. o.head.version ≡ version) }
-    ensures fault { IsTrue (S.told site.old) → IfErr result (IsFault (current version examined.now.file (file_of (S.seen site.old) examined.now.file) examined.now.opening)) }
-    ensures looks { OnlyLooks S.told S.seen S.log S.counts S.clock S.may_leave S.left_since site.old site.new }
-    ensures failed { IsErrOf result GateFault.DiskFault → Rose (S.counts site.old).disk (S.counts site.new).disk }
+    ensures fault { let e = examined.now in
+        IsTrue (S.told site.old)
+        → IfErr result
+        (IsFault (current version e.file (file_of (S.seen site.old) e.file) e.opening)) }
+    ensures looks { OnlyLooks S.Site site.old site.new }
+    ensures failed { IsErrOf result GateFault.DiskFault
+        → Rose (S.counts site.old).disk (S.counts site.new).disk }
 {
     let file = examined.file;
     let size = examined.opening.size;
     if examined.opening.head.version != version {
-        return Err(refused_at(file, 6));
+        return Err(refused_at(file, VERSION_AT as u64));
     }
     if is_cut(examined.len, size) {
-        return Err(refused_at(file, 26));
+        return Err(refused_at(file, BODY_AT as u64));
     }
-    let body = read_part(alloc, site, file, 26, size)?;
-    let rest = read_part(alloc, site, file, 26 + size, examined.len - (26 + size))?;
+    let end = BODY_AT as u64 + size;
+    let body = read_part(alloc, site, file, BODY_AT as u64, size)?;
+    let rest = read_part(alloc, site, file, end, examined.len - end)?;
     judge(alloc, examined, body, &rest)
 }
 
 // Whether a file of this length is too short for a body of this one.
 fn is_cut(len: u64, size: u64) -> bool
-    ensures { result ≡ nat_lt len (26 + size) }
+    ensures { result ≡ nat_lt len (body_at + size) }
 {
-    len < 26 || len - 26 < size
+    len < BODY_AT as u64 || len - (BODY_AT as u64) < size
 }
 
 fn refused_at(file: Which, at: u64) -> GateFault
@@ -237,17 +267,23 @@ impl Tail {
     ghost use Rattle.ox_gated.specs.Reading.{reading};
     ghost use Rattle.ox_gated.specs.Tail.{Holds};
 
-    /// Opens two files of version 1. It begins with a sync of both, and changes nothing: at no moment does a crash leave
-    /// anything that it didn't leave before. `NotStore` comes exactly where the files stand for nothing, with the file and
-    /// the place of the first test that fails; `DiskFault` only where a call on a file failed; `Memory` where there is none
-    /// for what the files hold. What is opened has version 1, whatever the site tells.
+    /// Opens two files of version 1. It begins with a sync of both, and changes nothing: at no
+    /// moment does a crash leave anything that it didn't leave before. What is opened has version
+    /// 1, whatever the site tells.
+    ///
+    /// `NotStore` comes exactly where the files stand for nothing, with the file and the place of
+    /// the first test that fails; `DiskFault` only where a call on a file failed; `Memory` where
+    /// there is none for what the files hold.
     pub fn open<S: Site>(alloc: Global, site: &mut S) -> Result<Opened, GateFault>
-        ensures found { IsTrue (S.told site.old) → IfOk result (λ o. reading 1 (S.seen site.old) ≡ Ok (found_of o)) }
-        ensures holds { IsTrue (S.told site.old) → IfOk result (λ o. Holds S.seen S.may_leave o.tail site.new) }
+        ensures found { IsTrue (S.told site.old)
+            → IfOk result (λ o. reading 1 (S.seen site.old) ≡ Ok (found_of o)) }
+        ensures holds { IsTrue (S.told site.old) → IfOk result (λ o. Holds S.Site o.tail site.new) }
         ensures head { IfOk result (λ o. (o.tail.head ≡ o.head) × (o.head.version ≡ 1)) }
-        ensures not_store { IsTrue (S.told site.old) → IfErr result (IsFault (reading 1 (S.seen site.old))) }
-        ensures failed { IsErrOf result GateFault.DiskFault → Rose (S.counts site.old).disk (S.counts site.new).disk }
-        ensures looks { OnlyLooks S.told S.seen S.log S.counts S.clock S.may_leave S.left_since site.old site.new }
+        ensures not_store { IsTrue (S.told site.old)
+            → IfErr result (IsFault (reading 1 (S.seen site.old))) }
+        ensures failed { IsErrOf result GateFault.DiskFault
+            → Rose (S.counts site.old).disk (S.counts site.new).disk }
+        ensures looks { OnlyLooks S.Site site.old site.new }
     {
         settle(site)?;
         let examined = match examine(alloc, site) {

@@ -1,14 +1,16 @@
 // Which of two files is current.
 ghost use Rattle.std.specs.Prelude.{◌≡◌};
 ghost use Rattle.ox_gated.specs.Layout.{head_of};
-ghost use Rattle.ox_gated.specs.Pick.{picked, lone, greater_of};
+ghost use Rattle.ox_gated.specs.Pick.{choice_of, lone_choice, greater_of};
 
 use crate::head::{Opening, is_shut, opening_of};
+use crate::layout::{GENERATION_AT, MAGIC_AT};
 use ox_outside::Which;
 
-/// The current one of two files with these fronts, or the file and the place of the first test that fails.
+/// The current one of two files with these fronts, or the file and the place of the first test that
+/// fails.
 pub fn pick(a: &[u8], b: &[u8]) -> Result<(Which, Opening), (Which, u64)>
-    ensures { result ≡ picked a.now b.now }
+    ensures { result ≡ choice_of a.now b.now }
 {
     match (is_shut(a), is_shut(b)) {
         (true, true) => Err((Which::A, 0)),
@@ -31,11 +33,11 @@ pub fn pick(a: &[u8], b: &[u8]) -> Result<(Which, Opening), (Which, u64)>
 }
 
 fn only(file: Which, opening: Option<Opening>) -> Result<(Which, Opening), (Which, u64)>
-    ensures { result ≡ lone file opening }
+    ensures { result ≡ lone_choice file opening }
 {
     match opening {
         Some(opening) => Ok((file, opening)),
-        None => Err((file, 1)),
+        None => Err((file, MAGIC_AT as u64)),
     }
 }
 
@@ -43,11 +45,11 @@ fn newer(a: Option<Opening>, b: Option<Opening>) -> Result<(Which, Opening), (Wh
     ensures { result ≡ greater_of a b }
 {
     match (a, b) {
-        (None, _) => Err((Which::A, 1)),
-        (Some(_), None) => Err((Which::B, 1)),
+        (None, _) => Err((Which::A, MAGIC_AT as u64)),
+        (Some(_), None) => Err((Which::B, MAGIC_AT as u64)),
         (Some(a), Some(b)) => {
             if a.head.generation == b.head.generation {
-                Err((Which::B, 10))
+                Err((Which::B, GENERATION_AT as u64))
             } else if a.head.generation < b.head.generation {
                 Ok((Which::B, b))
             } else {

@@ -1,7 +1,7 @@
 // The records of a file.
 ghost use Rattle.std.specs.Prelude.{◌≡◌, ◌+◌, ◌<◌, ◌≤◌, ◌^◌, length, MatchOption, IfOk, OnErr};
 ghost use Rattle.ox_bytes.specs.Reading.{Gives};
-ghost use Rattle.ox_gated.specs.Gate.{IsShut, IsOpen, IsBroken};
+ghost use Rattle.ox_gated.specs.Gate.{IsShut, IsOpen, IsBroken, gates_of};
 ghost use Rattle.ox_gated.specs.Reading.{payload_at, chain};
 
 use ox_bytes::{Bytes, FieldFault, Memory, run_field, u32le_field};
@@ -46,8 +46,8 @@ impl Records {
     }
 }
 
-/// Records from a place on, and the place of the closed gate behind them; or of the first gate that is missing or whose
-/// record is cut.
+/// Records from a place on, and the place of the closed gate behind them; or of the first gate that
+/// is missing or whose record is cut.
 #[derive(Debug, Drop)]
 pub struct Walk {
     pub records: Records,
@@ -57,15 +57,16 @@ pub struct Walk {
 /// Reads the gates of a file from this place on, where these bytes stand.
 pub fn walk_from(alloc: Global, place: u64, bytes: &[u8]) -> Result<Walk, Memory>
     requires { place + length bytes.now < 2 ^ 64 }
-    ensures chain { IfOk result (λ walk. record { records = walk.records; end = walk.end } ≡ chain place bytes.now) }
-    ensures count { IfOk result (λ walk. IfOk walk.end (λ gate. place + length walk.records ≤ gate)) }
+    ensures chain { IfOk result (λ walk. gates_of walk ≡ chain place bytes.now) }
+    ensures count { IfOk result (λ walk.
+        IfOk walk.end (λ gate. place + length walk.records ≤ gate)) }
 {
     walk_on(alloc, place, bytes)
 }
 
 fn walk_on(alloc: Global, place: u64, bytes: &[u8]) -> Result<Walk, Memory>
     requires { place + length bytes.now < 2 ^ 64 }
-    ensures { IfOk result (λ walk. record { records = walk.records; end = walk.end } ≡ chain place bytes.now) }
+    ensures { IfOk result (λ walk. gates_of walk ≡ chain place bytes.now) }
 {
     let mut records = Vec::new(alloc);
     let mut place = place;
@@ -93,9 +94,11 @@ fn walk_on(alloc: Global, place: u64, bytes: &[u8]) -> Result<Walk, Memory>
 // A gate that is missing, or whose record is cut.
 struct Broken;
 
-// What the first of these bytes is as a gate: none behind a closed one, else its record's payload and what follows.
+// What the first of these bytes is as a gate: none behind a closed one, else its record's payload
+// and what follows.
 fn gate_at(bytes: &[u8]) -> Result<Option<(&[u8], &[u8])>, Broken>
-    ensures there { IfOk result (λ gate. MatchOption gate (IsShut bytes.now) (λ g. IsOpen bytes.now g.0.now g.1.now)) }
+    ensures there { IfOk result (λ gate.
+        MatchOption gate (IsShut bytes.now) (λ g. IsOpen bytes.now g.0.now g.1.now)) }
     ensures broken { OnErr result (IsBroken bytes.now) }
 {
     match bytes.split_first() {

@@ -1,7 +1,7 @@
 // The tail of two files: where the next record comes.
 ghost use Rattle.std.specs.Prelude.{◌≡◌, ◌↔◌, ◌+◌, ◌<◌, ◌^◌, [], Some, IsTrue, IfOk, OnErr};
 ghost use Rattle.ox_outside.specs.Counts.{Rose};
-ghost use Rattle.ox_outside.specs.Crash.{Calls, LeavesOnly};
+ghost use Rattle.ox_outside.specs.Runs.{Calls, LeavesOnly};
 
 use crate::framed::{Checkpoint, Framed};
 use crate::head::Head;
@@ -35,20 +35,32 @@ impl Model for Tail {
 
     ghost Value = { Kept };
 
-    ghost view = { λ t. record { file = t.file; head = t.head; records = t.records; gate = t.gate; other_closed = t.other_closed } };
+    ghost view = { λ t. record {
+      file = t.file;
+      head = t.head;
+      records = t.records;
+      gate = t.gate;
+      other_closed = t.other_closed;
+    } };
 
     ghost invariant = { λ t. t.records ≤ t.gate };
 }
 
 impl Tail {
     ghost use Rattle.std.specs.Prelude.{length, ◌≤◌};
-    ghost use Rattle.ox_gated.specs.Reading.{reading, appended};
-    ghost use Rattle.ox_gated.specs.Tail.{Holds, IsBeforeOrAfter, Fits, made, just_made};
+    ghost use Rattle.ox_gated.specs.Reading.{reading, with_payload};
+    ghost use Rattle.ox_gated.specs.Tail.{Holds, IsBeforeOrAfter, Fits, new_files, new_found};
 
     /// The tail of files that were read.
     pub(crate) fn at(file: Which, head: Head, records: u64, gate: u64, other_closed: bool) -> Tail
         requires { records ≤ gate }
-        ensures { result ≡ record { file = file; head = head; records = records; gate = gate; other_closed = other_closed } }
+        ensures { result ≡ record {
+          file = file;
+          head = head;
+          records = records;
+          gate = gate;
+          other_closed = other_closed;
+        } }
     {
         Tail {
             file,
@@ -80,7 +92,8 @@ impl Tail {
         self.records
     }
 
-    /// Whether a payload of so many bytes can be appended: each place of the file then still fits 64 bits.
+    /// Whether a payload of so many bytes can be appended: each place of the file then still fits
+    /// 64 bits.
     pub fn fits(&self, size: u64) -> bool
         ensures { IsTrue result ↔ Fits self.now size }
     {
@@ -90,20 +103,30 @@ impl Tail {
         }
     }
 
-    /// Appends a record. At `Ok` it is on the disk: each crash then leaves files that have it. At any moment of the call
-    /// a crash leaves files that stand for what they stood for before, with the record behind it or without. No event of a
-    /// channel is logged. `DiskFault` comes only where a call on a file failed.
+    /// Appends a record. At `Ok` it is on the disk: each crash then leaves files that have it. At
+    /// any moment of the call a crash leaves files that stand for what they stood for before, with
+    /// the record behind it or without. No event of a channel is logged. `DiskFault` comes only
+    /// where a call on a file failed.
     pub fn append<S: Site>(self, site: &mut S, framed: &Framed) -> Result<Tail, DiskFault>
         requires fits { Fits self (length framed.now) }
-        requires holds { IsTrue (S.told site.old) → Holds S.seen S.may_leave self site.old }
-        ensures holds { IsTrue (S.told site.old) → IfOk result (λ tail. Holds S.seen S.may_leave tail site.new) }
-        ensures appended { IsTrue (S.told site.old) → IfOk result (λ tail. reading self.head.version (S.seen site.new) ≡ appended framed.now (reading self.head.version (S.seen site.old))) }
-        ensures kept { IfOk result (λ tail. (tail.file ≡ self.file) × (tail.head ≡ self.head) × (tail.records ≡ self.records + 1)) }
-        ensures any_moment { IsTrue (S.told site.old) → LeavesOnly S.clock S.left_since site.old site.new (λ r. IsBeforeOrAfter self.head.version framed.now (S.seen site.old) r.files) }
+        requires holds { IsTrue (S.told site.old) → Holds S.Site self site.old }
+        ensures holds { IsTrue (S.told site.old)
+            → IfOk result (λ tail. Holds S.Site tail site.new) }
+        ensures appended { let v = self.head.version in
+            IsTrue (S.told site.old)
+            → IfOk result (λ tail.
+            reading v (S.seen site.new) ≡ with_payload framed.now (reading v (S.seen site.old))) }
+        ensures kept { IfOk result (λ tail.
+            (tail.file ≡ self.file) × (tail.head ≡ self.head)
+            × (tail.records ≡ self.records + 1)) }
+        ensures any_moment { let v = self.head.version in
+            IsTrue (S.told site.old)
+            → LeavesOnly S.Site site.old site.new
+            (λ r. IsBeforeOrAfter v framed.now (S.seen site.old) r.files) }
         ensures failed { OnErr result (Rose (S.counts site.old).disk (S.counts site.new).disk) }
         ensures logged { S.log site.new ≡ S.log site.old }
-        ensures log_stays { LeavesOnly S.clock S.left_since site.old site.new (λ r. S.log site.old ≡ Some r.log) }
-        ensures calls { Calls S.told S.counts S.clock S.left_since site.old site.new }
+        ensures log_stays { LeavesOnly S.Site site.old site.new (λ r. S.log site.old ≡ Some r.log) }
+        ensures calls { Calls S.Site site.old site.new }
     {
         let bytes = framed.as_slice();
         write_synced(site, self.file, self.gate + 1, bytes)?;
@@ -115,18 +138,24 @@ impl Tail {
         })
     }
 
-    /// Makes two empty files a pair of this head and body, without records: B is closed, and A is current. At `Ok` it is on
-    /// the disk: each crash then leaves that pair. `DiskFault` comes only where a call on a file failed.
+    /// Makes two empty files a pair of this head and body, without records: B is closed, and A is
+    /// current. At `Ok` it is on the disk: each crash then leaves that pair. `DiskFault` comes only
+    /// where a call on a file failed.
     pub fn make<S: Site>(site: &mut S, checkpoint: &Checkpoint) -> Result<Tail, DiskFault>
         requires empty { IsTrue (S.told site.old) → S.seen site.old ≡ record { a = []; b = [] } }
-        ensures made { IsTrue (S.told site.old) → IfOk result (λ tail. S.seen site.new ≡ made checkpoint.now) }
-        ensures holds { IsTrue (S.told site.old) → IfOk result (λ tail. Holds S.seen S.may_leave tail site.new) }
-        ensures stands { IsTrue (S.told site.old) → IfOk result (λ tail. reading checkpoint.now.head.version (S.seen site.new) ≡ Ok (just_made checkpoint.now)) }
-        ensures kept { IfOk result (λ tail. (tail.file ≡ Which.A) × (tail.head ≡ checkpoint.now.head) × (tail.records ≡ 0)) }
+        ensures made { IsTrue (S.told site.old)
+            → IfOk result (λ tail. S.seen site.new ≡ new_files checkpoint.now) }
+        ensures holds { IsTrue (S.told site.old)
+            → IfOk result (λ tail. Holds S.Site tail site.new) }
+        ensures stands { let v = checkpoint.now.head.version in
+            IsTrue (S.told site.old)
+            → IfOk result (λ tail. reading v (S.seen site.new) ≡ Ok (new_found checkpoint.now)) }
+        ensures kept { IfOk result (λ tail.
+            (tail.file ≡ Which.A) × (tail.head ≡ checkpoint.now.head) × (tail.records ≡ 0)) }
         ensures failed { OnErr result (Rose (S.counts site.old).disk (S.counts site.new).disk) }
         ensures logged { S.log site.new ≡ S.log site.old }
-        ensures log_stays { LeavesOnly S.clock S.left_since site.old site.new (λ r. S.log site.old ≡ Some r.log) }
-        ensures calls { Calls S.told S.counts S.clock S.left_since site.old site.new }
+        ensures log_stays { LeavesOnly S.Site site.old site.new (λ r. S.log site.old ≡ Some r.log) }
+        ensures calls { Calls S.Site site.old site.new }
     {
         let bytes = checkpoint.as_slice();
         write_synced(site, Which::B, 0, &[0])?;

@@ -1,4 +1,5 @@
-// What no clause says: that the calls succeed where there is ample memory, and the bytes of an empty store.
+// What no clause says: that the calls succeed where there is ample memory, and the bytes of an
+// empty store.
 use crate::{Checkpoint, GateFault, Head, Opened, Tail, checkpoint_of, frame, frame_parts};
 use ox_memsite::{Choice, MemSite};
 use ox_outside::Which;

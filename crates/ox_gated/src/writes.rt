@@ -1,8 +1,9 @@
 // A write that is on the disk before anything else is done.
 ghost use Rattle.std.specs.Prelude.{◌≡◌, ◌≤◌, IsTrue, OnOk, OnErr, Some, length};
 ghost use Rattle.ox_outside.specs.Counts.{Rose};
-ghost use Rattle.ox_outside.specs.Crash.{Remains, Only, Calls, LeavesOnly};
-ghost use Rattle.ox_outside.specs.Files.{file_of, with_file, written, other, TornFile};
+ghost use Rattle.ox_outside.specs.Crash.{Remains, Only};
+ghost use Rattle.ox_outside.specs.Runs.{Calls, LeavesOnly};
+ghost use Rattle.ox_outside.specs.Files.{file_of, with_file, with_bytes, other, TornFile};
 ghost use Rattle.ox_gated.specs.Tail.{IsSettled};
 
 use ox_outside::{Failed, Site, Which};
@@ -10,14 +11,23 @@ use ox_outside::{Failed, Site, Which};
 /// Writes bytes into a file and syncs it.
 pub fn write_synced<S: Site>(site: &mut S, file: Which, at: u64, bytes: &[u8]) -> Result<(), Failed>
     requires { IsTrue (S.told site.old) → at ≤ length (file_of (S.seen site.old) file) }
-    ensures written { IsTrue (S.told site.old) → OnOk result (S.seen site.new ≡ with_file (S.seen site.old) file (written at bytes.now (file_of (S.seen site.old) file))) }
-    ensures durable { OnOk result (Only file (file_of (S.seen site.new) file) (S.may_leave site.new)) }
-    ensures others { (r : Remains) → S.may_leave site.new r → (q : Remains) × S.may_leave site.old q × (file_of r.files (other file) ≡ file_of q.files (other file)) }
-    ensures moments { IsSettled S.seen S.may_leave site.old → LeavesOnly S.clock S.left_since site.old site.new (λ r. TornFile file at (length bytes.now) (S.seen site.old) r.files) }
+    ensures written { IsTrue (S.told site.old)
+        → OnOk result (
+        S.seen site.new
+        ≡ with_file (S.seen site.old) file
+        (with_bytes at bytes.now (file_of (S.seen site.old) file))) }
+    ensures durable { OnOk result
+        (Only file (file_of (S.seen site.new) file) (S.may_leave site.new)) }
+    ensures others { (r : Remains) → S.may_leave site.new r
+        → (q : Remains) × S.may_leave site.old q
+        × (file_of r.files (other file) ≡ file_of q.files (other file)) }
+    ensures moments { IsSettled S.Site site.old
+        → LeavesOnly S.Site site.old site.new
+        (λ r. TornFile file at (length bytes.now) (S.seen site.old) r.files) }
     ensures logged { S.log site.new ≡ S.log site.old }
-    ensures log_stays { LeavesOnly S.clock S.left_since site.old site.new (λ r. S.log site.old ≡ Some r.log) }
+    ensures log_stays { LeavesOnly S.Site site.old site.new (λ r. S.log site.old ≡ Some r.log) }
     ensures failed { OnErr result (Rose (S.counts site.old).disk (S.counts site.new).disk) }
-    ensures calls { Calls S.told S.counts S.clock S.left_since site.old site.new }
+    ensures calls { Calls S.Site site.old site.new }
 {
     site.write(file, at, bytes)?;
     site.sync(file)

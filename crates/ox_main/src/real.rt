@@ -1,11 +1,11 @@
-//! The real site: the files of a folder, and the program's standard input and output as channel 0. It tells nothing of
-//! what it reads, hears and shows, and is trusted for it.
+//! The real site: the files of a folder, and the program's standard input and output as channel 0. Nobody waits at its
+//! doors. It tells nothing of what it reads, hears and shows, and is trusted for it.
 
 ghost use Rattle.std.specs.Prelude.{◌≡◌, ◌≤◌, length, IfOk, IfSome, IsUtf8, OnOk};
 ghost use Rattle.ox_outside.specs.Counts.{Rose};
 
 use crate::files::FilePair;
-use ox_outside::{Failed, Heard, Shown, Site, Which};
+use ox_outside::{Doorway, Failed, Heard, Shown, Site, Which};
 use std::alloc::Global;
 use std::fs::File;
 use std::io;
@@ -21,6 +21,8 @@ pub struct RealSite {
     disk_faults: u64,
     hear_faults: u64,
     show_faults: u64,
+    public_idles: u64,
+    operator_idles: u64,
 }
 
 impl RealSite {
@@ -45,6 +47,8 @@ impl RealSite {
             disk_faults: 0,
             hear_faults: 0,
             show_faults: 0,
+            public_idles: 0,
+            operator_idles: 0,
         })
     }
 
@@ -54,6 +58,8 @@ impl RealSite {
         ensures no_less { self.old.disk_faults ≤ self.new.disk_faults }
         ensures hear { self.new.hear_faults ≡ self.old.hear_faults }
         ensures show { self.new.show_faults ≡ self.old.show_faults }
+        ensures public { self.new.public_idles ≡ self.old.public_idles }
+        ensures operator { self.new.operator_idles ≡ self.old.operator_idles }
     {
         self.disk_faults = self.disk_faults.saturating_add(1);
         Failed
@@ -92,6 +98,7 @@ fn shown<W: Write>(output: &mut W, bytes: &[u8]) -> Option<usize>
 impl Site for RealSite {
     ghost use Rattle.std.specs.Prelude.{[], false, None};
     ghost use Rattle.ox_outside.specs.Counts.{greatest};
+    ghost use Rattle.ox_main.specs.Idles.{idles_of};
 
     ghost told = { λ _. false };
 
@@ -105,7 +112,7 @@ impl Site for RealSite {
 
     ghost left_since = { λ _ _ _. ⊥ };
 
-    ghost counts = { λ s. record { disk = s.disk_faults; door = 0; hear = λ _. s.hear_faults; show = λ _. s.show_faults; not_yets = λ _. 0; door_idles = λ _. 0 } };
+    ghost counts = { λ s. record { disk = s.disk_faults; door = 0; hear = λ _. s.hear_faults; show = λ _. s.show_faults; not_yets = λ _. 0; door_idles = idles_of s.public_idles s.operator_idles } };
 
     fn len(&mut self, file: Which) -> Result<u64, Failed> {
         match self.files.len(file) {
@@ -156,6 +163,18 @@ impl Site for RealSite {
         self.show_faults = self.show_faults.saturating_add(1);
         Err(Failed)
     }
+
+    fn door(&mut self, door: Doorway) -> Result<Option<u32>, Failed> {
+        match door {
+            Doorway::Public => self.public_idles = self.public_idles.saturating_add(1),
+            Doorway::Operator => self.operator_idles = self.operator_idles.saturating_add(1),
+        }
+        Ok(None)
+    }
+
+    fn give_up(&mut self, _channel: u32) {}
+
+    fn shut(&mut self, _channel: u32) {}
 
     ghost counts_now = { λ site t r le may. may };
 

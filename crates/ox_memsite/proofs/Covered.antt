@@ -1,9 +1,9 @@
 -- What is covered, as three parts.
 use Rattle.std.proofs.Common.{◌≡◌, ◌∙◌, ℕ, zero, suc, ◌+◌, ◌-◌, min, Bool, false, List, [], ◌∷◌, ◌++◌, length, take, drop, refl, sym, ap, arith}
 use Rattle.std.specs.Prelude.{replicate}
-use Rattle.ox_outside.specs.Disk.{covered}
+use Rattle.ox_outside.specs.Disk.{solid_outside}
 
-pub covered_parts : (at n : ℕ) (solid : List Bool) (start over : ℕ) → start ≡ min at (length solid) → over ≡ min n (length solid - start) → covered at n solid ≡ take start solid ++ replicate over false ++ drop (start + over) solid
+pub covered_parts : (at n : ℕ) (solid : List Bool) (start over : ℕ) → start ≡ min at (length solid) → over ≡ min n (length solid - start) → solid_outside at n solid ≡ take start solid ++ replicate over false ++ drop (start + over) solid
 covered_parts zero zero solid zero zero is ends = refl
 covered_parts zero n solid (suc start) over is ends = absurd (omega arith)
 covered_parts zero zero solid zero (suc over) is ends = absurd (omega arith)

@@ -3,9 +3,9 @@ use Rattle.std.proofs.Common.{◌≡◌, ◌∙◌, ◌≤◌, ⊎_elim, ℕ, tr
 use Rattle.std.specs.Prelude.{Result, Ok, Err, OnOk, OnErr}
 use Rattle.std.proofs.lemmas.List.{append-nil}
 use Rattle.ox_outside.specs.Crash.{Remains, OneCall, AddsNothing, Only, Tears, Follows}
-use Rattle.ox_outside.specs.Disk.{Disk, IsImage, synced}
+use Rattle.ox_outside.specs.Disk.{Disk, IsImage, synced_disk}
 use Rattle.ox_outside.specs.Event.{Event}
-use Rattle.ox_outside.specs.Files.{Files, file_of, with_file, written, Torn, TornFile}
+use Rattle.ox_outside.specs.Files.{Files, file_of, with_file, with_bytes, Torn, TornFile}
 use Rattle.ox_outside.specs.declared.site.Failed.{Failed}
 use Rattle.ox_outside.specs.declared.site.Which.{Which}
 use Rattle.ox_outside.specs.declared.site.Which.TheVariants.{A, B}
@@ -19,7 +19,7 @@ use Rattle.ox_memsite.proofs.Moves.{one_call, failed_disk, starved_disk, did_one
 
 -- the other file and the log, after a step on one file
 disk_push : (first : Files) (done : List Step) (step : Step) (which : Which) → disk_of first (done ++ step ∷ []) which ≡ disk_step which (disk_of first done which) step
-disk_push first done step which = disk_after-append which (synced (file_of first which)) done (step ∷ [])
+disk_push first done step which = disk_after-append which (synced_disk (file_of first which)) done (step ∷ [])
 
 -- an image of one file
 abbrev pub Image : World → Which → List ℕ → Type 0
@@ -110,7 +110,7 @@ sync_call file (Err e) old new ends = ⊎_elim
 abbrev pub Writes : {T : Type 0} → Which → ℕ → List ℕ → Result T Failed → World → World → Type 0
 Writes file at bytes result old new = Ends (λ _ before after. after ≡ did (steps.Wrote file at bytes) before) (λ w. disk_fails (did (steps.Tore file at (length bytes)) w)) disk_fails result old new
 
-wrote_seen : (w : World) (file : Which) (at : ℕ) (bytes : List ℕ) → seen_of (did (steps.Wrote file at bytes) (called w)) ≡ with_file (seen_of w) file (written at bytes (file_of (seen_of w) file))
+wrote_seen : (w : World) (file : Which) (at : ℕ) (bytes : List ℕ) → seen_of (did (steps.Wrote file at bytes) (called w)) ≡ with_file (seen_of w) file (with_bytes at bytes (file_of (seen_of w) file))
 wrote_seen w A at bytes =
     let a = ap (λ (d : Disk). d.seen) (disk_push w.first w.steps (steps.Wrote A at bytes) A) in
     let b = ap (λ (d : Disk). d.seen) (disk_push w.first w.steps (steps.Wrote A at bytes) B) in
@@ -134,7 +134,7 @@ wrote_left : (w : World) (file : Which) (at : ℕ) (bytes : List ℕ) (r : Remai
     → (q : Remains) × MayLeave w q × Tears file at (length bytes) q r
 wrote_left w A at bytes r begins left =
     let disk = disk_of w.first w.steps A in
-    let from = torn_from at (length bytes) disk (written at bytes disk.seen) (disk_is w A) begins (written_same_outside at bytes disk.seen) r.files.a (subst (λ (d : Disk). IsImage d r.files.a) (disk_push w.first w.steps (steps.Wrote A at bytes) A) left.a) in (
+    let from = torn_from at (length bytes) disk (with_bytes at bytes disk.seen) (disk_is w A) begins (written_same_outside at bytes disk.seen) r.files.a (subst (λ (d : Disk). IsImage d r.files.a) (disk_push w.first w.steps (steps.Wrote A at bytes) A) left.a) in (
       record { files = record { a = from.0; b = r.files.b }; log = r.log },
       record {
         a = from.1;
@@ -145,7 +145,7 @@ wrote_left w A at bytes r begins left =
     )
 wrote_left w B at bytes r begins left =
     let disk = disk_of w.first w.steps B in
-    let from = torn_from at (length bytes) disk (written at bytes disk.seen) (disk_is w B) begins (written_same_outside at bytes disk.seen) r.files.b (subst (λ (d : Disk). IsImage d r.files.b) (disk_push w.first w.steps (steps.Wrote B at bytes) B) left.b) in (
+    let from = torn_from at (length bytes) disk (with_bytes at bytes disk.seen) (disk_is w B) begins (written_same_outside at bytes disk.seen) r.files.b (subst (λ (d : Disk). IsImage d r.files.b) (disk_push w.first w.steps (steps.Wrote B at bytes) B) left.b) in (
       record { files = record { a = r.files.a; b = from.0 }; log = r.log },
       record {
         a = subst (λ (d : Disk). IsImage d r.files.a) (disk_push w.first w.steps (steps.Wrote B at bytes) A) left.a;
@@ -181,7 +181,7 @@ tore_left w B at n r begins left =
     )
 
 module _ {T : Type 0} (file : Which) (at : ℕ) (bytes : List ℕ) where
-  pub write_written : (result : Result T Failed) (old new : World) → Writes file at bytes result old new → OnOk result (seen_of new ≡ with_file (seen_of old) file (written at bytes (file_of (seen_of old) file)))
+  pub write_written : (result : Result T Failed) (old new : World) → Writes file at bytes result old new → OnOk result (seen_of new ≡ with_file (seen_of old) file (with_bytes at bytes (file_of (seen_of old) file)))
   write_written (Ok x) old new ends = ap seen_of (ends.1) ∙ wrote_seen old file at bytes
   write_written (Err e) old new ends = tt
 

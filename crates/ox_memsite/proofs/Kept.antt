@@ -1,9 +1,9 @@
 -- One more step keeps the fields of a site in order.
 use Rattle.std.proofs.Common.{◌≡◌, ◌∙◌, ◌≤◌, ℕ, Bool, true, false, List, [], ◌∷◌, ◌++◌, ◌||◌, if◌then◌else◌, refl, sym, ap, subst, append_assoc}
 use Rattle.std.proofs.lemmas.List.{append-nil}
-use Rattle.ox_outside.specs.Disk.{Disk, synced}
+use Rattle.ox_outside.specs.Disk.{Disk, synced_disk}
 use Rattle.ox_outside.specs.Event.{Event, has_broken}
-use Rattle.ox_outside.specs.Files.{Files, file_of, written}
+use Rattle.ox_outside.specs.Files.{Files, file_of, with_bytes}
 use Rattle.ox_outside.specs.declared.site.Which.{Which}
 use Rattle.ox_outside.specs.declared.site.Which.TheVariants.{A, B}
 use Rattle.ox_outside.proofs.Event.{has_broken-append}
@@ -31,7 +31,7 @@ or_true : (a b : Bool) → b ≡ true → (a || b) ≡ true
 or_true true b is = refl
 or_true false b is = is
 
-pub seen_write : (which file : Which) (disk : Disk) (at : ℕ) (bytes : List ℕ) → (disk_step which disk (steps.Wrote file at bytes)).seen ≡ (if same which file then written at bytes disk.seen else disk.seen)
+pub seen_write : (which file : Which) (disk : Disk) (at : ℕ) (bytes : List ℕ) → (disk_step which disk (steps.Wrote file at bytes)).seen ≡ (if same which file then with_bytes at bytes disk.seen else disk.seen)
 seen_write A A disk at bytes = refl
 seen_write A B disk at bytes = refl
 seen_write B A disk at bytes = refl
@@ -60,8 +60,8 @@ module _ (first : Files) (a b : List ℕ) (past done : List Step) (broken : Bool
   kept_step step done' a' b' spare' heard' size' is is_a is_b whole room within =
       subst (λ (l : List Step). IsKept first a' b' past l broken spare' heard' size') (sym is) (
       record {
-        file_a = is_a ∙ sym (ap (λ (d : Disk). d.seen) (disk_after-append A (synced (file_of first A)) done (step ∷ [])));
-        file_b = is_b ∙ sym (ap (λ (d : Disk). d.seen) (disk_after-append B (synced (file_of first B)) done (step ∷ [])));
+        file_a = is_a ∙ sym (ap (λ (d : Disk). d.seen) (disk_after-append A (synced_disk (file_of first A)) done (step ∷ [])));
+        file_b = is_b ∙ sym (ap (λ (d : Disk). d.seen) (disk_after-append B (synced_disk (file_of first B)) done (step ∷ [])));
         flag = kept.flag ∙ sym (ap (has_broken 0) (log_with step) ∙ has_broken-append 0 (events_of past ++ events_of done) (event_of step) ∙ or_false (has_broken 0 (events_of past ++ events_of done)) (has_broken 0 (event_of step)) whole);
         room = λ _. room;
         within = within;
@@ -73,8 +73,8 @@ module _ (first : Files) (a b : List ℕ) (past done : List Step) (broken : Bool
   kept_break done' spare' is =
       subst (λ (l : List Step). IsKept first a b past l true spare' heard size) (sym is) (
       record {
-        file_a = kept.file_a ∙ sym (ap (λ (d : Disk). d.seen) (disk_after-append A (synced (file_of first A)) done (steps.Broke 0 ∷ [])));
-        file_b = kept.file_b ∙ sym (ap (λ (d : Disk). d.seen) (disk_after-append B (synced (file_of first B)) done (steps.Broke 0 ∷ [])));
+        file_a = kept.file_a ∙ sym (ap (λ (d : Disk). d.seen) (disk_after-append A (synced_disk (file_of first A)) done (steps.Broke 0 ∷ [])));
+        file_b = kept.file_b ∙ sym (ap (λ (d : Disk). d.seen) (disk_after-append B (synced_disk (file_of first B)) done (steps.Broke 0 ∷ [])));
         flag = sym (ap (has_broken 0) (log_with (steps.Broke 0)) ∙ has_broken-append 0 (events_of past ++ events_of done) (event_of (steps.Broke 0)) ∙ or_true (has_broken 0 (events_of past ++ events_of done)) true refl);
         room = λ is_false. absurd (cc is_false);
         within = kept.within;
@@ -82,10 +82,10 @@ module _ (first : Files) (a b : List ℕ) (past done : List Step) (broken : Bool
       )
 
   pub kept_write : (file : Which) (at : ℕ) (bytes : List ℕ) (done' : List Step) (a' b' : List ℕ) (spare' : ℕ) → done' ≡ done ++ steps.Wrote file at bytes ∷ []
-      → a' ≡ (if same A file then written at bytes a else a) → b' ≡ (if same B file then written at bytes b else b) → 1 ≤ spare' → IsKept first a' b' past done' broken spare' heard size
+      → a' ≡ (if same A file then with_bytes at bytes a else a) → b' ≡ (if same B file then with_bytes at bytes b else b) → 1 ≤ spare' → IsKept first a' b' past done' broken spare' heard size
   kept_write file at bytes done' a' b' spare' is is_a is_b room = kept_step (steps.Wrote file at bytes) done' a' b' spare' heard size is
-      (is_a ∙ ap (λ (l : List ℕ). if same A file then written at bytes l else l) kept.file_a ∙ sym (seen_write A file (disk_of first done A) at bytes))
-      (is_b ∙ ap (λ (l : List ℕ). if same B file then written at bytes l else l) kept.file_b ∙ sym (seen_write B file (disk_of first done B) at bytes))
+      (is_a ∙ ap (λ (l : List ℕ). if same A file then with_bytes at bytes l else l) kept.file_a ∙ sym (seen_write A file (disk_of first done A) at bytes))
+      (is_b ∙ ap (λ (l : List ℕ). if same B file then with_bytes at bytes l else l) kept.file_b ∙ sym (seen_write B file (disk_of first done B) at bytes))
       refl room kept.within
 
   pub kept_torn : (file : Which) (at n : ℕ) (done' : List Step) (spare' : ℕ) → done' ≡ done ++ steps.Tore file at n ∷ [] → 1 ≤ spare' → IsKept first a b past done' broken spare' heard size

@@ -6,7 +6,7 @@ use Rattle.std.proofs.lemmas.Bool.Decides.{nat_tests}
 use Rattle.std.proofs.lemmas.List.{append-nil, length-take, take_all, take_at, take-append-le}
 use Rattle.ox_outside.specs.Counts.{NoneFell, Rose, greatest}
 use Rattle.ox_outside.specs.Crash.{Remains, OneCall, LeavesFiles}
-use Rattle.ox_outside.specs.Disk.{Disk, IsImage, synced}
+use Rattle.ox_outside.specs.Disk.{Disk, IsImage, synced_disk}
 use Rattle.ox_outside.specs.Event.{Event, Heard, Ended, Showed, Broke, has_broken, fault_events, hear_events, show_events}
 use Rattle.ox_outside.specs.Files.{Files, file_of}
 use Rattle.ox_outside.specs.declared.site.Failed.{Failed}
@@ -17,7 +17,7 @@ use Rattle.ox_outside.specs.declared.site.Shown.TheVariants.{Took, NotYet as Too
 use Rattle.ox_outside.specs.declared.site.Which.{Which}
 use Rattle.ox_outside.specs.declared.site.Which.TheVariants.{A, B}
 use Rattle.ox_memsite.specs.Heard.{Hears}
-use Rattle.ox_memsite.specs.World.{World, disk_after, disk_of, events_of, seen_of, log_of, Left, MayLeave, LeftSince, counts_of, counted, called, did, starves, disk_fails, hear_fails, show_fails, Ends}
+use Rattle.ox_memsite.specs.World.{World, disk_after, disk_of, events_of, seen_of, log_of, Left, MayLeave, LeftSince, counts_of, counted, called, did, starves, disk_fails, idles, hear_fails, show_fails, Ends}
 use Rattle.ox_memsite.specs.declared.step.Step.{Step}
 use Rattle.ox_memsite.specs.declared.step.Step.TheVariants as steps
 use Rattle.ox_memsite.proofs.Kept.{disk_after-append, events_of-append}
@@ -43,6 +43,7 @@ pub record Moves (old new : World) (more : List Step) : Type 0 where
   pub disk : old.disk_faults ≤ new.disk_faults
   pub hear : old.hear_faults ≤ new.hear_faults
   pub show : old.show_faults ≤ new.show_faults
+  pub idles : old.door_idles ≤ new.door_idles
 
 module _ (old new : World) (more : List Step) (moves : Moves old new more) where
   none_fell : NoneFell (counts_of old) (counts_of new)
@@ -52,7 +53,7 @@ module _ (old new : World) (more : List Step) (moves : Moves old new more) where
     hear = λ channel. pick_le (channel == 0) _ _ moves.hear;
     show = λ channel. pick_le (channel == 0) _ _ moves.show;
     not_yets = λ channel. omega arith;
-    door_idles = λ door. omega arith;
+    door_idles = λ door. moves.idles;
   }
 
   longer : length new.steps ≡ length old.steps + length more
@@ -84,21 +85,21 @@ module _ (old new : World) (more : List Step) (moves : Moves old new more) where
   }
 
 -- what a site is like after each kind of change
-stays : (old new : World) → new.first ≡ old.first → new.past ≡ old.past → new.steps ≡ old.steps → old.disk_faults ≤ new.disk_faults → old.hear_faults ≤ new.hear_faults → old.show_faults ≤ new.show_faults → Moves old new []
-stays old new first past steps disk hear show = record { first = first; past = past; steps = steps ∙ sym (append-nil old.steps); disk = disk; hear = hear; show = show }
+stays : (old new : World) → new.first ≡ old.first → new.past ≡ old.past → new.steps ≡ old.steps → old.disk_faults ≤ new.disk_faults → old.hear_faults ≤ new.hear_faults → old.show_faults ≤ new.show_faults → old.door_idles ≤ new.door_idles → Moves old new []
+stays old new first past steps disk hear show idles = record { first = first; past = past; steps = steps ∙ sym (append-nil old.steps); disk = disk; hear = hear; show = show; idles = idles }
 
 module _ (old : World) where
   pub failed_disk : Moves old (disk_fails (called old)) []
-  failed_disk = stays old _ refl refl refl (counted_more old.disk_faults) (omega arith) (omega arith)
+  failed_disk = stays old _ refl refl refl (counted_more old.disk_faults) (omega arith) (omega arith) (omega arith)
 
   pub starved_disk : Moves old (disk_fails (starves (called old))) []
-  starved_disk = stays old _ refl refl refl (counted_more old.disk_faults) (omega arith) (omega arith)
+  starved_disk = stays old _ refl refl refl (counted_more old.disk_faults) (omega arith) (omega arith) (omega arith)
 
   pub did_one : (step : Step) → Moves old (did step (called old)) (step ∷ [])
-  did_one step = record { first = refl; past = refl; steps = refl; disk = omega arith; hear = omega arith; show = omega arith }
+  did_one step = record { first = refl; past = refl; steps = refl; disk = omega arith; hear = omega arith; show = omega arith; idles = omega arith }
 
   pub failed_did : (step : Step) → Moves old (disk_fails (did step (called old))) (step ∷ [])
-  failed_did step = record { first = refl; past = refl; steps = refl; disk = counted_more old.disk_faults; hear = omega arith; show = omega arith }
+  failed_did step = record { first = refl; past = refl; steps = refl; disk = counted_more old.disk_faults; hear = omega arith; show = omega arith; idles = omega arith }
 
 -- ---- events alone
 
@@ -118,7 +119,7 @@ disk_more : (old new : World) (more : List Step) (which : Which) → Moves old n
 disk_more old new more which moves =
     ap (λ (f : Files). disk_of f new.steps which) moves.first
     ∙ ap (λ (l : List Step). disk_of old.first l which) moves.steps
-    ∙ disk_after-append which (synced (file_of old.first which)) old.steps more
+    ∙ disk_after-append which (synced_disk (file_of old.first which)) old.steps more
 
 log_more : (old new : World) (more : List Step) → Moves old new more → log_of new ≡ log_of old ++ events_of more
 log_more old new more moves =
@@ -172,6 +173,7 @@ broken old w false moves = record {
     disk = moves.disk;
     hear = moves.hear;
     show = moves.show;
+    idles = moves.idles;
   };
   short = omega arith;
   quiet = λ which disk. refl;
@@ -179,16 +181,16 @@ broken old w false moves = record {
 }
 
 pub hear_failed : (old : World) → Noted old (hear_fails (called old)) (fault_events 0 (log_of old))
-hear_failed old = broken old _ (has_broken 0 (log_of old)) (stays old _ refl refl refl (omega arith) (counted_more old.hear_faults) (omega arith))
+hear_failed old = broken old _ (has_broken 0 (log_of old)) (stays old _ refl refl refl (omega arith) (counted_more old.hear_faults) (omega arith) (omega arith))
 
 pub hear_starved : (old : World) → Noted old (hear_fails (starves (called old))) (fault_events 0 (log_of old))
-hear_starved old = broken old _ (has_broken 0 (log_of old)) (stays old _ refl refl refl (omega arith) (counted_more old.hear_faults) (omega arith))
+hear_starved old = broken old _ (has_broken 0 (log_of old)) (stays old _ refl refl refl (omega arith) (counted_more old.hear_faults) (omega arith) (omega arith))
 
 pub show_failed : (old : World) → Noted old (show_fails (called old)) (fault_events 0 (log_of old))
-show_failed old = broken old _ (has_broken 0 (log_of old)) (stays old _ refl refl refl (omega arith) (omega arith) (counted_more old.show_faults))
+show_failed old = broken old _ (has_broken 0 (log_of old)) (stays old _ refl refl refl (omega arith) (omega arith) (counted_more old.show_faults) (omega arith))
 
 pub show_starved : (old : World) → Noted old (show_fails (starves (called old))) (fault_events 0 (log_of old))
-show_starved old = broken old _ (has_broken 0 (log_of old)) (stays old _ refl refl refl (omega arith) (omega arith) (counted_more old.show_faults))
+show_starved old = broken old _ (has_broken 0 (log_of old)) (stays old _ refl refl refl (omega arith) (omega arith) (counted_more old.show_faults) (omega arith))
 
 pub hear_noted : (room filled : List ℕ) (result : Result HeardAnswer Failed) (old new : World) → Ends (λ heard before after. Hears room filled heard before after) hear_fails hear_fails result old new → Noted old new (hear_events 0 filled result (log_of old))
 hear_noted room filled (Ok (Bytes n)) old new ends =
@@ -197,7 +199,7 @@ hear_noted room filled (Ok (Bytes n)) old new ends =
     subst (λ (w : World). Noted old w (Heard 0 (take n filled) ∷ [])) (sym h.3) (
     record {
       more = steps.Heard 0 (take n old.input) ∷ [];
-      moves = record { first = refl; past = refl; steps = refl; disk = omega arith; hear = omega arith; show = omega arith };
+      moves = record { first = refl; past = refl; steps = refl; disk = omega arith; hear = omega arith; show = omega arith; idles = omega arith };
       short = omega arith;
       quiet = λ which disk. refl;
       events_are = ap (λ (l : List ℕ). Heard 0 l ∷ []) (sym front);
@@ -228,3 +230,21 @@ show_noted bytes (Err e) old new ends = ⊎_elim
     (λ listed. subst (λ (w : World). Noted old w (fault_events 0 (log_of old))) (sym listed.1) (show_failed old))
     (λ starved. subst (λ (w : World). Noted old w (fault_events 0 (log_of old))) (sym starved) (show_starved old))
     ends
+
+pub idled : (old : World) → Noted old (idles old) []
+idled old = record {
+  more = [];
+  moves = stays old _ refl refl refl (omega arith) (omega arith) (omega arith) (counted_more old.door_idles);
+  short = omega arith;
+  quiet = λ which disk. refl;
+  events_are = refl;
+}
+
+pub nothing_noted : (old : World) → Noted old old []
+nothing_noted old = record {
+  more = [];
+  moves = stays old _ refl refl refl (omega arith) (omega arith) (omega arith) (omega arith);
+  short = omega arith;
+  quiet = λ which disk. refl;
+  events_are = refl;
+}

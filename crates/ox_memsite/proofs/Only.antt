@@ -1,7 +1,7 @@
 -- No step opens a link, so channel 0 is the only one that is there.
-use Rattle.std.proofs.Common.{◌≡◌, ◌∙◌, ℕ, Bool, true, false, List, [], ◌∷◌, ◌++◌, ◌||◌, ◌&&◌, ◌==◌, not, refl}
+use Rattle.std.proofs.Common.{◌≡◌, ◌∙◌, ℕ, Bool, true, false, List, [], ◌∷◌, ◌++◌, ◌||◌, ◌&&◌, ◌==◌, not, refl, subst}
 use Rattle.std.proofs.lemmas.Bool.{eqb-true}
-use Rattle.ox_outside.specs.Event.{was_opened, was_shut, is_there}
+use Rattle.ox_outside.specs.Event.{Event, was_opened, was_shut, is_there, is_open}
 use Rattle.ox_outside.proofs.Event.{was_opened-append}
 use Rattle.ox_memsite.specs.World.{events_of}
 use Rattle.ox_memsite.specs.declared.step.Step.{Step}
@@ -30,3 +30,7 @@ pub only_zero : (channel : ℕ) (past done : List Step) → is_there channel (ev
 only_zero channel past done there =
     let unopened = was_opened-append channel (events_of past) (events_of done) ∙ neither _ _ (never_opened channel past) (never_opened channel done) in
     eqb-true channel 0 (zero_left (channel == 0) (was_opened channel (events_of past ++ events_of done)) (not (was_shut channel (events_of past ++ events_of done))) there unopened)
+
+-- channel 0 isn't a link
+pub never_open : (channel : ℕ) (log : List Event) → is_open channel log ≡ true → channel ≡ 0 → ⊥
+never_open channel log is_open_ is_zero = cc (subst (λ (n : ℕ). is_open n log ≡ true) is_zero is_open_)

@@ -3,7 +3,7 @@ use Rattle.std.proofs.Common.{◌≡◌, ℕ, ◌≤◌, Bool, true, false, List
 use Rattle.std.proofs.Math.Nat.{le_refl, le_trans}
 use Rattle.std.proofs.lemmas.List.{take_all}
 use Rattle.ox_outside.specs.Crash.{Remains}
-use Rattle.ox_outside.specs.Disk.{Disk, IsDisk, synced}
+use Rattle.ox_outside.specs.Disk.{Disk, IsDisk, synced_disk}
 use Rattle.ox_outside.specs.Event.{Event}
 use Rattle.ox_outside.specs.Files.{file_of}
 use Rattle.ox_outside.specs.declared.site.Which.{Which}
@@ -31,7 +31,7 @@ after_is which disk [] is = is
 after_is which disk (step ∷ done) is = after_is which (disk_step which disk step) done (step_is which disk step is)
 
 pub disk_is : (w : World) (which : Which) → IsDisk (disk_of w.first w.steps which)
-disk_is w which = after_is which (synced (file_of w.first which)) w.steps (synced_is (file_of w.first which))
+disk_is w which = after_is which (synced_disk (file_of w.first which)) w.steps (synced_is (file_of w.first which))
 
 pub counts_now : (w : World) (t : ℕ) (r : Remains) → t ≤ length w.steps → MayLeave w r → LeftSince w t r
 counts_now w t r le left = (length w.steps, le, le_refl _, subst (λ (l : List Step). Left w.first w.past l r) (sym (take_all _ _ (le_refl _))) left)

@@ -2,7 +2,7 @@
 use Rattle.std.specs.Prelude.{◌≡◌, ℕ, ◌+◌, ◌≤◌, nat_lt, Bool, true, false, List, [], ◌∷◌, ◌++◌, length, take, Result, Ok, Err, ◌⊎◌, ◌==◌, if◌then◌else◌}
 use Rattle.ox_outside.specs.Counts.{Counts, greatest}
 use Rattle.ox_outside.specs.Crash.{Remains}
-use Rattle.ox_outside.specs.Disk.{Disk, synced, after_write, after_torn, IsImage}
+use Rattle.ox_outside.specs.Disk.{Disk, synced_disk, after_write, after_torn, IsImage}
 use Rattle.ox_outside.specs.Event.{Event, Heard, Ended, Showed, Broke, has_broken}
 use Rattle.ox_outside.specs.Files.{Files, file_of}
 use Rattle.ox_outside.specs.declared.site.Failed.{Failed}
@@ -21,7 +21,7 @@ same B B = true
 abbrev pub disk_step : Which → Disk → Step → Disk
 disk_step which disk (steps.Wrote file at bytes) = if same which file then after_write at bytes disk else disk
 disk_step which disk (steps.Tore file at n) = if same which file then after_torn at n disk else disk
-disk_step which disk (steps.Synced file) = if same which file then synced disk.seen else disk
+disk_step which disk (steps.Synced file) = if same which file then synced_disk disk.seen else disk
 disk_step which disk (steps.Heard channel bytes) = disk
 disk_step which disk (steps.Ended channel) = disk
 disk_step which disk (steps.Showed channel bytes) = disk
@@ -62,14 +62,15 @@ pub record World : Type 0 where
   pub disk_faults : ℕ
   pub hear_faults : ℕ
   pub show_faults : ℕ
+  pub door_idles : ℕ
 
 -- a site at its beginning: these files, all of them on the disk, and this log
 abbrev pub fresh : List ℕ → List ℕ → List Event → World
-fresh a b past = record { first = record { a = a; b = b }; past = past; steps = []; input = []; failing = []; calls = 0; starved = 0; disk_faults = 0; hear_faults = 0; show_faults = 0 }
+fresh a b past = record { first = record { a = a; b = b }; past = past; steps = []; input = []; failing = []; calls = 0; starved = 0; disk_faults = 0; hear_faults = 0; show_faults = 0; door_idles = 0 }
 
 -- a file after these steps
 abbrev pub disk_of : Files → List Step → Which → Disk
-disk_of first done which = disk_after which (synced (file_of first which)) done
+disk_of first done which = disk_after which (synced_disk (file_of first which)) done
 
 -- what a read of each file gives
 abbrev pub seen_of : World → Files
@@ -99,7 +100,7 @@ counts_of w = record {
   hear = λ channel. if channel == 0 then w.hear_faults else 0;
   show = λ channel. if channel == 0 then w.show_faults else 0;
   not_yets = λ channel. 0;
-  door_idles = λ door. 0;
+  door_idles = λ door. w.door_idles;
 }
 
 -- ---- what a call does
@@ -127,6 +128,10 @@ starves w = record w { starved = counted w.starved }
 
 abbrev pub disk_fails : World → World
 disk_fails w = record w { disk_faults = counted w.disk_faults }
+
+-- nobody waited at a door
+abbrev pub idles : World → World
+idles w = record w { door_idles = counted w.door_idles }
 
 -- the first failure of the channel is logged
 abbrev pub breaks : World → World

@@ -1,6 +1,6 @@
 // A crash at a chosen moment, and what a site has shown.
 ghost use Rattle.std.specs.Prelude.{◌≡◌, ◌≤◌, ◌++◌, [], ◌∷◌, MatchOption, IfOk, OnOk};
-ghost use Rattle.ox_outside.specs.Disk.{synced, image_with};
+ghost use Rattle.ox_outside.specs.Disk.{synced_disk, image_with};
 ghost use Rattle.ox_outside.specs.Event.{has_broken, shown_bytes};
 ghost use Rattle.ox_memsite.specs.World.{same, disk_step, disk_after, event_of, events_of};
 
@@ -27,7 +27,7 @@ pub fn crashed_bytes(
     file: Which,
     choice: &Choice,
 ) -> Result<Vec<u8>, Memory>
-    ensures { IfOk result (λ bytes. bytes.items ≡ image_with choice.now.fill choice.now.keep (disk_after file (synced first.now) steps.now)) }
+    ensures { IfOk result (λ bytes. bytes.items ≡ image_with choice.now.fill choice.now.keep (disk_after file (synced_disk first.now) steps.now)) }
 {
     let replay = replayed(alloc, first, steps, file)?;
     Ok(replay.image(choice.fill, choice.keep)?)
@@ -35,7 +35,7 @@ pub fn crashed_bytes(
 
 // The file after these steps.
 fn replayed(alloc: Global, first: &[u8], steps: &[Step], file: Which) -> Result<Replay, Memory>
-    ensures { IfOk result (λ replay. replay ≡ disk_after file (synced first.now) steps.now) }
+    ensures { IfOk result (λ replay. replay ≡ disk_after file (synced_disk first.now) steps.now) }
 {
     let mut replay = Replay::new(alloc, first)?;
     for step in steps {

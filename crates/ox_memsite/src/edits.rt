@@ -1,7 +1,7 @@
 // Writes into bytes, each whole or not at all.
 ghost use Rattle.std.specs.Prelude.{◌≡◌, ◌+◌, ◌≤◌, ◌++◌, length, take, drop, slice_range, if◌then◌else◌, OnOk, OnErr};
-ghost use Rattle.ox_outside.specs.Files.{written};
-ghost use Rattle.ox_outside.specs.Disk.{covered};
+ghost use Rattle.ox_outside.specs.Files.{with_bytes};
+ghost use Rattle.ox_outside.specs.Disk.{solid_outside};
 ghost use Rattle.ox_outside.specs.declared.site.Which.TheVariants.{A, B};
 ghost use Rattle.ox_memsite.specs.World.{same};
 
@@ -18,7 +18,7 @@ pub fn put_at(file: &mut [u8], at: usize, bytes: &[u8])
 
 /// Puts bytes into a file at this place, or behind its end where it is shorter.
 pub fn write_at(file: &mut Vec<u8>, at: u64, bytes: &[u8]) -> Result<(), AllocError>
-    ensures ok { OnOk result (file.new.items ≡ written at bytes.now file.old.items) }
+    ensures ok { OnOk result (file.new.items ≡ with_bytes at bytes.now file.old.items) }
     ensures err { OnErr result (file.new.items ≡ file.old.items) }
 {
     let start = at.min(file.len() as u64) as usize;
@@ -37,8 +37,8 @@ pub fn write_one(
     at: u64,
     bytes: &[u8],
 ) -> Result<(), AllocError>
-    ensures a { OnOk result (a.new.items ≡ (if same A file then written at bytes.now a.old.items else a.old.items)) }
-    ensures b { OnOk result (b.new.items ≡ (if same B file then written at bytes.now b.old.items else b.old.items)) }
+    ensures a { OnOk result (a.new.items ≡ (if same A file then with_bytes at bytes.now a.old.items else a.old.items)) }
+    ensures b { OnOk result (b.new.items ≡ (if same B file then with_bytes at bytes.now b.old.items else b.old.items)) }
     ensures err { OnErr result ((a.new.items ≡ a.old.items) × (b.new.items ≡ b.old.items)) }
 {
     match file {
@@ -59,7 +59,7 @@ pub fn copy_range(file: &[u8], at: u64, into: &mut [u8])
 
 /// So many places from this one on are covered.
 pub fn cover(solid: &mut [bool], at: u64, length: u64)
-    ensures { solid.new ≡ covered at length solid.old }
+    ensures { solid.new ≡ solid_outside at length solid.old }
 {
     let size = solid.len() as u64;
     let start = at.min(size);

@@ -2,7 +2,7 @@
 ghost use Rattle.std.specs.Prelude.{true, Some, length};
 
 use crate::site::MemSite;
-use ox_outside::{Failed, Heard, Shown, Site, Which};
+use ox_outside::{Doorway, Failed, Heard, Shown, Site, Which};
 
 impl Site for MemSite {
     ghost use Rattle.ox_memsite.specs.World.{seen_of, log_of, MayLeave, LeftSince, counts_of};
@@ -44,6 +44,18 @@ impl Site for MemSite {
 
     fn show(&mut self, channel: u32, bytes: &[u8]) -> Result<Shown, Failed> {
         MemSite::show(self, channel, bytes)
+    }
+
+    fn door(&mut self, _door: Doorway) -> Result<Option<u32>, Failed> {
+        Ok(MemSite::door(self))
+    }
+
+    fn give_up(&mut self, channel: u32) {
+        self.only_channel(channel);
+    }
+
+    fn shut(&mut self, channel: u32) {
+        self.only_channel(channel);
     }
 
     ghost counts_now = { laws.counts_now };

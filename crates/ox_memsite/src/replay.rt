@@ -1,6 +1,6 @@
 // A file on a disk, made again from what happened to it.
 ghost use Rattle.std.specs.Prelude.{◌≡◌, ◌++◌, replicate, slice_get, IfOk, OnOk};
-ghost use Rattle.ox_outside.specs.Disk.{synced, after_write, after_torn, filled, image_with};
+ghost use Rattle.ox_outside.specs.Disk.{synced_disk, after_write, after_torn, filled_bytes, image_with};
 ghost use Rattle.ox_memsite.specs.Kept.{kept_at};
 
 use crate::edits::{cover, write_at};
@@ -28,7 +28,7 @@ impl Model for Replay {
 impl Replay {
     /// A file with these bytes, all of them on the disk.
     pub fn new(alloc: Global, bytes: &[u8]) -> Result<Replay, AllocError>
-        ensures { IfOk result (λ r. r ≡ synced bytes.now) }
+        ensures { IfOk result (λ r. r ≡ synced_disk bytes.now) }
     {
         Ok(Replay {
             alloc,
@@ -57,7 +57,7 @@ impl Replay {
 
     /// A sync.
     pub fn sync(&mut self) -> Result<(), AllocError>
-        ensures { OnOk result (self.new ≡ synced self.old.seen) }
+        ensures { OnOk result (self.new ≡ synced_disk self.old.seen) }
     {
         self.uncovered = Vec::from_elem(self.alloc, true, self.bytes.len())?;
         self.longest = self.bytes.len() as u128;
@@ -83,7 +83,7 @@ fn kept_bytes(
     uncovered: &[bool],
     fill: u8,
 ) -> Result<Vec<u8>, AllocError>
-    ensures { IfOk result (λ kept. kept.items ≡ filled fill uncovered.now bytes.now) }
+    ensures { IfOk result (λ kept. kept.items ≡ filled_bytes fill uncovered.now bytes.now) }
 {
     let mut kept = Vec::with_capacity(alloc, uncovered.len())?;
     for (place, is_solid) in uncovered.iter().enumerate() {

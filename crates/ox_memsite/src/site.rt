@@ -1,5 +1,5 @@
 // The site in memory: what each call does, exactly.
-ghost use Rattle.std.specs.Prelude.{◌≡◌, ◌+◌, ◌≤◌, [], ◌∷◌, ◌++◌, length, slice_range, IsTrue, IfOk, OnOk, OnErr};
+ghost use Rattle.std.specs.Prelude.{◌≡◌, ◌+◌, ◌≤◌, [], ◌∷◌, ◌++◌, length, slice_range, None, IsTrue, IfOk, OnOk, OnErr};
 ghost use Rattle.ox_outside.specs.Event.{is_there};
 ghost use Rattle.ox_outside.specs.Files.{file_of};
 ghost use Rattle.ox_memsite.specs.World.{is_in, events_of, fresh};
@@ -34,6 +34,7 @@ pub struct MemSite {
     disk_faults: u64,
     hear_faults: u64,
     show_faults: u64,
+    door_idles: u64,
 }
 
 impl Model for MemSite {
@@ -54,6 +55,7 @@ impl Model for MemSite {
       disk_faults = s.disk_faults;
       hear_faults = s.hear_faults;
       show_faults = s.show_faults;
+      door_idles = s.door_idles;
     } };
 
     ghost invariant = { λ s. IsKept (record { a = s.first_a.items; b = s.first_b.items }) s.a.items s.b.items s.past.items s.steps.steps s.has_broken s.steps.spare s.heard (vec_len s.input) };
@@ -62,7 +64,7 @@ impl Model for MemSite {
 impl MemSite {
     ghost use Rattle.ox_memsite.specs.Heard.{Hears};
     ghost use Rattle.ox_outside.specs.declared.site.Shown.TheVariants.{Took};
-    ghost use Rattle.ox_memsite.specs.World.{World, called, is_listed, did, starves, disk_fails, breaks, hear_fails, show_fails, seen_of, log_of, LeftSince, Ends, EndsUnlessListed, fresh};
+    ghost use Rattle.ox_memsite.specs.World.{World, called, is_listed, did, starves, disk_fails, idles, breaks, hear_fails, show_fails, seen_of, log_of, LeftSince, Ends, EndsUnlessListed, fresh};
     ghost use Rattle.ox_memsite.specs.Crashed.{crashed, found};
     ghost use Rattle.ox_outside.specs.Event.{shown_bytes};
     ghost use Rattle.ox_memsite.specs.declared.step.Step.TheVariants.{Wrote, Tore, Synced, Showed};
@@ -258,8 +260,17 @@ impl MemSite {
         Ok(Shown::Took(bytes.len()))
     }
 
+    /// Nobody waits at a door.
+    pub fn door(&mut self) -> Option<u32>
+        ensures nobody { result ≡ None }
+        ensures outcome { self.new ≡ idles self.old }
+    {
+        self.door_idles = self.door_idles.saturating_add(1);
+        None
+    }
+
     // No link was ever opened.
-    fn only_channel(&self, channel: u32)
+    pub fn only_channel(&self, channel: u32)
         requires { IsTrue (is_there channel (log_of self.now)) }
         ensures { channel ≡ 0 }
     {
@@ -407,6 +418,7 @@ fn restarted(alloc: Global, a: Vec<u8>, b: Vec<u8>, past: Vec<Step>) -> Result<M
         disk_faults: 0,
         hear_faults: 0,
         show_faults: 0,
+        door_idles: 0,
     })
 }
 

@@ -5,7 +5,7 @@ use Rattle.std.specs.Result.{result_ok}
 use Rattle.ox_bytes.specs.Reading.{◌>>=◌}
 use Rattle.ox_outside.specs.Files.{Files}
 use Rattle.ox_outside.specs.declared.site.Which.{Which}
-use Rattle.ox_gated.specs.Reading.{Found, Fault, Sound as Before, appended, reading}
+use Rattle.ox_gated.specs.Reading.{Found, Fault, IntactPart, with_payload, reading}
 use Rattle.ox_gated.specs.declared.head.Head.{Head}
 use Rattle.ox_gated.specs.declared.records.Record.{Record}
 use Rattle.ox_sat.specs.Profiles.{name_at, profile_named}
@@ -61,13 +61,13 @@ no_cut : (file : Which) (at : ℕ) (r : Result Stack ℕ) (stack : Stack) → in
 no_cut file at (Ok s) stack is = cc is
 no_cut file at (Err a) stack is = cc is
 
-no_stack : (file : Which) (at : ℕ) (before : Option Before) (stack : Stack) → in_file file (place_of_cut at before) ≡ Ok stack → ⊥
+no_stack : (file : Which) (at : ℕ) (before : Option IntactPart) (stack : Stack) → in_file file (place_of_cut at before) ≡ Ok stack → ⊥
 no_stack file at None stack is = cc is
 no_stack file at (Some before) stack is = no_cut file at (stack_in_file before.head before.body before.records) stack is
 
 -- the record of a block that is accepted
 pub stands_more : (found : Result Found Fault) (bytes : List ℕ) (stack new : Stack) → stack_in found ≡ Ok stack → stack_after stack (Connect bytes) ≡ Ok new
-    → stack_in (appended (1 ∷ bytes) found) ≡ Ok new
+    → stack_in (with_payload (1 ∷ bytes) found) ≡ Ok new
 stands_more (Ok found) bytes stack new is next =
     ap (in_file found.file)
     (judged_more found.head found.body found.records (record { place = found.gate; payload = 1 ∷ bytes }) stack new

@@ -7,7 +7,7 @@ use Rattle.std.specs.Result.{result_ok}
 use Rattle.ox_bytes.specs.Reading.{◌>>=◌}
 use Rattle.ox_outside.specs.Files.{Files}
 use Rattle.ox_outside.specs.declared.site.Which.{Which}
-use Rattle.ox_gated.specs.Reading.{Found, Fault, Sound as Before, reading}
+use Rattle.ox_gated.specs.Reading.{Found, Fault, IntactPart, reading}
 use Rattle.ox_gated.specs.declared.head.Head.{Head}
 use Rattle.ox_gated.specs.declared.records.Record.{Record}
 use Rattle.ox_sat.specs.Profiles.{name_at, profile_named}
@@ -55,7 +55,7 @@ in_file file (Ok x) = Ok x
 in_file file (Err at) = Err (record { file = file; at = at })
 
 -- where a gate or a record is cut: the body and the records before it are tested first
-abbrev pub place_of_cut : ℕ → Option Before → Result Stack ℕ
+abbrev pub place_of_cut : ℕ → Option IntactPart → Result Stack ℕ
 place_of_cut at None = Err at
 place_of_cut at (Some before) =
     stack_in_file before.head before.body before.records >>= λ stack. Err at

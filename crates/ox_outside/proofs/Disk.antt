@@ -3,37 +3,37 @@ use Rattle.std.proofs.Common.{◌≡◌, ◌∙◌, inl, inr, ℕ, zero, suc, �
 use Rattle.std.specs.Prelude.{replicate}
 use Rattle.std.proofs.lemmas.Bool.{cases_lt}
 use Rattle.std.proofs.lemmas.List.{length-replicate, length-take, take_all, take-take, drop_all}
-use Rattle.ox_outside.specs.Files.{written, Torn}
-use Rattle.ox_outside.specs.Disk.{Disk, synced, covered, after_write, after_torn, Keeps, IsImage, IsDisk, filled, image_with}
+use Rattle.ox_outside.specs.Files.{with_bytes, Torn}
+use Rattle.ox_outside.specs.Disk.{Disk, synced_disk, solid_outside, after_write, after_torn, Keeps, IsImage, IsDisk, filled_bytes, image_with}
 
-pub length-covered : (at n : ℕ) (solid : List Bool) → length (covered at n solid) ≡ length solid
-length-covered zero zero solid = refl
-length-covered zero (suc n) [] = refl
-length-covered zero (suc n) (s ∷ solid) = ap suc (length-covered zero n solid)
-length-covered (suc at) n [] = refl
-length-covered (suc at) n (s ∷ solid) = ap suc (length-covered at n solid)
+pub length-solid_outside : (at n : ℕ) (solid : List Bool) → length (solid_outside at n solid) ≡ length solid
+length-solid_outside zero zero solid = refl
+length-solid_outside zero (suc n) [] = refl
+length-solid_outside zero (suc n) (s ∷ solid) = ap suc (length-solid_outside zero n solid)
+length-solid_outside (suc at) n [] = refl
+length-solid_outside (suc at) n (s ∷ solid) = ap suc (length-solid_outside at n solid)
 
-pub length-written : (at : ℕ) (bytes file : List ℕ) → at ≤ length file → length (written at bytes file) ≡ max (length file) (at + length bytes)
-length-written at bytes file le = omega (arith, length-append (take at file ++ bytes) (drop (at + length bytes) file), length-append (take at file) bytes, length-take at file, length-drop (at + length bytes) file)
+pub length-with_bytes : (at : ℕ) (bytes file : List ℕ) → at ≤ length file → length (with_bytes at bytes file) ≡ max (length file) (at + length bytes)
+length-with_bytes at bytes file le = omega (arith, length-append (take at file ++ bytes) (drop (at + length bytes) file), length-append (take at file) bytes, length-take at file, length-drop (at + length bytes) file)
 
-written_no_shorter : (at : ℕ) (bytes file : List ℕ) → length file ≤ length (written at bytes file)
+written_no_shorter : (at : ℕ) (bytes file : List ℕ) → length file ≤ length (with_bytes at bytes file)
 written_no_shorter at bytes file = omega (arith, length-append (take at file ++ bytes) (drop (at + length bytes) file), length-append (take at file) bytes, length-take at file, length-drop (at + length bytes) file)
 
-written_no_longer : (at : ℕ) (bytes file : List ℕ) → length (written at bytes file) ≤ max (length file) (at + length bytes)
+written_no_longer : (at : ℕ) (bytes file : List ℕ) → length (with_bytes at bytes file) ≤ max (length file) (at + length bytes)
 written_no_longer at bytes file = omega (arith, length-append (take at file ++ bytes) (drop (at + length bytes) file), length-append (take at file) bytes, length-take at file, length-drop (at + length bytes) file)
 
-pub synced_is : (bytes : List ℕ) → IsDisk (synced bytes)
+pub synced_is : (bytes : List ℕ) → IsDisk (synced_disk bytes)
 synced_is bytes = record { no_shorter = omega (arith, length-replicate (length bytes) true); no_longer = omega arith }
 
 pub after_write_is : (at : ℕ) (bytes : List ℕ) (disk : Disk) → IsDisk disk → IsDisk (after_write at bytes disk)
 after_write_is at bytes disk is = record {
-  no_shorter = omega (arith, is.no_shorter, length-covered at (length bytes) disk.solid, written_no_shorter at bytes disk.seen);
+  no_shorter = omega (arith, is.no_shorter, length-solid_outside at (length bytes) disk.solid, written_no_shorter at bytes disk.seen);
   no_longer = omega (arith, is.no_longer, written_no_longer at bytes disk.seen);
 }
 
 pub after_torn_is : (at n : ℕ) (disk : Disk) → IsDisk disk → IsDisk (after_torn at n disk)
 after_torn_is at n disk is = record {
-  no_shorter = omega (arith, is.no_shorter, length-covered at n disk.solid);
+  no_shorter = omega (arith, is.no_shorter, length-solid_outside at n disk.solid);
   no_longer = omega (arith, is.no_longer);
 }
 
@@ -54,7 +54,7 @@ keeps_all (b ∷ bytes) [] kept le = absurd kept
 keeps_all (b ∷ bytes) (c ∷ image) kept le = ap (λ (x : ℕ). x ∷ image) kept.0 ∙ ap (λ (l : List ℕ). b ∷ l) (keeps_all bytes image kept.1 (omega arith))
 
 -- after a sync there is no other image
-pub synced_image : (bytes image : List ℕ) → IsImage (synced bytes) image → image ≡ bytes
+pub synced_image : (bytes image : List ℕ) → IsImage (synced_disk bytes) image → image ≡ bytes
 synced_image bytes image is = keeps_all bytes image is.kept is.no_longer
 
 -- an image after a write, with what was read before in the place of what was written
@@ -127,7 +127,7 @@ written_outside zero (suc n) (b ∷ bytes) (s ∷ seen) rest long is =
 written_outside (suc at) n bytes (s ∷ seen) rest long is =
     (refl, written_outside at n bytes seen rest long (is ∙ drop_one (suc at + n) (at + n) s seen (omega arith)))
 
-pub written_same_outside : (at : ℕ) (bytes seen : List ℕ) → SameOutside at (length bytes) seen (written at bytes seen)
+pub written_same_outside : (at : ℕ) (bytes seen : List ℕ) → SameOutside at (length bytes) seen (with_bytes at bytes seen)
 written_same_outside at bytes seen = written_outside at (length bytes) bytes seen (drop (at + length bytes) seen) refl refl
 
 keeps_before : (solid : List Bool) (seen new image : List ℕ) → length solid ≤ length seen → SameOutside zero zero seen new → Keeps solid new image → Keeps solid seen image
@@ -138,7 +138,7 @@ keeps_before (x ∷ solid) (s ∷ seen) (b ∷ new) [] le same kept = absurd kep
 keeps_before (true ∷ solid) (s ∷ seen) (b ∷ new) (c ∷ image) le same kept = (kept.0 ∙ same.0, keeps_before solid seen new image (omega arith) same.1 kept.1)
 keeps_before (false ∷ solid) (s ∷ seen) (b ∷ new) (c ∷ image) le same kept = keeps_before solid seen new image (omega arith) same.1 kept
 
-keeps_mended : (at n : ℕ) (solid : List Bool) (seen new image : List ℕ) → length solid ≤ length seen → SameOutside at n seen new → Keeps (covered at n solid) new image → Keeps solid seen (mended at n seen image)
+keeps_mended : (at n : ℕ) (solid : List Bool) (seen new image : List ℕ) → length solid ≤ length seen → SameOutside at n seen new → Keeps (solid_outside at n solid) new image → Keeps solid seen (mended at n seen image)
 unfolding mended
 keeps_mended zero zero solid seen new image le same kept = keeps_before solid seen new image le same kept
 keeps_mended zero (suc n) [] seen new image le same kept = tt
@@ -165,7 +165,7 @@ keeps_front (suc m) (false ∷ solid) (s ∷ seen) (c ∷ image) le kept = keeps
 -- Each image after a write of n bytes, whether it failed or not, is one from before it that the write has torn.
 module _ (at n : ℕ) (old : Disk) (new : List ℕ) (is_disk : IsDisk old) (begins : at ≤ length old.seen) (same : SameOutside at n old.seen new) (image : List ℕ) where
   abbrev after : Disk
-  after = record { seen = new; solid = covered at n old.solid; longest = max old.longest (at + n) }
+  after = record { seen = new; solid = solid_outside at n old.solid; longest = max old.longest (at + n) }
 
   whole : List ℕ
   whole = mended at n old.seen image
@@ -187,7 +187,7 @@ module _ (at n : ℕ) (old : Disk) (new : List ℕ) (is_disk : IsDisk old) (begi
   front_image : IsImage after image → IsImage old front
   unfolding front whole
   front_image is =
-      let short : length old.solid ≤ min (length image) old.longest = omega (arith, is.no_shorter, length-covered at n old.solid, is_disk.no_shorter, is_disk.no_longer) in
+      let short : length old.solid ≤ min (length image) old.longest = omega (arith, is.no_shorter, length-solid_outside at n old.solid, is_disk.no_shorter, is_disk.no_longer) in
       record {
         no_shorter = omega (arith, length-front, short);
         no_longer = omega (arith, length-front);
@@ -220,13 +220,13 @@ module _ (at n : ℕ) (old : Disk) (new : List ℕ) (is_disk : IsDisk old) (begi
     },
   )
 
-length-filled : (fill : ℕ) (solid : List Bool) (seen : List ℕ) → length solid ≤ length seen → length (filled fill solid seen) ≡ length solid
-length-filled fill [] seen le = refl
-length-filled fill (x ∷ solid) [] le = absurd (omega arith)
-length-filled fill (true ∷ solid) (s ∷ seen) le = ap suc (length-filled fill solid seen (omega arith))
-length-filled fill (false ∷ solid) (s ∷ seen) le = ap suc (length-filled fill solid seen (omega arith))
+length-filled_bytes : (fill : ℕ) (solid : List Bool) (seen : List ℕ) → length solid ≤ length seen → length (filled_bytes fill solid seen) ≡ length solid
+length-filled_bytes fill [] seen le = refl
+length-filled_bytes fill (x ∷ solid) [] le = absurd (omega arith)
+length-filled_bytes fill (true ∷ solid) (s ∷ seen) le = ap suc (length-filled_bytes fill solid seen (omega arith))
+length-filled_bytes fill (false ∷ solid) (s ∷ seen) le = ap suc (length-filled_bytes fill solid seen (omega arith))
 
-keeps_filled : (fill : ℕ) (solid : List Bool) (seen rest : List ℕ) → length solid ≤ length seen → Keeps solid seen (filled fill solid seen ++ rest)
+keeps_filled : (fill : ℕ) (solid : List Bool) (seen rest : List ℕ) → length solid ≤ length seen → Keeps solid seen (filled_bytes fill solid seen ++ rest)
 keeps_filled fill [] seen rest le = tt
 keeps_filled fill (x ∷ solid) [] rest le = absurd (omega arith)
 keeps_filled fill (true ∷ solid) (s ∷ seen) rest le = (refl, keeps_filled fill solid seen rest (omega arith))
@@ -235,8 +235,8 @@ keeps_filled fill (false ∷ solid) (s ∷ seen) rest le = keeps_filled fill sol
 -- The image that is all `fill` where it may be is one that the disk allows.
 pub image_with_is : (fill keep : ℕ) (disk : Disk) → IsDisk disk → IsImage disk (image_with fill keep disk)
 image_with_is fill keep disk is =
-    let long = length-append (filled fill disk.solid disk.seen) (replicate (min keep disk.longest - length disk.solid) fill) in
-    let front = length-filled fill disk.solid disk.seen is.no_shorter in
+    let long = length-append (filled_bytes fill disk.solid disk.seen) (replicate (min keep disk.longest - length disk.solid) fill) in
+    let front = length-filled_bytes fill disk.solid disk.seen is.no_shorter in
     let back = length-replicate (min keep disk.longest - length disk.solid) fill in
     record {
       no_shorter = omega (arith, long, front, back);

@@ -3,4 +3,4 @@ pub mod Counts
 pub mod Disk
 pub mod Event
 pub mod Log
-pub mod Talking
+pub mod OnlyTalks

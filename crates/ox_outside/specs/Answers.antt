@@ -1,5 +1,6 @@
--- The numbers that `hear` and `show` answer.
-use Rattle.std.specs.Prelude.{ℕ, ◌≤◌, Result, Ok, Err}
+-- The numbers that `hear`, `show` and `door` answer.
+use Rattle.std.specs.Prelude.{◌≡◌, ℕ, ◌≤◌, false, List, Option, Some, None, Result, Ok, Err}
+use Rattle.ox_outside.specs.Event.{Event, was_opened}
 use Rattle.ox_outside.specs.declared.site.Heard.{Heard}
 use Rattle.ox_outside.specs.declared.site.Heard.TheVariants.{Bytes, NotYet as HeardNothing, End}
 use Rattle.ox_outside.specs.declared.site.Shown.{Shown}
@@ -18,3 +19,15 @@ abbrev pub ShownWithin : ℕ → Result Shown Failed → Type 0
 ShownWithin size (Ok (Took n)) = (1 ≤ n) × (n ≤ size)
 ShownWithin size (Ok TookNothing) = Unit {0}
 ShownWithin size (Err failed) = Unit {0}
+
+-- a link's number is at least 1: channel 0 isn't a link
+abbrev pub IsLinkNumber : Result (Option ℕ) Failed → Type 0
+IsLinkNumber (Ok (Some channel)) = 1 ≤ channel
+IsLinkNumber (Ok None) = Unit {0}
+IsLinkNumber (Err failed) = Unit {0}
+
+-- a link's number is one that this log never opened
+abbrev pub NeverOpened : Result (Option ℕ) Failed → List Event → Type 0
+NeverOpened (Ok (Some channel)) log = was_opened channel log ≡ false
+NeverOpened (Ok None) log = Unit {0}
+NeverOpened (Err failed) log = Unit {0}

@@ -1,4 +1,5 @@
--- What a site counts: the failures of each kind, and the times that it had nothing to give. No count ever falls.
+-- What a site counts: the failures of each kind, and the times that it had nothing to give. No
+-- count ever falls.
 use Rattle.std.specs.Prelude.{ℕ, ◌<◌, ◌≤◌, ◌⊎◌}
 use Rattle.ox_outside.specs.declared.site.Doorway.{Doorway}
 

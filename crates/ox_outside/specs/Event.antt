@@ -1,5 +1,6 @@
 -- What is logged of the channels: links that came, bytes heard and shown, and how each ended.
-use Rattle.std.specs.Prelude.{ℕ, Bool, false, List, [], ◌∷◌, ◌++◌, take, Result, Ok, Err, ◌==◌, ◌||◌, ◌&&◌, not, if◌then◌else◌}
+use Rattle.std.specs.Prelude.{ℕ, Bool, false, List, [], ◌∷◌, ◌++◌, take, Option, Some, None}
+use Rattle.std.specs.Prelude.{Result, Ok, Err, ◌==◌, ◌||◌, ◌&&◌, not, if◌then◌else◌}
 use Rattle.ox_outside.specs.declared.site.Doorway.{Doorway}
 use Rattle.ox_outside.specs.declared.site.Heard.{Heard as HeardAnswer}
 use Rattle.ox_outside.specs.declared.site.Heard.TheVariants.{Bytes, NotYet as HeardNothing, End}
@@ -29,13 +30,15 @@ channel_of (Shut channel) = channel
 -- the bytes heard on a channel, joined in order
 abbrev pub heard_bytes : ℕ → List Event → List ℕ
 heard_bytes channel [] = []
-heard_bytes channel (Heard c bytes ∷ log) = if c == channel then bytes ++ heard_bytes channel log else heard_bytes channel log
+heard_bytes channel (Heard c bytes ∷ log) =
+    if c == channel then bytes ++ heard_bytes channel log else heard_bytes channel log
 heard_bytes channel (event ∷ log) = heard_bytes channel log
 
 -- the bytes shown on a channel, joined in order
 abbrev pub shown_bytes : ℕ → List Event → List ℕ
 shown_bytes channel [] = []
-shown_bytes channel (Showed c bytes ∷ log) = if c == channel then bytes ++ shown_bytes channel log else shown_bytes channel log
+shown_bytes channel (Showed c bytes ∷ log) =
+    if c == channel then bytes ++ shown_bytes channel log else shown_bytes channel log
 shown_bytes channel (event ∷ log) = shown_bytes channel log
 
 abbrev pub has_ended : ℕ → List Event → Bool
@@ -58,9 +61,18 @@ was_shut channel [] = false
 was_shut channel (Shut c ∷ log) = (c == channel) || was_shut channel log
 was_shut channel (event ∷ log) = was_shut channel log
 
+abbrev pub has_given_up : ℕ → List Event → Bool
+has_given_up channel [] = false
+has_given_up channel (GaveUp c ∷ log) = (c == channel) || has_given_up channel log
+has_given_up channel (event ∷ log) = has_given_up channel log
+
 -- Channel 0 is always there. Another is there once it was opened, until it is shut.
 abbrev pub is_there : ℕ → List Event → Bool
 is_there channel log = (channel == 0) || (was_opened channel log && not (was_shut channel log))
+
+-- A link is a channel other than 0. It is open while it is there.
+abbrev pub is_open : ℕ → List Event → Bool
+is_open channel log = not (channel == 0) && is_there channel log
 
 -- A failure is logged as `Broke` where it is the first of its channel.
 abbrev pub fault_events : ℕ → List Event → List Event
@@ -78,3 +90,17 @@ abbrev pub show_events : ℕ → List ℕ → Result ShownAnswer Failed → List
 show_events channel bytes (Ok (Took n)) log = Showed channel (take n bytes) ∷ []
 show_events channel bytes (Ok TookNothing) log = []
 show_events channel bytes (Err failed) log = fault_events channel log
+
+-- what a call of `door` adds to the log
+abbrev pub door_events : Doorway → Result (Option ℕ) Failed → List Event → List Event
+door_events door (Ok (Some channel)) log = Opened channel door ∷ []
+door_events door (Ok None) log = []
+door_events door (Err failed) log = []
+
+-- what a call of `give_up` adds to the log
+abbrev pub give_up_events : ℕ → List Event → List Event
+give_up_events channel log = GaveUp channel ∷ []
+
+-- what a call of `shut` adds to the log
+abbrev pub shut_events : ℕ → List Event → List Event
+shut_events channel log = Shut channel ∷ []

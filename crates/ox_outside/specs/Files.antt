@@ -22,11 +22,12 @@ other A = B
 other B = A
 
 -- a file with these bytes at this place, over what stood there
-abbrev pub written : ℕ → List ℕ → List ℕ → List ℕ
-written at bytes file = take at file ++ bytes ++ drop (at + length bytes) file
+abbrev pub with_bytes : ℕ → List ℕ → List ℕ → List ℕ
+with_bytes at bytes file = take at file ++ bytes ++ drop (at + length bytes) file
 
--- After a write of n bytes at this place that failed or that a crash cut short: any bytes in its range and behind
--- the old end, the others as before, and a length between the old one and the one that the write would have made.
+-- After a write of n bytes at this place that failed or that a crash cut short: any bytes in its
+-- range and behind the old end, the others as before, and a length between the old one and the one
+-- that the write would have made.
 pub record Torn (at n : ℕ) (old new : List ℕ) : Type 0 where
   pub before : take at new ≡ take at old
   pub after : drop (at + n) new ≡ drop (at + n) old

@@ -5,3 +5,4 @@ pub mod Disk
 pub mod Event
 pub mod Files
 pub mod Log
+pub mod Runs

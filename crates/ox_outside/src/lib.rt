@@ -1,4 +1,5 @@
-//! What the program sees of the world outside it: two files, channels of bytes, and what a crash at any moment leaves.
+//! What the program sees of the world outside it: two files, links that come in at two doors,
+//! channels of bytes, and what a crash at any moment leaves.
 #![tactic(auto)]
 
 mod site;

@@ -4,8 +4,8 @@ use Rattle.std.specs.Prelude.{Ok}
 use Rattle.ox_outside.specs.Files.{Files}
 use Rattle.ox_outside.specs.declared.site.Which.TheVariants.{A}
 use Rattle.ox_gated.specs.Layout.{Whole}
-use Rattle.ox_gated.specs.Reading.{reading, appended}
-use Rattle.ox_gated.specs.Tail.{IsBeforeOrAfter, just_made}
+use Rattle.ox_gated.specs.Reading.{reading, with_payload}
+use Rattle.ox_gated.specs.Tail.{IsBeforeOrAfter, new_found}
 use Rattle.ox_index.specs.Live.{profile_in, index_in}
 use Rattle.ox_index.specs.declared.live.Live.{Live}
 use Rattle.ox_model.specs.Index.{no_blocks}
@@ -35,22 +35,22 @@ begun_first name depth = ap (λ (n : ProfileName). made_stack n depth) (name_nam
 pub stack_first : (name : ProfileName) (depth : ℕ) (live : Live) → profile_in live ≡ profile_named name → index_in live ≡ no_blocks → stack_with depth live ≡ made_stack name depth
 stack_first name depth live profile index = λ i. record { profile = profile i; depth = depth; index = index i }
 
-pub stands_first : (name : ProfileName) (depth : ℕ) (files : Files) (made : Whole) → made ≡ record { head = first_head name depth; body = [] } → reading made.head.version files ≡ Ok (just_made made) → stands files ≡ Ok (made_stack name depth)
+pub stands_first : (name : ProfileName) (depth : ℕ) (files : Files) (made : Whole) → made ≡ record { head = first_head name depth; body = [] } → reading made.head.version files ≡ Ok (new_found made) → stands files ≡ Ok (made_stack name depth)
 stands_first name depth files made is reads =
     let version : made.head.version ≡ 1 = ap (λ (w : Whole). w.head.version) is in
     ap (λ (v : ℕ). stack_in (reading v files)) (sym version)
     ∙ ap stack_in reads
-    ∙ ap (λ (w : Whole). stack_in (Ok (just_made w))) is
+    ∙ ap (λ (w : Whole). stack_in (Ok (new_found w))) is
     ∙ ap (in_file A) (replayed_none (empty_stack_at (first_head name depth)))
     ∙ ap (λ (s : Stack). in_file A (Ok s)) (begun_first name depth)
 
 -- ---- a record more
 
 pub after_record : (version : ℕ) (payload : List ℕ) (old new : Files) (before : Stack) (ready : Prepared) → version ≡ 1 → payload ≡ ready.payload → stands old ≡ Ok before → Leads before ready
-    → reading version new ≡ appended payload (reading version old) → stands new ≡ Ok ready.stack
+    → reading version new ≡ with_payload payload (reading version old) → stands new ≡ Ok ready.stack
 after_record version payload old new before ready first same is leads reads =
     let record_is : payload ≡ 1 ∷ leads.block = same ∙ leads.payload in
-    let here : reading 1 new ≡ appended (1 ∷ leads.block) (reading 1 old) = subst (λ (l : List ℕ). reading 1 new ≡ appended l (reading 1 old)) record_is (subst (λ (v : ℕ). reading v new ≡ appended payload (reading v old)) first reads) in
+    let here : reading 1 new ≡ with_payload (1 ∷ leads.block) (reading 1 old) = subst (λ (l : List ℕ). reading 1 new ≡ with_payload l (reading 1 old)) record_is (subst (λ (v : ℕ). reading v new ≡ with_payload payload (reading v old)) first reads) in
     ap stack_in here ∙ stands_more (reading 1 old) leads.block before ready.stack is leads.after
 
 pub before_or_after : (version : ℕ) (payload : List ℕ) (files image : Files) (before : Stack) (ready : Prepared) → version ≡ 1 → payload ≡ ready.payload → stands files ≡ Ok before → Leads before ready

@@ -13,7 +13,8 @@ no_files = record { a = []; b = [] }
 
 -- the head of its file: version 1, generation 1
 abbrev pub first_head : ProfileName → ℕ → Head
-first_head name depth = record { version = 1; profile = (profile_named name).byte; depth = depth; generation = 1 }
+first_head name depth =
+    record { version = 1; profile = (profile_named name).byte; depth = depth; generation = 1 }
 
 -- its stack
 abbrev pub made_stack : ProfileName → ℕ → Stack

@@ -8,7 +8,8 @@ use Rattle.ox_model.specs.Stack.{Stack, stack_after}
 use Rattle.ox_model.specs.Stands.{stands}
 use Rattle.ox_store.specs.Store.{Stored}
 
--- the stack after the command, the tail before it, how many commands were accepted before it, and its record's payload
+-- the stack after the command, the tail before it, how many commands were accepted before it, and
+-- its record's payload
 pub record Prepared : Type 0 where
   pub stack : Stack
   pub tail : Kept

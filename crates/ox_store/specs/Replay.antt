@@ -15,8 +15,8 @@ IsUnjudged judging (replays.At place) = judging ≡ Err place
 IsUnjudged judging replays.Memory = Unit {0}
 
 -- the stack after a record, or the place of its gate where it isn't accepted
-abbrev pub redone : Stack → Record → Result Stack ℕ
-redone stack one = or_place one.place (stack_with_block stack (block_in one.payload))
+abbrev pub stack_after_record : Stack → Record → Result Stack ℕ
+stack_after_record stack one = or_place one.place (stack_with_block stack (block_in one.payload))
 
 -- the fault of this file
 abbrev pub fault_in : Which → Unjudged → OpenFault

@@ -6,7 +6,8 @@ use Rattle.ox_index.specs.declared.live.Live.{Live}
 use Rattle.ox_model.specs.Index.{Index}
 use Rattle.ox_model.specs.Stack.{Stack}
 
--- the stack that its files stand for, the tail of their records, and how many commands were accepted since it was opened
+-- the stack that its files stand for, the tail of their records, and how many commands were
+-- accepted since it was opened
 pub record Stored : Type 0 where
   pub stack : Stack
   pub tail : Kept
@@ -18,4 +19,6 @@ stack_with depth live = record { profile = profile_in live; depth = depth; index
 
 -- the newest block's height and hash, where there is a block
 abbrev pub tip_of : Index → Option (ℕ × List ℕ)
-tip_of index = option_map (λ hash. (length index.hashes - 1, hash)) (slice_get index.hashes (length index.hashes - 1))
+tip_of index =
+    option_map (λ hash. (length index.hashes - 1, hash))
+    (slice_get index.hashes (length index.hashes - 1))

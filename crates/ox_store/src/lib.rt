@@ -1,4 +1,5 @@
-//! The store: the index of a chain in memory, and the records of its commands in two files that survive a crash.
+//! The store: the index of a chain in memory, and the records of its commands in two files that
+//! survive a crash.
 #![tactic(auto)]
 
 mod fault;

@@ -2,7 +2,7 @@
 
 ghost use Rattle.std.specs.Prelude.{◌≡◌, Ok, Result, IsTrue, IfOk, IfErr, IsErrOf};
 ghost use Rattle.ox_outside.specs.Counts.{Rose};
-ghost use Rattle.ox_outside.specs.Crash.{OnlyLooks};
+ghost use Rattle.ox_outside.specs.Runs.{OnlyLooks};
 ghost use Rattle.ox_gated.specs.Opened.{IsFault, found_of};
 ghost use Rattle.ox_gated.specs.Reading.{Found, Fault};
 ghost use Rattle.ox_gated.specs.Tail.{Holds};
@@ -19,18 +19,24 @@ use std::alloc::Global;
 impl Store {
     ghost use Rattle.ox_model.specs.Stands.{stands};
 
-    /// Opens two files of version 1 and carries out the commands of their records again. It begins with a sync of both
-    /// files, and changes nothing: at no moment does a crash leave anything that it didn't leave before.
+    /// Opens two files of version 1 and carries out the commands of their records again. It begins
+    /// with a sync of both files, and changes nothing: at no moment does a crash leave anything
+    /// that it didn't leave before.
     ///
-    /// `NotStore` exactly where the files stand for nothing, with the file and the place of the first test that fails;
-    /// `DiskFault` only where a call on a file failed; `Memory` where there is none for what the files hold.
+    /// `NotStore` exactly where the files stand for nothing, with the file and the place of the
+    /// first test that fails; `DiskFault` only where a call on a file failed; `Memory` where there
+    /// is none for what the files hold.
     pub fn open<S: Site>(alloc: Global, site: &mut S) -> Result<Store, OpenFault>
-        ensures stands { IsTrue (S.told site.old) → IfOk result (λ store. stands (S.seen site.old) ≡ Ok store.stack) }
+        ensures stands { IsTrue (S.told site.old)
+            → IfOk result (λ store. stands (S.seen site.old) ≡ Ok store.stack) }
         ensures fresh { IfOk result (λ store. store.commands ≡ 0) }
-        ensures holds { IsTrue (S.told site.old) → IfOk result (λ store. Holds S.seen S.may_leave store.tail site.new) }
-        ensures not_store { IsTrue (S.told site.old) → IfErr result (IsMisfit (stands (S.seen site.old))) }
-        ensures failed { IsErrOf result OpenFault.DiskFault → Rose (S.counts site.old).disk (S.counts site.new).disk }
-        ensures looks { OnlyLooks S.told S.seen S.log S.counts S.clock S.may_leave S.left_since site.old site.new }
+        ensures holds { IsTrue (S.told site.old)
+            → IfOk result (λ store. Holds S.Site store.tail site.new) }
+        ensures not_store { IsTrue (S.told site.old)
+            → IfErr result (IsMisfit (stands (S.seen site.old))) }
+        ensures failed { IsErrOf result OpenFault.DiskFault
+            → Rose (S.counts site.old).disk (S.counts site.new).disk }
+        ensures looks { OnlyLooks S.Site site.old site.new }
     {
         match Tail::open(alloc, site) {
             Ok(opened) => store_of(alloc, opened),
@@ -61,7 +67,8 @@ fn store_of(alloc: Global, opened: Opened) -> Result<Store, OpenFault>
 
 // What is wrong with files that weren't read.
 fn fault_of(alloc: Global, fault: GateFault) -> OpenFault
-    ensures misfit { (reading : Result Found Fault) → IsFault reading fault → IsMisfit (stack_in reading) result }
+    ensures misfit { (reading : Result Found Fault) → IsFault reading fault
+        → IsMisfit (stack_in reading) result }
     ensures disk { result ≡ OpenFault.DiskFault → fault ≡ GateFault.DiskFault }
 {
     match fault {

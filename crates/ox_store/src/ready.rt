@@ -2,7 +2,7 @@
 
 ghost use Rattle.std.specs.Prelude.{◌≡◌, ◌+◌, Some, Ok, IsTrue, IfOk, OnErr};
 ghost use Rattle.ox_outside.specs.Counts.{Rose};
-ghost use Rattle.ox_outside.specs.Crash.{Calls, LeavesOnly};
+ghost use Rattle.ox_outside.specs.Runs.{Calls, LeavesOnly};
 ghost use Rattle.ox_gated.specs.Tail.{Holds};
 
 use crate::store::Store;
@@ -13,8 +13,9 @@ use ox_outside::Site;
 use std::alloc::Global;
 use std::marker::Model;
 
-/// A command that is accepted, with all its memory taken. It answers no query, and has to be committed. Contracts see
-/// the stack after the command, the tail and the number of commands before it, and its record's payload.
+/// A command that is accepted, with all its memory taken. It answers no query, and has to be
+/// committed. Contracts see the stack after the command, the tail and the number of commands before
+/// it, and its record's payload.
 pub struct Ready {
     pub(crate) alloc: Global,
     pub(crate) live: Live,
@@ -35,9 +36,17 @@ impl Model for Ready {
 
     ghost coded = { Prim.hlevel (codes, map.code) };
 
-    ghost view = { λ r. record { stack = stack_with r.tail.head.depth r.live; tail = r.tail; commands = r.commands; payload = r.framed } };
+    ghost view = { λ r.
+        record {
+          stack = stack_with r.tail.head.depth r.live;
+          tail = r.tail;
+          commands = r.commands;
+          payload = r.framed;
+        } };
 
-    ghost invariant = { λ r. (r.tail.head.version ≡ 1) × (r.commands < 2 ^ 64 - 1) × Fits r.tail (length r.framed) };
+    ghost invariant = { λ r.
+        (r.tail.head.version ≡ 1) × (r.commands < 2 ^ 64 - 1)
+        × Fits r.tail (length r.framed) };
 }
 
 impl Ready {
@@ -46,8 +55,8 @@ impl Ready {
     ghost use Rattle.ox_store.specs.Ready.{Leads, StandsForEither};
     ghost use Rattle.ox_store.specs.Store.{tip_of};
 
-    /// The newest block's height and its hash in serialized order, as the command leaves them; `None` exactly where no
-    /// block is left.
+    /// The newest block's height and its hash in serialized order, as the command leaves them;
+    /// `None` exactly where no block is left.
     pub fn tip(&self) -> Option<(u32, [u8; 32])>
         ensures { result ≡ tip_of self.now.stack.index }
     {
@@ -56,20 +65,31 @@ impl Ready {
         Some((height, *hash))
     }
 
-    /// Writes the command's record. At `Ok` it is on the disk: each crash then leaves files that have it. At any moment
-    /// of the call a crash leaves files that stand for the stack before the command or for the one after it. No event of
-    /// a channel is logged. `DiskFault` only where a call on a file failed; the store is gone then.
+    /// Writes the command's record. At `Ok` it is on the disk: each crash then leaves files that
+    /// have it. At any moment of the call a crash leaves files that stand for the stack before the
+    /// command or for the one after it. No event of a channel is logged. `DiskFault` only where a
+    /// call on a file failed; the store is gone then.
     pub fn commit<S: Site>(self, site: &mut S) -> Result<Store, DiskFault>
-        requires { IsTrue (S.told site.old) → Holds S.seen S.may_leave self.tail site.old }
+        requires { IsTrue (S.told site.old) → Holds S.Site self.tail site.old }
         ensures stack { IfOk result (λ store. store.stack ≡ self.stack) }
-        ensures one_more { IfOk result (λ store. (store.commands ≡ self.commands + 1) × (store.tail.records ≡ self.tail.records + 1)) }
-        ensures holds { IsTrue (S.told site.old) → IfOk result (λ store. Holds S.seen S.may_leave store.tail site.new) }
-        ensures stands { IsTrue (S.told site.old) → (before : Stack) → stands (S.seen site.old) ≡ Ok before → Leads before self → IfOk result (λ store. stands (S.seen site.new) ≡ Ok store.stack) }
-        ensures any_moment { IsTrue (S.told site.old) → (before : Stack) → stands (S.seen site.old) ≡ Ok before → Leads before self → LeavesOnly S.clock S.left_since site.old site.new (λ r. StandsForEither before self.stack r.files) }
+        ensures one_more { IfOk result (λ store.
+            (store.commands ≡ self.commands + 1) × (store.tail.records ≡ self.tail.records + 1)) }
+        // The same file is current, with the same head.
+        ensures kept { IfOk result (λ store.
+            (store.tail.file ≡ self.tail.file) × (store.tail.head ≡ self.tail.head)) }
+        ensures holds { IsTrue (S.told site.old)
+            → IfOk result (λ store. Holds S.Site store.tail site.new) }
+        ensures stands { IsTrue (S.told site.old)
+            → (before : Stack) → stands (S.seen site.old) ≡ Ok before → Leads before self
+            → IfOk result (λ store. stands (S.seen site.new) ≡ Ok store.stack) }
+        ensures any_moment { IsTrue (S.told site.old)
+            → (before : Stack) → stands (S.seen site.old) ≡ Ok before → Leads before self
+            → LeavesOnly S.Site site.old site.new
+            (λ r. StandsForEither before self.stack r.files) }
         ensures failed { OnErr result (Rose (S.counts site.old).disk (S.counts site.new).disk) }
         ensures logged { S.log site.new ≡ S.log site.old }
-        ensures log_stays { LeavesOnly S.clock S.left_since site.old site.new (λ r. S.log site.old ≡ Some r.log) }
-        ensures calls { Calls S.told S.counts S.clock S.left_since site.old site.new }
+        ensures log_stays { LeavesOnly S.Site site.old site.new (λ r. S.log site.old ≡ Some r.log) }
+        ensures calls { Calls S.Site site.old site.new }
     {
         let Ready {
             alloc,

@@ -1,10 +1,10 @@
 //! What a head, a body and records stand for.
 
 ghost use Rattle.std.specs.Prelude.{◌≡◌, ℕ, Some, None, Ok, IfOk, IfErr, OnOk, MatchOption};
-ghost use Rattle.ox_gated.specs.Opened.{sound};
+ghost use Rattle.ox_gated.specs.Opened.{intact_part};
 ghost use Rattle.ox_model.specs.Stands.{block_in as block_there, empty_stack_at, stack_in_file, place_of_cut};
 ghost use Rattle.ox_sat.specs.Profiles.{name_at as name_there};
-ghost use Rattle.ox_store.specs.Replay.{IsUnjudged, redone, fault_in};
+ghost use Rattle.ox_store.specs.Replay.{IsUnjudged, stack_after_record, fault_in};
 ghost use Rattle.ox_store.specs.Store.{stack_with};
 
 use crate::fault::OpenFault;
@@ -36,11 +36,12 @@ impl Unjudged {
     }
 }
 
-/// The index that a head, a body and records stand for. `At` exactly where they stand for none, with the place of the
-/// first test that fails: 26 where the body isn't empty, or the place of the gate of the first record that isn't
-/// accepted. `Memory` where there is none for the index.
+/// The index that a head, a body and records stand for. `At` exactly where they stand for none,
+/// with the place of the first test that fails: 26 where the body isn't empty, or the place of the
+/// gate of the first record that isn't accepted. `Memory` where there is none for the index.
 pub fn judge(alloc: Global, head: &Head, body: &Bytes, records: &Records) -> Result<Live, Unjudged>
-    ensures stack { IfOk result (λ live. stack_in_file head.now body.now records.now ≡ Ok (stack_with head.now.depth live)) }
+    ensures stack { IfOk result
+        (λ live. stack_in_file head.now body.now records.now ≡ Ok (stack_with head.now.depth live)) }
     ensures place { IfErr result (IsUnjudged (stack_in_file head.now body.now records.now)) }
 {
     if !body.is_empty() {
@@ -53,10 +54,10 @@ pub fn judge(alloc: Global, head: &Head, body: &Bytes, records: &Records) -> Res
     Ok(live)
 }
 
-/// The first test that fails in a file whose gate or record at this place is cut: the body and the records before it are
-/// tested first.
+/// The first test that fails in a file whose gate or record at this place is cut: the body and the
+/// records before it are tested first.
 pub fn earliest(alloc: Global, before: Option<Before>, at: u64) -> Unjudged
-    ensures { IsUnjudged (place_of_cut at (sound before)) result }
+    ensures { IsUnjudged (place_of_cut at (intact_part before)) result }
 {
     let Some(before) = before else {
         return Unjudged::At(at);
@@ -87,7 +88,8 @@ fn begin(alloc: Global, head: &Head) -> Live
 
 // The block of a record's payload, if it has one.
 fn block_in(payload: &[u8]) -> Option<&[u8]>
-    ensures { MatchOption result (block_there payload.now ≡ None) (λ block. block_there payload.now ≡ Some block.now) }
+    ensures { MatchOption result (block_there payload.now ≡ None)
+        (λ block. block_there payload.now ≡ Some block.now) }
 {
     match payload {
         [1, block @ ..] => Some(block),
@@ -95,11 +97,13 @@ fn block_in(payload: &[u8]) -> Option<&[u8]>
     }
 }
 
-// Takes in the block of a record. `At`, with the place of its gate, exactly where there is none that the chain accepts;
-// `Memory` where there is none for it.
+// Takes in the block of a record. `At`, with the place of its gate, exactly where there is none
+// that the chain accepts; `Memory` where there is none for it.
 fn redo(live: &mut Live, record: &Record) -> Result<(), Unjudged>
-    ensures stack { OnOk result ((depth : ℕ) → redone (stack_with depth live.old) «record».now ≡ Ok (stack_with depth live.new)) }
-    ensures place { IfErr result (λ unjudged. (depth : ℕ) → IsUnjudged (redone (stack_with depth live.old) «record».now) unjudged) }
+    ensures stack { OnOk result ((depth : ℕ)
+        → stack_after_record (stack_with depth live.old) «record».now ≡ Ok (stack_with depth live.new)) }
+    ensures place { IfErr result (λ unjudged. (depth : ℕ)
+        → IsUnjudged (stack_after_record (stack_with depth live.old) «record».now) unjudged) }
 {
     let Some(block) = block_in(record.payload.as_slice()) else {
         return Err(Unjudged::At(record.place));

@@ -2,7 +2,7 @@
 
 ghost use Rattle.std.specs.Prelude.{◌≡◌, ◌≢◌, ◌≤◌, ◌<◌, ◌^◌, ◌+◌, ◌-◌, ◌∷◌, ◌↔◌, ◌⊎◌, length, Some, Ok, Err, IsTrue, IfOk, IfErr, IsErrOf, OnOk, OnErr};
 ghost use Rattle.ox_outside.specs.Counts.{Rose};
-ghost use Rattle.ox_outside.specs.Crash.{Calls, LeavesOnly, OnlyLooks};
+ghost use Rattle.ox_outside.specs.Runs.{Calls, LeavesOnly, OnlyLooks};
 ghost use Rattle.ox_gated.specs.Tail.{Holds};
 ghost use Rattle.ox_store.specs.Make.{no_files};
 
@@ -21,11 +21,12 @@ use std::marker::Model;
 /// The first byte of a record's payload; the block that is connected stands behind it.
 const CONNECT: u8 = 1;
 
-/// The greatest number of bytes of a block that has a record: the length of its payload fits 4 bytes.
+/// The greatest number of bytes of a block that has a record: the length of its payload fits 4
+/// bytes.
 const LONGEST_BLOCK: usize = 0xffff_fffe;
 
-/// An index in memory and the tail of its records. Contracts see the stack that the files stand for, the tail, and the
-/// number of commands that were accepted since it was opened.
+/// An index in memory and the tail of its records. Contracts see the stack that the files stand
+/// for, the tail, and the number of commands that were accepted since it was opened.
 #[derive(Drop)]
 pub struct Store {
     pub(crate) alloc: Global,
@@ -44,7 +45,12 @@ impl Model for Store {
 
     ghost coded = { Prim.hlevel (codes, map.code) };
 
-    ghost view = { λ s. record { stack = stack_with s.tail.head.depth s.live; tail = s.tail; commands = s.commands } };
+    ghost view = { λ s.
+        record {
+          stack = stack_with s.tail.head.depth s.live;
+          tail = s.tail;
+          commands = s.commands;
+        } };
 
     ghost invariant = { λ s. s.tail.head.version ≡ 1 };
 }
@@ -58,12 +64,13 @@ impl Store {
     ghost use Rattle.ox_store.specs.Make.{made_stack};
     ghost use Rattle.ox_store.specs.Ready.{Prepares};
 
-    /// Makes two empty files a store without a block, whose chain counts by this profile and of whose blocks at most
-    /// `depth` may be kept, from 1 to 1,000. At `Ok` it is on the disk: each crash then leaves that store.
+    /// Makes two empty files a store without a block, whose chain counts by this profile and of
+    /// whose blocks at most `depth` may be kept, from 1 to 1,000. At `Ok` it is on the disk: each
+    /// crash then leaves that store.
     ///
-    /// `NotEmpty` exactly where a file's length isn't 0; `DiskFault` only where a call on a file failed; `Memory` where
-    /// there is none for the store. Nothing was written at `NotEmpty` and `Memory`, nor ever into files that aren't both
-    /// empty.
+    /// `NotEmpty` exactly where a file's length isn't 0; `DiskFault` only where a call on a file
+    /// failed; `Memory` where there is none for the store. Nothing was written at `NotEmpty` and
+    /// `Memory`, nor ever into files that aren't both empty.
     pub fn make<S: Site>(
         alloc: Global,
         site: &mut S,
@@ -73,16 +80,22 @@ impl Store {
         requires { (1 ≤ depth) × (depth ≤ 1000) }
         ensures stack { IfOk result (λ store. store.stack ≡ made_stack name depth) }
         ensures fresh { IfOk result (λ store. store.commands ≡ 0) }
-        ensures stands { IsTrue (S.told site.old) → IfOk result (λ store. stands (S.seen site.new) ≡ Ok store.stack) }
-        ensures holds { IsTrue (S.told site.old) → IfOk result (λ store. Holds S.seen S.may_leave store.tail site.new) }
+        ensures stands { IsTrue (S.told site.old)
+            → IfOk result (λ store. stands (S.seen site.new) ≡ Ok store.stack) }
+        ensures holds { IsTrue (S.told site.old)
+            → IfOk result (λ store. Holds S.Site store.tail site.new) }
         ensures empty { IsTrue (S.told site.old) → OnOk result (S.seen site.old ≡ no_files) }
-        ensures not_empty { IsTrue (S.told site.old) → IsErrOf result MakeFault.NotEmpty → S.seen site.old ≢ no_files }
-        ensures spared { IsTrue (S.told site.old) → S.seen site.old ≢ no_files → OnlyLooks S.told S.seen S.log S.counts S.clock S.may_leave S.left_since site.old site.new }
-        ensures wrote_nothing { (result ≡ Err MakeFault.NotEmpty) ⊎ (result ≡ Err MakeFault.Memory) → OnlyLooks S.told S.seen S.log S.counts S.clock S.may_leave S.left_since site.old site.new }
-        ensures failed { IsErrOf result MakeFault.DiskFault → Rose (S.counts site.old).disk (S.counts site.new).disk }
+        ensures not_empty { IsTrue (S.told site.old) → IsErrOf result MakeFault.NotEmpty
+            → S.seen site.old ≢ no_files }
+        ensures spared { IsTrue (S.told site.old) → S.seen site.old ≢ no_files
+            → OnlyLooks S.Site site.old site.new }
+        ensures wrote_nothing { (result ≡ Err MakeFault.NotEmpty) ⊎ (result ≡ Err MakeFault.Memory)
+            → OnlyLooks S.Site site.old site.new }
+        ensures failed { IsErrOf result MakeFault.DiskFault
+            → Rose (S.counts site.old).disk (S.counts site.new).disk }
         ensures logged { S.log site.new ≡ S.log site.old }
-        ensures log_stays { LeavesOnly S.clock S.left_since site.old site.new (λ r. S.log site.old ≡ Some r.log) }
-        ensures calls { Calls S.told S.counts S.clock S.left_since site.old site.new }
+        ensures log_stays { LeavesOnly S.Site site.old site.new (λ r. S.log site.old ≡ Some r.log) }
+        ensures calls { Calls S.Site site.old site.new }
     {
         if !are_empty(site)? {
             return Err(MakeFault::NotEmpty);
@@ -129,8 +142,9 @@ impl Store {
         self.commands
     }
 
-    /// Takes all the memory of a command and carries it out in memory; its record isn't written yet. `Refused` exactly
-    /// where the command is refused; `Memory` where there is none for it. Both hand the store back as it was.
+    /// Takes all the memory of a command and carries it out in memory; its record isn't written
+    /// yet. `Refused` exactly where the command is refused; `Memory` where there is none for it.
+    /// Both hand the store back as it was.
     pub fn prepare(self, command: &Command) -> Result<Ready, Kept>
         requires { self.commands < 2 ^ 64 - 1 }
         ensures ready { IfOk result (λ ready. Prepares self command.now ready) }
@@ -143,8 +157,8 @@ impl Store {
         }
     }
 
-    // Prepares a connect: its record is taken first, and the block is connected last, so that want of memory leaves all
-    // as it was.
+    // Prepares a connect: its record is taken first, and the block is connected last, so that want
+    // of memory leaves all as it was.
     fn prepare_connect(self, block: &[u8]) -> Result<Ready, Kept>
         requires { self.commands < 2 ^ 64 - 1 }
         ensures ready { IfOk result (λ ready. Prepares self (Connect block.now) ready) }
@@ -181,8 +195,8 @@ impl Store {
         }
     }
 
-    // The record of a block. `Memory` where the block is too long for one, where the file has no room for it, and where
-    // there is none.
+    // The record of a block. `Memory` where the block is too long for one, where the file has no
+    // room for it, and where there is none.
     fn record_of(&self, block: &[u8]) -> Result<Framed, Memory>
         ensures payload { IfOk result (λ framed. framed ≡ 1 ∷ block.now) }
         ensures fits { IfOk result (λ framed. Fits self.now.tail (length framed)) }
@@ -204,8 +218,9 @@ impl Store {
 
 // Whether the length of both files is 0.
 fn are_empty<S: Site>(site: &mut S) -> Result<bool, Failed>
-    ensures empty { IsTrue (S.told site.old) → IfOk result (λ empty. IsTrue empty ↔ (S.seen site.old ≡ no_files)) }
-    ensures looks { OnlyLooks S.told S.seen S.log S.counts S.clock S.may_leave S.left_since site.old site.new }
+    ensures empty { IsTrue (S.told site.old)
+        → IfOk result (λ empty. IsTrue empty ↔ (S.seen site.old ≡ no_files)) }
+    ensures looks { OnlyLooks S.Site site.old site.new }
     ensures failed { OnErr result (Rose (S.counts site.old).disk (S.counts site.new).disk) }
 {
     let a = site.len(Which::A)?;

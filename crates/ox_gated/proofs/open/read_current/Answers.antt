@@ -3,7 +3,7 @@ use Rattle.std.specs.Prelude.{Result, Ok, IfOk, IfErr, slice_range}
 use Rattle.ox_outside.specs.Files.{Files, file_of}
 use Rattle.ox_gated.specs.Opened.{IsFault, found_of}
 use Rattle.ox_gated.specs.Reading.{Found, Fault}
-use Rattle.ox_gated.proofs.Picking.{current_read}
+use Rattle.ox_gated.proofs.ChoiceByFronts.{current_read}
 use Rattle.ox_gated.proofs.open.read_current.Goals as goal
 
 pub returns-clause-found : goal.returns-clause-found

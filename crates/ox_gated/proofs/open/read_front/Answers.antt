@@ -1,7 +1,7 @@
 use Rattle.std.proofs.Common.{◌∙◌, ◌+◌, ap}
 use Rattle.std.specs.Prelude.{slice_range}
 use Rattle.ox_outside.specs.Files.{Files, file_of}
-use Rattle.ox_gated.proofs.Picking.{front_is}
+use Rattle.ox_gated.proofs.ChoiceByFronts.{front_is}
 use Rattle.ox_gated.proofs.open.read_front.Goals as goal
 
 pub returns-clause-bytes : goal.returns-clause-bytes

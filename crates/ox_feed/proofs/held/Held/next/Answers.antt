@@ -16,7 +16,7 @@ loop-line-preserved g c =
           (g.S.Site.log c.args.site.now) (g.S.Site.log c.loop-line.site) (g.S.Site.log c.hear.new.site)
           c.in_ok-line.ensures.heard c.in_ok-line.ensures.ended cuts.1 kept.1 c.hear.ensures.waits,
       le_trans (le_trans c.hear.ensures.left fewer) kept.2,
-      talks_on g.S.Site.told g.S.Site.seen g.S.Site.log g.S.Site.counts g.S.Site.clock g.S.Site.may_leave g.S.Site.left_since
+      talks_on g.S.Site
           (feed_of c.args.self.now) (feed_of c.loop-line.self) c.args.site.now c.loop-line.site c.hear.new.site (sym c.in_ok-line.ensures.ended ∙ c.if-self.false) kept.1 kept.3 c.hear.ensures.talks,
     )
 
@@ -34,5 +34,5 @@ returns-in_err-hear-clause-told g c =
 pub returns-in_err-hear-clause-talks : goal.returns-in_err-hear-clause-talks
 returns-in_err-hear-clause-talks g c =
     let kept = c.loop-line.invariant in
-    talks_on g.S.Site.told g.S.Site.seen g.S.Site.log g.S.Site.counts g.S.Site.clock g.S.Site.may_leave g.S.Site.left_since
+    talks_on g.S.Site
     (feed_of c.args.self.now) (feed_of c.loop-line.self) c.args.site.now c.loop-line.site c.hear.new.site (sym c.in_ok-line.ensures.ended ∙ c.if-self.false) kept.1 kept.3 c.hear.ensures.talks

@@ -20,15 +20,15 @@ returns-in-Ok-Bytes-clause-logged g c =
 
 pub returns-in-Ok-Bytes-clause-talks : goal.returns-in-Ok-Bytes-clause-talks
 returns-in-Ok-Bytes-clause-talks g c =
-    talks_hearing g.S.Site.told g.S.Site.seen g.S.Site.log g.S.Site.counts g.S.Site.clock g.S.Site.may_leave g.S.Site.left_since g.met.S.Site.only_now g.met.S.Site.logs_now
+    talks_hearing g.S.Site g.met.S.Site.only_now g.met.S.Site.logs_now
     c.hear.new.into c.hear.result c.args.site.now c.hear.new.self c.hear.ensures.logged c.hear.ensures.files c.hear.ensures.call
 
 pub returns-in-Ok-End-clause-talks : goal.returns-in-Ok-End-clause-talks
 returns-in-Ok-End-clause-talks g c =
-    talks_hearing g.S.Site.told g.S.Site.seen g.S.Site.log g.S.Site.counts g.S.Site.clock g.S.Site.may_leave g.S.Site.left_since g.met.S.Site.only_now g.met.S.Site.logs_now
+    talks_hearing g.S.Site g.met.S.Site.only_now g.met.S.Site.logs_now
     c.hear.new.into c.hear.result c.args.site.now c.hear.new.self c.hear.ensures.logged c.hear.ensures.files c.hear.ensures.call
 
 pub returns-in-Err-clause-talks : goal.returns-in-Err-clause-talks
 returns-in-Err-clause-talks g c =
-    talks_hearing g.S.Site.told g.S.Site.seen g.S.Site.log g.S.Site.counts g.S.Site.clock g.S.Site.may_leave g.S.Site.left_since g.met.S.Site.only_now g.met.S.Site.logs_now
+    talks_hearing g.S.Site g.met.S.Site.only_now g.met.S.Site.logs_now
     c.hear.new.into c.hear.result c.args.site.now c.hear.new.self c.hear.ensures.logged c.hear.ensures.files c.hear.ensures.call

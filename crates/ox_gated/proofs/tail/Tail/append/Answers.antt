@@ -1,8 +1,8 @@
 use Rattle.std.proofs.Common.{◌≡◌, ◌∙◌, ◌+◌, ℕ, sym, subst}
-use Rattle.ox_outside.specs.Crash.{LeavesOnly}
-use Rattle.ox_gated.specs.Reading.{reading, appended}
+use Rattle.ox_outside.specs.Runs.{LeavesOnly}
+use Rattle.ox_gated.specs.Reading.{reading, with_payload}
 use Rattle.ox_gated.specs.Tail.{Kept, Holds, IsBeforeOrAfter}
-use Rattle.ox_gated.proofs.Appending.{first_within, moments_first, moments_both, staged_within, staged_settled, reads_after, holds_after}
+use Rattle.ox_gated.proofs.AppendKeepsTail.{first_within, moments_first, moments_both, staged_within, staged_settled, reads_after, holds_after}
 use Rattle.ox_gated.proofs.tail.Tail.append.Goals as goal
 
 pub write_synced-requires : goal.write_synced-requires
@@ -10,7 +10,7 @@ write_synced-requires g c told =
     let b = c.as_slice-bytes.ensures in
     let i = c.self.inside in
     let tail : Kept = record { file = i.file; head = i.head; records = i.records; gate = i.gate; other_closed = i.other_closed } in
-    let h : Holds g.S.Site.seen g.S.Site.may_leave tail c.args.site.now = subst (λ (t : Kept). Holds g.S.Site.seen g.S.Site.may_leave t c.args.site.now) (sym c.self.view_is) (c.requires.holds told) in
+    let h : Holds g.S.Site tail c.args.site.now = subst (λ (t : Kept). Holds g.S.Site t c.args.site.now) (sym c.self.view_is) (c.requires.holds told) in
     first_within tail.head.version c.args.framed.now b.small (g.S.Site.seen c.args.site.now) tail h.keeps
 
 pub returns-in_err-write_synced-clause-any_moment : goal.returns-in_err-write_synced-clause-any_moment
@@ -18,9 +18,9 @@ returns-in_err-write_synced-clause-any_moment g c told =
     let b = c.as_slice-bytes.ensures in
     let i = c.self.inside in
     let tail : Kept = record { file = i.file; head = i.head; records = i.records; gate = i.gate; other_closed = i.other_closed } in
-    let h : Holds g.S.Site.seen g.S.Site.may_leave tail c.args.site.now = subst (λ (t : Kept). Holds g.S.Site.seen g.S.Site.may_leave t c.args.site.now) (sym c.self.view_is) (c.requires.holds told) in
-    subst (λ (t : Kept). LeavesOnly g.S.Site.clock g.S.Site.left_since c.args.site.now c.write_synced.new.site (λ r. IsBeforeOrAfter t.head.version c.args.framed.now (g.S.Site.seen c.args.site.now) r.files)) c.self.view_is
-    (moments_first g.S.Site.seen g.S.Site.may_leave g.S.Site.clock g.S.Site.left_since c.args.framed.now b.small tail c.as_slice-bytes.result.now b.bytes c.args.site.now c.write_synced.new.site h (c.write_synced.ensures.moments h.settled))
+    let h : Holds g.S.Site tail c.args.site.now = subst (λ (t : Kept). Holds g.S.Site t c.args.site.now) (sym c.self.view_is) (c.requires.holds told) in
+    subst (λ (t : Kept). LeavesOnly g.S.Site c.args.site.now c.write_synced.new.site (λ r. IsBeforeOrAfter t.head.version c.args.framed.now (g.S.Site.seen c.args.site.now) r.files)) c.self.view_is
+    (moments_first g.S.Site c.args.framed.now b.small tail c.as_slice-bytes.result.now b.bytes c.args.site.now c.write_synced.new.site h (c.write_synced.ensures.moments h.settled))
 
 pub returns-in_err-write_synced-2-clause-any_moment : goal.returns-in_err-write_synced-2-clause-any_moment
 returns-in_err-write_synced-2-clause-any_moment g c told =
@@ -28,10 +28,10 @@ returns-in_err-write_synced-2-clause-any_moment g c told =
     let i = c.self.inside in
     let first = c.in_ok-write_synced.ensures in
     let tail : Kept = record { file = i.file; head = i.head; records = i.records; gate = i.gate; other_closed = i.other_closed } in
-    let h : Holds g.S.Site.seen g.S.Site.may_leave tail c.args.site.now = subst (λ (t : Kept). Holds g.S.Site.seen g.S.Site.may_leave t c.args.site.now) (sym c.self.view_is) (c.requires.holds told) in
-    let settled = staged_settled g.S.Site.seen g.S.Site.may_leave g.S.Site.clock g.S.Site.left_since c.args.framed.now b.small tail c.as_slice-bytes.result.now b.bytes c.args.site.now c.write_synced.new.site h (first.written told) first.durable first.others in
-    subst (λ (t : Kept). LeavesOnly g.S.Site.clock g.S.Site.left_since c.args.site.now c.write_synced-2.new.site (λ r. IsBeforeOrAfter t.head.version c.args.framed.now (g.S.Site.seen c.args.site.now) r.files)) c.self.view_is
-    (moments_both g.S.Site.seen g.S.Site.may_leave g.S.Site.clock g.S.Site.left_since c.args.framed.now b.small tail c.as_slice-bytes.result.now b.bytes c.args.site.now c.write_synced.new.site h c.write_synced-2.new.site (first.moments h.settled) (first.written told) (c.write_synced-2.ensures.moments settled))
+    let h : Holds g.S.Site tail c.args.site.now = subst (λ (t : Kept). Holds g.S.Site t c.args.site.now) (sym c.self.view_is) (c.requires.holds told) in
+    let settled = staged_settled g.S.Site c.args.framed.now b.small tail c.as_slice-bytes.result.now b.bytes c.args.site.now c.write_synced.new.site h (first.written told) first.durable first.others in
+    subst (λ (t : Kept). LeavesOnly g.S.Site c.args.site.now c.write_synced-2.new.site (λ r. IsBeforeOrAfter t.head.version c.args.framed.now (g.S.Site.seen c.args.site.now) r.files)) c.self.view_is
+    (moments_both g.S.Site c.args.framed.now b.small tail c.as_slice-bytes.result.now b.bytes c.args.site.now c.write_synced.new.site h c.write_synced-2.new.site (first.moments h.settled) (first.written told) (c.write_synced-2.ensures.moments settled))
 
 pub returns-clause-any_moment : goal.returns-clause-any_moment
 returns-clause-any_moment g c told =
@@ -39,10 +39,10 @@ returns-clause-any_moment g c told =
     let i = c.self.inside in
     let first = c.in_ok-write_synced.ensures in
     let tail : Kept = record { file = i.file; head = i.head; records = i.records; gate = i.gate; other_closed = i.other_closed } in
-    let h : Holds g.S.Site.seen g.S.Site.may_leave tail c.args.site.now = subst (λ (t : Kept). Holds g.S.Site.seen g.S.Site.may_leave t c.args.site.now) (sym c.self.view_is) (c.requires.holds told) in
-    let settled = staged_settled g.S.Site.seen g.S.Site.may_leave g.S.Site.clock g.S.Site.left_since c.args.framed.now b.small tail c.as_slice-bytes.result.now b.bytes c.args.site.now c.write_synced.new.site h (first.written told) first.durable first.others in
-    subst (λ (t : Kept). LeavesOnly g.S.Site.clock g.S.Site.left_since c.args.site.now c.write_synced-2.new.site (λ r. IsBeforeOrAfter t.head.version c.args.framed.now (g.S.Site.seen c.args.site.now) r.files)) c.self.view_is
-    (moments_both g.S.Site.seen g.S.Site.may_leave g.S.Site.clock g.S.Site.left_since c.args.framed.now b.small tail c.as_slice-bytes.result.now b.bytes c.args.site.now c.write_synced.new.site h c.write_synced-2.new.site (first.moments h.settled) (first.written told) (c.in_ok-write_synced-2.ensures.moments settled))
+    let h : Holds g.S.Site tail c.args.site.now = subst (λ (t : Kept). Holds g.S.Site t c.args.site.now) (sym c.self.view_is) (c.requires.holds told) in
+    let settled = staged_settled g.S.Site c.args.framed.now b.small tail c.as_slice-bytes.result.now b.bytes c.args.site.now c.write_synced.new.site h (first.written told) first.durable first.others in
+    subst (λ (t : Kept). LeavesOnly g.S.Site c.args.site.now c.write_synced-2.new.site (λ r. IsBeforeOrAfter t.head.version c.args.framed.now (g.S.Site.seen c.args.site.now) r.files)) c.self.view_is
+    (moments_both g.S.Site c.args.framed.now b.small tail c.as_slice-bytes.result.now b.bytes c.args.site.now c.write_synced.new.site h c.write_synced-2.new.site (first.moments h.settled) (first.written told) (c.in_ok-write_synced-2.ensures.moments settled))
 
 pub write_synced-requires-2 : goal.write_synced-requires-2
 write_synced-requires-2 g c told_mid =
@@ -51,8 +51,8 @@ write_synced-requires-2 g c told_mid =
     let first = c.in_ok-write_synced.ensures in
     let told = sym first.calls.as_told ∙ told_mid in
     let tail : Kept = record { file = i.file; head = i.head; records = i.records; gate = i.gate; other_closed = i.other_closed } in
-    let h : Holds g.S.Site.seen g.S.Site.may_leave tail c.args.site.now = subst (λ (t : Kept). Holds g.S.Site.seen g.S.Site.may_leave t c.args.site.now) (sym c.self.view_is) (c.requires.holds told) in
-    staged_within g.S.Site.seen g.S.Site.may_leave g.S.Site.clock g.S.Site.left_since c.args.framed.now b.small tail c.as_slice-bytes.result.now b.bytes c.args.site.now c.write_synced.new.site h (first.written told)
+    let h : Holds g.S.Site tail c.args.site.now = subst (λ (t : Kept). Holds g.S.Site t c.args.site.now) (sym c.self.view_is) (c.requires.holds told) in
+    staged_within g.S.Site c.args.framed.now b.small tail c.as_slice-bytes.result.now b.bytes c.args.site.now c.write_synced.new.site h (first.written told)
 
 pub returns-clause-appended : goal.returns-clause-appended
 returns-clause-appended g c told =
@@ -61,9 +61,9 @@ returns-clause-appended g c told =
     let first = c.in_ok-write_synced.ensures in
     let told_mid = first.calls.as_told ∙ told in
     let tail : Kept = record { file = i.file; head = i.head; records = i.records; gate = i.gate; other_closed = i.other_closed } in
-    let h : Holds g.S.Site.seen g.S.Site.may_leave tail c.args.site.now = subst (λ (t : Kept). Holds g.S.Site.seen g.S.Site.may_leave t c.args.site.now) (sym c.self.view_is) (c.requires.holds told) in
-    subst (λ (t : Kept). reading t.head.version (g.S.Site.seen c.write_synced-2.new.site) ≡ appended c.args.framed.now (reading t.head.version (g.S.Site.seen c.args.site.now))) c.self.view_is
-    (reads_after g.S.Site.seen g.S.Site.may_leave g.S.Site.clock g.S.Site.left_since c.args.framed.now b.small tail c.as_slice-bytes.result.now b.bytes c.args.site.now c.write_synced.new.site h c.write_synced-2.new.site (first.written told) (c.in_ok-write_synced-2.ensures.written told_mid))
+    let h : Holds g.S.Site tail c.args.site.now = subst (λ (t : Kept). Holds g.S.Site t c.args.site.now) (sym c.self.view_is) (c.requires.holds told) in
+    subst (λ (t : Kept). reading t.head.version (g.S.Site.seen c.write_synced-2.new.site) ≡ with_payload c.args.framed.now (reading t.head.version (g.S.Site.seen c.args.site.now))) c.self.view_is
+    (reads_after g.S.Site c.args.framed.now b.small tail c.as_slice-bytes.result.now b.bytes c.args.site.now c.write_synced.new.site h c.write_synced-2.new.site (first.written told) (c.in_ok-write_synced-2.ensures.written told_mid))
 
 pub returns-clause-holds : goal.returns-clause-holds
 returns-clause-holds g c told =
@@ -73,7 +73,7 @@ returns-clause-holds g c told =
     let second = c.in_ok-write_synced-2.ensures in
     let told_mid = first.calls.as_told ∙ told in
     let tail : Kept = record { file = i.file; head = i.head; records = i.records; gate = i.gate; other_closed = i.other_closed } in
-    let h : Holds g.S.Site.seen g.S.Site.may_leave tail c.args.site.now = subst (λ (t : Kept). Holds g.S.Site.seen g.S.Site.may_leave t c.args.site.now) (sym c.self.view_is) (c.requires.holds told) in
-    let settled = staged_settled g.S.Site.seen g.S.Site.may_leave g.S.Site.clock g.S.Site.left_since c.args.framed.now b.small tail c.as_slice-bytes.result.now b.bytes c.args.site.now c.write_synced.new.site h (first.written told) first.durable first.others in
-    subst (λ (n : ℕ). Holds g.S.Site.seen g.S.Site.may_leave (record tail { records = i.records + 1; gate = i.gate + n }) c.write_synced-2.new.site) (sym b.size)
-    (holds_after g.S.Site.seen g.S.Site.may_leave g.S.Site.clock g.S.Site.left_since c.args.framed.now b.small tail c.as_slice-bytes.result.now b.bytes c.args.site.now c.write_synced.new.site h c.write_synced-2.new.site (first.written told) (second.written told_mid) settled second.durable second.others)
+    let h : Holds g.S.Site tail c.args.site.now = subst (λ (t : Kept). Holds g.S.Site t c.args.site.now) (sym c.self.view_is) (c.requires.holds told) in
+    let settled = staged_settled g.S.Site c.args.framed.now b.small tail c.as_slice-bytes.result.now b.bytes c.args.site.now c.write_synced.new.site h (first.written told) first.durable first.others in
+    subst (λ (n : ℕ). Holds g.S.Site (record tail { records = i.records + 1; gate = i.gate + n }) c.write_synced-2.new.site) (sym b.size)
+    (holds_after g.S.Site c.args.framed.now b.small tail c.as_slice-bytes.result.now b.bytes c.args.site.now c.write_synced.new.site h c.write_synced-2.new.site (first.written told) (second.written told_mid) settled second.durable second.others)

@@ -12,7 +12,7 @@ pub returns-in_err-tail-clause-any_moment : goal.returns-in_err-tail-clause-any_
 returns-in_err-tail-clause-any_moment g c told before is leads =
     let i = c.self.inside in
     let payload = ap (λ (r : Prepared). r.payload) c.self.view_is in
-    leaves_weaker g.S.Site.clock g.S.Site.left_since c.args.site.now c.append.new.site _ _
+    leaves_weaker g.S.Site c.args.site.now c.append.new.site _ _
     (λ r either. before_or_after i.tail.head.version i.framed (g.S.Site.seen c.args.site.now) r.files before c.args.self c.self.invariant.0 payload is leads either)
     (c.append.ensures.any_moment told)
 
@@ -28,6 +28,6 @@ pub returns-clause-any_moment : goal.returns-clause-any_moment
 returns-clause-any_moment g c told before is leads =
     let i = c.self.inside in
     let payload = ap (λ (r : Prepared). r.payload) c.self.view_is in
-    leaves_weaker g.S.Site.clock g.S.Site.left_since c.args.site.now c.append.new.site _ _
+    leaves_weaker g.S.Site c.args.site.now c.append.new.site _ _
     (λ r either. before_or_after i.tail.head.version i.framed (g.S.Site.seen c.args.site.now) r.files before c.args.self c.self.invariant.0 payload is leads either)
     (c.append.ensures.any_moment told)

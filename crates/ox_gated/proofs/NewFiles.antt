@@ -1,15 +1,16 @@
 -- Two files that were made stand for what they were made of.
-use Rattle.std.proofs.Common.{◌≡◌, ◌∙◌, ◌<◌, ◌+◌, ◌^◌, ℕ, Bool, true, false, List, [], ◌∷◌, ◌++◌, length, drop, not, ◌&&◌, if◌then◌else◌, Some, None, refl, sym, ap, arith}
+use Rattle.std.proofs.Common.{◌≡◌, ◌∙◌, ◌<◌, ◌+◌, ◌^◌, ℕ, Bool, true, false, List, [], ◌∷◌, ◌++◌, length, drop, not, ◌&&◌, if◌then◌else◌, Option, Some, None, refl, sym, ap, arith}
 use Rattle.std.specs.Prelude.{Ok, IsTrue, nat_lt}
 use Rattle.std.proofs.lemmas.Bool.{le-ltb, eq-eqb}
 use Rattle.std.proofs.lemmas.Nat.{from_le_bytes-to_le_bytes_2, from_le_bytes-to_le_bytes_8}
 use Rattle.std.proofs.lemmas.List.{drop_all, append-nil}
-use Rattle.ox_outside.specs.Files.{Files, file_of, with_file, written}
+use Rattle.ox_outside.specs.Files.{Files, file_of, with_file, with_bytes}
 use Rattle.ox_outside.specs.declared.site.Which.TheVariants.{A, B}
 use Rattle.ox_gated.specs.Layout.{has_magic, is_lawful, opening_at, head_of, head_bytes, checkpoint_bytes}
-use Rattle.ox_gated.specs.Reading.{Chain, chain, refused, judged, current, alone, reading}
+use Rattle.ox_gated.specs.Pick.{lone_choice}
+use Rattle.ox_gated.specs.Reading.{Chain, chain, fault_at, found_or_fault, current, reading_by, reading}
 use Rattle.ox_outside.specs.Crash.{Remains, Only, Follows, Tears}
-use Rattle.ox_gated.specs.Tail.{KeepsFound, made, just_made}
+use Rattle.ox_gated.specs.Tail.{KeepsFound, new_files, new_found}
 use Rattle.ox_gated.specs.declared.head.Head.{Head}
 use Rattle.ox_gated.specs.declared.head.Opening.{Opening}
 use Rattle.ox_gated.proofs.Chain.{chain_shut}
@@ -50,30 +51,30 @@ module _ (head : Head) (body : List ℕ) (lawful : IsTrue (is_lawful head)) (dep
   unfolding front
   body_there = refl
 
-  pub stands_made : reading head.version (made (record { head = head; body = body })) ≡ Ok (just_made (record { head = head; body = body }))
+  pub stands_made : reading head.version (new_files (record { head = head; body = body })) ≡ Ok (new_found (record { head = head; body = body }))
   stands_made =
-      ap (alone head.version A (1 ∷ checkpoint_bytes head body)) head_there
+      ap (λ (o : Option Opening). reading_by head.version (new_files (record { head = head; body = body })) (lone_choice A o)) head_there
       ∙ ap (λ (l : List ℕ). current head.version A l opening) whole
       ∙ current_on head.version A front (0 ∷ []) opening length-front
-      ∙ ap (λ (b : Bool). if not b then refused A 6 else judged A head (drop 26 front) (chain (26 + length body) (0 ∷ [])).records (chain (26 + length body) (0 ∷ [])).end) (eq-eqb head.version head.version refl)
-      ∙ ap (λ (c : Chain). judged A head (drop 26 front) c.records c.end) (chain_shut (26 + length body) 0 [] refl)
-      ∙ ap (λ (l : List ℕ). judged A head l [] (Ok (26 + length body))) body_there
+      ∙ ap (λ (b : Bool). if not b then fault_at A 6 else found_or_fault A head (drop 26 front) (chain (26 + length body) (0 ∷ [])).records (chain (26 + length body) (0 ∷ [])).end) (eq-eqb head.version head.version refl)
+      ∙ ap (λ (c : Chain). found_or_fault A head (drop 26 front) c.records c.end) (chain_shut (26 + length body) 0 [] refl)
+      ∙ ap (λ (l : List ℕ). found_or_fault A head l [] (Ok (26 + length body))) body_there
 
 -- what the writes make of two empty files
-pub written_first : (bytes : List ℕ) → written 1 bytes (0 ∷ []) ≡ 0 ∷ bytes
+pub written_first : (bytes : List ℕ) → with_bytes 1 bytes (0 ∷ []) ≡ 0 ∷ bytes
 written_first bytes = ap (λ (l : List ℕ). (0 ∷ []) ++ bytes ++ l) (drop_all (1 + length bytes) (0 ∷ []) (omega arith)) ∙ append-nil (0 ∷ bytes)
 
 -- the four states of two empty files that are made a pair
-pub made_is : (bytes : List ℕ) (s0 s1 s2 s3 s4 : Files) → s0 ≡ record { a = []; b = [] } → s1 ≡ with_file s0 B (written 0 (0 ∷ []) (file_of s0 B)) → s2 ≡ with_file s1 A (written 0 (0 ∷ []) (file_of s1 A))
-    → s3 ≡ with_file s2 A (written 1 bytes (file_of s2 A)) → s4 ≡ with_file s3 A (written 0 (1 ∷ []) (file_of s3 A)) → s4 ≡ record { a = 1 ∷ bytes; b = 0 ∷ [] }
+pub made_is : (bytes : List ℕ) (s0 s1 s2 s3 s4 : Files) → s0 ≡ record { a = []; b = [] } → s1 ≡ with_file s0 B (with_bytes 0 (0 ∷ []) (file_of s0 B)) → s2 ≡ with_file s1 A (with_bytes 0 (0 ∷ []) (file_of s1 A))
+    → s3 ≡ with_file s2 A (with_bytes 1 bytes (file_of s2 A)) → s4 ≡ with_file s3 A (with_bytes 0 (1 ∷ []) (file_of s3 A)) → s4 ≡ record { a = 1 ∷ bytes; b = 0 ∷ [] }
 made_is bytes s0 s1 s2 s3 s4 e0 e1 e2 e3 e4 =
-    let first : s1 ≡ record { a = []; b = 0 ∷ [] } = e1 ∙ ap (λ (f : Files). with_file f B (written 0 (0 ∷ []) (file_of f B))) e0 in
-    let second : s2 ≡ record { a = 0 ∷ []; b = 0 ∷ [] } = e2 ∙ ap (λ (f : Files). with_file f A (written 0 (0 ∷ []) (file_of f A))) first in
-    let third : s3 ≡ record { a = 0 ∷ bytes; b = 0 ∷ [] } = e3 ∙ ap (λ (f : Files). with_file f A (written 1 bytes (file_of f A))) second ∙ (λ i. record { a = written_first bytes i; b = 0 ∷ [] }) in
-    e4 ∙ ap (λ (f : Files). with_file f A (written 0 (1 ∷ []) (file_of f A))) third
+    let first : s1 ≡ record { a = []; b = 0 ∷ [] } = e1 ∙ ap (λ (f : Files). with_file f B (with_bytes 0 (0 ∷ []) (file_of f B))) e0 in
+    let second : s2 ≡ record { a = 0 ∷ []; b = 0 ∷ [] } = e2 ∙ ap (λ (f : Files). with_file f A (with_bytes 0 (0 ∷ []) (file_of f A))) first in
+    let third : s3 ≡ record { a = 0 ∷ bytes; b = 0 ∷ [] } = e3 ∙ ap (λ (f : Files). with_file f A (with_bytes 1 bytes (file_of f A))) second ∙ (λ i. record { a = written_first bytes i; b = 0 ∷ [] }) in
+    e4 ∙ ap (λ (f : Files). with_file f A (with_bytes 0 (1 ∷ []) (file_of f A))) third
 
-pub first_b : (s0 s1 : Files) → s0 ≡ record { a = []; b = [] } → s1 ≡ with_file s0 B (written 0 (0 ∷ []) (file_of s0 B)) → s1.b ≡ 0 ∷ []
-first_b s0 s1 e0 e1 = ap (λ (f : Files). f.b) e1 ∙ ap (λ (f : Files). written 0 (0 ∷ []) f.b) e0
+pub first_b : (s0 s1 : Files) → s0 ≡ record { a = []; b = [] } → s1 ≡ with_file s0 B (with_bytes 0 (0 ∷ []) (file_of s0 B)) → s1.b ≡ 0 ∷ []
+first_b s0 s1 e0 e1 = ap (λ (f : Files). f.b) e1 ∙ ap (λ (f : Files). with_bytes 0 (0 ∷ []) f.b) e0
 
 -- what a crash leaves of them at the end
 pub made_settled : (m1 m2 m3 m4 : Remains → Type 0) (s1 s4 : Files) → Only B s1.b m1 → Follows (Tears A 0 1) m1 m2
@@ -86,5 +87,5 @@ made_settled m1 m2 m3 m4 s1 s4 only_b follows others3 others4 only_a same r left
     let a : r.files.a ≡ s4.a = only_a r left in
     λ i. record { a = a i; b = b i }
 
-pub made_keeps : (head : Head) (body : List ℕ) (size : ℕ) → size ≡ 26 + length body → KeepsFound (record { file = A; head = head; records = 0; gate = size; other_closed = true }) (just_made (record { head = head; body = body }))
+pub made_keeps : (head : Head) (body : List ℕ) (size : ℕ) → size ≡ 26 + length body → KeepsFound (record { file = A; head = head; records = 0; gate = size; other_closed = true }) (new_found (record { head = head; body = body }))
 made_keeps head body size is = record { file = refl; head = refl; records = refl; gate = is }

@@ -6,10 +6,9 @@ use Rattle.std.proofs.lemmas.Bool.{cases_eq}
 use Rattle.std.proofs.lemmas.List.{append-nil, take_at, drop_at, drop_more}
 use Rattle.ox_bytes.specs.Reading.{number_at, run_at, ◌>>=◌}
 use Rattle.ox_bytes.proofs.Laws.{number_law, run_law, wide32}
-use Rattle.ox_outside.specs.Files.{Files, file_of, with_file, written, Torn}
-use Rattle.ox_gated.specs.Gate.{with_record}
+use Rattle.ox_outside.specs.Files.{Files, file_of, with_file, with_bytes, Torn}
 use Rattle.ox_gated.specs.Layout.{record_bytes}
-use Rattle.ox_gated.specs.Reading.{payload_at, Chain, Found, judged, reading, appended}
+use Rattle.ox_gated.specs.Reading.{with_record, payload_at, Chain, Found, found_or_fault, reading, with_payload}
 use Rattle.ox_gated.specs.Tail.{IsBeforeOrAfter}
 use Rattle.ox_gated.specs.declared.records.Record.{Record}
 use Rattle.ox_gated.proofs.Chain.{chain_shut, chain_more}
@@ -38,17 +37,17 @@ module _ (version : ℕ) (files : Files) (found : Found) (is : reading version f
   stays_shut : (t : List ℕ) → reading version (with_file files found.file (here.front ++ 0 ∷ t)) ≡ reading version files
   stays_shut t =
       here.any (0 ∷ t)
-      ∙ ap (λ (c : Chain). judged found.file found.head found.body (found.records ++ c.records) c.end) (chain_shut found.gate 0 t refl)
-      ∙ ap (λ (l : List Record). judged found.file found.head found.body l (Ok found.gate)) (append-nil found.records)
+      ∙ ap (λ (c : Chain). found_or_fault found.file found.head found.body (found.records ++ c.records) c.end) (chain_shut found.gate 0 t refl)
+      ∙ ap (λ (l : List Record). found_or_fault found.file found.head found.body l (Ok found.gate)) (append-nil found.records)
       ∙ sym is
 
   -- an open one lets the record behind it count
-  opens : (gate : ℕ) (t : List ℕ) → gate ≢ 0 → reading version (with_file files found.file (here.front ++ gate ∷ (record_bytes payload ++ t))) ≡ appended payload (reading version files)
+  opens : (gate : ℕ) (t : List ℕ) → gate ≢ 0 → reading version (with_file files found.file (here.front ++ gate ∷ (record_bytes payload ++ t))) ≡ with_payload payload (reading version files)
   opens gate t is_open =
       here.any (gate ∷ (record_bytes payload ++ t))
-      ∙ ap (λ (c : Chain). judged found.file found.head found.body (found.records ++ c.records) c.end)
+      ∙ ap (λ (c : Chain). found_or_fault found.file found.head found.body (found.records ++ c.records) c.end)
       (chain_more found.gate gate (record_bytes payload ++ t) payload (0 ∷ t) is_open (payload_there payload t small) ∙ ap (with_record found.gate payload) (chain_shut (found.gate + (5 + length payload)) 0 t refl))
-      ∙ sym (ap (appended payload) is)
+      ∙ sym (ap (with_payload payload) is)
 
   before_gate : take found.gate file_now ≡ here.front
   before_gate = ap (λ (l : List ℕ). take found.gate l) here.parts ∙ take_at here.front (0 ∷ here.junk) found.gate (sym here.gate_is)
@@ -63,7 +62,7 @@ module _ (version : ℕ) (files : Files) (found : Found) (is : reading version f
   behind = drop (found.gate + 1 + length (record_bytes payload)) (file_of files found.file)
 
   -- the file with the record behind its closed gate
-  pub staged : written (found.gate + 1) (record_bytes payload) (file_of files found.file) ≡ here.front ++ 0 ∷ (record_bytes payload ++ behind)
+  pub staged : with_bytes (found.gate + 1) (record_bytes payload) (file_of files found.file) ≡ here.front ++ 0 ∷ (record_bytes payload ++ behind)
   staged =
       ap (λ (l : List ℕ). l ++ record_bytes payload ++ drop (found.gate + 1 + length (record_bytes payload)) (file_of files found.file)) with_gate
       ∙ append_assoc (here.front ++ 0 ∷ []) (record_bytes payload) behind
@@ -96,7 +95,7 @@ module _ (version : ℕ) (files : Files) (found : Found) (is : reading version f
       ]
 
   -- the file with its gate opened
-  pub opened : written found.gate (1 ∷ []) (here.front ++ 0 ∷ (record_bytes payload ++ behind)) ≡ here.front ++ 1 ∷ (record_bytes payload ++ behind)
+  pub opened : with_bytes found.gate (1 ∷ []) (here.front ++ 0 ∷ (record_bytes payload ++ behind)) ≡ here.front ++ 1 ∷ (record_bytes payload ++ behind)
   opened =
       let old_parts : here.front ++ 0 ∷ (record_bytes payload ++ behind) ≡ (here.front ++ 0 ∷ []) ++ (record_bytes payload ++ behind) = sym (append_assoc here.front (0 ∷ []) (record_bytes payload ++ behind)) in
       let front = take_at here.front (0 ∷ (record_bytes payload ++ behind)) found.gate (sym here.gate_is) in
@@ -106,7 +105,7 @@ module _ (version : ℕ) (files : Files) (found : Found) (is : reading version f
       ∙ ap (λ (l : List ℕ). here.front ++ (1 ∷ []) ++ l) back
       ∙ append_assoc here.front (1 ∷ []) (record_bytes payload ++ behind)
 
-  pub stands_appended : reading version (with_file files found.file (here.front ++ 1 ∷ (record_bytes payload ++ behind))) ≡ appended payload (reading version files)
+  pub stands_appended : reading version (with_file files found.file (here.front ++ 1 ∷ (record_bytes payload ++ behind))) ≡ with_payload payload (reading version files)
   stands_appended = opens 1 behind (λ no. absurd (omega (arith, no)))
 
   pub gate_within : found.gate + 1 ≤ length (file_of files found.file)

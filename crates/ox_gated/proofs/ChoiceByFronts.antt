@@ -1,0 +1,100 @@
+-- Which of two files is current is decided by the fronts of the two.
+use Rattle.std.proofs.Common.{◌≡◌, ◌≢◌, ◌∙◌, ◌≤◌, ◌+◌, ◌-◌, min, inl, inr, ⊎_elim, ℕ, suc, Bool, true, false, List, [], ◌∷◌, length, take, drop, ◌==◌, if◌then◌else◌, refl, sym, ap, arith, not, length-drop, take-append-drop}
+use Rattle.std.specs.Prelude.{Ok, Err, nat_lt, slice_range}
+use Rattle.std.proofs.lemmas.Bool.{cases_lt, ltb-false, eq-eqb}
+use Rattle.std.proofs.lemmas.Bool.Decides.{eqb_tells}
+use Rattle.std.proofs.lemmas.List.{length-take, take_all, take_min, drop-drop}
+use Rattle.ox_outside.specs.Files.{Files}
+use Rattle.ox_outside.specs.declared.site.Which.{Which}
+use Rattle.ox_outside.specs.declared.site.Which.TheVariants.{A, B}
+use Rattle.ox_gated.specs.Layout.{is_closed, head_of}
+use Rattle.ox_gated.specs.Pick.{lone_choice, greater_of, choice_by, choice_of}
+use Rattle.ox_gated.specs.Reading.{chain, found_or_fault, fault_at, current}
+use Rattle.ox_gated.specs.declared.head.Opening.{Opening}
+use Rattle.ox_gated.proofs.Fronts.{head_of_front}
+
+-- ---- fronts
+
+closed_take : (n : ℕ) (file : List ℕ) → is_closed (take (suc n) file) ≡ is_closed file
+closed_take n [] = refl
+closed_take n (x ∷ file) = refl
+
+suc_not_zero : (k : ℕ) → (suc k == 0) ≡ false
+suc_not_zero k = ⊎_elim (λ (h : ((suc k == 0) ≡ true) × (suc k ≡ 0)). absurd (omega (arith, h.1))) (λ (h : ((suc k == 0) ≡ false) × (suc k ≢ 0)). h.0) (eqb_tells (suc k) 0)
+
+empty_take : (n : ℕ) (file : List ℕ) → (length (take (suc n) file) == 0) ≡ (length file == 0)
+empty_take n [] = refl
+empty_take n (x ∷ file) = suc_not_zero (length (take n file)) ∙ sym (suc_not_zero (length file))
+
+pub closed_front : (file : List ℕ) → is_closed (take 26 file) ≡ is_closed file
+closed_front file = closed_take 25 file
+
+head_front : (file : List ℕ) → head_of (take 26 file) ≡ head_of file
+head_front file = elim (cases_lt (length file) 26) [
+  | inl short ↦ ap head_of (take_all 26 file (omega arith))
+  | inr long ↦ sym (ap head_of (sym (take-append-drop 26 file)) ∙ head_of_front (take 26 file) (drop 26 file) (omega (arith, length-take 26 file)))
+]
+
+pub choice_of-fronts : (a b : List ℕ) → choice_of (take 26 a) (take 26 b) ≡ choice_of a b
+choice_of-fronts a b =
+    ap (λ (x : Bool). choice_by x (is_closed (take 26 b)) (take 26 a) (take 26 b)) (closed_front a)
+    ∙ ap (λ (x : Bool). choice_by (is_closed a) x (take 26 a) (take 26 b)) (closed_front b)
+    ∙ by (is_closed a) (is_closed b)
+  where
+    by : (x y : Bool) → choice_by x y (take 26 a) (take 26 b) ≡ choice_by x y a b
+    by true true = refl
+    by true false = λ i. if empty_take 25 a i then Err (A, 0) else lone_choice B (head_front b i)
+    by false true = λ i. if empty_take 25 b i then Err (B, 0) else lone_choice A (head_front a i)
+    by false false = λ i. greater_of (head_front a i) (head_front b i)
+
+-- where one is current, both have a byte
+some_open : (file : List ℕ) → is_closed file ≡ false → 1 ≤ length file
+some_open [] shut = absurd (cc shut)
+some_open (x ∷ file) shut = omega arith
+
+some_length : (file : List ℕ) → (length file == 0) ≡ false → 1 ≤ length file
+some_length [] some = absurd (cc some)
+some_length (x ∷ file) some = omega arith
+
+pub choice_some : (a b : List ℕ) (found : _) → choice_of a b ≡ Ok found → (1 ≤ length a) × (1 ≤ length b)
+choice_some a b found is = by (is_closed a) (is_closed b) refl refl is
+  where
+    with_a : (x : Bool) → (length a == 0) ≡ x → is_closed b ≡ false → (if x then Err (A, 0) else lone_choice B (head_of b)) ≡ Ok found → (1 ≤ length a) × (1 ≤ length b)
+    with_a true none cb is = absurd (cc is)
+    with_a false some cb is = (some_length a some, some_open b cb)
+
+    with_b : (x : Bool) → (length b == 0) ≡ x → is_closed a ≡ false → (if x then Err (B, 0) else lone_choice A (head_of a)) ≡ Ok found → (1 ≤ length a) × (1 ≤ length b)
+    with_b true none ca is = absurd (cc is)
+    with_b false some ca is = (some_open a ca, some_length b some)
+
+    by : (x y : Bool) → is_closed a ≡ x → is_closed b ≡ y → choice_by x y a b ≡ Ok found → (1 ≤ length a) × (1 ≤ length b)
+    by true true ca cb is = absurd (cc is)
+    by true false ca cb is = with_a (length a == 0) refl cb is
+    by false true ca cb is = with_b (length b == 0) refl ca is
+    by false false ca cb is = (some_open a ca, some_open b cb)
+
+-- ---- what was read
+
+-- the front that was read
+pub front_is : (file bytes : List ℕ) (len m : ℕ) → len ≡ length file → m ≡ min len 26 → bytes ≡ slice_range file 0 (0 + m) → bytes ≡ take 26 file
+front_is file bytes len m is_len is_m is =
+    let size : 0 + m - 0 ≡ min 26 (length file) = omega (arith, is_len, is_m) in
+    is ∙ ap (λ (k : ℕ). take k file) size ∙ take_min 26 file
+
+pub choice_read : (files : Files) (a b : List ℕ) → a ≡ take 26 files.a → b ≡ take 26 files.b → choice_of a b ≡ choice_of files.a files.b
+choice_read files a b is_a is_b = (λ i. choice_of (is_a i) (is_b i)) ∙ choice_of-fronts files.a files.b
+
+-- the current file by the parts that were read
+pub current_read : (version : ℕ) (file : Which) (bytes : List ℕ) (opening : Opening) (len : ℕ) (body rest : List ℕ) → len ≡ length bytes → opening.head.version ≡ version → nat_lt len (26 + opening.size) ≡ false
+    → body ≡ slice_range bytes 26 (26 + opening.size) → rest ≡ slice_range bytes (26 + opening.size) (26 + opening.size + (len - (26 + opening.size)))
+    → found_or_fault file opening.head body (chain (26 + opening.size) rest).records (chain (26 + opening.size) rest).end ≡ current version file bytes opening
+current_read version file bytes opening len body rest is_len is_version fits is_body is_rest =
+    let size = opening.size in
+    let one : 26 + size - 26 ≡ size = omega arith in
+    let within : 26 + size ≤ len = ltb-false len (26 + size) fits in
+    let long : length (drop (26 + size) bytes) ≤ 26 + size + (len - (26 + size)) - (26 + size) = omega (arith, length-drop (26 + size) bytes, is_len, within) in
+    let body_is : body ≡ take size (drop 26 bytes) = is_body ∙ ap (λ (k : ℕ). take k (drop 26 bytes)) one in
+    let rest_is : rest ≡ drop size (drop 26 bytes) = is_rest ∙ take_all (26 + size + (len - (26 + size)) - (26 + size)) (drop (26 + size) bytes) long ∙ sym (drop-drop size 26 bytes) in
+    (λ i. found_or_fault file opening.head (body_is i) (chain (26 + size) (rest_is i)).records (chain (26 + size) (rest_is i)).end)
+    ∙ sym (ap (λ (b : Bool). if not b then fault_at file 6 else if nat_lt (length bytes) (26 + size) then fault_at file 26 else found_or_fault file opening.head (take size (drop 26 bytes)) (chain (26 + size) (drop size (drop 26 bytes))).records (chain (26 + size) (drop size (drop 26 bytes))).end) (eq-eqb opening.head.version version is_version)
+    ∙ ap (λ (b : Bool). if b then fault_at file 26 else found_or_fault file opening.head (take size (drop 26 bytes)) (chain (26 + size) (drop size (drop 26 bytes))).records (chain (26 + size) (drop size (drop 26 bytes))).end) (ap (λ (n : ℕ). nat_lt n (26 + size)) (sym is_len) ∙ fits))
