@@ -14,15 +14,15 @@ use Rattle.ox_feed.specs.declared.lines.Line.{Line}
 use Rattle.ox_feed.specs.declared.lines.Line.TheVariants.{Text, Long, End}
 use Rattle.ox_model.specs.Moments.{lines_in}
 use Rattle.ox_model.specs.Replies.{after_on, after_turn, index_on, replies_on, reply_by}
-use Rattle.ox_model.specs.Stack.{Stack, stack_of, turn_on}
-use Rattle.ox_model.proofs.Turning.{after_joined, after_none, after_one, replies_joined, replies_line, replies_none}
+use Rattle.ox_model.specs.Stack.{Stack, turn_on}
+use Rattle.ox_model.specs.Machine.{stack_of, empty_machine}
+use Rattle.ox_model.proofs.AnswersOfStacks.{after_joined, after_none, after_one, replies_joined, replies_line, replies_none}
 use Rattle.ox_app.specs.declared.stop.Stop.{Stop}
 use Rattle.ox_app.specs.declared.stop.Stop.TheVariants.{DiskFault, HearFault, ShowFault, Memory, TooMuch}
 use Rattle.ox_sat.specs.declared.profiles.Profile.{Profile}
 use Rattle.ox_index.specs.Live.{profile_in, index_in}
 use Rattle.ox_index.specs.declared.live.Live.{Live}
 use Rattle.ox_model.specs.Index.{Index, no_blocks}
-use Rattle.ox_model.specs.Machine.{begun}
 use Rattle.ox_app.specs.Fold.{Answered, AnswersLine, Carried, NextLine, Owing, fold_depth, stack_in, status_of}
 use Rattle.ox_app.specs.Run.{HearsNothing, OnlyOwn, RunsFeed, ShowsFront, ShowsWhole}
 use Rattle.ox_app.proofs.Showing.{Own}
@@ -317,5 +317,5 @@ module _ (first : Stack) where
 same_stack : (p q : Profile) (depth : ℕ) (a b : Index) → p ≡ q → a ≡ b → record { profile = p; depth = depth; index = a } ≡ (let s : Stack = record { profile = q; depth = depth; index = b } in s)
 same_stack p q depth a b e f = rw (e, f) refl
 
-pub stack_begun : (live : Live) (p : Profile) → profile_in live ≡ p → index_in live ≡ no_blocks → stack_in live ≡ stack_of (begun p fold_depth)
+pub stack_begun : (live : Live) (p : Profile) → profile_in live ≡ p → index_in live ≡ no_blocks → stack_in live ≡ stack_of (empty_machine p fold_depth)
 stack_begun live p profile index = same_stack _ _ fold_depth _ _ profile index

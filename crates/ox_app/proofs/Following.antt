@@ -22,7 +22,7 @@ use Rattle.ox_model.specs.Stack.{Stack, turn_on}
 use Rattle.ox_model.specs.Stands.{stands}
 use Rattle.ox_store.specs.Ready.{StandsForEither}
 use Rattle.ox_app.specs.Apply.{CarriedOn, CarriesOut, DuringLine, after_line}
-use Rattle.ox_app.specs.Crash.{Survives}
+use Rattle.ox_model.specs.Survives.{Survives}
 use Rattle.ox_app.specs.Fold.{Carried, Owing, status_of}
 use Rattle.ox_app.specs.Run.{RunsFeed, ShowsFront}
 use Rattle.ox_app.specs.declared.carry.Carried.{Carried as CarriedOut}

@@ -11,15 +11,16 @@ use Rattle.ox_outside.specs.Log.{Grows}
 use Rattle.ox_outside.proofs.Calls.{leaves_weaker}
 use Rattle.ox_outside.proofs.Log.{grows_weaker}
 use Rattle.ox_feed.specs.Feed.{FeedLine}
-use Rattle.ox_model.specs.Machine.{Machine}
-use Rattle.ox_model.specs.Moments.{acknowledged_in, count, lines_in}
+use Rattle.ox_model.specs.Machine.{Machine, stack_of}
+use Rattle.ox_model.specs.Moments.{acknowledgements_in, count, lines_in}
 use Rattle.ox_model.specs.Replies.{after, after_on, replies, replies_on}
-use Rattle.ox_model.specs.Stack.{Stack, stack_of}
-use Rattle.ox_model.specs.Status.{profile_word}
-use Rattle.ox_model.proofs.Turning.{after_alike, replies_alike}
+use Rattle.ox_model.specs.Stack.{Stack}
+use Rattle.ox_sat.specs.Profiles.{profile_word}
+use Rattle.ox_model.proofs.AnswersOfStacks.{after_alike, replies_alike}
 use Rattle.ox_sat.specs.declared.profiles.ProfileName.{ProfileName}
 use Rattle.ox_sat.specs.declared.profiles.ProfileName.TheVariants.{Mainnet, Regtest, Lab}
-use Rattle.ox_app.specs.Crash.{Leaves, Survives}
+use Rattle.ox_model.specs.Survives.{Survives}
+use Rattle.ox_app.specs.Crash.{Leaves}
 use Rattle.ox_store.specs.Make.{made_stack}
 use Rattle.ox_app.specs.Apply.{IsApplyStatus}
 use Rattle.ox_app.specs.Run.{EndsDone, RunsFeed}
@@ -51,7 +52,7 @@ survives_alike machine events files survives =
     record {
       kept = survives.kept;
       counted = subst (λ (l : List (List ℕ)). (count l events ≡ survives.kept) ⊎ (count l events ≡ suc survives.kept)) same survives.counted;
-      acknowledged = subst (λ (l : List (List ℕ)). acknowledged_in l events ≤ survives.kept) same survives.acknowledged;
+      acknowledged = subst (λ (l : List (List ℕ)). acknowledgements_in l events ≤ survives.kept) same survives.acknowledged;
       stands_for = survives.stands_for ∙ ap (λ (s : Stack). Ok s) (sym (after_alike machine (take survives.kept (lines_in events))));
     }
 

@@ -21,7 +21,8 @@ use Rattle.ox_store.specs.Fault.{IsMisfit}
 use Rattle.ox_store.specs.declared.fault.OpenFault.{OpenFault}
 use Rattle.ox_store.specs.declared.fault.OpenFault.TheVariants as opens
 use Rattle.ox_app.specs.Apply.{LogsUnopened, UnopenedAs}
-use Rattle.ox_app.specs.Crash.{Leaves, Survives}
+use Rattle.ox_model.specs.Survives.{Survives}
+use Rattle.ox_app.specs.Crash.{Leaves}
 use Rattle.ox_app.specs.Init.{MadeBefore}
 use Rattle.ox_app.specs.Run.{ShowsFront, ShowsReply, ShowsWhole}
 use Rattle.ox_app.proofs.Showing.{front_none}

@@ -1,6 +1,5 @@
 -- What survives a crash during a run over a feed and a store.
-use Rattle.std.proofs.Common.{◌≡◌, ◌∙◌, ℕ, suc, List, [], ◌∷◌, ◌++◌, length, take, refl, sym, ap, subst}
-use Rattle.std.proofs.Common.{◌⊎◌, inl, inr}
+use Rattle.std.proofs.Common.{◌≡◌, ◌∙◌, ℕ, suc, List, [], ◌∷◌, ◌++◌, length, take, refl, sym, ap, subst, ◌⊎◌, inl, inr}
 use Rattle.std.specs.Prelude.{All, Ok, ◌≤◌}
 use Rattle.std.specs.List.{concat}
 use Rattle.std.proofs.lemmas.List.Elements.{All-cons, All-nil}
@@ -8,13 +7,13 @@ use Rattle.ox_outside.specs.Event.{Event, has_ended, heard_bytes, shown_bytes}
 use Rattle.ox_outside.specs.Files.{Files}
 use Rattle.ox_outside.proofs.Event.{shown_bytes-append}
 use Rattle.ox_feed.specs.Feed.{Feed, FeedLine, Listens, lines_from}
-use Rattle.ox_model.specs.Moments.{acknowledged_in, count, lines_in, moments, acknowledged}
+use Rattle.ox_model.specs.Moments.{acknowledgements_in, count, lines_in, moments, acknowledgements}
 use Rattle.ox_model.specs.Replies.{after_on, after_turn, index_on, replies_on, reply_by}
 use Rattle.ox_model.specs.Stack.{Stack, turn_on}
 use Rattle.ox_model.specs.Stands.{stands}
-use Rattle.ox_model.proofs.Counting.{HasByte, acknowledged_ahead, acknowledged_at_rest, count_ahead, count_at_rest}
-use Rattle.ox_model.proofs.Turning.{replies_joined, replies_length, replies_line, replies_none, reply_some}
-use Rattle.ox_app.specs.Crash.{Survives}
+use Rattle.ox_model.proofs.CountedMoments.{HasByte, acknowledged_ahead, acknowledged_at_rest, count_ahead, count_at_rest}
+use Rattle.ox_model.proofs.AnswersOfStacks.{replies_joined, replies_length, replies_line, replies_none, reply_some}
+use Rattle.ox_model.specs.Survives.{Survives}
 use Rattle.ox_app.specs.Fold.{Carried, Owing}
 use Rattle.ox_app.specs.Run.{ShowsFront}
 use Rattle.ox_app.proofs.Feeding.{lines_heard, lines_owing, shown_as_before}
@@ -51,9 +50,9 @@ module _ (first : Stack) where
         counted = subst (λ (l : List (List ℕ)). (count l events ≡ length done) ⊎ (count l events ≡ suc (length done))) (sym all)
             (subst (λ (s : List ℕ). (moments (here ++ next) s ≡ length done) ⊎ (moments (here ++ next) s ≡ suc (length done))) (sym said)
             (either_same _ _ _ (replies_length turn_on index_on first done) (count_at_rest here next (replies_some (after_on first done) more))));
-        acknowledged = subst (λ (l : List (List ℕ)). acknowledged_in l events ≤ length done) (sym all)
-            (subst (λ (s : List ℕ). acknowledged (here ++ next) s ≤ length done) (sym said)
-            (subst (λ (n : ℕ). acknowledged (here ++ next) (concat here) ≤ n) (replies_length turn_on index_on first done) (acknowledged_at_rest here next (replies_some first done))));
+        acknowledged = subst (λ (l : List (List ℕ)). acknowledgements_in l events ≤ length done) (sym all)
+            (subst (λ (s : List ℕ). acknowledgements (here ++ next) s ≤ length done) (sym said)
+            (subst (λ (n : ℕ). acknowledgements (here ++ next) (concat here) ≤ n) (replies_length turn_on index_on first done) (acknowledged_at_rest here next (replies_some first done))));
         stands_for = stood ∙ ap (λ (l : List FeedLine). Ok (after_on first l)) (sym (take_front done more) ∙ ap (take (length done)) (sym is));
       }
 
@@ -73,9 +72,9 @@ module _ (first : Stack) where
         counted = subst (λ (l : List (List ℕ)). (count l events ≡ suc (length done)) ⊎ (count l events ≡ suc (suc (length done)))) (sym all)
             (subst (λ (s : List ℕ). (moments (here ++ answer ∷ next) s ≡ suc (length done)) ⊎ (moments (here ++ answer ∷ next) s ≡ suc (suc (length done)))) (sym said)
             (either_same _ _ _ (ap suc (replies_length turn_on index_on first done)) (count_ahead here answer rest p next part (replies_some (after_turn stack (turn_on stack line)) more))));
-        acknowledged = subst (λ (l : List (List ℕ)). acknowledged_in l events ≤ suc (length done)) (sym all)
-            (subst (λ (s : List ℕ). acknowledged (here ++ answer ∷ next) s ≤ suc (length done)) (sym said)
-            (subst (λ (n : ℕ). acknowledged (here ++ answer ∷ next) (concat here ++ p) ≤ suc n) (replies_length turn_on index_on first done)
+        acknowledged = subst (λ (l : List (List ℕ)). acknowledgements_in l events ≤ suc (length done)) (sym all)
+            (subst (λ (s : List ℕ). acknowledgements (here ++ answer ∷ next) s ≤ suc (length done)) (sym said)
+            (subst (λ (n : ℕ). acknowledgements (here ++ answer ∷ next) (concat here ++ p) ≤ suc n) (replies_length turn_on index_on first done)
             (acknowledged_ahead here answer rest p next part (replies_some first done))));
         stands_for = stood ∙ ap (λ (l : List FeedLine). Ok (after_on first l)) (sym (take_one_more done line more) ∙ ap (take (suc (length done))) (sym is));
       }

@@ -7,9 +7,8 @@ use Rattle.ox_feed.specs.declared.lines.Line.{Line}
 use Rattle.ox_feed.specs.declared.lines.Line.TheVariants.{Text, Long, End}
 use Rattle.ox_feed.specs.declared.lines.FeedFault.{FeedFault}
 use Rattle.ox_feed.specs.declared.lines.FeedFault.TheVariants.{HearFault as FeedHearFault, TooMuch as FeedTooMuch, Memory as FeedMemory}
-use Rattle.ox_model.specs.Replies.{after_turn, after_on, index_on, replies_on, reply_by}
+use Rattle.ox_model.specs.Replies.{after_turn, after_on, index_on, replies_on, reply_by, ok_line}
 use Rattle.ox_model.specs.Stack.{Stack, turn_on}
-use Rattle.ox_model.specs.Replies.{ok_line}
 use Rattle.ox_rules.specs.Text.{refusal_line}
 use Rattle.ox_store.specs.Store.{stack_with}
 use Rattle.ox_index.specs.declared.live.Live.{Live}

@@ -1,6 +1,6 @@
 -- The words of the program, row by row.
 use Rattle.std.specs.Prelude.{◌≡◌, ◌≢◌, ◌⊎◌, ℕ, ◌≤◌, List, [], ◌∷◌, codes, decimal}
-use Rattle.ox_model.specs.Status.{profile_word}
+use Rattle.ox_sat.specs.Profiles.{profile_word}
 use Rattle.ox_sat.specs.declared.profiles.ProfileName.{ProfileName}
 use Rattle.ox_app.specs.declared.rows.Row.{Row}
 use Rattle.ox_app.specs.declared.rows.Row.TheVariants.{Fold, Init, Apply, Query, Unknown}

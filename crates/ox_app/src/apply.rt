@@ -10,7 +10,8 @@ ghost use Rattle.ox_model.specs.Replies.{after_on, replies_on};
 ghost use Rattle.ox_model.specs.Stack.{Stack};
 ghost use Rattle.ox_model.specs.Stands.{Misfit, stands};
 ghost use Rattle.ox_app.specs.Apply.{CarriedOn, DuringLine, IsApplyStatus, IsUnopened, SaysNotStore};
-ghost use Rattle.ox_app.specs.Crash.{Leaves, Survives};
+ghost use Rattle.ox_model.specs.Survives.{Survives};
+ghost use Rattle.ox_app.specs.Crash.{Leaves};
 ghost use Rattle.ox_app.specs.Fold.{status_of};
 ghost use Rattle.ox_app.specs.Run.{RunsFeed};
 

@@ -5,7 +5,7 @@ ghost use Rattle.ox_outside.specs.Counts.{Rose};
 ghost use Rattle.ox_outside.specs.Crash.{Calls, LeavesOnly};
 ghost use Rattle.ox_gated.specs.Tail.{Holds};
 ghost use Rattle.ox_model.specs.Replies.{after_turn, index_on, reply_by};
-ghost use Rattle.ox_model.specs.Stack.{obeyed_on};
+ghost use Rattle.ox_model.specs.Stack.{stack_after};
 ghost use Rattle.ox_model.specs.Stands.{stands};
 ghost use Rattle.ox_rules.specs.Text.{block_line, refusal_line};
 ghost use Rattle.ox_store.specs.Ready.{StandsForEither};
@@ -83,12 +83,12 @@ fn carry_command<S: Site>(
 ) -> Result<Carried, Stop>
     requires holds { IsTrue (S.told site.old) → Holds S.seen S.may_leave store.tail site.old }
     requires few { store.commands < 2 ^ 64 - 1 }
-    ensures answer { IfOk result (λ carried. carried.answer ≡ reply_by index_on (obeyed_on store.stack command.now)) }
-    ensures leads { IfOk result (λ carried. carried.store.stack ≡ after_turn store.stack (obeyed_on store.stack command.now)) }
+    ensures answer { IfOk result (λ carried. carried.answer ≡ reply_by index_on (stack_after store.stack command.now)) }
+    ensures leads { IfOk result (λ carried. carried.store.stack ≡ after_turn store.stack (stack_after store.stack command.now)) }
     ensures one_more { IfOk result (λ carried. carried.store.commands ≤ store.commands + 1) }
     ensures holds { IsTrue (S.told site.old) → IfOk result (λ carried. Holds S.seen S.may_leave carried.store.tail site.new) }
     ensures stands { IsTrue (S.told site.old) → stands (S.seen site.old) ≡ Ok store.stack → IfOk result (λ carried. stands (S.seen site.new) ≡ Ok carried.store.stack) }
-    ensures any_moment { IsTrue (S.told site.old) → stands (S.seen site.old) ≡ Ok store.stack → LeavesOnly S.clock S.left_since site.old site.new (λ r. StandsForEither store.stack (after_turn store.stack (obeyed_on store.stack command.now)) r.files) }
+    ensures any_moment { IsTrue (S.told site.old) → stands (S.seen site.old) ≡ Ok store.stack → LeavesOnly S.clock S.left_since site.old site.new (λ r. StandsForEither store.stack (after_turn store.stack (stack_after store.stack command.now)) r.files) }
     ensures log_stays { LeavesOnly S.clock S.left_since site.old site.new (λ r. S.log site.old ≡ Some r.log) }
     ensures logged { S.log site.new ≡ S.log site.old }
     ensures stops { IfErr result (λ stop. (stop ≡ stops.DiskFault) ⊎ (stop ≡ stops.Memory)) }

@@ -5,9 +5,8 @@ ghost use Rattle.ox_outside.specs.Counts.{Rose};
 ghost use Rattle.ox_outside.specs.Crash.{OnlyTalks};
 ghost use Rattle.ox_outside.specs.Log.{Grows};
 ghost use Rattle.ox_feed.specs.Feed.{IsTooMuch, Listens, feed_limit, left};
-ghost use Rattle.ox_model.specs.Machine.{begun};
+ghost use Rattle.ox_model.specs.Machine.{empty_machine, stack_of};
 ghost use Rattle.ox_model.specs.Replies.{replies_on};
-ghost use Rattle.ox_model.specs.Stack.{stack_of};
 ghost use Rattle.ox_sat.specs.Profiles.{IsProfile};
 ghost use Rattle.ox_app.specs.Fold.{Answered, Anything, HasAnswer, fold_depth, stack_in, status_of};
 ghost use Rattle.ox_app.specs.Run.{RunsFeed};
@@ -45,7 +44,7 @@ fn next_answer<S: Site>(
 /// Reads the feed of channel 0 to its end, and shows the answer to each line. The chain counts by this profile.
 pub fn fold<S: Site>(alloc: Global, p: &Profile, site: &mut S) -> Result<(), Stop>
     requires { IsProfile p.now }
-    ensures told { Grows (RunsFeed (replies_on (stack_of (begun p.now fold_depth))) (status_of result)) (S.log site.old) (S.log site.new) }
+    ensures told { Grows (RunsFeed (replies_on (stack_of (empty_machine p.now fold_depth))) (status_of result)) (S.log site.old) (S.log site.new) }
     ensures hear_fault { IsErrOf result Stop.HearFault → Rose ((S.counts site.old).hear 0) ((S.counts site.new).hear 0) }
     ensures show_fault { IsErrOf result Stop.ShowFault → Rose ((S.counts site.old).show 0) ((S.counts site.new).show 0) }
     ensures no_disk_fault { IsErrOf result Stop.DiskFault → ⊥ }

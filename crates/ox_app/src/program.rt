@@ -5,9 +5,9 @@ ghost use Rattle.ox_outside.specs.Counts.{Rose};
 ghost use Rattle.ox_outside.specs.Crash.{Calls, LeavesOnly, MayLeaveFiles};
 ghost use Rattle.ox_outside.specs.Log.{Grows};
 ghost use Rattle.ox_gated.specs.Tail.{IsSettled};
-ghost use Rattle.ox_model.specs.Machine.{Machine, begun};
+ghost use Rattle.ox_model.specs.Machine.{Machine, empty_machine, stack_of};
 ghost use Rattle.ox_model.specs.Replies.{after, replies};
-ghost use Rattle.ox_model.specs.Stack.{Stack, stack_of};
+ghost use Rattle.ox_model.specs.Stack.{Stack};
 ghost use Rattle.ox_model.specs.Stands.{Misfit, stands};
 ghost use Rattle.ox_model.specs.Status.{query_body};
 ghost use Rattle.ox_sat.specs.Profiles.{profile_named};
@@ -60,7 +60,7 @@ use std::alloc::Global;
 pub fn run<S: Site>(alloc: Global, words: &[Bytes], site: &mut S) -> u8
     // Of a feed without files: what was shown begins the answers to the lines heard, each by fresh indexing of the blocks
     // that the lines before it chose, and with status 0 is all of them; 9 comes at the limit of a feed alone.
-    ensures folds { (name : ProfileName) → words.now ≡ fold_words name → Grows (RunsFeed (replies (begun (profile_named name) fold_depth)) result) (S.log site.old) (S.log site.new) }
+    ensures folds { (name : ProfileName) → words.now ≡ fold_words name → Grows (RunsFeed (replies (empty_machine (profile_named name) fold_depth)) result) (S.log site.old) (S.log site.new) }
     // The same of a feed and a store, on files that stand for a machine's stack.
     ensures applies { IsTrue (S.told site.old) → words.now ≡ apply_words → (machine : Machine) → stands (S.seen site.old) ≡ Ok (stack_of machine)
         → (result ≢ 3) × Grows (RunsFeed (replies machine) result) (S.log site.old) (S.log site.new) }

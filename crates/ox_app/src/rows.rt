@@ -1,7 +1,7 @@
 //! The rows of words.
 
 ghost use Rattle.std.specs.Prelude.{◌≡◌, ◌≢◌, ℕ, Some, IfSome, IfNone, decimal};
-ghost use Rattle.ox_model.specs.Status.{profile_word};
+ghost use Rattle.ox_sat.specs.Profiles.{profile_word};
 ghost use Rattle.ox_sat.specs.declared.profiles.ProfileName.{ProfileName};
 ghost use Rattle.ox_app.specs.Words.{IsDepth, IsRow};
 

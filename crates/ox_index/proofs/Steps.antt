@@ -15,8 +15,8 @@ use Rattle.ox_rules.specs.declared.refusal.Refusal.{Refusal}
 use Rattle.ox_model.specs.Index.{Index}
 use Rattle.ox_rules.specs.Outputs.{sats_held}
 use Rattle.ox_rules.specs.Transfer.{Transferred, transfer_of}
-use Rattle.ox_model.specs.Step.{or_malformed, admitted, grown, accept, step}
-use Rattle.ox_model.specs.Sound.{Sound}
+use Rattle.ox_model.specs.Step.{or_malformed, admission, grown_index, index_after, step}
+use Rattle.ox_model.specs.Sound.{IsSound}
 use Rattle.ox_rules.proofs.Conservation.{times-append}
 use Rattle.ox_rules.proofs.Transfers.{first_next}
 use Rattle.ox_model.proofs.Soundness.{admitted_right, grown_sound}
@@ -33,52 +33,52 @@ use Rattle.ox_index.specs.Fault.{Refuses, of_block, of_transfer}
 -- bytes that are no block
 pub step_unread : (p : Profile) (index : Index) (bytes : List ℕ) (fault : BlockFault) (e : ConnectFault) → Gives (Err fault) (block_of bytes) → e ≡ of_block fault → Refuses e (step p index bytes)
 unfolding step
-step_unread p index bytes (BadBlock at) e gives is = rw is (ap (λ (r : Result Block ℕ). or_malformed r >>= accept p index) gives)
+step_unread p index bytes (BadBlock at) e gives is = rw is (ap (λ (r : Result Block ℕ). or_malformed r >>= index_after p index) gives)
 step_unread p index bytes NoMemory e gives is = rw is tt
 
 -- a block that isn't admitted
-pub step_unadmitted : (p : Profile) (index : Index) (bytes : List ℕ) (block : Block) (e : ConnectFault) → block_of bytes ≡ Ok block → Refuses e (admitted p index.hashes block) → Refuses e (step p index bytes)
+pub step_unadmitted : (p : Profile) (index : Index) (bytes : List ℕ) (block : Block) (e : ConnectFault) → block_of bytes ≡ Ok block → Refuses e (admission p index.hashes block) → Refuses e (step p index bytes)
 unfolding step
 step_unadmitted p index bytes block (Refused refusal) read refuses =
-    ap (λ (r : Result Block ℕ). or_malformed r >>= accept p index) read
-    ∙ ap (λ (r : Result (Unit {0}) Refusal). r >>= λ begun. transfer_of p (length index.hashes) block.txs index.outs >>= λ after. Ok (grown index block after)) refuses
+    ap (λ (r : Result Block ℕ). or_malformed r >>= index_after p index) read
+    ∙ ap (λ (r : Result (Unit {0}) Refusal). r >>= λ begun. transfer_of p (length index.hashes) block.txs index.outs >>= λ after. Ok (grown_index index block after)) refuses
 step_unadmitted p index bytes block Memory read refuses = tt
 
 -- what a step makes of a block that is admitted
-admitted_step : (p : Profile) (index : Index) (bytes : List ℕ) (block : Block) → block_of bytes ≡ Ok block → admitted p index.hashes block ≡ Ok tt → step p index bytes ≡ (transfer_of p (length index.hashes) block.txs index.outs >>= λ after. Ok (grown index block after))
+admitted_step : (p : Profile) (index : Index) (bytes : List ℕ) (block : Block) → block_of bytes ≡ Ok block → admission p index.hashes block ≡ Ok tt → step p index bytes ≡ (transfer_of p (length index.hashes) block.txs index.outs >>= λ after. Ok (grown_index index block after))
 unfolding step
 admitted_step p index bytes block read begun =
-    ap (λ (r : Result Block ℕ). or_malformed r >>= accept p index) read
-    ∙ ap (λ (r : Result (Unit {0}) Refusal). r >>= λ begun. transfer_of p (length index.hashes) block.txs index.outs >>= λ after. Ok (grown index block after)) begun
+    ap (λ (r : Result Block ℕ). or_malformed r >>= index_after p index) read
+    ∙ ap (λ (r : Result (Unit {0}) Refusal). r >>= λ begun. transfer_of p (length index.hashes) block.txs index.outs >>= λ after. Ok (grown_index index block after)) begun
 
 -- a block whose satoshis can't be moved
-pub step_unmoved : (p : Profile) (index : Index) (bytes : List ℕ) (block : Block) (fault : TransferFault) (e : ConnectFault) → block_of bytes ≡ Ok block → admitted p index.hashes block ≡ Ok tt → transfers.Refuses fault (transfer_of p (length index.hashes) block.txs index.outs) → e ≡ of_transfer fault → Refuses e (step p index bytes)
+pub step_unmoved : (p : Profile) (index : Index) (bytes : List ℕ) (block : Block) (fault : TransferFault) (e : ConnectFault) → block_of bytes ≡ Ok block → admission p index.hashes block ≡ Ok tt → transfers.Refuses fault (transfer_of p (length index.hashes) block.txs index.outs) → e ≡ of_transfer fault → Refuses e (step p index bytes)
 step_unmoved p index bytes block (BadTransfer refusal) e read begun refuses is =
-    rw is (admitted_step p index bytes block read begun ∙ ap (λ (r : Result Transferred Refusal). r >>= λ after. Ok (grown index block after)) refuses)
+    rw is (admitted_step p index bytes block read begun ∙ ap (λ (r : Result Transferred Refusal). r >>= λ after. Ok (grown_index index block after)) refuses)
 step_unmoved p index bytes block NoRoom e read begun refuses is = rw is tt
 
 -- a block that is taken in
-pub step_taken : (p : Profile) (index : Index) (bytes : List ℕ) (block : Block) (after : Transferred) → block_of bytes ≡ Ok block → admitted p index.hashes block ≡ Ok tt → transfer_of p (length index.hashes) block.txs index.outs ≡ Ok after → step p index bytes ≡ Ok (grown index block after)
+pub step_taken : (p : Profile) (index : Index) (bytes : List ℕ) (block : Block) (after : Transferred) → block_of bytes ≡ Ok block → admission p index.hashes block ≡ Ok tt → transfer_of p (length index.hashes) block.txs index.outs ≡ Ok after → step p index bytes ≡ Ok (grown_index index block after)
 step_taken p index bytes block after read begun moved =
-    admitted_step p index bytes block read begun ∙ ap (λ (r : Result Transferred Refusal). r >>= λ after. Ok (grown index block after)) moved
+    admitted_step p index bytes block read begun ∙ ap (λ (r : Result Transferred Refusal). r >>= λ after. Ok (grown_index index block after)) moved
 
 -- a sound index holds no satoshi twice, and none that the next height mints
-pub holds_once : (p : Profile) (index : Index) → Sound p index → HoldsOnce (first_at p (length index.hashes)) index.outs
+pub holds_once : (p : Profile) (index : Index) → IsSound p index → HoldsOnce (first_at p (length index.hashes)) index.outs
 holds_once p index sound = record { once = λ sat. omega (arith, sound.once sat, times-append sat (sats_held index.outs) index.lost) }
 
 -- what is lost can be counted
-pub lost_fits : (p : Profile) (index : Index) (block : Block) (after : Transferred) → IsProfile p → Sound p index → admitted p index.hashes block ≡ Ok tt → transfer_of p (length index.hashes) block.txs index.outs ≡ Ok after → length index.lost + length after.moved.lost < 2 ^ 64
+pub lost_fits : (p : Profile) (index : Index) (block : Block) (after : Transferred) → IsProfile p → IsSound p index → admission p index.hashes block ≡ Ok tt → transfer_of p (length index.hashes) block.txs index.outs ≡ Ok after → length index.lost + length after.moved.lost < 2 ^ 64
 lost_fits p index block after known sound begun moved =
     let height : ℕ = length index.hashes in
-    let new : Index = grown index block after in
-    let again : Sound p new = grown_sound p index block after sound (admitted_right p index block tt begun) moved in
+    let new : Index = grown_index index block after in
+    let again : IsSound p new = grown_sound p index block after sound (admitted_right p index block tt begun) moved in
     let higher : length new.hashes ≡ height + 1 = length-append index.hashes (block_hash block.header ∷ []) in
     let few : length (index.lost ++ after.moved.lost) ≤ first_at p (length new.hashes) = fits (first_at p (length new.hashes)) (index.lost ++ after.moved.lost) (λ sat. omega (arith, again.once sat, times-append sat (sats_held after.outs) (index.lost ++ after.moved.lost))) in
     let top : first_at p (length new.hashes) ≡ first_at p height + subsidy_at p height = ap (first_at p) higher ∙ first_next p height in
     omega (arith, few, top, minted_few p height known, length-append index.lost after.moved.lost)
 
 -- an index by its parts
-pub grown_parts : (index : Index) (block : Block) (after : Transferred) (hashes : List (List ℕ)) (hash lost : List ℕ) → hashes ≡ index.hashes ++ hash ∷ [] → hash ≡ block_hash block.header → lost ≡ index.lost ++ after.moved.lost → record { hashes = hashes; outs = after.outs; lost = lost } ≡ grown index block after
+pub grown_parts : (index : Index) (block : Block) (after : Transferred) (hashes : List (List ℕ)) (hash lost : List ℕ) → hashes ≡ index.hashes ++ hash ∷ [] → hash ≡ block_hash block.header → lost ≡ index.lost ++ after.moved.lost → record { hashes = hashes; outs = after.outs; lost = lost } ≡ grown_index index block after
 grown_parts index block after hashes hash lost h is l =
     let whole : hashes ≡ index.hashes ++ block_hash block.header ∷ [] = h ∙ ap (λ (x : List ℕ). index.hashes ++ x ∷ []) is in
     λ i. record { hashes = whole i; outs = after.outs; lost = l i }

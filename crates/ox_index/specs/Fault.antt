@@ -1,9 +1,12 @@
--- What a call that connects answers against what the definition does. Want of memory is free, and nothing else.
+-- What a call that connects answers against what the definition does. Want of memory is free, and
+-- nothing else.
 use Rattle.std.specs.Prelude.{◌≡◌, Result, Err}
 use Rattle.ox_block.specs.declared.fault.BlockFault.{BlockFault}
-use Rattle.ox_block.specs.declared.fault.BlockFault.TheVariants.{Malformed as BadBlock, Memory as NoMemory}
+use Rattle.ox_block.specs.declared.fault.BlockFault.TheVariants.{Malformed as BadBlock}
+use Rattle.ox_block.specs.declared.fault.BlockFault.TheVariants.{Memory as NoMemory}
 use Rattle.ox_transfer.specs.declared.fault.TransferFault.{TransferFault}
-use Rattle.ox_transfer.specs.declared.fault.TransferFault.TheVariants.{Refused as BadTransfer, Memory as NoRoom}
+use Rattle.ox_transfer.specs.declared.fault.TransferFault.TheVariants.{Refused as BadTransfer}
+use Rattle.ox_transfer.specs.declared.fault.TransferFault.TheVariants.{Memory as NoRoom}
 use Rattle.ox_rules.specs.declared.refusal.Refusal.{Refusal}
 use Rattle.ox_rules.specs.declared.refusal.Refusal.TheVariants.{Malformed}
 use Rattle.ox_index.specs.declared.fault.ConnectFault.{ConnectFault}

@@ -4,7 +4,9 @@ ghost use Rattle.std.specs.Prelude.{◌≡◌, ◌≤◌, length, map, position,
 ghost use Rattle.ox_block.specs.Hashes.{txid};
 ghost use Rattle.ox_block.specs.Spelling.{Lawful};
 ghost use Rattle.ox_rules.specs.Newest.{newest_of};
-ghost use Rattle.ox_model.specs.Step.{is_null as names_none, is_coinbase as is_only_null, has_null as names_none_somewhere, misplaced as first_misplaced, admitted};
+ghost use Rattle.ox_model.specs.Step.{is_null as names_none, is_coinbase as is_only_null};
+ghost use Rattle.ox_model.specs.Step.{has_null as names_none_somewhere};
+ghost use Rattle.ox_model.specs.Step.{misplaced_coinbase as first_misplaced, admission};
 ghost use Rattle.ox_index.specs.Fault.{Refuses};
 
 use crate::fault::ConnectFault;
@@ -13,7 +15,8 @@ use ox_model::Refusal;
 use ox_sat::Profile;
 use std::alloc::Global;
 
-/// What the next block has to name as the one before it: the newest block's hash, or 32 zero bytes on an empty chain.
+/// What the next block has to name as the one before it: the newest block's hash, or 32 zero bytes
+/// on an empty chain.
 pub fn newest(hashes: &[[u8; 32]]) -> [u8; 32]
     ensures { result ≡ newest_of hashes.now }
 {
@@ -62,9 +65,10 @@ fn misplaced(txs: &[Tx]) -> Option<usize>
     }
 }
 
-/// Tests a block that is to stand on this chain, before any of its satoshis move: its height, the block that it names
-/// before it, its root, and where coinbases stand. It answers the ids of the block's transactions, in order, of which
-/// the root is made. `Memory` where there is none for the ids or the root.
+/// Tests a block that is to stand on this chain, before any of its satoshis move: its height, the
+/// block that it names before it, its root, and where coinbases stand. It answers the ids of the
+/// block's transactions, in order, of which the root is made. `Memory` where there is none for the
+/// ids or the root.
 #[tactic(auto, unfolding(ox_block::specs::Hashes::block_root))]
 pub fn admit(
     alloc: Global,
@@ -73,9 +77,9 @@ pub fn admit(
     block: &Block,
 ) -> Result<Txids, ConnectFault>
     requires lawful { Lawful block.now }
-    ensures ok { OnOk result (admitted p.now hashes.now block.now ≡ Ok tt) }
+    ensures ok { OnOk result (admission p.now hashes.now block.now ≡ Ok tt) }
     ensures ids { IfOk result (λ ids. ids ≡ map txid block.now.txs) }
-    ensures refused { IfErr result (λ fault. Refuses fault (admitted p.now hashes.now block.now)) }
+    ensures refused { IfErr result (λ fault. Refuses fault (admission p.now hashes.now block.now)) }
 {
     let height = hashes.len() as u64;
     if height > p.last {

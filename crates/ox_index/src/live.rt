@@ -3,7 +3,7 @@
 ghost use Rattle.std.specs.Prelude.{◌≡◌, Ok, IfOk, IfErr, OnOk, OnErr};
 ghost use Rattle.ox_sat.specs.Profiles.{IsProfile};
 ghost use Rattle.ox_sat.proofs.Known.{IsProfile-prop};
-ghost use Rattle.ox_model.specs.Sound.{Sound};
+ghost use Rattle.ox_model.specs.Sound.{IsSound};
 ghost use Rattle.ox_rules.specs.Text.{ok_text};
 ghost use Rattle.ox_outputs.specs.Table.{rows_in};
 
@@ -18,7 +18,8 @@ use ox_sat::Profile;
 use ox_transfer::transfer;
 use std::alloc::Global;
 
-/// The index of a chain: the hashes of its blocks, its unspent outputs, and the satoshis that no output holds any more.
+/// The index of a chain: the hashes of its blocks, its unspent outputs, and the satoshis that no
+/// output holds any more.
 #[derive(Drop)]
 pub struct Live {
     alloc: Global,
@@ -27,7 +28,8 @@ pub struct Live {
     outputs: Outputs,
     lost: Ranges,
     ghost known: { IsProfile profile } by { IsProfile-prop profile },
-    ghost sound: { Sound profile (record { hashes = hashes.items; outs = rows_in outputs; lost = lost }) },
+    ghost sound: { IsSound profile
+        (record { hashes = hashes.items; outs = rows_in outputs; lost = lost }) },
 }
 
 impl Live {
@@ -37,7 +39,8 @@ impl Live {
     ghost use Rattle.ox_index.specs.Live.{profile_in, index_in};
     ghost use Rattle.ox_index.specs.Fault.{Refuses};
 
-    /// The index of an empty chain that counts by this profile. It takes no memory until a block is connected.
+    /// The index of an empty chain that counts by this profile. It takes no memory until a block is
+    /// connected.
     pub fn new(alloc: Global, p: &Profile) -> Live
         requires { IsProfile p.now }
         ensures profile { profile_in result ≡ p.now }
@@ -52,13 +55,15 @@ impl Live {
         }
     }
 
-    /// Takes in the block that has these bytes, at the height after the newest. `Refused` exactly where the definition
-    /// refuses, with the first cause: `Malformed`, `ChainEnd`, `Unlinked`, `BadRoot`, `Coinbase`, and then
-    /// `UnknownOutput`, `Overspend` and `Overclaim` in block order. `Memory` where there is none. After a refusal or
-    /// `Memory` the index is as before.
+    /// Takes in the block that has these bytes, at the height after the newest. `Refused` exactly
+    /// where the definition refuses, with the first cause: `Malformed`, `ChainEnd`, `Unlinked`,
+    /// `BadRoot`, `Coinbase`, and then `UnknownOutput`, `Overspend` and `Overclaim` in block order.
+    /// `Memory` where there is none. After a refusal or `Memory` the index is as before.
     pub fn connect(&mut self, bytes: &[u8]) -> Result<(), ConnectFault>
-        ensures ok { OnOk result (step (profile_in self.old) (index_in self.old) bytes.now ≡ Ok (index_in self.new)) }
-        ensures refused { IfErr result (λ fault. Refuses fault (step (profile_in self.old) (index_in self.old) bytes.now)) }
+        ensures ok { OnOk result
+            (step (profile_in self.old) (index_in self.old) bytes.now ≡ Ok (index_in self.new)) }
+        ensures refused { IfErr result
+            (λ fault. Refuses fault (step (profile_in self.old) (index_in self.old) bytes.now)) }
         ensures err { OnErr result (index_in self.new ≡ index_in self.old) }
         ensures profile { profile_in self.new ≡ profile_in self.old }
     {
@@ -86,8 +91,9 @@ impl Live {
         }
     }
 
-    /// The line of an accepted command: `ok`, the height and the hash of the newest block, or `ok empty`, and a line
-    /// feed. The hash is printed in reversed order. `Memory` where there is none for it.
+    /// The line of an accepted command: `ok`, the height and the hash of the newest block, or `ok
+    /// empty`, and a line feed. The hash is printed in reversed order. `Memory` where there is none
+    /// for it.
     pub fn line(&self) -> Result<Bytes, Memory>
         ensures { IfOk result (λ line. line ≡ ok_line (index_in self.now)) }
     {

@@ -85,7 +85,8 @@ fn plain(
     Ok((bytes, hash, at))
 }
 
-// Blocks 0 and 1 are plain. Transaction 1 of block 2 pays a fee of 2,000,000,000, and its coinbase claims this much.
+// Blocks 0 and 1 are plain. Transaction 1 of block 2 pays a fee of 2,000,000,000, and its coinbase
+// claims this much.
 fn chain_with_a_fee(
     rt: &impl Abort,
     alloc: Global,

@@ -1,4 +1,5 @@
 pub mod Soundness
-pub mod Counting
-pub mod Standing
-pub mod Turning
+pub mod CountedMoments
+pub mod FilesOfChains
+pub mod AnswersOfStacks
+pub mod RunsInTurn

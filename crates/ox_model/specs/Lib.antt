@@ -3,9 +3,11 @@ pub mod Where
 pub mod Step
 pub mod Chain
 pub mod Sound
-pub mod Machine
 pub mod Stack
+pub mod Machine
 pub mod Replies
 pub mod Moments
 pub mod Stands
+pub mod Survives
+pub mod Runs
 pub mod Status

@@ -1,15 +1,15 @@
--- The machine that commands drive: a chain of blocks, of which the newest ones may be kept to be taken back.
+-- The machine that commands drive: a chain of blocks, of which the newest ones may be kept to be
+-- taken back. What is accepted is what its stack accepts; the machine says which blocks are left.
 use Rattle.std.specs.Prelude.{ℕ, List, [], ◌∷◌, ◌++◌, Option, Some, None, Result, Ok, Err}
 use Rattle.ox_feed.specs.Command.{command_of}
 use Rattle.ox_feed.specs.Feed.{FeedLine, text, too_long}
 use Rattle.ox_feed.specs.declared.command.Command.{Command}
 use Rattle.ox_feed.specs.declared.command.Command.TheVariants.{Connect, Disconnect}
 use Rattle.ox_sat.specs.declared.profiles.Profile.{Profile}
+use Rattle.ox_rules.specs.declared.refusal.Refusal.{Refusal}
 use Rattle.ox_model.specs.Chain.{index_of}
 use Rattle.ox_model.specs.Index.{Index}
-use Rattle.ox_model.specs.Step.{step}
-use Rattle.ox_rules.specs.declared.refusal.Refusal.{Refusal}
-use Rattle.ox_rules.specs.declared.refusal.Refusal.TheVariants.{TooLong, Syntax, Depth}
+use Rattle.ox_model.specs.Stack.{Stack, turn_on}
 
 pub record Machine : Type 0 where
   -- the profile by which its chain counts
@@ -22,29 +22,38 @@ pub record Machine : Type 0 where
   pub kept : ℕ
 
 -- before the first command
-abbrev pub begun : Profile → ℕ → Machine
-begun p depth = record { profile = p; depth = depth; blocks = []; kept = 0 }
+abbrev pub empty_machine : Profile → ℕ → Machine
+empty_machine p depth = record { profile = p; depth = depth; blocks = []; kept = 0 }
 
 -- the index of its chain: fresh indexing of its blocks
-abbrev pub indexed : Machine → Index
-indexed machine = index_of machine.profile machine.blocks
+abbrev pub chain_index : Machine → Index
+chain_index machine = index_of machine.profile machine.blocks
 
--- the machine with this block, where the index has a step for it
-abbrev pub with_block : Machine → List ℕ → Result Index Refusal → Result Machine Refusal
-with_block machine bytes (Ok index) = Ok (record machine { blocks = machine.blocks ++ bytes ∷ [] })
-with_block machine bytes (Err refusal) = Err refusal
+-- its stack
+abbrev pub stack_of : Machine → Stack
+stack_of machine = record {
+  profile = machine.profile;
+  depth = machine.depth;
+  index = chain_index machine;
+}
 
--- The machine after a command, or why it is refused. No block is kept that could be taken back.
-abbrev pub obeyed : Machine → Command → Result Machine Refusal
-obeyed machine (Connect bytes) = with_block machine bytes (step machine.profile (indexed machine) bytes)
-obeyed machine Disconnect = Err Depth
+-- the blocks of a chain after a command that is accepted
+abbrev pub blocks_after : List (List ℕ) → Option Command → List (List ℕ)
+blocks_after blocks (Some (Connect bytes)) = blocks ++ bytes ∷ []
+blocks_after blocks (Some Disconnect) = blocks
+blocks_after blocks None = blocks
 
--- a line that is no command is refused
-abbrev pub obeyed_if : Machine → Option Command → Result Machine Refusal
-obeyed_if machine (Some command) = obeyed machine command
-obeyed_if machine None = Err Syntax
+-- and after a line that is
+abbrev pub blocks_after_line : List (List ℕ) → FeedLine → List (List ℕ)
+blocks_after_line blocks (text line) = blocks_after blocks (command_of line)
+blocks_after_line blocks too_long = blocks
 
--- the machine after a line, or why it is refused
+-- a machine with these blocks, where its stack has turned
+abbrev pub with_blocks : Machine → List (List ℕ) → Result Stack Refusal → Result Machine Refusal
+with_blocks machine blocks (Ok stack) = Ok (record machine { blocks = blocks })
+with_blocks machine blocks (Err refusal) = Err refusal
+
+-- the machine after a line, or why it is refused: what its stack says, with the line's block
 abbrev pub turn : Machine → FeedLine → Result Machine Refusal
-turn machine (text line) = obeyed_if machine (command_of line)
-turn machine too_long = Err TooLong
+turn machine line =
+    with_blocks machine (blocks_after_line machine.blocks line) (turn_on (stack_of machine) line)

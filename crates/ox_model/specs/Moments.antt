@@ -1,5 +1,6 @@
--- When the commands of a feed are carried out, by what a run has heard and shown. The moment of a line is the first event
--- of the log after which the line stands whole in what was heard and all answers before its own are wholly shown.
+-- When the commands of a feed are carried out, by what a run has heard and shown. The moment of a
+-- line is the first event of the log after which the line stands whole in what was heard and all
+-- answers before its own are wholly shown.
 use Rattle.std.specs.Prelude.{ℕ, suc, List, [], ◌∷◌, length, drop, nat_le, if◌then◌else◌}
 use Rattle.ox_outside.specs.Event.{Event, heard_bytes, shown_bytes, has_ended}
 use Rattle.ox_feed.specs.Feed.{FeedLine, lines_of}
@@ -8,22 +9,26 @@ use Rattle.ox_feed.specs.Feed.{FeedLine, lines_of}
 abbrev pub lines_in : List Event → List FeedLine
 lines_in log = lines_of (heard_bytes 0 log) (has_ended 0 log)
 
--- With these answers to the lines that stand whole, and so much shown, of how many lines the moment has come: of the
--- first, and of each other one once the answer before its own is wholly shown.
+-- With these answers to the lines that stand whole, and so much shown, of how many lines the moment
+-- has come: of the first, and of each other one once the answer before its own is wholly shown.
 unfoldable pub moments : List (List ℕ) → List ℕ → ℕ
 moments [] shown = 0
-moments (answer ∷ answers) shown = suc (if nat_le (length answer) (length shown) then moments answers (drop (length answer) shown) else 0)
+moments (answer ∷ answers) shown =
+    suc
+    (if nat_le (length answer) (length shown)
+    then moments answers (drop (length answer) shown) else 0)
 
 -- with these answers, of how many a byte is shown
-unfoldable pub acknowledged : List (List ℕ) → List ℕ → ℕ
-acknowledged answers [] = 0
-acknowledged [] (b ∷ shown) = 0
-acknowledged (answer ∷ answers) (b ∷ shown) = suc (acknowledged answers (drop (length answer) (b ∷ shown)))
+unfoldable pub acknowledgements : List (List ℕ) → List ℕ → ℕ
+acknowledgements answers [] = 0
+acknowledgements [] (b ∷ shown) = 0
+acknowledgements (answer ∷ answers) (b ∷ shown) =
+    suc (acknowledgements answers (drop (length answer) (b ∷ shown)))
 
 -- the number of commands, accepted or refused, whose moment is in a log
 abbrev pub count : List (List ℕ) → List Event → ℕ
 count answers log = moments answers (shown_bytes 0 log)
 
 -- the number of commands of whose answer a byte is in a log
-abbrev pub acknowledged_in : List (List ℕ) → List Event → ℕ
-acknowledged_in answers log = acknowledged answers (shown_bytes 0 log)
+abbrev pub acknowledgements_in : List (List ℕ) → List Event → ℕ
+acknowledgements_in answers log = acknowledgements answers (shown_bytes 0 log)

@@ -1,4 +1,5 @@
--- What lines make of a state that turns by lines, and the lines that answer them. The state is a machine, or a machine's stack.
+-- What lines make of a state that turns by lines, and the lines that answer them. The state is a
+-- machine, or a machine's stack.
 use Rattle.std.specs.Prelude.{ℕ, List, [], ◌∷◌, Result, Ok, Err}
 use Rattle.ox_feed.specs.Feed.{FeedLine}
 use Rattle.ox_model.specs.Index.{Index}
@@ -28,16 +29,19 @@ after_by turn state [] = state
 after_by turn state (line ∷ lines) = after_by turn (after_turn state (turn state line)) lines
 
 -- the answers to lines, in order, each by the state as the lines before it leave it
-unfoldable pub replies_by : {X : Type 0} → (X → FeedLine → Result X Refusal) → (X → Index) → X → List FeedLine → List (List ℕ)
+unfoldable pub replies_by : {X : Type 0} → (X → FeedLine → Result X Refusal) → (X → Index) → X
+    → List FeedLine → List (List ℕ)
 replies_by turn index state [] = []
-replies_by turn index state (line ∷ lines) = reply_by index (turn state line) ∷ replies_by turn index (after_turn state (turn state line)) lines
+replies_by turn index state (line ∷ lines) =
+    reply_by index (turn state line)
+    ∷ replies_by turn index (after_turn state (turn state line)) lines
 
 -- of a machine, each by fresh indexing of its blocks then
 abbrev pub after : Machine → List FeedLine → Machine
 after = after_by machines.turn
 
 abbrev pub replies : Machine → List FeedLine → List (List ℕ)
-replies = replies_by machines.turn machines.indexed
+replies = replies_by machines.turn machines.chain_index
 
 -- of its stack
 abbrev pub index_on : Stack → Index

@@ -3,26 +3,20 @@ use Rattle.std.specs.Prelude.{ℕ, ◌-◌, bytes_eq, List, length, codes, slice
 use Rattle.std.specs.Option.{option_map_or}
 use Rattle.serde_json.specs.Data.{Data, null, number, string, object, no_members, member, unsigned}
 use Rattle.serde_json.specs.Written.{compact_text}
-use Rattle.ox_sat.specs.declared.profiles.ProfileName.{ProfileName}
-use Rattle.ox_sat.specs.declared.profiles.ProfileName.TheVariants.{Mainnet, Regtest, Lab}
+use Rattle.ox_sat.specs.Profiles.{name_at, profile_word}
 use Rattle.ox_model.specs.Stack.{Stack}
-use Rattle.ox_model.specs.Stands.{name_at}
 use Rattle.ox_rules.specs.Text.{hash_text}
-
--- the word of a profile
-abbrev pub profile_word : ProfileName → List ℕ
-profile_word Mainnet = codes "mainnet"
-profile_word Regtest = codes "regtest"
-profile_word Lab = codes "lab"
 
 abbrev pub count_data : ℕ → Data
 count_data n = number (unsigned n)
 
 -- the newest block's hash as it is printed, or null on an empty chain
 abbrev pub tip_data : List (List ℕ) → Data
-tip_data hashes = option_map_or (λ hash. string (hash_text hash)) (slice_get hashes (length hashes - 1)) null
+tip_data hashes =
+    option_map_or (λ hash. string (hash_text hash)) (slice_get hashes (length hashes - 1)) null
 
--- what is told of a chain: how many blocks it has, how many may be kept and are, its profile, and its newest block
+-- what is told of a chain: how many blocks it has, how many may be kept and are, its profile, and
+-- its newest block
 abbrev pub status_data : Stack → Data
 status_data stack = object (
     member (codes "blocks") (count_data (length stack.index.hashes)) (

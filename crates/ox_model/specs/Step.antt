@@ -1,5 +1,8 @@
--- What one block makes of an index, or why it is refused. The tests come in this order, and the first that fails decides.
-use Rattle.std.specs.Prelude.{ℕ, ◌+◌, Bool, not, bytes_eq, List, [], ◌∷◌, ◌++◌, length, Option, Some, None, option_map, position, Result, Ok, Err, nat_lt, ◌==◌, ◌&&◌, if◌then◌else◌}
+-- What one block makes of an index, or why it is refused. The tests come in this order, and the
+-- first that fails decides.
+use Rattle.std.specs.Prelude.{ℕ, ◌+◌, Bool, not, bytes_eq, List, [], ◌∷◌, ◌++◌, length, Option}
+use Rattle.std.specs.Prelude.{Some, None, option_map, position, Result, Ok, Err, nat_lt, ◌==◌, ◌&&◌}
+use Rattle.std.specs.Prelude.{if◌then◌else◌}
 use Rattle.std.specs.List.{list_any}
 use Rattle.ox_bytes.specs.Reading.{◌>>=◌}
 use Rattle.ox_block.specs.declared.block.Tx.{Tx}
@@ -9,7 +12,8 @@ use Rattle.ox_block.specs.Reading.{block_of}
 use Rattle.ox_block.specs.Hashes.{block_hash, block_root}
 use Rattle.ox_sat.specs.declared.profiles.Profile.{Profile}
 use Rattle.ox_rules.specs.declared.refusal.Refusal.{Refusal}
-use Rattle.ox_rules.specs.declared.refusal.Refusal.TheVariants.{Malformed, ChainEnd, Unlinked, BadRoot, Coinbase}
+use Rattle.ox_rules.specs.declared.refusal.Refusal.TheVariants.{Malformed, ChainEnd, Unlinked}
+use Rattle.ox_rules.specs.declared.refusal.Refusal.TheVariants.{BadRoot, Coinbase}
 use Rattle.ox_model.specs.Index.{Index}
 use Rattle.ox_rules.specs.Newest.{zero_hash, newest_of}
 use Rattle.ox_rules.specs.Transfer.{Transferred, transfer_of}
@@ -33,11 +37,12 @@ has_null tx = list_any is_null tx.inputs
 abbrev pub is_coinbase : Tx → Bool
 is_coinbase tx = (length tx.inputs == 1) && has_null tx
 
--- the first transaction that is a coinbase and mustn't be one, or isn't and must: the first of a block is one, and no
--- other has an input that names no output
-abbrev pub misplaced : List Tx → Option ℕ
-misplaced [] = Some 0
-misplaced (tx ∷ txs) = if is_coinbase tx then option_map (λ place. place + 1) (position has_null txs) else Some 0
+-- the first transaction that is a coinbase and mustn't be one, or isn't and must: the first of a
+-- block is one, and no other has an input that names no output
+abbrev pub misplaced_coinbase : List Tx → Option ℕ
+misplaced_coinbase [] = Some 0
+misplaced_coinbase (tx ∷ txs) =
+    if is_coinbase tx then option_map (λ place. place + 1) (position has_null txs) else Some 0
 
 abbrev pub refuse_misplaced : Option ℕ → Result (Unit {0}) Refusal
 refuse_misplaced None = Ok tt
@@ -47,25 +52,32 @@ abbrev pub or_malformed : Result Block ℕ → Result Block Refusal
 or_malformed (Ok block) = Ok block
 or_malformed (Err at) = Err (Malformed at)
 
--- the tests of a block at the height after the newest, whose chain has these hashes, that come before any satoshi moves
-abbrev pub admitted : Profile → List (List ℕ) → Block → Result (Unit {0}) Refusal
-admitted p hashes block = do
+-- the tests of a block at the height after the newest, whose chain has these hashes, that come
+-- before any satoshi moves
+abbrev pub admission : Profile → List (List ℕ) → Block → Result (Unit {0}) Refusal
+admission p hashes block = do
   ended ← refuse_if (nat_lt p.last (length hashes)) (ChainEnd (length hashes))
-  linked ← refuse_if (differ block.header.previous (newest_of hashes)) (Unlinked block.header.previous (newest_of hashes))
-  rooted ← refuse_if (differ block.header.root (block_root block)) (BadRoot block.header.root (block_root block))
-  refuse_misplaced (misplaced block.txs)
+  linked ← refuse_if (differ block.header.previous (newest_of hashes))
+      (Unlinked block.header.previous (newest_of hashes))
+  rooted ← refuse_if (differ block.header.root (block_root block))
+      (BadRoot block.header.root (block_root block))
+  refuse_misplaced (misplaced_coinbase block.txs)
 
 -- the index with a block whose satoshis have moved
-abbrev pub grown : Index → Block → Transferred → Index
-grown index block after = record { hashes = index.hashes ++ block_hash block.header ∷ []; outs = after.outs; lost = index.lost ++ after.moved.lost }
+abbrev pub grown_index : Index → Block → Transferred → Index
+grown_index index block after = record {
+  hashes = index.hashes ++ block_hash block.header ∷ [];
+  outs = after.outs;
+  lost = index.lost ++ after.moved.lost;
+}
 
 -- the index after a block
-abbrev pub accept : Profile → Index → Block → Result Index Refusal
-accept p index block = do
-  begun ← admitted p index.hashes block
+abbrev pub index_after : Profile → Index → Block → Result Index Refusal
+index_after p index block = do
+  admitted ← admission p index.hashes block
   after ← transfer_of p (length index.hashes) block.txs index.outs
-  Ok (grown index block after)
+  Ok (grown_index index block after)
 
 -- the index after the block that these bytes spell
 unfoldable pub step : Profile → Index → List ℕ → Result Index Refusal
-step p index bytes = or_malformed (block_of bytes) >>= accept p index
+step p index bytes = or_malformed (block_of bytes) >>= index_after p index

@@ -9,4 +9,6 @@ use Rattle.ox_model.specs.Index.{Index}
 
 -- in an output, else among the lost ones, else nowhere
 abbrev pub where_is : Index → ℕ → Option Place
-where_is index sat = option_map_or (λ place. Some place) (place_among (entries index.outs) sat) (option_map Lost (place_in index.lost sat))
+where_is index sat =
+    option_map_or (λ place. Some place) (place_among (entries index.outs) sat)
+    (option_map Lost (place_in index.lost sat))

@@ -5,7 +5,7 @@ ghost use Rattle.std.specs.FinMap as map;
 ghost use Rattle.ox_sat.specs.declared.profiles.Profile.{Profile};
 ghost use Rattle.ox_model.specs.Index.{Index};
 ghost use Rattle.ox_model.specs.Where.{where_is};
-ghost use Rattle.ox_model.specs.Sound.{Sound};
+ghost use Rattle.ox_model.specs.Sound.{IsSound};
 
 use ox_block::OutPoint;
 use ox_rules::{OutRow, Place};
@@ -27,7 +27,8 @@ pub trait View {
     fn blocks(&self) -> u32
         ensures { result ≡ length (index self.now).hashes };
 
-    /// The hash of the block at a height, in serialized order; `None` exactly where the height isn't below `blocks`.
+    /// The hash of the block at a height, in serialized order; `None` exactly where the height
+    /// isn't below `blocks`.
     fn hash_of(&self, height: u32) -> Option<&[u8; 32]>
         ensures { option_copied result ≡ slice_get (index self.now).hashes height };
 
@@ -39,11 +40,11 @@ pub trait View {
     fn lost(&self) -> u64
         ensures { result ≡ length (index self.now).lost };
 
-    /// Where a satoshi is: in which output and at which place of it, or at which place of the lost ones; `None` exactly
-    /// where it is nowhere.
+    /// Where a satoshi is: in which output and at which place of it, or at which place of the lost
+    /// ones; `None` exactly where it is nowhere.
     fn locate(&self, sat: u64) -> Option<Place>
         ensures { result ≡ where_is (index self.now) sat };
 
     /// The index is sound.
-    ghost sound: { (view : Self) → Sound (chain view) (index view) };
+    ghost sound: { (view : Self) → IsSound (chain view) (index view) };
 }

@@ -29,7 +29,8 @@ abbrev pub rows_of : SlotList → Outputs
 rows_of [] = empty
 rows_of (e ∷ slots) = put_slot (rows_of slots) e.0 e.1
 
--- the rows without some changes, of which the oldest comes first: what stood at each outpoint is put back there
+-- the rows without some changes, of which the oldest comes first: what stood at each outpoint is
+-- put back there
 abbrev pub undone : List (Option OutRow) → List OutPoint → Outputs → Outputs
 undone (row ∷ before) (at ∷ changed) outs = put_slot (undone before changed outs) at row
 undone before changed outs = outs
@@ -42,4 +43,5 @@ are_slots ats slots = list_all (λ at. is_some (slot_at slots at)) ats
 abbrev pub found_among : SlotList → ℕ → Option Place
 found_among [] sat = None
 found_among ((at, None) ∷ slots) sat = found_among slots sat
-found_among ((at, Some row) ∷ slots) sat = option_map_or (λ offset. Some (Out at offset)) (place_in row.sats sat) (found_among slots sat)
+found_among ((at, Some row) ∷ slots) sat =
+    option_map_or (λ offset. Some (Out at offset)) (place_in row.sats sat) (found_among slots sat)

@@ -1,6 +1,7 @@
 //! The unspent outputs.
 
-ghost use Rattle.std.specs.Prelude.{◌≡◌, false, [], IsTrue, IsSome, IfOk, OnOk, OnErr, length, if◌then◌else◌, Some, None};
+ghost use Rattle.std.specs.Prelude.{◌≡◌, false, [], IsTrue, IsSome, IfOk, OnOk, OnErr, length};
+ghost use Rattle.std.specs.Prelude.{if◌then◌else◌, Some, None};
 ghost use Rattle.std.specs.Option.{option_copied};
 ghost use Rattle.std.specs.FinMap as map;
 ghost use Rattle.ox_outputs.specs.Slots.{rows_of, undone, are_slots};
@@ -13,8 +14,8 @@ use ox_rules::{Memory, OutRow, OutTable, Place, Unplaced};
 use std::alloc::Global;
 use std::collections::BTreeMap;
 
-/// The unspent outputs: rows by outpoint, in memory. With a mark set, the rows that were taken or displaced since are
-/// kept until the next mark, so that to go back takes no memory.
+/// The unspent outputs: rows by outpoint, in memory. With a mark set, the rows that were taken or
+/// displaced since are kept until the next mark, so that to go back takes no memory.
 #[derive(Drop)]
 pub struct Outputs {
     alloc: Global,
@@ -45,8 +46,8 @@ impl Outputs {
         }
     }
 
-    /// The output that holds a satoshi, and its place there: the first such output in the order of outpoints. `None`
-    /// exactly where no output holds it. It looks at one output after the other.
+    /// The output that holds a satoshi, and its place there: the first such output in the order of
+    /// outpoints. `None` exactly where no output holds it. It looks at one output after the other.
     pub fn locate(&self, sat: u64) -> Option<Place>
         ensures { result ≡ place_among (map.entries (rows_in self.now)) sat }
     {
@@ -57,7 +58,10 @@ impl Outputs {
 impl OutTable for Outputs {
     ghost contents = { λ outputs. rows_of outputs.slots.entries };
 
-    ghost marked = { λ outputs. if outputs.marked then Some (undone outputs.before.items outputs.changed.items (rows_of outputs.slots.entries)) else None };
+    ghost marked = { λ outputs. if outputs.marked
+        then Some (undone outputs.before.items outputs.changed.items
+        (rows_of outputs.slots.entries))
+        else None };
 
     fn get(&self, at: &OutPoint) -> Option<&OutRow> {
         row_at(&self.slots, at)

@@ -1,10 +1,12 @@
 //! Slots for rows. A slot that is there can be filled and emptied without memory.
 
-ghost use Rattle.std.specs.Prelude.{◌≡◌, IsTrue, ◌↔◌, Option, None, IsSome, IfOk, IfErr, OnOk, OnErr, [], ◌∷◌, length};
+ghost use Rattle.std.specs.Prelude.{◌≡◌, IsTrue, ◌↔◌, Option, None, IsSome, IfOk, IfErr, OnOk};
+ghost use Rattle.std.specs.Prelude.{OnErr, [], ◌∷◌, length};
 ghost use Rattle.std.specs.Option.{option_copied, option_map};
 ghost use Rattle.std.specs.FinMap as map;
 ghost use Rattle.ox_block.specs.declared.block.OutPoint.{OutPoint};
-ghost use Rattle.ox_outputs.specs.Slots.{slot_at, put_slot, rows_of, undone, are_slots, found_among};
+ghost use Rattle.ox_outputs.specs.Slots.{slot_at, put_slot, rows_of, undone, are_slots};
+ghost use Rattle.ox_outputs.specs.Slots.{found_among};
 ghost use Rattle.ox_rules.specs.Where.{place_among};
 ghost use Rattle.ox_rules.specs.Outputs.{outpoint_cmp};
 ghost use Rattle.std.specs.BTreeMap.{IsOrdered};
@@ -32,7 +34,8 @@ pub(crate) fn exchange(slots: &mut Slots, at: OutPoint, row: Option<OutRow>) -> 
     requires { IsSome (slot_at slots.old.entries at) }
     ensures held { result ≡ map.get (rows_of slots.old.entries) at }
     ensures rows { rows_of slots.new.entries ≡ put_slot (rows_of slots.old.entries) at row }
-    ensures others { (q : OutPoint) → IsSome (slot_at slots.old.entries q) → IsSome (slot_at slots.new.entries q) }
+    ensures others { (q : OutPoint) → IsSome (slot_at slots.old.entries q)
+        → IsSome (slot_at slots.new.entries q) }
 {
     match slots.insert(at, row) {
         Ok(Some(held)) => held,
@@ -45,7 +48,8 @@ pub(crate) fn exchange(slots: &mut Slots, at: OutPoint, row: Option<OutRow>) -> 
 fn empty(slots: &mut Slots, at: &OutPoint) -> Option<OutRow>
     ensures held { result ≡ map.get (rows_of slots.old.entries) at.now }
     ensures rows { rows_of slots.new.entries ≡ put_slot (rows_of slots.old.entries) at.now None }
-    ensures others { (q : OutPoint) → IsSome (slot_at slots.old.entries q) → IsSome (slot_at slots.new.entries q) }
+    ensures others { (q : OutPoint) → IsSome (slot_at slots.old.entries q)
+        → IsSome (slot_at slots.new.entries q) }
 {
     match slots.get_mut(at) {
         Some(slot) => slot.take(),
@@ -53,16 +57,20 @@ fn empty(slots: &mut Slots, at: &OutPoint) -> Option<OutRow>
     }
 }
 
-/// Empties the slot at this outpoint, if there is one, and answers what it held twice. `Memory` where there is none for
-/// the copy: the rows are as before.
+/// Empties the slot at this outpoint, if there is one, and answers what it held twice. `Memory`
+/// where there is none for the copy: the rows are as before.
 pub(crate) fn take_twice(
     slots: &mut Slots,
     at: &OutPoint,
     alloc: Global,
 ) -> Result<Option<(OutRow, OutRow)>, Memory>
-    ensures held { IfOk result (λ held. held ≡ option_map (λ row. (row, row)) (map.get (rows_of slots.old.entries) at.now)) }
-    ensures rows { OnOk result (rows_of slots.new.entries ≡ put_slot (rows_of slots.old.entries) at.now None) }
-    ensures others { (q : OutPoint) → IsSome (slot_at slots.old.entries q) → IsSome (slot_at slots.new.entries q) }
+    ensures held { IfOk result
+        (λ held. held
+        ≡ option_map (λ row. (row, row)) (map.get (rows_of slots.old.entries) at.now)) }
+    ensures rows { OnOk result
+        (rows_of slots.new.entries ≡ put_slot (rows_of slots.old.entries) at.now None) }
+    ensures others { (q : OutPoint) → IsSome (slot_at slots.old.entries q)
+        → IsSome (slot_at slots.new.entries q) }
     ensures err { OnErr result (rows_of slots.new.entries ≡ rows_of slots.old.entries) }
 {
     let Some(row) = empty(slots, at) else {
@@ -100,13 +108,15 @@ pub(crate) fn tidy(slots: &mut Slots, at: OutPoint)
     }
 }
 
-/// Fills the slot at this outpoint, which is made where there is none, and answers what it held. Where there is no
-/// memory for a new slot, the row is handed back and the slots are as before.
+/// Fills the slot at this outpoint, which is made where there is none, and answers what it held.
+/// Where there is no memory for a new slot, the row is handed back and the slots are as before.
 pub(crate) fn fill(slots: &mut Slots, at: OutPoint, row: OutRow) -> Result<Option<OutRow>, Unplaced>
     ensures held { IfOk result (λ held. held ≡ map.get (rows_of slots.old.entries) at) }
-    ensures rows { OnOk result (rows_of slots.new.entries ≡ map.insert (rows_of slots.old.entries) at row) }
+    ensures rows { OnOk result
+        (rows_of slots.new.entries ≡ map.insert (rows_of slots.old.entries) at row) }
     ensures slot { OnOk result (IsSome (slot_at slots.new.entries at)) }
-    ensures others { (q : OutPoint) → IsSome (slot_at slots.old.entries q) → IsSome (slot_at slots.new.entries q) }
+    ensures others { (q : OutPoint) → IsSome (slot_at slots.old.entries q)
+        → IsSome (slot_at slots.new.entries q) }
     ensures handed_back { IfErr result (λ e. e.row ≡ row) }
     ensures err { OnErr result (slots.new.entries ≡ slots.old.entries) }
 {
@@ -120,8 +130,8 @@ pub(crate) fn fill(slots: &mut Slots, at: OutPoint, row: OutRow) -> Result<Optio
     }
 }
 
-/// Fills the slot at this outpoint, as `fill` does, and answers what it held twice. Where there is no memory, the row is
-/// handed back and the rows are as before.
+/// Fills the slot at this outpoint, as `fill` does, and answers what it held twice. Where there is
+/// no memory, the row is handed back and the rows are as before.
 pub(crate) fn fill_twice(
     slots: &mut Slots,
     at: OutPoint,
@@ -130,9 +140,11 @@ pub(crate) fn fill_twice(
 ) -> Result<(Option<OutRow>, Option<OutRow>), Unplaced>
     ensures held { IfOk result (λ held. held.0 ≡ map.get (rows_of slots.old.entries) at) }
     ensures kept { IfOk result (λ held. held.1 ≡ map.get (rows_of slots.old.entries) at) }
-    ensures rows { OnOk result (rows_of slots.new.entries ≡ map.insert (rows_of slots.old.entries) at row) }
+    ensures rows { OnOk result
+        (rows_of slots.new.entries ≡ map.insert (rows_of slots.old.entries) at row) }
     ensures slot { OnOk result (IsSome (slot_at slots.new.entries at)) }
-    ensures others { (q : OutPoint) → IsSome (slot_at slots.old.entries q) → IsSome (slot_at slots.new.entries q) }
+    ensures others { (q : OutPoint) → IsSome (slot_at slots.old.entries q)
+        → IsSome (slot_at slots.new.entries q) }
     ensures handed_back { IfErr result (λ e. e.row ≡ row) }
     ensures err { OnErr result (rows_of slots.new.entries ≡ rows_of slots.old.entries) }
 {
@@ -148,8 +160,9 @@ pub(crate) fn fill_twice(
     }
 }
 
-/// Forgets changes, and takes the slots away in which they left no row: no row is lost. Only where a row stood before
-/// is its slot looked at, since a change without one filled its slot, and a row that was taken since is another change.
+/// Forgets changes, and takes the slots away in which they left no row: no row is lost. Only where
+/// a row stood before is its slot looked at, since a change without one filled its slot, and a row
+/// that was taken since is another change.
 pub(crate) fn settle(
     slots: &mut Slots,
     changed: &mut Vec<OutPoint>,
@@ -179,7 +192,8 @@ pub(crate) fn forget(slots: &mut Slots, changed: &mut Vec<OutPoint>)
 pub(crate) fn go_back(slots: &mut Slots, changed: &[OutPoint], before: &mut Vec<Option<OutRow>>)
     requires paired { length before.old.items ≡ length changed.now }
     requires known { IsTrue (are_slots changed.now slots.old.entries) }
-    ensures rows { rows_of slots.new.entries ≡ undone before.old.items changed.now (rows_of slots.old.entries) }
+    ensures rows { rows_of slots.new.entries
+        ≡ undone before.old.items changed.now (rows_of slots.old.entries) }
     ensures known { IsTrue (are_slots changed.now slots.new.entries) }
     ensures none { before.new.items ≡ [] }
 {

@@ -1,7 +1,6 @@
 -- No step of a transfer makes or loses a satoshi: how often each stands in the lists stays the same.
 use Rattle.std.proofs.Common.{◌≡◌, ◌∙◌, ℕ, suc, ◌+◌, Bool, true, false, cond, List, [], ◌∷◌, ◌++◌, length, take, drop, refl, ap, subst, arith, Option, Some, None, Result, Ok, Err, nat_lt}
 use Rattle.std.specs.Prelude.{◌==◌, map}
-use Rattle.std.specs.List.{flat_map}
 use Rattle.std.specs.Option.{option_map, option_map_or}
 use Rattle.std.specs.FinMap.{entries, get, insert, remove}
 use Rattle.std.proofs.lemmas.List.Sums.{sum_by-append}
@@ -14,7 +13,7 @@ use Rattle.ox_block.specs.declared.block.TxOut.{TxOut}
 use Rattle.ox_rules.specs.declared.rows.OutRow.{OutRow}
 use Rattle.ox_rules.specs.declared.refusal.Refusal.{Refusal}
 use Rattle.ox_rules.specs.declared.refusal.Refusal.TheVariants.{UnknownOutput}
-use Rattle.ox_rules.specs.Deal.{deal}
+use Rattle.ox_rules.specs.Deal.{all_parts, deal}
 use Rattle.ox_rules.specs.Outputs.{Outputs, sats_of, sats_held, times}
 use Rattle.ox_rules.specs.Transfer.{or_refuse, Taken, take_rows, Placed, as_list, place_rows}
 use Rattle.ox_rules.proofs.MapSums.{total, total_insert, total_remove}
@@ -23,16 +22,12 @@ use Rattle.ox_rules.proofs.Orders.{outpoints_total, outpoints_exact}
 pub times-append : (sat : ℕ) (xs ys : List ℕ) → times sat (xs ++ ys) ≡ times sat xs + times sat ys
 times-append sat xs ys = sum_by-append (λ s. cond (s == sat) 1 0) xs ys
 
--- all parts, one behind the other
-abbrev pub joined : List (List ℕ) → List ℕ
-joined parts = flat_map (λ part. part) parts
-
 pub some_same : {A : Type 0} (x y : A) → Some x ≡ Some y → x ≡ y
 some_same x y is = cc
 
 -- what is dealt is the list, and there is a part for each length
 pub record Dealt (sat : ℕ) (list lengths : List ℕ) (dealt : List (List ℕ) × List ℕ) : Type 0 where
-  pub keeps : times sat list ≡ times sat (joined dealt.0) + times sat dealt.1
+  pub keeps : times sat list ≡ times sat (all_parts dealt.0) + times sat dealt.1
   pub each : length dealt.0 ≡ length lengths
 
 none_dealt : (sat : ℕ) (list : List ℕ) → Dealt sat list [] ([], list)
@@ -42,7 +37,7 @@ more_dealt : (sat n : ℕ) (list lengths : List ℕ) (rest : List (List ℕ) × 
 more_dealt sat n list lengths rest d = record {
   keeps =
       let whole : times sat (take n list ++ drop n list) ≡ times sat list = ap (times sat) (take-append-drop n list) in
-      omega (arith, whole, times-append sat (take n list) (drop n list), times-append sat (take n list) (joined rest.0), d.keeps);
+      omega (arith, whole, times-append sat (take n list) (drop n list), times-append sat (take n list) (all_parts rest.0), d.keeps);
   each = ap (λ (k : ℕ). suc k) d.each;
 }
 
@@ -61,14 +56,14 @@ deal_keeps sat list (n ∷ lengths) dealt is = tested sat n list lengths dealt _
 -- ---- the table
 
 -- how often a satoshi stands in the rows of the table
-abbrev pub held : ℕ → Outputs → ℕ
-held sat outs = total outpoints_total (λ (row : OutRow). times sat row.sats) (entries outs)
+abbrev pub times_in : ℕ → Outputs → ℕ
+times_in sat outs = total outpoints_total (λ (row : OutRow). times sat row.sats) (entries outs)
 
 held_rows : (sat : ℕ) (es : List (OutPoint × OutRow)) → times sat (sats_of (map (λ e. e.1) es)) ≡ total outpoints_total (λ (row : OutRow). times sat row.sats) es
 held_rows sat [] = refl
 held_rows sat (e ∷ es) = times-append sat e.1.sats (sats_of (map (λ e. e.1) es)) ∙ ap (λ (n : ℕ). times sat e.1.sats + n) (held_rows sat es)
 
-pub times_held : (sat : ℕ) (outs : Outputs) → times sat (sats_held outs) ≡ held sat outs
+pub times_held : (sat : ℕ) (outs : Outputs) → times sat (sats_held outs) ≡ times_in sat outs
 times_held sat outs = held_rows sat (entries outs)
 
 times_option : (sat : ℕ) (row : Option OutRow) → times sat (sats_of (as_list row)) ≡ option_map_or (λ (row : OutRow). times sat row.sats) row 0
@@ -89,7 +84,7 @@ chosen refusal (Some y) x is = ap (λ (z : _). Some z) (ok_same {F = Refusal} y 
 
 -- what the rows that are taken and the table that is left hold is what the table held
 pub record Takes (sat : ℕ) (outs : Outputs) (taken : Taken) : Type 0 where
-  pub keeps : held sat outs ≡ times sat (sats_of taken.rows) + held sat taken.outs
+  pub keeps : times_in sat outs ≡ times sat (sats_of taken.rows) + times_in sat taken.outs
 
 no_input : (sat : ℕ) (outs : Outputs) → Takes sat outs (record { rows = []; outs = outs })
 no_input sat outs = record { keeps = omega arith }
@@ -108,7 +103,7 @@ take_keeps sat tx place (input ∷ inputs) outs taken is =
 
 -- what is placed and what the table held is what the table and the displaced rows hold then
 pub record Places (sat : ℕ) (outs : Outputs) (parts : List (List ℕ)) (placed : Placed) : Type 0 where
-  pub keeps : held sat outs + times sat (joined parts) ≡ held sat placed.outs + times sat (sats_of placed.displaced)
+  pub keeps : times_in sat outs + times sat (all_parts parts) ≡ times_in sat placed.outs + times sat (sats_of placed.displaced)
 
 no_output : (sat : ℕ) (outs : Outputs) → Places sat outs [] (record { displaced = []; outs = outs })
 no_output sat outs = record { keeps = omega arith }
@@ -119,7 +114,7 @@ sats_of-append sat (x ∷ xs) ys = omega (arith, sats_of-append sat xs ys, times
 
 more_output : (sat : ℕ) (outs : Outputs) (at : OutPoint) (row : OutRow) (parts : List (List ℕ)) (rest : Placed) → Places sat (insert outs at row) parts rest → Places sat outs (row.sats ∷ parts) (record { displaced = as_list (get outs at) ++ rest.displaced; outs = rest.outs })
 more_output sat outs at row parts rest places = record {
-  keeps = omega (arith, places.keeps, total_insert outpoints_total (λ (row : OutRow). times sat row.sats) outs at row, times-append sat row.sats (joined parts), sats_of-append sat (as_list (get outs at)) rest.displaced, times_option sat (get outs at));
+  keeps = omega (arith, places.keeps, total_insert outpoints_total (λ (row : OutRow). times sat row.sats) outs at row, times-append sat row.sats (all_parts parts), sats_of-append sat (as_list (get outs at)) rest.displaced, times_option sat (get outs at));
 }
 
 pub place_keeps : (sat height : ℕ) (txid : Txid) (index : ℕ) (outputs : List TxOut) (parts : List (List ℕ)) (outs : Outputs) → length parts ≡ length outputs → Places sat outs parts (place_rows height txid index outputs parts outs)

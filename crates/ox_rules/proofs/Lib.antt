@@ -2,3 +2,4 @@ pub mod MapSums
 pub mod Orders
 pub mod Conservation
 pub mod Transfers
+pub mod DifferenceLemmas

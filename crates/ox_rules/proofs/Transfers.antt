@@ -17,10 +17,10 @@ use Rattle.ox_rules.specs.declared.refusal.Refusal.{Refusal}
 use Rattle.ox_rules.specs.declared.refusal.Refusal.TheVariants.{UnknownOutput}
 use Rattle.ox_rules.specs.Deal.{deal}
 use Rattle.ox_rules.specs.Outputs.{AreBelow, Outputs, outpoint_cmp, sats_of, times}
-use Rattle.ox_rules.specs.Transfer.{or_refuse, named, Taken, take_rows, place_rows, values_of, Spent, spent_by, spend, spend_all, Transferred, claimed_by, claimable, claim, transfer_of}
+use Rattle.ox_rules.specs.Transfer.{or_refuse, txid_of, Taken, take_rows, place_rows, values_of, Spent, spent_by, spend, spend_all, Transferred, claimed_by, claimable_sats, claim, transfer_of}
 use Rattle.ox_rules.proofs.MapSums.{total}
 use Rattle.ox_rules.proofs.Orders.{outpoints_total}
-use Rattle.ox_rules.proofs.Conservation.{times-append, held, some_same, bind_ok, ok_same, chosen, deal_keeps, take_keeps, place_keeps}
+use Rattle.ox_rules.proofs.Conservation.{times-append, times_in, some_same, bind_ok, ok_same, chosen, deal_keeps, take_keeps, place_keeps}
 
 length-values : (outputs : List TxOut) → length (map (λ output. output.value) outputs) ≡ length outputs
 length-values [] = refl
@@ -28,7 +28,7 @@ length-values (output ∷ outputs) = ap (λ (k : ℕ). suc k) (length-values out
 
 -- what the table held is in the table then, lost or fee
 pub record Spends (sat : ℕ) (outs : Outputs) (spent : Spent) : Type 0 where
-  pub keeps : held sat outs ≡ held sat spent.outs + times sat spent.lost + times sat spent.fees
+  pub keeps : times_in sat outs ≡ times_in sat spent.outs + times sat spent.lost + times sat spent.fees
 
 pub spend_keeps : (sat height place : ℕ) (tx : Tx) (outs : Outputs) (spent : Spent) → spend height place tx outs ≡ Ok spent → Spends sat outs spent
 spend_keeps sat height place tx outs spent is =
@@ -36,7 +36,7 @@ spend_keeps sat height place tx outs spent is =
     let dealt = bind_ok (or_refuse _ (deal (sats_of taken.0.rows) (values_of tx))) _ spent taken.2 in
     let takes = take_keeps sat place 0 tx.inputs outs taken.0 taken.1 in
     let deals = deal_keeps sat (sats_of taken.0.rows) (values_of tx) dealt.0 (chosen _ _ _ dealt.1) in
-    let places = place_keeps sat height (named tx) 0 tx.outputs dealt.0.0 taken.0.outs (deals.each ∙ length-values tx.outputs) in
+    let places = place_keeps sat height (txid_of tx) 0 tx.outputs dealt.0.0 taken.0.outs (deals.each ∙ length-values tx.outputs) in
     let whole : Spends sat outs (spent_by height tx taken.0 dealt.0) = record { keeps = omega (arith, takes.keeps, deals.keeps, places.keeps) } in
     subst (Spends sat outs) (ok_same {F = Refusal} _ _ dealt.2) whole
 
@@ -56,15 +56,15 @@ spend_all_keeps sat height place (tx ∷ txs) outs spent is =
 
 -- what the table held and the subsidy is in the table then, or lost
 pub record Moves (sat : ℕ) (minted : List ℕ) (outs : Outputs) (after : Transferred) : Type 0 where
-  pub keeps : held sat outs + times sat minted ≡ held sat after.outs + times sat after.moved.lost
+  pub keeps : times_in sat outs + times sat minted ≡ times_in sat after.outs + times sat after.moved.lost
 
 pub claim_keeps : (sat : ℕ) (p : Profile) (height : ℕ) (coinbase : Tx) (outs : Outputs) (spent : Spent) (after : Transferred) → Spends sat outs spent → claim p height coinbase spent ≡ Ok after → Moves sat (numbers_from (first_at p height) (subsidy_at p height)) outs after
 claim_keeps sat p height coinbase outs spent after spends is =
     let minted = numbers_from (first_at p height) (subsidy_at p height) in
-    let dealt = bind_ok (or_refuse _ (deal (claimable p height spent.fees) (values_of coinbase))) _ after is in
-    let deals = deal_keeps sat (claimable p height spent.fees) (values_of coinbase) dealt.0 (chosen _ _ _ dealt.1) in
-    let places = place_keeps sat height (named coinbase) 0 coinbase.outputs dealt.0.0 spent.outs (deals.each ∙ length-values coinbase.outputs) in
-    let displaced = (place_rows height (named coinbase) 0 coinbase.outputs dealt.0.0 spent.outs).displaced in
+    let dealt = bind_ok (or_refuse _ (deal (claimable_sats p height spent.fees) (values_of coinbase))) _ after is in
+    let deals = deal_keeps sat (claimable_sats p height spent.fees) (values_of coinbase) dealt.0 (chosen _ _ _ dealt.1) in
+    let places = place_keeps sat height (txid_of coinbase) 0 coinbase.outputs dealt.0.0 spent.outs (deals.each ∙ length-values coinbase.outputs) in
+    let displaced = (place_rows height (txid_of coinbase) 0 coinbase.outputs dealt.0.0 spent.outs).displaced in
     let whole : Moves sat minted outs (claimed_by height coinbase spent dealt.0) = record {
       keeps = omega (arith, spends.keeps, deals.keeps, places.keeps, times-append sat minted spent.fees, times-append sat spent.lost (sats_of displaced ++ dealt.0.1), times-append sat (sats_of displaced) dealt.0.1);
     } in
@@ -104,7 +104,7 @@ below_spent height place tx outs spent is below =
     let taken = bind_ok (take_rows place 0 tx.inputs outs) _ spent is in
     let dealt = bind_ok (or_refuse _ (deal (sats_of taken.0.rows) (values_of tx))) _ spent taken.2 in
     subst (λ (s : Spent). AreBelow (height + 1) s.outs) (ok_same {F = Refusal} _ _ dealt.2)
-    (below_placed height (named tx) 0 tx.outputs dealt.0.0 taken.0.outs (below_taken (height + 1) place 0 tx.inputs outs taken.0 taken.1 below))
+    (below_placed height (txid_of tx) 0 tx.outputs dealt.0.0 taken.0.outs (below_taken (height + 1) place 0 tx.inputs outs taken.0 taken.1 below))
 
 below_all_spent : (height place : ℕ) (txs : List Tx) (outs : Outputs) (spent : Spent) → spend_all height place txs outs ≡ Ok spent → AreBelow (height + 1) outs → AreBelow (height + 1) spent.outs
 below_all_spent height place [] outs spent is below = subst (λ (s : Spent). AreBelow (height + 1) s.outs) (ok_same {F = Refusal} _ _ is) below
@@ -116,15 +116,15 @@ below_all_spent height place (tx ∷ txs) outs spent is below =
 
 below_claimed : (p : Profile) (height : ℕ) (coinbase : Tx) (spent : Spent) (after : Transferred) → claim p height coinbase spent ≡ Ok after → AreBelow (height + 1) spent.outs → AreBelow (height + 1) after.outs
 below_claimed p height coinbase spent after is below =
-    let dealt = bind_ok (or_refuse _ (deal (claimable p height spent.fees) (values_of coinbase))) _ after is in
+    let dealt = bind_ok (or_refuse _ (deal (claimable_sats p height spent.fees) (values_of coinbase))) _ after is in
     subst (λ (t : Transferred). AreBelow (height + 1) t.outs) (ok_same {F = Refusal} _ _ dealt.2)
-    (below_placed height (named coinbase) 0 coinbase.outputs dealt.0.0 spent.outs below)
+    (below_placed height (txid_of coinbase) 0 coinbase.outputs dealt.0.0 spent.outs below)
 
 no_entries : {A : Type 0} (es : List A) → length es ≡ 0 → es ≡ []
 no_entries [] is = refl
 no_entries (e ∷ es) is = absurd (cc is)
 
-pub none_held : (sat : ℕ) → held sat empty ≡ 0
+pub none_held : (sat : ℕ) → times_in sat empty ≡ 0
 none_held sat = ap (total outpoints_total (λ (row : OutRow). times sat row.sats)) (no_entries _ (sym (len-entries {R = outpoint_cmp} empty) ∙ len-empty outpoint_cmp OutRow))
 
 -- ---- a block

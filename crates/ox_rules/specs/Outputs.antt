@@ -1,4 +1,5 @@
--- The unspent outputs, as a finite map from outpoints, in the order of their txids' bytes and then of their indexes.
+-- The unspent outputs, as a finite map from outpoints, in the order of their txids' bytes and then
+-- of their indexes.
 use Rattle.std.specs.Prelude.{◌≡◌, ◌≢◌, ℕ, ◌+◌, ◌<◌, ◌≤◌, List, count_by, ◌==◌, Some}
 use Rattle.std.specs.List.{flat_map}
 use Rattle.std.specs.Ordering.{nat_cmp, ordering_then}
@@ -29,7 +30,8 @@ times sat sats = count_by (λ s. s == sat) sats
 -- These satoshis are each there once, and no row at another outpoint holds one of them.
 pub record MayStand (at : OutPoint) (sats : List ℕ) (outs : Outputs) : Type 0 where
   pub once : (sat : ℕ) → times sat sats ≤ 1
-  pub apart : (other : OutPoint) (row : OutRow) (sat : ℕ) → other ≢ at → get outs other ≡ Some row → times sat sats + times sat row.sats ≤ 1
+  pub apart : (other : OutPoint) (row : OutRow) (sat : ℕ) → other ≢ at → get outs other ≡ Some row
+      → times sat sats + times sat row.sats ≤ 1
 
 -- each output comes from a block below this height
 abbrev pub AreBelow : ℕ → Outputs → Type 0

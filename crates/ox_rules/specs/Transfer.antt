@@ -1,7 +1,9 @@
--- The satoshis of a transaction's inputs, joined in input order, go to its outputs in order, first-in first-out, and
--- what is left over is fee; the subsidy's and then the fees' go to the coinbase's outputs, and what is left over there
--- is lost (BIP draft "Ordinal Numbers", the assignment of satoshis; Ordinal Theory Handbook, "Overview").
-use Rattle.std.specs.Prelude.{ℕ, ◌+◌, List, [], ◌∷◌, ◌++◌, length, map, sum, Option, Some, None, Result, Ok, Err}
+-- The satoshis of a transaction's inputs, joined in input order, go to its outputs in order,
+-- first-in first-out, and what is left over is fee; the subsidy's and then the fees' go to the
+-- coinbase's outputs, and what is left over there is lost (BIP draft "Ordinal Numbers", the
+-- assignment of satoshis; Ordinal Theory Handbook, "Overview").
+use Rattle.std.specs.Prelude.{ℕ, ◌+◌, List, [], ◌∷◌, ◌++◌, length, map, sum, Option, Some, None}
+use Rattle.std.specs.Prelude.{Result, Ok, Err}
 use Rattle.std.specs.FinMap.{get, insert, remove}
 use Rattle.ox_bytes.specs.Reading.{◌>>=◌}
 use Rattle.ox_block.specs.declared.block.Txid.{Txid}
@@ -22,8 +24,8 @@ use Rattle.ox_rules.specs.Outputs.{Outputs, sats_of}
 use Rattle.ox_rules.specs.Deal.{deal}
 
 -- a transaction's id, as an outpoint has it
-abbrev pub named : Tx → Txid
-named tx = record { 0 = txid tx }
+abbrev pub txid_of : Tx → Txid
+txid_of tx = record { 0 = txid tx }
 
 -- a value, or the refusal where there is none
 abbrev pub or_refuse : {A : Type 0} → Refusal → Option A → Result A Refusal
@@ -35,7 +37,8 @@ pub record Taken : Type 0 where
   pub rows : List OutRow
   pub outs : Outputs
 
--- The rows that the inputs name, in input order, each gone for the next. The first input without a row is refused.
+-- The rows that the inputs name, in input order, each gone for the next. The first input without a
+-- row is refused.
 abbrev pub take_rows : ℕ → ℕ → List TxIn → Outputs → Result Taken Refusal
 take_rows tx place [] outs = Ok (record { rows = []; outs = outs })
 take_rows tx place (input ∷ inputs) outs = do
@@ -52,8 +55,8 @@ abbrev pub as_list : {A : Type 0} → Option A → List A
 as_list None = []
 as_list (Some x) = x ∷ []
 
--- The outputs placed in order, each with its part of the satoshis. A row that still stands at an output's outpoint is
--- displaced by it.
+-- The outputs placed in order, each with its part of the satoshis. A row that still stands at an
+-- output's outpoint is displaced by it.
 abbrev pub place_rows : ℕ → Txid → ℕ → List TxOut → List (List ℕ) → Outputs → Placed
 place_rows height txid index (output ∷ outputs) (sats ∷ parts) outs =
     let at : OutPoint = record { txid = txid; index = index } in
@@ -65,18 +68,25 @@ place_rows height txid index _ _ outs = record { displaced = []; outs = outs }
 abbrev pub values_of : Tx → List ℕ
 values_of tx = map (λ output. output.value) tx.outputs
 
--- what transactions did: their rows and satoshis one by one, the satoshis lost by displacement, the fees, and the table then
+-- what transactions did: their rows and satoshis one by one, the satoshis lost by displacement, the
+-- fees, and the table then
 pub record Spent : Type 0 where
   pub moved : List MovedTx
   pub lost : List ℕ
   pub fees : List ℕ
   pub outs : Outputs
 
--- a transaction that spends these rows into its outputs, each with its part of their satoshis; the rest is fee
+-- a transaction that spends these rows into its outputs, each with its part of their satoshis; the
+-- rest is fee
 abbrev pub spent_by : ℕ → Tx → Taken → List (List ℕ) × List ℕ → Spent
 spent_by height tx taken dealt =
-    let placed = place_rows height (named tx) 0 tx.outputs dealt.0 taken.outs in record {
-      moved = record { txid = named tx; spent = taken.rows; joined = sats_of taken.rows; displaced = placed.displaced } ∷ [];
+    let placed = place_rows height (txid_of tx) 0 tx.outputs dealt.0 taken.outs in record {
+      moved = record {
+        txid = txid_of tx;
+        spent = taken.rows;
+        joined = sats_of taken.rows;
+        displaced = placed.displaced;
+      } ∷ [];
       lost = sats_of placed.displaced;
       fees = dealt.1;
       outs = placed.outs;
@@ -86,7 +96,8 @@ spent_by height tx taken dealt =
 abbrev pub spend : ℕ → ℕ → Tx → Outputs → Result Spent Refusal
 spend height place tx outs = do
   taken ← take_rows place 0 tx.inputs outs
-  dealt ← or_refuse (Overspend place (length (sats_of taken.rows)) (sum (values_of tx))) (deal (sats_of taken.rows) (values_of tx))
+  dealt ← or_refuse (Overspend place (length (sats_of taken.rows)) (sum (values_of tx)))
+      (deal (sats_of taken.rows) (values_of tx))
   Ok (spent_by height tx taken dealt)
 
 -- transactions in block order, the first of them at this place
@@ -95,32 +106,46 @@ spend_all height place [] outs = Ok (record { moved = []; lost = []; fees = []; 
 spend_all height place (tx ∷ txs) outs = do
   first ← spend height place tx outs
   rest ← spend_all height (place + 1) txs first.outs
-  Ok (record { moved = first.moved ++ rest.moved; lost = first.lost ++ rest.lost; fees = first.fees ++ rest.fees; outs = rest.outs })
+  Ok (record {
+    moved = first.moved ++ rest.moved;
+    lost = first.lost ++ rest.lost;
+    fees = first.fees ++ rest.fees;
+    outs = rest.outs;
+  })
 
 -- what a block did, and the table after it
 pub record Transferred : Type 0 where
   pub moved : Moved
   pub outs : Outputs
 
--- a coinbase that claims these parts of what it may; the rest is lost, behind what its outputs displaced
+-- a coinbase that claims these parts of what it may; the rest is lost, behind what its outputs
+-- displaced
 abbrev pub claimed_by : ℕ → Tx → Spent → List (List ℕ) × List ℕ → Transferred
 claimed_by height coinbase spent dealt =
-    let placed = place_rows height (named coinbase) 0 coinbase.outputs dealt.0 spent.outs in record {
+    let txid = txid_of coinbase in
+    let placed = place_rows height txid 0 coinbase.outputs dealt.0 spent.outs in record {
       moved = record {
-        txs = record { txid = named coinbase; spent = []; joined = []; displaced = placed.displaced } ∷ spent.moved;
+        txs = record {
+          txid = txid;
+          spent = [];
+          joined = [];
+          displaced = placed.displaced;
+        } ∷ spent.moved;
         lost = spent.lost ++ (sats_of placed.displaced ++ dealt.1);
       };
       outs = placed.outs;
     }
 
 -- what a block's coinbase may claim: the subsidy's satoshis, and then the fees
-abbrev pub claimable : Profile → ℕ → List ℕ → List ℕ
-claimable p height fees = numbers_from (first_at p height) (subsidy_at p height) ++ fees
+abbrev pub claimable_sats : Profile → ℕ → List ℕ → List ℕ
+claimable_sats p height fees = numbers_from (first_at p height) (subsidy_at p height) ++ fees
 
 -- the coinbase, which comes last
 abbrev pub claim : Profile → ℕ → Tx → Spent → Result Transferred Refusal
 claim p height coinbase spent = do
-  dealt ← or_refuse (Overclaim (length (claimable p height spent.fees)) (sum (values_of coinbase))) (deal (claimable p height spent.fees) (values_of coinbase))
+  dealt ← or_refuse
+      (Overclaim (length (claimable_sats p height spent.fees)) (sum (values_of coinbase)))
+      (deal (claimable_sats p height spent.fees) (values_of coinbase))
   Ok (claimed_by height coinbase spent dealt)
 
 -- a block's transactions, of which the first is its coinbase, at this height

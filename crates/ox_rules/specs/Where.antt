@@ -13,4 +13,5 @@ place_in sats sat = position (λ s. s == sat) sats
 -- the first of these outputs that holds it, and its place there
 abbrev pub place_among : List (OutPoint × OutRow) → ℕ → Option Place
 place_among [] sat = None
-place_among (e ∷ outs) sat = option_map_or (λ offset. Some (Out e.0 offset)) (place_in e.1.sats sat) (place_among outs sat)
+place_among (e ∷ outs) sat =
+    option_map_or (λ offset. Some (Out e.0 offset)) (place_in e.1.sats sat) (place_among outs sat)

@@ -1,4 +1,5 @@
-//! What a block does to satoshis, in definitions, and the plain types that they and the crates above share.
+//! What a block does to satoshis, in definitions, and the plain types that they and the crates
+//! above share.
 #![tactic(auto)]
 
 mod moved;
@@ -7,8 +8,28 @@ mod refusal;
 mod rows;
 mod table;
 
+ghost use Rattle.std.specs.Prelude.{◌≡◌};
+ghost use Rattle.ox_block.specs.declared.block.OutPoint.{OutPoint};
+ghost use Rattle.ox_rules.specs.declared.rows.OutRow.{OutRow};
+ghost use Rattle.ox_rules.specs.Differences.{Differ, Difference, other_end, reverse_of};
+ghost use Rattle.ox_rules.specs.Outputs.{Outputs};
+
 pub use moved::{Moved, MovedTx, MovedTxs, SpentRows};
+pub use ox_bytes::Memory;
 pub use place::Place;
 pub use refusal::{Refusal, hash_text, outpoint_text};
 pub use rows::OutRow;
-pub use table::{Memory, OutTable, Unplaced};
+pub use table::{OutTable, Unplaced};
+
+/// What differs between two tables of outputs: the rows that are gone and those that came, each by
+/// rising outpoint. There is one such pair of lists, and with either table it gives the other.
+pub fn tables_differ_once()
+    ensures some { (before after : Outputs)
+        → (difference : Difference OutPoint OutRow) × Differ before after difference }
+    ensures one { (before after : Outputs) (d e : Difference OutPoint OutRow)
+        → Differ before after d → Differ before after e → d ≡ e }
+    ensures back { (before after : Outputs) (difference : Difference OutPoint OutRow)
+        → Differ before after difference → other_end after difference ≡ before }
+    ensures forth { (before after : Outputs) (difference : Difference OutPoint OutRow)
+        → Differ before after difference → other_end before (reverse_of difference) ≡ after }
+{}

@@ -1,14 +1,16 @@
 //! Why a command is refused, and the line that says so.
 
 ghost use Rattle.std.specs.Prelude.{◌≡◌, ◌++◌, IfOk, codes, decimal, string_bytes};
-ghost use Rattle.ox_rules.specs.Text.{hash_text as printed, outpoint_text as printed_outpoint, pair_text as printed_pair, refusal_line};
+ghost use Rattle.ox_rules.specs.Text.{hash_text as printed, outpoint_text as printed_outpoint};
+ghost use Rattle.ox_rules.specs.Text.{pair_text as printed_pair, refusal_line};
 
 use ox_block::OutPoint;
 use ox_bytes::{Bytes, Memory};
 use std::alloc::{AllocError, Global};
 
-/// Why a command is refused. Nothing changes then. Where several causes stand together, the first of this list is
-/// told, but that of `UnknownOutput`, `Overspend` and `Overclaim` the one of the earliest transaction comes first.
+/// Why a command is refused. Nothing changes then. Where several causes stand together, the first
+/// of this list is told, but that of `UnknownOutput`, `Overspend` and `Overclaim` the one of the
+/// earliest transaction comes first.
 #[derive(Clone, Copy, Debug, PartialEq, Eq)]
 pub enum Refusal {
     /// The line of the command is longer than that of any block.
@@ -25,7 +27,8 @@ pub enum Refusal {
         /// The block's height.
         height: u64,
     },
-    /// The block names another block before it than the newest; both hashes in serialized order, and zeros where there is none.
+    /// The block names another block before it than the newest; both hashes in serialized order,
+    /// and zeros where there is none.
     Unlinked {
         /// The hash that the block's header names.
         have: [u8; 32],
@@ -97,7 +100,9 @@ pub fn outpoint_text(alloc: Global, at: &OutPoint) -> Result<String, AllocError>
 
 // The line of a block that follows another than the newest.
 fn unlinked_line(alloc: Global, have: &[u8; 32], want: &[u8; 32]) -> Result<String, AllocError>
-    ensures { IfOk result (λ text. string_bytes text ≡ codes "refused 5 " ++ printed have.now ++ codes " " ++ printed want.now ++ codes "\n") }
+    ensures { IfOk result
+        (λ text. string_bytes text
+        ≡ codes "refused 5 " ++ printed have.now ++ codes " " ++ printed want.now ++ codes "\n") }
 {
     let have = hash_text(alloc, have)?;
     let want = hash_text(alloc, want)?;
@@ -106,7 +111,9 @@ fn unlinked_line(alloc: Global, have: &[u8; 32], want: &[u8; 32]) -> Result<Stri
 
 // The line of a block with another root than its transactions.
 fn bad_root_line(alloc: Global, have: &[u8; 32], want: &[u8; 32]) -> Result<String, AllocError>
-    ensures { IfOk result (λ text. string_bytes text ≡ codes "refused 6 " ++ printed have.now ++ codes " " ++ printed want.now ++ codes "\n") }
+    ensures { IfOk result
+        (λ text. string_bytes text
+        ≡ codes "refused 6 " ++ printed have.now ++ codes " " ++ printed want.now ++ codes "\n") }
 {
     let have = hash_text(alloc, have)?;
     let want = hash_text(alloc, want)?;
@@ -120,7 +127,10 @@ fn unknown_output_line(
     input: u32,
     at: &OutPoint,
 ) -> Result<String, AllocError>
-    ensures { IfOk result (λ text. string_bytes text ≡ codes "refused 8 " ++ decimal tx ++ codes " " ++ decimal input ++ codes " " ++ printed_outpoint at.now ++ codes "\n") }
+    ensures { IfOk result
+        (λ text. string_bytes text
+        ≡ codes "refused 8 " ++ decimal tx ++ codes " " ++ decimal input ++ codes " "
+        ++ printed_outpoint at.now ++ codes "\n") }
 {
     let at = outpoint_text(alloc, at)?;
     Ok(format!(in alloc; "refused 8 {tx} {input} {at}\n")?)
@@ -136,7 +146,10 @@ fn pair_text(alloc: Global, first: u64, second: u64) -> Result<String, AllocErro
 
 // The line of a transaction whose outputs have more than its inputs.
 fn overspend_line(alloc: Global, tx: u32, inputs: u64, outputs: u64) -> Result<String, AllocError>
-    ensures { IfOk result (λ text. string_bytes text ≡ codes "refused 9 " ++ decimal tx ++ codes " " ++ printed_pair inputs outputs ++ codes "\n") }
+    ensures { IfOk result
+        (λ text. string_bytes text
+        ≡ codes "refused 9 " ++ decimal tx ++ codes " " ++ printed_pair inputs outputs
+        ++ codes "\n") }
 {
     let values = pair_text(alloc, inputs, outputs)?;
     Ok(format!(in alloc; "refused 9 {tx} {values}\n")?)
@@ -144,15 +157,17 @@ fn overspend_line(alloc: Global, tx: u32, inputs: u64, outputs: u64) -> Result<S
 
 // The line of a coinbase that has more than it may claim.
 fn overclaim_line(alloc: Global, claimable: u64, claimed: u64) -> Result<String, AllocError>
-    ensures { IfOk result (λ text. string_bytes text ≡ codes "refused 10 " ++ printed_pair claimable claimed ++ codes "\n") }
+    ensures { IfOk result
+        (λ text. string_bytes text
+        ≡ codes "refused 10 " ++ printed_pair claimable claimed ++ codes "\n") }
 {
     let values = pair_text(alloc, claimable, claimed)?;
     Ok(format!(in alloc; "refused 10 {values}\n")?)
 }
 
 impl Refusal {
-    /// The line that is shown: `refused`, the refusal's number and its values with single spaces, and a line feed.
-    /// Hashes are printed in reversed order.
+    /// The line that is shown: `refused`, the refusal's number and its values with single spaces,
+    /// and a line feed. Hashes are printed in reversed order.
     pub fn line(&self, alloc: Global) -> Result<Bytes, Memory>
         ensures { IfOk result (λ line. line ≡ refusal_line self.now) }
     {

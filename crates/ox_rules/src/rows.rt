@@ -2,8 +2,7 @@
 
 ghost use Rattle.std.specs.Prelude.{◌≡◌, IfOk};
 
-use crate::table::Memory;
-use ox_bytes::Bytes;
+use ox_bytes::{Bytes, Memory};
 use ox_range::Ranges;
 use std::alloc::Global;
 

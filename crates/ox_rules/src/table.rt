@@ -7,29 +7,7 @@ ghost use Rattle.ox_rules.specs.Outputs.{Outputs, MayStand};
 
 use crate::rows::OutRow;
 use ox_block::OutPoint;
-use std::alloc::{AllocError, AllocFailed};
-
-/// There was no memory. What was to be changed is as it was.
-#[derive(Clone, Copy, Debug, PartialEq, Eq)]
-pub struct Memory;
-
-impl From<ox_bytes::Memory> for Memory {
-    fn from(_e: ox_bytes::Memory) -> Memory {
-        Memory
-    }
-}
-
-impl From<AllocError> for Memory {
-    fn from(_e: AllocError) -> Memory {
-        Memory
-    }
-}
-
-impl<T: Drop> From<AllocFailed<T>> for Memory {
-    fn from(_e: AllocFailed<T>) -> Memory {
-        Memory
-    }
-}
+use ox_bytes::Memory;
 
 /// There was no memory for a row in the table, which is as it was. The row is handed back.
 #[derive(Debug, Drop)]
@@ -56,27 +34,28 @@ pub trait OutTable {
     fn get(&self, at: &OutPoint) -> Option<&OutRow>
         ensures { option_copied result ≡ map.get (contents self.now) at.now };
 
-    /// Takes the row at this outpoint out of the table, if there is one. `Memory` where there is none left: the table
-    /// is as before.
+    /// Takes the row at this outpoint out of the table, if there is one. `Memory` where there is
+    /// none left: the table is as before.
     fn take(&mut self, at: &OutPoint) -> Result<Option<OutRow>, Memory>
         ensures row { IfOk result (λ row. row ≡ map.get (contents self.old) at.now) }
         ensures ok { OnOk result (contents self.new ≡ map.remove (contents self.old) at.now) }
         ensures err { OnErr result (contents self.new ≡ contents self.old) }
         ensures mark { marked self.new ≡ marked self.old };
 
-    /// Puts a row at this outpoint, and answers the one that it displaces there, if any. The row may hold no satoshi
-    /// twice, and none that a row at another outpoint holds. Where there is no memory, the row is handed back and the
-    /// table is as before.
+    /// Puts a row at this outpoint, and answers the one that it displaces there, if any. The row
+    /// may hold no satoshi twice, and none that a row at another outpoint holds. Where there is no
+    /// memory, the row is handed back and the table is as before.
     fn place(&mut self, at: &OutPoint, row: OutRow) -> Result<Option<OutRow>, Unplaced>
         requires { MayStand at.now row.sats (contents self.old) }
-        ensures displaced { IfOk result (λ displaced. displaced ≡ map.get (contents self.old) at.now) }
+        ensures displaced { IfOk result
+            (λ displaced. displaced ≡ map.get (contents self.old) at.now) }
         ensures ok { OnOk result (contents self.new ≡ map.insert (contents self.old) at.now row) }
         ensures handed_back { IfErr result (λ e. e.row ≡ row) }
         ensures err { OnErr result (contents self.new ≡ contents self.old) }
         ensures mark { marked self.new ≡ marked self.old };
 
-    /// Sets the mark at the rows as they are, in place of an earlier one. `Memory` where there is none left: the rows
-    /// are as before, and there is no mark.
+    /// Sets the mark at the rows as they are, in place of an earlier one. `Memory` where there is
+    /// none left: the rows are as before, and there is no mark.
     fn begin(&mut self) -> Result<(), Memory>
         ensures rows { contents self.new ≡ contents self.old }
         ensures ok { OnOk result (marked self.new ≡ Some (contents self.old)) }

@@ -10,9 +10,9 @@ use Rattle.ox_index.specs.Live.{profile_in, index_in}
 use Rattle.ox_index.specs.declared.live.Live.{Live}
 use Rattle.ox_model.specs.Index.{no_blocks}
 use Rattle.ox_model.specs.Stack.{Stack}
-use Rattle.ox_model.specs.Stands.{name_at, begun_at, stack_in, in_file, stands}
-use Rattle.ox_model.proofs.Standing.{stands_more}
-use Rattle.ox_sat.specs.Profiles.{profile_named}
+use Rattle.ox_model.specs.Stands.{empty_stack_at, stack_in, in_file, stands}
+use Rattle.ox_sat.specs.Profiles.{name_at, profile_named}
+use Rattle.ox_model.proofs.FilesOfChains.{stands_more}
 use Rattle.ox_sat.specs.declared.profiles.ProfileName.{ProfileName}
 use Rattle.ox_sat.specs.declared.profiles.ProfileName.TheVariants.{Mainnet, Regtest, Lab}
 use Rattle.ox_store.specs.Make.{first_head, made_stack}
@@ -28,7 +28,7 @@ name_named Mainnet = refl
 name_named Regtest = refl
 name_named Lab = refl
 
-pub begun_first : (name : ProfileName) (depth : ℕ) → begun_at (first_head name depth) ≡ made_stack name depth
+pub begun_first : (name : ProfileName) (depth : ℕ) → empty_stack_at (first_head name depth) ≡ made_stack name depth
 begun_first name depth = ap (λ (n : ProfileName). made_stack n depth) (name_named name)
 
 -- an index without a block
@@ -41,7 +41,7 @@ stands_first name depth files made is reads =
     ap (λ (v : ℕ). stack_in (reading v files)) (sym version)
     ∙ ap stack_in reads
     ∙ ap (λ (w : Whole). stack_in (Ok (new_found w))) is
-    ∙ ap (in_file A) (replayed_none (begun_at (first_head name depth)))
+    ∙ ap (in_file A) (replayed_none (empty_stack_at (first_head name depth)))
     ∙ ap (λ (s : Stack). in_file A (Ok s)) (begun_first name depth)
 
 -- ---- a record more

@@ -3,7 +3,7 @@ use Rattle.std.specs.Prelude.{◌≡◌, Result, Err}
 use Rattle.ox_feed.specs.declared.command.Command.{Command}
 use Rattle.ox_index.specs.declared.fault.ConnectFault.{ConnectFault}
 use Rattle.ox_index.specs.declared.fault.ConnectFault.TheVariants as connects
-use Rattle.ox_model.specs.Stack.{Stack, obeyed_on}
+use Rattle.ox_model.specs.Stack.{Stack, stack_after}
 use Rattle.ox_model.specs.Stands.{Misfit}
 use Rattle.ox_store.specs.declared.fault.OpenFault.{OpenFault}
 use Rattle.ox_store.specs.declared.fault.OpenFault.TheVariants as opens
@@ -18,7 +18,7 @@ IsMisfit standing opens.Memory = Unit {0}
 
 -- the refusal is the machine's
 abbrev pub IsRefused : Stack → Command → Why → Type 0
-IsRefused stack command (whys.Refused refusal) = obeyed_on stack command ≡ Err refusal
+IsRefused stack command (whys.Refused refusal) = stack_after stack command ≡ Err refusal
 IsRefused stack command whys.Memory = Unit {0}
 
 -- why a block that isn't connected isn't prepared

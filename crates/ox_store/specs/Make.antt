@@ -4,8 +4,8 @@ use Rattle.ox_gated.specs.declared.head.Head.{Head}
 use Rattle.ox_outside.specs.Files.{Files}
 use Rattle.ox_sat.specs.Profiles.{profile_named}
 use Rattle.ox_sat.specs.declared.profiles.ProfileName.{ProfileName}
-use Rattle.ox_model.specs.Machine.{begun}
-use Rattle.ox_model.specs.Stack.{Stack, stack_of}
+use Rattle.ox_model.specs.Machine.{empty_machine, stack_of}
+use Rattle.ox_model.specs.Stack.{Stack}
 
 -- two empty files
 abbrev pub no_files : Files
@@ -18,4 +18,4 @@ first_head name depth =
 
 -- its stack
 abbrev pub made_stack : ProfileName → ℕ → Stack
-made_stack name depth = stack_of (begun (profile_named name) depth)
+made_stack name depth = stack_of (empty_machine (profile_named name) depth)

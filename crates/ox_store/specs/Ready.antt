@@ -4,7 +4,7 @@ use Rattle.ox_outside.specs.Files.{Files}
 use Rattle.ox_feed.specs.declared.command.Command.{Command}
 use Rattle.ox_feed.specs.declared.command.Command.TheVariants.{Connect}
 use Rattle.ox_gated.specs.Tail.{Kept}
-use Rattle.ox_model.specs.Stack.{Stack, obeyed_on}
+use Rattle.ox_model.specs.Stack.{Stack, stack_after}
 use Rattle.ox_model.specs.Stands.{stands}
 use Rattle.ox_store.specs.Store.{Stored}
 
@@ -20,11 +20,11 @@ pub record Prepared : Type 0 where
 pub record Leads (before : Stack) (ready : Prepared) : Type 0 where
   pub block : List ℕ
   pub payload : ready.payload ≡ 1 ∷ block
-  pub after : obeyed_on before (Connect block) ≡ Ok ready.stack
+  pub after : stack_after before (Connect block) ≡ Ok ready.stack
 
 -- this command of this store is prepared
 pub record Prepares (store : Stored) (command : Command) (ready : Prepared) : Type 0 where
-  pub after : obeyed_on store.stack command ≡ Ok ready.stack
+  pub after : stack_after store.stack command ≡ Ok ready.stack
   pub leads : Leads store.stack ready
   pub tail : ready.tail ≡ store.tail
   pub commands : ready.commands ≡ store.commands

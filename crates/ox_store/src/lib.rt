@@ -9,8 +9,9 @@ mod replay;
 mod store;
 
 pub use fault::{Kept, MakeFault, OpenFault, Why};
+pub use ox_model::About;
 pub use ready::Ready;
-pub use store::{About, Store};
+pub use store::Store;
 
 #[cfg(test)]
 mod tests;

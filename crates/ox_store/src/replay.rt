@@ -2,9 +2,9 @@
 
 ghost use Rattle.std.specs.Prelude.{◌≡◌, ℕ, Some, None, Ok, IfOk, IfErr, OnOk, MatchOption};
 ghost use Rattle.ox_gated.specs.Opened.{intact_part};
-ghost use Rattle.ox_model.specs.Stands.{name_at as name_there, block_in as block_there, begun_at};
-ghost use Rattle.ox_model.specs.Stands.{judged, cut_at};
-ghost use Rattle.ox_store.specs.Replay.{IsUnjudged, stack_after, fault_in};
+ghost use Rattle.ox_model.specs.Stands.{block_in as block_there, empty_stack_at, stack_in_file, place_of_cut};
+ghost use Rattle.ox_sat.specs.Profiles.{name_at as name_there};
+ghost use Rattle.ox_store.specs.Replay.{IsUnjudged, stack_after_record, fault_in};
 ghost use Rattle.ox_store.specs.Store.{stack_with};
 
 use crate::fault::OpenFault;
@@ -41,8 +41,8 @@ impl Unjudged {
 /// gate of the first record that isn't accepted. `Memory` where there is none for the index.
 pub fn judge(alloc: Global, head: &Head, body: &Bytes, records: &Records) -> Result<Live, Unjudged>
     ensures stack { IfOk result
-        (λ live. judged head.now body.now records.now ≡ Ok (stack_with head.now.depth live)) }
-    ensures place { IfErr result (IsUnjudged (judged head.now body.now records.now)) }
+        (λ live. stack_in_file head.now body.now records.now ≡ Ok (stack_with head.now.depth live)) }
+    ensures place { IfErr result (IsUnjudged (stack_in_file head.now body.now records.now)) }
 {
     if !body.is_empty() {
         return Err(Unjudged::At(26));
@@ -57,7 +57,7 @@ pub fn judge(alloc: Global, head: &Head, body: &Bytes, records: &Records) -> Res
 /// The first test that fails in a file whose gate or record at this place is cut: the body and the
 /// records before it are tested first.
 pub fn earliest(alloc: Global, before: Option<Before>, at: u64) -> Unjudged
-    ensures { IsUnjudged (cut_at at (intact_part before)) result }
+    ensures { IsUnjudged (place_of_cut at (intact_part before)) result }
 {
     let Some(before) = before else {
         return Unjudged::At(at);
@@ -81,7 +81,7 @@ fn name_at(byte: u8) -> ProfileName
 
 // The index of a file with this head and no record.
 fn begin(alloc: Global, head: &Head) -> Live
-    ensures { stack_with head.now.depth result ≡ begun_at head.now }
+    ensures { stack_with head.now.depth result ≡ empty_stack_at head.now }
 {
     Live::new(alloc, &profile_of(name_at(head.profile)))
 }
@@ -101,9 +101,9 @@ fn block_in(payload: &[u8]) -> Option<&[u8]>
 // that the chain accepts; `Memory` where there is none for it.
 fn redo(live: &mut Live, record: &Record) -> Result<(), Unjudged>
     ensures stack { OnOk result ((depth : ℕ)
-        → stack_after (stack_with depth live.old) «record».now ≡ Ok (stack_with depth live.new)) }
+        → stack_after_record (stack_with depth live.old) «record».now ≡ Ok (stack_with depth live.new)) }
     ensures place { IfErr result (λ unjudged. (depth : ℕ)
-        → IsUnjudged (stack_after (stack_with depth live.old) «record».now) unjudged) }
+        → IsUnjudged (stack_after_record (stack_with depth live.old) «record».now) unjudged) }
 {
     let Some(block) = block_in(record.payload.as_slice()) else {
         return Err(Unjudged::At(record.place));

@@ -1,7 +1,6 @@
 //! A store between two commands.
 
-ghost use Rattle.std.specs.Prelude.{◌≡◌, ◌≢◌, ◌≤◌, ◌<◌, ◌^◌, ◌+◌, ◌-◌, ◌∷◌, ◌↔◌, ◌⊎◌, length, Some};
-ghost use Rattle.std.specs.Prelude.{Ok, Err, IsTrue, IfOk, IfErr, IsErrOf, OnOk, OnErr};
+ghost use Rattle.std.specs.Prelude.{◌≡◌, ◌≢◌, ◌≤◌, ◌<◌, ◌^◌, ◌+◌, ◌-◌, ◌∷◌, ◌↔◌, ◌⊎◌, length, Some, Ok, Err, IsTrue, IfOk, IfErr, IsErrOf, OnOk, OnErr};
 ghost use Rattle.ox_outside.specs.Counts.{Rose};
 ghost use Rattle.ox_outside.specs.Runs.{Calls, LeavesOnly, OnlyLooks};
 ghost use Rattle.ox_gated.specs.Tail.{Holds};
@@ -13,7 +12,7 @@ use ox_bytes::Memory;
 use ox_feed::Command;
 use ox_gated::{Framed, Head, Tail, checkpoint_of, frame_parts};
 use ox_index::Live;
-use ox_model::Refusal;
+use ox_model::{About, Refusal};
 use ox_outside::{Failed, Site, Which};
 use ox_sat::{ProfileName, profile_of};
 use std::alloc::Global;
@@ -25,15 +24,6 @@ const CONNECT: u8 = 1;
 /// The greatest number of bytes of a block that has a record: the length of its payload fits 4
 /// bytes.
 const LONGEST_BLOCK: usize = 0xffff_fffe;
-
-/// How many blocks may be kept to be taken back at most, and how many are.
-#[derive(Clone, Copy, Debug, PartialEq, Eq)]
-pub struct About {
-    /// From 1 to 1,000.
-    pub depth: u16,
-    /// None yet.
-    pub kept: u16,
-}
 
 /// An index in memory and the tail of its records. Contracts see the stack that the files stand
 /// for, the tail, and the number of commands that were accepted since it was opened.

@@ -17,8 +17,8 @@ use Rattle.ox_rules.specs.declared.refusal.Refusal.{Refusal}
 use Rattle.ox_rules.specs.declared.refusal.Refusal.TheVariants.{Overclaim}
 use Rattle.ox_rules.specs.Deal.{deal}
 use Rattle.ox_rules.specs.Outputs.{Outputs, sats_of, times}
-use Rattle.ox_rules.specs.Transfer.{or_refuse, named, Placed, place_rows, values_of, Spent, spend_all, Transferred, claimed_by, claimable, claim, transfer_of}
-use Rattle.ox_rules.proofs.Conservation.{times-append, times_held, joined, deal_keeps, place_keeps, bind_ok}
+use Rattle.ox_rules.specs.Transfer.{or_refuse, txid_of, Placed, place_rows, values_of, Spent, spend_all, Transferred, claimed_by, claimable_sats, claim, transfer_of}
+use Rattle.ox_rules.proofs.Conservation.{times-append, times_held, deal_keeps, place_keeps, bind_ok}
 use Rattle.ox_rules.proofs.Transfers.{spend_all_keeps, claim_keeps, counts_numbers}
 use Rattle.ox_transfer.specs.declared.fault.TransferFault.{TransferFault}
 use Rattle.ox_transfer.specs.declared.fault.TransferFault.TheVariants.{Refused, Memory}
@@ -71,36 +71,36 @@ rest_fits height txid outputs outs new sats rest lost lost_now parts displaced d
 
 -- ---- the coinbase
 
-claim_is : (p : Profile) (height : ℕ) (coinbase : Tx) (spent : Spent) (dealt : List (List ℕ) × List ℕ) → deal (claimable p height spent.fees) (values_of coinbase) ≡ Some dealt → claim p height coinbase spent ≡ Ok (claimed_by height coinbase spent dealt)
+claim_is : (p : Profile) (height : ℕ) (coinbase : Tx) (spent : Spent) (dealt : List (List ℕ) × List ℕ) → deal (claimable_sats p height spent.fees) (values_of coinbase) ≡ Some dealt → claim p height coinbase spent ≡ Ok (claimed_by height coinbase spent dealt)
 claim_is p height coinbase spent dealt is =
-    ap (λ (d : Option (List (List ℕ) × List ℕ)). or_refuse (Overclaim (length (claimable p height spent.fees)) (sum (values_of coinbase))) d >>= λ dealt. Ok (claimed_by height coinbase spent dealt)) is
+    ap (λ (d : Option (List (List ℕ) × List ℕ)). or_refuse (Overclaim (length (claimable_sats p height spent.fees)) (sum (values_of coinbase))) d >>= λ dealt. Ok (claimed_by height coinbase spent dealt)) is
 
-pub claimable_is : (p : Profile) (height : ℕ) (fees minted sats : List ℕ) → minted ≡ numbers_from (first_at p height) (subsidy_at p height) → sats ≡ minted ++ fees → sats ≡ claimable p height fees
+pub claimable_is : (p : Profile) (height : ℕ) (fees minted sats : List ℕ) → minted ≡ numbers_from (first_at p height) (subsidy_at p height) → sats ≡ minted ++ fees → sats ≡ claimable_sats p height fees
 claimable_is p height fees minted sats minted_is is = is ∙ ap (λ (l : List ℕ). l ++ fees) minted_is
 
-pub overclaimed : (p : Profile) (height : ℕ) (coinbase : Tx) (spent : Spent) (sats : List ℕ) (have want : ℕ) → sats ≡ claimable p height spent.fees → have ≡ length sats → want ≡ sum (values coinbase.outputs) → have < want → claim p height coinbase spent ≡ Err (Overclaim have want)
+pub overclaimed : (p : Profile) (height : ℕ) (coinbase : Tx) (spent : Spent) (sats : List ℕ) (have want : ℕ) → sats ≡ claimable_sats p height spent.fees → have ≡ length sats → want ≡ sum (values coinbase.outputs) → have < want → claim p height coinbase spent ≡ Err (Overclaim have want)
 overclaimed p height coinbase spent sats have want is length_is sum_is short =
-    let have_is : have ≡ length (claimable p height spent.fees) = length_is ∙ ap length is in
-    let none : deal (claimable p height spent.fees) (values_of coinbase) ≡ None = deal_short (claimable p height spent.fees) (values_of coinbase) (omega (arith, have_is, sum_is, short)) in
-    ap (λ (d : Option (List (List ℕ) × List ℕ)). or_refuse (Overclaim (length (claimable p height spent.fees)) (sum (values_of coinbase))) d >>= λ dealt. Ok (claimed_by height coinbase spent dealt)) none
+    let have_is : have ≡ length (claimable_sats p height spent.fees) = length_is ∙ ap length is in
+    let none : deal (claimable_sats p height spent.fees) (values_of coinbase) ≡ None = deal_short (claimable_sats p height spent.fees) (values_of coinbase) (omega (arith, have_is, sum_is, short)) in
+    ap (λ (d : Option (List (List ℕ) × List ℕ)). or_refuse (Overclaim (length (claimable_sats p height spent.fees)) (sum (values_of coinbase))) d >>= λ dealt. Ok (claimed_by height coinbase spent dealt)) none
     ∙ (ap (λ (n : ℕ). Err (Overclaim n (sum (values coinbase.outputs)))) (sym have_is) ∙ ap (λ (n : ℕ). Err (Overclaim have n)) (sym sum_is))
 
 same_txid : (txid : Txid) (bytes : List ℕ) → txid.0 ≡ bytes → record { 0 = bytes } ≡ txid
 same_txid txid bytes is = λ i. record { 0 = sym is i }
 
 pub claimed_whole : (p : Profile) (height : ℕ) (coinbase : Tx) (outs new : Outputs) (displaced : List OutRow) (sats rest lost lost_then lost_now fees : List ℕ) (parts : List (List ℕ)) (moved moved_now : List MovedTx) (txid : Txid) (spent_rows : List OutRow) (joined : List ℕ)
-    → sats ≡ claimable p height fees → deal sats (values coinbase.outputs) ≡ Some (parts, rest) → txid.0 ≡ hashes.txid coinbase → place_rows height txid 0 coinbase.outputs parts outs ≡ placed_of displaced new
+    → sats ≡ claimable_sats p height fees → deal sats (values coinbase.outputs) ≡ Some (parts, rest) → txid.0 ≡ hashes.txid coinbase → place_rows height txid 0 coinbase.outputs parts outs ≡ placed_of displaced new
     → lost_then ≡ lost ++ sats_of displaced → lost_now ≡ lost_then ++ rest → spent_rows ≡ [] → joined ≡ [] → moved_now ≡ record { txid = txid; spent = spent_rows; joined = joined; displaced = displaced } ∷ moved
     → claim p height coinbase (record { moved = moved; lost = lost; fees = fees; outs = outs }) ≡ Ok (record { moved = record { txs = moved_now; lost = lost_now }; outs = new })
 claimed_whole p height coinbase outs new displaced sats rest lost lost_then lost_now fees parts moved moved_now txid spent_rows joined is dealt_is txid_is placed then_is now_is no_rows no_sats moved_is =
     let spent : Spent = record { moved = moved; lost = lost; fees = fees; outs = outs } in
-    let dealt : deal (claimable p height fees) (values_of coinbase) ≡ Some (parts, rest) = ap (λ (l : List ℕ). deal l (values coinbase.outputs)) (sym is) ∙ dealt_is in
-    let id : named coinbase ≡ txid = same_txid txid (hashes.txid coinbase) txid_is in
-    let placed_so : place_rows height (named coinbase) 0 coinbase.outputs parts outs ≡ placed_of displaced new = ap (λ (t : Txid). place_rows height t 0 coinbase.outputs parts outs) id ∙ placed in
+    let dealt : deal (claimable_sats p height fees) (values_of coinbase) ≡ Some (parts, rest) = ap (λ (l : List ℕ). deal l (values coinbase.outputs)) (sym is) ∙ dealt_is in
+    let id : txid_of coinbase ≡ txid = same_txid txid (hashes.txid coinbase) txid_is in
+    let placed_so : place_rows height (txid_of coinbase) 0 coinbase.outputs parts outs ≡ placed_of displaced new = ap (λ (t : Txid). place_rows height t 0 coinbase.outputs parts outs) id ∙ placed in
     let result : Txid → Placed → Result Transferred Refusal = λ t p. Ok (record { moved = record { txs = record { txid = t; spent = []; joined = []; displaced = p.displaced } ∷ moved; lost = lost ++ (sats_of p.displaced ++ rest) }; outs = p.outs }) in
     let lost_is : lost ++ (sats_of displaced ++ rest) ≡ lost_now = sym (append_assoc lost (sats_of displaced) rest) ∙ (ap (λ (l : List ℕ). l ++ rest) (sym then_is) ∙ sym now_is) in
     let entry_is : record { txid = txid; spent = []; joined = []; displaced = displaced } ∷ moved ≡ moved_now = (λ i. record { txid = txid; spent = sym no_rows i; joined = sym no_sats i; displaced = displaced } ∷ moved) ∙ sym moved_is in
-    claim_is p height coinbase spent (parts, rest) dealt ∙ (ap (λ (t : Txid). result t (place_rows height (named coinbase) 0 coinbase.outputs parts outs)) id ∙ (ap (result txid) placed_so ∙ λ i. Ok (record { moved = record { txs = entry_is i; lost = lost_is i }; outs = new })))
+    claim_is p height coinbase spent (parts, rest) dealt ∙ (ap (λ (t : Txid). result t (place_rows height (txid_of coinbase) 0 coinbase.outputs parts outs)) id ∙ (ap (result txid) placed_so ∙ λ i. Ok (record { moved = record { txs = entry_is i; lost = lost_is i }; outs = new })))
 
 -- ---- the block
 

@@ -11,7 +11,7 @@ use Rattle.ox_rules.specs.Outputs.{Outputs, outpoint_cmp, sats_of, sats_held, ti
 use Rattle.ox_rules.specs.Transfer.{as_list}
 use Rattle.ox_rules.proofs.MapSums.{total, total_insert, total_remove}
 use Rattle.ox_rules.proofs.Orders.{outpoints_total, outpoints_exact}
-use Rattle.ox_rules.proofs.Conservation.{times-append, held, times_held}
+use Rattle.ox_rules.proofs.Conservation.{times-append, times_in, times_held}
 use Rattle.ox_transfer.specs.Apart.{at_most, HoldsOnce, Apart}
 
 pub times-cons : (sat x : ℕ) (xs : List ℕ) → times sat (x ∷ xs) ≡ cond (x == sat) 1 0 + times sat xs
@@ -122,6 +122,6 @@ nothing_there (e ∷ es) is = absurd (cc is)
 pub empty_once : (bound : ℕ) → HoldsOnce bound empty
 empty_once bound = record {
   once = λ sat.
-      let none : held sat empty ≡ 0 = ap (total outpoints_total (λ (row : OutRow). times sat row.sats)) (nothing_there (entries empty) (sym (len-entries {R = outpoint_cmp} empty) ∙ len-empty outpoint_cmp OutRow)) in
+      let none : times_in sat empty ≡ 0 = ap (total outpoints_total (λ (row : OutRow). times sat row.sats)) (nothing_there (entries empty) (sym (len-entries {R = outpoint_cmp} empty) ∙ len-empty outpoint_cmp OutRow)) in
       omega (arith, none, times_held sat empty);
 }

@@ -12,7 +12,8 @@ use Rattle.ox_rules.specs.Outputs.{Outputs, sats_of}
 use Rattle.ox_rules.specs.Transfer.{Placed, as_list, place_rows}
 use Rattle.ox_rules.proofs.Conservation.{times-append}
 use Rattle.ox_transfer.specs.Apart.{Apart}
-use Rattle.ox_transfer.specs.Parts.{joined, placed_of}
+use Rattle.ox_rules.specs.Deal.{all_parts}
+use Rattle.ox_transfer.specs.Parts.{placed_of}
 use Rattle.ox_transfer.proofs.Once.{fits, apart_less, apart_place, row_held}
 
 -- these displaced rows, and then those of the rest
@@ -54,17 +55,17 @@ lost_more displaced more gone before lost now grown so_far onward =
     ∙ (ap (λ (l : List ℕ). before ++ l) (sym (sats_append displaced (as_list gone))) ∙ ap (λ (d : List OutRow). before ++ sats_of d) (sym grown))))
 
 -- the part of the output that is placed next, with what is lost
-pub apart_next : (outs : Outputs) (parts rest : List (List ℕ)) (part lost : List ℕ) → parts ≡ rest ++ part ∷ [] → Apart (2 ^ 63) outs (joined (reverse parts) ++ lost) → Apart (2 ^ 63) outs (part ++ lost)
+pub apart_next : (outs : Outputs) (parts rest : List (List ℕ)) (part lost : List ℕ) → parts ≡ rest ++ part ∷ [] → Apart (2 ^ 63) outs (all_parts (reverse parts) ++ lost) → Apart (2 ^ 63) outs (part ++ lost)
 apart_next outs parts rest part lost last apart =
-    let whole : joined (reverse parts) ≡ part ++ joined (reverse rest) = ap joined (popped parts rest part last) in
-    apart_less (2 ^ 63) outs ((part ++ joined (reverse rest)) ++ lost) (part ++ lost) (λ sat. omega (arith, times-append sat (part ++ joined (reverse rest)) lost, times-append sat part (joined (reverse rest)), times-append sat part lost))
+    let whole : all_parts (reverse parts) ≡ part ++ all_parts (reverse rest) = ap all_parts (popped parts rest part last) in
+    apart_less (2 ^ 63) outs ((part ++ all_parts (reverse rest)) ++ lost) (part ++ lost) (λ sat. omega (arith, times-append sat (part ++ all_parts (reverse rest)) lost, times-append sat part (all_parts (reverse rest)), times-append sat part lost))
     (subst (λ (l : List ℕ). Apart (2 ^ 63) outs (l ++ lost)) whole apart)
 
-pub apart_onward : (outs next : Outputs) (at : OutPoint) (row : OutRow) (parts rest : List (List ℕ)) (part lost now : List ℕ) → parts ≡ rest ++ part ∷ [] → row.sats ≡ part → next ≡ insert outs at row → now ≡ lost ++ sats_of (as_list (get outs at)) → Apart (2 ^ 63) outs (joined (reverse parts) ++ lost) → Apart (2 ^ 63) next (joined (reverse rest) ++ now)
+pub apart_onward : (outs next : Outputs) (at : OutPoint) (row : OutRow) (parts rest : List (List ℕ)) (part lost now : List ℕ) → parts ≡ rest ++ part ∷ [] → row.sats ≡ part → next ≡ insert outs at row → now ≡ lost ++ sats_of (as_list (get outs at)) → Apart (2 ^ 63) outs (all_parts (reverse parts) ++ lost) → Apart (2 ^ 63) next (all_parts (reverse rest) ++ now)
 apart_onward outs next at row parts rest part lost now last has placed grown apart =
-    let whole : joined (reverse parts) ≡ row.sats ++ joined (reverse rest) = ap joined (popped parts rest part last) ∙ ap (λ (p : List ℕ). p ++ joined (reverse rest)) (sym has) in
-    let next_apart : Apart (2 ^ 63) (insert outs at row) (joined (reverse rest) ++ (lost ++ sats_of (as_list (get outs at)))) = apart_place (2 ^ 63) outs (joined (reverse rest)) lost at row (subst (λ (l : List ℕ). Apart (2 ^ 63) outs (l ++ lost)) whole apart) in
-    subst (λ (outs : Outputs). Apart (2 ^ 63) outs (joined (reverse rest) ++ now)) (sym placed) (subst (λ (l : List ℕ). Apart (2 ^ 63) (insert outs at row) (joined (reverse rest) ++ l)) (sym grown) next_apart)
+    let whole : all_parts (reverse parts) ≡ row.sats ++ all_parts (reverse rest) = ap all_parts (popped parts rest part last) ∙ ap (λ (p : List ℕ). p ++ all_parts (reverse rest)) (sym has) in
+    let next_apart : Apart (2 ^ 63) (insert outs at row) (all_parts (reverse rest) ++ (lost ++ sats_of (as_list (get outs at)))) = apart_place (2 ^ 63) outs (all_parts (reverse rest)) lost at row (subst (λ (l : List ℕ). Apart (2 ^ 63) outs (l ++ lost)) whole apart) in
+    subst (λ (outs : Outputs). Apart (2 ^ 63) outs (all_parts (reverse rest) ++ now)) (sym placed) (subst (λ (l : List ℕ). Apart (2 ^ 63) (insert outs at row) (all_parts (reverse rest) ++ l)) (sym grown) next_apart)
 
 -- what is displaced fits behind what is lost
 pub displaced_fits : (outs : Outputs) (at : OutPoint) (row : OutRow) (sats lost : List ℕ) → Apart (2 ^ 63) outs (sats ++ lost) → get outs at ≡ Some row → length lost + length row.sats < 2 ^ 64

@@ -11,10 +11,10 @@ use Rattle.ox_rules.specs.declared.rows.OutRow.{OutRow}
 use Rattle.ox_rules.specs.declared.moved.MovedTx.{MovedTx}
 use Rattle.ox_rules.specs.declared.refusal.Refusal.{Refusal}
 use Rattle.ox_rules.specs.declared.refusal.Refusal.TheVariants.{Overspend}
-use Rattle.ox_rules.specs.Deal.{deal}
+use Rattle.ox_rules.specs.Deal.{all_parts, deal}
 use Rattle.ox_rules.specs.Outputs.{Outputs, sats_of, times}
-use Rattle.ox_rules.specs.Transfer.{or_refuse, named, Taken, take_rows, Placed, place_rows, values_of, Spent, spent_by, spend, spend_all}
-use Rattle.ox_rules.proofs.Conservation.{times-append, times_held, joined, deal_keeps, take_keeps, bind_ok}
+use Rattle.ox_rules.specs.Transfer.{or_refuse, txid_of, Taken, take_rows, Placed, place_rows, values_of, Spent, spent_by, spend, spend_all}
+use Rattle.ox_rules.proofs.Conservation.{times-append, times_held, deal_keeps, take_keeps, bind_ok}
 use Rattle.ox_rules.proofs.Transfers.{spend_keeps}
 use Rattle.ox_transfer.specs.declared.fault.TransferFault.{TransferFault}
 use Rattle.ox_transfer.specs.declared.fault.TransferFault.TheVariants.{Refused, Memory}
@@ -62,10 +62,10 @@ spent_whole height place tx outs mid new rows displaced sats copied rest lost lo
     let before : Spent = record { moved = moved; lost = lost; fees = fees; outs = outs } in
     let dealt_rows : deal (sats_of rows) (values tx.outputs) ≡ Some (parts, rest) = ap (λ (l : List ℕ). deal l (values tx.outputs)) (sym is) ∙ dealt_is in
     let one : all_behind before (spend height place tx outs) ≡ Ok (behind before (spent_by height tx (taken_of rows mid) (parts, rest))) = ap (all_behind before) (spend_is height place tx outs (taken_of rows mid) (parts, rest) took dealt_rows) in
-    let id : named tx ≡ txid = same_txid txid (hashes.txid tx) txid_is in
-    let placed_so : place_rows height (named tx) 0 tx.outputs parts mid ≡ placed_of displaced new = ap (λ (t : Txid). place_rows height t 0 tx.outputs parts mid) id ∙ placed in
+    let id : txid_of tx ≡ txid = same_txid txid (hashes.txid tx) txid_is in
+    let placed_so : place_rows height (txid_of tx) 0 tx.outputs parts mid ≡ placed_of displaced new = ap (λ (t : Txid). place_rows height t 0 tx.outputs parts mid) id ∙ placed in
     let result : Txid → Placed → List ℕ → Result Spent Refusal = λ t p joined. Ok (record { moved = moved ++ record { txid = t; spent = rows; joined = joined; displaced = p.displaced } ∷ []; lost = lost ++ sats_of p.displaced; fees = fees ++ rest; outs = p.outs }) in
-    one ∙ (ap (λ (t : Txid). result t (place_rows height (named tx) 0 tx.outputs parts mid) (sats_of rows)) id ∙ (ap (λ (p : Placed). result txid p (sats_of rows)) placed_so ∙ (ap (result txid (placed_of displaced new)) (sym is ∙ sym copied_is)
+    one ∙ (ap (λ (t : Txid). result t (place_rows height (txid_of tx) 0 tx.outputs parts mid) (sats_of rows)) id ∙ (ap (λ (p : Placed). result txid p (sats_of rows)) placed_so ∙ (ap (result txid (placed_of displaced new)) (sym is ∙ sym copied_is)
     ∙ λ i. Ok (record { moved = sym moved_is i; lost = sym lost_is i; fees = sym fees_are i; outs = new }))))
 
 -- ---- each satoshi stays in one place
@@ -77,9 +77,9 @@ apart_taken place tx outs mid rows sats hand took is apart = record {
       omega (arith, same, (take_keeps sat place 0 tx.inputs outs (taken_of rows mid) took).keeps, apart.once sat, times_held sat outs, times_held sat mid, times-append sat sats hand);
 }
 
-pub apart_dealt : (outs : Outputs) (sats rest hand lost : List ℕ) (lengths : List ℕ) (parts : List (List ℕ)) → deal sats lengths ≡ Some (parts, rest) → ((sat : ℕ) → times sat lost ≤ times sat hand) → Apart (2 ^ 63) outs (sats ++ hand) → Apart (2 ^ 63) outs (joined parts ++ lost)
+pub apart_dealt : (outs : Outputs) (sats rest hand lost : List ℕ) (lengths : List ℕ) (parts : List (List ℕ)) → deal sats lengths ≡ Some (parts, rest) → ((sat : ℕ) → times sat lost ≤ times sat hand) → Apart (2 ^ 63) outs (sats ++ hand) → Apart (2 ^ 63) outs (all_parts parts ++ lost)
 apart_dealt outs sats rest hand lost lengths parts dealt fewer apart =
-    apart_less (2 ^ 63) outs (sats ++ hand) (joined parts ++ lost) (λ sat. omega (arith, (deal_keeps sat sats lengths (parts, rest) dealt).keeps, fewer sat, times-append sat sats hand, times-append sat (joined parts) lost)) apart
+    apart_less (2 ^ 63) outs (sats ++ hand) (all_parts parts ++ lost) (λ sat. omega (arith, (deal_keeps sat sats lengths (parts, rest) dealt).keeps, fewer sat, times-append sat sats hand, times-append sat (all_parts parts) lost)) apart
 
 pub as_many : (list lengths rest : List ℕ) (parts : List (List ℕ)) → deal list lengths ≡ Some (parts, rest) → length parts ≡ length lengths
 as_many list lengths rest parts dealt = (deal_keeps 0 list lengths (parts, rest) dealt).each

@@ -1,6 +1,5 @@
 -- Parts of a transfer, as the code has them halfway.
 use Rattle.std.specs.Prelude.{ℕ, List, ◌++◌, map, Result, Ok}
-use Rattle.std.specs.List.{flat_map}
 use Rattle.ox_bytes.specs.Reading.{◌>>=◌}
 use Rattle.ox_block.specs.declared.block.TxOut.{TxOut}
 use Rattle.ox_rules.specs.declared.rows.OutRow.{OutRow}
@@ -14,10 +13,6 @@ use Rattle.ox_transfer.specs.declared.spend.Work.{Work}
 abbrev pub values : List TxOut → List ℕ
 values outputs = map (λ output. output.value) outputs
 
--- all parts, one behind the other
-abbrev pub joined : List (List ℕ) → List ℕ
-joined parts = flat_map (λ part. part) parts
-
 -- rows taken, and the table without them
 abbrev pub taken_of : List OutRow → Outputs → Taken
 taken_of rows outs = record { rows = rows; outs = outs }
@@ -28,11 +23,18 @@ placed_of displaced outs = record { displaced = displaced; outs = outs }
 
 -- what transactions did so far, with the table
 abbrev pub spent_of : Work → Outputs → Spent
-spent_of work outs = record { moved = work.moved.items; lost = work.lost; fees = work.fees; outs = outs }
+spent_of work outs =
+    record { moved = work.moved.items; lost = work.lost; fees = work.fees; outs = outs }
 
 -- what one did behind what those before did
 abbrev pub behind : Spent → Spent → Spent
-behind before next = record { moved = before.moved ++ next.moved; lost = before.lost ++ next.lost; fees = before.fees ++ next.fees; outs = next.outs }
+behind before next =
+    record {
+      moved = before.moved ++ next.moved;
+      lost = before.lost ++ next.lost;
+      fees = before.fees ++ next.fees;
+      outs = next.outs;
+    }
 
 -- the same, of an answer
 abbrev pub all_behind : Spent → Result Spent Refusal → Result Spent Refusal

@@ -25,8 +25,8 @@ pub(crate) fn value_sum(outputs: &[TxOut]) -> u64
     outputs.iter().map(|output| output.value).sum()
 }
 
-/// Deals satoshis to the outputs, which have `total` of them together. It goes from the last output to the first: what
-/// is split off is moved, and what stays isn't.
+/// Deals satoshis to the outputs, which have `total` of them together. It goes from the last output
+/// to the first: what is split off is moved, and what stays isn't.
 pub(crate) fn deal_out(
     alloc: Global,
     mut sats: Ranges,
@@ -35,7 +35,8 @@ pub(crate) fn deal_out(
 ) -> Result<Dealt, Memory>
     requires whole { total ≡ sum (values outputs.now) }
     requires enough { total ≤ length sats }
-    ensures { IfOk result (λ dealt. deal sats (values outputs.now) ≡ Some (reverse dealt.parts.items, dealt.rest)) }
+    ensures { IfOk result
+        (λ dealt. deal sats (values outputs.now) ≡ Some (reverse dealt.parts.items, dealt.rest)) }
 {
     let rest = sats.split_off(total)?;
     let mut parts = Vec::with_capacity(alloc, outputs.len())?;

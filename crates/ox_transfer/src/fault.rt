@@ -15,14 +15,6 @@ pub enum TransferFault {
     Memory,
 }
 
-impl From<ox_rules::Memory> for TransferFault {
-    ghost from_gives = { λ _ e. e ≡ faults.Memory };
-
-    fn from(_e: ox_rules::Memory) -> TransferFault {
-        TransferFault::Memory
-    }
-}
-
 impl From<ox_bytes::Memory> for TransferFault {
     ghost from_gives = { λ _ e. e ≡ faults.Memory };
 

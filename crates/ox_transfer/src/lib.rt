@@ -1,4 +1,5 @@
-//! First-in first-out: a block's satoshis go from the outputs that it spends to those that it makes.
+//! First-in first-out: a block's satoshis go from the outputs that it spends to those that it
+//! makes.
 #![tactic(auto)]
 
 mod deal;

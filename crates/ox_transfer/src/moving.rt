@@ -35,7 +35,8 @@ fn claim_all<O: OutTable>(
     requires id { id.0 ≡ txid coinbase.now }
     requires counted { Counted coinbase.now }
     requires apart { Apart (first_at p.now height) (O.contents table.old) (work.lost ++ work.fees) }
-    ensures claimed { Answers (λ moved. transferred_of moved (O.contents table.new)) result (claim p.now height coinbase.now (spent_of work (O.contents table.old))) }
+    ensures claimed { Answers (λ moved. transferred_of moved (O.contents table.new)) result
+        (claim p.now height coinbase.now (spent_of work (O.contents table.old))) }
     ensures mark { O.marked table.new ≡ O.marked table.old }
 {
     let outputs = coinbase.outputs.as_slice();
@@ -86,7 +87,8 @@ fn transfer_txs<O: OutTable>(
     requires lawful { Lawful block.now }
     requires ids { ids.now ≡ map txid block.now.txs }
     requires once { HoldsOnce (first_at p.now height) (O.contents table.old) }
-    ensures moved { Answers (λ moved. transferred_of moved (O.contents table.new)) result (transfer_of p.now height block.now.txs (O.contents table.old)) }
+    ensures moved { Answers (λ moved. transferred_of moved (O.contents table.new)) result
+        (transfer_of p.now height block.now.txs (O.contents table.old)) }
     ensures mark { O.marked table.new ≡ O.marked table.old }
 {
     let Some((coinbase, txs)) = block.txs.as_slice().split_first() else {
@@ -99,25 +101,30 @@ fn transfer_txs<O: OutTable>(
     claim_all(alloc, table, p, height, coinbase, Txid(*id), work)
 }
 
-/// Moves the satoshis of a block that stands at this height, first-in first-out (BIP draft "Ordinal Numbers"; Ordinal
-/// Theory Handbook, "Overview"), and answers what each transaction did and which satoshis are lost.
+/// Moves the satoshis of a block that stands at this height, first-in first-out (BIP draft "Ordinal
+/// Numbers"; Ordinal Theory Handbook, "Overview"), and answers what each transaction did and which
+/// satoshis are lost.
 ///
-/// Each transaction's inputs take their rows out of the table, whose satoshis, joined in input order, go to its outputs
-/// in order; what is left over is fee. The coinbase comes last: the subsidy's satoshis and then the fees go to its
-/// outputs, and what is left over is lost. An output at whose outpoint a row still stands displaces it, and that row's
-/// satoshis are lost at that moment.
+/// Each transaction's inputs take their rows out of the table, whose satoshis, joined in input
+/// order, go to its outputs in order; what is left over is fee. The coinbase comes last: the
+/// subsidy's satoshis and then the fees go to its outputs, and what is left over is lost. An output
+/// at whose outpoint a row still stands displaces it, and that row's satoshis are lost at that
+/// moment.
 ///
 /// `ids` are the ids of the block's transactions, in order, so that none is hashed again.
 ///
-/// The lists of the table's rows, joined, may hold no number twice, and none from the first satoshi of the height up.
+/// The lists of the table's rows, joined, may hold no number twice, and none from the first satoshi
+/// of the height up.
 ///
-/// It sets the table's mark first. `Refused` with the first cause in block order: `UnknownOutput` at an input whose
-/// output isn't there, `Overspend` where a transaction's outputs have more satoshis than its inputs, and, after all
-/// other transactions, `Overclaim` where the coinbase's outputs have more than subsidy and fees. `Memory` where there is
-/// none. The table is as before then. After Ok it goes back by its `cancel`, and its rows are as the next height's block
-/// needs them.
+/// It sets the table's mark first. `Refused` with the first cause in block order: `UnknownOutput`
+/// at an input whose output isn't there, `Overspend` where a transaction's outputs have more
+/// satoshis than its inputs, and, after all other transactions, `Overclaim` where the coinbase's
+/// outputs have more than subsidy and fees. `Memory` where there is none. The table is as before
+/// then. After Ok it goes back by its `cancel`, and its rows are as the next height's block needs
+/// them.
 ///
-/// It costs one look-up an input and one insertion an output, and otherwise grows by the runs of satoshis that move.
+/// It costs one look-up an input and one insertion an output, and otherwise grows by the runs of
+/// satoshis that move.
 pub fn transfer<O: OutTable>(
     alloc: Global,
     table: &mut O,
@@ -131,8 +138,11 @@ pub fn transfer<O: OutTable>(
     // The ids are those of the block's transactions, in order.
     requires ids { ids.now ≡ map txid block.now.txs }
     requires once { HoldsOnce (first_at p.now height) (O.contents table.old) }
-    ensures moved { IfOk result (λ moved. transfer_of p.now height block.now.txs (O.contents table.old) ≡ Ok (transferred_of moved (O.contents table.new))) }
-    ensures refused { IfErr result (λ fault. Refuses fault (transfer_of p.now height block.now.txs (O.contents table.old))) }
+    ensures moved { IfOk result
+        (λ moved. transfer_of p.now height block.now.txs (O.contents table.old)
+        ≡ Ok (transferred_of moved (O.contents table.new))) }
+    ensures refused { IfErr result
+        (λ fault. Refuses fault (transfer_of p.now height block.now.txs (O.contents table.old))) }
     ensures err { OnErr result (O.contents table.new ≡ O.contents table.old) }
     ensures mark { OnOk result (O.marked table.new ≡ Some (O.contents table.old)) }
     // So the next block's transfer may be called.

@@ -6,7 +6,8 @@ ghost use Rattle.ox_block.specs.Spelling.{most_bytes};
 ghost use Rattle.ox_rules.specs.Outputs.{sats_of};
 ghost use Rattle.ox_rules.specs.Transfer.{as_list, place_rows};
 ghost use Rattle.ox_transfer.specs.Apart.{Apart};
-ghost use Rattle.ox_transfer.specs.Parts.{joined, placed_of};
+ghost use Rattle.ox_rules.specs.Deal.{all_parts};
+ghost use Rattle.ox_transfer.specs.Parts.{placed_of};
 
 use ox_block::{OutPoint, TxOut, Txid};
 use ox_bytes::Bytes;
@@ -24,8 +25,11 @@ fn place_row<O: OutTable>(
 ) -> Result<(), Memory>
     requires apart { Apart (2 ^ 63) (O.contents table.old) (row.sats ++ lost.old) }
     ensures table { OnOk result (O.contents table.new ≡ map.insert (O.contents table.old) at row) }
-    ensures rows { OnOk result (displaced.new.items ≡ displaced.old.items ++ as_list (map.get (O.contents table.old) at)) }
-    ensures lost { OnOk result (lost.new ≡ lost.old ++ sats_of (as_list (map.get (O.contents table.old) at))) }
+    ensures rows { OnOk result
+        (displaced.new.items
+        ≡ displaced.old.items ++ as_list (map.get (O.contents table.old) at)) }
+    ensures lost { OnOk result
+        (lost.new ≡ lost.old ++ sats_of (as_list (map.get (O.contents table.old) at))) }
     ensures mark { O.marked table.new ≡ O.marked table.old }
 {
     if let Some(old) = table.place(&at, row)? {
@@ -35,8 +39,8 @@ fn place_row<O: OutTable>(
     Ok(())
 }
 
-/// Places the outputs of a transaction in order, each with its part of the satoshis, of which the last output's is the
-/// first. It answers the rows that are displaced, and their satoshis are lost.
+/// Places the outputs of a transaction in order, each with its part of the satoshis, of which the
+/// last output's is the first. It answers the rows that are displaced, and their satoshis are lost.
 pub(crate) fn place_outputs<O: OutTable>(
     alloc: Global,
     table: &mut O,
@@ -48,8 +52,12 @@ pub(crate) fn place_outputs<O: OutTable>(
 ) -> Result<Vec<OutRow>, Memory>
     requires few { length outputs.now ≤ most_bytes }
     requires each { length (reverse parts.items) ≡ length outputs.now }
-    requires apart { Apart (2 ^ 63) (O.contents table.old) (joined (reverse parts.items) ++ lost.old) }
-    ensures rows { IfOk result (λ displaced. place_rows height txid 0 outputs.now (reverse parts.items) (O.contents table.old) ≡ placed_of displaced.items (O.contents table.new)) }
+    requires apart { Apart (2 ^ 63) (O.contents table.old)
+        (all_parts (reverse parts.items) ++ lost.old) }
+    ensures rows { IfOk result
+        (λ displaced.
+        place_rows height txid 0 outputs.now (reverse parts.items) (O.contents table.old)
+        ≡ placed_of displaced.items (O.contents table.new)) }
     ensures lost { IfOk result (λ displaced. lost.new ≡ lost.old ++ sats_of displaced.items) }
     ensures mark { O.marked table.new ≡ O.marked table.old }
 {

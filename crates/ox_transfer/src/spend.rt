@@ -19,7 +19,8 @@ use ox_range::Ranges;
 use ox_rules::{MovedTx, OutTable, Refusal, SpentRows};
 use std::alloc::Global;
 
-/// What transactions did so far: their entries, the satoshis that are lost by displacement, and the fees.
+/// What transactions did so far: their entries, the satoshis that are lost by displacement, and the
+/// fees.
 #[derive(Drop)]
 pub(crate) struct Work {
     pub(crate) moved: Vec<MovedTx>,
@@ -40,8 +41,11 @@ fn spend_tx<O: OutTable>(
     requires id { id.0 ≡ txid tx.now }
     requires counted { Counted tx.now }
     requires apart { Apart (2 ^ 63) (O.contents table.old) (work.old.lost ++ work.old.fees) }
-    ensures spent { Answers (λ _. spent_of work.new (O.contents table.new)) result (all_behind (spent_of work.old (O.contents table.old)) (spend height place tx.now (O.contents table.old))) }
-    ensures apart { OnOk result (Apart (2 ^ 63) (O.contents table.new) (work.new.lost ++ work.new.fees)) }
+    ensures spent { Answers (λ _. spent_of work.new (O.contents table.new)) result
+        (all_behind (spent_of work.old (O.contents table.old))
+        (spend height place tx.now (O.contents table.old))) }
+    ensures apart { OnOk result
+        (Apart (2 ^ 63) (O.contents table.new) (work.new.lost ++ work.new.fees)) }
     ensures mark { O.marked table.new ≡ O.marked table.old }
 {
     let taken = take_inputs(alloc, table, place, tx.inputs.as_slice())?;
@@ -88,7 +92,8 @@ pub(crate) fn spend_txs<O: OutTable>(
     requires few { length txs.now ≤ most_bytes }
     requires counted { All Counted txs.now }
     requires apart { Apart (2 ^ 63) (O.contents table.old) [] }
-    ensures spent { Answers (λ work. spent_of work (O.contents table.new)) result (spend_all height 1 txs.now (O.contents table.old)) }
+    ensures spent { Answers (λ work. spent_of work (O.contents table.new)) result
+        (spend_all height 1 txs.now (O.contents table.old)) }
     ensures mark { O.marked table.new ≡ O.marked table.old }
 {
     let mut work = Work {

@@ -29,7 +29,9 @@ fn take_row<O: OutTable>(
     input: u32,
     at: &OutPoint,
 ) -> Result<OutRow, TransferFault>
-    ensures row { Answers (λ row. row) result (or_refuse (Refusal.UnknownOutput tx input at.now) (map.get (O.contents table.old) at.now)) }
+    ensures row { Answers (λ row. row) result
+        (or_refuse (Refusal.UnknownOutput tx input at.now)
+        (map.get (O.contents table.old) at.now)) }
     ensures left { OnOk result (O.contents table.new ≡ map.remove (O.contents table.old) at.now) }
     ensures mark { O.marked table.new ≡ O.marked table.old }
 {
@@ -48,7 +50,8 @@ pub(crate) fn take_inputs<O: OutTable>(
 ) -> Result<TakenRows, TransferFault>
     requires few { length inputs.now ≤ most_bytes }
     requires apart { Apart (2 ^ 63) (O.contents table.old) [] }
-    ensures taken { Answers (λ taken. taken_of taken.rows.items (O.contents table.new)) result (take_rows tx 0 inputs.now (O.contents table.old)) }
+    ensures taken { Answers (λ taken. taken_of taken.rows.items (O.contents table.new)) result
+        (take_rows tx 0 inputs.now (O.contents table.old)) }
     ensures joined { IfOk result (λ taken. taken.sats ≡ sats_of taken.rows.items) }
     ensures mark { O.marked table.new ≡ O.marked table.old }
 {

@@ -19,7 +19,8 @@ use std::test::Fail;
 /// The coins that a block mints below the first halving.
 const SUBSIDY: u64 = 5_000_000_000;
 
-/// A transaction as a test writes it: what it spends, the values of its outputs, and a number that makes its id its own.
+/// A transaction as a test writes it: what it spends, the values of its outputs, and a number that
+/// makes its id its own.
 #[derive(Clone, Copy)]
 struct Plan<'a> {
     spends: &'a [OutPoint],
@@ -130,7 +131,8 @@ fn moves(
 ) -> Result<Moved, TransferFault>
     requires lawful { Lawful block.now }
     requires once { HoldsOnce (first_at (profile_named Regtest) height) (rows_in table.old) }
-    ensures ok { OnOk result (HoldsOnce (first_at (profile_named Regtest) (height + 1)) (rows_in table.new)) }
+    ensures ok { OnOk result
+        (HoldsOnce (first_at (profile_named Regtest) (height + 1)) (rows_in table.new)) }
     ensures err { OnErr result (rows_in table.new ≡ rows_in table.old) }
 {
     let p = profile_of(ProfileName::Regtest);
@@ -238,8 +240,8 @@ fn a_repeated_coinbase_displaces_the_first(rt: HostRuntime) -> Result<(), Fail> 
     Ok(())
 }
 
-// Block 2 has the coinbase of block 0 once more, which leaves the fee: the satoshis of the output that it displaces are
-// lost first.
+// Block 2 has the coinbase of block 0 once more, which leaves the fee: the satoshis of the output
+// that it displaces are lost first.
 #[test]
 fn displaced_satoshis_are_lost_before_those_left(rt: HostRuntime) -> Result<(), Fail> {
     let alloc = rt.alloc();
@@ -265,8 +267,8 @@ fn displaced_satoshis_are_lost_before_those_left(rt: HostRuntime) -> Result<(), 
     Ok(())
 }
 
-/// What a block of a coinbase and other transactions is refused for on top of the block of one coinbase, whose satoshis
-/// have to stay where they are.
+/// What a block of a coinbase and other transactions is refused for on top of the block of one
+/// coinbase, whose satoshis have to stay where they are.
 fn refusal_of(
     rt: &impl Abort,
     alloc: Global,

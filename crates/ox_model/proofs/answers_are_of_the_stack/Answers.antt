@@ -1,4 +1,4 @@
-use Rattle.ox_model.proofs.Turning.{replies_alike, after_alike}
+use Rattle.ox_model.proofs.AnswersOfStacks.{replies_alike, after_alike}
 use Rattle.ox_model.proofs.answers_are_of_the_stack.Goals as goal
 
 pub returns-clause-answers : goal.returns-clause-answers

@@ -1,4 +1,4 @@
-use Rattle.ox_model.proofs.Turning.{after_joined}
+use Rattle.ox_model.proofs.AnswersOfStacks.{after_joined}
 use Rattle.ox_model.specs.Machine.{turn}
 use Rattle.ox_model.proofs.runs_join.Goals as goal
 

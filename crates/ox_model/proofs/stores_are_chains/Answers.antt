@@ -1,4 +1,4 @@
-use Rattle.ox_model.proofs.Standing.{stands_for_chain, chain_sound}
+use Rattle.ox_model.proofs.FilesOfChains.{stands_for_chain, chain_sound}
 use Rattle.ox_model.proofs.stores_are_chains.Goals as goal
 
 pub returns-clause-chain : goal.returns-clause-chain

@@ -6,7 +6,7 @@ use Rattle.ox_feed.specs.Feed.{feed_limit, left}
 use Rattle.ox_gated.specs.Tail.{Holds}
 use Rattle.ox_model.specs.Replies.{after_on, replies_on}
 use Rattle.ox_model.specs.Stands.{stands}
-use Rattle.ox_app.specs.Crash.{Survives}
+use Rattle.ox_model.specs.Survives.{Survives}
 use Rattle.ox_app.specs.Fold.{Carried}
 use Rattle.ox_app.proofs.apply.follow.Given as goal
 

@@ -1,6 +1,6 @@
 use Rattle.std.proofs.Common.{◌∙◌, ap, sym}
 use Rattle.ox_model.specs.Replies.{after_turn, index_on, reply_by}
-use Rattle.ox_model.specs.Stack.{obeyed_on}
+use Rattle.ox_model.specs.Stack.{stack_after}
 use Rattle.ox_app.specs.Apply.{tip_line}
 use Rattle.ox_app.proofs.Carrying.{tip_says, untouched}
 use Rattle.ox_app.proofs.carry.carry_command.Goals as goal
@@ -12,14 +12,14 @@ returns-in-Ok-clause-answer g c =
 pub returns-in_err-refused-in-Refused-clause-any_moment : goal.returns-in_err-refused-in-Refused-clause-any_moment
 returns-in_err-refused-in-Refused-clause-any_moment g c told stood =
     untouched g.S.Site.seen g.S.Site.clock g.S.Site.may_leave g.S.Site.left_since g.met.S.Site.only_now c.args.site.now c.args.store.stack
-    (after_turn c.args.store.stack (obeyed_on c.args.store.stack c.args.command.now)) (c.requires.holds told).settled stood
+    (after_turn c.args.store.stack (stack_after c.args.store.stack c.args.command.now)) (c.requires.holds told).settled stood
 
 pub returns-in-Refused-clause-any_moment : goal.returns-in-Refused-clause-any_moment
 returns-in-Refused-clause-any_moment g c told stood =
     untouched g.S.Site.seen g.S.Site.clock g.S.Site.may_leave g.S.Site.left_since g.met.S.Site.only_now c.args.site.now c.args.store.stack
-    (after_turn c.args.store.stack (obeyed_on c.args.store.stack c.args.command.now)) (c.requires.holds told).settled stood
+    (after_turn c.args.store.stack (stack_after c.args.store.stack c.args.command.now)) (c.requires.holds told).settled stood
 
 pub returns-clause-any_moment : goal.returns-clause-any_moment
 returns-clause-any_moment g c told stood =
     untouched g.S.Site.seen g.S.Site.clock g.S.Site.may_leave g.S.Site.left_since g.met.S.Site.only_now c.args.site.now c.args.store.stack
-    (after_turn c.args.store.stack (obeyed_on c.args.store.stack c.args.command.now)) (c.requires.holds told).settled stood
+    (after_turn c.args.store.stack (stack_after c.args.store.stack c.args.command.now)) (c.requires.holds told).settled stood

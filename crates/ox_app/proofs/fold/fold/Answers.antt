@@ -4,8 +4,8 @@ use Rattle.std.proofs.lemmas.Result.{err_from_is_err_and}
 use Rattle.ox_outside.specs.Log.{Grows}
 use Rattle.ox_outside.proofs.Talking.{talks_none}
 use Rattle.ox_feed.specs.Feed.{Feed, unheard}
-use Rattle.ox_model.specs.Machine.{begun}
-use Rattle.ox_model.specs.Stack.{Stack, stack_of}
+use Rattle.ox_model.specs.Machine.{empty_machine, stack_of}
+use Rattle.ox_model.specs.Stack.{Stack}
 use Rattle.ox_app.specs.Fold.{Anything, Carried, fold_depth, stack_in}
 use Rattle.ox_app.proofs.Feeding.{carried_none, grows_broken, grows_carried, grows_owing, grows_stopped, grows_whole, stack_begun}
 use Rattle.ox_app.proofs.Going.{talks_on}
@@ -13,7 +13,7 @@ use Rattle.ox_app.proofs.fold.fold.Goals as goal
 
 pub loop-live-init : goal.loop-live-init
 loop-live-init g c =
-    let first = stack_of (begun c.args.p.now fold_depth) in
+    let first = stack_of (empty_machine c.args.p.now fold_depth) in
     let log = g.S.Site.log c.args.site.now in (
       subst (λ (l : Feed). Grows (Carried first l (stack_in c.new-live.result)) log log) (sym c.new-lines.ensures)
           (subst (λ (s : Stack). Grows (Carried first unheard s) log log) (sym (stack_begun c.new-live.result c.args.p.now c.new-live.ensures.profile c.new-live.ensures.index)) (carried_none first log)),
@@ -24,7 +24,7 @@ pub returns-in_err-answer-clause-told : goal.returns-in_err-answer-clause-told
 returns-in_err-answer-clause-told g c =
     let p = err_from_is_err_and c.from_residual.result c.from_residual.ensures.1 in
     rw (p.1, p.2)
-    (grows_stopped (stack_of (begun c.args.p.now fold_depth)) c.loop-live.lines c.next_answer.new.lines (stack_in c.loop-live.live) (stack_in c.next_answer.new.live) c.in_err-answer.field-0.0
+    (grows_stopped (stack_of (empty_machine c.args.p.now fold_depth)) c.loop-live.lines c.next_answer.new.lines (stack_in c.loop-live.live) (stack_in c.next_answer.new.live) c.in_err-answer.field-0.0
     (g.S.Site.log c.args.site.now) (g.S.Site.log c.loop-live.site) (g.S.Site.log c.next_answer.new.site)
     c.next_answer.ensures.count (λ e. c.in_err-answer.ensures.too_much (ap Err e))
     c.loop-live.invariant.0 c.in_err-answer.ensures.told)
@@ -34,7 +34,7 @@ returns-in_err-show_all-clause-told g c =
     let p = err_from_is_err_and c.from_residual-in_err-show_all.result c.from_residual-in_err-show_all.ensures.1 in
     let heard = rw c.in-Some.is at c.in_ok-answer.ensures.told in
     let shown = rw c.as_slice.ensures at c.in_err-show_all.ensures.told in
-    let first = stack_of (begun c.args.p.now fold_depth) in
+    let first = stack_of (empty_machine c.args.p.now fold_depth) in
     rw (p.1, p.2)
     (grows_broken first c.in-Some.answer c.next_answer.new.lines (stack_in c.next_answer.new.live)
     (g.S.Site.log c.args.site.now) (g.S.Site.log c.next_answer.new.site) (g.S.Site.log c.show_all.new.site)
@@ -47,7 +47,7 @@ pub loop-live-preserved : goal.loop-live-preserved
 loop-live-preserved g c =
     let heard = rw c.in-Some.is at c.in_ok-answer.ensures.told in
     let shown = rw c.as_slice.ensures at c.in_ok-show_all.ensures.told in
-    let first = stack_of (begun c.args.p.now fold_depth) in
+    let first = stack_of (empty_machine c.args.p.now fold_depth) in
     let owed = grows_owing first c.loop-live.lines c.next_answer.new.lines (stack_in c.loop-live.live) (stack_in c.next_answer.new.live) c.in-Some.answer
     (g.S.Site.log c.args.site.now) (g.S.Site.log c.loop-live.site) (g.S.Site.log c.next_answer.new.site) c.loop-live.invariant.0 heard in (
       grows_carried first c.next_answer.new.lines (stack_in c.next_answer.new.live) c.in-Some.answer
@@ -61,7 +61,7 @@ loop-live-preserved g c =
 pub returns-clause-told : goal.returns-clause-told
 returns-clause-told g c =
     let heard = rw c.in_default.is at c.in_ok-answer.ensures.told in
-    grows_whole (stack_of (begun c.args.p.now fold_depth)) c.loop-live.lines c.next_answer.new.lines (stack_in c.loop-live.live) (stack_in c.next_answer.new.live)
+    grows_whole (stack_of (empty_machine c.args.p.now fold_depth)) c.loop-live.lines c.next_answer.new.lines (stack_in c.loop-live.live) (stack_in c.next_answer.new.live)
     (g.S.Site.log c.args.site.now) (g.S.Site.log c.loop-live.site) (g.S.Site.log c.next_answer.new.site)
     c.next_answer.ensures.count c.loop-live.invariant.0 heard
 
@@ -76,7 +76,7 @@ returns-in_err-show_all-clause-talks g c =
     talks_on g.S.Site.told g.S.Site.seen g.S.Site.log g.S.Site.counts g.S.Site.clock g.S.Site.may_leave g.S.Site.left_since _ _ c.args.site.now c.next_answer.new.site c.show_all.new.site
     (talks_on g.S.Site.told g.S.Site.seen g.S.Site.log g.S.Site.counts g.S.Site.clock g.S.Site.may_leave g.S.Site.left_since _ _ c.args.site.now c.loop-live.site c.next_answer.new.site
     c.loop-live.invariant.1 c.loop-live.invariant.0 c.next_answer.ensures.talks)
-    (grows_owing (stack_of (begun c.args.p.now fold_depth)) c.loop-live.lines c.next_answer.new.lines (stack_in c.loop-live.live) (stack_in c.next_answer.new.live) c.in-Some.answer
+    (grows_owing (stack_of (empty_machine c.args.p.now fold_depth)) c.loop-live.lines c.next_answer.new.lines (stack_in c.loop-live.live) (stack_in c.next_answer.new.live) c.in-Some.answer
     (g.S.Site.log c.args.site.now) (g.S.Site.log c.loop-live.site) (g.S.Site.log c.next_answer.new.site) c.loop-live.invariant.0 heard)
     c.show_all.ensures.talks
 

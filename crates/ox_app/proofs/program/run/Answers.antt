@@ -4,9 +4,8 @@ use Rattle.ox_outside.specs.Counts.{Rose}
 use Rattle.ox_outside.specs.Crash.{LeavesOnly}
 use Rattle.ox_outside.specs.Log.{Grows}
 use Rattle.ox_outside.proofs.Log.{grows_weaker}
-use Rattle.ox_model.specs.Machine.{begun}
+use Rattle.ox_model.specs.Machine.{empty_machine, stack_of}
 use Rattle.ox_model.specs.Replies.{replies_on}
-use Rattle.ox_model.specs.Stack.{stack_of}
 use Rattle.ox_sat.specs.Profiles.{profile_named}
 use Rattle.ox_sat.specs.declared.profiles.Profile.{Profile}
 use Rattle.ox_sat.specs.declared.profiles.ProfileName.{ProfileName}
@@ -21,9 +20,9 @@ returns-in-Fold-clause-folds g c name words =
     let old = g.S.Site.log c.args.site.now in
     let new = g.S.Site.log c.fold.new.site in
     let same = c.profile_of.ensures.value ∙ ap profile_named (fold_same c.in-Fold.name name (sym c.in-Fold.ensures ∙ words)) in
-    grows_alike (begun (profile_named name) fold_depth) c.status.result old new
-    (subst (λ (n : ℕ). Grows (RunsFeed (replies_on (stack_of (begun (profile_named name) fold_depth))) n) old new) (sym c.status.ensures)
-    (subst (λ (p : Profile). Grows (RunsFeed (replies_on (stack_of (begun p fold_depth))) (status_of c.fold.result)) old new) same c.fold.ensures.told))
+    grows_alike (empty_machine (profile_named name) fold_depth) c.status.result old new
+    (subst (λ (n : ℕ). Grows (RunsFeed (replies_on (stack_of (empty_machine (profile_named name) fold_depth))) n) old new) (sym c.status.ensures)
+    (subst (λ (p : Profile). Grows (RunsFeed (replies_on (stack_of (empty_machine p fold_depth))) (status_of c.fold.result)) old new) same c.fold.ensures.told))
 
 pub returns-in-Init-clause-made : goal.returns-in-Init-clause-made
 returns-in-Init-clause-made g c told name depth fits words status =

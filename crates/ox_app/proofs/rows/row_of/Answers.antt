@@ -1,7 +1,7 @@
 use Rattle.std.proofs.Common.{◌∙◌, sym}
 use Rattle.std.specs.Prelude.{codes, decimal}
 use Rattle.std.proofs.lemmas.Slice.Eq.{bytes_eq-Decides}
-use Rattle.ox_model.specs.Status.{profile_word}
+use Rattle.ox_sat.specs.Profiles.{profile_word}
 use Rattle.ox_app.proofs.Words.{one_word, two_words, three_words}
 use Rattle.ox_app.proofs.rows.row_of.Goals as goal
 

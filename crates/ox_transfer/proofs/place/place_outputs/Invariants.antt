@@ -3,7 +3,7 @@ use Rattle.std.specs.Prelude.{reverse}
 use Rattle.ox_rules.specs.Outputs.{sats_of}
 use Rattle.ox_rules.specs.Transfer.{place_rows}
 use Rattle.ox_transfer.specs.Apart.{Apart}
-use Rattle.ox_transfer.specs.Parts.{joined}
+use Rattle.ox_rules.specs.Deal.{all_parts}
 use Rattle.ox_transfer.proofs.Places.{behind_placed}
 use Rattle.ox_transfer.proofs.place.place_outputs.Given as goal
 
@@ -13,6 +13,6 @@ invariant-loop-index g l = record {
   so_far : place_rows l.height l.txid 0 l.outputs (reverse l.fn.parts.items) (g.O.OutTable.contents l.initial.table) ≡ behind_placed l.displaced.items (place_rows l.height l.txid l.index (drop l.index l.outputs) (reverse l.parts.items) (g.O.OutTable.contents l.table));
   each : length (reverse l.parts.items) + l.index ≡ length l.outputs;
   gone : l.lost ≡ l.initial.lost ++ sats_of l.displaced.items;
-  apart : Apart (2 ^ 63) (g.O.OutTable.contents l.table) (joined (reverse l.parts.items) ++ l.lost);
+  apart : Apart (2 ^ 63) (g.O.OutTable.contents l.table) (all_parts (reverse l.parts.items) ++ l.lost);
   mark : g.O.OutTable.marked l.table ≡ g.O.OutTable.marked l.initial.table;
 }

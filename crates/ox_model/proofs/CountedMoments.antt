@@ -6,7 +6,7 @@ use Rattle.std.specs.List.{concat}
 use Rattle.std.proofs.lemmas.Bool.{le-leb, lt-leb}
 use Rattle.std.proofs.lemmas.List.{append-nil}
 use Rattle.std.proofs.lemmas.List.Elements.{All-head, All-tail}
-use Rattle.ox_model.specs.Moments.{moments, acknowledged}
+use Rattle.ox_model.specs.Moments.{moments, acknowledgements}
 
 abbrev pub HasByte : List ℕ → Type 0
 HasByte answer = 0 < length answer
@@ -53,8 +53,8 @@ unfolding moments
 front_first answer p answers short =
     ap (λ (l : List ℕ). suc (if nat_le (length answer) (length p) then moments answers l else 0)) (all_dropped p (length answer) short)
 
-begun : (answer rest p : List ℕ) (answers : List (List ℕ)) → p ++ rest ≡ answer → All HasByte answers → (moments (answer ∷ answers) p ≡ 1) ⊎ (moments (answer ∷ answers) p ≡ 2)
-begun answer rest p answers is some =
+one_or_two_begun : (answer rest p : List ℕ) (answers : List (List ℕ)) → p ++ rest ≡ answer → All HasByte answers → (moments (answer ∷ answers) p ≡ 1) ⊎ (moments (answer ∷ answers) p ≡ 2)
+one_or_two_begun answer rest p answers is some =
     rw (front_first answer p answers (omega (arith, length-append p rest, ap (λ (l : List ℕ). length l) is)))
     (one_or_two (moments answers []) (few answers some) (nat_le (length answer) (length p)))
 
@@ -73,7 +73,7 @@ count_at_rest done next some =
 -- and a front of the next one
 pub count_ahead : (done : List (List ℕ)) (answer rest p : List ℕ) (next : List (List ℕ)) → p ++ rest ≡ answer → All HasByte next
     → (moments (done ++ answer ∷ next) (concat done ++ p) ≡ suc (length done)) ⊎ (moments (done ++ answer ∷ next) (concat done ++ p) ≡ suc (suc (length done)))
-count_ahead done answer rest p next is some = by_begun (begun answer rest p next is some) (moments_past done (answer ∷ next) p) where
+count_ahead done answer rest p next is some = by_begun (one_or_two_begun answer rest p next is some) (moments_past done (answer ∷ next) p) where
   by_begun : (moments (answer ∷ next) p ≡ 1) ⊎ (moments (answer ∷ next) p ≡ 2) → moments (done ++ answer ∷ next) (concat done ++ p) ≡ length done + moments (answer ∷ next) p
       → (moments (done ++ answer ∷ next) (concat done ++ p) ≡ suc (length done)) ⊎ (moments (done ++ answer ∷ next) (concat done ++ p) ≡ suc (suc (length done)))
   by_begun (inl one) past = inl (omega (arith, one, past))
@@ -81,34 +81,34 @@ count_ahead done answer rest p next is some = by_begun (begun answer rest p next
 
 -- ---- acknowledgements
 
-begins : (answer p : List ℕ) (answers : List (List ℕ)) → HasByte answer → acknowledged (answer ∷ answers) (answer ++ p) ≡ suc (acknowledged answers p)
-unfolding acknowledged
+begins : (answer p : List ℕ) (answers : List (List ℕ)) → HasByte answer → acknowledgements (answer ∷ answers) (answer ++ p) ≡ suc (acknowledgements answers p)
+unfolding acknowledgements
 begins [] p answers some = absurd (omega arith)
-begins (b ∷ answer) p answers some = ap (λ (l : List ℕ). suc (acknowledged answers l)) (dropped answer p)
+begins (b ∷ answer) p answers some = ap (λ (l : List ℕ). suc (acknowledgements answers l)) (dropped answer p)
 
-none_shown : (answers : List (List ℕ)) → acknowledged answers [] ≡ 0
-unfolding acknowledged
+none_shown : (answers : List (List ℕ)) → acknowledgements answers [] ≡ 0
+unfolding acknowledgements
 none_shown [] = refl
 none_shown (answer ∷ answers) = refl
 
-pub acknowledged_past : (done next : List (List ℕ)) (p : List ℕ) → All HasByte done → acknowledged (done ++ next) (concat done ++ p) ≡ length done + acknowledged next p
+pub acknowledged_past : (done next : List (List ℕ)) (p : List ℕ) → All HasByte done → acknowledgements (done ++ next) (concat done ++ p) ≡ length done + acknowledgements next p
 acknowledged_past [] next p some = omega arith
 acknowledged_past (answer ∷ done) next p some =
-    ap (acknowledged (answer ∷ (done ++ next))) (append_assoc answer (concat done) p)
+    ap (acknowledgements (answer ∷ (done ++ next))) (append_assoc answer (concat done) p)
     ∙ begins answer (concat done ++ p) (done ++ next) (All-head HasByte answer done some)
     ∙ suc_plus _ _ _ (acknowledged_past done next p (All-tail HasByte answer done some))
 
-pub acknowledged_at_rest : (done next : List (List ℕ)) → All HasByte done → acknowledged (done ++ next) (concat done) ≤ length done
+pub acknowledged_at_rest : (done next : List (List ℕ)) → All HasByte done → acknowledgements (done ++ next) (concat done) ≤ length done
 acknowledged_at_rest done next some =
-    omega (arith, ap (acknowledged (done ++ next)) (sym (append-nil (concat done))), acknowledged_past done next [] some, none_shown next)
+    omega (arith, ap (acknowledgements (done ++ next)) (sym (append-nil (concat done))), acknowledged_past done next [] some, none_shown next)
 
-front_begun : (answer rest p : List ℕ) (answers : List (List ℕ)) → p ++ rest ≡ answer → acknowledged (answer ∷ answers) p ≤ 1
-unfolding acknowledged
+front_begun : (answer rest p : List ℕ) (answers : List (List ℕ)) → p ++ rest ≡ answer → acknowledgements (answer ∷ answers) p ≤ 1
+unfolding acknowledgements
 front_begun answer rest [] answers is = omega arith
 front_begun answer rest (b ∷ p) answers is =
     rw (all_dropped (b ∷ p) (length answer) (omega (arith, length-append (b ∷ p) rest, ap (λ (l : List ℕ). length l) is))) (omega arith)
 
 pub acknowledged_ahead : (done : List (List ℕ)) (answer rest p : List ℕ) (next : List (List ℕ)) → p ++ rest ≡ answer → All HasByte done
-    → acknowledged (done ++ answer ∷ next) (concat done ++ p) ≤ suc (length done)
+    → acknowledgements (done ++ answer ∷ next) (concat done ++ p) ≤ suc (length done)
 acknowledged_ahead done answer rest p next is some =
     omega (arith, acknowledged_past done (answer ∷ next) p some, front_begun answer rest p next is)

@@ -8,34 +8,34 @@ use Rattle.ox_outside.specs.declared.site.Which.{Which}
 use Rattle.ox_gated.specs.Reading.{Found, Fault, IntactPart, with_payload, reading}
 use Rattle.ox_gated.specs.declared.head.Head.{Head}
 use Rattle.ox_gated.specs.declared.records.Record.{Record}
-use Rattle.ox_sat.specs.Profiles.{profile_named}
+use Rattle.ox_sat.specs.Profiles.{name_at, profile_named}
 use Rattle.ox_feed.specs.declared.command.Command.TheVariants.{Connect}
-use Rattle.ox_model.specs.Machine.{Machine, begun, obeyed}
-use Rattle.ox_model.specs.Sound.{Sound}
-use Rattle.ox_model.specs.Stack.{Stack, stack_of, obeyed_on}
-use Rattle.ox_model.specs.Stands.{name_at, begun_at, block_in, accepts, or_at, replayed, judged, in_file, cut_at, stack_in, stands}
+use Rattle.ox_model.specs.Machine.{Machine, blocks_after, empty_machine, stack_of, with_blocks}
+use Rattle.ox_model.specs.Sound.{IsSound}
+use Rattle.ox_model.specs.Stack.{Stack, stack_after}
+use Rattle.ox_model.specs.Stands.{empty_stack_at, block_in, stack_with_block, or_place, stack_after_records, stack_in_file, in_file, place_of_cut, stack_in, stands}
 use Rattle.ox_rules.specs.declared.refusal.Refusal.{Refusal}
 use Rattle.ox_model.proofs.Soundness.{sound_chain}
-use Rattle.ox_model.proofs.Turning.{on_stack, obeys_alike}
+use Rattle.ox_model.proofs.AnswersOfStacks.{on_stack, obeys_alike}
 
 -- ---- one record more
 
 abbrev one_more : Stack → Record → Result Stack ℕ
-one_more stack one = or_at one.place (accepts stack (block_in one.payload))
+one_more stack one = or_place one.place (stack_with_block stack (block_in one.payload))
 
 then_one : (r : Result Stack ℕ) (records : List Record) (one : Record)
-    → ((next : Stack) → r ≡ Ok next → replayed next (records ++ one ∷ []) ≡ (replayed next records >>= λ last. one_more last one))
-    → (r >>= λ next. replayed next (records ++ one ∷ [])) ≡ ((r >>= λ next. replayed next records) >>= λ last. one_more last one)
+    → ((next : Stack) → r ≡ Ok next → stack_after_records next (records ++ one ∷ []) ≡ (stack_after_records next records >>= λ last. one_more last one))
+    → (r >>= λ next. stack_after_records next (records ++ one ∷ [])) ≡ ((r >>= λ next. stack_after_records next records) >>= λ last. one_more last one)
 then_one (Ok next) records one more = more next refl
 then_one (Err at) records one more = refl
 
-only_one : (r : Result Stack ℕ) → (r >>= λ next. replayed next []) ≡ r
-unfolding replayed
+only_one : (r : Result Stack ℕ) → (r >>= λ next. stack_after_records next []) ≡ r
+unfolding stack_after_records
 only_one (Ok next) = refl
 only_one (Err at) = refl
 
-pub replayed_more : (stack : Stack) (records : List Record) (one : Record) → replayed stack (records ++ one ∷ []) ≡ (replayed stack records >>= λ last. one_more last one)
-unfolding replayed
+pub replayed_more : (stack : Stack) (records : List Record) (one : Record) → stack_after_records stack (records ++ one ∷ []) ≡ (stack_after_records stack records >>= λ last. one_more last one)
+unfolding stack_after_records
 replayed_more stack [] one = only_one (one_more stack one)
 replayed_more stack (first ∷ records) one = then_one (one_more stack first) records one (λ next is. replayed_more next records one)
 
@@ -44,14 +44,14 @@ in_file_ok file (Ok y) x is = cc is
 in_file_ok file (Err at) x is = absurd (cc is)
 
 judged_more : (head : Head) (body : List ℕ) (records : List Record) (one : Record) (stack new : Stack)
-    → judged head body records ≡ Ok stack → one_more stack one ≡ Ok new → judged head body (records ++ one ∷ []) ≡ Ok new
+    → stack_in_file head body records ≡ Ok stack → one_more stack one ≡ Ok new → stack_in_file head body (records ++ one ∷ []) ≡ Ok new
 judged_more head [] records one stack new is next =
-    replayed_more (begun_at head) records one ∙ ap (λ (r : Result Stack ℕ). r >>= λ last. one_more last one) is ∙ next
+    replayed_more (empty_stack_at head) records one ∙ ap (λ (r : Result Stack ℕ). r >>= λ last. one_more last one) is ∙ next
 judged_more head (b ∷ body) records one stack new is next = absurd (cc is)
 
-next_of : (stack : Stack) (place : ℕ) (bytes : List ℕ) (new : Stack) → obeyed_on stack (Connect bytes) ≡ Ok new
+next_of : (stack : Stack) (place : ℕ) (bytes : List ℕ) (new : Stack) → stack_after stack (Connect bytes) ≡ Ok new
     → one_more stack (record { place = place; payload = 1 ∷ bytes }) ≡ Ok new
-next_of stack place bytes new is = ap (λ (r : Result Stack Refusal). or_at place (result_ok r)) is
+next_of stack place bytes new is = ap (λ (r : Result Stack Refusal). or_place place (result_ok r)) is
 
 -- files in which a test fails stand for no stack
 abbrev err_at : ℕ → Result Stack ℕ
@@ -61,17 +61,17 @@ no_cut : (file : Which) (at : ℕ) (r : Result Stack ℕ) (stack : Stack) → in
 no_cut file at (Ok s) stack is = cc is
 no_cut file at (Err a) stack is = cc is
 
-no_stack : (file : Which) (at : ℕ) (before : Option IntactPart) (stack : Stack) → in_file file (cut_at at before) ≡ Ok stack → ⊥
+no_stack : (file : Which) (at : ℕ) (before : Option IntactPart) (stack : Stack) → in_file file (place_of_cut at before) ≡ Ok stack → ⊥
 no_stack file at None stack is = cc is
-no_stack file at (Some before) stack is = no_cut file at (judged before.head before.body before.records) stack is
+no_stack file at (Some before) stack is = no_cut file at (stack_in_file before.head before.body before.records) stack is
 
 -- the record of a block that is accepted
-pub stands_more : (found : Result Found Fault) (bytes : List ℕ) (stack new : Stack) → stack_in found ≡ Ok stack → obeyed_on stack (Connect bytes) ≡ Ok new
+pub stands_more : (found : Result Found Fault) (bytes : List ℕ) (stack new : Stack) → stack_in found ≡ Ok stack → stack_after stack (Connect bytes) ≡ Ok new
     → stack_in (with_payload (1 ∷ bytes) found) ≡ Ok new
 stands_more (Ok found) bytes stack new is next =
     ap (in_file found.file)
     (judged_more found.head found.body found.records (record { place = found.gate; payload = 1 ∷ bytes }) stack new
-    (in_file_ok found.file (judged found.head found.body found.records) stack is) (next_of stack found.gate bytes new next))
+    (in_file_ok found.file (stack_in_file found.head found.body found.records) stack is) (next_of stack found.gate bytes new next))
 stands_more (Err fault) bytes stack new is next = absurd (no_stack fault.file fault.at fault.before stack is)
 
 -- ---- whose chain it is
@@ -83,39 +83,40 @@ machine_of : (r : Result Machine Refusal) (stack : Stack) → on_stack r ≡ Ok 
 machine_of (Ok machine) stack is = (machine, cc is)
 machine_of (Err refusal) stack is = absurd (cc is)
 
-taken : (place : ℕ) (r : Result Stack Refusal) (stack : Stack) → or_at place (result_ok r) ≡ Ok stack → r ≡ Ok stack
+taken : (place : ℕ) (r : Result Stack Refusal) (stack : Stack) → or_place place (result_ok r) ≡ Ok stack → r ≡ Ok stack
 taken place (Ok s) stack is = cc is
 taken place (Err refusal) stack is = absurd (cc is)
 
-chain_more : (machine : Machine) (place : ℕ) (block : Option (List ℕ)) (stack : Stack) → or_at place (accepts (stack_of machine) block) ≡ Ok stack → IsOfChain stack
+chain_more : (machine : Machine) (place : ℕ) (block : Option (List ℕ)) (stack : Stack) → or_place place (stack_with_block (stack_of machine) block) ≡ Ok stack → IsOfChain stack
 chain_more machine place (Some bytes) stack is =
-    machine_of (obeyed machine (Connect bytes)) stack (obeys_alike machine (Connect bytes) ∙ taken place (obeyed_on (stack_of machine) (Connect bytes)) stack is)
+    machine_of (with_blocks machine (blocks_after machine.blocks (Some (Connect bytes))) (stack_after (stack_of machine) (Connect bytes))) stack
+    (obeys_alike machine (Some (Connect bytes)) ∙ taken place (stack_after (stack_of machine) (Connect bytes)) stack is)
 chain_more machine place None stack is = absurd (cc is)
 
 chain_behind : (r : Result Stack ℕ) (records : List Record) (stack : Stack) → ((next : Stack) → r ≡ Ok next → IsOfChain next)
-    → ((next : Stack) → IsOfChain next → replayed next records ≡ Ok stack → IsOfChain stack) → (r >>= λ next. replayed next records) ≡ Ok stack → IsOfChain stack
+    → ((next : Stack) → IsOfChain next → stack_after_records next records ≡ Ok stack → IsOfChain stack) → (r >>= λ next. stack_after_records next records) ≡ Ok stack → IsOfChain stack
 chain_behind (Ok next) records stack here more is = more next (here next refl) is
 chain_behind (Err at) records stack here more is = absurd (cc is)
 
-chain_replayed : (first : Stack) (records : List Record) (stack : Stack) → IsOfChain first → replayed first records ≡ Ok stack → IsOfChain stack
-unfolding replayed
+chain_replayed : (first : Stack) (records : List Record) (stack : Stack) → IsOfChain first → stack_after_records first records ≡ Ok stack → IsOfChain stack
+unfolding stack_after_records
 chain_replayed first [] stack of is = (of.0, of.1 ∙ cc is)
 chain_replayed first (one ∷ records) stack of is =
     chain_behind (one_more first one) records stack
-    (λ next is. chain_more of.0 one.place (block_in one.payload) next (ap (λ (s : Stack). or_at one.place (accepts s (block_in one.payload))) of.1 ∙ is))
+    (λ next is. chain_more of.0 one.place (block_in one.payload) next (ap (λ (s : Stack). or_place one.place (stack_with_block s (block_in one.payload))) of.1 ∙ is))
     (λ next of_next is. chain_replayed next records stack of_next is) is
 
-chain_judged : (head : Head) (body : List ℕ) (records : List Record) (stack : Stack) → judged head body records ≡ Ok stack → IsOfChain stack
-chain_judged head [] records stack is = chain_replayed (begun_at head) records stack (begun (profile_named (name_at head.profile)) head.depth, refl) is
+chain_judged : (head : Head) (body : List ℕ) (records : List Record) (stack : Stack) → stack_in_file head body records ≡ Ok stack → IsOfChain stack
+chain_judged head [] records stack is = chain_replayed (empty_stack_at head) records stack (empty_machine (profile_named (name_at head.profile)) head.depth, refl) is
 chain_judged head (b ∷ body) records stack is = absurd (cc is)
 
 chain_in : (found : Result Found Fault) (stack : Stack) → stack_in found ≡ Ok stack → IsOfChain stack
-chain_in (Ok found) stack is = chain_judged found.head found.body found.records stack (in_file_ok found.file (judged found.head found.body found.records) stack is)
+chain_in (Ok found) stack is = chain_judged found.head found.body found.records stack (in_file_ok found.file (stack_in_file found.head found.body found.records) stack is)
 chain_in (Err fault) stack is = absurd (no_stack fault.file fault.at fault.before stack is)
 
 -- files that stand for a stack stand for that of a chain, which is sound
 pub stands_for_chain : (files : Files) (stack : Stack) → stands files ≡ Ok stack → IsOfChain stack
 stands_for_chain files stack is = chain_in (reading 1 files) stack is
 
-pub chain_sound : (stack : Stack) → IsOfChain stack → Sound stack.profile stack.index
-chain_sound stack of = subst (λ (s : Stack). Sound s.profile s.index) of.1 (sound_chain of.0.profile of.0.blocks)
+pub chain_sound : (stack : Stack) → IsOfChain stack → IsSound stack.profile stack.index
+chain_sound stack of = subst (λ (s : Stack). IsSound s.profile s.index) of.1 (sound_chain of.0.profile of.0.blocks)

@@ -6,10 +6,10 @@ use Rattle.ox_feed.specs.Command.{command_of}
 use Rattle.ox_feed.specs.Feed.{FeedLine, text, too_long}
 use Rattle.ox_feed.specs.declared.command.Command.{Command}
 use Rattle.ox_feed.specs.declared.command.Command.TheVariants.{Connect, Disconnect}
-use Rattle.ox_model.specs.Chain.{after_block, kept}
+use Rattle.ox_model.specs.Chain.{after_block, kept_index}
 use Rattle.ox_model.specs.Index.{Index, no_blocks}
-use Rattle.ox_model.specs.Machine.{Machine, indexed, with_block, obeyed, obeyed_if, turn}
-use Rattle.ox_model.specs.Stack.{Stack, stack_of, with_index, obeyed_on, obeyed_on_if, turn_on}
+use Rattle.ox_model.specs.Machine.{Machine, blocks_after, chain_index, stack_of, turn, with_blocks}
+use Rattle.ox_model.specs.Stack.{Stack, stack_after_any, turn_on, with_index}
 use Rattle.ox_model.specs.Replies.{after_turn, reply_by, after_by, replies_by, after, replies, index_on, after_on, replies_on}
 use Rattle.ox_model.specs.Step.{step}
 use Rattle.ox_rules.specs.Text.{block_line, ok_text, refusal_line}
@@ -20,36 +20,36 @@ abbrev pub on_stack : Result Machine Refusal → Result Stack Refusal
 on_stack (Ok machine) = Ok (stack_of machine)
 on_stack (Err refusal) = Err refusal
 
-connects : (m : Machine) (bytes : List ℕ) (r : Result Index Refusal) → step m.profile (indexed m) bytes ≡ r → on_stack (with_block m bytes r) ≡ with_index (stack_of m) r
+-- the machine's chain with one block more has the index that its stack gets
+connects : (m : Machine) (bytes : List ℕ) (r : Result Index Refusal) → step m.profile (chain_index m) bytes ≡ r
+    → on_stack (with_blocks m (m.blocks ++ bytes ∷ []) (with_index (stack_of m) r)) ≡ with_index (stack_of m) r
 connects m bytes (Ok index) is =
     ap (λ (i : Index). Ok (record { profile = m.profile; depth = m.depth; index = i }))
-    (fold_push (after_block m.profile) no_blocks m.blocks bytes ∙ ap (kept (indexed m)) is)
+    (fold_push (after_block m.profile) no_blocks m.blocks bytes ∙ ap (kept_index (chain_index m)) is)
 connects m bytes (Err refusal) is = refl
 
-pub obeys_alike : (m : Machine) (command : Command) → on_stack (obeyed m command) ≡ obeyed_on (stack_of m) command
-obeys_alike m (Connect bytes) = connects m bytes (step m.profile (indexed m) bytes) refl
-obeys_alike m Disconnect = refl
-
-obeys_if_alike : (m : Machine) (command : Option Command) → on_stack (obeyed_if m command) ≡ obeyed_on_if (stack_of m) command
-obeys_if_alike m (Some command) = obeys_alike m command
-obeys_if_alike m None = refl
+pub obeys_alike : (m : Machine) (command : Option Command)
+    → on_stack (with_blocks m (blocks_after m.blocks command) (stack_after_any (stack_of m) command)) ≡ stack_after_any (stack_of m) command
+obeys_alike m (Some (Connect bytes)) = connects m bytes (step m.profile (chain_index m) bytes) refl
+obeys_alike m (Some Disconnect) = refl
+obeys_alike m None = refl
 
 turns_alike : (m : Machine) (line : FeedLine) → on_stack (turn m line) ≡ turn_on (stack_of m) line
-turns_alike m (text line) = obeys_if_alike m (command_of line)
+turns_alike m (text line) = obeys_alike m (command_of line)
 turns_alike m too_long = refl
 
-stack_after : (m : Machine) (r : Result Machine Refusal) → stack_of (after_turn m r) ≡ after_turn (stack_of m) (on_stack r)
-stack_after m (Ok new) = refl
-stack_after m (Err refusal) = refl
+stack_of-after_turn : (m : Machine) (r : Result Machine Refusal) → stack_of (after_turn m r) ≡ after_turn (stack_of m) (on_stack r)
+stack_of-after_turn m (Ok new) = refl
+stack_of-after_turn m (Err refusal) = refl
 
 one_after : (m : Machine) (line : FeedLine) → stack_of (after_turn m (turn m line)) ≡ after_turn (stack_of m) (turn_on (stack_of m) line)
-one_after m line = stack_after m (turn m line) ∙ ap (after_turn (stack_of m)) (turns_alike m line)
+one_after m line = stack_of-after_turn m (turn m line) ∙ ap (after_turn (stack_of m)) (turns_alike m line)
 
-says_alike : (r : Result Machine Refusal) → reply_by indexed r ≡ reply_by index_on (on_stack r)
+says_alike : (r : Result Machine Refusal) → reply_by chain_index r ≡ reply_by index_on (on_stack r)
 says_alike (Ok new) = refl
 says_alike (Err refusal) = refl
 
-one_reply : (m : Machine) (line : FeedLine) → reply_by indexed (turn m line) ≡ reply_by index_on (turn_on (stack_of m) line)
+one_reply : (m : Machine) (line : FeedLine) → reply_by chain_index (turn m line) ≡ reply_by index_on (turn_on (stack_of m) line)
 one_reply m line = says_alike (turn m line) ∙ ap (reply_by index_on) (turns_alike m line)
 
 cons_same : {X : Type 0} (a b : X) (xs ys : List X) → a ≡ b → xs ≡ ys → a ∷ xs ≡ b ∷ ys
