@@ -5,7 +5,7 @@ use Rattle.std.proofs.Math.Seq.{drop-append_seam}
 use Rattle.std.proofs.Math.Nat.{pow-suc}
 use Rattle.std.proofs.lemmas.Bool.{cases_Bool, leb-true, ltb-true}
 use Rattle.std.proofs.lemmas.List.{length-append, length-take-le, take-append-drop}
-use Rattle.ox_varint.specs.Varint.{IsVarint, behind, varint_at, varint_within}
+use Rattle.ox_varint.specs.Varint.{IsVarint, with_byte, varint_at, varint_within}
 use Rattle.ox_varint.specs.declared.VarintFault.TheVariants.{Overflow}
 use Rattle.ox_varint.specs.declared.VarintFault.{VarintFault}
 use Rattle.ox_varint.proofs.Laws.{Found, IsBytes, is_found, is_read}
@@ -62,10 +62,10 @@ done-number : (m j n k : ℕ) → ◌≡◌ {A = Result (ℕ × ℕ) VarintFault
 done-number m j n k is = let p : ◌≡◌ {A = ℕ × ℕ} (m, j) (n, k) = cc in ap (λ (x : ℕ × ℕ). x.0) p
 
 -- a number that is read has 128 bits: 18 groups of seven and the two of the last byte
-behind_fits : (more b n len : ℕ) (r : Result (ℕ × ℕ) VarintFault) → b < 256
-    → ((m j : ℕ) → r ≡ Ok (m, j) → m < 4 * 128 ^ more) → behind b r ≡ Ok (n, len) → n < 4 * 128 ^ suc more
-behind_fits more b n len (Err fault) byte rest is = absurd cc
-behind_fits more b n len (Ok x) byte rest is =
+with_byte_fits : (more b n len : ℕ) (r : Result (ℕ × ℕ) VarintFault) → b < 256
+    → ((m j : ℕ) → r ≡ Ok (m, j) → m < 4 * 128 ^ more) → with_byte b r ≡ Ok (n, len) → n < 4 * 128 ^ suc more
+with_byte_fits more b n len (Err fault) byte rest is = absurd cc
+with_byte_fits more b n len (Ok x) byte rest is =
     let high : x.0 < 4 * 128 ^ more = rest x.0 x.1 refl in
     let number : b - 128 + 128 * x.0 ≡ n = done-number _ _ n len is in
     let pow : 128 ^ suc more ≡ 128 ^ more * 128 = pow-suc 128 more in
@@ -86,14 +86,14 @@ within_fits zero (b ∷ bytes) n len fit is =
     ]
 within_fits (suc more) (b ∷ bytes) n len fit is =
     elim (cases_Bool (ltb b 128)) [
-      | inl low ↦ let e : Ok (b, 1) ≡ Ok (n, len) = sym (ap (λ t. cond t (Ok (b, 1)) (behind b (varint_within more bytes))) low) ∙ is in
+      | inl low ↦ let e : Ok (b, 1) ≡ Ok (n, len) = sym (ap (λ t. cond t (Ok (b, 1)) (with_byte b (varint_within more bytes))) low) ∙ is in
           let number : b ≡ n = done-number b 1 n len e in
           let pow : 128 ^ suc more ≡ 128 ^ more * 128 = pow-suc 128 more in
           let some : 0 < 128 ^ more = some_pow more in
           omega (arith, ltb-true b 128 low)
-      | inr high ↦ let e : behind b (varint_within more bytes) ≡ Ok (n, len)
-          = sym (ap (λ t. cond t (Ok (b, 1)) (behind b (varint_within more bytes))) high) ∙ is in
-          behind_fits more b n len (varint_within more bytes) (fit 0) (λ m j h. within_fits more bytes m j (λ i. fit (suc i)) h) e
+      | inr high ↦ let e : with_byte b (varint_within more bytes) ≡ Ok (n, len)
+          = sym (ap (λ t. cond t (Ok (b, 1)) (with_byte b (varint_within more bytes))) high) ∙ is in
+          with_byte_fits more b n len (varint_within more bytes) (fit 0) (λ m j h. within_fits more bytes m j (λ i. fit (suc i)) h) e
     ]
 
 small_number : (bytes : List ℕ) (n len : ℕ) → IsBytes bytes → varint_at bytes ≡ Ok (n, len) → n < 2 ^ 128

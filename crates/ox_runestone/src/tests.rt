@@ -1,5 +1,4 @@
 use super::*;
-use ox_bytes::Bytes;
 use std::alloc::Global;
 use std::process::Abort;
 
@@ -163,6 +162,9 @@ fn scripts_that_carry_no_runestone(rt: HostRuntime) {
     assert!(rt; !is_stone(b"\x6a\x5e"));
     assert!(rt; !is_stone(b"\x5d\x6a"));
     assert!(rt; !is_stone(b"\x6a\x01\x5d"));
+    assert!(rt; !is_stone(b"\x6a\x01\x0d"));
+    assert!(rt; !is_stone(b"\x6a"));
+    assert!(rt; !is_stone(b""));
 }
 
 /// The example of the Runes specification: edicts sorted by id, each told behind the one before.
@@ -257,10 +259,40 @@ fn each_cause_in_a_script(rt: HostRuntime) {
     assert!(rt; keeps(&read_payload(&rt, alloc, payload), None, Some(7)));
 }
 
-/// The script of a runestone, enciphered for one output.
-fn write(rt: &impl Abort, alloc: Global, stone: &Runestone) -> Bytes {
-    assert!(rt; ids_rise(stone.edicts.as_slice()));
-    encipher(alloc, stone, 1).expect(rt, "memory")
+/// Whether the script deciphers as a runestone that is enciphered as the same script.
+fn is_written_again(rt: &impl Abort, alloc: Global, script: &[u8], outputs: u32) -> bool {
+    assert!(rt; is_stone(script));
+    match decipher(alloc, script, outputs).expect(rt, "memory") {
+        Artifact::Stone(stone) => {
+            encipher(alloc, &stone, outputs)
+                .expect(rt, "memory")
+                .as_slice()
+                == script
+        }
+        Artifact::Cenotaph { .. } => false,
+    }
+}
+
+#[test]
+fn what_is_enciphered_deciphers_as_the_same(rt: HostRuntime) {
+    let alloc = rt.alloc();
+    // An edict, the flag of a turbo, and all terms.
+    let scripts: [&[u8]; 3] = [
+        b"\x6a\x5d\x05\x00\x03\x01\x00\x04",
+        b"\x6a\x5d\x02\x02\x05",
+        b"\x6a\x5d\x0e\x02\x03\x08\x0a\x0a\x05\x0c\x01\x0e\x02\x10\x03\x12\x04",
+    ];
+    for script in &scripts {
+        assert!(rt; is_written_again(&rt, alloc, script, 4));
+    }
+}
+
+#[test]
+fn ids_that_rise(rt: HostRuntime) {
+    let low = edict(3, 1, 0, 4);
+    let high = edict(3, 2, 0, 4);
+    assert!(rt; ids_rise(&[low, low, high]));
+    assert!(rt; !ids_rise(&[high, low]));
 }
 
 /// A script of 200 edicts of an amount of 1 to output 0, each of the next block's first rune: 801
@@ -280,29 +312,29 @@ fn long_script(rt: &impl Abort, alloc: Global) -> Vec<u8> {
     script
 }
 
-/// Whether the edicts are those of the long script.
-fn are_long(edicts: &[Edict]) -> bool {
-    let mut block = 0;
-    for one in edicts {
-        block += 1;
-        if *one != edict(block, 0, 1, 0) {
-            return false;
-        }
+/// The edicts of the long script.
+fn long_edicts(rt: &impl Abort, alloc: Global) -> Vec<Edict> {
+    let mut edicts = Vec::new(alloc);
+    for block in 1..201 {
+        edicts.push(edict(block, 0, 1, 0)).expect(rt, "memory");
     }
-    block == 200
+    edicts
 }
 
 #[test]
-fn a_payload_of_two_pushes_both_ways(rt: HostRuntime) {
+fn a_payload_of_two_pushes_is_read(rt: HostRuntime) {
     let alloc = rt.alloc();
     let script = long_script(&rt, alloc);
-    match read(&rt, alloc, script.as_slice(), 1) {
-        Artifact::Stone(stone) => {
-            assert!(rt; are_long(stone.edicts.as_slice()));
-            assert!(rt; write(&rt, alloc, &stone).as_slice() == script.as_slice());
-        }
-        Artifact::Cenotaph { .. } => assert!(rt; false, "a cenotaph"),
-    }
+    let edicts = long_edicts(&rt, alloc);
+    let stone = read(&rt, alloc, script.as_slice(), 1);
+    assert!(rt; deals(&stone, edicts.as_slice(), None));
+}
+
+#[test]
+fn a_payload_of_two_pushes_is_written(rt: HostRuntime) {
+    let alloc = rt.alloc();
+    let script = long_script(&rt, alloc);
+    assert!(rt; is_written_again(&rt, alloc, script.as_slice(), 1));
 }
 
 /// The fields of UNCOMMON•GOODS, mainnet's first rune, as a script says them.
@@ -330,6 +362,6 @@ fn the_first_rune_of_mainnet(rt: HostRuntime) {
         pointer: None,
         edicts: Edicts::empty(alloc),
     };
-    let script = write(&rt, alloc, &stone);
+    let script = encipher(alloc, &stone, 1).expect(&rt, "memory");
     assert!(rt; etches(&read(&rt, alloc, script.as_slice(), 1), etching));
 }
