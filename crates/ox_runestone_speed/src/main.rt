@@ -1,4 +1,5 @@
-//! Deciphers the script on standard input, as often as the first argument says, to be timed: see bench/decipher_runestones.py.
+//! Deciphers the script on standard input, as often as the first argument says, to be timed: see
+//! bench/decipher_runestones.py.
 #![tactic(auto)]
 
 use ox_runestone::{Artifact, decipher, is_stone};
@@ -6,8 +7,8 @@ use std::alloc::Global;
 use std::env;
 use std::io::Read;
 
-/// How many edicts the script's runestone has. `None` where it is malformed, or there is no runestone or no
-/// memory.
+/// How many edicts the script's runestone has. `None` where it is malformed, or there is no runestone
+/// or no memory.
 fn edicts_in(alloc: Global, script: &[u8]) -> Option<usize> {
     if !is_stone(script) {
         return None;
