@@ -94,7 +94,7 @@ fn carry_command<S: Site>(
         → IfOk result (λ carried. stands (S.seen site.new) ≡ Ok carried.store.stack) }
     ensures any_moment { IsTrue (S.told site.old) → stands (S.seen site.old) ≡ Ok store.stack
         → LeavesOnly S.Site site.old site.new (λ r.
-        StandsForEither store.stack (after_turn store.stack (obeyed_on store.stack command.now))
+        StandsForEither store.stack (after_turn store.stack (stack_after store.stack command.now))
         r.files) }
     ensures out_of_memory { IsErrOf result Stop.Memory → S.seen site.new ≡ S.seen site.old }
     ensures log_stays { LeavesOnly S.Site site.old site.new (λ r. S.log site.old ≡ Some r.log) }
