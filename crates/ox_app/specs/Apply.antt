@@ -1,21 +1,16 @@
--- A run over a feed and a store.
-use Rattle.std.specs.Prelude.{◌≡◌, ◌⊎◌, ℕ, Bool, IsTrue, List, [], ◌++◌, codes, decimal, Option, Some, None, Result, Ok, Err}
+-- A run over a feed and a store, line by line.
+use Rattle.std.specs.Prelude.{◌≡◌, ◌⊎◌, ℕ, List, codes, Option, Some, None, Result, Ok}
 use Rattle.ox_outside.specs.Event.{Event, heard_bytes}
 use Rattle.ox_outside.specs.Files.{Files}
-use Rattle.ox_outside.specs.declared.site.Which.{Which}
-use Rattle.ox_outside.specs.declared.site.Which.TheVariants.{A, B}
 use Rattle.ox_feed.specs.Feed.{Feed, FeedLine, text, too_long, GivesLine, Hears, IsDone, Listens}
 use Rattle.ox_feed.specs.declared.lines.Line.{Line}
 use Rattle.ox_feed.specs.declared.lines.Line.TheVariants.{Text, Long, End}
 use Rattle.ox_model.specs.Replies.{after_turn}
 use Rattle.ox_model.specs.Stack.{Stack, turn_on}
-use Rattle.ox_model.specs.Stands.{Misfit, stands}
+use Rattle.ox_model.specs.Stands.{stands}
 use Rattle.ox_rules.specs.Text.{block_line}
 use Rattle.ox_app.specs.Fold.{LineDone, NextLine, Replies}
-use Rattle.ox_app.specs.Run.{Says}
 use Rattle.ox_app.specs.declared.carry.Carried.{Carried as CarriedOut}
-use Rattle.ox_store.specs.declared.fault.OpenFault.{OpenFault}
-use Rattle.ox_store.specs.declared.fault.OpenFault.TheVariants.{NotStore, DiskFault, Memory}
 use Rattle.ox_app.specs.declared.stop.Stop.{Stop}
 
 -- the line of an accepted command, by the newest block's height and hash then
@@ -58,38 +53,3 @@ pub record HeardWhole (lines : Feed) (stack : Stack) (lines' : Feed) (files : Fi
 -- heard whole, for the stack after it
 abbrev pub DuringLine : Feed → Stack → Feed → Files → List Event → Type 0
 DuringLine lines stack lines' files events = (Listens lines events × (stands files ≡ Ok stack)) ⊎ HeardWhole lines stack lines' files events
-
--- the letter of a file
-abbrev pub letter_of : Which → List ℕ
-letter_of A = codes "a"
-letter_of B = codes "b"
-
--- the line where files are no store: the file and the place of the first test that fails
-unfoldable pub not_store_line : Misfit → List ℕ
-not_store_line misfit = codes "not a store " ++ letter_of misfit.file ++ codes " " ++ decimal misfit.at ++ codes "\n"
-
--- the statuses where files aren't opened
-abbrev pub IsUnopened : ℕ → Type 0
-IsUnopened status = (status ≡ 3) ⊎ (status ≡ 4) ⊎ (status ≡ 8)
-
--- The statuses of a run over a feed and a store.
-abbrev pub IsApplyStatus : ℕ → Type 0
-IsApplyStatus status = (status ≡ 0) ⊎ (status ≡ 3) ⊎ (status ≡ 4) ⊎ (status ≡ 5) ⊎ (status ≡ 6) ⊎ (status ≡ 8) ⊎ (status ≡ 9)
-
--- status 3: the line of the misfit that the files have is shown, where files are told; or a front of it where this count of failures rose
-pub record SaysNotStore (told : Bool) (files : Files) (before after : ℕ) (old new : Option (List Event)) : Type 0 where
-  pub misfit : Misfit
-  pub is : IsTrue told → stands files ≡ Err misfit
-  pub says : Says (not_store_line misfit) before after old new
-
--- how files that weren't opened are answered: only where they are no store is a line shown
-abbrev pub UnopenedAs : OpenFault → ℕ → ℕ → ℕ → Option (List Event) → Option (List Event) → Type 0
-UnopenedAs (NotStore file at) status before after old new = ((status ≡ 3) × Says (not_store_line (record { file = file; at = at })) before after old new) ⊎ ((status ≡ 8) × (new ≡ old))
-UnopenedAs DiskFault status before after old new = (status ≡ 4) × (new ≡ old)
-UnopenedAs Memory status before after old new = (status ≡ 8) × (new ≡ old)
-
--- what is logged then
-abbrev pub LogsUnopened : OpenFault → List Event → Type 0
-LogsUnopened (NotStore file at) events = Unit {0}
-LogsUnopened DiskFault events = events ≡ []
-LogsUnopened Memory events = events ≡ []

@@ -7,16 +7,16 @@ use Rattle.ox_feed.specs.declared.lines.Line.{Line}
 use Rattle.ox_feed.specs.declared.lines.Line.TheVariants.{Text, Long, End}
 use Rattle.ox_feed.specs.declared.lines.FeedFault.{FeedFault}
 use Rattle.ox_feed.specs.declared.lines.FeedFault.TheVariants.{HearFault as FeedHearFault, TooMuch as FeedTooMuch, Memory as FeedMemory}
-use Rattle.ox_model.specs.Replies.{after_turn, after_on, index_on, replies_on, reply_by, ok_line}
+use Rattle.ox_model.specs.Replies.{after_turn, after_on, index_on, replies_on, reply_by}
 use Rattle.ox_model.specs.Stack.{Stack, turn_on}
+use Rattle.ox_model.specs.Replies.{ok_line}
 use Rattle.ox_rules.specs.Text.{refusal_line}
 use Rattle.ox_store.specs.Store.{stack_with}
 use Rattle.ox_index.specs.declared.live.Live.{Live}
 use Rattle.ox_index.specs.declared.fault.ConnectFault.{ConnectFault}
 use Rattle.ox_index.specs.declared.fault.ConnectFault.TheVariants.{Refused, Memory as NoMemory}
 use Rattle.ox_app.specs.declared.stop.Stop.{Stop}
-use Rattle.ox_app.specs.declared.stop.Stop.TheVariants.{DiskFault, HearFault, ShowFault, Memory, TooMuch}
-use Rattle.ox_app.specs.Run.{OnlyOwn}
+use Rattle.ox_app.specs.declared.stop.Stop.TheVariants.{HearFault, Memory, TooMuch}
 
 -- how many blocks a run without files may keep
 abbrev pub fold_depth : ℕ
@@ -69,37 +69,6 @@ pub record LineDone {C : Type 0} (comes : C → List ℕ → Type 0) (lines : Fe
 -- one line is heard and answered
 abbrev pub Answered : Feed → Stack → Result (Option (List ℕ)) Stop → Feed → Stack → List Event → Type 0
 Answered lines stack result lines' stack' = LineDone (λ answer heard. Comes answer lines stack heard lines' stack') lines result lines'
-
--- In a run from a stack: the lines that are done lead to this one, all their answers are shown, and these are still to come.
-pub record Carried (first : Stack) (lines : Feed) (stack : Stack) (events : List Event) : Type 0 where
-  pub only : OnlyOwn events
-  pub count : lines.heard ≡ length (heard_bytes 0 events)
-  pub ended : lines.ended ≡ has_ended 0 events
-  pub done : List FeedLine
-  pub cut : (more : List ℕ) (ended : Bool) → MayCome lines more ended → lines_of (heard_bytes 0 events ++ more) ended ≡ done ++ lines_from lines more ended
-  pub leads : stack ≡ after_on first done
-  pub said : shown_bytes 0 events ≡ concat (replies_on first done)
-
--- The same, with one line more that is done and whose answer is owed.
-pub record Owing (first : Stack) (answer : List ℕ) (lines : Feed) (stack : Stack) (events : List Event) : Type 0 where
-  pub only : OnlyOwn events
-  pub count : lines.heard ≡ length (heard_bytes 0 events)
-  pub ended : lines.ended ≡ has_ended 0 events
-  pub done : List FeedLine
-  pub line : FeedLine
-  pub cut : (more : List ℕ) (ended : Bool) → MayCome lines more ended → lines_of (heard_bytes 0 events ++ more) ended ≡ done ++ line ∷ lines_from lines more ended
-  pub leads : stack ≡ after_on first (done ++ line ∷ [])
-  pub says : answer ≡ reply_by index_on (turn_on (after_on first done) line)
-  pub said : shown_bytes 0 events ≡ concat (replies_on first done)
-
--- the status of a run over a feed
-abbrev pub status_of : Result (Unit {0}) Stop → ℕ
-status_of (Ok done) = 0
-status_of (Err DiskFault) = 4
-status_of (Err HearFault) = 5
-status_of (Err ShowFault) = 6
-status_of (Err Memory) = 8
-status_of (Err TooMuch) = 9
 
 -- why a run stops where its lines stop
 abbrev pub stop_of : FeedFault → Stop

@@ -1,24 +1,25 @@
 //! A run over a feed and a store.
 
 ghost use Rattle.std.specs.Prelude.{◌≡◌, ◌≢◌, ◌⊎◌, ◌+◌, ◌-◌, ◌<◌, ◌≤◌, ◌^◌, ℕ, Some, Ok, Err, IsTrue, IfOk, IfSome, IsErrOf};
-ghost use Rattle.ox_outside.specs.Counts.{Rose};
-ghost use Rattle.ox_outside.specs.Crash.{Calls, LeavesOnly, MayLeaveFiles, OnlyTalks};
 ghost use Rattle.ox_outside.specs.Log.{Grows};
-ghost use Rattle.ox_feed.specs.Feed.{IsTooMuch, feed_limit, left};
-ghost use Rattle.ox_gated.specs.Tail.{Holds};
+ghost use Rattle.ox_feed.specs.Feed.{IsTooMuch, feed_limit, bytes_left};
 ghost use Rattle.ox_model.specs.Replies.{after_on, replies_on};
 ghost use Rattle.ox_model.specs.Stack.{Stack};
 ghost use Rattle.ox_model.specs.Stands.{Misfit, stands};
-ghost use Rattle.ox_app.specs.Apply.{CarriedOn, DuringLine, IsApplyStatus, IsUnopened, SaysNotStore};
-ghost use Rattle.ox_model.specs.Survives.{Survives};
-ghost use Rattle.ox_app.specs.Crash.{Leaves};
-ghost use Rattle.ox_app.specs.Fold.{status_of};
-ghost use Rattle.ox_app.specs.Run.{RunsFeed};
+ghost use Rattle.ox_app.specs.Apply.{CarriedOn, DuringLine};
+ghost use Rattle.ox_app.specs.Headline.{AddsNoImage, Leaves, RunsFeed, StopsBefore, Survives};
+ghost use Rattle.ox_outside.specs.Runs.{Calls, LeavesOnly};
+ghost use Rattle.ox_gated.specs.Tail.{Holds};
+ghost use Rattle.ox_app.specs.Show.{DiskFails, HearFails, ShowFails};
+ghost use Rattle.ox_app.specs.Status.{IsApplyStatus, IsUnopened, status_of};
+ghost use Rattle.ox_app.specs.Unopened.{SaysNotStore};
+ghost use Rattle.ox_app.specs.declared.status.Status.TheVariants as ends;
 
 use crate::carry::{Carried, carry_out};
 use crate::show::show_all;
+use crate::status::Status;
 use crate::stop::{Stop, status};
-use crate::unopened::unopened;
+use crate::unopened::explain;
 use ox_bytes::Bytes;
 use ox_feed::Lines;
 use ox_outside::Site;
@@ -32,20 +33,26 @@ fn next_carried<S: Site>(
     store: Store,
     site: &mut S,
 ) -> Result<Option<Carried>, Stop>
-    requires holds { IsTrue (S.told site.old) → Holds S.seen S.may_leave store.tail site.old }
+    requires holds { IsTrue (S.told site.old) → Holds S.Site store.tail site.old }
     requires few { store.commands < 2 ^ 64 - 1 }
     ensures told { Grows (CarriedOn lines.old store.stack result lines.new) (S.log site.old) (S.log site.new) }
-    ensures during { IsTrue (S.told site.old) → stands (S.seen site.old) ≡ Ok store.stack → LeavesOnly S.clock S.left_since site.old site.new (λ r. Grows (DuringLine lines.old store.stack lines.new r.files) (S.log site.old) (Some r.log)) }
-    ensures holds { IsTrue (S.told site.old) → IfOk result (λ carried. IfSome carried (λ c. Holds S.seen S.may_leave c.store.tail site.new)) }
-    ensures stands { IsTrue (S.told site.old) → stands (S.seen site.old) ≡ Ok store.stack → IfOk result (λ carried. IfSome carried (λ c. stands (S.seen site.new) ≡ Ok c.store.stack)) }
+    ensures during { IsTrue (S.told site.old) → stands (S.seen site.old) ≡ Ok store.stack
+        → LeavesOnly S.Site site.old site.new (λ r.
+        Grows (DuringLine lines.old store.stack lines.new r.files) (S.log site.old) (Some r.log)) }
+    ensures holds { IsTrue (S.told site.old)
+        → IfOk result (λ carried. IfSome carried (λ c. Holds S.Site c.store.tail site.new)) }
+    ensures stands { IsTrue (S.told site.old) → stands (S.seen site.old) ≡ Ok store.stack
+        → IfOk result (λ carried. IfSome carried (λ c. stands (S.seen site.new) ≡ Ok c.store.stack)) }
+    ensures out_of_memory { IsTrue (S.told site.old) → stands (S.seen site.old) ≡ Ok store.stack
+        → IsErrOf result Stop.Memory → stands (S.seen site.new) ≡ Ok store.stack }
     ensures one_more { IfOk result (λ carried. IfSome carried (λ c. c.store.commands ≤ store.commands + 1)) }
-    ensures fewer { IfOk result (λ carried. IfSome carried (λ c. left lines.new < left lines.old)) }
+    ensures fewer { IfOk result (λ carried. IfSome carried (λ c. bytes_left lines.new < bytes_left lines.old)) }
     ensures count { lines.new.heard ≤ feed_limit }
     ensures too_much { IsErrOf result Stop.TooMuch → IsTooMuch lines.new }
-    ensures hear_fault { IsErrOf result Stop.HearFault → Rose ((S.counts site.old).hear 0) ((S.counts site.new).hear 0) }
-    ensures disk_fault { IsErrOf result Stop.DiskFault → Rose (S.counts site.old).disk (S.counts site.new).disk }
+    ensures hear_fault { IsErrOf result Stop.HearFault → HearFails S.Site site.old site.new }
+    ensures disk_fault { IsErrOf result Stop.DiskFault → DiskFails S.Site site.old site.new }
     ensures no_show_fault { IsErrOf result Stop.ShowFault → ⊥ }
-    ensures calls { Calls S.told S.counts S.clock S.left_since site.old site.new }
+    ensures calls { Calls S.Site site.old site.new }
 {
     let line = lines.next(site)?;
     carry_out(alloc, store, &line, site)
@@ -53,14 +60,21 @@ fn next_carried<S: Site>(
 
 // Reads the feed of channel 0 to its end; each line is carried out, and its answer shown.
 fn follow<S: Site>(alloc: Global, store: Store, site: &mut S) -> Result<(), Stop>
-    requires holds { IsTrue (S.told site.old) → Holds S.seen S.may_leave store.tail site.old }
+    requires holds { IsTrue (S.told site.old) → Holds S.Site store.tail site.old }
     requires fresh { store.commands ≡ 0 }
     ensures told { Grows (RunsFeed (replies_on store.stack) (status_of result)) (S.log site.old) (S.log site.new) }
-    ensures survives { IsTrue (S.told site.old) → stands (S.seen site.old) ≡ Ok store.stack → LeavesOnly S.clock S.left_since site.old site.new (λ r. Grows (λ events. Survives (replies_on store.stack) (after_on store.stack) events r.files) (S.log site.old) (Some r.log)) }
-    ensures hear_fault { IsErrOf result Stop.HearFault → Rose ((S.counts site.old).hear 0) ((S.counts site.new).hear 0) }
-    ensures show_fault { IsErrOf result Stop.ShowFault → Rose ((S.counts site.old).show 0) ((S.counts site.new).show 0) }
-    ensures disk_fault { IsErrOf result Stop.DiskFault → Rose (S.counts site.old).disk (S.counts site.new).disk }
-    ensures calls { Calls S.told S.counts S.clock S.left_since site.old site.new }
+    ensures survives { IsTrue (S.told site.old) → stands (S.seen site.old) ≡ Ok store.stack
+        → LeavesOnly S.Site site.old site.new (λ r.
+        Grows (λ events. Survives (replies_on store.stack) (after_on store.stack) events r.files)
+        (S.log site.old) (Some r.log)) }
+    ensures out_of_memory { IsTrue (S.told site.old) → stands (S.seen site.old) ≡ Ok store.stack
+        → IsErrOf result Stop.Memory
+        → Grows (StopsBefore (replies_on store.stack) (after_on store.stack) (S.seen site.new))
+        (S.log site.old) (S.log site.new) }
+    ensures hear_fault { IsErrOf result Stop.HearFault → HearFails S.Site site.old site.new }
+    ensures show_fault { IsErrOf result Stop.ShowFault → ShowFails S.Site site.old site.new }
+    ensures disk_fault { IsErrOf result Stop.DiskFault → DiskFails S.Site site.old site.new }
+    ensures calls { Calls S.Site site.old site.new }
 {
     let mut lines = Lines::new(alloc);
     let mut store = store;
@@ -71,28 +85,40 @@ fn follow<S: Site>(alloc: Global, store: Store, site: &mut S) -> Result<(), Stop
     Ok(())
 }
 
-/// Opens the store and carries out the commands of channel 0: each line is answered by one, once its record is on the
-/// disk.
-pub fn apply<S: Site>(alloc: Global, site: &mut S) -> u8
+/// Opens the store and carries out the commands of channel 0: each line is answered by one, once its
+/// record is on the disk.
+pub fn apply<S: Site>(alloc: Global, site: &mut S) -> Status
     // On files that stand for a stack.
-    ensures feeds { IsTrue (S.told site.old) → (stack : Stack) → stands (S.seen site.old) ≡ Ok stack → (result ≢ 3) × Grows (RunsFeed (replies_on stack) result) (S.log site.old) (S.log site.new) }
-    ensures survives { IsTrue (S.told site.old) → (stack : Stack) → stands (S.seen site.old) ≡ Ok stack → LeavesOnly S.clock S.left_since site.old site.new (λ r. Grows (Leaves S.may_leave site.old (replies_on stack) (after_on stack) r.files) (S.log site.old) (Some r.log)) }
+    ensures feeds { IsTrue (S.told site.old) → (stack : Stack) → stands (S.seen site.old) ≡ Ok stack
+        → (result ≢ ends.NotStore)
+        × Grows (RunsFeed (replies_on stack) result) (S.log site.old) (S.log site.new) }
+    ensures survives { IsTrue (S.told site.old) → (stack : Stack) → stands (S.seen site.old) ≡ Ok stack
+        → LeavesOnly S.Site site.old site.new (λ r.
+        Grows (Leaves S.may_leave site.old (replies_on stack) (after_on stack) r.files)
+        (S.log site.old) (Some r.log)) }
+    ensures out_of_memory { IsTrue (S.told site.old) → (stack : Stack) → stands (S.seen site.old) ≡ Ok stack
+        → result ≡ ends.Memory
+        → Grows (StopsBefore (replies_on stack) (after_on stack) (S.seen site.new))
+        (S.log site.old) (S.log site.new) }
 
     // On files that stand for none.
-    ensures unopened { IsTrue (S.told site.old) → (misfit : Misfit) → stands (S.seen site.old) ≡ Err misfit → IsUnopened result }
-    ensures unsaid { IsTrue (S.told site.old) → (misfit : Misfit) → stands (S.seen site.old) ≡ Err misfit → result ≢ 3 → S.log site.new ≡ S.log site.old }
-    ensures looks { IsTrue (S.told site.old) → (misfit : Misfit) → stands (S.seen site.old) ≡ Err misfit → LeavesOnly S.clock S.left_since site.old site.new (λ r. MayLeaveFiles S.may_leave site.old r.files) }
-    ensures no_store { result ≡ 3 → LeavesOnly S.clock S.left_since site.old site.new (λ r. MayLeaveFiles S.may_leave site.old r.files) }
-    ensures not_store { result ≡ 3 → SaysNotStore (S.told site.old) (S.seen site.old) ((S.counts site.old).show 0) ((S.counts site.new).show 0) (S.log site.old) (S.log site.new) }
+    ensures unopened { IsTrue (S.told site.old) → (misfit : Misfit) → stands (S.seen site.old) ≡ Err misfit
+        → IsUnopened result }
+    ensures unsaid { IsTrue (S.told site.old) → (misfit : Misfit) → stands (S.seen site.old) ≡ Err misfit
+        → result ≢ ends.NotStore → S.log site.new ≡ S.log site.old }
+    ensures looks { IsTrue (S.told site.old) → (misfit : Misfit) → stands (S.seen site.old) ≡ Err misfit
+        → AddsNoImage S.Site site.old site.new }
+    ensures no_store { result ≡ ends.NotStore → AddsNoImage S.Site site.old site.new }
+    ensures not_store { result ≡ ends.NotStore → SaysNotStore S.Site site.old site.new }
 
     ensures status { IsApplyStatus result }
-    ensures hear_fault { result ≡ 5 → Rose ((S.counts site.old).hear 0) ((S.counts site.new).hear 0) }
-    ensures show_fault { result ≡ 6 → Rose ((S.counts site.old).show 0) ((S.counts site.new).show 0) }
-    ensures disk_fault { result ≡ 4 → Rose (S.counts site.old).disk (S.counts site.new).disk }
-    ensures calls { Calls S.told S.counts S.clock S.left_since site.old site.new }
+    ensures hear_fault { result ≡ ends.HearFault → HearFails S.Site site.old site.new }
+    ensures show_fault { result ≡ ends.ShowFault → ShowFails S.Site site.old site.new }
+    ensures disk_fault { result ≡ ends.DiskFault → DiskFails S.Site site.old site.new }
+    ensures calls { Calls S.Site site.old site.new }
 {
     match Store::open(alloc, site) {
         Ok(store) => status(follow(alloc, store, site)),
-        Err(fault) => unopened(alloc, fault, site),
+        Err(fault) => explain(alloc, fault, site),
     }
 }

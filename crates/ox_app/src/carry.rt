@@ -1,8 +1,7 @@
 //! One line of a feed, carried out by a store and answered.
 
 ghost use Rattle.std.specs.Prelude.{◌≡◌, ◌⊎◌, ◌+◌, ◌-◌, ◌<◌, ◌≤◌, ◌^◌, ◌++◌, [], Some, Ok, IsTrue, IfOk, IfErr, IfSome, IsErrOf};
-ghost use Rattle.ox_outside.specs.Counts.{Rose};
-ghost use Rattle.ox_outside.specs.Crash.{Calls, LeavesOnly};
+ghost use Rattle.ox_outside.specs.Runs.{Calls, LeavesOnly};
 ghost use Rattle.ox_gated.specs.Tail.{Holds};
 ghost use Rattle.ox_model.specs.Replies.{after_turn, index_on, reply_by};
 ghost use Rattle.ox_model.specs.Stack.{stack_after};
@@ -10,6 +9,7 @@ ghost use Rattle.ox_model.specs.Stands.{stands};
 ghost use Rattle.ox_rules.specs.Text.{block_line, refusal_line};
 ghost use Rattle.ox_store.specs.Ready.{StandsForEither};
 ghost use Rattle.ox_app.specs.Apply.{CarriesOut, after_line, tip_line};
+ghost use Rattle.ox_app.specs.Show.{DiskFails};
 ghost use Rattle.ox_app.specs.declared.stop.Stop.TheVariants as stops;
 
 use crate::stop::Stop;
@@ -30,8 +30,8 @@ pub struct Carried {
     pub answer: Bytes,
 }
 
-// How many bytes the line of an accepted command has at most: `ok`, a height of at most ten digits, 64 digits of a hash,
-// two spaces and a line feed.
+// How many bytes the line of an accepted command has at most: `ok`, a height of at most ten digits, 64
+// digits of a hash, two spaces and a line feed.
 const LONGEST_OK: usize = 79;
 
 // Puts the line of a newest block.
@@ -51,7 +51,8 @@ fn put_block_line(room: &mut Room, height: u32, hash: &[u8; 32])
     room.put(b"\n");
 }
 
-// The line of an accepted command, by the newest block's height and hash, in memory that was taken before.
+// The line of an accepted command, by the newest block's height and hash, in memory that was taken
+// before.
 fn ok_line_in(room: Room, tip: Option<(u32, [u8; 32])>) -> Bytes
     requires empty { room.filled ≡ [] }
     requires spare { room.spare ≡ 79 }
@@ -66,7 +67,7 @@ fn ok_line_in(room: Room, tip: Option<(u32, [u8; 32])>) -> Bytes
 }
 
 // The store as it is, and the line of a refusal.
-fn refused(alloc: Global, store: Store, refusal: Refusal) -> Result<Carried, Memory>
+fn refuse(alloc: Global, store: Store, refusal: Refusal) -> Result<Carried, Memory>
     ensures store { IfOk result (λ carried. carried.store ≡ store) }
     ensures answer { IfOk result (λ carried. carried.answer ≡ refusal_line refusal) }
 {
@@ -81,19 +82,26 @@ fn carry_command<S: Site>(
     command: &Command,
     site: &mut S,
 ) -> Result<Carried, Stop>
-    requires holds { IsTrue (S.told site.old) → Holds S.seen S.may_leave store.tail site.old }
+    requires holds { IsTrue (S.told site.old) → Holds S.Site store.tail site.old }
     requires few { store.commands < 2 ^ 64 - 1 }
-    ensures answer { IfOk result (λ carried. carried.answer ≡ reply_by index_on (stack_after store.stack command.now)) }
-    ensures leads { IfOk result (λ carried. carried.store.stack ≡ after_turn store.stack (stack_after store.stack command.now)) }
+    ensures answer { IfOk result (λ carried.
+        carried.answer ≡ reply_by index_on (stack_after store.stack command.now)) }
+    ensures leads { IfOk result (λ carried.
+        carried.store.stack ≡ after_turn store.stack (stack_after store.stack command.now)) }
     ensures one_more { IfOk result (λ carried. carried.store.commands ≤ store.commands + 1) }
-    ensures holds { IsTrue (S.told site.old) → IfOk result (λ carried. Holds S.seen S.may_leave carried.store.tail site.new) }
-    ensures stands { IsTrue (S.told site.old) → stands (S.seen site.old) ≡ Ok store.stack → IfOk result (λ carried. stands (S.seen site.new) ≡ Ok carried.store.stack) }
-    ensures any_moment { IsTrue (S.told site.old) → stands (S.seen site.old) ≡ Ok store.stack → LeavesOnly S.clock S.left_since site.old site.new (λ r. StandsForEither store.stack (after_turn store.stack (stack_after store.stack command.now)) r.files) }
-    ensures log_stays { LeavesOnly S.clock S.left_since site.old site.new (λ r. S.log site.old ≡ Some r.log) }
+    ensures holds { IsTrue (S.told site.old) → IfOk result (λ carried. Holds S.Site carried.store.tail site.new) }
+    ensures stands { IsTrue (S.told site.old) → stands (S.seen site.old) ≡ Ok store.stack
+        → IfOk result (λ carried. stands (S.seen site.new) ≡ Ok carried.store.stack) }
+    ensures any_moment { IsTrue (S.told site.old) → stands (S.seen site.old) ≡ Ok store.stack
+        → LeavesOnly S.Site site.old site.new (λ r.
+        StandsForEither store.stack (after_turn store.stack (stack_after store.stack command.now))
+        r.files) }
+    ensures out_of_memory { IsErrOf result Stop.Memory → S.seen site.new ≡ S.seen site.old }
+    ensures log_stays { LeavesOnly S.Site site.old site.new (λ r. S.log site.old ≡ Some r.log) }
     ensures logged { S.log site.new ≡ S.log site.old }
     ensures stops { IfErr result (λ stop. (stop ≡ stops.DiskFault) ⊎ (stop ≡ stops.Memory)) }
-    ensures failed { IsErrOf result Stop.DiskFault → Rose (S.counts site.old).disk (S.counts site.new).disk }
-    ensures calls { Calls S.told S.counts S.clock S.left_since site.old site.new }
+    ensures failed { IsErrOf result Stop.DiskFault → DiskFails S.Site site.old site.new }
+    ensures calls { Calls S.Site site.old site.new }
 {
     let room = Room::new(alloc, LONGEST_OK)?;
     match store.prepare(command) {
@@ -103,42 +111,48 @@ fn carry_command<S: Site>(
             Ok(Carried { store, answer })
         }
         Err(Kept { store, why }) => match why {
-            Why::Refused(refusal) => Ok(refused(alloc, store, refusal)?),
+            Why::Refused(refusal) => Ok(refuse(alloc, store, refusal)?),
             Why::Memory => Err(Stop::Memory),
         },
     }
 }
 
-/// Carries out a line and answers it; `None` at the end of the feed. All memory of a command and its answer is taken
-/// before its record is written. At any moment of the call a crash leaves files that stand for the stack before the line
-/// or for the one after it. `DiskFault` only where a call on a file failed; `Memory` where there is none.
+/// Carries out a line and answers it; `None` at the end of the feed. All memory of a command and its
+/// answer is taken before its record is written. At any moment of the call a crash leaves files that
+/// stand for the stack before the line or for the one after it. `DiskFault` only where a call on a
+/// file failed; `Memory` where there is none, and the line isn't carried out then.
 pub fn carry_out<S: Site>(
     alloc: Global,
     store: Store,
     line: &Line,
     site: &mut S,
 ) -> Result<Option<Carried>, Stop>
-    requires holds { IsTrue (S.told site.old) → Holds S.seen S.may_leave store.tail site.old }
+    requires holds { IsTrue (S.told site.old) → Holds S.Site store.tail site.old }
     requires few { store.commands < 2 ^ 64 - 1 }
     ensures carried { IfOk result (λ carried. CarriesOut line.now store.stack carried) }
     ensures one_more { IfOk result (λ carried. IfSome carried (λ c. c.store.commands ≤ store.commands + 1)) }
-    ensures holds { IsTrue (S.told site.old) → IfOk result (λ carried. IfSome carried (λ c. Holds S.seen S.may_leave c.store.tail site.new)) }
-    ensures stands { IsTrue (S.told site.old) → stands (S.seen site.old) ≡ Ok store.stack → IfOk result (λ carried. IfSome carried (λ c. stands (S.seen site.new) ≡ Ok c.store.stack)) }
-    ensures any_moment { IsTrue (S.told site.old) → stands (S.seen site.old) ≡ Ok store.stack → LeavesOnly S.clock S.left_since site.old site.new (λ r. StandsForEither store.stack (after_line store.stack line.now) r.files) }
-    ensures log_stays { LeavesOnly S.clock S.left_since site.old site.new (λ r. S.log site.old ≡ Some r.log) }
+    ensures holds { IsTrue (S.told site.old)
+        → IfOk result (λ carried. IfSome carried (λ c. Holds S.Site c.store.tail site.new)) }
+    ensures stands { IsTrue (S.told site.old) → stands (S.seen site.old) ≡ Ok store.stack
+        → IfOk result (λ carried. IfSome carried (λ c. stands (S.seen site.new) ≡ Ok c.store.stack)) }
+    ensures any_moment { IsTrue (S.told site.old) → stands (S.seen site.old) ≡ Ok store.stack
+        → LeavesOnly S.Site site.old site.new (λ r.
+        StandsForEither store.stack (after_line store.stack line.now) r.files) }
+    ensures out_of_memory { IsErrOf result Stop.Memory → S.seen site.new ≡ S.seen site.old }
+    ensures log_stays { LeavesOnly S.Site site.old site.new (λ r. S.log site.old ≡ Some r.log) }
     ensures logged { S.log site.new ≡ S.log site.old }
     ensures stops { IfErr result (λ stop. (stop ≡ stops.DiskFault) ⊎ (stop ≡ stops.Memory)) }
-    ensures failed { IsErrOf result Stop.DiskFault → Rose (S.counts site.old).disk (S.counts site.new).disk }
-    ensures calls { Calls S.told S.counts S.clock S.left_since site.old site.new }
+    ensures failed { IsErrOf result Stop.DiskFault → DiskFails S.Site site.old site.new }
+    ensures calls { Calls S.Site site.old site.new }
 {
     let text = match line {
         Line::Text(text) => text,
-        Line::Long => return Ok(Some(refused(alloc, store, Refusal::TooLong)?)),
+        Line::Long => return Ok(Some(refuse(alloc, store, Refusal::TooLong)?)),
         Line::End => return Ok(None),
     };
     match command_of(alloc, text.as_slice()) {
         Ok(command) => Ok(Some(carry_command(alloc, store, &command, site)?)),
-        Err(SyntaxFault::Syntax) => Ok(Some(refused(alloc, store, Refusal::Syntax)?)),
+        Err(SyntaxFault::Syntax) => Ok(Some(refuse(alloc, store, Refusal::Syntax)?)),
         Err(SyntaxFault::Memory) => Err(Stop::Memory),
     }
 }

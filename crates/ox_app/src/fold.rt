@@ -1,15 +1,16 @@
 //! A feed, read to its end and answered line by line, without files.
 
 ghost use Rattle.std.specs.Prelude.{◌≡◌, ◌<◌, ◌≤◌, IsErrOf};
-ghost use Rattle.ox_outside.specs.Counts.{Rose};
-ghost use Rattle.ox_outside.specs.Crash.{OnlyTalks};
 ghost use Rattle.ox_outside.specs.Log.{Grows};
-ghost use Rattle.ox_feed.specs.Feed.{IsTooMuch, Listens, feed_limit, left};
+ghost use Rattle.ox_feed.specs.Feed.{IsTooMuch, Listens, feed_limit, bytes_left};
 ghost use Rattle.ox_model.specs.Machine.{empty_machine, stack_of};
 ghost use Rattle.ox_model.specs.Replies.{replies_on};
 ghost use Rattle.ox_sat.specs.Profiles.{IsProfile};
-ghost use Rattle.ox_app.specs.Fold.{Answered, Anything, HasAnswer, fold_depth, stack_in, status_of};
-ghost use Rattle.ox_app.specs.Run.{RunsFeed};
+ghost use Rattle.ox_app.specs.Fold.{Answered, Anything, HasAnswer, fold_depth, stack_in};
+ghost use Rattle.ox_app.specs.Headline.{RunsFeed};
+ghost use Rattle.ox_outside.specs.Runs.{OnlyTalks};
+ghost use Rattle.ox_app.specs.Show.{HearFails, ShowFails};
+ghost use Rattle.ox_app.specs.Status.{status_of};
 
 use crate::answer::answer;
 use crate::show::show_all;
@@ -28,27 +29,30 @@ fn next_answer<S: Site>(
     live: &mut Live,
     site: &mut S,
 ) -> Result<Option<Bytes>, Stop>
-    ensures told { Grows (Answered lines.old (stack_in live.old) result lines.new (stack_in live.new)) (S.log site.old) (S.log site.new) }
-    ensures hear_fault { IsErrOf result Stop.HearFault → Rose ((S.counts site.old).hear 0) ((S.counts site.new).hear 0) }
+    ensures told { Grows (Answered lines.old (stack_in live.old) result lines.new (stack_in live.new))
+        (S.log site.old) (S.log site.new) }
+    ensures hear_fault { IsErrOf result Stop.HearFault → HearFails S.Site site.old site.new }
     ensures no_show_fault { IsErrOf result Stop.ShowFault → ⊥ }
     ensures no_disk_fault { IsErrOf result Stop.DiskFault → ⊥ }
     ensures too_much { IsErrOf result Stop.TooMuch → IsTooMuch lines.new }
-    ensures fewer { HasAnswer result → left lines.new < left lines.old }
+    ensures fewer { HasAnswer result → bytes_left lines.new < bytes_left lines.old }
     ensures count { lines.new.heard ≤ feed_limit }
-    ensures talks { OnlyTalks S.told S.seen S.log S.counts S.clock S.may_leave S.left_since (Listens lines.old) site.old site.new }
+    ensures talks { OnlyTalks S.Site (Listens lines.old) site.old site.new }
 {
     let line = lines.next(site)?;
     Ok(answer(alloc, live, line)?)
 }
 
-/// Reads the feed of channel 0 to its end, and shows the answer to each line. The chain counts by this profile.
+/// Reads the feed of channel 0 to its end, and shows the answer to each line. The chain counts by this
+/// profile.
 pub fn fold<S: Site>(alloc: Global, p: &Profile, site: &mut S) -> Result<(), Stop>
     requires { IsProfile p.now }
-    ensures told { Grows (RunsFeed (replies_on (stack_of (empty_machine p.now fold_depth))) (status_of result)) (S.log site.old) (S.log site.new) }
-    ensures hear_fault { IsErrOf result Stop.HearFault → Rose ((S.counts site.old).hear 0) ((S.counts site.new).hear 0) }
-    ensures show_fault { IsErrOf result Stop.ShowFault → Rose ((S.counts site.old).show 0) ((S.counts site.new).show 0) }
+    ensures told { Grows (RunsFeed (replies_on (stack_of (empty_machine p.now fold_depth))) (status_of result))
+        (S.log site.old) (S.log site.new) }
+    ensures hear_fault { IsErrOf result Stop.HearFault → HearFails S.Site site.old site.new }
+    ensures show_fault { IsErrOf result Stop.ShowFault → ShowFails S.Site site.old site.new }
     ensures no_disk_fault { IsErrOf result Stop.DiskFault → ⊥ }
-    ensures talks { OnlyTalks S.told S.seen S.log S.counts S.clock S.may_leave S.left_since Anything site.old site.new }
+    ensures talks { OnlyTalks S.Site Anything site.old site.new }
 {
     let mut lines = Lines::new(alloc);
     let mut live = Live::new(alloc, p);

@@ -1,47 +1,51 @@
 //! The making of a store.
 
-ghost use Rattle.std.specs.Prelude.{◌≡◌, ◌≢◌, ◌⊎◌, Some, Ok, IsTrue};
-ghost use Rattle.ox_outside.specs.Counts.{Rose};
-ghost use Rattle.ox_outside.specs.Crash.{Calls, LeavesOnly, MayLeaveFiles};
-ghost use Rattle.ox_outside.specs.Log.{Grows};
-ghost use Rattle.ox_gated.specs.Tail.{IsSettled};
-ghost use Rattle.ox_model.specs.Stands.{stands};
-ghost use Rattle.ox_store.specs.Make.{made_stack, no_files};
-ghost use Rattle.ox_app.specs.Init.{IsInitStatus, MadeBefore, made_line, not_empty_line};
-ghost use Rattle.ox_app.specs.Run.{Says, ShowsReply};
-ghost use Rattle.ox_app.specs.Words.{IsDepth};
+ghost use Rattle.std.specs.Prelude.{◌≡◌, ◌≢◌, ◌⊎◌, IsTrue};
+ghost use Rattle.ox_store.specs.Make.{no_files};
+ghost use Rattle.ox_app.specs.Headline.{AddsNoImage};
+ghost use Rattle.ox_app.specs.Init.{IsMade, MakesFirst, made_line, not_empty_line};
+ghost use Rattle.ox_outside.specs.Runs.{Calls};
+ghost use Rattle.ox_app.specs.Show.{DiskFails, Says, ShowFails, ShowsText};
+ghost use Rattle.ox_app.specs.Status.{IsInitStatus, IsSparing};
+ghost use Rattle.ox_app.specs.Subcommands.{IsDepth};
+ghost use Rattle.ox_app.specs.declared.status.Status.TheVariants as ends;
 
 use crate::show::{say, show_all};
+use crate::status::Status;
 use ox_outside::{Failed, Site};
 use ox_sat::ProfileName;
 use ox_store::{MakeFault, Store};
 use std::alloc::Global;
 
 /// Makes a store without a block and says so.
-pub fn init<S: Site>(alloc: Global, site: &mut S, name: ProfileName, depth: u16) -> u8
+pub fn init<S: Site>(alloc: Global, site: &mut S, name: ProfileName, depth: u16) -> Status
     requires { IsDepth depth }
-    ensures shows { result ≢ 2 → Grows (ShowsReply made_line result) (S.log site.old) (S.log site.new) }
-    ensures not_empty { result ≡ 2 → Says not_empty_line ((S.counts site.old).show 0) ((S.counts site.new).show 0) (S.log site.old) (S.log site.new) }
-    ensures only_empty { IsTrue (S.told site.old) → result ≡ 2 → S.seen site.old ≢ no_files }
-    ensures refuses { IsTrue (S.told site.old) → S.seen site.old ≢ no_files → (result ≡ 2) ⊎ (result ≡ 4) ⊎ (result ≡ 8) }
-    ensures made { IsTrue (S.told site.old) → (result ≡ 0) ⊎ (result ≡ 6) → (stands (S.seen site.new) ≡ Ok (made_stack name depth)) × IsSettled S.seen S.may_leave site.new }
-    ensures made_before { IsTrue (S.told site.old) → result ≢ 2 → LeavesOnly S.clock S.left_since site.old site.new (λ r. Grows (MadeBefore name depth r.files) (S.log site.old) (Some r.log)) }
-    ensures looks { result ≡ 2 → LeavesOnly S.clock S.left_since site.old site.new (λ r. MayLeaveFiles S.may_leave site.old r.files) }
+    ensures shows { result ≢ ends.NotEmpty → ShowsText S.Site made_line result site.old site.new }
+    ensures not_empty { result ≡ ends.NotEmpty → Says S.Site not_empty_line site.old site.new }
+    ensures only_empty { IsTrue (S.told site.old) → result ≡ ends.NotEmpty → S.seen site.old ≢ no_files }
+    ensures refuses { IsTrue (S.told site.old) → S.seen site.old ≢ no_files → IsSparing result }
+    ensures spares { IsTrue (S.told site.old) → S.seen site.old ≢ no_files
+        → AddsNoImage S.Site site.old site.new }
+    ensures made { IsTrue (S.told site.old) → (result ≡ ends.Done) ⊎ (result ≡ ends.ShowFault)
+        → IsMade S.Site name depth site.new }
+    ensures made_before { IsTrue (S.told site.old) → result ≢ ends.NotEmpty
+        → MakesFirst S.Site name depth site.old site.new }
+    ensures looks { (result ≡ ends.NotEmpty) ⊎ (result ≡ ends.Memory) → AddsNoImage S.Site site.old site.new }
     ensures status { IsInitStatus result }
-    ensures show_fault { result ≡ 6 → Rose ((S.counts site.old).show 0) ((S.counts site.new).show 0) }
-    ensures disk_fault { result ≡ 4 → Rose (S.counts site.old).disk (S.counts site.new).disk }
-    ensures calls { Calls S.told S.counts S.clock S.left_since site.old site.new }
+    ensures show_fault { result ≡ ends.ShowFault → ShowFails S.Site site.old site.new }
+    ensures disk_fault { result ≡ ends.DiskFault → DiskFails S.Site site.old site.new }
+    ensures calls { Calls S.Site site.old site.new }
 {
     match Store::make(alloc, site, name, depth) {
         Ok(_store) => match show_all(site, b"ok empty\n") {
-            Ok(()) => 0,
-            Err(Failed) => 6,
+            Ok(()) => Status::Done,
+            Err(Failed) => Status::ShowFault,
         },
         Err(MakeFault::NotEmpty) => {
             say(site, b"not empty\n");
-            2
+            Status::NotEmpty
         }
-        Err(MakeFault::DiskFault) => 4,
-        Err(MakeFault::Memory) => 8,
+        Err(MakeFault::DiskFault) => Status::DiskFault,
+        Err(MakeFault::Memory) => Status::Memory,
     }
 }

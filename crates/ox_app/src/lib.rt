@@ -8,12 +8,11 @@ mod fold;
 mod init;
 mod program;
 mod query;
-mod rows;
 mod show;
+mod status;
 mod stop;
+mod subcommand;
 mod unopened;
 
 pub use program::run;
-
-#[cfg(test)]
-mod tests;
+pub use status::Status;

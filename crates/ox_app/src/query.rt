@@ -1,23 +1,22 @@
 //! A query of a store.
 
-ghost use Rattle.std.specs.Prelude.{◌≡◌, ◌≢◌, Some, Ok, Err, IsTrue, IfOk, string_bytes};
-ghost use Rattle.std.specs.Option.{option_map};
+ghost use Rattle.std.specs.Prelude.{◌≡◌, ◌≢◌, Ok, Err, IsTrue, IfOk, string_bytes};
 ghost use Rattle.serde_json.specs.View.{view};
-ghost use Rattle.serde_json.specs.Data.{Data};
-ghost use Rattle.ox_outside.specs.Counts.{Rose};
-ghost use Rattle.ox_outside.specs.Crash.{Calls, LeavesOnly, MayLeaveFiles};
-ghost use Rattle.ox_outside.specs.Log.{Grows};
 ghost use Rattle.ox_index.specs.Live.{index_in};
 ghost use Rattle.ox_model.specs.Stack.{Stack};
 ghost use Rattle.ox_model.specs.Stands.{Misfit, stands};
 ghost use Rattle.ox_sat.specs.Profiles.{name_at, profile_word};
 ghost use Rattle.ox_model.specs.Status.{data_at, query_body, status_data, tip_data};
-ghost use Rattle.ox_app.specs.Apply.{IsUnopened, SaysNotStore};
-ghost use Rattle.ox_app.specs.Query.{IsQueryStatus};
-ghost use Rattle.ox_app.specs.Run.{ShowsReply};
+ghost use Rattle.ox_app.specs.Headline.{AddsNoImage};
+ghost use Rattle.ox_outside.specs.Runs.{Calls};
+ghost use Rattle.ox_app.specs.Show.{DiskFails, ShowFails, ShowsText};
+ghost use Rattle.ox_app.specs.Status.{IsQueryStatus, IsUnopened};
+ghost use Rattle.ox_app.specs.Unopened.{SaysNotStore};
+ghost use Rattle.ox_app.specs.declared.status.Status.TheVariants as ends;
 
 use crate::show::show_all;
-use crate::unopened::unopened;
+use crate::status::Status;
+use crate::unopened::explain;
 use ox_index::Live;
 use ox_model::{View, hash_text};
 use ox_outside::{Failed, Site};
@@ -86,28 +85,32 @@ fn body_of(alloc: Global, path: &[u8], store: &Store) -> Result<String, AllocErr
 }
 
 /// Opens the store and shows the body of the reply to a query of this path.
-pub fn query<S: Site>(alloc: Global, site: &mut S, path: &[u8]) -> u8
+pub fn query<S: Site>(alloc: Global, site: &mut S, path: &[u8]) -> Status
     // On files that stand for a stack.
-    ensures shows { IsTrue (S.told site.old) → (stack : Stack) → stands (S.seen site.old) ≡ Ok stack → (result ≢ 3) × Grows (ShowsReply (query_body path.now stack) result) (S.log site.old) (S.log site.new) }
+    ensures shows { IsTrue (S.told site.old) → (stack : Stack) → stands (S.seen site.old) ≡ Ok stack
+        → (result ≢ ends.NotStore)
+        × ShowsText S.Site (query_body path.now stack) result site.old site.new }
     // On files that stand for none.
-    ensures unopened { IsTrue (S.told site.old) → (misfit : Misfit) → stands (S.seen site.old) ≡ Err misfit → IsUnopened result }
-    ensures unsaid { IsTrue (S.told site.old) → (misfit : Misfit) → stands (S.seen site.old) ≡ Err misfit → result ≢ 3 → S.log site.new ≡ S.log site.old }
-    ensures not_store { result ≡ 3 → SaysNotStore (S.told site.old) (S.seen site.old) ((S.counts site.old).show 0) ((S.counts site.new).show 0) (S.log site.old) (S.log site.new) }
+    ensures unopened { IsTrue (S.told site.old) → (misfit : Misfit) → stands (S.seen site.old) ≡ Err misfit
+        → IsUnopened result }
+    ensures unsaid { IsTrue (S.told site.old) → (misfit : Misfit) → stands (S.seen site.old) ≡ Err misfit
+        → result ≢ ends.NotStore → S.log site.new ≡ S.log site.old }
+    ensures not_store { result ≡ ends.NotStore → SaysNotStore S.Site site.old site.new }
 
-    ensures looks { LeavesOnly S.clock S.left_since site.old site.new (λ r. MayLeaveFiles S.may_leave site.old r.files) }
+    ensures looks { AddsNoImage S.Site site.old site.new }
     ensures status { IsQueryStatus result }
-    ensures show_fault { result ≡ 6 → Rose ((S.counts site.old).show 0) ((S.counts site.new).show 0) }
-    ensures disk_fault { result ≡ 4 → Rose (S.counts site.old).disk (S.counts site.new).disk }
-    ensures calls { Calls S.told S.counts S.clock S.left_since site.old site.new }
+    ensures show_fault { result ≡ ends.ShowFault → ShowFails S.Site site.old site.new }
+    ensures disk_fault { result ≡ ends.DiskFault → DiskFails S.Site site.old site.new }
+    ensures calls { Calls S.Site site.old site.new }
 {
     match Store::open(alloc, site) {
         Ok(store) => match body_of(alloc, path, &store) {
             Ok(body) => match show_all(site, body.as_bytes()) {
-                Ok(()) => 0,
-                Err(Failed) => 6,
+                Ok(()) => Status::Done,
+                Err(Failed) => Status::ShowFault,
             },
-            Err(_) => 8,
+            Err(_) => Status::Memory,
         },
-        Err(fault) => unopened(alloc, fault, site),
+        Err(fault) => explain(alloc, fault, site),
     }
 }

@@ -1,19 +1,19 @@
 //! Showing bytes whole.
 
 ghost use Rattle.std.specs.Prelude.{◌≡◌, OnErr};
-ghost use Rattle.ox_outside.specs.Counts.{Rose};
-ghost use Rattle.ox_outside.specs.Crash.{OnlyTalks};
 ghost use Rattle.ox_outside.specs.Log.{Grows};
-ghost use Rattle.ox_app.specs.Run.{Says, Shows, ShowsFront};
+ghost use Rattle.ox_outside.specs.Runs.{OnlyTalks};
+ghost use Rattle.ox_app.specs.Show.{Says, ShowFails, Shows, ShowsFront};
 
 use ox_outside::{Failed, Shown, Site};
 
-/// Shows all of the bytes on channel 0, in as many pieces as it takes. `Failed` only where a showing there failed in
-/// this call; a front of the bytes is shown then, and so it is at each moment of the call.
+/// Shows all of the bytes on channel 0, in as many pieces as it takes. `Failed` only where a showing
+/// there failed in this call; a front of the bytes is shown then, and so it is at each moment of the
+/// call.
 pub fn show_all<S: Site>(site: &mut S, bytes: &[u8]) -> Result<(), Failed>
     ensures told { Grows (Shows bytes.now result) (S.log site.old) (S.log site.new) }
-    ensures failed { OnErr result (Rose ((S.counts site.old).show 0) ((S.counts site.new).show 0)) }
-    ensures talks { OnlyTalks S.told S.seen S.log S.counts S.clock S.may_leave S.left_since (ShowsFront bytes.now) site.old site.new }
+    ensures failed { OnErr result (ShowFails S.Site site.old site.new) }
+    ensures talks { OnlyTalks S.Site (ShowsFront bytes.now) site.old site.new }
 {
     let mut rest = bytes;
     while !rest.is_empty() {
@@ -27,8 +27,8 @@ pub fn show_all<S: Site>(site: &mut S, bytes: &[u8]) -> Result<(), Failed>
 
 /// Shows a line whole, or a front of it where a showing failed.
 pub fn say<S: Site>(site: &mut S, line: &[u8])
-    ensures says { Says line.now ((S.counts site.old).show 0) ((S.counts site.new).show 0) (S.log site.old) (S.log site.new) }
-    ensures talks { OnlyTalks S.told S.seen S.log S.counts S.clock S.may_leave S.left_since (ShowsFront line.now) site.old site.new }
+    ensures says { Says S.Site line.now site.old site.new }
+    ensures talks { OnlyTalks S.Site (ShowsFront line.now) site.old site.new }
 {
     let _shown = show_all(site, line);
 }

@@ -1,8 +1,9 @@
 //! Why a run over a feed ends before the feed does.
 
 ghost use Rattle.std.specs.Prelude.{◌≡◌};
-ghost use Rattle.ox_app.specs.Fold.{status_of};
+ghost use Rattle.ox_app.specs.Status.{status_of};
 
+use crate::status::Status;
 use ox_bytes::Memory;
 use ox_feed::FeedFault;
 use ox_gated::DiskFault;
@@ -23,17 +24,17 @@ pub enum Stop {
     TooMuch,
 }
 
-/// The status of a run over a feed.
-pub fn status(outcome: Result<(), Stop>) -> u8
+/// How a run over a feed ends.
+pub fn status(outcome: Result<(), Stop>) -> Status
     ensures { result ≡ status_of outcome }
 {
     match outcome {
-        Ok(()) => 0,
-        Err(Stop::DiskFault) => 4,
-        Err(Stop::HearFault) => 5,
-        Err(Stop::ShowFault) => 6,
-        Err(Stop::Memory) => 8,
-        Err(Stop::TooMuch) => 9,
+        Ok(()) => Status::Done,
+        Err(Stop::DiskFault) => Status::DiskFault,
+        Err(Stop::HearFault) => Status::HearFault,
+        Err(Stop::ShowFault) => Status::ShowFault,
+        Err(Stop::Memory) => Status::Memory,
+        Err(Stop::TooMuch) => Status::TooMuch,
     }
 }
 

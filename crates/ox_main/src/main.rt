@@ -7,28 +7,26 @@ mod words;
 
 use crate::real::RealSite;
 use crate::words::words_of;
-use ox_app::run;
+use ox_app::{Status, run};
 use std::process::ExitCode;
 
-const USAGE: u8 = 1;
-
-const DISK_FAULT: u8 = 4;
-
-const NO_MEMORY: u8 = 8;
-
-/// Takes the folder as its first word and hands the others to `run`, whose status is the program's. It ends with 1
-/// where there is no word, with 8 where there is no memory for the words, and with 4 where the folder's files can't be
-/// opened, and prints nothing then.
+/// Takes the folder as its first word and hands the others to `run`, whose status gives the exit
+/// status. It ends as `Usage` where there is no word, as `Memory` where there is none for the words,
+/// and as `DiskFault` where the folder's files can't be opened, and prints nothing then.
 fn main(rt: HostRuntime) -> ExitCode {
     let alloc = rt.alloc();
     let Ok(words) = words_of(&rt, alloc) else {
-        return ExitCode::from(NO_MEMORY);
+        return exit(Status::Memory);
     };
     let Some((folder, others)) = words.as_slice().split_first() else {
-        return ExitCode::from(USAGE);
+        return exit(Status::Usage);
     };
     let Ok(mut site) = RealSite::open(&rt, alloc, folder.as_slice(), rt.stdin(), rt.stdout()) else {
-        return ExitCode::from(DISK_FAULT);
+        return exit(Status::DiskFault);
     };
-    ExitCode::from(run(alloc, others, &mut site))
+    exit(run(alloc, others, &mut site))
+}
+
+fn exit(status: Status) -> ExitCode {
+    ExitCode::from(status.code())
 }

@@ -2,11 +2,12 @@ use Rattle.std.proofs.Common.{◌∙◌, ap, arith, subst, sym}
 use Rattle.std.specs.Prelude.{Err}
 use Rattle.std.proofs.lemmas.Result.{err_from_is_err_and}
 use Rattle.ox_outside.specs.Log.{Grows}
+use Rattle.ox_feed.specs.Feed.{Feed, bytes_left}
+use Rattle.ox_app.proofs.FeedAnswers.{carried_none, grows_broken, grows_carried}
+use Rattle.ox_app.proofs.Crashes.{grows_owing_store, grows_stopped_store, grows_stops, same_stop, grows_whole_store, holds_on, stands_on, survived_line, survived_none, survived_shown}
+use Rattle.ox_app.specs.declared.stop.Stop.TheVariants.{Memory}
+use Rattle.ox_app.proofs.FeedState.{Carried}
 use Rattle.ox_outside.proofs.Calls.{calls_then, no_call}
-use Rattle.ox_feed.specs.Feed.{Feed, left}
-use Rattle.ox_app.specs.Fold.{Carried}
-use Rattle.ox_app.proofs.Feeding.{carried_none, grows_broken, grows_carried}
-use Rattle.ox_app.proofs.Following.{grows_owing_store, grows_stopped_store, grows_whole_store, holds_on, stands_on, survived_line, survived_none, survived_shown}
 use Rattle.ox_app.proofs.apply.follow.Goals as goal
 
 pub loop-lines-init : goal.loop-lines-init
@@ -14,11 +15,11 @@ loop-lines-init g c =
     let first = c.args.store.stack in
     let log = g.S.Site.log c.args.site.now in (
       subst (λ (l : Feed). Grows (Carried first l first) log log) (sym c.new-lines.ensures) (carried_none first log),
-      no_call g.S.Site.told g.S.Site.counts g.S.Site.clock g.S.Site.may_leave g.S.Site.left_since c.args.site.now,
+      no_call g.S.Site c.args.site.now,
       c.requires.holds,
       λ told stood. stood,
-      λ told stood. survived_none g.S.Site.told g.S.Site.seen g.S.Site.log g.S.Site.counts g.S.Site.clock g.S.Site.may_leave g.S.Site.left_since first g.met.S.Site.only_now g.met.S.Site.logs_now c.args.site.now (c.requires.holds told).settled stood,
-      omega (arith, c.requires.fresh, ap left c.new-lines.ensures),
+      λ told stood. survived_none g.S.Site first g.met.S.Site.only_now g.met.S.Site.logs_now c.args.site.now (c.requires.holds told).settled stood,
+      omega (arith, c.requires.fresh, ap bytes_left c.new-lines.ensures),
     )
 
 pub returns-in_err-carried-clause-told : goal.returns-in_err-carried-clause-told
@@ -33,7 +34,7 @@ returns-in_err-carried-clause-told g c =
 pub returns-in_err-carried-clause-survives : goal.returns-in_err-carried-clause-survives
 returns-in_err-carried-clause-survives g c told stood =
     let kept = c.loop-lines.invariant in
-    survived_line g.S.Site.told g.S.Site.seen g.S.Site.log g.S.Site.counts g.S.Site.clock g.S.Site.may_leave g.S.Site.left_since c.args.store.stack c.loop-lines.lines c.next_carried.new.lines c.loop-lines.store.stack
+    survived_line g.S.Site c.args.store.stack c.loop-lines.lines c.next_carried.new.lines c.loop-lines.store.stack
     c.args.site.now c.loop-lines.site c.next_carried.new.site (kept.4 told stood) kept.0 (c.next_carried.ensures.during (kept.1.as_told ∙ told) (kept.3 told stood))
 
 pub returns-in_err-show_all-clause-told : goal.returns-in_err-show_all-clause-told
@@ -59,9 +60,9 @@ returns-in_err-show_all-clause-survives g c told stood =
     let talks = rw c.as_slice.ensures at c.show_all.ensures.talks in
     let holds = rw c.in-Some.is at c.in_ok-carried.ensures.holds told_mid in
     let stands = rw c.in-Some.is at c.in_ok-carried.ensures.stands told_mid (kept.3 told stood) in
-    survived_shown g.S.Site.told g.S.Site.seen g.S.Site.log g.S.Site.counts g.S.Site.clock g.S.Site.may_leave g.S.Site.left_since first c.in-Some.carried.answer c.next_carried.new.lines c.in-Some.carried.store.stack
+    survived_shown g.S.Site first c.in-Some.carried.answer c.next_carried.new.lines c.in-Some.carried.store.stack
     c.args.site.now c.next_carried.new.site c.show_all.new.site
-    (survived_line g.S.Site.told g.S.Site.seen g.S.Site.log g.S.Site.counts g.S.Site.clock g.S.Site.may_leave g.S.Site.left_since first c.loop-lines.lines c.next_carried.new.lines c.loop-lines.store.stack
+    (survived_line g.S.Site first c.loop-lines.lines c.next_carried.new.lines c.loop-lines.store.stack
     c.args.site.now c.loop-lines.site c.next_carried.new.site (kept.4 told stood) kept.0 (c.next_carried.ensures.during told_mid (kept.3 told stood)))
     (grows_owing_store first c.in-Some.carried c.loop-lines.lines c.next_carried.new.lines c.loop-lines.store.stack
     (g.S.Site.log c.args.site.now) (g.S.Site.log c.loop-lines.site) (g.S.Site.log c.next_carried.new.site) kept.0 heard)
@@ -80,19 +81,19 @@ loop-lines-preserved g c =
     (g.S.Site.log c.args.site.now) (g.S.Site.log c.loop-lines.site) (g.S.Site.log c.next_carried.new.site) kept.0 heard in (
       grows_carried first c.next_carried.new.lines c.in-Some.carried.store.stack c.in-Some.carried.answer
           (g.S.Site.log c.args.site.now) (g.S.Site.log c.next_carried.new.site) (g.S.Site.log c.show_all.new.site) owed shown,
-      calls_then g.S.Site.told g.S.Site.counts g.S.Site.clock g.S.Site.may_leave g.S.Site.left_since c.args.site.now c.next_carried.new.site c.show_all.new.site
-          (calls_then g.S.Site.told g.S.Site.counts g.S.Site.clock g.S.Site.may_leave g.S.Site.left_since c.args.site.now c.loop-lines.site c.next_carried.new.site kept.1 c.next_carried.ensures.calls)
+      calls_then g.S.Site c.args.site.now c.next_carried.new.site c.show_all.new.site
+          (calls_then g.S.Site c.args.site.now c.loop-lines.site c.next_carried.new.site kept.1 c.next_carried.ensures.calls)
           talks.calls,
-      λ told. holds_on g.S.Site.told g.S.Site.seen g.S.Site.log g.S.Site.counts g.S.Site.clock g.S.Site.may_leave g.S.Site.left_since c.next_carried.new.site c.show_all.new.site c.in-Some.carried.store.tail talks.files
+      λ told. holds_on g.S.Site c.next_carried.new.site c.show_all.new.site c.in-Some.carried.store.tail talks.files
           (rw c.in-Some.is at c.in_ok-carried.ensures.holds (kept.1.as_told ∙ told)),
-      λ told stood. stands_on g.S.Site.told g.S.Site.seen g.S.Site.log g.S.Site.counts g.S.Site.clock g.S.Site.may_leave g.S.Site.left_since c.next_carried.new.site c.show_all.new.site c.in-Some.carried.store.stack talks.files
+      λ told stood. stands_on g.S.Site c.next_carried.new.site c.show_all.new.site c.in-Some.carried.store.stack talks.files
           (rw c.in-Some.is at c.in_ok-carried.ensures.stands (kept.1.as_told ∙ told) (kept.3 told stood)),
       λ told stood.
           let holds = rw c.in-Some.is at c.in_ok-carried.ensures.holds (kept.1.as_told ∙ told) in
           let stands = rw c.in-Some.is at c.in_ok-carried.ensures.stands (kept.1.as_told ∙ told) (kept.3 told stood) in
-          survived_shown g.S.Site.told g.S.Site.seen g.S.Site.log g.S.Site.counts g.S.Site.clock g.S.Site.may_leave g.S.Site.left_since first c.in-Some.carried.answer c.next_carried.new.lines c.in-Some.carried.store.stack
+          survived_shown g.S.Site first c.in-Some.carried.answer c.next_carried.new.lines c.in-Some.carried.store.stack
           c.args.site.now c.next_carried.new.site c.show_all.new.site
-          (survived_line g.S.Site.told g.S.Site.seen g.S.Site.log g.S.Site.counts g.S.Site.clock g.S.Site.may_leave g.S.Site.left_since first c.loop-lines.lines c.next_carried.new.lines c.loop-lines.store.stack
+          (survived_line g.S.Site first c.loop-lines.lines c.next_carried.new.lines c.loop-lines.store.stack
           c.args.site.now c.loop-lines.site c.next_carried.new.site (kept.4 told stood) kept.0 (c.next_carried.ensures.during (kept.1.as_told ∙ told) (kept.3 told stood)))
           owed holds.settled stands talks,
       omega (arith, more, fewer, kept.5),
@@ -108,5 +109,15 @@ returns-clause-told g c =
 pub returns-clause-survives : goal.returns-clause-survives
 returns-clause-survives g c told stood =
     let kept = c.loop-lines.invariant in
-    survived_line g.S.Site.told g.S.Site.seen g.S.Site.log g.S.Site.counts g.S.Site.clock g.S.Site.may_leave g.S.Site.left_since c.args.store.stack c.loop-lines.lines c.next_carried.new.lines c.loop-lines.store.stack
+    survived_line g.S.Site c.args.store.stack c.loop-lines.lines c.next_carried.new.lines c.loop-lines.store.stack
     c.args.site.now c.loop-lines.site c.next_carried.new.site (kept.4 told stood) kept.0 (c.next_carried.ensures.during (kept.1.as_told ∙ told) (kept.3 told stood))
+
+pub returns-in_err-carried-clause-out_of_memory : goal.returns-in_err-carried-clause-out_of_memory
+returns-in_err-carried-clause-out_of_memory g c told stood is =
+    let p = err_from_is_err_and c.from_residual.result c.from_residual.ensures.1 in
+    let kept = c.loop-lines.invariant in
+    grows_stops c.args.store.stack c.loop-lines.lines c.next_carried.new.lines c.loop-lines.store.stack c.in_err-carried.field-0.0
+    (g.S.Site.seen c.next_carried.new.site)
+    (g.S.Site.log c.args.site.now) (g.S.Site.log c.loop-lines.site) (g.S.Site.log c.next_carried.new.site)
+    (c.in_err-carried.ensures.out_of_memory (kept.1.as_told ∙ told) (kept.3 told stood) (ap Err (same_stop c.in_err-carried.field-0.0 Memory (rw (p.1, p.2) at is))))
+    kept.0 c.in_err-carried.ensures.told

@@ -1,5 +1,5 @@
 use Rattle.std.proofs.Common.{◌∙◌}
-use Rattle.ox_app.proofs.Following.{during_carried, grows_line, stands_on}
+use Rattle.ox_app.proofs.Crashes.{during_carried, grows_line, stands_on}
 use Rattle.ox_app.proofs.apply.next_carried.Goals as goal
 
 pub returns-clause-told : goal.returns-clause-told
@@ -12,7 +12,7 @@ pub returns-clause-during : goal.returns-clause-during
 returns-clause-during g c told stood =
     let holds = c.requires.holds told in
     let told_mid = c.next.ensures.talks.calls.as_told ∙ told in
-    let stood_mid = stands_on g.S.Site.told g.S.Site.seen g.S.Site.log g.S.Site.counts g.S.Site.clock g.S.Site.may_leave g.S.Site.left_since c.args.site.now c.next.new.site c.args.store.stack c.next.ensures.talks.files stood in
-    during_carried g.S.Site.told g.S.Site.seen g.S.Site.log g.S.Site.counts g.S.Site.clock g.S.Site.may_leave g.S.Site.left_since
+    let stood_mid = stands_on g.S.Site c.args.site.now c.next.new.site c.args.store.stack c.next.ensures.talks.files stood in
+    during_carried g.S.Site
     c.in_ok-line.line c.args.lines.now c.next.new.self c.args.store.stack c.args.site.now c.next.new.site c.carry_out.new.site
     c.next.ensures.talks holds.settled stood c.in_ok-line.ensures.told c.carry_out.ensures.log_stays (c.carry_out.ensures.any_moment told_mid stood_mid)

@@ -2,13 +2,14 @@ use Rattle.std.proofs.Common.{ap, subst, sym}
 use Rattle.std.specs.Prelude.{Err}
 use Rattle.std.proofs.lemmas.Result.{err_from_is_err_and}
 use Rattle.ox_outside.specs.Log.{Grows}
-use Rattle.ox_outside.proofs.Talking.{talks_none}
-use Rattle.ox_feed.specs.Feed.{Feed, unheard}
+use Rattle.ox_feed.specs.Feed.{Feed, new_feed}
 use Rattle.ox_model.specs.Machine.{empty_machine, stack_of}
 use Rattle.ox_model.specs.Stack.{Stack}
-use Rattle.ox_app.specs.Fold.{Anything, Carried, fold_depth, stack_in}
-use Rattle.ox_app.proofs.Feeding.{carried_none, grows_broken, grows_carried, grows_owing, grows_stopped, grows_whole, stack_begun}
-use Rattle.ox_app.proofs.Going.{talks_on}
+use Rattle.ox_app.specs.Fold.{Anything, fold_depth, stack_in}
+use Rattle.ox_app.proofs.FeedAnswers.{carried_none, grows_broken, grows_carried, grows_owing, grows_stopped, grows_whole, stack_begun}
+use Rattle.ox_app.proofs.TalksOn.{talks_on}
+use Rattle.ox_app.proofs.FeedState.{Carried}
+use Rattle.ox_outside.proofs.OnlyTalks.{talks_none}
 use Rattle.ox_app.proofs.fold.fold.Goals as goal
 
 pub loop-live-init : goal.loop-live-init
@@ -16,8 +17,8 @@ loop-live-init g c =
     let first = stack_of (empty_machine c.args.p.now fold_depth) in
     let log = g.S.Site.log c.args.site.now in (
       subst (λ (l : Feed). Grows (Carried first l (stack_in c.new-live.result)) log log) (sym c.new-lines.ensures)
-          (subst (λ (s : Stack). Grows (Carried first unheard s) log log) (sym (stack_begun c.new-live.result c.args.p.now c.new-live.ensures.profile c.new-live.ensures.index)) (carried_none first log)),
-      talks_none g.S.Site.told g.S.Site.seen g.S.Site.log g.S.Site.counts g.S.Site.clock g.S.Site.may_leave g.S.Site.left_since g.met.S.Site.only_now g.met.S.Site.logs_now Anything c.args.site.now tt,
+          (subst (λ (s : Stack). Grows (Carried first new_feed s) log log) (sym (stack_begun c.new-live.result c.args.p.now c.new-live.ensures.profile c.new-live.ensures.index)) (carried_none first log)),
+      talks_none g.S.Site g.met.S.Site.only_now g.met.S.Site.logs_now Anything c.args.site.now tt,
     )
 
 pub returns-in_err-answer-clause-told : goal.returns-in_err-answer-clause-told
@@ -52,8 +53,8 @@ loop-live-preserved g c =
     (g.S.Site.log c.args.site.now) (g.S.Site.log c.loop-live.site) (g.S.Site.log c.next_answer.new.site) c.loop-live.invariant.0 heard in (
       grows_carried first c.next_answer.new.lines (stack_in c.next_answer.new.live) c.in-Some.answer
           (g.S.Site.log c.args.site.now) (g.S.Site.log c.next_answer.new.site) (g.S.Site.log c.show_all.new.site) owed shown,
-      talks_on g.S.Site.told g.S.Site.seen g.S.Site.log g.S.Site.counts g.S.Site.clock g.S.Site.may_leave g.S.Site.left_since _ _ c.args.site.now c.next_answer.new.site c.show_all.new.site
-          (talks_on g.S.Site.told g.S.Site.seen g.S.Site.log g.S.Site.counts g.S.Site.clock g.S.Site.may_leave g.S.Site.left_since _ _ c.args.site.now c.loop-live.site c.next_answer.new.site
+      talks_on g.S.Site _ _ c.args.site.now c.next_answer.new.site c.show_all.new.site
+          (talks_on g.S.Site _ _ c.args.site.now c.loop-live.site c.next_answer.new.site
           c.loop-live.invariant.1 c.loop-live.invariant.0 c.next_answer.ensures.talks)
           owed c.show_all.ensures.talks,
     )
@@ -67,14 +68,14 @@ returns-clause-told g c =
 
 pub returns-in_err-answer-clause-talks : goal.returns-in_err-answer-clause-talks
 returns-in_err-answer-clause-talks g c =
-    talks_on g.S.Site.told g.S.Site.seen g.S.Site.log g.S.Site.counts g.S.Site.clock g.S.Site.may_leave g.S.Site.left_since _ _ c.args.site.now c.loop-live.site c.next_answer.new.site
+    talks_on g.S.Site _ _ c.args.site.now c.loop-live.site c.next_answer.new.site
     c.loop-live.invariant.1 c.loop-live.invariant.0 c.next_answer.ensures.talks
 
 pub returns-in_err-show_all-clause-talks : goal.returns-in_err-show_all-clause-talks
 returns-in_err-show_all-clause-talks g c =
     let heard = rw c.in-Some.is at c.in_ok-answer.ensures.told in
-    talks_on g.S.Site.told g.S.Site.seen g.S.Site.log g.S.Site.counts g.S.Site.clock g.S.Site.may_leave g.S.Site.left_since _ _ c.args.site.now c.next_answer.new.site c.show_all.new.site
-    (talks_on g.S.Site.told g.S.Site.seen g.S.Site.log g.S.Site.counts g.S.Site.clock g.S.Site.may_leave g.S.Site.left_since _ _ c.args.site.now c.loop-live.site c.next_answer.new.site
+    talks_on g.S.Site _ _ c.args.site.now c.next_answer.new.site c.show_all.new.site
+    (talks_on g.S.Site _ _ c.args.site.now c.loop-live.site c.next_answer.new.site
     c.loop-live.invariant.1 c.loop-live.invariant.0 c.next_answer.ensures.talks)
     (grows_owing (stack_of (empty_machine c.args.p.now fold_depth)) c.loop-live.lines c.next_answer.new.lines (stack_in c.loop-live.live) (stack_in c.next_answer.new.live) c.in-Some.answer
     (g.S.Site.log c.args.site.now) (g.S.Site.log c.loop-live.site) (g.S.Site.log c.next_answer.new.site) c.loop-live.invariant.0 heard)
@@ -82,5 +83,5 @@ returns-in_err-show_all-clause-talks g c =
 
 pub returns-clause-talks : goal.returns-clause-talks
 returns-clause-talks g c =
-    talks_on g.S.Site.told g.S.Site.seen g.S.Site.log g.S.Site.counts g.S.Site.clock g.S.Site.may_leave g.S.Site.left_since _ _ c.args.site.now c.loop-live.site c.next_answer.new.site
+    talks_on g.S.Site _ _ c.args.site.now c.loop-live.site c.next_answer.new.site
     c.loop-live.invariant.1 c.loop-live.invariant.0 c.next_answer.ensures.talks

@@ -1,6 +1,6 @@
 use Rattle.ox_outside.proofs.Log.{grows_weaker}
 use Rattle.ox_app.specs.Fold.{stack_in}
-use Rattle.ox_app.proofs.Feeding.{answered_line}
+use Rattle.ox_app.proofs.FeedAnswers.{answered_line}
 use Rattle.ox_app.proofs.fold.next_answer.Goals as goal
 
 pub returns-clause-told : goal.returns-clause-told

@@ -1,18 +1,32 @@
-use Rattle.std.proofs.Common.{◌∙◌, ap, inl}
+use Rattle.std.proofs.Common.{◌∙◌, ap, inl, inr}
 use Rattle.std.specs.Prelude.{Err, Ok}
-use Rattle.ox_app.proofs.Looking.{looked_then_talked, made_then_talked}
+use Rattle.ox_app.proofs.Images.{looked, looked_then_talked, made_then_talked}
 use Rattle.ox_app.proofs.init.init.Goals as goal
 
 pub returns-in-Ok-show_all-clause-made_before : goal.returns-in-Ok-show_all-clause-made_before
 returns-in-Ok-show_all-clause-made_before g c told isnt =
-    made_then_talked g.S.Site.told g.S.Site.seen g.S.Site.log g.S.Site.counts g.S.Site.clock g.S.Site.may_leave g.S.Site.left_since _ c.args.name c.args.depth c.args.site.now c.make.new.site c.show_all.new.site
+    made_then_talked g.S.Site _ c.args.name c.args.depth c.args.site.now c.make.new.site c.show_all.new.site
     c.make.ensures.log_stays c.make.ensures.logged (c.in-Ok.ensures.holds told).settled (c.in-Ok.ensures.stands told ∙ ap Ok c.in-Ok.ensures.stack) c.show_all.ensures.talks
 
 pub returns-in-Ok-clause-made_before : goal.returns-in-Ok-clause-made_before
 returns-in-Ok-clause-made_before g c told isnt =
-    made_then_talked g.S.Site.told g.S.Site.seen g.S.Site.log g.S.Site.counts g.S.Site.clock g.S.Site.may_leave g.S.Site.left_since _ c.args.name c.args.depth c.args.site.now c.make.new.site c.show_all.new.site
+    made_then_talked g.S.Site _ c.args.name c.args.depth c.args.site.now c.make.new.site c.show_all.new.site
     c.make.ensures.log_stays c.make.ensures.logged (c.in-Ok.ensures.holds told).settled (c.in-Ok.ensures.stands told ∙ ap Ok c.in-Ok.ensures.stack) c.show_all.ensures.talks
+
+pub returns-in-Err-NotEmpty-clause-spares : goal.returns-in-Err-NotEmpty-clause-spares
+returns-in-Err-NotEmpty-clause-spares g c told filled =
+    looked_then_talked g.S.Site _ c.args.site.now c.make.new.site c.say.new.site (c.make.ensures.spared told filled) c.say.ensures.talks
+
+pub returns-in-Err-DiskFault-clause-spares : goal.returns-in-Err-DiskFault-clause-spares
+returns-in-Err-DiskFault-clause-spares g c told filled = looked g.S.Site c.args.site.now c.make.new.site (c.make.ensures.spared told filled)
+
+pub returns-clause-spares : goal.returns-clause-spares
+returns-clause-spares g c told filled = looked g.S.Site c.args.site.now c.make.new.site (c.make.ensures.spared told filled)
+
+pub returns-clause-looks : goal.returns-clause-looks
+returns-clause-looks g c is =
+    looked g.S.Site c.args.site.now c.make.new.site (c.in-Err-Memory.ensures.wrote_nothing (inr (ap Err c.in-Err-Memory.field-0-is)))
 
 pub returns-in-Err-NotEmpty-clause-looks : goal.returns-in-Err-NotEmpty-clause-looks
 returns-in-Err-NotEmpty-clause-looks g c is =
-    looked_then_talked g.S.Site.told g.S.Site.seen g.S.Site.log g.S.Site.counts g.S.Site.clock g.S.Site.may_leave g.S.Site.left_since _ c.args.site.now c.make.new.site c.say.new.site (c.in-Err-NotEmpty.ensures.wrote_nothing (inl (ap Err c.in-Err-NotEmpty.field-0-is))) c.say.ensures.talks
+    looked_then_talked g.S.Site _ c.args.site.now c.make.new.site c.say.new.site (c.in-Err-NotEmpty.ensures.wrote_nothing (inl (ap Err c.in-Err-NotEmpty.field-0-is))) c.say.ensures.talks

@@ -1,38 +1,39 @@
-use Rattle.std.proofs.Common.{◌∙◌, ℕ, List, ap, arith, subst}
+use Rattle.std.proofs.Common.{◌∙◌, ℕ, List, ap, subst}
+use Rattle.ox_app.specs.declared.status.Status.TheVariants.{Done, Memory}
 use Rattle.ox_outside.specs.Log.{Grows}
 use Rattle.ox_model.specs.Stands.{stands}
 use Rattle.ox_model.specs.Status.{query_body}
-use Rattle.ox_app.specs.Run.{ShowsReply}
-use Rattle.ox_app.proofs.Looking.{looked_then_talked, reply_none, reply_whole, same_stack, unsaid}
+use Rattle.ox_app.proofs.Images.{done_opens, looked_then_talked, memory_opens, memory_undone, reply_none, reply_whole, same_stack, unsaid}
+use Rattle.ox_app.specs.Show.{ShowsReply}
 use Rattle.ox_app.proofs.query.query.Goals as goal
 
 pub returns-in-Ok-show_all-clause-shows : goal.returns-in-Ok-show_all-clause-shows
 returns-in-Ok-show_all-clause-shows g c told stack stood =
     let same = same_stack (stands (g.S.Site.seen c.args.site.now)) c.in-Ok.store.stack stack (c.in-Ok.ensures.stands told) stood in
     let bytes = c.as_bytes.ensures.value ∙ c.in-Ok-body_of.ensures ∙ ap (query_body c.args.path.now) same in (
-      λ e. omega (arith, e),
-      subst (λ (l : List ℕ). Grows (ShowsReply l 0) (g.S.Site.log c.args.site.now) (g.S.Site.log c.show_all.new.site)) bytes
+      done_opens,
+      subst (λ (l : List ℕ). Grows (ShowsReply l Done) (g.S.Site.log c.args.site.now) (g.S.Site.log c.show_all.new.site)) bytes
           (reply_whole _ (g.S.Site.log c.args.site.now) (g.S.Site.log c.open.new.site) (g.S.Site.log c.show_all.new.site) c.open.ensures.looks.nothing.as_logged c.in-Ok-show_all.ensures.told),
     )
 
 pub returns-in-Ok-clause-shows : goal.returns-in-Ok-clause-shows
 returns-in-Ok-clause-shows g c told stack stood = (
-  λ e. omega (arith, e),
-  reply_none _ 8 (g.S.Site.log c.args.site.now) (g.S.Site.log c.open.new.site) (λ e. omega (arith, e)) c.open.ensures.looks.nothing.as_logged,
+  memory_opens,
+  reply_none _ Memory (g.S.Site.log c.args.site.now) (g.S.Site.log c.open.new.site) memory_undone c.open.ensures.looks.nothing.as_logged,
 )
 
 pub returns-in-Ok-show_all-clause-looks : goal.returns-in-Ok-show_all-clause-looks
 returns-in-Ok-show_all-clause-looks g c =
-    looked_then_talked g.S.Site.told g.S.Site.seen g.S.Site.log g.S.Site.counts g.S.Site.clock g.S.Site.may_leave g.S.Site.left_since _ c.args.site.now c.open.new.site c.show_all.new.site c.open.ensures.looks c.show_all.ensures.talks
+    looked_then_talked g.S.Site _ c.args.site.now c.open.new.site c.show_all.new.site c.open.ensures.looks c.show_all.ensures.talks
 
 pub returns-in-Ok-body_of-clause-looks : goal.returns-in-Ok-body_of-clause-looks
 returns-in-Ok-body_of-clause-looks g c =
-    looked_then_talked g.S.Site.told g.S.Site.seen g.S.Site.log g.S.Site.counts g.S.Site.clock g.S.Site.may_leave g.S.Site.left_since _ c.args.site.now c.open.new.site c.show_all.new.site c.open.ensures.looks c.show_all.ensures.talks
+    looked_then_talked g.S.Site _ c.args.site.now c.open.new.site c.show_all.new.site c.open.ensures.looks c.show_all.ensures.talks
 
 pub returns-clause-looks : goal.returns-clause-looks
 returns-clause-looks g c =
-    looked_then_talked g.S.Site.told g.S.Site.seen g.S.Site.log g.S.Site.counts g.S.Site.clock g.S.Site.may_leave g.S.Site.left_since _ c.args.site.now c.open.new.site c.unopened.new.site c.open.ensures.looks c.unopened.ensures.talks
+    looked_then_talked g.S.Site _ c.args.site.now c.open.new.site c.explain.new.site c.open.ensures.looks c.explain.ensures.talks
 
 pub returns-clause-unsaid : goal.returns-clause-unsaid
 returns-clause-unsaid g c told misfit stood isnt =
-    unsaid c.in-Err.fault c.unopened.result _ _ (g.S.Site.log c.open.new.site) (g.S.Site.log c.unopened.new.site) c.unopened.ensures.says isnt ∙ c.open.ensures.looks.nothing.as_logged
+    unsaid g.S.Site c.in-Err.fault c.explain.result c.open.new.site c.explain.new.site c.explain.ensures.says isnt ∙ c.open.ensures.looks.nothing.as_logged

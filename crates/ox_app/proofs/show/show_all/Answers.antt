@@ -1,7 +1,7 @@
 use Rattle.std.proofs.lemmas.Result.{err_from_is_err_and}
-use Rattle.ox_outside.proofs.Talking.{talks_call}
-use Rattle.ox_app.specs.Run.{ShowsFront}
-use Rattle.ox_app.proofs.Showing.{showing_failed, showing_front, showing_on}
+use Rattle.ox_app.proofs.Pieces.{showing_failed, showing_front, showing_on}
+use Rattle.ox_outside.proofs.OnlyTalks.{talks_call}
+use Rattle.ox_app.specs.Show.{ShowsFront}
 use Rattle.ox_app.proofs.show.show_all.Goals as goal
 
 pub returns-in_err-n-clause-told : goal.returns-in_err-n-clause-told
@@ -12,7 +12,7 @@ returns-in_err-n-clause-told g c =
 
 pub returns-in_err-n-clause-talks : goal.returns-in_err-n-clause-talks
 returns-in_err-n-clause-talks g c =
-    talks_call g.S.Site.told g.S.Site.seen g.S.Site.log g.S.Site.counts g.S.Site.clock g.S.Site.may_leave g.S.Site.left_since g.met.S.Site.logs_now (ShowsFront c.args.bytes.now)
+    talks_call g.S.Site g.met.S.Site.logs_now (ShowsFront c.args.bytes.now)
     c.args.site.now c.loop-rest.site c.show.new.self c.loop-rest.invariant.1 c.show.ensures.files c.show.ensures.call
     (showing_failed c.args.bytes.now c.loop-rest.rest.now (g.S.Site.log c.args.site.now) (g.S.Site.log c.loop-rest.site) (g.S.Site.log c.show.new.self) c.loop-rest.invariant.0 c.in_err-n.ensures.logged)
 
@@ -21,7 +21,7 @@ loop-rest-preserved g c =
     let logged = rw c.in-Took.is at c.in_ok-n.ensures.logged in
     let on = showing_on c.args.bytes.now c.loop-rest.rest.now c.in-Took.n (g.S.Site.log c.args.site.now) (g.S.Site.log c.loop-rest.site) (g.S.Site.log c.show.new.self) c.loop-rest.invariant.0 logged in (
       rw c.split_at.ensures.back on,
-      talks_call g.S.Site.told g.S.Site.seen g.S.Site.log g.S.Site.counts g.S.Site.clock g.S.Site.may_leave g.S.Site.left_since g.met.S.Site.logs_now (ShowsFront c.args.bytes.now)
+      talks_call g.S.Site g.met.S.Site.logs_now (ShowsFront c.args.bytes.now)
           c.args.site.now c.loop-rest.site c.show.new.self c.loop-rest.invariant.1 c.show.ensures.files c.show.ensures.call
           (showing_front _ _ (g.S.Site.log c.args.site.now) (g.S.Site.log c.show.new.self) on),
     )

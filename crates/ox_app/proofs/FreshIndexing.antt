@@ -1,0 +1,185 @@
+-- What a run carries along is fresh indexing of the machine's blocks.
+use Rattle.std.proofs.Common.{◌≡◌, ◌∙◌, ◌⊎◌, ◌≤◌, inl, inr, ℕ, suc, Bool, true, false, List, [], ◌∷◌, take, Option, Some, refl, sym, ap, subst, arith}
+use Rattle.std.specs.Prelude.{Ok, bytes_eq}
+use Rattle.std.proofs.lemmas.Bool.{true≢false}
+use Rattle.std.proofs.lemmas.Slice.Eq.{bytes_eq-Decides}
+use Rattle.std.specs.List.{concat}
+use Rattle.ox_outside.specs.Crash.{Remains}
+use Rattle.ox_outside.specs.Event.{Event, has_ended}
+use Rattle.ox_outside.specs.Files.{Files}
+use Rattle.ox_outside.specs.declared.site.Site.{Ghosts as Meanings}
+use Rattle.ox_outside.specs.Log.{Grows}
+use Rattle.ox_outside.proofs.Log.{grows_weaker}
+use Rattle.ox_feed.specs.Feed.{FeedLine}
+use Rattle.ox_model.specs.Machine.{Machine, stack_of}
+use Rattle.ox_model.specs.Moments.{acknowledgements_in, count, lines_in}
+use Rattle.ox_model.specs.Replies.{after, after_on, replies, replies_on}
+use Rattle.ox_model.specs.Stack.{Stack}
+use Rattle.ox_sat.specs.Profiles.{profile_word}
+use Rattle.ox_model.proofs.AnswersOfStacks.{after_alike, replies_alike}
+use Rattle.ox_sat.specs.declared.profiles.ProfileName.{ProfileName}
+use Rattle.ox_sat.specs.declared.profiles.ProfileName.TheVariants.{Mainnet, Regtest, Lab}
+use Rattle.ox_store.specs.Make.{made_stack}
+use Rattle.ox_app.specs.declared.status.Status.{Status}
+use Rattle.ox_app.specs.declared.status.Status.TheVariants.{DiskFault, HearFault, NotEmpty, NotStore, ShowFault}
+use Rattle.ox_app.proofs.Subcommands.{same_depth}
+use Rattle.ox_outside.proofs.Calls.{leaves_weaker}
+use Rattle.ox_app.specs.Headline.{Leaves, RunsFeed, StopsBefore, Survives, stack_after}
+use Rattle.ox_outside.specs.Runs.{LeavesOnly}
+use Rattle.ox_app.specs.Show.{EndsDone}
+use Rattle.ox_app.specs.Status.{IsApplyStatus, IsInitStatus, IsRefusal}
+use Rattle.ox_app.specs.Subcommands.{IsDepth, IsReading, apply_words, fold_words, init_words}
+
+same_answers : (machine : Machine) (lines : List FeedLine) → concat (replies_on (stack_of machine) lines) ≡ concat (replies machine lines)
+same_answers machine lines = ap (λ (l : List (List ℕ)). concat l) (sym (replies_alike machine lines))
+
+runs_alike : (machine : Machine) (status : Status) (events : List Event) → RunsFeed (replies_on (stack_of machine)) status events → RunsFeed (replies machine) status events
+runs_alike machine status events runs = record {
+  only = runs.only;
+  shown = (runs.shown.0, runs.shown.1 ∙ same_answers machine (lines_in events));
+  whole = λ e. ((runs.whole e).0 ∙ same_answers machine (lines_in events), (runs.whole e).1);
+  within = runs.within;
+  too_much = runs.too_much;
+}
+
+pub grows_alike : (machine : Machine) (status : Status) (first now : Option (List Event)) → Grows (RunsFeed (replies_on (stack_of machine)) status) first now → Grows (RunsFeed (replies machine) status) first now
+grows_alike machine status first now = grows_weaker (RunsFeed (replies_on (stack_of machine)) status) (RunsFeed (replies machine) status) first now (runs_alike machine status)
+
+survives_alike : (machine : Machine) (events : List Event) (files : Files) → Survives (replies_on (stack_of machine)) (after_on (stack_of machine)) events files
+    → Survives (replies machine) (stack_after machine) events files
+survives_alike machine events files survives =
+    let same = sym (replies_alike machine (lines_in events)) in
+    record {
+      kept = survives.kept;
+      shown = (survives.shown.0, survives.shown.1 ∙ same_answers machine (take survives.kept (lines_in events)));
+      counted = subst (λ (l : List (List ℕ)). (count l events ≡ survives.kept) ⊎ (count l events ≡ suc survives.kept)) same survives.counted;
+      acknowledged = subst (λ (l : List (List ℕ)). acknowledgements_in l events ≤ survives.kept) same survives.acknowledged;
+      stands_for = survives.stands_for ∙ ap (λ (s : Stack). Ok s) (sym (after_alike machine (take survives.kept (lines_in events))));
+    }
+
+module _ {S : Type 0} (means : Meanings S) where
+  leaves_by_events : (machine : Machine) (old : S) (files : Files) (events : List Event) → Leaves means.may_leave old (replies_on (stack_of machine)) (after_on (stack_of machine)) files events
+      → Leaves means.may_leave old (replies machine) (stack_after machine) files events
+  leaves_by_events machine old files [] (inl before) = inl before
+  leaves_by_events machine old files [] (inr stood) = inr (stood ∙ ap (λ (s : Stack). Ok s) (sym (after_alike machine [])))
+  leaves_by_events machine old files (event ∷ events) survives = survives_alike machine (event ∷ events) files survives
+
+  pub leaves_alike : (machine : Machine) (old new : S)
+      → LeavesOnly means old new (λ r. Grows (Leaves means.may_leave old (replies_on (stack_of machine)) (after_on (stack_of machine)) r.files) (means.log old) (Some r.log))
+      → LeavesOnly means old new (λ r. Grows (Leaves means.may_leave old (replies machine) (stack_after machine) r.files) (means.log old) (Some r.log))
+  leaves_alike machine old new =
+      leaves_weaker means old new _ _ (λ r.
+      grows_weaker (Leaves means.may_leave old (replies_on (stack_of machine)) (after_on (stack_of machine)) r.files) (Leaves means.may_leave old (replies machine) (stack_after machine) r.files) (means.log old) (Some r.log)
+      (leaves_by_events machine old r.files))
+
+-- a run that stops before a line
+stops_alike : (machine : Machine) (events : List Event) (files : Files) → StopsBefore (replies_on (stack_of machine)) (after_on (stack_of machine)) files events
+    → StopsBefore (replies machine) (stack_after machine) files events
+stops_alike machine events files stops =
+    let same = sym (replies_alike machine (lines_in events)) in
+    record {
+      kept = stops.kept;
+      counted = subst (λ (l : List (List ℕ)). (count l events ≡ stops.kept) ⊎ (count l events ≡ suc stops.kept)) same stops.counted;
+      shown = stops.shown ∙ same_answers machine (take stops.kept (lines_in events));
+      stands_for = stops.stands_for ∙ ap (λ (s : Stack). Ok s) (sym (after_alike machine (take stops.kept (lines_in events))));
+    }
+
+pub grows_stops_alike : (machine : Machine) (files : Files) (first now : Option (List Event)) → Grows (StopsBefore (replies_on (stack_of machine)) (after_on (stack_of machine)) files) first now
+    → Grows (StopsBefore (replies machine) (stack_after machine) files) first now
+grows_stops_alike machine files first now =
+    grows_weaker (StopsBefore (replies_on (stack_of machine)) (after_on (stack_of machine)) files) (StopsBefore (replies machine) (stack_after machine) files) first now
+    (λ events stops. stops_alike machine events files stops)
+
+-- ---- words
+
+-- two words that differ aren't the same
+apart : (x y : List ℕ) → bytes_eq x y ≡ false → x ≡ y → ⊥
+apart x y differ is = true≢false (sym ((bytes_eq-Decides x y).1 is) ∙ differ)
+
+same_word : (a b : ProfileName) → profile_word a ≡ profile_word b → a ≡ b
+same_word Mainnet Mainnet is = refl
+same_word Mainnet Regtest is = absurd (apart (profile_word Mainnet) (profile_word Regtest) refl is)
+same_word Mainnet Lab is = absurd (apart (profile_word Mainnet) (profile_word Lab) refl is)
+same_word Regtest Mainnet is = absurd (apart (profile_word Regtest) (profile_word Mainnet) refl is)
+same_word Regtest Regtest is = refl
+same_word Regtest Lab is = absurd (apart (profile_word Regtest) (profile_word Lab) refl is)
+same_word Lab Mainnet is = absurd (apart (profile_word Lab) (profile_word Mainnet) refl is)
+same_word Lab Regtest is = absurd (apart (profile_word Lab) (profile_word Regtest) refl is)
+same_word Lab Lab is = refl
+
+second_of : (x a b : List ℕ) → x ∷ a ∷ [] ≡ x ∷ b ∷ [] → a ≡ b
+second_of x a b is = cc is
+
+third_of : (x a b c d : List ℕ) → x ∷ a ∷ c ∷ [] ≡ x ∷ b ∷ d ∷ [] → (a ≡ b) × (c ≡ d)
+third_of x a b c d is = (cc is, cc is)
+
+pub fold_same : (a b : ProfileName) → fold_words a ≡ fold_words b → a ≡ b
+fold_same a b is = same_word a b (second_of _ _ _ is)
+
+pub init_same : (a b : ProfileName) (m n : ℕ) → IsDepth m → IsDepth n → init_words a m ≡ init_words b n → (a ≡ b) × (m ≡ n)
+init_same a b m n p q is =
+    let parts = third_of _ _ _ _ _ is in
+    (same_word a b parts.0, same_depth m n p q parts.1)
+
+pub made_same : (a b : ProfileName) (m n : ℕ) → a ≡ b → m ≡ n → made_stack a m ≡ made_stack b n
+made_same a b m n e f = rw (e, f) refl
+
+-- the words of an apply aren't those of a run that writes no file
+pub apply_writes : (words : List (List ℕ)) → words ≡ apply_words → IsReading words → ⊥
+apply_writes words is (inl fold) = cc (sym is ∙ fold.1)
+apply_writes words is (inr query) = cc (sym is ∙ query.1)
+
+-- nor are those of a making
+pub init_writes : (words : List (List ℕ)) (name : ProfileName) (depth : ℕ) → words ≡ init_words name depth → IsReading words → ⊥
+init_writes words name depth is (inl fold) = cc (sym is ∙ fold.1)
+init_writes words name depth is (inr query) = cc (sym is ∙ query.1)
+
+-- how an apply ends that shows a line of refusal
+pub apply_refuses : (status : Status) → IsApplyStatus status → IsRefusal status → status ≡ NotStore
+apply_refuses status (inl a) (inl e) = cc
+apply_refuses status (inl a) (inr (inl e)) = cc
+apply_refuses status (inr (inl a)) (inl e) = a
+apply_refuses status (inr (inl a)) (inr (inl e)) = a
+apply_refuses status (inr (inr (inl a))) (inl e) = cc
+apply_refuses status (inr (inr (inl a))) (inr (inl e)) = cc
+apply_refuses status (inr (inr (inr (inl a)))) (inl e) = cc
+apply_refuses status (inr (inr (inr (inl a)))) (inr (inl e)) = cc
+apply_refuses status (inr (inr (inr (inr (inl a))))) (inl e) = cc
+apply_refuses status (inr (inr (inr (inr (inl a))))) (inr (inl e)) = cc
+apply_refuses status (inr (inr (inr (inr (inr (inl a)))))) (inl e) = cc
+apply_refuses status (inr (inr (inr (inr (inr (inl a)))))) (inr (inl e)) = cc
+apply_refuses status (inr (inr (inr (inr (inr (inr a)))))) (inl e) = cc
+apply_refuses status (inr (inr (inr (inr (inr (inr a)))))) (inr (inl e)) = cc
+apply_refuses status a (inr (inr e)) = e
+
+-- how an init ends that shows a line of refusal
+pub init_refuses : (status : Status) → IsInitStatus status → IsRefusal status → status ≡ NotEmpty
+init_refuses status a (inr (inl e)) = e
+init_refuses status (inl a) (inl e) = cc
+init_refuses status (inl a) (inr (inr e)) = cc
+init_refuses status (inr (inl a)) (inl e) = a
+init_refuses status (inr (inl a)) (inr (inr e)) = a
+init_refuses status (inr (inr (inl a))) (inl e) = cc
+init_refuses status (inr (inr (inl a))) (inr (inr e)) = cc
+init_refuses status (inr (inr (inr (inl a)))) (inl e) = cc
+init_refuses status (inr (inr (inr (inl a)))) (inr (inr e)) = cc
+init_refuses status (inr (inr (inr (inr a)))) (inl e) = cc
+init_refuses status (inr (inr (inr (inr a)))) (inr (inr e)) = cc
+
+-- ---- a run without a fault
+
+contradicts : (b : Bool) → b ≡ true → b ≡ false → ⊥
+contradicts b e f = cc
+
+-- without a fault a run over a feed that ends is whole, or memory ran out
+pub completed : (answers : List FeedLine → List (List ℕ)) (status : Status) (disk hear show : Type 0) (events : List Event) → IsApplyStatus status → (status ≡ NotStore → ⊥)
+    → (status ≡ DiskFault → disk) → (status ≡ HearFault → hear) → (status ≡ ShowFault → show) → (disk → ⊥) → (hear → ⊥) → (show → ⊥) → RunsFeed answers status events → EndsDone status events
+completed answers status disk hear show events (inl is) opened four five six no_disk no_hear no_show runs ends = inl is
+completed answers status disk hear show events (inr (inl is)) opened four five six no_disk no_hear no_show runs ends = absurd (opened is)
+completed answers status disk hear show events (inr (inr (inl is))) opened four five six no_disk no_hear no_show runs ends = absurd (no_disk (four is))
+completed answers status disk hear show events (inr (inr (inr (inl is)))) opened four five six no_disk no_hear no_show runs ends = absurd (no_hear (five is))
+completed answers status disk hear show events (inr (inr (inr (inr (inl is))))) opened four five six no_disk no_hear no_show runs ends = absurd (no_show (six is))
+completed answers status disk hear show events (inr (inr (inr (inr (inr (inl is)))))) opened four five six no_disk no_hear no_show runs ends = inr is
+completed answers status disk hear show events (inr (inr (inr (inr (inr (inr is)))))) opened four five six no_disk no_hear no_show runs ends =
+    let limit = runs.too_much is in
+    absurd (contradicts (has_ended 0 events) (ends limit.0) limit.1)

@@ -1,0 +1,37 @@
+use Rattle.std.proofs.Common.{◌∙◌, sym}
+use Rattle.std.specs.Prelude.{codes, decimal}
+use Rattle.std.proofs.lemmas.Slice.Eq.{bytes_eq-Decides}
+use Rattle.ox_sat.specs.Profiles.{profile_word}
+use Rattle.ox_app.proofs.Subcommands.{one_word, two_words, three_words}
+use Rattle.ox_app.proofs.subcommand.subcommand_of.Goals as goal
+
+pub returns-in-len1 : goal.returns-in-len1
+returns-in-len1 c =
+    let first = rw (c.as_slice.ensures, c.as_slice-then-words-lt2.ensures) at c.if-eq.ensures in
+    one_word c.args.words.now c.first-item.result (codes "apply") c.in-len1.len_at_least c.in-len1.len_below c.first-item.is
+    ((bytes_eq-Decides c.first-item.result (codes "apply")).0 (sym first))
+
+pub returns-in-len2 : goal.returns-in-len2
+returns-in-len2 c =
+    let first = rw (c.as_slice-then-words-lt3.ensures, c.as_slice-then-words-lt3-2.ensures) at c.if-eq-2.ensures in
+    two_words c.args.words.now c.first-item-then-words-lt3.result c.path-item.result (codes "query") c.as_slice-in-len2.result.now
+    c.in-len2.len_at_least c.in-len2.len_below c.first-item-then-words-lt3.is c.path-item.is
+    ((bytes_eq-Decides c.first-item-then-words-lt3.result (codes "query")).0 (sym first)) (sym c.as_slice-in-len2.ensures)
+
+pub returns-in-Some : goal.returns-in-Some
+returns-in-Some c =
+    let first = rw (c.as_slice-then-words-lt3-3.ensures, c.as_slice-then-words-lt3-4.ensures) at c.if-eq-3.ensures in
+    two_words c.args.words.now c.first-item-then-words-lt3-2.result c.profile-item.result (codes "fold") (profile_word c.in-Some.name)
+    c.in-len2.len_at_least c.in-len2.len_below c.first-item-then-words-lt3-2.is c.profile-item.is
+    ((bytes_eq-Decides c.first-item-then-words-lt3-2.result (codes "fold")).0 (sym first)) (sym c.as_slice-in-len2-2.ensures ∙ c.in-Some.ensures.found)
+
+pub returns-in-Some-Some : goal.returns-in-Some-Some
+returns-in-Some-Some c =
+    let first = rw (c.as_slice-then-words-lt4.ensures, c.as_slice-then-words-lt4-2.ensures) at c.if-eq-4.ensures in
+    let depth = c.in-Some-Some.ensures'.found in (
+      depth.0,
+      three_words c.args.words.now c.first-item-then-words-lt4.result c.profile-item-then-words-lt4.result c.depth-item.result
+          (codes "init") (profile_word c.in-Some-Some.name) (decimal c.in-Some-Some.depth)
+          c.in-len3.len_at_least c.in-len3.len_below c.first-item-then-words-lt4.is c.profile-item-then-words-lt4.is c.depth-item.is
+          ((bytes_eq-Decides c.first-item-then-words-lt4.result (codes "init")).0 (sym first)) (sym c.as_slice-in-len3.ensures ∙ c.in-Some-Some.ensures.found) (sym c.as_slice-in-len3-2.ensures ∙ depth.1),
+    )

@@ -1,0 +1,64 @@
+-- How a run ends, and its exit status.
+use Rattle.std.specs.Prelude.{◌≡◌, ◌⊎◌, ℕ, Result, Ok, Err}
+use Rattle.ox_app.specs.declared.status.Status.{Status}
+use Rattle.ox_app.specs.declared.status.Status.TheVariants.{Done, Usage, NotEmpty, NotStore, DiskFault, HearFault, ShowFault, Memory, TooMuch}
+use Rattle.ox_app.specs.declared.stop.Stop.{Stop}
+use Rattle.ox_app.specs.declared.stop.Stop.TheVariants as stops
+
+-- the exit status of the process
+abbrev pub code_of : Status → ℕ
+code_of Done = 0
+code_of Usage = 1
+code_of NotEmpty = 2
+code_of NotStore = 3
+code_of DiskFault = 4
+code_of HearFault = 5
+code_of ShowFault = 6
+code_of Memory = 8
+code_of TooMuch = 9
+
+-- how a run over a feed ends
+abbrev pub status_of : Result (Unit {0}) Stop → Status
+status_of (Ok done) = Done
+status_of (Err stops.DiskFault) = DiskFault
+status_of (Err stops.HearFault) = HearFault
+status_of (Err stops.ShowFault) = ShowFault
+status_of (Err stops.Memory) = Memory
+status_of (Err stops.TooMuch) = TooMuch
+
+-- how `fold` may end
+abbrev pub IsFoldStatus : Status → Type 0
+IsFoldStatus status =
+    (status ≡ Done) ⊎ (status ≡ HearFault) ⊎ (status ≡ ShowFault) ⊎ (status ≡ Memory) ⊎ (status ≡ TooMuch)
+
+-- how `init` may end
+abbrev pub IsInitStatus : Status → Type 0
+IsInitStatus status =
+    (status ≡ Done) ⊎ (status ≡ NotEmpty) ⊎ (status ≡ DiskFault) ⊎ (status ≡ ShowFault) ⊎ (status ≡ Memory)
+
+-- how `apply` may end
+abbrev pub IsApplyStatus : Status → Type 0
+IsApplyStatus status =
+    (status ≡ Done) ⊎ (status ≡ NotStore) ⊎ (status ≡ DiskFault) ⊎ (status ≡ HearFault)
+    ⊎ (status ≡ ShowFault) ⊎ (status ≡ Memory) ⊎ (status ≡ TooMuch)
+
+-- how `query` may end
+abbrev pub IsQueryStatus : Status → Type 0
+IsQueryStatus status =
+    (status ≡ Done) ⊎ (status ≡ NotStore) ⊎ (status ≡ DiskFault) ⊎ (status ≡ ShowFault) ⊎ (status ≡ Memory)
+
+-- how a run may end that doesn't open its files
+abbrev pub IsUnopened : Status → Type 0
+IsUnopened status = (status ≡ NotStore) ⊎ (status ≡ DiskFault) ⊎ (status ≡ Memory)
+
+-- how `init` may end where a file isn't empty
+abbrev pub IsSparing : Status → Type 0
+IsSparing status = (status ≡ NotEmpty) ⊎ (status ≡ DiskFault) ⊎ (status ≡ Memory)
+
+-- all was done, or memory ran out
+abbrev pub IsDone : Status → Type 0
+IsDone status = (status ≡ Done) ⊎ (status ≡ Memory)
+
+-- how a run ends that showed one line and wrote no file
+abbrev pub IsRefusal : Status → Type 0
+IsRefusal status = (status ≡ Usage) ⊎ (status ≡ NotEmpty) ⊎ (status ≡ NotStore)

@@ -1,0 +1,50 @@
+-- The words of the program, subcommand by subcommand.
+use Rattle.std.specs.Prelude.{◌≡◌, ◌≢◌, ◌⊎◌, ℕ, ◌≤◌, List, [], ◌∷◌, codes, decimal}
+use Rattle.ox_sat.specs.Profiles.{profile_word}
+use Rattle.ox_sat.specs.declared.profiles.ProfileName.{ProfileName}
+use Rattle.ox_app.specs.declared.subcommand.Subcommand.{Subcommand}
+use Rattle.ox_app.specs.declared.subcommand.Subcommand.TheVariants.{Fold, Init, Apply, Query, Unknown}
+
+-- a run over a feed, by its profile
+abbrev pub fold_words : ProfileName → List (List ℕ)
+fold_words name = codes "fold" ∷ profile_word name ∷ []
+
+-- the making of a store, by its profile and its depth
+abbrev pub init_words : ProfileName → ℕ → List (List ℕ)
+init_words name depth = codes "init" ∷ profile_word name ∷ decimal depth ∷ []
+
+-- a run over a feed and a store
+abbrev pub apply_words : List (List ℕ)
+apply_words = codes "apply" ∷ []
+
+-- a query of a path
+abbrev pub query_words : List ℕ → List (List ℕ)
+query_words path = codes "query" ∷ path ∷ []
+
+-- how many blocks a store may keep
+pub record IsDepth (depth : ℕ) : Type 0 where
+  pub some : 1 ≤ depth
+  pub few : depth ≤ 1000
+
+-- the words are no subcommand
+pub record IsUnknown (words : List (List ℕ)) : Type 0 where
+  pub no_fold : (name : ProfileName) → words ≢ fold_words name
+  pub no_init : (name : ProfileName) (depth : ℕ) → IsDepth depth → words ≢ init_words name depth
+  pub no_apply : words ≢ apply_words
+  pub no_query : (path : List ℕ) → words ≢ query_words path
+
+-- the words are this subcommand
+abbrev pub IsSubcommand : List (List ℕ) → Subcommand → Type 0
+IsSubcommand words (Fold name) = words ≡ fold_words name
+IsSubcommand words (Init name depth) = IsDepth depth × (words ≡ init_words name depth)
+IsSubcommand words Apply = words ≡ apply_words
+IsSubcommand words (Query path) = words ≡ query_words path.now
+IsSubcommand words Unknown = IsUnknown words
+
+-- the words of a run that opens files
+abbrev pub IsOpening : List (List ℕ) → Type 0
+IsOpening words = (words ≡ apply_words) ⊎ ((path : List ℕ) × (words ≡ query_words path))
+
+-- the words of a run that writes no file
+abbrev pub IsReading : List (List ℕ) → Type 0
+IsReading words = ((name : ProfileName) × (words ≡ fold_words name)) ⊎ ((path : List ℕ) × (words ≡ query_words path))

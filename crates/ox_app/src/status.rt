@@ -1,0 +1,46 @@
+//! How a run ends.
+
+ghost use Rattle.std.specs.Prelude.{◌≡◌};
+ghost use Rattle.ox_app.specs.Status.{code_of};
+
+/// How a run ended.
+#[derive(Clone, Copy, Debug, PartialEq, Eq)]
+pub enum Status {
+    /// Channel 0 was read to its end and each line was answered, or the line or body was shown.
+    Done,
+    /// The words are no subcommand.
+    Usage,
+    /// A store was to be made of files that aren't both empty.
+    NotEmpty,
+    /// The files are no store.
+    NotStore,
+    /// A call on a file failed.
+    DiskFault,
+    /// Hearing on channel 0 failed.
+    HearFault,
+    /// Showing on channel 0 failed.
+    ShowFault,
+    /// There is no memory.
+    Memory,
+    /// As many bytes were heard as a feed may have, and channel 0 hasn't ended.
+    TooMuch,
+}
+
+impl Status {
+    /// The exit status of the process: 0 to 6, 8 and 9, in the order above.
+    pub fn code(self) -> u8
+        ensures { result ≡ code_of self }
+    {
+        match self {
+            Status::Done => 0,
+            Status::Usage => 1,
+            Status::NotEmpty => 2,
+            Status::NotStore => 3,
+            Status::DiskFault => 4,
+            Status::HearFault => 5,
+            Status::ShowFault => 6,
+            Status::Memory => 8,
+            Status::TooMuch => 9,
+        }
+    }
+}

@@ -1,0 +1,84 @@
+//! The subcommands.
+
+ghost use Rattle.std.specs.Prelude.{◌≡◌, ◌≢◌, ℕ, Some, IfSome, IfNone, decimal};
+ghost use Rattle.ox_sat.specs.Profiles.{profile_word};
+ghost use Rattle.ox_sat.specs.declared.profiles.ProfileName.{ProfileName};
+ghost use Rattle.ox_app.specs.Subcommands.{IsDepth, IsSubcommand};
+
+use ox_bytes::Bytes;
+use ox_sat::{ProfileName, read_number};
+
+/// What a run is asked for.
+#[derive(Clone, Copy, Debug)]
+pub enum Subcommand<'a> {
+    /// A run over a feed, without files.
+    Fold(ProfileName),
+    /// The making of a store of this depth.
+    Init(ProfileName, u16),
+    /// A run over a feed and a store.
+    Apply,
+    /// A query of a path.
+    Query(&'a [u8]),
+    /// The words are no subcommand.
+    Unknown,
+}
+
+// The profile that a word names.
+fn profile_in(word: &[u8]) -> Option<ProfileName>
+    ensures found { IfSome result (λ name. word.now ≡ profile_word name) }
+    ensures only { (name : ProfileName) → word.now ≡ profile_word name → result ≡ Some name }
+{
+    match word {
+        b"mainnet" => Some(ProfileName::Mainnet),
+        b"regtest" => Some(ProfileName::Regtest),
+        b"lab" => Some(ProfileName::Lab),
+        _ => None,
+    }
+}
+
+// The depth that a text writes.
+fn read_depth(text: &str) -> Option<u16>
+    ensures found { IfSome result (λ depth. IsDepth depth × (text.now ≡ decimal depth)) }
+    ensures only { IfNone result ((depth : ℕ) → IsDepth depth → text.now ≢ decimal depth) }
+{
+    match read_number(text) {
+        Some(number) if 1 <= number && number <= 1000 => Some(number as u16),
+        _ => None,
+    }
+}
+
+// The depth that a word writes: decimal digits with no sign and no leading zero, from 1 to 1,000.
+fn depth_in(word: &[u8]) -> Option<u16>
+    ensures found { IfSome result (λ depth. IsDepth depth × (word.now ≡ decimal depth)) }
+    ensures only { IfNone result ((depth : ℕ) → IsDepth depth → word.now ≢ decimal depth) }
+{
+    match str::from_utf8(word) {
+        Ok(text) => read_depth(text),
+        Err(_) => None,
+    }
+}
+
+/// The subcommand that words are.
+pub fn subcommand_of(words: &[Bytes]) -> Subcommand<'_>
+    ensures { IsSubcommand words.now result }
+{
+    match words {
+        [first] if first.as_slice() == b"apply".as_slice() => Subcommand::Apply,
+        [first, path] if first.as_slice() == b"query".as_slice() => Subcommand::Query(
+            path.as_slice(),
+        ),
+        [first, profile] if first.as_slice() == b"fold".as_slice() => match profile_in(
+            profile.as_slice(),
+        ) {
+            Some(name) => Subcommand::Fold(name),
+            None => Subcommand::Unknown,
+        },
+        [first, profile, depth] if first.as_slice() == b"init".as_slice() => {
+            match (profile_in(profile.as_slice()), depth_in(depth.as_slice())) {
+                (Some(name), Some(depth)) => Subcommand::Init(name, depth),
+                _ => Subcommand::Unknown,
+            }
+        }
+        _ => Subcommand::Unknown,
+    }
+}
