@@ -1,8 +1,10 @@
-//! What no clause says: the bytes of the files, that calls succeed where there is ample memory, and what stands after
-//! some stops. The first block is Bitcoin's; the bytes and places of files are counted by hand.
+//! What no clause says: the bytes of the files, that calls succeed where there is ample memory, and
+//! what stands after some stops. The first block is Bitcoin's; the bytes and places of files are
+//! counted by hand.
 
 use crate::{About, Kept, MakeFault, OpenFault, Ready, Store, Why};
-use ox_bytes::Bytes;
+use ox_block::{hash, read_block, root, write_block};
+use ox_bytes::{Bytes, put_compact, put_u32le};
 use ox_feed::{Command, command_of};
 use ox_memsite::{Choice, MemSite};
 use ox_model::{Refusal, View};
@@ -10,10 +12,15 @@ use ox_outside::{Site, Which};
 use ox_sat::ProfileName;
 use std::alloc::Global;
 use std::process::Abort;
-use std::test::Fail;
 
-const GENESIS: &[u8] =
-    b"connect 0100000000000000000000000000000000000000000000000000000000000000000000003ba3edfd7a7b12b27ac72c3e67768f617fc81bc3888a51323a9fb8aa4b1e5e4a29ab5f49ffff001d1dac2b7c0101000000010000000000000000000000000000000000000000000000000000000000000000ffffffff4d04ffff001d0104455468652054696d65732030332f4a616e2f32303039204368616e63656c6c6f72206f6e206272696e6b206f66207365636f6e64206261696c6f757420666f722062616e6b73ffffffff0100f2052a01000000434104678afdb0fe5548271967f1a67130b7105cd6a828e03909a67962e0ea1f61deb649f6bc3f4cef38c4f35504e51ec112de5c384df7ba0b8d578a4c702b6bf11d5fac00000000";
+const GENESIS: &[u8] = b"\
+    connect 0100000000000000000000000000000000000000000000000000000000000000000000003ba3edfd7a\
+    7b12b27ac72c3e67768f617fc81bc3888a51323a9fb8aa4b1e5e4a29ab5f49ffff001d1dac2b7c010100000001\
+    0000000000000000000000000000000000000000000000000000000000000000ffffffff4d04ffff001d010445\
+    5468652054696d65732030332f4a616e2f32303039204368616e63656c6c6f72206f6e206272696e6b206f6620\
+    7365636f6e64206261696c6f757420666f722062616e6b73ffffffff0100f2052a01000000434104678afdb0fe\
+    5548271967f1a67130b7105cd6a828e03909a67962e0ea1f61deb649f6bc3f4cef38c4f35504e51ec112de5c38\
+    4df7ba0b8d578a4c702b6bf11d5fac00000000";
 
 // Regtest, depth 100, no records.
 const EMPTY: [u8; 27] = [
@@ -41,6 +48,33 @@ fn commits_first<S: Site>(rt: &impl Abort, alloc: Global, site: &mut S) -> bool 
         Ok(store) => store.commands() == 1 && store.live().blocks() == 1,
         Err(_) => false,
     }
+}
+
+// Two empty files.
+fn empty_site(rt: &impl Abort, alloc: Global) -> MemSite {
+    MemSite::new(alloc).expect(rt, "memory")
+}
+
+// Whether two files are made a store of regtest that says of itself what it was made with.
+fn is_made(alloc: Global, site: &mut MemSite) -> bool {
+    match Store::make(alloc, site, ProfileName::Regtest, 100) {
+        Ok(store) => {
+            let about = About {
+                depth: 100,
+                kept: 0,
+            };
+            store.about() == about
+        }
+        Err(_) => false,
+    }
+}
+
+// Whether two files aren't made a store since they aren't empty.
+fn is_not_empty(alloc: Global, site: &mut MemSite) -> bool {
+    matches!(
+        Store::make(alloc, site, ProfileName::Regtest, 100),
+        Err(MakeFault::NotEmpty)
+    )
 }
 
 // How many blocks two files have; 99 where they are no store.
@@ -74,7 +108,7 @@ fn blocks_after(
     site: &MemSite,
     moment: u64,
     fill: u8,
-) -> Result<u32, Fail> {
+) -> u32 {
     if moment > site.now() {
         panic!(rt; "no such moment");
     }
@@ -83,99 +117,149 @@ fn blocks_after(
         fill,
         keep: 1000,
     };
-    let mut after = site.crash(&choice)?;
-    Ok(blocks_in(alloc, &mut after))
+    let mut after = site.crash(&choice).expect(rt, "memory");
+    blocks_in(alloc, &mut after)
 }
 
 #[test]
-fn a_store_is_made_of_empty_files(rt: HostRuntime) -> Result<(), Fail> {
+fn a_store_is_made_of_empty_files(rt: HostRuntime) {
     let alloc = rt.alloc();
-    let mut site = MemSite::new(alloc)?;
-    let Ok(store) = Store::make(alloc, &mut site, ProfileName::Regtest, 100) else {
-        panic!(rt; "not made");
-    };
-    assert_eq!(rt;
-        store.about(),
-        About {
-            depth: 100,
-            kept: 0
-        }
-    );
-    assert_eq!(rt; site.file(Which::A), EMPTY.as_slice());
-    assert_eq!(rt; site.file(Which::B), b"\0".as_slice());
-    let again = Store::make(alloc, &mut site, ProfileName::Regtest, 100);
-    assert!(rt; matches!(again, Err(MakeFault::NotEmpty)));
-    Ok(())
+    let mut site = empty_site(&rt, alloc);
+    assert!(rt; is_made(alloc, &mut site));
+    assert!(rt; site.file(Which::A) == EMPTY.as_slice());
+    assert!(rt; site.file(Which::B) == b"\0".as_slice());
+    assert!(rt; is_not_empty(alloc, &mut site));
 }
 
 #[test]
-fn a_committed_block_is_there_when_opened(rt: HostRuntime) -> Result<(), Fail> {
+fn a_committed_block_is_there_when_opened(rt: HostRuntime) {
     let alloc = rt.alloc();
-    let mut site = MemSite::new(alloc)?;
+    let mut site = empty_site(&rt, alloc);
     assert!(rt; commits_first(&rt, alloc, &mut site));
     let file = site.file(Which::A);
-    assert_eq!(rt; file.len(), 318);
-    assert_eq!(rt;
-        file.get(26..32),
-        Some([0x01, 0x1e, 0x01, 0x00, 0x00, 0x01].as_slice())
-    );
-    assert_eq!(rt; file.last(), Some(&0x00));
-    assert_eq!(rt; blocks_in(alloc, &mut site), 1);
-    Ok(())
+    assert!(rt; file.len() == 318);
+    assert!(rt; file.get(26..32) == Some([0x01, 0x1e, 0x01, 0x00, 0x00, 0x01].as_slice()));
+    assert!(rt; file.last() == Some(&0x00));
+    assert!(rt; blocks_in(alloc, &mut site) == 1);
 }
 
 #[test]
-fn what_is_no_store_is_told_by_its_place(rt: HostRuntime) -> Result<(), Fail> {
+fn what_is_no_store_is_told_by_its_place(rt: HostRuntime) {
     let alloc = rt.alloc();
-    let mut site = MemSite::new(alloc)?;
+    let mut site = empty_site(&rt, alloc);
     assert!(rt; commits_first(&rt, alloc, &mut site));
     // An open gate with nothing behind it, and one with a payload that has no block.
     overwrite(&rt, &mut site, 317, &[0x01]);
-    assert_eq!(rt; fault_in_a(alloc, &mut site), 317);
+    assert!(rt; fault_in_a(alloc, &mut site) == 317);
     overwrite(
         &rt,
         &mut site,
         317,
         &[0x01, 0x01, 0x00, 0x00, 0x00, 0x00, 0x00],
     );
-    assert_eq!(rt; fault_in_a(alloc, &mut site), 317);
+    assert!(rt; fault_in_a(alloc, &mut site) == 317);
     // The same payload before the gate that is cut.
     overwrite(&rt, &mut site, 323, &[0x01]);
-    assert_eq!(rt; fault_in_a(alloc, &mut site), 317);
+    assert!(rt; fault_in_a(alloc, &mut site) == 317);
     // A body of one byte.
     overwrite(&rt, &mut site, 18, &[0x01]);
-    assert_eq!(rt; fault_in_a(alloc, &mut site), 26);
+    assert!(rt; fault_in_a(alloc, &mut site) == 26);
     overwrite(&rt, &mut site, 0, &[0x00]);
-    assert_eq!(rt; fault_in_a(alloc, &mut site), 0);
-    Ok(())
+    assert!(rt; fault_in_a(alloc, &mut site) == 0);
 }
 
 // The record's write and its sync are the calls 9 and 10.
 #[test]
-fn a_record_whose_sync_fails_is_no_command(rt: HostRuntime) -> Result<(), Fail> {
+fn a_record_whose_sync_fails_is_no_command(rt: HostRuntime) {
     let alloc = rt.alloc();
-    let mut site = MemSite::new(alloc)?;
-    site.fail(10)?;
+    let mut site = empty_site(&rt, alloc);
+    site.fail(10).expect(&rt, "memory");
     assert!(rt; !commits_first(&rt, alloc, &mut site));
     let stopped = site.now();
-    assert_eq!(rt; blocks_after(&rt, alloc, &site, stopped, 0x00)?, 0);
-    assert_eq!(rt; blocks_after(&rt, alloc, &site, stopped, 0x07)?, 0);
-    Ok(())
+    assert!(rt; blocks_after(&rt, alloc, &site, stopped, 0x00) == 0);
+    assert!(rt; blocks_after(&rt, alloc, &site, stopped, 0x07) == 0);
 }
 
 // The record, its sync, the gate and its sync are the moments 8 to 11.
 #[test]
-fn a_stop_leaves_the_chain_before_or_after(rt: HostRuntime) -> Result<(), Fail> {
+fn a_stop_leaves_the_chain_before_or_after(rt: HostRuntime) {
     let alloc = rt.alloc();
-    let mut site = MemSite::new(alloc)?;
+    let mut site = empty_site(&rt, alloc);
     assert!(rt; commits_first(&rt, alloc, &mut site));
-    assert_eq!(rt; site.now(), 11);
-    assert_eq!(rt; blocks_after(&rt, alloc, &site, 8, 0x07)?, 0);
-    assert_eq!(rt; blocks_after(&rt, alloc, &site, 9, 0x07)?, 0);
-    assert_eq!(rt; blocks_after(&rt, alloc, &site, 10, 0x00)?, 0);
-    assert_eq!(rt; blocks_after(&rt, alloc, &site, 10, 0x07)?, 1);
-    assert_eq!(rt; blocks_after(&rt, alloc, &site, 11, 0x07)?, 1);
-    Ok(())
+    assert!(rt; site.now() == 11);
+    assert!(rt; blocks_after(&rt, alloc, &site, 8, 0x07) == 0);
+    assert!(rt; blocks_after(&rt, alloc, &site, 9, 0x07) == 0);
+    assert!(rt; blocks_after(&rt, alloc, &site, 10, 0x00) == 0);
+    assert!(rt; blocks_after(&rt, alloc, &site, 10, 0x07) == 1);
+    assert!(rt; blocks_after(&rt, alloc, &site, 11, 0x07) == 1);
+}
+
+// The bytes of a block of a coinbase alone, whose script has so many bytes, with a root of zeros: 140
+// bytes, the script's length and the script.
+fn rootless(rt: &impl Abort, alloc: Global, previous: &[u8; 32], mark: u8, script: u32) -> Bytes {
+    let filling = Vec::from_elem(alloc, mark, script as usize).expect(rt, "memory");
+    let mut bytes = Bytes::empty(alloc);
+    put_u32le(&mut bytes, 1).expect(rt, "memory");
+    bytes.append(previous).expect(rt, "memory");
+    bytes.append(&[0; 44]).expect(rt, "memory");
+    bytes.append(b"\x01\x01\0\0\0\x01").expect(rt, "memory");
+    bytes.append(&[0; 32]).expect(rt, "memory");
+    bytes.append(&[0xff; 4]).expect(rt, "memory");
+    put_compact(&mut bytes, script as u64).expect(rt, "memory");
+    bytes.append(filling.as_slice()).expect(rt, "memory");
+    bytes.append(&[0xff; 4]).expect(rt, "memory");
+    bytes.append(&[1]).expect(rt, "memory");
+    bytes.append(&[0; 13]).expect(rt, "memory");
+    bytes
+}
+
+// Such a block with its root, and its hash.
+fn block_on(
+    rt: &impl Abort,
+    alloc: Global,
+    previous: &[u8; 32],
+    mark: u8,
+    script: u32,
+) -> (Bytes, [u8; 32]) {
+    let bytes = rootless(rt, alloc, previous, mark, script);
+    let Ok(mut block) = read_block(alloc, bytes.as_slice()) else {
+        panic!(rt; "no block");
+    };
+    if block.txs.len() == 0 {
+        panic!(rt; "no transaction");
+    }
+    block.header.root = root(alloc, &block).expect(rt, "memory");
+    let hash = hash(&block.header);
+    (write_block(alloc, &block).expect(rt, "memory"), hash)
+}
+
+// Opens a store and connects a block. Whether its record is written.
+fn applies(alloc: Global, site: &mut MemSite, block: Bytes) -> bool {
+    match Store::open(alloc, site) {
+        Ok(store) => match store.prepare(&Command::Connect(block)) {
+            Ok(ready) => ready.commit(site).is_ok(),
+            Err(_) => false,
+        },
+        Err(_) => false,
+    }
+}
+
+// The greatest block has 4,000,000 bytes: 145 with five for the script's length, and its script.
+#[test]
+fn a_hundred_blocks_and_the_greatest_are_opened_again(rt: HostRuntime) {
+    let alloc = rt.alloc();
+    let mut site = empty_site(&rt, alloc);
+    assert!(rt; is_made(alloc, &mut site));
+    let mut tip = [0; 32];
+    for mark in 0..100u8 {
+        let (block, hash) = block_on(&rt, alloc, &tip, mark, 1);
+        assert!(rt; applies(alloc, &mut site, block));
+        tip = hash;
+    }
+    let (block, _) = block_on(&rt, alloc, &tip, 100, 3_999_855);
+    assert!(rt; block.len() == 4_000_000);
+    assert!(rt; applies(alloc, &mut site, block));
+    assert!(rt; blocks_in(alloc, &mut site) == 101);
 }
 
 // Lets a command go that isn't to be committed.
@@ -191,7 +275,7 @@ fn give_up(ready: Ready) {
 
 // Prepares the first command of a store.
 fn prepared(rt: &impl Abort, store: Store, command: &Command) -> Result<Ready, Kept> {
-    assert_eq!(rt; store.commands(), 0);
+    assert!(rt; store.commands() == 0);
     store.prepare(command)
 }
 
@@ -203,26 +287,33 @@ fn refused(rt: &impl Abort, store: Store, command: &Command, refusal: Refusal) -
             panic!(rt; "prepared");
         }
         Err(Kept { store, why }) => {
-            assert_eq!(rt; why, Why::Refused(refusal));
+            assert!(rt; why == Why::Refused(refusal));
             store
         }
     }
 }
 
+// Whether the first block is prepared, and is the tip then.
+fn is_prepared(rt: &impl Abort, alloc: Global, store: Store) -> bool {
+    match prepared(rt, store, &first_block(rt, alloc)) {
+        Ok(ready) => {
+            let height = ready.tip().map(|(height, _)| height);
+            give_up(ready);
+            height == Some(0)
+        }
+        Err(_) => false,
+    }
+}
+
 #[test]
-fn a_refusal_hands_the_store_back(rt: HostRuntime) -> Result<(), Fail> {
+fn a_refusal_hands_the_store_back(rt: HostRuntime) {
     let alloc = rt.alloc();
-    let mut site = MemSite::new(alloc)?;
+    let mut site = empty_site(&rt, alloc);
     let Ok(store) = Store::make(alloc, &mut site, ProfileName::Regtest, 100) else {
         panic!(rt; "not made");
     };
     let store = refused(&rt, store, &Command::Disconnect, Refusal::Depth);
     let empty = Command::Connect(Bytes::empty(alloc));
     let store = refused(&rt, store, &empty, Refusal::Malformed { at: 0 });
-    let Ok(ready) = prepared(&rt, store, &first_block(&rt, alloc)) else {
-        panic!(rt; "not prepared");
-    };
-    assert_eq!(rt; ready.tip().map(|(height, _)| height), Some(0));
-    give_up(ready);
-    Ok(())
+    assert!(rt; is_prepared(&rt, alloc, store));
 }
