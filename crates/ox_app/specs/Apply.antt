@@ -27,29 +27,35 @@ after_line stack End = stack
 -- a line is carried out and answered; the end isn't answered
 abbrev pub CarriesOut : Line → Stack → Option CarriedOut → Type 0
 CarriesOut (Text line) stack None = ⊥
-CarriesOut (Text line) stack (Some carried) = Replies (text line) stack (Some carried.answer) carried.store.stack
+CarriesOut (Text line) stack (Some carried) =
+    Replies (text line) stack (Some carried.answer) carried.store.stack
 CarriesOut Long stack None = ⊥
-CarriesOut Long stack (Some carried) = Replies too_long stack (Some carried.answer) carried.store.stack
+CarriesOut Long stack (Some carried) =
+    Replies too_long stack (Some carried.answer) carried.store.stack
 CarriesOut End stack None = Unit {0}
 CarriesOut End stack (Some carried) = ⊥
 
 -- a line comes next and was carried out, or all lines are answered
 abbrev pub ComesCarried : Option CarriedOut → Feed → Stack → List ℕ → Feed → Type 0
-ComesCarried (Some carried) lines stack heard lines' = NextLine lines stack carried.answer heard lines' carried.store.stack
+ComesCarried (Some carried) lines stack heard lines' =
+    NextLine lines stack carried.answer heard lines' carried.store.stack
 ComesCarried None lines stack heard lines' = IsDone lines heard lines'
 
 -- one line is heard and carried out
 abbrev pub CarriedOn : Feed → Stack → Result (Option CarriedOut) Stop → Feed → List Event → Type 0
-CarriedOn lines stack result lines' = LineDone (λ carried heard. ComesCarried carried lines stack heard lines') lines result lines'
+CarriedOn lines stack result lines' =
+    LineDone (λ carried heard. ComesCarried carried lines stack heard lines') lines result lines'
 
 -- the line was heard whole, and the files stand for the stack after it
-pub record HeardWhole (lines : Feed) (stack : Stack) (lines' : Feed) (files : Files) (events : List Event) : Type 0 where
+pub record HeardWhole (lines : Feed) (stack : Stack) (lines' : Feed) (files : Files)
+    (events : List Event) : Type 0 where
   pub line : FeedLine
   pub hears : Hears lines lines' events
   pub comes : GivesLine line lines (heard_bytes 0 events) lines'
   pub stands_for : stands files ≡ Ok (after_turn stack (turn_on stack line))
 
--- what a crash leaves while a line is heard and carried out: files that stand for the stack before it; or, once it was
--- heard whole, for the stack after it
+-- what a crash leaves while a line is heard and carried out: files that stand for the stack before
+-- it; or, once it was heard whole, for the stack after it
 abbrev pub DuringLine : Feed → Stack → Feed → Files → List Event → Type 0
-DuringLine lines stack lines' files events = (Listens lines events × (stands files ≡ Ok stack)) ⊎ HeardWhole lines stack lines' files events
+DuringLine lines stack lines' files events =
+    (Listens lines events × (stands files ≡ Ok stack)) ⊎ HeardWhole lines stack lines' files events

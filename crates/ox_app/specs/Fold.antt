@@ -1,12 +1,16 @@
 -- A run over a feed, part by part.
-use Rattle.std.specs.Prelude.{◌≡◌, ℕ, List, [], ◌∷◌, ◌++◌, length, Bool, Option, Some, None, Result, Ok, Err, IfOk}
+use Rattle.std.specs.Prelude.{◌≡◌, ℕ, List, [], ◌∷◌, ◌++◌, length, Bool, Option, Some, None}
+use Rattle.std.specs.Prelude.{Result, Ok, Err, IfOk}
 use Rattle.std.specs.List.{concat}
 use Rattle.ox_outside.specs.Event.{Event, heard_bytes, shown_bytes, has_ended}
-use Rattle.ox_feed.specs.Feed.{Feed, FeedLine, text, too_long, GivesLine, Hears, IsDone, MayCome, lines_from, lines_of}
+use Rattle.ox_feed.specs.Feed.{Feed, FeedLine, text, too_long, GivesLine, Hears, IsDone, MayCome}
+use Rattle.ox_feed.specs.Feed.{lines_from, lines_of}
 use Rattle.ox_feed.specs.declared.lines.Line.{Line}
 use Rattle.ox_feed.specs.declared.lines.Line.TheVariants.{Text, Long, End}
 use Rattle.ox_feed.specs.declared.lines.FeedFault.{FeedFault}
-use Rattle.ox_feed.specs.declared.lines.FeedFault.TheVariants.{HearFault as FeedHearFault, TooMuch as FeedTooMuch, Memory as FeedMemory}
+use Rattle.ox_feed.specs.declared.lines.FeedFault.TheVariants.{HearFault as FeedHearFault}
+use Rattle.ox_feed.specs.declared.lines.FeedFault.TheVariants.{TooMuch as FeedTooMuch}
+use Rattle.ox_feed.specs.declared.lines.FeedFault.TheVariants.{Memory as FeedMemory}
 use Rattle.ox_model.specs.Replies.{after_turn, after_on, index_on, replies_on, reply_by}
 use Rattle.ox_model.specs.Stack.{Stack, turn_on}
 use Rattle.ox_model.specs.Replies.{ok_line}
@@ -29,7 +33,8 @@ stack_in live = stack_with fold_depth live
 -- a command was carried out, was refused, or found no memory
 abbrev pub Obeys : Stack → List ℕ → Result (Unit {0}) ConnectFault → Stack → Type 0
 Obeys stack line (Ok done) new = turn_on stack (text line) ≡ Ok new
-Obeys stack line (Err (Refused refusal)) new = (turn_on stack (text line) ≡ Err refusal) × (new ≡ stack)
+Obeys stack line (Err (Refused refusal)) new =
+    (turn_on stack (text line) ≡ Err refusal) × (new ≡ stack)
 Obeys stack line (Err NoMemory) new = new ≡ stack
 
 -- the line that answers
@@ -39,7 +44,8 @@ IsAnswer (Err (Refused refusal)) stack line = line ≡ refusal_line refusal
 IsAnswer (Err NoMemory) stack line = ⊥
 
 -- a line is answered, and leaves this stack
-pub record Replies (line : FeedLine) (stack : Stack) (answer : Option (List ℕ)) (new : Stack) : Type 0 where
+pub record Replies (line : FeedLine) (stack : Stack) (answer : Option (List ℕ))
+    (new : Stack) : Type 0 where
   pub says : answer ≡ Some (reply_by index_on (turn_on stack line))
   pub leaves : new ≡ after_turn stack (turn_on stack line)
 
@@ -50,7 +56,8 @@ AnswersLine Long stack answer new = Replies too_long stack answer new
 AnswersLine End stack answer new = answer ≡ None
 
 -- with these bytes heard, a line comes next, whatever is heard later, and this is its answer
-pub record NextLine (lines : Feed) (stack : Stack) (answer : List ℕ) (heard : List ℕ) (lines' : Feed) (stack' : Stack) : Type 0 where
+pub record NextLine (lines : Feed) (stack : Stack) (answer : List ℕ) (heard : List ℕ)
+    (lines' : Feed) (stack' : Stack) : Type 0 where
   pub line : FeedLine
   pub comes : GivesLine line lines heard lines'
   pub says : answer ≡ reply_by index_on (turn_on stack line)
@@ -58,17 +65,22 @@ pub record NextLine (lines : Feed) (stack : Stack) (answer : List ℕ) (heard : 
 
 -- an answer comes next, or all lines are answered
 abbrev pub Comes : Option (List ℕ) → Feed → Stack → List ℕ → Feed → Stack → Type 0
-Comes (Some answer) lines stack heard lines' stack' = NextLine lines stack answer heard lines' stack'
+Comes (Some answer) lines stack heard lines' stack' =
+    NextLine lines stack answer heard lines' stack'
 Comes None lines stack heard lines' stack' = IsDone lines heard lines'
 
--- what hearing a line and seeing to it says of the events that it logged: the bytes heard, and what came with them
-pub record LineDone {C : Type 0} (comes : C → List ℕ → Type 0) (lines : Feed) (result : Result C Stop) (lines' : Feed) (events : List Event) : Type 0 where
+-- what hearing a line and seeing to it says of the events that it logged: the bytes heard, and what
+-- came with them
+pub record LineDone {C : Type 0} (comes : C → List ℕ → Type 0) (lines : Feed)
+    (result : Result C Stop) (lines' : Feed) (events : List Event) : Type 0 where
   pub hears : Hears lines lines' events
   pub came : IfOk result (λ what. comes what (heard_bytes 0 events))
 
 -- one line is heard and answered
-abbrev pub Answered : Feed → Stack → Result (Option (List ℕ)) Stop → Feed → Stack → List Event → Type 0
-Answered lines stack result lines' stack' = LineDone (λ answer heard. Comes answer lines stack heard lines' stack') lines result lines'
+abbrev pub Answered : Feed → Stack → Result (Option (List ℕ)) Stop → Feed → Stack → List Event
+    → Type 0
+Answered lines stack result lines' stack' =
+    LineDone (λ answer heard. Comes answer lines stack heard lines' stack') lines result lines'
 
 -- why a run stops where its lines stop
 abbrev pub stop_of : FeedFault → Stop

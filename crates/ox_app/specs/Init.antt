@@ -20,9 +20,11 @@ not_empty_line = codes "not empty\n"
 
 -- the files stand for a store without a block, and no crash leaves other ones
 abbrev pub IsMade : {S : Type 0} → Meanings S → ProfileName → ℕ → S → Type 0
-IsMade means name depth site = (stands (means.seen site) ≡ Ok (made_stack name depth)) × IsSettled means site
+IsMade means name depth site =
+    (stands (means.seen site) ≡ Ok (made_stack name depth)) × IsSettled means site
 
--- an event of channel 0 is logged once the files stand for the store that was to be made, and not before
+-- an event of channel 0 is logged once the files stand for the store that was to be made, and not
+-- before
 abbrev pub MadeBefore : ProfileName → ℕ → Files → List Event → Type 0
 MadeBefore name depth files [] = Unit {0}
 MadeBefore name depth files (event ∷ events) = stands files ≡ Ok (made_stack name depth)
@@ -30,4 +32,5 @@ MadeBefore name depth files (event ∷ events) = stands files ≡ Ok (made_stack
 -- so it is at each moment of a run
 abbrev pub MakesFirst : {S : Type 0} → Meanings S → ProfileName → ℕ → S → S → Type 0
 MakesFirst means name depth old new =
-    LeavesOnly means old new (λ r. Grows (MadeBefore name depth r.files) (means.log old) (Some r.log))
+    LeavesOnly means old new
+    (λ r. Grows (MadeBefore name depth r.files) (means.log old) (Some r.log))

@@ -66,7 +66,8 @@ pub record ShowsReply (bytes : List ℕ) (status : Status) (events : List Event)
 
 -- the same, of a run
 abbrev pub ShowsText : {S : Type 0} → Meanings S → List ℕ → Status → S → S → Type 0
-ShowsText means bytes status old new = Grows (ShowsReply bytes status) (means.log old) (means.log new)
+ShowsText means bytes status old new =
+    Grows (ShowsReply bytes status) (means.log old) (means.log new)
 
 -- the line that is shown where the words are no subcommand
 abbrev pub usage_line : List ℕ

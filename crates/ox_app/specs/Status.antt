@@ -1,7 +1,9 @@
 -- How a run ends, and its exit status.
 use Rattle.std.specs.Prelude.{◌≡◌, ◌⊎◌, ℕ, Result, Ok, Err}
 use Rattle.ox_app.specs.declared.status.Status.{Status}
-use Rattle.ox_app.specs.declared.status.Status.TheVariants.{Done, Usage, NotEmpty, NotStore, DiskFault, HearFault, ShowFault, Memory, TooMuch}
+use Rattle.ox_app.specs.declared.status.Status.TheVariants.{Done, Usage, NotEmpty, NotStore}
+use Rattle.ox_app.specs.declared.status.Status.TheVariants.{DiskFault, HearFault, ShowFault}
+use Rattle.ox_app.specs.declared.status.Status.TheVariants.{Memory, TooMuch}
 use Rattle.ox_app.specs.declared.stop.Stop.{Stop}
 use Rattle.ox_app.specs.declared.stop.Stop.TheVariants as stops
 
@@ -29,12 +31,14 @@ status_of (Err stops.TooMuch) = TooMuch
 -- how `fold` may end
 abbrev pub IsFoldStatus : Status → Type 0
 IsFoldStatus status =
-    (status ≡ Done) ⊎ (status ≡ HearFault) ⊎ (status ≡ ShowFault) ⊎ (status ≡ Memory) ⊎ (status ≡ TooMuch)
+    (status ≡ Done) ⊎ (status ≡ HearFault) ⊎ (status ≡ ShowFault) ⊎ (status ≡ Memory)
+    ⊎ (status ≡ TooMuch)
 
 -- how `init` may end
 abbrev pub IsInitStatus : Status → Type 0
 IsInitStatus status =
-    (status ≡ Done) ⊎ (status ≡ NotEmpty) ⊎ (status ≡ DiskFault) ⊎ (status ≡ ShowFault) ⊎ (status ≡ Memory)
+    (status ≡ Done) ⊎ (status ≡ NotEmpty) ⊎ (status ≡ DiskFault) ⊎ (status ≡ ShowFault)
+    ⊎ (status ≡ Memory)
 
 -- how `apply` may end
 abbrev pub IsApplyStatus : Status → Type 0
@@ -45,7 +49,8 @@ IsApplyStatus status =
 -- how `query` may end
 abbrev pub IsQueryStatus : Status → Type 0
 IsQueryStatus status =
-    (status ≡ Done) ⊎ (status ≡ NotStore) ⊎ (status ≡ DiskFault) ⊎ (status ≡ ShowFault) ⊎ (status ≡ Memory)
+    (status ≡ Done) ⊎ (status ≡ NotStore) ⊎ (status ≡ DiskFault) ⊎ (status ≡ ShowFault)
+    ⊎ (status ≡ Memory)
 
 -- how a run may end that doesn't open its files
 abbrev pub IsUnopened : Status → Type 0

@@ -3,7 +3,8 @@ use Rattle.std.specs.Prelude.{◌≡◌, ◌≢◌, ◌⊎◌, ℕ, ◌≤◌, L
 use Rattle.ox_sat.specs.Profiles.{profile_word}
 use Rattle.ox_sat.specs.declared.profiles.ProfileName.{ProfileName}
 use Rattle.ox_app.specs.declared.subcommand.Subcommand.{Subcommand}
-use Rattle.ox_app.specs.declared.subcommand.Subcommand.TheVariants.{Fold, Init, Apply, Query, Unknown}
+use Rattle.ox_app.specs.declared.subcommand.Subcommand.TheVariants.{Fold, Init, Apply, Query}
+use Rattle.ox_app.specs.declared.subcommand.Subcommand.TheVariants.{Unknown}
 
 -- a run over a feed, by its profile
 abbrev pub fold_words : ProfileName → List (List ℕ)
@@ -47,4 +48,6 @@ IsOpening words = (words ≡ apply_words) ⊎ ((path : List ℕ) × (words ≡ q
 
 -- the words of a run that writes no file
 abbrev pub IsReading : List (List ℕ) → Type 0
-IsReading words = ((name : ProfileName) × (words ≡ fold_words name)) ⊎ ((path : List ℕ) × (words ≡ query_words path))
+IsReading words =
+    ((name : ProfileName) × (words ≡ fold_words name))
+    ⊎ ((path : List ℕ) × (words ≡ query_words path))

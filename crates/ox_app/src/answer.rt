@@ -32,10 +32,11 @@ fn answer_to(alloc: Global, outcome: Result<(), ConnectFault>, live: &Live) -> R
     }
 }
 
-/// Carries out a line and answers it; `None` at the end of the feed. After `Memory` the command may have been
-/// carried out, without an answer.
+/// Carries out a line and answers it; `None` at the end of the feed. After `Memory` the command may
+/// have been carried out, without an answer.
 pub fn answer(alloc: Global, live: &mut Live, line: Line) -> Result<Option<Bytes>, Memory>
-    ensures { IfOk result (λ answer. AnswersLine line (stack_in live.old) answer (stack_in live.new)) }
+    ensures { IfOk result
+        (λ answer. AnswersLine line (stack_in live.old) answer (stack_in live.new)) }
 {
     match line {
         Line::Text(text) => {

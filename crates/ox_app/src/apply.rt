@@ -1,6 +1,7 @@
 //! A run over a feed and a store.
 
-ghost use Rattle.std.specs.Prelude.{◌≡◌, ◌≢◌, ◌⊎◌, ◌+◌, ◌-◌, ◌<◌, ◌≤◌, ◌^◌, ℕ, Some, Ok, Err, IsTrue, IfOk, IfSome, IsErrOf};
+ghost use Rattle.std.specs.Prelude.{◌≡◌, ◌≢◌, ◌⊎◌, ◌+◌, ◌-◌, ◌<◌, ◌≤◌, ◌^◌, ℕ, Some, Ok, Err};
+ghost use Rattle.std.specs.Prelude.{IsTrue, IfOk, IfSome, IsErrOf};
 ghost use Rattle.ox_outside.specs.Log.{Grows};
 ghost use Rattle.ox_feed.specs.Feed.{IsTooMuch, feed_limit, bytes_left};
 ghost use Rattle.ox_model.specs.Replies.{after_on, replies_on};
@@ -35,18 +36,22 @@ fn next_carried<S: Site>(
 ) -> Result<Option<Carried>, Stop>
     requires holds { IsTrue (S.told site.old) → Holds S.Site store.tail site.old }
     requires few { store.commands < 2 ^ 64 - 1 }
-    ensures told { Grows (CarriedOn lines.old store.stack result lines.new) (S.log site.old) (S.log site.new) }
+    ensures told { Grows (CarriedOn lines.old store.stack result lines.new)
+        (S.log site.old) (S.log site.new) }
     ensures during { IsTrue (S.told site.old) → stands (S.seen site.old) ≡ Ok store.stack
         → LeavesOnly S.Site site.old site.new (λ r.
         Grows (DuringLine lines.old store.stack lines.new r.files) (S.log site.old) (Some r.log)) }
     ensures holds { IsTrue (S.told site.old)
         → IfOk result (λ carried. IfSome carried (λ c. Holds S.Site c.store.tail site.new)) }
     ensures stands { IsTrue (S.told site.old) → stands (S.seen site.old) ≡ Ok store.stack
-        → IfOk result (λ carried. IfSome carried (λ c. stands (S.seen site.new) ≡ Ok c.store.stack)) }
+        → IfOk result (λ carried. IfSome carried
+        (λ c. stands (S.seen site.new) ≡ Ok c.store.stack)) }
     ensures out_of_memory { IsTrue (S.told site.old) → stands (S.seen site.old) ≡ Ok store.stack
         → IsErrOf result Stop.Memory → stands (S.seen site.new) ≡ Ok store.stack }
-    ensures one_more { IfOk result (λ carried. IfSome carried (λ c. c.store.commands ≤ store.commands + 1)) }
-    ensures fewer { IfOk result (λ carried. IfSome carried (λ c. bytes_left lines.new < bytes_left lines.old)) }
+    ensures one_more { IfOk result (λ carried. IfSome carried
+        (λ c. c.store.commands ≤ store.commands + 1)) }
+    ensures fewer { IfOk result (λ carried. IfSome carried
+        (λ c. bytes_left lines.new < bytes_left lines.old)) }
     ensures count { lines.new.heard ≤ feed_limit }
     ensures too_much { IsErrOf result Stop.TooMuch → IsTooMuch lines.new }
     ensures hear_fault { IsErrOf result Stop.HearFault → HearFails S.Site site.old site.new }
@@ -62,7 +67,8 @@ fn next_carried<S: Site>(
 fn follow<S: Site>(alloc: Global, store: Store, site: &mut S) -> Result<(), Stop>
     requires holds { IsTrue (S.told site.old) → Holds S.Site store.tail site.old }
     requires fresh { store.commands ≡ 0 }
-    ensures told { Grows (RunsFeed (replies_on store.stack) (status_of result)) (S.log site.old) (S.log site.new) }
+    ensures told { Grows (RunsFeed (replies_on store.stack) (status_of result)) (S.log site.old)
+        (S.log site.new) }
     ensures survives { IsTrue (S.told site.old) → stands (S.seen site.old) ≡ Ok store.stack
         → LeavesOnly S.Site site.old site.new (λ r.
         Grows (λ events. Survives (replies_on store.stack) (after_on store.stack) events r.files)
@@ -85,28 +91,33 @@ fn follow<S: Site>(alloc: Global, store: Store, site: &mut S) -> Result<(), Stop
     Ok(())
 }
 
-/// Opens the store and carries out the commands of channel 0: each line is answered by one, once its
-/// record is on the disk.
+/// Opens the store and carries out the commands of channel 0: each line is answered by one, once
+/// its record is on the disk.
 pub fn apply<S: Site>(alloc: Global, site: &mut S) -> Status
     // On files that stand for a stack.
     ensures feeds { IsTrue (S.told site.old) → (stack : Stack) → stands (S.seen site.old) ≡ Ok stack
         → (result ≢ ends.NotStore)
         × Grows (RunsFeed (replies_on stack) result) (S.log site.old) (S.log site.new) }
-    ensures survives { IsTrue (S.told site.old) → (stack : Stack) → stands (S.seen site.old) ≡ Ok stack
+    ensures survives { IsTrue (S.told site.old) → (stack : Stack)
+        → stands (S.seen site.old) ≡ Ok stack
         → LeavesOnly S.Site site.old site.new (λ r.
         Grows (Leaves S.may_leave site.old (replies_on stack) (after_on stack) r.files)
         (S.log site.old) (Some r.log)) }
-    ensures out_of_memory { IsTrue (S.told site.old) → (stack : Stack) → stands (S.seen site.old) ≡ Ok stack
+    ensures out_of_memory { IsTrue (S.told site.old) → (stack : Stack)
+        → stands (S.seen site.old) ≡ Ok stack
         → result ≡ ends.Memory
         → Grows (StopsBefore (replies_on stack) (after_on stack) (S.seen site.new))
         (S.log site.old) (S.log site.new) }
 
     // On files that stand for none.
-    ensures unopened { IsTrue (S.told site.old) → (misfit : Misfit) → stands (S.seen site.old) ≡ Err misfit
+    ensures unopened { IsTrue (S.told site.old) → (misfit : Misfit)
+        → stands (S.seen site.old) ≡ Err misfit
         → IsUnopened result }
-    ensures unsaid { IsTrue (S.told site.old) → (misfit : Misfit) → stands (S.seen site.old) ≡ Err misfit
+    ensures unsaid { IsTrue (S.told site.old) → (misfit : Misfit)
+        → stands (S.seen site.old) ≡ Err misfit
         → result ≢ ends.NotStore → S.log site.new ≡ S.log site.old }
-    ensures looks { IsTrue (S.told site.old) → (misfit : Misfit) → stands (S.seen site.old) ≡ Err misfit
+    ensures looks { IsTrue (S.told site.old) → (misfit : Misfit)
+        → stands (S.seen site.old) ≡ Err misfit
         → AddsNoImage S.Site site.old site.new }
     ensures no_store { result ≡ ends.NotStore → AddsNoImage S.Site site.old site.new }
     ensures not_store { result ≡ ends.NotStore → SaysNotStore S.Site site.old site.new }

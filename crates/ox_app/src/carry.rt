@@ -1,6 +1,7 @@
 //! One line of a feed, carried out by a store and answered.
 
-ghost use Rattle.std.specs.Prelude.{◌≡◌, ◌⊎◌, ◌+◌, ◌-◌, ◌<◌, ◌≤◌, ◌^◌, ◌++◌, [], Some, Ok, IsTrue, IfOk, IfErr, IfSome, IsErrOf};
+ghost use Rattle.std.specs.Prelude.{◌≡◌, ◌⊎◌, ◌+◌, ◌-◌, ◌<◌, ◌≤◌, ◌^◌, ◌++◌, [], Some, Ok};
+ghost use Rattle.std.specs.Prelude.{IsTrue, IfOk, IfErr, IfSome, IsErrOf};
 ghost use Rattle.ox_outside.specs.Runs.{Calls, LeavesOnly};
 ghost use Rattle.ox_gated.specs.Tail.{Holds};
 ghost use Rattle.ox_model.specs.Replies.{after_turn, index_on, reply_by};
@@ -30,8 +31,8 @@ pub struct Carried {
     pub answer: Bytes,
 }
 
-// How many bytes the line of an accepted command has at most: `ok`, a height of at most ten digits, 64
-// digits of a hash, two spaces and a line feed.
+// How many bytes the line of an accepted command has at most: `ok`, a height of at most ten digits,
+// 64 digits of a hash, two spaces and a line feed.
 const LONGEST_OK: usize = 79;
 
 // Puts the line of a newest block.
@@ -89,7 +90,8 @@ fn carry_command<S: Site>(
     ensures leads { IfOk result (λ carried.
         carried.store.stack ≡ after_turn store.stack (stack_after store.stack command.now)) }
     ensures one_more { IfOk result (λ carried. carried.store.commands ≤ store.commands + 1) }
-    ensures holds { IsTrue (S.told site.old) → IfOk result (λ carried. Holds S.Site carried.store.tail site.new) }
+    ensures holds { IsTrue (S.told site.old)
+        → IfOk result (λ carried. Holds S.Site carried.store.tail site.new) }
     ensures stands { IsTrue (S.told site.old) → stands (S.seen site.old) ≡ Ok store.stack
         → IfOk result (λ carried. stands (S.seen site.new) ≡ Ok carried.store.stack) }
     ensures any_moment { IsTrue (S.told site.old) → stands (S.seen site.old) ≡ Ok store.stack
@@ -117,10 +119,10 @@ fn carry_command<S: Site>(
     }
 }
 
-/// Carries out a line and answers it; `None` at the end of the feed. All memory of a command and its
-/// answer is taken before its record is written. At any moment of the call a crash leaves files that
-/// stand for the stack before the line or for the one after it. `DiskFault` only where a call on a
-/// file failed; `Memory` where there is none, and the line isn't carried out then.
+/// Carries out a line and answers it; `None` at the end of the feed. All memory of a command and
+/// its answer is taken before its record is written. At any moment of the call a crash leaves files
+/// that stand for the stack before the line or for the one after it. `DiskFault` only where a call
+/// on a file failed; `Memory` where there is none, and the line isn't carried out then.
 pub fn carry_out<S: Site>(
     alloc: Global,
     store: Store,
@@ -130,11 +132,13 @@ pub fn carry_out<S: Site>(
     requires holds { IsTrue (S.told site.old) → Holds S.Site store.tail site.old }
     requires few { store.commands < 2 ^ 64 - 1 }
     ensures carried { IfOk result (λ carried. CarriesOut line.now store.stack carried) }
-    ensures one_more { IfOk result (λ carried. IfSome carried (λ c. c.store.commands ≤ store.commands + 1)) }
+    ensures one_more { IfOk result (λ carried. IfSome carried
+        (λ c. c.store.commands ≤ store.commands + 1)) }
     ensures holds { IsTrue (S.told site.old)
         → IfOk result (λ carried. IfSome carried (λ c. Holds S.Site c.store.tail site.new)) }
     ensures stands { IsTrue (S.told site.old) → stands (S.seen site.old) ≡ Ok store.stack
-        → IfOk result (λ carried. IfSome carried (λ c. stands (S.seen site.new) ≡ Ok c.store.stack)) }
+        → IfOk result (λ carried. IfSome carried
+        (λ c. stands (S.seen site.new) ≡ Ok c.store.stack)) }
     ensures any_moment { IsTrue (S.told site.old) → stands (S.seen site.old) ≡ Ok store.stack
         → LeavesOnly S.Site site.old site.new (λ r.
         StandsForEither store.stack (after_line store.stack line.now) r.files) }

@@ -29,7 +29,8 @@ fn next_answer<S: Site>(
     live: &mut Live,
     site: &mut S,
 ) -> Result<Option<Bytes>, Stop>
-    ensures told { Grows (Answered lines.old (stack_in live.old) result lines.new (stack_in live.new))
+    ensures told { Grows (Answered lines.old
+        (stack_in live.old) result lines.new (stack_in live.new))
         (S.log site.old) (S.log site.new) }
     ensures hear_fault { IsErrOf result Stop.HearFault → HearFails S.Site site.old site.new }
     ensures no_show_fault { IsErrOf result Stop.ShowFault → ⊥ }
@@ -43,11 +44,12 @@ fn next_answer<S: Site>(
     Ok(answer(alloc, live, line)?)
 }
 
-/// Reads the feed of channel 0 to its end, and shows the answer to each line. The chain counts by this
-/// profile.
+/// Reads the feed of channel 0 to its end, and shows the answer to each line. The chain counts by
+/// this profile.
 pub fn fold<S: Site>(alloc: Global, p: &Profile, site: &mut S) -> Result<(), Stop>
     requires { IsProfile p.now }
-    ensures told { Grows (RunsFeed (replies_on (stack_of (empty_machine p.now fold_depth))) (status_of result))
+    ensures told { Grows
+        (RunsFeed (replies_on (stack_of (empty_machine p.now fold_depth))) (status_of result))
         (S.log site.old) (S.log site.new) }
     ensures hear_fault { IsErrOf result Stop.HearFault → HearFails S.Site site.old site.new }
     ensures show_fault { IsErrOf result Stop.ShowFault → ShowFails S.Site site.old site.new }

@@ -22,7 +22,8 @@ pub fn init<S: Site>(alloc: Global, site: &mut S, name: ProfileName, depth: u16)
     requires { IsDepth depth }
     ensures shows { result ≢ ends.NotEmpty → ShowsText S.Site made_line result site.old site.new }
     ensures not_empty { result ≡ ends.NotEmpty → Says S.Site not_empty_line site.old site.new }
-    ensures only_empty { IsTrue (S.told site.old) → result ≡ ends.NotEmpty → S.seen site.old ≢ no_files }
+    ensures only_empty { IsTrue (S.told site.old) → result ≡ ends.NotEmpty
+        → S.seen site.old ≢ no_files }
     ensures refuses { IsTrue (S.told site.old) → S.seen site.old ≢ no_files → IsSparing result }
     ensures spares { IsTrue (S.told site.old) → S.seen site.old ≢ no_files
         → AddsNoImage S.Site site.old site.new }
@@ -30,7 +31,8 @@ pub fn init<S: Site>(alloc: Global, site: &mut S, name: ProfileName, depth: u16)
         → IsMade S.Site name depth site.new }
     ensures made_before { IsTrue (S.told site.old) → result ≢ ends.NotEmpty
         → MakesFirst S.Site name depth site.old site.new }
-    ensures looks { (result ≡ ends.NotEmpty) ⊎ (result ≡ ends.Memory) → AddsNoImage S.Site site.old site.new }
+    ensures looks { (result ≡ ends.NotEmpty) ⊎ (result ≡ ends.Memory)
+        → AddsNoImage S.Site site.old site.new }
     ensures status { IsInitStatus result }
     ensures show_fault { result ≡ ends.ShowFault → ShowFails S.Site site.old site.new }
     ensures disk_fault { result ≡ ends.DiskFault → DiskFails S.Site site.old site.new }

@@ -10,12 +10,16 @@ ghost use Rattle.ox_sat.specs.Profiles.{profile_named};
 ghost use Rattle.ox_sat.specs.declared.profiles.ProfileName.{ProfileName};
 ghost use Rattle.ox_store.specs.Make.{no_files};
 ghost use Rattle.ox_app.specs.Fold.{fold_depth};
-ghost use Rattle.ox_app.specs.Headline.{AddsNoImage, AnswersFeed, StandsFor, StandsForNone, StopsAtLine, SurvivesCrash};
+ghost use Rattle.ox_app.specs.Headline.{AddsNoImage, AnswersFeed, StandsFor, StandsForNone};
+ghost use Rattle.ox_app.specs.Headline.{StopsAtLine, SurvivesCrash};
 ghost use Rattle.ox_app.specs.Init.{IsMade, MakesFirst, made_line, not_empty_line};
 ghost use Rattle.ox_outside.specs.Runs.{Calls};
-ghost use Rattle.ox_app.specs.Show.{DiskFails, EndsDone, HearFails, Says, ShowFails, ShowsText, usage_line};
-ghost use Rattle.ox_app.specs.Status.{IsApplyStatus, IsDone, IsFoldStatus, IsInitStatus, IsQueryStatus, IsRefusal, IsSparing, IsUnopened};
-ghost use Rattle.ox_app.specs.Subcommands.{IsDepth, IsOpening, IsReading, IsUnknown, apply_words, fold_words, init_words, query_words};
+ghost use Rattle.ox_app.specs.Show.{DiskFails, EndsDone, HearFails, Says, ShowFails, ShowsText};
+ghost use Rattle.ox_app.specs.Show.{usage_line};
+ghost use Rattle.ox_app.specs.Status.{IsApplyStatus, IsDone, IsFoldStatus, IsInitStatus};
+ghost use Rattle.ox_app.specs.Status.{IsQueryStatus, IsRefusal, IsSparing, IsUnopened};
+ghost use Rattle.ox_app.specs.Subcommands.{IsDepth, IsOpening, IsReading, IsUnknown, apply_words};
+ghost use Rattle.ox_app.specs.Subcommands.{fold_words, init_words, query_words};
 ghost use Rattle.ox_app.specs.Unopened.{SaysNotStore};
 ghost use Rattle.ox_app.specs.declared.status.Status.TheVariants as ends;
 
@@ -32,8 +36,8 @@ use ox_outside::Site;
 use ox_sat::profile_of;
 use std::alloc::Global;
 
-/// Runs the program: channel 0 is its input and output, its files are the site's, and the result says
-/// how it ended.
+/// Runs the program: channel 0 is its input and output, its files are the site's, and the result
+/// says how it ended.
 ///
 /// | Words | What is done |
 /// |---|---|
@@ -45,12 +49,13 @@ use std::alloc::Global;
 /// | | `/status`, or `{"error":404}`. |
 /// | `fold <profile>` | As `apply`, from no block on and without files. |
 ///
-/// The profile is `mainnet`, `regtest` or `lab`, and a number has decimal digits with no sign and no
-/// leading zero.
+/// The profile is `mainnet`, `regtest` or `lab`, and a number has decimal digits with no sign and
+/// no leading zero.
 ///
 /// | Status | Comes | Shown |
 /// |---|---|---|
-/// | `Done` | where channel 0 was read to its end and each line answered, or the line or body shown | |
+/// | `Done` | where channel 0 was read to its end and each line answered, or the line or body | |
+/// | | was shown | |
 /// | `Usage` | exactly where the words are no subcommand | `usage` |
 /// | `NotEmpty` | of `init`, exactly where a file isn't empty | `not empty` |
 /// | `NotStore` | exactly where the files are no store | `not a store`, the file's letter and the |
@@ -59,8 +64,8 @@ use std::alloc::Global;
 /// | `HearFault` | only where hearing on channel 0 failed in this run | nothing further |
 /// | `ShowFault` | only where showing on channel 0 failed in this run | nothing further |
 /// | `Memory` | where there is no memory | nothing further |
-/// | `TooMuch` | exactly where 4,611,686,018,427,387,904 bytes were heard and channel 0 hasn't | nothing |
-/// | | ended | further |
+/// | `TooMuch` | exactly where 4,611,686,018,427,387,904 bytes were heard and channel 0 | nothing |
+/// | | hasn't ended | further |
 ///
 /// From `DiskFault` on a status ends the run at once. If showing the line of `Usage`, `NotEmpty` or
 /// `NotStore` fails, the status stays. In `apply`, `Memory` leaves the line at which memory ran out
@@ -68,10 +73,11 @@ use std::alloc::Global;
 pub fn run<S: Site>(alloc: Global, words: &[Bytes], site: &mut S) -> Status
     // ---- `fold`
 
-    // What was shown begins the answers to the lines heard, each by fresh indexing of the blocks that
-    // the lines before it chose, and is all of them where the run is done.
+    // What was shown begins the answers to the lines heard, each by fresh indexing of the blocks
+    // that the lines before it chose, and is all of them where the run is done.
     ensures folds { (name : ProfileName) → words.now ≡ fold_words name
-        → AnswersFeed S.Site (empty_machine (profile_named name) fold_depth) result site.old site.new }
+        → AnswersFeed S.Site (empty_machine (profile_named name) fold_depth)
+        result site.old site.new }
     ensures fold_status { (name : ProfileName) → words.now ≡ fold_words name → IsFoldStatus result }
     // On a feed that ends, without a fault, all is done, unless memory runs out.
     ensures fold_completes { (name : ProfileName) → words.now ≡ fold_words name
@@ -81,19 +87,23 @@ pub fn run<S: Site>(alloc: Global, words: &[Bytes], site: &mut S) -> Status
     // ---- `apply`, on files that stand for a machine's stack
 
     // What was shown begins the answers to the lines heard, as of `fold`, from that machine on.
-    ensures applies { words.now ≡ apply_words → (machine : Machine) → StandsFor S.Site site.old (stack_of machine)
+    ensures applies { words.now ≡ apply_words → (machine : Machine)
+        → StandsFor S.Site site.old (stack_of machine)
         → (result ≢ ends.NotStore) × AnswersFeed S.Site machine result site.old site.new }
     // Whatever the feed and at whatever moment the run stops: the files give the index of the first
-    // lines, which are all whose moment is in the log or all but one; each of whose answer a byte was
-    // shown is among them, and what was shown is a front of their answers.
-    ensures survives { words.now ≡ apply_words → (machine : Machine) → StandsFor S.Site site.old (stack_of machine)
+    // lines, which are all whose moment is in the log or all but one; each of whose answer a byte
+    // was shown is among them, and what was shown is a front of their answers.
+    ensures survives { words.now ≡ apply_words → (machine : Machine)
+        → StandsFor S.Site site.old (stack_of machine)
         → SurvivesCrash S.Site machine site.old site.new }
-    // The line at which memory ran out isn't carried out: what was shown is the answers to the lines
-    // before it, and the files stand for these.
-    ensures out_of_memory { words.now ≡ apply_words → (machine : Machine) → StandsFor S.Site site.old (stack_of machine)
+    // The line at which memory ran out isn't carried out: what was shown is the answers to the
+    // lines before it, and the files stand for these.
+    ensures out_of_memory { words.now ≡ apply_words → (machine : Machine)
+        → StandsFor S.Site site.old (stack_of machine)
         → result ≡ ends.Memory → StopsAtLine S.Site machine site.old site.new }
     ensures apply_status { words.now ≡ apply_words → IsApplyStatus result }
-    ensures apply_completes { words.now ≡ apply_words → (machine : Machine) → StandsFor S.Site site.old (stack_of machine)
+    ensures apply_completes { words.now ≡ apply_words → (machine : Machine)
+        → StandsFor S.Site site.old (stack_of machine)
         → ¬ DiskFails S.Site site.old site.new
         → ¬ HearFails S.Site site.old site.new → ¬ ShowFails S.Site site.old site.new
         → Grows (EndsDone result) (S.log site.old) (S.log site.new) }
@@ -101,7 +111,8 @@ pub fn run<S: Site>(alloc: Global, words: &[Bytes], site: &mut S) -> Status
     // ---- `init`
 
     // The line is shown, and only once each crash leaves the store.
-    ensures inits { (name : ProfileName) (depth : ℕ) → IsDepth depth → words.now ≡ init_words name depth
+    ensures inits { (name : ProfileName) (depth : ℕ) → IsDepth depth
+        → words.now ≡ init_words name depth
         → result ≢ ends.NotEmpty → ShowsText S.Site made_line result site.old site.new }
     ensures made { IsTrue (S.told site.old)
         → (name : ProfileName) (depth : ℕ) → IsDepth depth → words.now ≡ init_words name depth
@@ -117,16 +128,20 @@ pub fn run<S: Site>(alloc: Global, words: &[Bytes], site: &mut S) -> Status
         → (name : ProfileName) (depth : ℕ) → IsDepth depth → words.now ≡ init_words name depth
         → S.seen site.old ≢ no_files → AddsNoImage S.Site site.old site.new }
     // Memory runs out before the first write, or not at all.
-    ensures made_nothing { (name : ProfileName) (depth : ℕ) → IsDepth depth → words.now ≡ init_words name depth
+    ensures made_nothing { (name : ProfileName) (depth : ℕ) → IsDepth depth
+        → words.now ≡ init_words name depth
         → result ≡ ends.Memory → AddsNoImage S.Site site.old site.new }
     ensures not_empty { result ≡ ends.NotEmpty → Says S.Site not_empty_line site.old site.new }
-    ensures only_files { IsTrue (S.told site.old) → result ≡ ends.NotEmpty → S.seen site.old ≢ no_files }
-    ensures init_status { (name : ProfileName) (depth : ℕ) → IsDepth depth → words.now ≡ init_words name depth
+    ensures only_files { IsTrue (S.told site.old) → result ≡ ends.NotEmpty
+        → S.seen site.old ≢ no_files }
+    ensures init_status { (name : ProfileName) (depth : ℕ) → IsDepth depth
+        → words.now ≡ init_words name depth
         → IsInitStatus result }
     ensures init_completes { IsTrue (S.told site.old)
         → (name : ProfileName) (depth : ℕ) → IsDepth depth → words.now ≡ init_words name depth
         → S.seen site.old ≡ no_files
-        → ¬ DiskFails S.Site site.old site.new → ¬ ShowFails S.Site site.old site.new → IsDone result }
+        → ¬ DiskFails S.Site site.old site.new → ¬ ShowFails S.Site site.old site.new
+        → IsDone result }
 
     // ---- `query`, on files that stand for a stack
 
@@ -138,16 +153,19 @@ pub fn run<S: Site>(alloc: Global, words: &[Bytes], site: &mut S) -> Status
     ensures query_status { (path : List ℕ) → words.now ≡ query_words path → IsQueryStatus result }
     ensures query_completes { (path : List ℕ) → words.now ≡ query_words path
         → (stack : Stack) → StandsFor S.Site site.old stack
-        → ¬ DiskFails S.Site site.old site.new → ¬ ShowFails S.Site site.old site.new → IsDone result }
+        → ¬ DiskFails S.Site site.old site.new → ¬ ShowFails S.Site site.old site.new
+        → IsDone result }
 
     // ---- `apply` and `query` on files that stand for no stack
 
     // The first test that fails is shown, and nothing else; and the files are spared.
-    ensures unopened { IsOpening words.now → (misfit : Misfit) → StandsForNone S.Site site.old misfit
+    ensures unopened { IsOpening words.now → (misfit : Misfit)
+        → StandsForNone S.Site site.old misfit
         → IsUnopened result }
     ensures unsaid { IsOpening words.now → (misfit : Misfit) → StandsForNone S.Site site.old misfit
         → result ≢ ends.NotStore → S.log site.new ≡ S.log site.old }
-    ensures opens_nothing { IsOpening words.now → (misfit : Misfit) → StandsForNone S.Site site.old misfit
+    ensures opens_nothing { IsOpening words.now → (misfit : Misfit)
+        → StandsForNone S.Site site.old misfit
         → AddsNoImage S.Site site.old site.new }
     ensures not_store { result ≡ ends.NotStore → SaysNotStore S.Site site.old site.new }
 
@@ -156,9 +174,10 @@ pub fn run<S: Site>(alloc: Global, words: &[Bytes], site: &mut S) -> Status
     // Of other words the usage line is shown, or a front of it where a showing failed.
     ensures usage { IsUnknown words.now → Says S.Site usage_line site.old site.new }
     ensures usage_status { IsUnknown words.now → result ≡ ends.Usage }
-    // At no moment does a run that only reads, or that shows a line of refusal, add to the files that
-    // a crash leaves.
-    ensures no_image { IsReading words.now ⊎ IsRefusal result → AddsNoImage S.Site site.old site.new }
+    // At no moment does a run that only reads, or that shows a line of refusal, add to the files
+    // that a crash leaves.
+    ensures no_image { IsReading words.now ⊎ IsRefusal result
+        → AddsNoImage S.Site site.old site.new }
     ensures disk_fault { result ≡ ends.DiskFault → DiskFails S.Site site.old site.new }
     ensures hear_fault { result ≡ ends.HearFault → HearFails S.Site site.old site.new }
     ensures show_fault { result ≡ ends.ShowFault → ShowFails S.Site site.old site.new }

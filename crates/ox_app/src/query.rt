@@ -91,9 +91,11 @@ pub fn query<S: Site>(alloc: Global, site: &mut S, path: &[u8]) -> Status
         → (result ≢ ends.NotStore)
         × ShowsText S.Site (query_body path.now stack) result site.old site.new }
     // On files that stand for none.
-    ensures unopened { IsTrue (S.told site.old) → (misfit : Misfit) → stands (S.seen site.old) ≡ Err misfit
+    ensures unopened { IsTrue (S.told site.old) → (misfit : Misfit)
+        → stands (S.seen site.old) ≡ Err misfit
         → IsUnopened result }
-    ensures unsaid { IsTrue (S.told site.old) → (misfit : Misfit) → stands (S.seen site.old) ≡ Err misfit
+    ensures unsaid { IsTrue (S.told site.old) → (misfit : Misfit)
+        → stands (S.seen site.old) ≡ Err misfit
         → result ≢ ends.NotStore → S.log site.new ≡ S.log site.old }
     ensures not_store { result ≡ ends.NotStore → SaysNotStore S.Site site.old site.new }
 

@@ -7,9 +7,9 @@ ghost use Rattle.ox_app.specs.Show.{Says, ShowFails, Shows, ShowsFront};
 
 use ox_outside::{Failed, Shown, Site};
 
-/// Shows all of the bytes on channel 0, in as many pieces as it takes. `Failed` only where a showing
-/// there failed in this call; a front of the bytes is shown then, and so it is at each moment of the
-/// call.
+/// Shows all of the bytes on channel 0, in as many pieces as it takes. `Failed` only where a
+/// showing there failed in this call; a front of the bytes is shown then, and so it is at each
+/// moment of the call.
 pub fn show_all<S: Site>(site: &mut S, bytes: &[u8]) -> Result<(), Failed>
     ensures told { Grows (Shows bytes.now result) (S.log site.old) (S.log site.new) }
     ensures failed { OnErr result (ShowFails S.Site site.old site.new) }
