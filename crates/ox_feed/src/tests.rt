@@ -1,5 +1,5 @@
-//! What no clause says: that calls succeed where there is ample memory, the spelling of commands, and
-//! lines that come in pieces.
+//! What no clause says: that calls succeed where there is ample memory, the spelling of commands,
+//! and lines that come in pieces.
 
 use crate::{Command, Line, Lines, SyntaxFault, command_of};
 use ox_bytes::Bytes;

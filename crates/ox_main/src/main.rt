@@ -11,8 +11,9 @@ use ox_app::{Status, run};
 use std::process::ExitCode;
 
 /// Takes the folder as its first word and hands the others to `run`, whose status gives the exit
-/// status. It ends as `Usage` where there is no word, as `Memory` where there is none for the words,
-/// and as `DiskFault` where the folder's files can't be opened, and prints nothing then.
+/// status. It ends as `Usage` where there is no word, as `Memory` where there is none for the
+/// words, and as `DiskFault` where the folder's files can't be opened, the folder can't be synced,
+/// or standard input or output is closed; it prints nothing then.
 fn main(rt: HostRuntime) -> ExitCode {
     let alloc = rt.alloc();
     let Ok(words) = words_of(&rt, alloc) else {

@@ -1,5 +1,6 @@
-//! The real site: the files of a folder, and the program's standard input and output as channel 0. Nobody waits at its
-//! doors. It tells nothing of what it reads, hears and shows, and is trusted for it.
+//! The real site: the files of a folder, and the program's standard input and output as channel 0.
+//! Nobody waits at its doors. It tells nothing of what it reads, hears and shows, and is trusted for
+//! it.
 
 ghost use Rattle.std.specs.Prelude.{◌≡◌, ◌≤◌, length, IfOk, IfSome, IsUtf8, OnOk};
 ghost use Rattle.ox_outside.specs.Counts.{Rose};
@@ -113,7 +114,14 @@ impl Site for RealSite {
 
     ghost left_since = { λ _ _ _. ⊥ };
 
-    ghost counts = { λ s. record { disk = s.disk_faults; door = 0; hear = λ _. s.hear_faults; show = λ _. s.show_faults; not_yets = λ _. 0; door_idles = idles_of s.public_idles s.operator_idles } };
+    ghost counts = { λ s. record {
+      disk = s.disk_faults;
+      door = 0;
+      hear = λ _. s.hear_faults;
+      show = λ _. s.show_faults;
+      not_yets = λ _. 0;
+      door_idles = idles_of s.public_idles s.operator_idles;
+    } };
 
     fn len(&mut self, file: Which) -> Result<u64, Failed> {
         match self.files.len(file) {

@@ -4,8 +4,8 @@ use ox_bytes::{Bytes, Memory};
 use std::alloc::Global;
 use std::env::{Env, FillError};
 
-/// The words behind the program's name, copied byte for byte: they need not be text. `Memory` where there is none for
-/// the copies.
+/// The words behind the program's name, copied byte for byte: they need not be text. `Memory` where
+/// there is none for the copies.
 pub fn words_of(env: &impl Env, alloc: Global) -> Result<Vec<Bytes>, Memory> {
     let mut words = Vec::new(alloc);
     for place in 1..usize::MAX {

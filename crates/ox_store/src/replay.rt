@@ -2,7 +2,8 @@
 
 ghost use Rattle.std.specs.Prelude.{◌≡◌, ℕ, Some, None, Ok, IfOk, IfErr, OnOk, MatchOption};
 ghost use Rattle.ox_gated.specs.Opened.{intact_part};
-ghost use Rattle.ox_model.specs.Stands.{block_in as block_there, empty_stack_at, stack_in_file, place_of_cut};
+ghost use Rattle.ox_model.specs.Stands.{block_in as block_there, empty_stack_at, stack_in_file};
+ghost use Rattle.ox_model.specs.Stands.{place_of_cut};
 ghost use Rattle.ox_sat.specs.Profiles.{name_at as name_there};
 ghost use Rattle.ox_store.specs.Replay.{IsUnjudged, stack_after_record, fault_in};
 ghost use Rattle.ox_store.specs.Store.{stack_with};
@@ -40,8 +41,8 @@ impl Unjudged {
 /// with the place of the first test that fails: 26 where the body isn't empty, or the place of the
 /// gate of the first record that isn't accepted. `Memory` where there is none for the index.
 pub fn judge(alloc: Global, head: &Head, body: &Bytes, records: &Records) -> Result<Live, Unjudged>
-    ensures stack { IfOk result
-        (λ live. stack_in_file head.now body.now records.now ≡ Ok (stack_with head.now.depth live)) }
+    ensures stack { IfOk result (λ live.
+        stack_in_file head.now body.now records.now ≡ Ok (stack_with head.now.depth live)) }
     ensures place { IfErr result (IsUnjudged (stack_in_file head.now body.now records.now)) }
 {
     if !body.is_empty() {
@@ -101,7 +102,8 @@ fn block_in(payload: &[u8]) -> Option<&[u8]>
 // that the chain accepts; `Memory` where there is none for it.
 fn redo(live: &mut Live, record: &Record) -> Result<(), Unjudged>
     ensures stack { OnOk result ((depth : ℕ)
-        → stack_after_record (stack_with depth live.old) «record».now ≡ Ok (stack_with depth live.new)) }
+        → stack_after_record (stack_with depth live.old) «record».now
+        ≡ Ok (stack_with depth live.new)) }
     ensures place { IfErr result (λ unjudged. (depth : ℕ)
         → IsUnjudged (stack_after_record (stack_with depth live.old) «record».now) unjudged) }
 {

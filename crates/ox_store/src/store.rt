@@ -1,6 +1,7 @@
 //! A store between two commands.
 
-ghost use Rattle.std.specs.Prelude.{◌≡◌, ◌≢◌, ◌≤◌, ◌<◌, ◌^◌, ◌+◌, ◌-◌, ◌∷◌, ◌↔◌, ◌⊎◌, length, Some, Ok, Err, IsTrue, IfOk, IfErr, IsErrOf, OnOk, OnErr};
+ghost use Rattle.std.specs.Prelude.{◌≡◌, ◌≢◌, ◌≤◌, ◌<◌, ◌^◌, ◌+◌, ◌-◌, ◌∷◌, ◌↔◌, ◌⊎◌, length};
+ghost use Rattle.std.specs.Prelude.{Some, Ok, Err, IsTrue, IfOk, IfErr, IsErrOf, OnOk, OnErr};
 ghost use Rattle.ox_outside.specs.Counts.{Rose};
 ghost use Rattle.ox_outside.specs.Runs.{Calls, LeavesOnly, OnlyLooks};
 ghost use Rattle.ox_gated.specs.Tail.{Holds};

@@ -102,13 +102,7 @@ fn overwrite(rt: &impl Abort, site: &mut MemSite, at: u64, bytes: &[u8]) {
 }
 
 // How many blocks there are after a crash at this moment that leaves these bytes where it may.
-fn blocks_after(
-    rt: &impl Abort,
-    alloc: Global,
-    site: &MemSite,
-    moment: u64,
-    fill: u8,
-) -> u32 {
+fn blocks_after(rt: &impl Abort, alloc: Global, site: &MemSite, moment: u64, fill: u8) -> u32 {
     if moment > site.now() {
         panic!(rt; "no such moment");
     }
@@ -194,8 +188,8 @@ fn a_stop_leaves_the_chain_before_or_after(rt: HostRuntime) {
     assert!(rt; blocks_after(&rt, alloc, &site, 11, 0x07) == 1);
 }
 
-// The bytes of a block of a coinbase alone, whose script has so many bytes, with a root of zeros: 140
-// bytes, the script's length and the script.
+// The bytes of a block of a coinbase alone, whose script has so many bytes, with a root of zeros:
+// 140 bytes, the script's length and the script.
 fn rootless(rt: &impl Abort, alloc: Global, previous: &[u8; 32], mark: u8, script: u32) -> Bytes {
     let filling = Vec::from_elem(alloc, mark, script as usize).expect(rt, "memory");
     let mut bytes = Bytes::empty(alloc);
