@@ -1,6 +1,6 @@
 //! The real site: the files of a folder, and the program's standard input and output as channel 0.
-//! Nobody waits at its doors. It tells nothing of what it reads, hears and shows, and is trusted for
-//! it.
+//! Nobody waits at its doors. It tells nothing of what it reads, hears and shows, and is trusted
+//! for it.
 
 ghost use Rattle.std.specs.Prelude.{◌≡◌, ◌≤◌, length, IfOk, IfSome, IsUtf8, OnOk};
 ghost use Rattle.ox_outside.specs.Counts.{Rose};
