@@ -38,10 +38,10 @@ six v m i o s l = omega (arith, length-append (v ++ m ++ i ++ o ++ s) l, length-
 parts : (v i o l : List ℕ) → length (v ++ i ++ o ++ l) ≡ length v + length i + length o + length l
 parts v i o l = omega (arith, length-append (v ++ i ++ o) l, length-append (v ++ i) o, length-append v i)
 
-extended_long : (t : Tx) → length (spelling.inputs t.inputs) + length (spelling.outputs t.outputs) ≤ length (spelling.extended t)
+extended_long : (t : Tx) → length (spelling.inputs t.inputs) + length (spelling.outputs t.outputs) ≤ length (spelling.extended_form t)
 extended_long t = omega (arith, six (to_le_bytes w32 t.version) (0 ∷ 1 ∷ []) (spelling.inputs t.inputs) (spelling.outputs t.outputs) (spelling.stacks t.inputs) (to_le_bytes w32 t.lock))
 
-stripped_long : (t : Tx) → length (spelling.inputs t.inputs) + length (spelling.outputs t.outputs) ≤ length (spelling.stripped t)
+stripped_long : (t : Tx) → length (spelling.inputs t.inputs) + length (spelling.outputs t.outputs) ≤ length (spelling.stripped_form t)
 stripped_long t = omega (arith, parts (to_le_bytes w32 t.version) (spelling.inputs t.inputs) (spelling.outputs t.outputs) (to_le_bytes w32 t.lock))
 
 inputs_long : (t : Tx) → length t.inputs ≤ length (spelling.inputs t.inputs)
@@ -51,13 +51,13 @@ outputs_long : (t : Tx) → length t.outputs ≤ length (spelling.outputs t.outp
 outputs_long t = behind _ (compact (length t.outputs)) (flat_map spelling.output t.outputs) (pieces spelling.output t.outputs some_output)
 
 tx_inputs : (t : Tx) → length t.inputs ≤ length (spelling.tx t)
-tx_inputs t = either t.marked (length t.inputs) (spelling.extended t) (spelling.stripped t) (omega (arith, inputs_long t, extended_long t)) (omega (arith, inputs_long t, stripped_long t))
+tx_inputs t = either t.marked (length t.inputs) (spelling.extended_form t) (spelling.stripped_form t) (omega (arith, inputs_long t, extended_long t)) (omega (arith, inputs_long t, stripped_long t))
 
 tx_outputs : (t : Tx) → length t.outputs ≤ length (spelling.tx t)
-tx_outputs t = either t.marked (length t.outputs) (spelling.extended t) (spelling.stripped t) (omega (arith, outputs_long t, extended_long t)) (omega (arith, outputs_long t, stripped_long t))
+tx_outputs t = either t.marked (length t.outputs) (spelling.extended_form t) (spelling.stripped_form t) (omega (arith, outputs_long t, extended_long t)) (omega (arith, outputs_long t, stripped_long t))
 
 some_tx : (t : Tx) → 1 ≤ length (spelling.tx t)
-some_tx t = either t.marked 1 (spelling.extended t) (spelling.stripped t)
+some_tx t = either t.marked 1 (spelling.extended_form t) (spelling.stripped_form t)
     (omega (arith, four t.version [], length-append (to_le_bytes w32 t.version) [], six (to_le_bytes w32 t.version) (0 ∷ 1 ∷ []) (spelling.inputs t.inputs) (spelling.outputs t.outputs) (spelling.stacks t.inputs) (to_le_bytes w32 t.lock)))
     (omega (arith, four t.version [], length-append (to_le_bytes w32 t.version) [], parts (to_le_bytes w32 t.version) (spelling.inputs t.inputs) (spelling.outputs t.outputs) (to_le_bytes w32 t.lock)))
 
