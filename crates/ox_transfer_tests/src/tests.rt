@@ -289,28 +289,12 @@ fn displaced_satoshis_are_lost_before_those_left(rt: HostRuntime) {
     );
 }
 
-/// Whether a coinbase that claims so much and these transactions are refused so on top of the block of
-/// one coinbase, whose satoshis have to stay where they are.
-fn is_refused(
-    rt: &impl Abort,
-    alloc: Global,
-    claimed: u64,
-    others: &[Plan],
-    refusal: Refusal,
-) -> bool {
+/// Whether these transactions, the coinbase first, are refused so on top of the block of one
+/// coinbase, whose satoshis have to stay where they are.
+fn is_refused(rt: &impl Abort, alloc: Global, plans: &[Plan], refusal: Refusal) -> bool {
     let mut table = fresh(alloc);
     let at = mine(rt, alloc, &mut table, SUBSIDY, 0, 0);
-    let spends = [nothing()];
-    let values = [claimed];
-    let mut plans = Vec::new(alloc);
-    let coinbase = Plan {
-        spends: &spends,
-        values: &values,
-        lock: 1,
-    };
-    plans.push(coinbase).expect(rt, "memory");
-    plans.extend_from_slice(others).expect(rt, "memory");
-    let block = block_of(rt, alloc, plans.as_slice());
+    let block = block_of(rt, alloc, plans);
     match try_block(rt, alloc, &mut table, &block, 1) {
         Err(TransferFault::Refused(cause)) => {
             cause == refusal && holds(&table, &at, &[(0, SUBSIDY)])
@@ -362,6 +346,11 @@ fn an_output_that_is_not_there_is_named(rt: HostRuntime) {
         values: &[20_000_000_000],
         lock: 0,
     };
+    let coinbase = Plan {
+        spends: &[nothing()],
+        values: &[SUBSIDY],
+        lock: 1,
+    };
     let cases = [
         (fair, again, 2, 0, at),
         (twice, fair, 1, 1, at),
@@ -369,7 +358,7 @@ fn an_output_that_is_not_there_is_named(rt: HostRuntime) {
     ];
     for (one, two, tx, input, at) in cases {
         let refusal = Refusal::UnknownOutput { tx, input, at };
-        assert!(rt; is_refused(&rt, alloc, SUBSIDY, &[one, two], refusal));
+        assert!(rt; is_refused(&rt, alloc, &[coinbase, one, two], refusal));
     }
 }
 
@@ -383,9 +372,9 @@ fn too_much_is_refused(rt: HostRuntime) {
         values: &[SUBSIDY, 1],
         lock: 0,
     };
-    let thrifty = Plan {
-        spends: &spends,
-        values: &[1],
+    let coinbase = Plan {
+        spends: &[nothing()],
+        values: &[20_000_000_000],
         lock: 1,
     };
     let overspend = Refusal::Overspend {
@@ -393,15 +382,37 @@ fn too_much_is_refused(rt: HostRuntime) {
         inputs: SUBSIDY,
         outputs: 5_000_000_001,
     };
-    assert!(rt; is_refused(&rt, alloc, 20_000_000_000, &[greedy], overspend));
+    assert!(rt; is_refused(&rt, alloc, &[coinbase, greedy], overspend));
+}
+
+// With a fee, and in a block of the coinbase alone.
+#[test]
+fn a_coinbase_that_claims_too_much_is_refused(rt: HostRuntime) {
+    let alloc = rt.alloc();
+    let spends = [first_output(&rt, alloc)];
+    let thrifty = Plan {
+        spends: &spends,
+        values: &[1],
+        lock: 1,
+    };
+    let coinbase = Plan {
+        spends: &[nothing()],
+        values: &[10_000_000_000],
+        lock: 1,
+    };
     let with_a_fee = Refusal::Overclaim {
         claimable: 9_999_999_999,
         claimed: 10_000_000_000,
     };
-    assert!(rt; is_refused(&rt, alloc, 10_000_000_000, &[thrifty], with_a_fee));
+    assert!(rt; is_refused(&rt, alloc, &[coinbase, thrifty], with_a_fee));
+    let lonely = Plan {
+        spends: &[nothing()],
+        values: &[5_000_000_001],
+        lock: 1,
+    };
     let alone = Refusal::Overclaim {
         claimable: SUBSIDY,
         claimed: 5_000_000_001,
     };
-    assert!(rt; is_refused(&rt, alloc, 5_000_000_001, &[], alone));
+    assert!(rt; is_refused(&rt, alloc, &[lonely], alone));
 }
