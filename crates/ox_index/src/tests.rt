@@ -51,13 +51,7 @@ fn outputs_of(rt: &impl Abort, alloc: Global, values: &[u64]) -> Outs {
 }
 
 // A transaction; the script of its inputs makes its id its own.
-fn tx_of(
-    rt: &impl Abort,
-    alloc: Global,
-    from: &[OutPoint],
-    script: &[u8],
-    values: &[u64],
-) -> Tx {
+fn tx_of(rt: &impl Abort, alloc: Global, from: &[OutPoint], script: &[u8], values: &[u64]) -> Tx {
     Tx {
         version: 2,
         marked: false,
@@ -85,7 +79,7 @@ fn block_on(rt: &impl Abort, alloc: Global, tip: [u8; 32], txs: Vec<Tx>) -> Bloc
             root: [0; 32],
             time: 0,
             bits: 0,
-            nonce: 0,
+            nonce: 7,
         },
         txs: Txs::from_vec(txs),
     };
@@ -194,10 +188,16 @@ fn a_coinbase_gets_the_subsidy_and_then_the_fees(rt: HostRuntime) {
     let alloc = rt.alloc();
     let mut live = fresh(alloc);
     let at = chain_with_a_fee(&rt, alloc, &mut live, 7_000_000_000);
-    assert!(rt; has_runs(&live, &at, &[
-        (10_000_000_000, 5_000_000_000),
-        (3_000_000_000, 2_000_000_000),
-    ]));
+    assert!(rt;
+        has_runs(
+            &live,
+            &at,
+            &[
+                (10_000_000_000, 5_000_000_000),
+                (3_000_000_000, 2_000_000_000),
+            ]
+        )
+    );
     assert!(rt; live.lost() == 0 && live.blocks() == 3);
 }
 
@@ -254,7 +254,15 @@ fn a_chain_ends_at_the_last_height(rt: HostRuntime) {
     let mut txs = Vec::new(alloc);
     add(&rt, &mut txs, coinbase_of(&rt, alloc, 41, 0));
     let block = block_on(&rt, alloc, tip, txs);
-    assert!(rt; is_refused(&rt, alloc, &mut live, &block, Refusal::ChainEnd { height: 41 }));
+    assert!(rt;
+        is_refused(
+            &rt,
+            alloc,
+            &mut live,
+            &block,
+            Refusal::ChainEnd { height: 41 }
+        )
+    );
     assert!(rt; live.line().expect(&rt, "memory").as_slice().len() == 71);
 }
 
@@ -268,7 +276,11 @@ fn is_first_refused(
     refusal: Refusal,
 ) -> bool {
     let mut txs = Vec::new(alloc);
-    add(rt, &mut txs, tx_of(rt, alloc, coinbase, &[1, 0], &[SUBSIDY]));
+    add(
+        rt,
+        &mut txs,
+        tx_of(rt, alloc, coinbase, &[1, 0], &[SUBSIDY]),
+    );
     add(rt, &mut txs, tx_of(rt, alloc, second, &[], &[1]));
     let block = block_on(rt, alloc, [0; 32], txs);
     is_refused(rt, alloc, &mut fresh(alloc), &block, refusal)
