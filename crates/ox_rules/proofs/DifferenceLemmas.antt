@@ -94,7 +94,7 @@ module _ {K X : Type 0} {R : K → K → Ordering} (o : IsTotalOrder R) (exact :
   module _ (same : X → X → Bool) (decides : (x y : X) → Decides (same x y) (x ≡ y)) where
     -- ---- there is one
 
-    has_gone : (b a : Option X) (row : X) → (cond (differs same b a) b None ≡ Some row) ↔ ((b ≡ Some row) × (a ≢ Some row))
+    pub has_gone : (b a : Option X) (row : X) → (cond (differs same b a) b None ≡ Some row) ↔ ((b ≡ Some row) × (a ≢ Some row))
     has_gone None a row = (λ is. none_is_some row is, λ is. none_is_some row is.0)
     has_gone (Some x) None row = (λ is. (is, λ none. none_is_some row none), λ is. is.0)
     has_gone (Some x) (Some y) row = by_same (same x y) refl where

@@ -3,3 +3,4 @@ pub mod Orders
 pub mod Conservation
 pub mod Transfers
 pub mod DifferenceLemmas
+pub mod DifferenceRows

@@ -11,6 +11,3 @@ mod take;
 
 pub use fault::TransferFault;
 pub use moving::transfer;
-
-#[cfg(test)]
-mod tests;
