@@ -307,6 +307,7 @@ fn coinbases_stand_first_and_alone(rt: HostRuntime) {
     assert!(rt; is_first_refused(&rt, alloc, &[NULL], &[named], unknown));
 }
 
+// The header's own hash stands for the root.
 #[test]
 fn a_root_of_other_transactions_is_refused(rt: HostRuntime) {
     let alloc = rt.alloc();
@@ -314,10 +315,8 @@ fn a_root_of_other_transactions_is_refused(rt: HostRuntime) {
     add(&rt, &mut txs, coinbase_of(&rt, alloc, 0, SUBSIDY));
     let mut block = block_on(&rt, alloc, [0; 32], txs);
     let want = block.header.root;
-    block.header.root = [7; 32];
-    let refusal = Refusal::BadRoot {
-        have: [7; 32],
-        want,
-    };
+    block.header.root = hash(&block.header);
+    let have = block.header.root;
+    let refusal = Refusal::BadRoot { have, want };
     assert!(rt; is_refused(&rt, alloc, &mut fresh(alloc), &block, refusal));
 }
