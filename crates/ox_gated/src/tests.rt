@@ -80,11 +80,15 @@ fn is_current(alloc: Global, site: &mut MemSite, file: Which) -> bool {
 
 // Opens the files and appends a record of 3 bytes. Whether it is there.
 fn is_appended(rt: &impl Abort, alloc: Global, site: &mut MemSite) -> bool {
+    let Ok(opened) = Tail::open(alloc, site) else {
+        panic!(rt; "not opened");
+    };
     let framed = frame(alloc, b"abc").expect(rt, "memory");
-    match Tail::open(alloc, site) {
-        Ok(Opened { tail, .. }) => tail.fits(3) && tail.append(site, &framed).is_ok(),
-        Err(_) => false,
+    let Opened { tail, .. } = opened;
+    if !tail.fits(3) {
+        panic!(rt; "full");
     }
+    tail.append(site, &framed).is_ok()
 }
 
 // How many records there are after a crash at this moment that leaves these bytes where it may, and
