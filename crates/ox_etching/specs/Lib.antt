@@ -1,0 +1,3 @@
+pub mod Commitment
+pub mod Etched
+pub mod Minted

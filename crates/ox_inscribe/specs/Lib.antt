@@ -1,0 +1,2 @@
+pub mod Inscriptions
+pub mod Reveal

@@ -1,0 +1,37 @@
+//! What is kept of an inscription.
+
+use ox_bytes::Bytes;
+use ox_envelope::{Ids, InsId};
+
+/// An inscription: what its envelope says, and where it was made. Its number is its place among all
+/// rows, from 0.
+#[derive(Debug, Drop)]
+pub struct InsRow {
+    /// The transaction that revealed it, and how many of that transaction's envelopes come before.
+    pub id: InsId,
+    /// The height of the block that revealed it.
+    pub height: u32,
+    /// The content type, as its bytes.
+    pub content_type: Option<Bytes>,
+    /// The content.
+    pub body: Option<Bytes>,
+    /// The metadata, which is kept unread.
+    pub metadata: Option<Bytes>,
+    /// The metaprotocol, which is kept unread.
+    pub metaprotocol: Option<Bytes>,
+    /// The content encoding, as its bytes.
+    pub encoding: Option<Bytes>,
+    /// The pointer, as its bytes, whether it was followed or not.
+    pub pointer: Option<Bytes>,
+    /// The inscription whose content stands for this one's.
+    pub delegate: Option<InsId>,
+    /// Its parents, each once, in the order in which they were named.
+    pub parents: Ids,
+    /// Bit 0: an unknown even tag. Bit 1: a tag other than 3 and 5 with two values. Bit 2: a last
+    /// tag without a value. Bit 3: an input other than the first. Bit 4: not the first envelope of
+    /// its input. Bit 5: a pointer. Bit 6: a push by OP_1NEGATE or OP_1 to OP_16. Bit 7: it is on a
+    /// satoshi that bore an inscription before.
+    pub marks: u16,
+    /// The satoshi that it is on. An unbound inscription is on none.
+    pub sat: Option<u64>,
+}

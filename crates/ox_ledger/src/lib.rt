@@ -1,0 +1,2 @@
+//! The runes of a chain: which there are, and which output holds how much of them.
+#![tactic(auto)]
