@@ -15,7 +15,8 @@ is_pushed bytes [] = false
 is_pushed bytes (Push pushed ∷ items) = bytes_eq pushed bytes || is_pushed bytes items
 is_pushed bytes (Op op ∷ items) = is_pushed bytes items
 
--- an output has matured at a height: that is the sixth block with its own, or a later one
+-- an output has matured at a height: that is the sixth block with its own, or a later one, which is
+-- this project's own reading
 abbrev pub is_mature : OutRow → ℕ → Bool
 is_mature row height = nat_le 6 (height + 1 - row.height)
 

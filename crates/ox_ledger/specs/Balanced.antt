@@ -25,6 +25,8 @@ amount_per_mint terms = option_map_or (λ t. unwrap_or t.amount 0) terms 0
 
 -- the numbers of a rune are within their bounds, and it isn't minted beyond its cap
 pub record IsBounded (row : RuneRow) : Type 0 where
+  -- so reserved names of different places differ
+  pub place : row.id.tx < 2 ^ 32
   pub divisibility : row.divisibility ≤ 38
   pub spacers : row.spacers < 2 ^ 27
   -- a name that is reserved is that of the etching's place
