@@ -5,6 +5,8 @@ use Rattle.std.specs.List.{concat}
 use Rattle.ox_outside.specs.Event.{Event, heard_bytes, shown_bytes, has_ended}
 use Rattle.ox_feed.specs.Feed.{Feed, FeedLine, text, too_long, GivesLine, Hears, IsDone, MayCome}
 use Rattle.ox_feed.specs.Feed.{lines_from, lines_of}
+use Rattle.ox_feed.specs.Command.{command_of}
+use Rattle.ox_feed.specs.declared.command.Command.{Command}
 use Rattle.ox_feed.specs.declared.lines.Line.{Line}
 use Rattle.ox_feed.specs.declared.lines.Line.TheVariants.{Text, Long, End}
 use Rattle.ox_feed.specs.declared.lines.FeedFault.{FeedFault}
@@ -12,10 +14,12 @@ use Rattle.ox_feed.specs.declared.lines.FeedFault.TheVariants.{HearFault as Feed
 use Rattle.ox_feed.specs.declared.lines.FeedFault.TheVariants.{TooMuch as FeedTooMuch}
 use Rattle.ox_feed.specs.declared.lines.FeedFault.TheVariants.{Memory as FeedMemory}
 use Rattle.ox_model.specs.Replies.{after_turn, after_on, index_on, replies_on, reply_by}
-use Rattle.ox_model.specs.Stack.{Stack, turn_on}
+use Rattle.ox_model.specs.Stack.{Stack, stack_after, turn_on}
 use Rattle.ox_model.specs.Replies.{ok_line}
 use Rattle.ox_rules.specs.Text.{refusal_line}
 use Rattle.ox_store.specs.Store.{stack_with}
+use Rattle.ox_rules.specs.declared.refusal.Refusal.{Refusal}
+use Rattle.ox_rules.specs.declared.refusal.Refusal.TheVariants.{TooLong, Syntax}
 use Rattle.ox_index.specs.declared.live.Live.{Live}
 use Rattle.ox_index.specs.declared.fault.ConnectFault.{ConnectFault}
 use Rattle.ox_index.specs.declared.fault.ConnectFault.TheVariants.{Refused, Memory as NoMemory}
@@ -30,12 +34,23 @@ fold_depth = 1000
 abbrev pub stack_in : Live → Stack
 stack_in live = stack_with fold_depth live
 
+-- what is no command is refused
+abbrev pub or_syntax : Option Command → Result Command Refusal
+or_syntax (Some command) = Ok command
+or_syntax None = Err Syntax
+
+-- the command that a line asks for, or why it is refused; nothing at the end
+abbrev pub command_in : Line → Option (Result Command Refusal)
+command_in (Text line) = Some (or_syntax (command_of line))
+command_in Long = Some (Err TooLong)
+command_in End = None
+
 -- a command was carried out, was refused, or found no memory
-abbrev pub Obeys : Stack → List ℕ → Result (Unit {0}) ConnectFault → Stack → Type 0
-Obeys stack line (Ok done) new = turn_on stack (text line) ≡ Ok new
-Obeys stack line (Err (Refused refusal)) new =
-    (turn_on stack (text line) ≡ Err refusal) × (new ≡ stack)
-Obeys stack line (Err NoMemory) new = new ≡ stack
+abbrev pub Obeys : Stack → Command → Result (Unit {0}) ConnectFault → Stack → Type 0
+Obeys stack command (Ok done) new = stack_after stack command ≡ Ok new
+Obeys stack command (Err (Refused refusal)) new =
+    (stack_after stack command ≡ Err refusal) × (new ≡ stack)
+Obeys stack command (Err NoMemory) new = new ≡ stack
 
 -- the line that answers
 abbrev pub IsAnswer : Result (Unit {0}) ConnectFault → Stack → List ℕ → Type 0

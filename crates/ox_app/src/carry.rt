@@ -13,10 +13,11 @@ ghost use Rattle.ox_app.specs.Apply.{CarriesOut, after_line, tip_line};
 ghost use Rattle.ox_app.specs.Show.{DiskFails};
 ghost use Rattle.ox_app.specs.declared.stop.Stop.TheVariants as stops;
 
+use crate::line::asked_by;
 use crate::stop::Stop;
 use itoa::Buffer;
 use ox_bytes::{Bytes, Memory, Room};
-use ox_feed::{Command, Line, SyntaxFault, command_of};
+use ox_feed::{Command, Line};
 use ox_model::Refusal;
 use ox_outside::Site;
 use ox_store::{Kept, Store, Why};
@@ -149,14 +150,9 @@ pub fn carry_out<S: Site>(
     ensures failed { IsErrOf result Stop.DiskFault → DiskFails S.Site site.old site.new }
     ensures calls { Calls S.Site site.old site.new }
 {
-    let text = match line {
-        Line::Text(text) => text,
-        Line::Long => return Ok(Some(refuse(alloc, store, Refusal::TooLong)?)),
-        Line::End => return Ok(None),
-    };
-    match command_of(alloc, text.as_slice()) {
-        Ok(command) => Ok(Some(carry_command(alloc, store, &command, site)?)),
-        Err(SyntaxFault::Syntax) => Ok(Some(refuse(alloc, store, Refusal::Syntax)?)),
-        Err(SyntaxFault::Memory) => Err(Stop::Memory),
+    match asked_by(alloc, line)? {
+        Some(Ok(command)) => Ok(Some(carry_command(alloc, store, &command, site)?)),
+        Some(Err(refusal)) => Ok(Some(refuse(alloc, store, refusal)?)),
+        None => Ok(None),
     }
 }

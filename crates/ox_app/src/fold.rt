@@ -41,7 +41,7 @@ fn next_answer<S: Site>(
     ensures talks { OnlyTalks S.Site (Listens lines.old) site.old site.new }
 {
     let line = lines.next(site)?;
-    Ok(answer(alloc, live, line)?)
+    Ok(answer(alloc, live, &line)?)
 }
 
 /// Reads the feed of channel 0 to its end, and shows the answer to each line. The chain counts by
