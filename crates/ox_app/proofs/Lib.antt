@@ -4,7 +4,9 @@ pub mod FeedAnswers
 pub mod FeedState
 pub mod FreshIndexing
 pub mod Images
+pub mod NextLines
 pub mod Pieces
 pub mod Prefixes
+pub mod StoreLines
 pub mod Subcommands
 pub mod TalksOn

@@ -1,19 +1,13 @@
--- A run over a feed, part by part.
-use Rattle.std.specs.Prelude.{◌≡◌, ℕ, List, [], ◌∷◌, ◌++◌, length, Bool, Option, Some, None}
-use Rattle.std.specs.Prelude.{Result, Ok, Err, IfOk}
-use Rattle.std.specs.List.{concat}
-use Rattle.ox_outside.specs.Event.{Event, heard_bytes, shown_bytes, has_ended}
-use Rattle.ox_feed.specs.Feed.{Feed, FeedLine, text, too_long, GivesLine, Hears, IsDone, MayCome}
-use Rattle.ox_feed.specs.Feed.{lines_from, lines_of}
-use Rattle.ox_feed.specs.declared.lines.Line.{Line}
-use Rattle.ox_feed.specs.declared.lines.Line.TheVariants.{Text, Long, End}
+-- A run over a feed, without files.
+use Rattle.std.specs.Prelude.{◌≡◌, ℕ, List, Result, Ok, Err}
+use Rattle.ox_outside.specs.Event.{Event}
+use Rattle.ox_feed.specs.declared.command.Command.{Command}
 use Rattle.ox_feed.specs.declared.lines.FeedFault.{FeedFault}
 use Rattle.ox_feed.specs.declared.lines.FeedFault.TheVariants.{HearFault as FeedHearFault}
 use Rattle.ox_feed.specs.declared.lines.FeedFault.TheVariants.{TooMuch as FeedTooMuch}
 use Rattle.ox_feed.specs.declared.lines.FeedFault.TheVariants.{Memory as FeedMemory}
-use Rattle.ox_model.specs.Replies.{after_turn, after_on, index_on, replies_on, reply_by}
-use Rattle.ox_model.specs.Stack.{Stack, turn_on}
 use Rattle.ox_model.specs.Replies.{ok_line}
+use Rattle.ox_model.specs.Stack.{Stack, stack_after}
 use Rattle.ox_rules.specs.Text.{refusal_line}
 use Rattle.ox_store.specs.Store.{stack_with}
 use Rattle.ox_index.specs.declared.live.Live.{Live}
@@ -31,11 +25,11 @@ abbrev pub stack_in : Live → Stack
 stack_in live = stack_with fold_depth live
 
 -- a command was carried out, was refused, or found no memory
-abbrev pub Obeys : Stack → List ℕ → Result (Unit {0}) ConnectFault → Stack → Type 0
-Obeys stack line (Ok done) new = turn_on stack (text line) ≡ Ok new
-Obeys stack line (Err (Refused refusal)) new =
-    (turn_on stack (text line) ≡ Err refusal) × (new ≡ stack)
-Obeys stack line (Err NoMemory) new = new ≡ stack
+abbrev pub Obeys : Stack → Command → Result (Unit {0}) ConnectFault → Stack → Type 0
+Obeys stack command (Ok done) new = stack_after stack command ≡ Ok new
+Obeys stack command (Err (Refused refusal)) new =
+    (stack_after stack command ≡ Err refusal) × (new ≡ stack)
+Obeys stack command (Err NoMemory) new = new ≡ stack
 
 -- the line that answers
 abbrev pub IsAnswer : Result (Unit {0}) ConnectFault → Stack → List ℕ → Type 0
@@ -43,56 +37,16 @@ IsAnswer (Ok done) stack line = line ≡ ok_line stack.index
 IsAnswer (Err (Refused refusal)) stack line = line ≡ refusal_line refusal
 IsAnswer (Err NoMemory) stack line = ⊥
 
--- a line is answered, and leaves this stack
-pub record Replies (line : FeedLine) (stack : Stack) (answer : Option (List ℕ))
-    (new : Stack) : Type 0 where
-  pub says : answer ≡ Some (reply_by index_on (turn_on stack line))
-  pub leaves : new ≡ after_turn stack (turn_on stack line)
-
--- a line is answered, the end is not
-abbrev pub AnswersLine : Line → Stack → Option (List ℕ) → Stack → Type 0
-AnswersLine (Text line) stack answer new = Replies (text line) stack answer new
-AnswersLine Long stack answer new = Replies too_long stack answer new
-AnswersLine End stack answer new = answer ≡ None
-
--- with these bytes heard, a line comes next, whatever is heard later, and this is its answer
-pub record NextLine (lines : Feed) (stack : Stack) (answer : List ℕ) (heard : List ℕ)
-    (lines' : Feed) (stack' : Stack) : Type 0 where
-  pub line : FeedLine
-  pub comes : GivesLine line lines heard lines'
-  pub says : answer ≡ reply_by index_on (turn_on stack line)
-  pub leaves : stack' ≡ after_turn stack (turn_on stack line)
-
--- an answer comes next, or all lines are answered
-abbrev pub Comes : Option (List ℕ) → Feed → Stack → List ℕ → Feed → Stack → Type 0
-Comes (Some answer) lines stack heard lines' stack' =
-    NextLine lines stack answer heard lines' stack'
-Comes None lines stack heard lines' stack' = IsDone lines heard lines'
-
--- what hearing a line and seeing to it says of the events that it logged: the bytes heard, and what
--- came with them
-pub record LineDone {C : Type 0} (comes : C → List ℕ → Type 0) (lines : Feed)
-    (result : Result C Stop) (lines' : Feed) (events : List Event) : Type 0 where
-  pub hears : Hears lines lines' events
-  pub came : IfOk result (λ what. comes what (heard_bytes 0 events))
-
--- one line is heard and answered
-abbrev pub Answered : Feed → Stack → Result (Option (List ℕ)) Stop → Feed → Stack → List Event
-    → Type 0
-Answered lines stack result lines' stack' =
-    LineDone (λ answer heard. Comes answer lines stack heard lines' stack') lines result lines'
+-- a line that is carried out in memory makes no call of the site, and fails for memory alone
+pub record StaysAway {S C : Type 0} (old : S) (result : Result C Stop) (new : S) : Type 0 where
+  pub same : new ≡ old
+  pub stops : (stop : Stop) → result ≡ Err stop → stop ≡ Memory
 
 -- why a run stops where its lines stop
 abbrev pub stop_of : FeedFault → Stop
 stop_of FeedHearFault = HearFault
 stop_of FeedTooMuch = TooMuch
 stop_of FeedMemory = Memory
-
--- there was a line, and it is answered
-abbrev pub HasAnswer : Result (Option (List ℕ)) Stop → Type 0
-HasAnswer (Ok (Some answer)) = Unit {0}
-HasAnswer (Ok None) = ⊥
-HasAnswer (Err stop) = ⊥
 
 -- any events
 abbrev pub Anything : List Event → Type 0

@@ -1,23 +1,25 @@
-//! One line of a feed, carried out in memory and answered.
+//! A command that an index in memory carries out and answers.
 
 ghost use Rattle.std.specs.Prelude.{◌≡◌, IfOk};
-ghost use Rattle.ox_app.specs.Fold.{AnswersLine, IsAnswer, Obeys, stack_in};
+ghost use Rattle.ox_app.specs.Fold.{IsAnswer, Obeys, stack_in};
 
+use crate::line::CarriedLine;
+use crate::carrier::Carrier;
+use crate::stop::Stop;
 use ox_bytes::{Bytes, Memory};
-use ox_feed::{Command, Line, SyntaxFault, command_of};
+use ox_feed::Command;
 use ox_index::{ConnectFault, Live};
 use ox_model::Refusal;
+use ox_outside::Site;
 use std::alloc::Global;
 
-// Carries out the command of a line.
-fn obey(alloc: Global, live: &mut Live, line: &[u8]) -> Result<(), ConnectFault>
-    ensures { Obeys (stack_in live.old) line.now result (stack_in live.new) }
+// Carries out a command.
+fn obey(live: &mut Live, command: &Command) -> Result<(), ConnectFault>
+    ensures { Obeys (stack_in live.old) command.now result (stack_in live.new) }
 {
-    match command_of(alloc, line) {
-        Ok(Command::Connect(block)) => live.connect(block.as_slice()),
-        Ok(Command::Disconnect) => Err(ConnectFault::Refused(Refusal::Depth)),
-        Err(SyntaxFault::Syntax) => Err(ConnectFault::Refused(Refusal::Syntax)),
-        Err(SyntaxFault::Memory) => Err(ConnectFault::Memory),
+    match command {
+        Command::Connect(block) => live.connect(block.as_slice()),
+        Command::Disconnect => Err(ConnectFault::Refused(Refusal::Depth)),
     }
 }
 
@@ -32,18 +34,33 @@ fn answer_to(alloc: Global, outcome: Result<(), ConnectFault>, live: &Live) -> R
     }
 }
 
-/// Carries out a line and answers it; `None` at the end of the feed. After `Memory` the command may
-/// have been carried out, without an answer.
-pub fn answer(alloc: Global, live: &mut Live, line: Line) -> Result<Option<Bytes>, Memory>
-    ensures { IfOk result
-        (λ answer. AnswersLine line (stack_in live.old) answer (stack_in live.new)) }
-{
-    match line {
-        Line::Text(text) => {
-            let outcome = obey(alloc, live, text.as_slice());
-            Ok(Some(answer_to(alloc, outcome, live)?))
-        }
-        Line::Long => Ok(Some(Refusal::TooLong.line(alloc)?)),
-        Line::End => Ok(None),
+impl<S: Site> Carrier<S> for Live {
+    ghost use Rattle.ox_app.specs.Fold.{StaysAway, stack_in};
+
+    ghost stack = { stack_in };
+
+    ghost rests = { λ _ _. Unit {0} };
+
+    ghost leaves = { λ _ _. StaysAway };
+
+    fn carry(
+        self,
+        alloc: Global,
+        command: &Command,
+        _site: &mut S,
+    ) -> Result<CarriedLine<Live>, Stop> {
+        let mut live = self;
+        let outcome = obey(&mut live, command);
+        let answer = answer_to(alloc, outcome, &live)?;
+        Ok(CarriedLine {
+            state: live,
+            answer,
+        })
     }
+
+    ghost refuses = { λ _ _ _ _ _. record { same = refl; stops = λ stop is. cc is } };
+
+    ghost ends = { λ _ _ _ _. record { same = refl; stops = λ stop is. cc is } };
+
+    ghost stops = { λ _ _ _ _. record { same = refl; stops = λ stop is. cc is } };
 }

@@ -7,8 +7,9 @@ ghost use Rattle.ox_feed.specs.Feed.{IsTooMuch, feed_limit, bytes_left};
 ghost use Rattle.ox_model.specs.Replies.{after_on, replies_on};
 ghost use Rattle.ox_model.specs.Stack.{Stack};
 ghost use Rattle.ox_model.specs.Stands.{Misfit, stands};
-ghost use Rattle.ox_app.specs.Apply.{CarriedOn, DuringLine};
+ghost use Rattle.ox_app.specs.Apply.{DuringLine, stack_at};
 ghost use Rattle.ox_app.specs.Headline.{AddsNoImage, Leaves, RunsFeed, StopsBefore, Survives};
+ghost use Rattle.ox_app.specs.Line.{CarriesOutNext};
 ghost use Rattle.ox_outside.specs.Runs.{Calls, LeavesOnly};
 ghost use Rattle.ox_gated.specs.Tail.{Holds};
 ghost use Rattle.ox_app.specs.Show.{DiskFails, HearFails, ShowFails};
@@ -16,7 +17,7 @@ ghost use Rattle.ox_app.specs.Status.{IsApplyStatus, IsUnopened, status_of};
 ghost use Rattle.ox_app.specs.Unopened.{SaysNotStore};
 ghost use Rattle.ox_app.specs.declared.status.Status.TheVariants as ends;
 
-use crate::carry::{Carried, carry_out};
+use crate::line::{CarriedLine, carry_line};
 use crate::show::show_all;
 use crate::status::Status;
 use crate::stop::{Stop, status};
@@ -33,23 +34,23 @@ fn next_carried<S: Site>(
     lines: &mut Lines,
     store: Store,
     site: &mut S,
-) -> Result<Option<Carried>, Stop>
+) -> Result<Option<CarriedLine<Store>>, Stop>
     requires holds { IsTrue (S.told site.old) → Holds S.Site store.tail site.old }
     requires few { store.commands < 2 ^ 64 - 1 }
-    ensures told { Grows (CarriedOn lines.old store.stack result lines.new)
+    ensures told { Grows (CarriesOutNext stack_at lines.old store.stack result lines.new)
         (S.log site.old) (S.log site.new) }
     ensures during { IsTrue (S.told site.old) → stands (S.seen site.old) ≡ Ok store.stack
         → LeavesOnly S.Site site.old site.new (λ r.
         Grows (DuringLine lines.old store.stack lines.new r.files) (S.log site.old) (Some r.log)) }
     ensures holds { IsTrue (S.told site.old)
-        → IfOk result (λ carried. IfSome carried (λ c. Holds S.Site c.store.tail site.new)) }
+        → IfOk result (λ carried. IfSome carried (λ c. Holds S.Site c.state.tail site.new)) }
     ensures stands { IsTrue (S.told site.old) → stands (S.seen site.old) ≡ Ok store.stack
         → IfOk result (λ carried. IfSome carried
-        (λ c. stands (S.seen site.new) ≡ Ok c.store.stack)) }
+        (λ c. stands (S.seen site.new) ≡ Ok c.state.stack)) }
     ensures out_of_memory { IsTrue (S.told site.old) → stands (S.seen site.old) ≡ Ok store.stack
         → IsErrOf result Stop.Memory → stands (S.seen site.new) ≡ Ok store.stack }
     ensures one_more { IfOk result (λ carried. IfSome carried
-        (λ c. c.store.commands ≤ store.commands + 1)) }
+        (λ c. c.state.commands ≤ store.commands + 1)) }
     ensures fewer { IfOk result (λ carried. IfSome carried
         (λ c. bytes_left lines.new < bytes_left lines.old)) }
     ensures count { lines.new.heard ≤ feed_limit }
@@ -60,7 +61,7 @@ fn next_carried<S: Site>(
     ensures calls { Calls S.Site site.old site.new }
 {
     let line = lines.next(site)?;
-    carry_out(alloc, store, &line, site)
+    carry_line(alloc, store, &line, site)
 }
 
 // Reads the feed of channel 0 to its end; each line is carried out, and its answer shown.
@@ -86,7 +87,7 @@ fn follow<S: Site>(alloc: Global, store: Store, site: &mut S) -> Result<(), Stop
     let mut store = store;
     while let Some(carried) = next_carried(alloc, &mut lines, store, site)? {
         show_all(site, carried.answer.as_slice())?;
-        store = carried.store;
+        store = carried.state;
     }
     Ok(())
 }

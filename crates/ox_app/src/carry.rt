@@ -1,4 +1,4 @@
-//! One line of a feed, carried out by a store and answered.
+//! A command that a store carries out and answers.
 
 ghost use Rattle.std.specs.Prelude.{◌≡◌, ◌⊎◌, ◌+◌, ◌-◌, ◌<◌, ◌≤◌, ◌^◌, ◌++◌, [], Some, Ok};
 ghost use Rattle.std.specs.Prelude.{IsTrue, IfOk, IfErr, IfSome, IsErrOf};
@@ -7,73 +7,32 @@ ghost use Rattle.ox_gated.specs.Tail.{Holds};
 ghost use Rattle.ox_model.specs.Replies.{after_turn, index_on, reply_by};
 ghost use Rattle.ox_model.specs.Stack.{stack_after};
 ghost use Rattle.ox_model.specs.Stands.{stands};
-ghost use Rattle.ox_rules.specs.Text.{block_line, refusal_line};
+ghost use Rattle.ox_rules.specs.Text.{refusal_line};
 ghost use Rattle.ox_store.specs.Ready.{StandsForEither};
-ghost use Rattle.ox_app.specs.Apply.{CarriesOut, after_line, tip_line};
 ghost use Rattle.ox_app.specs.Show.{DiskFails};
 ghost use Rattle.ox_app.specs.declared.stop.Stop.TheVariants as stops;
 
+use crate::line::CarriedLine;
+use crate::carrier::Carrier;
 use crate::stop::Stop;
-use itoa::Buffer;
 use ox_bytes::{Bytes, Memory, Room};
-use ox_feed::{Command, Line, SyntaxFault, command_of};
+use ox_feed::Command;
+use ox_index::{LONGEST_OK, ok_line_in};
 use ox_model::Refusal;
 use ox_outside::Site;
 use ox_store::{Kept, Store, Why};
 use std::alloc::Global;
 
-/// A line that was carried out: the store after it, and its answer.
-#[derive(Drop)]
-pub struct Carried {
-    /// The store as the line leaves it.
-    pub store: Store,
-    /// The line that answers, with its line feed.
-    pub answer: Bytes,
-}
-
-// How many bytes the line of an accepted command has at most: `ok`, a height of at most ten digits,
-// 64 digits of a hash, two spaces and a line feed.
-const LONGEST_OK: usize = 79;
-
-// Puts the line of a newest block.
-#[tactic(auto, unfolding(ox_rules::specs::Text::block_line, ox_rules::specs::Text::hash_text))]
-fn put_block_line(room: &mut Room, height: u32, hash: &[u8; 32])
-    requires { room.old.spare ≡ 79 }
-    ensures { room.new.filled ≡ room.old.filled ++ block_line height hash.now }
-{
-    let mut reversed = *hash;
-    reversed.reverse();
-    let mut digits = [0; 64];
-    let _ = hex::encode_to_slice(&reversed[..], &mut digits);
-    room.put(b"ok ");
-    room.put(Buffer::new().format(height).as_bytes());
-    room.put(b" ");
-    room.put(&digits);
-    room.put(b"\n");
-}
-
-// The line of an accepted command, by the newest block's height and hash, in memory that was taken
-// before.
-fn ok_line_in(room: Room, tip: Option<(u32, [u8; 32])>) -> Bytes
-    requires empty { room.filled ≡ [] }
-    requires spare { room.spare ≡ 79 }
-    ensures { result ≡ tip_line tip }
-{
-    let mut room = room;
-    match tip {
-        Some(newest) => put_block_line(&mut room, newest.0, &newest.1),
-        None => room.put(b"ok empty\n"),
-    }
-    room.done()
-}
-
 // The store as it is, and the line of a refusal.
-fn refuse(alloc: Global, store: Store, refusal: Refusal) -> Result<Carried, Memory>
-    ensures store { IfOk result (λ carried. carried.store ≡ store) }
+fn refuse(alloc: Global, store: Store, refusal: Refusal) -> Result<CarriedLine<Store>, Memory>
+    ensures store { IfOk result (λ carried. carried.state ≡ store) }
     ensures answer { IfOk result (λ carried. carried.answer ≡ refusal_line refusal) }
 {
     let answer = refusal.line(alloc)?;
-    Ok(Carried { store, answer })
+    Ok(CarriedLine {
+        state: store,
+        answer,
+    })
 }
 
 // Carries out a command. The memory of its answer is taken first.
@@ -82,18 +41,18 @@ fn carry_command<S: Site>(
     store: Store,
     command: &Command,
     site: &mut S,
-) -> Result<Carried, Stop>
+) -> Result<CarriedLine<Store>, Stop>
     requires holds { IsTrue (S.told site.old) → Holds S.Site store.tail site.old }
     requires few { store.commands < 2 ^ 64 - 1 }
     ensures answer { IfOk result (λ carried.
         carried.answer ≡ reply_by index_on (stack_after store.stack command.now)) }
     ensures leads { IfOk result (λ carried.
-        carried.store.stack ≡ after_turn store.stack (stack_after store.stack command.now)) }
-    ensures one_more { IfOk result (λ carried. carried.store.commands ≤ store.commands + 1) }
+        carried.state.stack ≡ after_turn store.stack (stack_after store.stack command.now)) }
+    ensures one_more { IfOk result (λ carried. carried.state.commands ≤ store.commands + 1) }
     ensures holds { IsTrue (S.told site.old)
-        → IfOk result (λ carried. Holds S.Site carried.store.tail site.new) }
+        → IfOk result (λ carried. Holds S.Site carried.state.tail site.new) }
     ensures stands { IsTrue (S.told site.old) → stands (S.seen site.old) ≡ Ok store.stack
-        → IfOk result (λ carried. stands (S.seen site.new) ≡ Ok carried.store.stack) }
+        → IfOk result (λ carried. stands (S.seen site.new) ≡ Ok carried.state.stack) }
     ensures any_moment { IsTrue (S.told site.old) → stands (S.seen site.old) ≡ Ok store.stack
         → LeavesOnly S.Site site.old site.new (λ r.
         StandsForEither store.stack (after_turn store.stack (stack_after store.stack command.now))
@@ -110,7 +69,10 @@ fn carry_command<S: Site>(
         Ok(ready) => {
             let answer = ok_line_in(room, ready.tip());
             let store = ready.commit(site)?;
-            Ok(Carried { store, answer })
+            Ok(CarriedLine {
+        state: store,
+        answer,
+    })
         }
         Err(Kept { store, why }) => match why {
             Why::Refused(refusal) => Ok(refuse(alloc, store, refusal)?),
@@ -119,44 +81,28 @@ fn carry_command<S: Site>(
     }
 }
 
-/// Carries out a line and answers it; `None` at the end of the feed. All memory of a command and
-/// its answer is taken before its record is written. At any moment of the call a crash leaves files
-/// that stand for the stack before the line or for the one after it. `DiskFault` only where a call
-/// on a file failed; `Memory` where there is none, and the line isn't carried out then.
-pub fn carry_out<S: Site>(
-    alloc: Global,
-    store: Store,
-    line: &Line,
-    site: &mut S,
-) -> Result<Option<Carried>, Stop>
-    requires holds { IsTrue (S.told site.old) → Holds S.Site store.tail site.old }
-    requires few { store.commands < 2 ^ 64 - 1 }
-    ensures carried { IfOk result (λ carried. CarriesOut line.now store.stack carried) }
-    ensures one_more { IfOk result (λ carried. IfSome carried
-        (λ c. c.store.commands ≤ store.commands + 1)) }
-    ensures holds { IsTrue (S.told site.old)
-        → IfOk result (λ carried. IfSome carried (λ c. Holds S.Site c.store.tail site.new)) }
-    ensures stands { IsTrue (S.told site.old) → stands (S.seen site.old) ≡ Ok store.stack
-        → IfOk result (λ carried. IfSome carried
-        (λ c. stands (S.seen site.new) ≡ Ok c.store.stack)) }
-    ensures any_moment { IsTrue (S.told site.old) → stands (S.seen site.old) ≡ Ok store.stack
-        → LeavesOnly S.Site site.old site.new (λ r.
-        StandsForEither store.stack (after_line store.stack line.now) r.files) }
-    ensures out_of_memory { IsErrOf result Stop.Memory → S.seen site.new ≡ S.seen site.old }
-    ensures log_stays { LeavesOnly S.Site site.old site.new (λ r. S.log site.old ≡ Some r.log) }
-    ensures logged { S.log site.new ≡ S.log site.old }
-    ensures stops { IfErr result (λ stop. (stop ≡ stops.DiskFault) ⊎ (stop ≡ stops.Memory)) }
-    ensures failed { IsErrOf result Stop.DiskFault → DiskFails S.Site site.old site.new }
-    ensures calls { Calls S.Site site.old site.new }
-{
-    let text = match line {
-        Line::Text(text) => text,
-        Line::Long => return Ok(Some(refuse(alloc, store, Refusal::TooLong)?)),
-        Line::End => return Ok(None),
-    };
-    match command_of(alloc, text.as_slice()) {
-        Ok(command) => Ok(Some(carry_command(alloc, store, &command, site)?)),
-        Err(SyntaxFault::Syntax) => Ok(Some(refuse(alloc, store, Refusal::Syntax)?)),
-        Err(SyntaxFault::Memory) => Err(Stop::Memory),
+impl<S: Site> Carrier<S> for Store {
+    ghost use Rattle.ox_app.specs.Apply.{CarriesOnFiles, Rests, stack_at};
+    ghost use Rattle.ox_app.proofs.StoreLines.{end_leaves, no_memory_leaves, refusal_leaves};
+
+    ghost stack = { stack_at };
+
+    ghost rests = { Rests S.Site };
+
+    ghost leaves = { CarriesOnFiles S.Site };
+
+    fn carry(
+        self,
+        alloc: Global,
+        command: &Command,
+        site: &mut S,
+    ) -> Result<CarriedLine<Store>, Stop> {
+        carry_command(alloc, self, command, site)
     }
+
+    ghost refuses = { refusal_leaves S.Site S.only_now S.logs_now };
+
+    ghost ends = { end_leaves S.Site S.only_now S.logs_now };
+
+    ghost stops = { no_memory_leaves S.Site S.only_now S.logs_now };
 }

@@ -1,21 +1,21 @@
 //! A feed, read to its end and answered line by line, without files.
 
-ghost use Rattle.std.specs.Prelude.{◌≡◌, ◌<◌, ◌≤◌, IsErrOf};
+ghost use Rattle.std.specs.Prelude.{◌≡◌, ◌<◌, ◌≤◌, IfOk, IfSome, IsErrOf};
 ghost use Rattle.ox_outside.specs.Log.{Grows};
 ghost use Rattle.ox_feed.specs.Feed.{IsTooMuch, Listens, feed_limit, bytes_left};
 ghost use Rattle.ox_model.specs.Machine.{empty_machine, stack_of};
 ghost use Rattle.ox_model.specs.Replies.{replies_on};
 ghost use Rattle.ox_sat.specs.Profiles.{IsProfile};
-ghost use Rattle.ox_app.specs.Fold.{Answered, Anything, HasAnswer, fold_depth, stack_in};
+ghost use Rattle.ox_app.specs.Fold.{Anything, fold_depth, stack_in};
 ghost use Rattle.ox_app.specs.Headline.{RunsFeed};
+ghost use Rattle.ox_app.specs.Line.{CarriesOutNext};
 ghost use Rattle.ox_outside.specs.Runs.{OnlyTalks};
 ghost use Rattle.ox_app.specs.Show.{HearFails, ShowFails};
 ghost use Rattle.ox_app.specs.Status.{status_of};
 
-use crate::answer::answer;
+use crate::line::{CarriedLine, carry_line};
 use crate::show::show_all;
 use crate::stop::Stop;
-use ox_bytes::Bytes;
 use ox_feed::Lines;
 use ox_index::Live;
 use ox_outside::Site;
@@ -26,22 +26,22 @@ use std::alloc::Global;
 fn next_answer<S: Site>(
     alloc: Global,
     lines: &mut Lines,
-    live: &mut Live,
+    live: Live,
     site: &mut S,
-) -> Result<Option<Bytes>, Stop>
-    ensures told { Grows (Answered lines.old
-        (stack_in live.old) result lines.new (stack_in live.new))
+) -> Result<Option<CarriedLine<Live>>, Stop>
+    ensures told { Grows (CarriesOutNext stack_in lines.old (stack_in live) result lines.new)
         (S.log site.old) (S.log site.new) }
     ensures hear_fault { IsErrOf result Stop.HearFault → HearFails S.Site site.old site.new }
     ensures no_show_fault { IsErrOf result Stop.ShowFault → ⊥ }
     ensures no_disk_fault { IsErrOf result Stop.DiskFault → ⊥ }
     ensures too_much { IsErrOf result Stop.TooMuch → IsTooMuch lines.new }
-    ensures fewer { HasAnswer result → bytes_left lines.new < bytes_left lines.old }
+    ensures fewer { IfOk result (λ carried. IfSome carried
+        (λ c. bytes_left lines.new < bytes_left lines.old)) }
     ensures count { lines.new.heard ≤ feed_limit }
     ensures talks { OnlyTalks S.Site (Listens lines.old) site.old site.new }
 {
     let line = lines.next(site)?;
-    Ok(answer(alloc, live, line)?)
+    carry_line(alloc, live, &line, site)
 }
 
 /// Reads the feed of channel 0 to its end, and shows the answer to each line. The chain counts by
@@ -58,8 +58,9 @@ pub fn fold<S: Site>(alloc: Global, p: &Profile, site: &mut S) -> Result<(), Sto
 {
     let mut lines = Lines::new(alloc);
     let mut live = Live::new(alloc, p);
-    while let Some(answer) = next_answer(alloc, &mut lines, &mut live, site)? {
-        show_all(site, answer.as_slice())?;
+    while let Some(carried) = next_answer(alloc, &mut lines, live, site)? {
+        show_all(site, carried.answer.as_slice())?;
+        live = carried.state;
     }
     Ok(())
 }

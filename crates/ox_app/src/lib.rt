@@ -3,9 +3,11 @@
 
 mod answer;
 mod apply;
+mod carrier;
 mod carry;
 mod fold;
 mod init;
+mod line;
 mod program;
 mod query;
 mod show;

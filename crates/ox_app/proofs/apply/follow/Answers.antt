@@ -4,9 +4,11 @@ use Rattle.std.proofs.lemmas.Result.{err_from_is_err_and}
 use Rattle.ox_outside.specs.Log.{Grows}
 use Rattle.ox_feed.specs.Feed.{Feed, bytes_left}
 use Rattle.ox_app.proofs.FeedAnswers.{carried_none, grows_broken, grows_carried}
-use Rattle.ox_app.proofs.Crashes.{grows_owing_store, grows_stopped_store, grows_stops, same_stop, grows_whole_store, holds_on, stands_on, survived_line, survived_none, survived_shown}
+use Rattle.ox_app.specs.Apply.{stack_at}
+use Rattle.ox_app.proofs.NextLines.{grows_owing, grows_stopped, grows_whole}
+use Rattle.ox_app.proofs.Crashes.{grows_stops, same_stop, holds_on, stands_on, survived_line, survived_none, survived_shown}
 use Rattle.ox_app.specs.declared.stop.Stop.TheVariants.{Memory}
-use Rattle.ox_app.proofs.FeedState.{Carried}
+use Rattle.ox_app.proofs.FeedState.{HasAnswered}
 use Rattle.ox_outside.proofs.Calls.{calls_then, no_call}
 use Rattle.ox_app.proofs.apply.follow.Goals as goal
 
@@ -14,7 +16,7 @@ pub loop-lines-init : goal.loop-lines-init
 loop-lines-init g c =
     let first = c.args.store.stack in
     let log = g.S.Site.log c.args.site.now in (
-      subst (λ (l : Feed). Grows (Carried first l first) log log) (sym c.new-lines.ensures) (carried_none first log),
+      subst (λ (l : Feed). Grows (HasAnswered first l first) log log) (sym c.new-lines.ensures) (carried_none first log),
       no_call g.S.Site c.args.site.now,
       c.requires.holds,
       λ told stood. stood,
@@ -26,7 +28,7 @@ pub returns-in_err-carried-clause-told : goal.returns-in_err-carried-clause-told
 returns-in_err-carried-clause-told g c =
     let p = err_from_is_err_and c.from_residual.result c.from_residual.ensures.1 in
     rw (p.1, p.2)
-    (grows_stopped_store c.args.store.stack c.loop-lines.lines c.next_carried.new.lines c.loop-lines.store.stack c.in_err-carried.field-0.0
+    (grows_stopped stack_at c.args.store.stack c.loop-lines.lines c.next_carried.new.lines c.loop-lines.store.stack c.in_err-carried.field-0.0
     (g.S.Site.log c.args.site.now) (g.S.Site.log c.loop-lines.site) (g.S.Site.log c.next_carried.new.site)
     c.next_carried.ensures.count (λ e. c.in_err-carried.ensures.too_much (ap Err e))
     c.loop-lines.invariant.0 c.in_err-carried.ensures.told)
@@ -44,10 +46,10 @@ returns-in_err-show_all-clause-told g c =
     let heard = rw c.in-Some.is at c.in_ok-carried.ensures.told in
     let shown = rw c.as_slice.ensures at c.in_err-show_all.ensures.told in
     rw (p.1, p.2)
-    (grows_broken first c.in-Some.carried.answer c.next_carried.new.lines c.in-Some.carried.store.stack
+    (grows_broken first c.in-Some.carried.answer c.next_carried.new.lines c.in-Some.carried.state.stack
     (g.S.Site.log c.args.site.now) (g.S.Site.log c.next_carried.new.site) (g.S.Site.log c.show_all.new.site)
     c.next_carried.ensures.count
-    (grows_owing_store first c.in-Some.carried c.loop-lines.lines c.next_carried.new.lines c.loop-lines.store.stack
+    (grows_owing stack_at first c.in-Some.carried c.loop-lines.lines c.next_carried.new.lines c.loop-lines.store.stack
     (g.S.Site.log c.args.site.now) (g.S.Site.log c.loop-lines.site) (g.S.Site.log c.next_carried.new.site) c.loop-lines.invariant.0 heard)
     shown)
 
@@ -60,11 +62,11 @@ returns-in_err-show_all-clause-survives g c told stood =
     let talks = rw c.as_slice.ensures at c.show_all.ensures.talks in
     let holds = rw c.in-Some.is at c.in_ok-carried.ensures.holds told_mid in
     let stands = rw c.in-Some.is at c.in_ok-carried.ensures.stands told_mid (kept.3 told stood) in
-    survived_shown g.S.Site first c.in-Some.carried.answer c.next_carried.new.lines c.in-Some.carried.store.stack
+    survived_shown g.S.Site first c.in-Some.carried.answer c.next_carried.new.lines c.in-Some.carried.state.stack
     c.args.site.now c.next_carried.new.site c.show_all.new.site
     (survived_line g.S.Site first c.loop-lines.lines c.next_carried.new.lines c.loop-lines.store.stack
     c.args.site.now c.loop-lines.site c.next_carried.new.site (kept.4 told stood) kept.0 (c.next_carried.ensures.during told_mid (kept.3 told stood)))
-    (grows_owing_store first c.in-Some.carried c.loop-lines.lines c.next_carried.new.lines c.loop-lines.store.stack
+    (grows_owing stack_at first c.in-Some.carried c.loop-lines.lines c.next_carried.new.lines c.loop-lines.store.stack
     (g.S.Site.log c.args.site.now) (g.S.Site.log c.loop-lines.site) (g.S.Site.log c.next_carried.new.site) kept.0 heard)
     holds.settled stands talks
 
@@ -77,21 +79,21 @@ loop-lines-preserved g c =
     let talks = rw c.as_slice.ensures at c.show_all.ensures.talks in
     let more = rw c.in-Some.is at c.in_ok-carried.ensures.one_more in
     let fewer = rw c.in-Some.is at c.in_ok-carried.ensures.fewer in
-    let owed = grows_owing_store first c.in-Some.carried c.loop-lines.lines c.next_carried.new.lines c.loop-lines.store.stack
+    let owed = grows_owing stack_at first c.in-Some.carried c.loop-lines.lines c.next_carried.new.lines c.loop-lines.store.stack
     (g.S.Site.log c.args.site.now) (g.S.Site.log c.loop-lines.site) (g.S.Site.log c.next_carried.new.site) kept.0 heard in (
-      grows_carried first c.next_carried.new.lines c.in-Some.carried.store.stack c.in-Some.carried.answer
+      grows_carried first c.next_carried.new.lines c.in-Some.carried.state.stack c.in-Some.carried.answer
           (g.S.Site.log c.args.site.now) (g.S.Site.log c.next_carried.new.site) (g.S.Site.log c.show_all.new.site) owed shown,
       calls_then g.S.Site c.args.site.now c.next_carried.new.site c.show_all.new.site
           (calls_then g.S.Site c.args.site.now c.loop-lines.site c.next_carried.new.site kept.1 c.next_carried.ensures.calls)
           talks.calls,
-      λ told. holds_on g.S.Site c.next_carried.new.site c.show_all.new.site c.in-Some.carried.store.tail talks.files
+      λ told. holds_on g.S.Site c.next_carried.new.site c.show_all.new.site c.in-Some.carried.state.tail talks.files
           (rw c.in-Some.is at c.in_ok-carried.ensures.holds (kept.1.as_told ∙ told)),
-      λ told stood. stands_on g.S.Site c.next_carried.new.site c.show_all.new.site c.in-Some.carried.store.stack talks.files
+      λ told stood. stands_on g.S.Site c.next_carried.new.site c.show_all.new.site c.in-Some.carried.state.stack talks.files
           (rw c.in-Some.is at c.in_ok-carried.ensures.stands (kept.1.as_told ∙ told) (kept.3 told stood)),
       λ told stood.
           let holds = rw c.in-Some.is at c.in_ok-carried.ensures.holds (kept.1.as_told ∙ told) in
           let stands = rw c.in-Some.is at c.in_ok-carried.ensures.stands (kept.1.as_told ∙ told) (kept.3 told stood) in
-          survived_shown g.S.Site first c.in-Some.carried.answer c.next_carried.new.lines c.in-Some.carried.store.stack
+          survived_shown g.S.Site first c.in-Some.carried.answer c.next_carried.new.lines c.in-Some.carried.state.stack
           c.args.site.now c.next_carried.new.site c.show_all.new.site
           (survived_line g.S.Site first c.loop-lines.lines c.next_carried.new.lines c.loop-lines.store.stack
           c.args.site.now c.loop-lines.site c.next_carried.new.site (kept.4 told stood) kept.0 (c.next_carried.ensures.during (kept.1.as_told ∙ told) (kept.3 told stood)))
@@ -102,7 +104,7 @@ loop-lines-preserved g c =
 pub returns-clause-told : goal.returns-clause-told
 returns-clause-told g c =
     let heard = rw c.in_default.is at c.in_ok-carried.ensures.told in
-    grows_whole_store c.args.store.stack c.loop-lines.lines c.next_carried.new.lines c.loop-lines.store.stack
+    grows_whole stack_at c.args.store.stack c.loop-lines.lines c.next_carried.new.lines c.loop-lines.store.stack
     (g.S.Site.log c.args.site.now) (g.S.Site.log c.loop-lines.site) (g.S.Site.log c.next_carried.new.site)
     c.next_carried.ensures.count c.loop-lines.invariant.0 heard
 
