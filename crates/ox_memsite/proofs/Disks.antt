@@ -11,7 +11,7 @@ use Rattle.ox_outside.specs.declared.site.Which.{Which}
 use Rattle.ox_outside.specs.declared.site.Which.TheVariants.{A, B}
 use Rattle.ox_outside.proofs.Disk.{synced_image, torn_from, same_outside, written_same_outside, seen_is_image}
 use Rattle.ox_memsite.specs.Laws.{disk_is}
-use Rattle.ox_memsite.specs.World.{World, disk_step, disk_of, events_of, seen_of, log_of, MayLeave, LeftSince, counts_of, called, did, disk_fails, Ends}
+use Rattle.ox_memsite.specs.World.{World, disk_step, disk_of, events_of, seen_of, log_of, MayLeave, LeftSince, counts_of, after_call, after_step, after_disk_fault, Ends}
 use Rattle.ox_memsite.specs.declared.step.Step.{Step}
 use Rattle.ox_memsite.specs.declared.step.Step.TheVariants as steps
 use Rattle.ox_memsite.proofs.Kept.{disk_after-append, events_of-push, seen_torn, seen_synced}
@@ -43,7 +43,7 @@ tears_same file at n r = record { files = record { torn = torn_same at n _; othe
 -- ---- a sync
 
 -- A sync of one file makes its disk solid and leaves the other.
-sync_left : (w : World) (file : Which) (r : Remains) → MayLeave (did (steps.Synced file) (called w)) r → MayLeave w r × (file_of r.files file ≡ file_of (seen_of w) file)
+sync_left : (w : World) (file : Which) (r : Remains) → MayLeave (after_step (steps.Synced file) (after_call w)) r → MayLeave w r × (file_of r.files file ≡ file_of (seen_of w) file)
 sync_left w A r left =
     let disk = disk_of w.first w.steps A in
     let is : r.files.a ≡ disk.seen = synced_image disk.seen r.files.a (subst (λ (d : Disk). IsImage d r.files.a) (disk_push w.first w.steps (steps.Synced A) A) left.a) in (
@@ -65,7 +65,7 @@ sync_left w B r left =
       is,
     )
 
-sync_seen : (w : World) (file : Which) → seen_of (did (steps.Synced file) (called w)) ≡ seen_of w
+sync_seen : (w : World) (file : Which) → seen_of (after_step (steps.Synced file) (after_call w)) ≡ seen_of w
 sync_seen w file =
     let a = ap (λ (d : Disk). d.seen) (disk_push w.first w.steps (steps.Synced file) A) ∙ seen_synced A file (disk_of w.first w.steps A) in
     let b = ap (λ (d : Disk). d.seen) (disk_push w.first w.steps (steps.Synced file) B) ∙ seen_synced B file (disk_of w.first w.steps B) in
@@ -74,7 +74,7 @@ sync_seen w file =
 abbrev logged : World → Option (List Event)
 logged w = Some (log_of w)
 
-sync_adds_nothing : (w : World) (file : Which) → AddsNothing seen_of (λ w. Some (log_of w)) MayLeave w (did (steps.Synced file) (called w))
+sync_adds_nothing : (w : World) (file : Which) → AddsNothing seen_of (λ w. Some (log_of w)) MayLeave w (after_step (steps.Synced file) (after_call w))
 sync_adds_nothing w file = record {
   files = sync_seen w file;
   as_logged = ap (λ (l : List Event). Some (w.past ++ l)) (events_of-push w.steps (steps.Synced file) ∙ append-nil (events_of w.steps));
@@ -82,7 +82,7 @@ sync_adds_nothing w file = record {
 }
 
 abbrev pub Syncs : {T : Type 0} → Which → Result T Failed → World → World → Type 0
-Syncs file result old new = Ends (λ _ before after. after ≡ did (steps.Synced file) before) disk_fails disk_fails result old new
+Syncs file result old new = Ends (λ _ before after. after ≡ after_step (steps.Synced file) before) after_disk_fault after_disk_fault result old new
 
 pub sync_durable : {T : Type 0} (file : Which) (result : Result T Failed) (old new : World) → Syncs file result old new → OnOk result (Only file (file_of (seen_of old) file) (MayLeave new))
 sync_durable file (Ok x) old new ends = λ r left. (sync_left old file r (subst (λ (w : World). MayLeave w r) (ends.1) left)).1
@@ -108,9 +108,9 @@ sync_call file (Err e) old new ends = ⊎_elim
 -- ---- a write
 
 abbrev pub Writes : {T : Type 0} → Which → ℕ → List ℕ → Result T Failed → World → World → Type 0
-Writes file at bytes result old new = Ends (λ _ before after. after ≡ did (steps.Wrote file at bytes) before) (λ w. disk_fails (did (steps.Tore file at (length bytes)) w)) disk_fails result old new
+Writes file at bytes result old new = Ends (λ _ before after. after ≡ after_step (steps.Wrote file at bytes) before) (λ w. after_disk_fault (after_step (steps.Tore file at (length bytes)) w)) after_disk_fault result old new
 
-wrote_seen : (w : World) (file : Which) (at : ℕ) (bytes : List ℕ) → seen_of (did (steps.Wrote file at bytes) (called w)) ≡ with_file (seen_of w) file (with_bytes at bytes (file_of (seen_of w) file))
+wrote_seen : (w : World) (file : Which) (at : ℕ) (bytes : List ℕ) → seen_of (after_step (steps.Wrote file at bytes) (after_call w)) ≡ with_file (seen_of w) file (with_bytes at bytes (file_of (seen_of w) file))
 wrote_seen w A at bytes =
     let a = ap (λ (d : Disk). d.seen) (disk_push w.first w.steps (steps.Wrote A at bytes) A) in
     let b = ap (λ (d : Disk). d.seen) (disk_push w.first w.steps (steps.Wrote A at bytes) B) in
@@ -120,7 +120,7 @@ wrote_seen w B at bytes =
     let b = ap (λ (d : Disk). d.seen) (disk_push w.first w.steps (steps.Wrote B at bytes) B) in
     λ i. record { a = a i; b = b i }
 
-tore_seen : (w : World) (file : Which) (at n : ℕ) → seen_of (disk_fails (did (steps.Tore file at n) (called w))) ≡ seen_of w
+tore_seen : (w : World) (file : Which) (at n : ℕ) → seen_of (after_disk_fault (after_step (steps.Tore file at n) (after_call w))) ≡ seen_of w
 tore_seen w file at n =
     let a = ap (λ (d : Disk). d.seen) (disk_push w.first w.steps (steps.Tore file at n) A) ∙ seen_torn A file (disk_of w.first w.steps A) at n in
     let b = ap (λ (d : Disk). d.seen) (disk_push w.first w.steps (steps.Tore file at n) B) ∙ seen_torn B file (disk_of w.first w.steps B) at n in
@@ -130,7 +130,7 @@ quiet_log : (w : World) (step : Step) → events_of (w.steps ++ step ∷ []) ≡
 quiet_log w step is = ap (λ (l : List Event). w.past ++ l) is
 
 -- what remains after a step that writes or tears one file
-wrote_left : (w : World) (file : Which) (at : ℕ) (bytes : List ℕ) (r : Remains) → at ≤ length (file_of (seen_of w) file) → MayLeave (did (steps.Wrote file at bytes) (called w)) r
+wrote_left : (w : World) (file : Which) (at : ℕ) (bytes : List ℕ) (r : Remains) → at ≤ length (file_of (seen_of w) file) → MayLeave (after_step (steps.Wrote file at bytes) (after_call w)) r
     → (q : Remains) × MayLeave w q × Tears file at (length bytes) q r
 wrote_left w A at bytes r begins left =
     let disk = disk_of w.first w.steps A in
@@ -155,7 +155,7 @@ wrote_left w B at bytes r begins left =
       record { files = record { torn = from.2; others = refl }; log = refl },
     )
 
-tore_left : (w : World) (file : Which) (at n : ℕ) (r : Remains) → at ≤ length (file_of (seen_of w) file) → MayLeave (disk_fails (did (steps.Tore file at n) (called w))) r
+tore_left : (w : World) (file : Which) (at n : ℕ) (r : Remains) → at ≤ length (file_of (seen_of w) file) → MayLeave (after_disk_fault (after_step (steps.Tore file at n) (after_call w))) r
     → (q : Remains) × MayLeave w q × Tears file at n q r
 tore_left w A at n r begins left =
     let disk = disk_of w.first w.steps A in

@@ -1,8 +1,9 @@
 mod Covered
+mod Crashes
+mod Disks
 mod Filled
 mod Kept
-mod Only
 mod Moves
-mod Disks
 mod Replayed
-mod Crashes
+mod RoomLemmas
+mod Starts

@@ -1,6 +1,12 @@
+pub mod Channels
 pub mod Crashed
+pub mod Flags
 pub mod Heard
 pub mod Kept
 pub mod Laws
+pub mod Left
+pub mod Opened
+pub mod Room
+pub mod Script
 pub mod Story
 pub mod World

@@ -1,8 +1,8 @@
 // A crash at a chosen moment, and what a site has shown.
 ghost use Rattle.std.specs.Prelude.{◌≡◌, ◌≤◌, ◌++◌, [], ◌∷◌, MatchOption, IfOk, OnOk};
 ghost use Rattle.ox_outside.specs.Disk.{synced_disk, image_with};
-ghost use Rattle.ox_outside.specs.Event.{has_broken, shown_bytes};
-ghost use Rattle.ox_memsite.specs.World.{same, disk_step, disk_after, event_of, events_of};
+ghost use Rattle.ox_outside.specs.Event.{shown_bytes};
+ghost use Rattle.ox_memsite.specs.World.{is_same, disk_step, disk_after, event_of, events_of};
 
 use crate::replay::Replay;
 use crate::step::Step;
@@ -10,8 +10,8 @@ use ox_bytes::{Bytes, Memory};
 use ox_outside::Which;
 use std::alloc::Global;
 
-/// When a crash comes, and what it leaves: each byte that it may change is `fill`, and each file is cut to `keep` bytes,
-/// as far as the disk allows.
+/// When a crash comes, and what it leaves: each byte that it may change is `fill`, and each file is
+/// cut to `keep` bytes, as far as the disk allows.
 #[derive(Clone, Copy, Debug, PartialEq, Eq)]
 pub struct Choice {
     pub moment: u64,
@@ -27,14 +27,15 @@ pub fn crashed_bytes(
     file: Which,
     choice: &Choice,
 ) -> Result<Vec<u8>, Memory>
-    ensures { IfOk result (λ bytes. bytes.items ≡ image_with choice.now.fill choice.now.keep (disk_after file (synced_disk first.now) steps.now)) }
+    ensures { IfOk result (λ bytes. bytes.items ≡ image_with choice.now.fill choice.now.keep (
+        disk_after file (synced_disk first.now) steps.now)) }
 {
-    let replay = replayed(alloc, first, steps, file)?;
+    let replay = replay_of(alloc, first, steps, file)?;
     Ok(replay.image(choice.fill, choice.keep)?)
 }
 
 // The file after these steps.
-fn replayed(alloc: Global, first: &[u8], steps: &[Step], file: Which) -> Result<Replay, Memory>
+fn replay_of(alloc: Global, first: &[u8], steps: &[Step], file: Which) -> Result<Replay, Memory>
     ensures { IfOk result (λ replay. replay ≡ disk_after file (synced_disk first.now) steps.now) }
 {
     let mut replay = Replay::new(alloc, first)?;
@@ -63,13 +64,19 @@ fn follow(replay: &mut Replay, which: Which, step: &Step) -> Result<(), Memory>
                 replay.sync()?;
             }
         }
-        Step::Heard { .. } | Step::Ended { .. } | Step::Showed { .. } | Step::Broke { .. } => {}
+        Step::Opened { .. }
+        | Step::Heard { .. }
+        | Step::Ended { .. }
+        | Step::Showed { .. }
+        | Step::Broke { .. }
+        | Step::GaveUp { .. }
+        | Step::Shut { .. } => {}
     }
     Ok(())
 }
 
 fn is_same(which: Which, file: Which) -> bool
-    ensures { result ≡ same which file }
+    ensures { result ≡ is_same which file }
 {
     match (which, file) {
         (Which::A, Which::A) | (Which::B, Which::B) => true,
@@ -79,7 +86,8 @@ fn is_same(which: Which, file: Which) -> bool
 
 /// Appends a copy of each event among the steps.
 pub fn append_events(alloc: Global, into: &mut Vec<Step>, steps: &[Step]) -> Result<(), Memory>
-    ensures { OnOk result (events_of into.new.items ≡ events_of into.old.items ++ events_of steps.now) }
+    ensures { OnOk result (
+        events_of into.new.items ≡ events_of into.old.items ++ events_of steps.now) }
 {
     for step in steps {
         append_event(alloc, into, step)?;
@@ -88,7 +96,8 @@ pub fn append_events(alloc: Global, into: &mut Vec<Step>, steps: &[Step]) -> Res
 }
 
 fn append_event(alloc: Global, into: &mut Vec<Step>, step: &Step) -> Result<(), Memory>
-    ensures { OnOk result (events_of into.new.items ≡ events_of into.old.items ++ event_of step.now) }
+    ensures { OnOk result (
+        events_of into.new.items ≡ events_of into.old.items ++ event_of step.now) }
 {
     if let Some(copy) = copy_event(alloc, step)? {
         into.push(copy)?;
@@ -97,7 +106,8 @@ fn append_event(alloc: Global, into: &mut Vec<Step>, step: &Step) -> Result<(), 
 }
 
 fn copy_event(alloc: Global, step: &Step) -> Result<Option<Step>, Memory>
-    ensures { IfOk result (λ copy. MatchOption copy (event_of step.now ≡ []) (λ c. event_of c ≡ event_of step.now)) }
+    ensures { IfOk result (λ copy.
+        MatchOption copy (event_of step.now ≡ []) (λ c. event_of c ≡ event_of step.now)) }
 {
     let copy = match step {
         Step::Heard { channel, bytes } => Step::Heard {
@@ -110,21 +120,15 @@ fn copy_event(alloc: Global, step: &Step) -> Result<Option<Step>, Memory>
         },
         Step::Ended { channel } => Step::Ended { channel: *channel },
         Step::Broke { channel } => Step::Broke { channel: *channel },
+        Step::Opened { channel, door } => Step::Opened {
+            channel: *channel,
+            door: *door,
+        },
+        Step::GaveUp { channel } => Step::GaveUp { channel: *channel },
+        Step::Shut { channel } => Step::Shut { channel: *channel },
         Step::Wrote { .. } | Step::Tore { .. } | Step::Synced { .. } => return Ok(None),
     };
     Ok(Some(copy))
-}
-
-/// Whether channel 0 has broken among these steps.
-pub fn has_broken_in(steps: &[Step]) -> bool
-    ensures { result ≡ has_broken 0 (events_of steps.now) }
-{
-    for step in steps {
-        if let Step::Broke { channel: 0 } = step {
-            return true;
-        }
-    }
-    false
 }
 
 /// Appends the bytes that these steps have shown on a channel.

@@ -1,9 +1,10 @@
 // Writes into bytes, each whole or not at all.
-ghost use Rattle.std.specs.Prelude.{◌≡◌, ◌+◌, ◌≤◌, ◌++◌, length, take, drop, slice_range, if◌then◌else◌, OnOk, OnErr};
+ghost use Rattle.std.specs.Prelude.{◌≡◌, ◌+◌, ◌≤◌, ◌++◌, length, take, drop, slice_range};
+ghost use Rattle.std.specs.Prelude.{if◌then◌else◌, OnOk, OnErr};
 ghost use Rattle.ox_outside.specs.Files.{with_bytes};
 ghost use Rattle.ox_outside.specs.Disk.{solid_outside};
 ghost use Rattle.ox_outside.specs.declared.site.Which.TheVariants.{A, B};
-ghost use Rattle.ox_memsite.specs.World.{same};
+ghost use Rattle.ox_memsite.specs.World.{is_same};
 
 use ox_outside::Which;
 use std::alloc::AllocError;
@@ -37,8 +38,12 @@ pub fn write_one(
     at: u64,
     bytes: &[u8],
 ) -> Result<(), AllocError>
-    ensures a { OnOk result (a.new.items ≡ (if same A file then with_bytes at bytes.now a.old.items else a.old.items)) }
-    ensures b { OnOk result (b.new.items ≡ (if same B file then with_bytes at bytes.now b.old.items else b.old.items)) }
+    ensures a { OnOk result (
+        a.new.items
+        ≡ (if is_same A file then with_bytes at bytes.now a.old.items else a.old.items)) }
+    ensures b { OnOk result (
+        b.new.items
+        ≡ (if is_same B file then with_bytes at bytes.now b.old.items else b.old.items)) }
     ensures err { OnErr result ((a.new.items ≡ a.old.items) × (b.new.items ≡ b.old.items)) }
 {
     match file {

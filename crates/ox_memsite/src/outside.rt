@@ -46,16 +46,16 @@ impl Site for MemSite {
         MemSite::show(self, channel, bytes)
     }
 
-    fn door(&mut self, _door: Doorway) -> Result<Option<u32>, Failed> {
-        Ok(MemSite::door(self))
+    fn door(&mut self, door: Doorway) -> Result<Option<u32>, Failed> {
+        MemSite::door(self, door)
     }
 
     fn give_up(&mut self, channel: u32) {
-        self.only_channel(channel);
+        MemSite::give_up(self, channel)
     }
 
     fn shut(&mut self, channel: u32) {
-        self.only_channel(channel);
+        MemSite::shut(self, channel)
     }
 
     ghost counts_now = { laws.counts_now };

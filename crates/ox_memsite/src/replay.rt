@@ -1,14 +1,15 @@
 // A file on a disk, made again from what happened to it.
 ghost use Rattle.std.specs.Prelude.{◌≡◌, ◌++◌, replicate, slice_get, IfOk, OnOk};
-ghost use Rattle.ox_outside.specs.Disk.{synced_disk, after_write, after_torn, filled_bytes, image_with};
+ghost use Rattle.ox_outside.specs.Disk.{synced_disk, after_write, after_torn, filled_bytes};
+ghost use Rattle.ox_outside.specs.Disk.{image_with};
 ghost use Rattle.ox_memsite.specs.Kept.{kept_at};
 
 use crate::edits::{cover, write_at};
 use std::alloc::{AllocError, Global};
 use std::marker::Model;
 
-/// A file between two syncs: what a read gives, which bytes no write has covered since the last sync, and the greatest
-/// length since.
+/// A file between two syncs: what a read gives, which bytes no write has covered since the last
+/// sync, and the greatest length since.
 #[derive(Drop)]
 pub struct Replay {
     alloc: Global,
@@ -22,7 +23,8 @@ impl Model for Replay {
 
     ghost Value = { Disk };
 
-    ghost view = { λ r. record { seen = r.bytes.items; solid = r.uncovered.items; longest = r.longest } };
+    ghost view = { λ r.
+        record { seen = r.bytes.items; solid = r.uncovered.items; longest = r.longest } };
 }
 
 impl Replay {
@@ -64,7 +66,8 @@ impl Replay {
         Ok(())
     }
 
-    /// What a crash leaves where each byte that it may change is `fill`, and the length is `keep` as far as it may be.
+    /// What a crash leaves where each byte that it may change is `fill`, and the length is `keep`
+    /// as far as it may be.
     pub fn image(&self, fill: u8, keep: u64) -> Result<Vec<u8>, AllocError>
         ensures { IfOk result (λ image. image.items ≡ image_with fill keep self.now) }
     {

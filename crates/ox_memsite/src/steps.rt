@@ -6,7 +6,8 @@ use ox_bytes::Memory;
 use std::alloc::Global;
 use std::marker::Model;
 
-/// Steps in order, and a number of spare places, in which steps can be put where want of memory must not come up.
+/// Steps in order, and a number of spare places, in which steps can be put where want of memory
+/// must not come up.
 #[derive(Debug, Drop)]
 pub struct Steps {
     items: Vec<Step>,
@@ -43,7 +44,8 @@ impl Steps {
         self.items.as_slice()
     }
 
-    /// Makes the spare places this many. `Memory` where there is none for them: nothing has changed then.
+    /// Makes the spare places this many. `Memory` where there is none for them: nothing has changed
+    /// then.
     pub fn make_room(&mut self, spare: usize) -> Result<(), Memory>
         ensures steps { self.new.steps ≡ self.old.steps }
         ensures ok { OnOk result (self.new.spare ≡ spare) }

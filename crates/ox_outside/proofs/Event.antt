@@ -1,6 +1,6 @@
 -- What two parts of a log say together.
 use Rattle.std.proofs.Common.{◌≡◌, ◌∙◌, ℕ, Bool, true, false, List, [], ◌∷◌, ◌++◌, ◌==◌, ◌||◌, if◌then◌else◌, refl, sym, ap, append_assoc}
-use Rattle.ox_outside.specs.Event.{Event, Opened, Heard, Ended, Showed, Broke, Shut, heard_bytes, shown_bytes, has_ended, has_broken, was_opened, was_shut}
+use Rattle.ox_outside.specs.Event.{Event, Opened, Heard, Ended, Showed, Broke, GaveUp, Shut, heard_bytes, shown_bytes, has_ended, has_broken, has_given_up, was_opened, was_shut}
 
 joined : (b : Bool) (bytes xs ys zs : List ℕ) → xs ≡ ys ++ zs → (if b then bytes ++ xs else xs) ≡ (if b then bytes ++ ys else ys) ++ zs
 joined true bytes xs ys zs is = ap (λ (l : List ℕ). bytes ++ l) is ∙ sym (append_assoc bytes ys zs)
@@ -39,3 +39,8 @@ pub was_shut-append : (channel : ℕ) (x y : List Event) → was_shut channel (x
 was_shut-append channel [] y = refl
 was_shut-append channel (Shut c ∷ x) y = either (c == channel) _ _ _ (was_shut-append channel x y)
 was_shut-append channel (_ ∷ x) y = was_shut-append channel x y
+
+pub has_given_up-append : (channel : ℕ) (x y : List Event) → has_given_up channel (x ++ y) ≡ (has_given_up channel x || has_given_up channel y)
+has_given_up-append channel [] y = refl
+has_given_up-append channel (GaveUp c ∷ x) y = either (c == channel) _ _ _ (has_given_up-append channel x y)
+has_given_up-append channel (_ ∷ x) y = has_given_up-append channel x y

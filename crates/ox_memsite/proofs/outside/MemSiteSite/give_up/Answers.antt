@@ -1,7 +1,21 @@
-use Rattle.std.proofs.Common.{refl}
-use Rattle.ox_memsite.specs.World.{log_of}
-use Rattle.ox_memsite.proofs.Only.{never_open}
+use Rattle.std.proofs.Common.{List, Some, ap, refl, subst, sym, [], ◌∷◌}
+use Rattle.ox_outside.specs.Event.{Event, GaveUp}
+use Rattle.ox_memsite.specs.World.{World}
+use Rattle.ox_memsite.specs.declared.step.Step.TheVariants as steps
+use Rattle.ox_memsite.proofs.Moves.{Noted, step_noted, noted_log, noted_files, noted_call}
 use Rattle.ox_memsite.proofs.outside.MemSiteSite.give_up.Goals as goal
 
 pub returns-clause-logged : goal.returns-clause-logged
-returns-clause-logged c = absurd (never_open c.args.channel (log_of c.args.self.now) (c.requires.channel (log_of c.args.self.now) refl) c.only_channel.ensures)
+returns-clause-logged c =
+    let noted = subst (λ (w : World). Noted c.args.self.now w (GaveUp c.args.channel ∷ [])) (sym c.give_up.ensures) (step_noted c.args.self.now (steps.GaveUp c.args.channel) _ refl (λ which disk. refl)) in
+    ap (λ (l : List Event). Some l) (noted_log _ _ _ noted)
+
+pub returns-clause-files : goal.returns-clause-files
+returns-clause-files c =
+    let noted = subst (λ (w : World). Noted c.args.self.now w (GaveUp c.args.channel ∷ [])) (sym c.give_up.ensures) (step_noted c.args.self.now (steps.GaveUp c.args.channel) _ refl (λ which disk. refl)) in
+    noted_files _ _ _ noted
+
+pub returns-clause-call : goal.returns-clause-call
+returns-clause-call c =
+    let noted = subst (λ (w : World). Noted c.args.self.now w (GaveUp c.args.channel ∷ [])) (sym c.give_up.ensures) (step_noted c.args.self.now (steps.GaveUp c.args.channel) _ refl (λ which disk. refl)) in
+    noted_call _ _ _ noted

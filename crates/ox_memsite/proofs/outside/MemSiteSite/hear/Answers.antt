@@ -1,16 +1,13 @@
-use Rattle.std.proofs.Common.{◌∙◌, ◌++◌, ℕ, List, Some, sym, ap}
-use Rattle.ox_outside.specs.Event.{Event, hear_events}
-use Rattle.ox_memsite.specs.World.{log_of}
+use Rattle.std.proofs.Common.{List, Some, ap}
+use Rattle.ox_outside.specs.Event.{Event}
 use Rattle.ox_memsite.proofs.Moves.{hear_noted, noted_log, noted_files, noted_call}
 use Rattle.ox_memsite.proofs.outside.MemSiteSite.hear.Goals as goal
 
 pub returns-clause-logged : goal.returns-clause-logged
-returns-clause-logged c =
-    ap (λ (l : List Event). Some l) (noted_log _ _ _ (hear_noted c.args.into.now c.hear.new.into c.hear.result _ _ c.hear.ensures.outcome))
-    ∙ ap (λ (n : ℕ). Some (log_of c.args.self.now ++ hear_events n c.hear.new.into c.hear.result (log_of c.args.self.now))) (sym c.hear.ensures.channel)
+returns-clause-logged c = ap (λ (l : List Event). Some l) (noted_log _ _ _ (hear_noted c.args.channel c.args.into.now c.hear.new.into c.hear.result _ _ c.hear.ensures.outcome))
 
 pub returns-clause-files : goal.returns-clause-files
-returns-clause-files c = noted_files _ _ _ (hear_noted c.args.into.now c.hear.new.into c.hear.result _ _ c.hear.ensures.outcome)
+returns-clause-files c = noted_files _ _ _ (hear_noted c.args.channel c.args.into.now c.hear.new.into c.hear.result _ _ c.hear.ensures.outcome)
 
 pub returns-clause-call : goal.returns-clause-call
-returns-clause-call c = noted_call _ _ _ (hear_noted c.args.into.now c.hear.new.into c.hear.result _ _ c.hear.ensures.outcome)
+returns-clause-call c = noted_call _ _ _ (hear_noted c.args.channel c.args.into.now c.hear.new.into c.hear.result _ _ c.hear.ensures.outcome)

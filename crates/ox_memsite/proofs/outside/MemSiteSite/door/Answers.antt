@@ -1,0 +1,13 @@
+use Rattle.std.proofs.Common.{List, Some, ap}
+use Rattle.ox_outside.specs.Event.{Event}
+use Rattle.ox_memsite.proofs.Moves.{door_noted, noted_log, noted_files, noted_call}
+use Rattle.ox_memsite.proofs.outside.MemSiteSite.door.Goals as goal
+
+pub returns-clause-logged : goal.returns-clause-logged
+returns-clause-logged c = ap (λ (l : List Event). Some l) (noted_log _ _ _ (door_noted c.args.door c.door.result _ _ c.door.ensures.outcome))
+
+pub returns-clause-files : goal.returns-clause-files
+returns-clause-files c = noted_files _ _ _ (door_noted c.args.door c.door.result _ _ c.door.ensures.outcome)
+
+pub returns-clause-call : goal.returns-clause-call
+returns-clause-call c = noted_call _ _ _ (door_noted c.args.door c.door.result _ _ c.door.ensures.outcome)
