@@ -1,8 +1,12 @@
 -- What more events do to the room that is owed, and to the numbers that a log names.
 use Rattle.std.proofs.Common.{◌≡◌, ◌<◌, ◌≤◌, ℕ, zero, suc, ◌+◌, ◌*◌, max, Bool, true, false, List, [], ◌∷◌, ◌++◌, ◌||◌, ◌==◌, refl, sym, subst, arith, inl, inr}
 use Rattle.std.proofs.lemmas.Bool.{cases_eq, eqb-true}
-use Rattle.ox_outside.specs.Event.{Event, Opened, Heard, Ended, Showed, Broke, GaveUp, Shut, has_broken, has_given_up, was_opened, was_shut}
+use Rattle.std.specs.Prelude.{Option, Some, None, Result, Ok, Err}
+use Rattle.ox_outside.specs.Answers.{NeverNamed}
+use Rattle.ox_outside.specs.Event.{Event, Opened, Heard, Ended, Showed, Broke, GaveUp, Shut, channel_of, is_named, has_broken, has_given_up, was_opened, was_shut}
+use Rattle.ox_outside.specs.declared.site.Failed.{Failed}
 use Rattle.ox_outside.proofs.Event.{has_broken-append, has_given_up-append, was_shut-append}
+use Rattle.ox_memsite.specs.Opened.{IsPast}
 use Rattle.ox_memsite.specs.Room.{channels_in, one_unless, owed_by, owed}
 
 one_at_most : (b : Bool) → one_unless b ≤ 1
@@ -90,6 +94,23 @@ one_at_least (event ∷ log) = omega (arith, one_at_least log)
 pub channels_in-append : (x y : List Event) → channels_in (x ++ y) ≡ max (channels_in x) (channels_in y)
 channels_in-append [] y = omega (arith, one_at_least y)
 channels_in-append (event ∷ x) y = omega (arith, channels_in-append x y)
+
+later_than : (a b : Bool) → (a ≡ true → ⊥) → b ≡ false → (a || b) ≡ false
+later_than true b never is = absurd (never refl)
+later_than false b never is = is
+
+-- a number past every one of the log is named by no event
+pub never_named : (channel : ℕ) (log : List Event) → channels_in log ≤ channel → is_named channel log ≡ false
+never_named channel [] past = refl
+never_named channel (event ∷ log) past = later_than (channel_of event == channel) (is_named channel log)
+    (λ same. let e : channel_of event ≡ channel = eqb-true (channel_of event) channel same in omega (arith, e, past))
+    (never_named channel log (omega (arith, past)))
+
+-- the same of what a door answers
+pub past_unnamed : (result : Result (Option ℕ) Failed) (log : List Event) → IsPast result log → NeverNamed result log
+past_unnamed (Ok (Some channel)) log past = never_named channel log past
+past_unnamed (Ok None) log past = tt
+past_unnamed (Err failed) log past = tt
 
 or_cases : (a b : Bool) (P : Type 0) → (a || b) ≡ true → (a ≡ true → P) → (b ≡ true → P) → P
 or_cases true b P is left right = left refl

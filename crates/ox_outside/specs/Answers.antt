@@ -1,6 +1,7 @@
 -- The numbers that `hear`, `show` and `door` answer.
-use Rattle.std.specs.Prelude.{◌≡◌, ℕ, ◌≤◌, false, List, Option, Some, None, Result, Ok, Err}
-use Rattle.ox_outside.specs.Event.{Event, was_opened}
+use Rattle.std.specs.Prelude.{◌≡◌, ℕ, ◌≤◌, false, IsTrue, List, Option, Some, None}
+use Rattle.std.specs.Prelude.{Result, Ok, Err}
+use Rattle.ox_outside.specs.Event.{Event, was_opened, is_named, is_open}
 use Rattle.ox_outside.specs.declared.site.Heard.{Heard}
 use Rattle.ox_outside.specs.declared.site.Heard.TheVariants.{Bytes, NotYet as HeardNothing, End}
 use Rattle.ox_outside.specs.declared.site.Shown.{Shown}
@@ -31,3 +32,15 @@ abbrev pub NeverOpened : Result (Option ℕ) Failed → List Event → Type 0
 NeverOpened (Ok (Some channel)) log = was_opened channel log ≡ false
 NeverOpened (Ok None) log = Unit {0}
 NeverOpened (Err failed) log = Unit {0}
+
+-- no event of this log names the link
+abbrev pub NeverNamed : Result (Option ℕ) Failed → List Event → Type 0
+NeverNamed (Ok (Some channel)) log = is_named channel log ≡ false
+NeverNamed (Ok None) log = Unit {0}
+NeverNamed (Err failed) log = Unit {0}
+
+-- the link is open
+abbrev pub IsOpenLink : Result (Option ℕ) Failed → List Event → Type 0
+IsOpenLink (Ok (Some channel)) log = IsTrue (is_open channel log)
+IsOpenLink (Ok None) log = Unit {0}
+IsOpenLink (Err failed) log = Unit {0}

@@ -27,6 +27,11 @@ channel_of (Broke channel) = channel
 channel_of (GaveUp channel) = channel
 channel_of (Shut channel) = channel
 
+-- some event of the log names this channel
+abbrev pub is_named : ℕ → List Event → Bool
+is_named channel [] = false
+is_named channel (event ∷ log) = (channel_of event == channel) || is_named channel log
+
 -- the bytes heard on a channel, joined in order
 abbrev pub heard_bytes : ℕ → List Event → List ℕ
 heard_bytes channel [] = []

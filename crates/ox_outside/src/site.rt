@@ -4,6 +4,7 @@ ghost use Rattle.std.specs.Prelude.{◌≡◌, ℕ, ◌+◌, ◌<◌, ◌≤◌,
 ghost use Rattle.std.specs.Prelude.{Option, Some, None, Ok, IsTrue, IfOk, OnOk, OnErr};
 ghost use Rattle.std.specs.Option.{ForSome};
 ghost use Rattle.ox_outside.specs.Answers.{HeardWithin, ShownWithin, IsLinkNumber, NeverOpened};
+ghost use Rattle.ox_outside.specs.Answers.{NeverNamed, IsOpenLink};
 ghost use Rattle.ox_outside.specs.Counts.{Counts, Rose};
 ghost use Rattle.ox_outside.specs.Crash.{Remains, Tears, Follows, Only, AddsNothing, LeavesFiles};
 ghost use Rattle.ox_outside.specs.Crash.{OneCall};
@@ -150,11 +151,14 @@ pub trait Site {
         ensures call { OneCall told counts clock may_leave left_since self.old self.new };
 
     /// Takes a link that waits at the door, and answers its number: at least 1, and each number
-    /// once, whatever the door. `None` where nobody waits there. `Failed` where the door fails, or
-    /// a link waits and the numbers are used up.
+    /// once, whatever the door. No event before names it, and the link is open then. `None` where
+    /// nobody waits there. `Failed` where the door fails, or a link waits and the numbers are used
+    /// up.
     fn door(&mut self, door: Doorway) -> Result<Option<u32>, Failed>
         ensures number { IsLinkNumber result }
         ensures new { ForSome (log self.old) (NeverOpened result) }
+        ensures unnamed { ForSome (log self.old) (NeverNamed result) }
+        ensures open { ForSome (log self.new) (IsOpenLink result) }
         ensures logged { Adds (door_events door result) (log self.old) (log self.new) }
         ensures files { LeavesFiles seen may_leave self.old self.new }
         ensures failed { OnErr result (Rose (counts self.old).door (counts self.new).door) }
