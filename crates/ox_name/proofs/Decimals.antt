@@ -6,7 +6,7 @@ use Rattle.std.proofs.lemmas.Fmt.{length-decimal-le_wide}
 use Rattle.std.proofs.lemmas.List.{take_more_set, length-set, length-take-le, take-append-drop, take_at, drop_at}
 use Rattle.std.proofs.lemmas.Nat.{pow-add, div_below, mod_below}
 use Rattle.std.specs.Fmt.{decimal}
-use Rattle.ox_name.proofs.Turned.{stays_behind}
+use Rattle.ox_name.proofs.ReversedDigits.{stays_behind}
 use Rattle.ox_name.specs.Amount.{decimals, with_point, amount_text}
 
 pub decimals-none : (places : ℕ) → decimals places 0 ≡ []

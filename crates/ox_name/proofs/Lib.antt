@@ -1,8 +1,8 @@
-pub mod Names
-pub mod Turned
-pub mod Gaps
-pub mod Texting
-pub mod Bytes
+pub mod NamesAreOneToOne
+pub mod ReversedDigits
+pub mod SpacedNames
+pub mod NamesReadBack
+pub mod CommitmentBytes
 pub mod Decimals
-pub mod LeastNames
-pub mod Values
+pub mod LeastNameFalls
+pub mod AmountValue

@@ -7,14 +7,15 @@ use Rattle.ox_name.specs.Name.{first_of}
 -- Between two lengths the least name falls evenly: at place blocks into an interval that begins at
 -- the first name with so many letters more than one, and ends at the first name with one letter
 -- less.
-abbrev pub falling : ℕ → ℕ → ℕ → ℕ
-falling more interval place =
+abbrev pub least_between : ℕ → ℕ → ℕ → ℕ
+least_between more interval place =
     first_of more - (first_of more - first_of (more - 1)) * place / interval
 
 -- where p heights are open at the next height
 abbrev pub least_after : ℕ → ℕ → ℕ
 least_after interval p =
-    if nat_le (12 * interval) p then 0 else falling (12 - p / interval) interval (p % interval)
+    if nat_le (12 * interval) p then 0
+    else least_between (12 - p / interval) interval (p % interval)
 
 -- the least name at the height
 unfoldable pub least_name : ℕ → ℕ → ℕ → ℕ

@@ -43,7 +43,7 @@ pub fn minimum(start: u64, interval: u64, height: u64) -> u128
     if next < start {
         return shortest(12);
     }
-    falling(interval as u128, next - start)
+    least_after(interval as u128, next - start)
 }
 
 /// The least name never rises with the height, and where an interval begins it is the first name of
@@ -53,7 +53,7 @@ pub fn minimum_never_rises()
 {}
 
 /// The least name where `passed` heights are open at the next height.
-fn falling(interval: u128, passed: u128) -> u128
+fn least_after(interval: u128, passed: u128) -> u128
     requires { interval < 2 ^ 64 }
     ensures { result ≡ least_after interval passed }
 {

@@ -2,7 +2,7 @@ use Rattle.std.proofs.Common.{arith, sym, refl, ◌/◌}
 use Rattle.std.specs.Fmt.{decimal}
 use Rattle.ox_name.specs.Amount.{amount_text}
 use Rattle.ox_name.proofs.Decimals.{ten_pos, unit_fits, whole_short, text_whole, begins, goes_on, some_left, ends}
-use Rattle.ox_name.proofs.Values.{says-front}
+use Rattle.ox_name.proofs.AmountValue.{says-front}
 use Rattle.ox_name.proofs.amounts.write_amount.Goals as goal
 
 pub pow-unit-requires : goal.pow-unit-requires

@@ -3,7 +3,7 @@ use Rattle.std.proofs.Math.Nat.{pow-suc, pow-le-pow_right}
 use Rattle.std.proofs.lemmas.Bool.{cases_lt}
 use Rattle.std.proofs.lemmas.Fmt.{decimal_digit, decimal_step_wide}
 use Rattle.std.specs.Fmt.{decimal}
-use Rattle.ox_name.proofs.Turned.{digit_more, stays_behind, turned_all}
+use Rattle.ox_name.proofs.ReversedDigits.{digit_more, stays_behind, turned_all}
 use Rattle.ox_name.proofs.amounts.write_whole.Goals as goal
 
 pub loop-rest-init : goal.loop-rest-init

@@ -2,8 +2,8 @@ use Rattle.std.proofs.Common.{◌≡◌, ℕ, ◌+◌, ◌-◌, ◌/◌, ◌%◌
 use Rattle.std.proofs.lemmas.Bool.{cases_lt}
 use Rattle.std.proofs.lemmas.List.{take_at}
 use Rattle.ox_name.specs.Name.{IsName, number_of, name_of, name_within}
-use Rattle.ox_name.proofs.Names.{least, least_all, lettered-low, lettered-high, rest_below, name_of-is, number_of-name_of}
-use Rattle.ox_name.proofs.Turned.{digit_more, stays_behind, turned_all}
+use Rattle.ox_name.proofs.NamesAreOneToOne.{least, least_all, lettered-low, lettered-high, rest_below, name_of-is, number_of-name_of}
+use Rattle.ox_name.proofs.ReversedDigits.{digit_more, stays_behind, turned_all}
 use Rattle.ox_name.proofs.letters.write_name.Goals as goal
 
 pub loop-rest-init : goal.loop-rest-init

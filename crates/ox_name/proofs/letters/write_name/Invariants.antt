@@ -1,6 +1,6 @@
 use Rattle.std.proofs.Common.{◌≡◌, ◌<◌, ◌≤◌, ◌-◌, ◌++◌, take, drop, reverse}
 use Rattle.ox_name.specs.Name.{name_of, name_within}
-use Rattle.ox_name.proofs.Names.{least}
+use Rattle.ox_name.proofs.NamesAreOneToOne.{least}
 use Rattle.ox_name.proofs.letters.write_name.Given as goal
 
 abbrev pub invariant-loop-rest : goal.invariant-loop-rest

@@ -1,7 +1,7 @@
 use Rattle.std.proofs.Common.{◌≡◌, Some, None, refl, sym, ◌∙◌, lit<, arith}
 use Rattle.std.proofs.lemmas.Bool.{eqb-true, eqb-false, false≢true}
 use Rattle.ox_name.specs.Name.{number_with}
-use Rattle.ox_name.proofs.Texting.{named-none, named-first, reads_on, reads_over, reads_none, reads_all, below_from_some, above_from_none, place_small, bits_fit}
+use Rattle.ox_name.proofs.NamesReadBack.{named-none, named-first, reads_on, reads_over, reads_none, reads_all, below_from_some, above_from_none, place_small, bits_fit}
 use Rattle.ox_name.proofs.reading.read_name.Goals as goal
 
 pub returns-in_default-clause-none : goal.returns-in_default-clause-none

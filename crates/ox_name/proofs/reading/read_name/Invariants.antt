@@ -1,5 +1,5 @@
 use Rattle.std.proofs.Common.{length}
-use Rattle.ox_name.proofs.Texting.{Read}
+use Rattle.ox_name.proofs.NamesReadBack.{Read}
 use Rattle.ox_name.proofs.reading.read_name.Given as goal
 
 abbrev pub invariant-loop-rest : goal.invariant-loop-rest

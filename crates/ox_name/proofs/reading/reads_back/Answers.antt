@@ -1,4 +1,4 @@
-use Rattle.ox_name.proofs.Texting.{all_read_back}
+use Rattle.ox_name.proofs.NamesReadBack.{all_read_back}
 use Rattle.ox_name.proofs.reading.reads_back.Goals as goal
 
 pub returns : goal.returns

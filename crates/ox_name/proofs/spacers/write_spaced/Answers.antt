@@ -2,7 +2,7 @@ use Rattle.std.proofs.Common.{◌≡◌, ℕ, ◌<◌, ◌≤◌, Bool, true, fa
 use Rattle.std.proofs.lemmas.List.{get_or_append_left}
 use Rattle.ox_name.specs.Name.{name_of}
 use Rattle.ox_name.specs.Spaced.{spaced_name}
-use Rattle.ox_name.proofs.Gaps.{put_more, all_put}
+use Rattle.ox_name.proofs.SpacedNames.{put_more, all_put}
 use Rattle.ox_name.proofs.spacers.write_spaced.Goals as goal
 
 at_most : (b : Bool) → cond b 4 1 ≤ 4

@@ -1,8 +1,8 @@
 use Rattle.std.proofs.Common.{refl, ◌∙◌, arith}
 use Rattle.std.proofs.lemmas.List.{length-set}
 use Rattle.ox_name.specs.Unlock.{commitment_of}
-use Rattle.ox_name.proofs.Turned.{stays_behind}
-use Rattle.ox_name.proofs.Bytes.{writes_on, rest_below, has_room, all_written, value_in, end_in}
+use Rattle.ox_name.proofs.ReversedDigits.{stays_behind}
+use Rattle.ox_name.proofs.CommitmentBytes.{writes_on, rest_below, has_room, all_written, value_in, end_in}
 use Rattle.ox_name.proofs.unlock.commitment.Goals as goal
 
 pub loop-rest-init : goal.loop-rest-init

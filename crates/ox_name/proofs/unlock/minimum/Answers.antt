@@ -9,4 +9,4 @@ returns-then-next-start c = rw (lt-ltb (c.args.height + 1) c.args.start (omega a
 
 pub returns : goal.returns
 unfolding least_name
-returns c = rw (le-ltb (c.args.height + 1) c.args.start (omega arith)) c.falling.ensures
+returns c = rw (le-ltb (c.args.height + 1) c.args.start (omega arith)) c.least_after.ensures

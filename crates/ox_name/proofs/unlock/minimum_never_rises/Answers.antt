@@ -1,4 +1,4 @@
-use Rattle.ox_name.proofs.LeastNames.{least-falls, least-at_start}
+use Rattle.ox_name.proofs.LeastNameFalls.{least-falls, least-at_start}
 use Rattle.ox_name.proofs.unlock.minimum_never_rises.Goals as goal
 
 pub returns : goal.returns

@@ -1,8 +1,8 @@
 use Rattle.std.proofs.Common.{ℕ, ◌-◌, ◌*◌, ◌/◌, ◌%◌, ◌^◌, ◌<◌, ◌≤◌, lit<, arith}
 use Rattle.std.proofs.lemmas.Nat.{mul-le, mod_below}
 use Rattle.ox_name.specs.Name.{first_of}
-use Rattle.ox_name.proofs.Names.{first_of-mono}
-use Rattle.ox_name.proofs.unlock.falling.Goals as goal
+use Rattle.ox_name.proofs.NamesAreOneToOne.{first_of-mono}
+use Rattle.ox_name.proofs.unlock.least_after.Goals as goal
 
 pub overflow_sub-result : goal.overflow_sub-result
 overflow_sub-result c =

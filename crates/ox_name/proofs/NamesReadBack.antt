@@ -10,7 +10,7 @@ use Rattle.ox_name.specs.declared.reading.Named.{Named}
 use Rattle.ox_name.specs.Name.{IsLetter, IsName, number_with, number_after, number_of, name_of}
 use Rattle.ox_name.specs.Texts.{dotted_text, BeginsWithNone}
 use Rattle.ox_name.specs.Spaced.{bullet, spaced_name, is_letter, Mark, with_letter, with_spacer, marks, letters_of, spacers_of, name_if_fits, name_of_marks, name_in, ReadsBack}
-use Rattle.ox_name.proofs.Names.{number_after-ge, name_of-is, number_of-name_of}
+use Rattle.ox_name.proofs.NamesAreOneToOne.{number_after-ge, name_of-is, number_of-name_of}
 
 letter-is : (c : ℕ) → IsLetter c → is_letter c ≡ true
 letter-is c h = rw (le-leb 65 c h.0, le-leb c 90 h.1) refl
