@@ -7,8 +7,8 @@ use std::alloc::Global;
 use std::env;
 use std::io::Read;
 
-/// How many edicts the script's runestone has. `None` where it is malformed, or there is no runestone
-/// or no memory.
+/// How many edicts the script's runestone has. `None` where it is malformed, or there is no
+/// runestone or no memory.
 fn edicts_in(alloc: Global, script: &[u8]) -> Option<usize> {
     if !is_stone(script) {
         return None;
