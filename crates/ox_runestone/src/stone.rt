@@ -1,9 +1,6 @@
 //! What a runestone says.
 
-ghost use Rattle.std.specs.Prelude.{◌≡◌, ◌==◌, [], length};
-
-use std::alloc::Global;
-use std::marker::Model;
+use ox_bytes::List;
 
 /// The id of a rune: the height of the block that etched it and the place of the transaction in
 /// that block.
@@ -62,66 +59,8 @@ pub struct Edict {
     pub output: u32,
 }
 
-/// The edicts of a runestone, in order. Contracts see the list.
-#[derive(Debug, Drop)]
-pub struct Edicts {
-    items: Vec<Edict>,
-}
-
-impl Model for Edicts {
-    ghost use Rattle.std.specs.Prelude.{List};
-    ghost use Rattle.ox_runestone.specs.declared.stone.Edict.{Edict};
-
-    ghost Value = { List Edict };
-
-    ghost view = { λ e. e.items.items };
-}
-
-impl Edicts {
-    /// No edicts. It takes no memory.
-    pub fn empty(alloc: Global) -> Edicts
-        ensures { result ≡ [] }
-    {
-        Edicts {
-            items: Vec::new(alloc),
-        }
-    }
-
-    /// The edicts of the vector, which are not copied.
-    pub fn from_vec(items: Vec<Edict>) -> Edicts
-        ensures { result ≡ items.items }
-    {
-        Edicts { items }
-    }
-
-    /// The edicts as a vector, not copied.
-    pub fn into_vec(self) -> Vec<Edict>
-        ensures { result.items ≡ self }
-    {
-        self.items
-    }
-
-    /// The edicts, in order.
-    pub fn as_slice(&self) -> &[Edict]
-        ensures { result.now ≡ self.now }
-    {
-        self.items.as_slice()
-    }
-
-    /// How many there are.
-    pub fn len(&self) -> usize
-        ensures { result ≡ length self.now }
-    {
-        self.items.len()
-    }
-
-    /// Whether there are none.
-    pub fn is_empty(&self) -> bool
-        ensures { result ≡ (length self.now == 0) }
-    {
-        self.items.is_empty()
-    }
-}
+/// The edicts of a runestone, in order.
+pub type Edicts = List<Edict>;
 
 /// A well-formed message.
 #[derive(Debug, Drop)]

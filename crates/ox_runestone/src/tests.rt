@@ -360,7 +360,7 @@ fn the_first_rune_of_mainnet(rt: HostRuntime) {
         etching: Some(etching),
         mint: None,
         pointer: None,
-        edicts: Edicts::empty(alloc),
+        edicts: Edicts::new(alloc),
     };
     let script = encipher(alloc, &stone, 1).expect(&rt, "memory");
     assert!(rt; etches(&read(&rt, alloc, script.as_slice(), 1), etching));
