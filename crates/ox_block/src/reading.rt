@@ -197,25 +197,40 @@ fn any_witness(inputs: &[TxIn]) -> bool
 
 /// The stacks, which may not all be empty. The marker has that many bytes from its place to the
 /// end.
-#[tactic(auto, unfolding(crate::specs::Reading::witnesses_at, crate::specs::Reading::maybe_witnesses_at))]
+#[tactic(auto, unfolding(crate::specs::Reading::witnesses_at))]
 fn witnesses_of(
     alloc: Global,
-    marked: bool,
     marker: usize,
     mut inputs: Vec<TxIn>,
     bytes: &[u8],
 ) -> Result<(Vec<TxIn>, &[u8]), ReadError>
     ensures { GivesOrMemory (λ x. (x.0.items, x.1.now)) result
-        (maybe_witnesses_at marked marker inputs.items bytes.now) }
+        (witnesses_at marker inputs.items bytes.now) }
 {
-    if !marked {
-        return Ok((inputs, bytes));
-    }
     let rest = stacks_into(alloc, &mut inputs, bytes)?;
     if !any_witness(&inputs) {
         return Err(ReadError::Fault(FieldFault { left: marker }));
     }
     Ok((inputs, rest))
+}
+
+/// What follows the outputs: where there is a marker, the stacks.
+#[tactic(auto, unfolding(crate::specs::Reading::maybe_witnesses_at))]
+fn maybe_witnesses_of(
+    alloc: Global,
+    marked: bool,
+    marker: usize,
+    inputs: Vec<TxIn>,
+    bytes: &[u8],
+) -> Result<(Vec<TxIn>, &[u8]), ReadError>
+    ensures { GivesOrMemory (λ x. (x.0.items, x.1.now)) result
+        (maybe_witnesses_at marked marker inputs.items bytes.now) }
+{
+    if marked {
+        witnesses_of(alloc, marker, inputs, bytes)
+    } else {
+        Ok((inputs, bytes))
+    }
 }
 
 /// Whether a marker and a flag stand there.
@@ -238,7 +253,7 @@ fn tx_of(alloc: Global, bytes: &[u8]) -> Result<(Tx, &[u8]), ReadError>
     let (marked, rest) = marker_of(behind_version)?;
     let (bare, rest) = inputs_of(alloc, rest)?;
     let (outputs, rest) = outputs_of(alloc, rest)?;
-    let (inputs, rest) = witnesses_of(alloc, marked, behind_version.len(), bare, rest)?;
+    let (inputs, rest) = maybe_witnesses_of(alloc, marked, behind_version.len(), bare, rest)?;
     let (lock, rest) = u32le_field(rest)?;
     let tx = Tx {
         version,
