@@ -5,8 +5,8 @@ use Rattle.std.specs.List.{flat_map, AllByRecursion, list_any}
 use Rattle.std.proofs.lemmas.Bool.{cases_lt, ltb-false, le-ltb, eqb-true, eqb-false}
 use Rattle.std.proofs.lemmas.List.{append-nil, nil_from_length}
 use Rattle.ox_bytes.specs.Spelling.{compact}
-use Rattle.ox_bytes.specs.Reading.{◌>>=◌, number_at, run_at, both, counted}
-use Rattle.ox_bytes.proofs.Laws.{IsBytes, IsBytes-rest, bind_ok, chosen, guard_ok, ok_is, Takes, Takes-then, Law, wide32, number_law, run_law, compact_1, compact_2, compact_4, compact_8, both_law, mapped_law, counted_law}
+use Rattle.ox_bytes.specs.Reading.{◌>>=◌, number_at, run_at, both, counted_list}
+use Rattle.ox_bytes.proofs.Laws.{IsBytes, IsBytes-rest, bind_ok, chosen, guard_ok, ok_is, Takes, Takes-then, Law, wide32, number_law, run_law, compact_1, compact_2, compact_4, compact_8, both_law, reading_map_law, counted_list_law}
 use Rattle.ox_block.specs.declared.block.TxIn.{TxIn}
 use Rattle.ox_block.specs.declared.block.TxOut.{TxOut}
 use Rattle.ox_block.specs.declared.block.Tx.{Tx}
@@ -16,7 +16,7 @@ use Rattle.ox_block.specs.Spelling.{input, inputs, outputs, stacks, stripped_for
 use Rattle.std.specs.Prelude.{IfOk}
 use Rattle.ox_block.specs.declared.fault.BlockFault.{BlockFault}
 use Rattle.ox_block.specs.Answer.{Gives}
-use Rattle.ox_block.proofs.HeaderParts.{HeaderParts, header_from, header_parts, header_same}
+use Rattle.ox_block.proofs.PartsAsPairs.{HeaderParts, header_from, header_parts, header_same}
 use Rattle.ox_block.specs.Reading.{count_at, inputs_at, outputs_at, stacks_of, witnesses_at, marker_at, maybe_witnesses_at, tx_at, header_at, block_at, whole_of, with_place, block_of}
 use Rattle.ox_block.proofs.Laws.{IsCount, count_law, count_from, FitsBare, inputs_law, FitsOutputs, outputs_law, bares, FitStacks, stacks_take, stacks_repeat, inputs_bare, length_bare, fits_bare, from_bare, bare_already, none_of_bare, bare_if_none}
 
@@ -94,8 +94,8 @@ maybe_again false marker is rest fits none = ap (λ (xs : List TxIn). Ok (xs, re
 -- ---- a transaction
 
 -- its parts in order, with the mark and the tail that it has or has not
-abbrev pub laid : Bool → Tx → List ℕ
-laid m t = to_le_bytes w32 t.version ++ (mark m ++ (inputs t.inputs ++ (outputs t.outputs ++ (tail m t.inputs ++ to_le_bytes w32 t.lock))))
+abbrev pub parts_of : Bool → Tx → List ℕ
+parts_of m t = to_le_bytes w32 t.version ++ (mark m ++ (inputs t.inputs ++ (outputs t.outputs ++ (tail m t.inputs ++ to_le_bytes w32 t.lock))))
 
 regroup_6 : (a b c d e f : List ℕ) → a ++ b ++ c ++ d ++ e ++ f ≡ a ++ (b ++ (c ++ (d ++ (e ++ f))))
 regroup_6 a b c d e f = simp append_assoc
@@ -103,9 +103,9 @@ regroup_6 a b c d e f = simp append_assoc
 regroup_4 : (a c d f : List ℕ) → a ++ c ++ d ++ f ≡ a ++ (c ++ (d ++ f))
 regroup_4 a c d f = simp append_assoc
 
-laid_is : (m : Bool) (t : Tx) → cond m (extended_form t) (stripped_form t) ≡ laid m t
-laid_is true t = regroup_6 (to_le_bytes w32 t.version) (mark true) (inputs t.inputs) (outputs t.outputs) (stacks t.inputs) (to_le_bytes w32 t.lock)
-laid_is false t = regroup_4 (to_le_bytes w32 t.version) (inputs t.inputs) (outputs t.outputs) (to_le_bytes w32 t.lock)
+parts_are : (m : Bool) (t : Tx) → cond m (extended_form t) (stripped_form t) ≡ parts_of m t
+parts_are true t = regroup_6 (to_le_bytes w32 t.version) (mark true) (inputs t.inputs) (outputs t.outputs) (stacks t.inputs) (to_le_bytes w32 t.lock)
+parts_are false t = regroup_4 (to_le_bytes w32 t.version) (inputs t.inputs) (outputs t.outputs) (to_le_bytes w32 t.lock)
 
 positive : (n : ℕ) → eqb n 0 ≡ false → 0 < n
 positive n e = omega (arith, eqb-false n 0 e)
@@ -133,7 +133,7 @@ tx_joined bytes r1 r2 r3 r4 r5 r6 version m bare ins outs lock tv tm tb to tw tl
     let p3 = Takes-then r2 (inputs ins) r3 (outputs outs ++ (tail m ins ++ to_le_bytes w32 lock)) r6 bare_front p4 in
     let p2 = Takes-then r1 (mark m) r2 (inputs ins ++ (outputs outs ++ (tail m ins ++ to_le_bytes w32 lock))) r6 tm p3 in
     let p1 = Takes-then bytes (to_le_bytes w32 version) r1 (mark m ++ (inputs ins ++ (outputs outs ++ (tail m ins ++ to_le_bytes w32 lock)))) r6 tv.0 p2 in (
-      subst (λ (t : List ℕ). Takes bytes t r6) (sym (laid_is m made)) p1,
+      subst (λ (t : List ℕ). Takes bytes t r6) (sym (parts_are m made)) p1,
       record {
         version = tv.1;
         some_input = positive (length ins) some.1;
@@ -176,7 +176,7 @@ tx_repeat t rest h =
     let bare_text : inputs t.inputs ≡ inputs (bares t.inputs) = sym (inputs_bare t.inputs) in
     let some : IsCount (length (bares t.inputs)) = subst IsCount (sym (length_bare t.inputs)) (count_from (length t.inputs) h.some_input h.few_inputs) in
     let laid_out : tx t ++ rest ≡ v ++ (mark t.marked ++ (inputs t.inputs ++ (outputs t.outputs ++ (tail t.marked t.inputs ++ (l ++ rest))))) =
-    ap (λ (x : List ℕ). x ++ rest) (laid_is t.marked t) ∙ regroup_rest v (mark t.marked) (inputs t.inputs) (outputs t.outputs) (tail t.marked t.inputs) l rest in
+    ap (λ (x : List ℕ). x ++ rest) (parts_are t.marked t) ∙ regroup_rest v (mark t.marked) (inputs t.inputs) (outputs t.outputs) (tail t.marked t.inputs) l rest in
     let after_outputs = tail t.marked t.inputs ++ (l ++ rest) in
     let after_inputs = outputs t.outputs ++ after_outputs in
     let e1 = (number_law w32 (2 ^ 32) wide32).again t.version (mark t.marked ++ (inputs t.inputs ++ after_inputs)) h.version in
@@ -207,7 +207,7 @@ parts_law =
     let l4 = both_law (λ (p : (ℕ × List ℕ) × List ℕ). (F p.0.0 × R p.0.1) × R p.1) F (λ (p : (ℕ × List ℕ) × List ℕ). (s p.0.0 ++ t p.0.1) ++ t p.1) s (both (both at run) run) at l3 n in
     let l5 = both_law (λ (p : ((ℕ × List ℕ) × List ℕ) × ℕ). ((F p.0.0.0 × R p.0.0.1) × R p.0.1) × F p.1) F (λ (p : ((ℕ × List ℕ) × List ℕ) × ℕ). ((s p.0.0.0 ++ t p.0.0.1) ++ t p.0.1) ++ s p.1) s (both (both (both at run) run) at) at l4 n in
     let l6 = both_law (λ (p : (((ℕ × List ℕ) × List ℕ) × ℕ) × ℕ). (((F p.0.0.0.0 × R p.0.0.0.1) × R p.0.0.1) × F p.0.1) × F p.1) F (λ (p : (((ℕ × List ℕ) × List ℕ) × ℕ) × ℕ). (((s p.0.0.0.0 ++ t p.0.0.0.1) ++ t p.0.0.1) ++ s p.0.1) ++ s p.1) s (both (both (both (both at run) run) at) at) at l5 n in
-    mapped_law header_from (λ (h : Header). (((((h.version, h.previous), h.root), h.time), h.bits), h.nonce))
+    reading_map_law header_from (λ (h : Header). (((((h.version, h.previous), h.root), h.time), h.bits), h.nonce))
     (λ (p : HeaderParts). ((((F p.0.0.0.0.0 × R p.0.0.0.0.1) × R p.0.0.0.1) × F p.0.0.1) × F p.0.1) × F p.1) FitsHeader
     (λ (p : HeaderParts). ((((s p.0.0.0.0.0 ++ t p.0.0.0.0.1) ++ t p.0.0.0.1) ++ s p.0.0.1) ++ s p.0.1) ++ s p.1) header (both (both (both (both (both at run) run) at) at) at)
     (λ p h. record { version = h.0.0.0.0.0; previous = h.0.0.0.0.1; root = h.0.0.0.1; time = h.0.0.1; bits = h.0.1; nonce = h.1 }) (λ p h. refl)
@@ -225,16 +225,16 @@ header_law = record {
 abbrev pub LawfulParts : Block → Type 0
 LawfulParts b = FitsHeader b.header × (IsCount (length b.txs) × AllByRecursion LawfulTx b.txs)
 
-txs_law : Law (λ (ts : List Tx). IsCount (length ts) × AllByRecursion LawfulTx ts) (λ (ts : List Tx). compact (length ts) ++ flat_map tx ts) (counted count_at tx_at)
-txs_law = counted_law IsCount compact count_at LawfulTx tx tx_at count_law tx_law
+txs_law : Law (λ (ts : List Tx). IsCount (length ts) × AllByRecursion LawfulTx ts) (λ (ts : List Tx). compact (length ts) ++ flat_map tx ts) (counted_list count_at tx_at)
+txs_law = counted_list_law IsCount compact count_at LawfulTx tx tx_at count_law tx_law
 
 block_law : Law LawfulParts spell block_at
 unfolding block_at spell
-block_law = mapped_law (λ (p : Header × List Tx). record { header = p.0; txs = p.1 }) (λ (b : Block). (b.header, b.txs))
+block_law = reading_map_law (λ (p : Header × List Tx). record { header = p.0; txs = p.1 }) (λ (b : Block). (b.header, b.txs))
     (λ (p : Header × List Tx). FitsHeader p.0 × (IsCount (length p.1) × AllByRecursion LawfulTx p.1)) LawfulParts
-    (λ (p : Header × List Tx). header p.0 ++ (compact (length p.1) ++ flat_map tx p.1)) spell (both header_at (counted count_at tx_at))
+    (λ (p : Header × List Tx). header p.0 ++ (compact (length p.1) ++ flat_map tx p.1)) spell (both header_at (counted_list count_at tx_at))
     (λ p h. h) (λ p h. refl) (λ b h. h) (λ b h. refl)
-    (both_law FitsHeader (λ (ts : List Tx). IsCount (length ts) × AllByRecursion LawfulTx ts) header (λ (ts : List Tx). compact (length ts) ++ flat_map tx ts) header_at (counted count_at tx_at) header_law txs_law)
+    (both_law FitsHeader (λ (ts : List Tx). IsCount (length ts) × AllByRecursion LawfulTx ts) header (λ (ts : List Tx). compact (length ts) ++ flat_map tx ts) header_at (counted_list count_at tx_at) header_law txs_law)
 
 whole_take : (bytes : List ℕ) (b : Block) → IsBytes bytes → whole_of bytes ≡ Ok b → LawfulParts b × (bytes ≡ spell b)
 unfolding whole_of

@@ -9,12 +9,13 @@ use Rattle.std.proofs.lemmas.List.Concat.{flat_map-cons}
 use Rattle.std.proofs.lemmas.List.Sums.{sum_by-cons}
 use Rattle.ox_bytes.specs.Spelling.{compact, string}
 use Rattle.ox_bytes.specs.Reading.{◌>>=◌, number_at, run_at, compact_at, string_at, both, unless}
-use Rattle.ox_bytes.proofs.Laws.{IsBytes, bind_ok, ok_is, Takes, Takes-then, Law, wide32, wide64, number_law, run_law, compact_law, string_law, both_law, mapped_law, unless_law, counted_law}
+use Rattle.ox_bytes.proofs.Laws.{IsBytes, bind_ok, ok_is, Takes, Takes-then, Law, wide32, wide64, number_law, run_law, compact_law, string_law, both_law, reading_map_law, unless_law, counted_list_law}
 use Rattle.ox_block.specs.declared.block.OutPoint.{OutPoint}
 use Rattle.ox_block.specs.declared.block.TxIn.{TxIn}
 use Rattle.ox_block.specs.declared.block.TxOut.{TxOut}
 use Rattle.ox_block.specs.Spelling.{outpoint, input, output, inputs, outputs, stack, stacks, most_value, FitsString, FitsInput, FitsOutput, FitsStack, has_witness}
 use Rattle.ox_block.specs.Reading.{count_at, outpoint_at, input_at, inputs_at, output_at, outputs_of, outputs_at, stack_at, stacks_of}
+use Rattle.ox_block.proofs.PartsAsPairs.{InputParts, input_from, input_parts, input_same}
 
 -- ---- counts
 
@@ -35,7 +36,7 @@ FitsOutpoint o = (length o.txid.0 ≡ 32) × (o.index < 2 ^ 32)
 
 outpoint_law : Law FitsOutpoint outpoint outpoint_at
 unfolding outpoint_at
-outpoint_law = mapped_law (λ (p : List ℕ × ℕ). record { txid = record { 0 = p.0 }; index = p.1 }) (λ (o : OutPoint). (o.txid.0, o.index))
+outpoint_law = reading_map_law (λ (p : List ℕ × ℕ). record { txid = record { 0 = p.0 }; index = p.1 }) (λ (o : OutPoint). (o.txid.0, o.index))
     (λ (p : List ℕ × ℕ). (length p.0 ≡ 32) × (p.1 < 2 ^ 32)) FitsOutpoint (λ (p : List ℕ × ℕ). p.0 ++ to_le_bytes w32 p.1) outpoint (both (run_at 32) (number_at w32))
     (λ p h. h) (λ p h. refl) (λ o h. h) (λ o h. refl)
     (both_law (λ (x : List ℕ). length x ≡ 32) (λ n. n < 2 ^ 32) (λ (x : List ℕ). x) (to_le_bytes w32) (run_at 32) (number_at w32) (run_law 32) (number_law w32 (2 ^ 32) wide32))
@@ -44,21 +45,23 @@ outpoint_law = mapped_law (λ (p : List ℕ × ℕ). record { txid = record { 0 
 abbrev pub FitsBare : TxIn → Type 0
 FitsBare i = FitsInput i × (i.witness ≡ [])
 
-abbrev pub BareParts : Type 0
-BareParts = (OutPoint × List ℕ) × ℕ
-
-input_law : Law FitsBare input input_at
-unfolding input_at
-input_law = mapped_law (λ (p : BareParts). record { from = p.0.0; script = p.0.1; sequence = p.1; witness = [] }) (λ (i : TxIn). ((i.from, i.script), i.sequence))
-    (λ (p : BareParts). (FitsOutpoint p.0.0 × FitsString p.0.1) × (p.1 < 2 ^ 32)) FitsBare (λ (p : BareParts). (outpoint p.0.0 ++ string p.0.1) ++ to_le_bytes w32 p.1) input (both (both outpoint_at string_at) (number_at w32))
+input_parts_law : Law FitsBare input input_parts
+input_parts_law = reading_map_law input_from (λ (i : TxIn). ((i.from, i.script), i.sequence))
+    (λ (p : InputParts). (FitsOutpoint p.0.0 × FitsString p.0.1) × (p.1 < 2 ^ 32)) FitsBare (λ (p : InputParts). (outpoint p.0.0 ++ string p.0.1) ++ to_le_bytes w32 p.1) input (both (both outpoint_at string_at) (number_at w32))
     (λ p h. (record { txid = h.0.0.0; index = h.0.0.1; script = h.0.1; sequence = h.1 }, refl)) (λ p h. refl) (λ i h. (((h.0.txid, h.0.index), h.0.script), h.0.sequence))
     (λ i h. ap (λ (w : List (List ℕ)). record i { witness = w }) (sym h.1))
     (both_law (λ (p : OutPoint × List ℕ). FitsOutpoint p.0 × FitsString p.1) (λ n. n < 2 ^ 32) (λ (p : OutPoint × List ℕ). outpoint p.0 ++ string p.1) (to_le_bytes w32) (both outpoint_at string_at) (number_at w32)
     (both_law FitsOutpoint FitsString outpoint string outpoint_at string_at outpoint_law string_law) (number_law w32 (2 ^ 32) wide32))
 
+input_law : Law FitsBare input input_at
+input_law = record {
+  takes = λ bytes i fits e. input_parts_law.takes bytes i fits (input_same bytes ∙ e);
+  again = λ i rest fits. sym (input_same (input i ++ rest)) ∙ input_parts_law.again i rest fits;
+}
+
 pub inputs_law : Law (λ (is : List TxIn). IsCount (length is) × AllByRecursion FitsBare is) inputs inputs_at
 unfolding inputs_at
-inputs_law = counted_law IsCount compact count_at FitsBare input input_at count_law input_law
+inputs_law = counted_list_law IsCount compact count_at FitsBare input input_at count_law input_law
 
 -- ---- outputs
 
@@ -67,7 +70,7 @@ FitsBelow most o = ((o.value < 2 ^ 64) × (ltb most o.value ≡ false)) × FitsS
 
 output_law : (most : ℕ) → Law (FitsBelow most) output (output_at most)
 unfolding output_at
-output_law most = mapped_law (λ (p : ℕ × List ℕ). record { value = p.0; script = p.1 }) (λ (o : TxOut). (o.value, o.script))
+output_law most = reading_map_law (λ (p : ℕ × List ℕ). record { value = p.0; script = p.1 }) (λ (o : TxOut). (o.value, o.script))
     (λ (p : ℕ × List ℕ). ((p.0 < 2 ^ 64) × (ltb most p.0 ≡ false)) × FitsString p.1) (FitsBelow most) (λ (p : ℕ × List ℕ). to_le_bytes w64 p.0 ++ string p.1) output (both (unless (λ value. ltb most value) (number_at w64)) string_at)
     (λ p h. h) (λ p h. refl) (λ o h. h) (λ o h. refl)
     (both_law (λ n. (n < 2 ^ 64) × (ltb most n ≡ false)) FitsString (to_le_bytes w64) string (unless (λ value. ltb most value) (number_at w64)) string_at
@@ -136,7 +139,7 @@ outputs_law = record { takes = outputs_all_take; again = outputs_all_repeat }
 
 stack_law : Law FitsStack stack stack_at
 unfolding stack_at
-stack_law = counted_law (λ n. n < 2 ^ 64) compact compact_at FitsString string string_at compact_law string_law
+stack_law = counted_list_law (λ n. n < 2 ^ 64) compact compact_at FitsString string string_at compact_law string_law
 
 -- an input without its witness
 abbrev pub bare : TxIn → TxIn

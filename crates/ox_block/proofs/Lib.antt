@@ -1,9 +1,9 @@
 pub mod Laws
 pub mod BlockLaws
-pub mod Agreement
-pub mod Places
-pub mod Loops
-pub mod Puts
-pub mod Rows
-pub mod Fronts
-pub mod HeaderParts
+pub mod LayoutAgrees
+pub mod FirstFaultIsRead
+pub mod ReadLoops
+pub mod PiecesInTurn
+pub mod RowsOfHashes
+pub mod FrontsDecideOrder
+pub mod PartsAsPairs

@@ -69,64 +69,64 @@ pub record Layout : Type 0 where
   pub fields : List Field
   pub behind : ℕ
 
-abbrev pub Laid : Type 0
-Laid = ℕ → Layout
+abbrev pub LayoutFrom : Type 0
+LayoutFrom = ℕ → Layout
 
 -- nothing
-abbrev pub nothing : Laid
+abbrev pub nothing : LayoutFrom
 nothing place = record { fields = []; behind = place }
 
 -- one field, of that many bytes
-abbrev pub one : Kind → ℕ → Laid
+abbrev pub one : Kind → ℕ → LayoutFrom
 one kind len place =
     record { fields = record { place = place; kind = kind } ∷ []; behind = place + len }
 
 -- one after the other
 infixl 12 ◌▹◌
-abbrev pub ◌▹◌ : Laid → Laid → Laid
+abbrev pub ◌▹◌ : LayoutFrom → LayoutFrom → LayoutFrom
 (first ▹ second) place =
     let before = first place in
     let after = second before.behind in
     record { fields = before.fields ++ after.fields; behind = after.behind }
 
 -- that many of them
-unfoldable pub copies : ℕ → Laid → Laid
+unfoldable pub copies : ℕ → LayoutFrom → LayoutFrom
 copies zero laid place = nothing place
 copies (suc n) laid place = (laid ▹ copies n laid) place
 
-abbrev pub bytes_of : ℕ → Laid
+abbrev pub bytes_of : ℕ → LayoutFrom
 bytes_of n = one (plain n) n
 
 -- A length and its bytes are two fields.
-unfoldable pub text : List ℕ → Laid
+unfoldable pub text : List ℕ → LayoutFrom
 text bytes place = (one size (size_len_at bytes place) ▹ bytes_of (size_at bytes place)) place
 
 -- a count, and what it counts
-unfoldable pub counted : Kind → List ℕ → Laid → Laid
-counted kind bytes laid place =
+unfoldable pub counted_copies : Kind → List ℕ → LayoutFrom → LayoutFrom
+counted_copies kind bytes laid place =
     (one kind (size_len_at bytes place) ▹ copies (size_at bytes place) laid) place
 
 -- an input: txid, index, script, sequence
-unfoldable pub input : List ℕ → Laid
+unfoldable pub input : List ℕ → LayoutFrom
 input bytes place = (bytes_of 32 ▹ bytes_of 4 ▹ text bytes ▹ bytes_of 4) place
 
 -- an output: value and script
-unfoldable pub output : List ℕ → ℕ → Laid
+unfoldable pub output : List ℕ → ℕ → LayoutFrom
 output bytes before place = (one (value before) 8 ▹ text bytes) place
 
 -- that many outputs, with what the outputs before them have
-unfoldable pub outputs : List ℕ → ℕ → ℕ → Laid
+unfoldable pub outputs : List ℕ → ℕ → ℕ → LayoutFrom
 outputs bytes zero before place = nothing place
 outputs bytes (suc n) before place =
     (output bytes before ▹ outputs bytes n (before + value_at bytes place)) place
 
-unfoldable pub counted_outputs : List ℕ → Laid
+unfoldable pub counted_outputs : List ℕ → LayoutFrom
 counted_outputs bytes place =
     (one count (size_len_at bytes place) ▹ outputs bytes (size_at bytes place) 0) place
 
 -- a witness stack: how many byte strings, and these
-unfoldable pub stack : List ℕ → Laid
-stack bytes place = counted size bytes (text bytes) place
+unfoldable pub stack : List ℕ → LayoutFrom
+stack bytes place = counted_copies size bytes (text bytes) place
 
 -- whether one of that many stacks from a place on is not empty
 unfoldable pub some_item : List ℕ → ℕ → ℕ → Bool
@@ -135,7 +135,7 @@ some_item bytes (suc n) place =
     nat_lt 0 (size_at bytes place) || some_item bytes n (stack bytes place).behind
 
 -- that many stacks, and the marker of that place looked at again
-unfoldable pub stacks : List ℕ → ℕ → ℕ → Laid
+unfoldable pub stacks : List ℕ → ℕ → ℕ → LayoutFrom
 stacks bytes at_marker n place =
     let all = copies n (stack bytes) place in
     let looked_at : Field = record { place = at_marker; kind = marker (some_item bytes n place) } in
@@ -147,22 +147,22 @@ is_marker bytes place = nat_lt place (length bytes) && slice_index bytes place =
 
 -- a transaction's fields behind its version: with a marker there are also a flag, and a stack for
 -- each input
-unfoldable pub behind_version : Bool → List ℕ → Laid
+unfoldable pub behind_version : Bool → List ℕ → LayoutFrom
 behind_version true bytes place =
-    ((bytes_of 1 ▹ one flag 1) ▹ (counted count bytes (input bytes) ▹ (counted_outputs bytes
+    ((bytes_of 1 ▹ one flag 1) ▹ (counted_copies count bytes (input bytes) ▹ (counted_outputs bytes
     ▹ (stacks bytes place (size_at bytes (place + 2)) ▹ bytes_of 4)))) place
 behind_version false bytes place =
-    (counted count bytes (input bytes) ▹ (counted_outputs bytes ▹ bytes_of 4)) place
+    (counted_copies count bytes (input bytes) ▹ (counted_outputs bytes ▹ bytes_of 4)) place
 
-unfoldable pub tx : List ℕ → Laid
+unfoldable pub tx : List ℕ → LayoutFrom
 tx bytes place = (bytes_of 4 ▹ behind_version (is_marker bytes (place + 4)) bytes) place
 
 -- a header: version, previous hash, root, time, bits, nonce
-unfoldable pub header : Laid
+unfoldable pub header : LayoutFrom
 header place = (bytes_of 4 ▹ bytes_of 32 ▹ bytes_of 32 ▹ bytes_of 4 ▹ bytes_of 4 ▹ bytes_of 4) place
 
-unfoldable pub block : List ℕ → Laid
-block bytes place = (header ▹ counted count bytes (tx bytes)) place
+unfoldable pub block : List ℕ → LayoutFrom
+block bytes place = (header ▹ counted_copies count bytes (tx bytes)) place
 
 -- bytes behind a place are one field
 abbrev pub surplus_from : List ℕ → ℕ → List Field

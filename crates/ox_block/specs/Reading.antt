@@ -5,7 +5,7 @@ use Rattle.std.specs.Prelude.{Ok, Err, nat_lt, ◌==◌, if◌then◌else◌}
 use Rattle.std.specs.Int.{w32, w64}
 use Rattle.std.specs.List.{list_any}
 use Rattle.ox_bytes.specs.Reading.{◌>>=◌, Reader, number_at, run_at, compact_at, string_at, both}
-use Rattle.ox_bytes.specs.Reading.{mapped, unless, counted}
+use Rattle.ox_bytes.specs.Reading.{reading_map, unless, counted_list}
 use Rattle.ox_block.specs.Spelling.{most_value, most_bytes, has_witness}
 use Rattle.ox_block.specs.declared.block.OutPoint.{OutPoint}
 use Rattle.ox_block.specs.declared.block.TxIn.{TxIn}
@@ -20,22 +20,27 @@ count_at bytes = unless (λ n. n == 0) compact_at bytes
 
 unfoldable pub outpoint_at : Reader OutPoint
 outpoint_at bytes =
-    mapped (λ p. record { txid = record { 0 = p.0 }; index = p.1 })
+    reading_map (λ p. record { txid = record { 0 = p.0 }; index = p.1 })
     (both (run_at 32) (number_at w32)) bytes
 
 -- an input, whose witness stack comes later
 unfoldable pub input_at : Reader TxIn
-input_at bytes =
-    mapped (λ p. record { from = p.0.0; script = p.0.1; sequence = p.1; witness = [] })
-    (both (both outpoint_at string_at) (number_at w32)) bytes
+input_at bytes = do
+  from ← outpoint_at bytes
+  script ← string_at from.1
+  sequence ← number_at w32 script.1
+  Ok (
+    record { from = from.0; script = script.0; sequence = sequence.0; witness = [] },
+    sequence.1,
+  )
 
 unfoldable pub inputs_at : Reader (List TxIn)
-inputs_at bytes = counted count_at input_at bytes
+inputs_at bytes = counted_list count_at input_at bytes
 
 -- an output of at most that many satoshis
 unfoldable pub output_at : ℕ → Reader TxOut
 output_at most bytes =
-    mapped (λ p. record { value = p.0; script = p.1 })
+    reading_map (λ p. record { value = p.0; script = p.1 })
     (both (unless (λ value. nat_lt most value) (number_at w64)) string_at) bytes
 
 -- that many outputs, of at most that many satoshis together: the value that brings the sum above is
@@ -51,7 +56,7 @@ unfoldable pub outputs_at : Reader (List TxOut)
 outputs_at bytes = count_at bytes >>= λ n. outputs_of n.0 most_value n.1
 
 unfoldable pub stack_at : Reader (List (List ℕ))
-stack_at bytes = counted compact_at string_at bytes
+stack_at bytes = counted_list compact_at string_at bytes
 
 -- a stack for each input
 unfoldable pub stacks_of : List TxIn → Reader (List TxIn)
@@ -120,7 +125,8 @@ header_at bytes = do
 -- a block, and bytes behind it
 unfoldable pub block_at : Reader Block
 block_at bytes =
-    mapped (λ p. record { header = p.0; txs = p.1 }) (both header_at (counted count_at tx_at)) bytes
+    reading_map (λ p. record { header = p.0; txs = p.1 })
+    (both header_at (counted_list count_at tx_at)) bytes
 
 -- Bytes behind the last transaction are a field at fault.
 unfoldable pub whole_of : List ℕ → Result Block ℕ

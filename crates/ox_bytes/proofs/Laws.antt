@@ -9,7 +9,7 @@ use Rattle.std.proofs.lemmas.Nat.{le_bytes_2, le_bytes_4, le_bytes_8, from_le_by
 use Rattle.ox_bytes.specs.declared.compact.CompactFault.{CompactFault}
 use Rattle.ox_bytes.specs.declared.compact.CompactFault.TheVariants.{Short, NotShortest}
 use Rattle.ox_bytes.specs.Spelling.{compact, string}
-use Rattle.ox_bytes.specs.Reading.{◌>>=◌, Reading, Reader, number_at, run_at, long_size, size_of, result_at, compact_at, string_at, both, mapped, unless, times, counted}
+use Rattle.ox_bytes.specs.Reading.{◌>>=◌, Reading, Reader, number_at, run_at, long_size, size_of, result_at, compact_at, string_at, both, reading_map, unless, times, counted_list}
 
 abbrev pub IsBytes : List ℕ → Type 0
 IsBytes bytes = (i : ℕ) → get_or bytes i 0 < 256
@@ -249,10 +249,10 @@ both_law {A} {B} {F} FA FB sa sb ra rb la lb = record {
       ap (both ra rb) (append_assoc (sa p.0) (sb p.1) rest) ∙ rw (la.again p.0 (sb p.1 ++ rest) fits.0, lb.again p.1 rest fits.1) refl;
 }
 
-pub mapped_law : {A B F : Type 0} (f : A → B) (g : B → A) (FA : A → Type 0) (FB : B → Type 0) (sa : A → List ℕ) (sb : B → List ℕ) (ra : Reading A F)
+pub reading_map_law : {A B F : Type 0} (f : A → B) (g : B → A) (FA : A → Type 0) (FB : B → Type 0) (sa : A → List ℕ) (sb : B → List ℕ) (ra : Reading A F)
     → ((a : A) → FA a → FB (f a)) → ((a : A) → FA a → sb (f a) ≡ sa a) → ((b : B) → FB b → FA (g b)) → ((b : B) → FB b → f (g b) ≡ b)
-    → Law FA sa ra → Law FB sb (mapped f ra)
-mapped_law {A} {B} {F} f g FA FB sa sb ra fits_f spells fits_g back la = record {
+    → Law FA sa ra → Law FB sb (reading_map f ra)
+reading_map_law {A} {B} {F} f g FA FB sa sb ra fits_f spells fits_g back la = record {
   takes = λ bytes z fits e.
       let a = bind_ok (ra bytes) (λ x. Ok (f x.0, x.1)) z e in
       let ta = la.takes bytes a.0 fits a.1 in
@@ -260,7 +260,7 @@ mapped_law {A} {B} {F} f g FA FB sa sb ra fits_f spells fits_g back la = record 
       (subst (λ (t : List ℕ). Takes bytes t a.0.1) (sym (spells a.0.0 ta.1)) ta.0, fits_f a.0.0 ta.1);
   again = λ b rest fits.
       let text : sb b ≡ sa (g b) = sym (ap sb (back b fits)) ∙ spells (g b) (fits_g b fits) in
-      ap (λ (t : List ℕ). mapped f ra (t ++ rest)) text ∙ rw (la.again (g b) rest (fits_g b fits)) (ap (λ (y : B). Ok (y, rest)) (back b fits));
+      ap (λ (t : List ℕ). reading_map f ra (t ++ rest)) text ∙ rw (la.again (g b) rest (fits_g b fits)) (ap (λ (y : B). Ok (y, rest)) (back b fits));
 }
 
 pub unless_law : {A : Type 0} (refused : A → Bool) (FA : A → Type 0) (sa : A → List ℕ) (ra : Reader A)
@@ -301,9 +301,9 @@ times_law {A} FA sa ra la n = record {
   again = λ xs rest fits. subst (λ (k : ℕ). times ra k (flat_map sa xs ++ rest) ≡ Ok (xs, rest)) fits.0 (times_again FA sa ra la xs rest fits.1);
 }
 
-pub counted_law : {A F : Type 0} (FN : ℕ → Type 0) (sn : ℕ → List ℕ) (rn : Reading ℕ F) (FA : A → Type 0) (sa : A → List ℕ) (ra : Reading A F)
-    → Law FN sn rn → Law FA sa ra → Law (λ (xs : List A). FN (length xs) × AllByRecursion FA xs) (λ (xs : List A). sn (length xs) ++ flat_map sa xs) (counted rn ra)
-counted_law {A} {F} FN sn rn FA sa ra ln la = record {
+pub counted_list_law : {A F : Type 0} (FN : ℕ → Type 0) (sn : ℕ → List ℕ) (rn : Reading ℕ F) (FA : A → Type 0) (sa : A → List ℕ) (ra : Reading A F)
+    → Law FN sn rn → Law FA sa ra → Law (λ (xs : List A). FN (length xs) × AllByRecursion FA xs) (λ (xs : List A). sn (length xs) ++ flat_map sa xs) (counted_list rn ra)
+counted_list_law {A} {F} FN sn rn FA sa ra ln la = record {
   takes = λ bytes z fits e.
       let n = bind_ok (rn bytes) (λ x. times ra x.0 x.1) z e in
       let tn = ln.takes bytes n.0 fits n.1 in
@@ -311,7 +311,7 @@ counted_law {A} {F} FN sn rn FA sa ra ln la = record {
       let whole = Takes-then bytes (sn n.0.0) n.0.1 (flat_map sa z.0) z.1 tn.0 t.0 in
       (subst (λ (k : ℕ). Takes bytes (sn k ++ flat_map sa z.0) z.1) (sym t.1.0) whole, (subst FN (sym t.1.0) tn.1, t.1.1));
   again = λ xs rest fits.
-      ap (counted rn ra) (append_assoc (sn (length xs)) (flat_map sa xs) rest) ∙ rw (ln.again (length xs) (flat_map sa xs ++ rest) fits.0) (times_again FA sa ra la xs rest fits.1);
+      ap (counted_list rn ra) (append_assoc (sn (length xs)) (flat_map sa xs) rest) ∙ rw (ln.again (length xs) (flat_map sa xs ++ rest) fits.0) (times_again FA sa ra la xs rest fits.1);
 }
 
 -- a byte string is as many bytes as it has

@@ -1,2 +1,2 @@
 pub mod Laws
-pub mod Loop
+pub mod TimesLoop

@@ -72,8 +72,8 @@ abbrev pub both : {A B F : Type 0} → Reading A F → Reading B F → Reading (
 both first second bytes = first bytes >>= λ x. second x.1 >>= λ y. Ok ((x.0, y.0), y.1)
 
 -- made into another value
-abbrev pub mapped : {A B F : Type 0} → (A → B) → Reading A F → Reading B F
-mapped f read bytes = read bytes >>= λ x. Ok (f x.0, x.1)
+abbrev pub reading_map : {A B F : Type 0} → (A → B) → Reading A F → Reading B F
+reading_map f read bytes = read bytes >>= λ x. Ok (f x.0, x.1)
 
 -- where a value is refused, its first byte is the fault's
 abbrev pub unless : {A : Type 0} → (A → Bool) → Reader A → Reader A
@@ -85,8 +85,8 @@ times read zero bytes = Ok ([], bytes)
 times read (suc n) bytes = read bytes >>= λ x. times read n x.1 >>= λ xs. Ok (x.0 ∷ xs.0, xs.1)
 
 -- a number of them, and then the values
-abbrev pub counted : {A F : Type 0} → Reading ℕ F → Reading A F → Reading (List A) F
-counted count read bytes = count bytes >>= λ n. times read n.0 n.1
+abbrev pub counted_list : {A F : Type 0} → Reading ℕ F → Reading A F → Reading (List A) F
+counted_list count read bytes = count bytes >>= λ n. times read n.0 n.1
 
 -- ---- what a function of the program gives
 

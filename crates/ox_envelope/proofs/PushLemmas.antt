@@ -3,7 +3,7 @@ use Rattle.std.proofs.Common.{◌≡◌, ℕ, zero, suc, ◌+◌, Bool, true, fa
 use Rattle.std.specs.Prelude.{is_some, slice_get}
 use Rattle.std.specs.List.{AllByRecursion, filter_map, cons_option}
 use Rattle.ox_script.specs.Script.{Instruction, Push, Op, IsPartOf, items_of, is_cut}
-use Rattle.ox_envelope.specs.Envelope.{Enveloped, IsPushOf, HasPushesOf, is_number, number_of, bytes_pushed, envelope_of, is_opening, stretch, is_end, envelope_at, envelopes_past, envelopes_among, envelopes}
+use Rattle.ox_envelope.specs.Envelope.{EnvelopePushes, IsPushOf, HasPushesOf, is_number, number_of, bytes_pushed, envelope_of, is_opening, stretch, is_end, envelope_at, envelopes_past, envelopes_among, envelopes}
 
 either : {X : Type 0} (P : X → Type 0) (test : Bool) (first second : X) → P first → P second → P (cond test first second)
 either P true first second holds_first holds_second = holds_first
@@ -37,7 +37,7 @@ all_envelopes script skipped [] all = tt
 all_envelopes script (suc skipped) (item ∷ items) all = all_envelopes script skipped items all.1
 all_envelopes script zero (item ∷ items) all =
     let inside = drop 2 items in
-    let Has : List Enveloped → Type 0 = λ found. AllByRecursion (HasPushesOf script) found in
+    let Has : List EnvelopePushes → Type 0 = λ found. AllByRecursion (HasPushesOf script) found in
     let whole = all_pushed script (stretch inside) (all_stretch script inside (all_drop (IsPartOf script) 2 items all.1)) in
     let here : Has (envelope_at inside) = either Has (is_end (slice_get inside (length (stretch inside)))) (envelope_of (stretch inside) ∷ []) [] (whole, tt) tt in
     let later = all_envelopes script (3 + length (stretch inside)) items all.1 in
@@ -48,5 +48,5 @@ pub all_in_script : (script : List ℕ) → AllByRecursion (IsPartOf script) (it
 unfolding envelopes_among
 all_in_script script parts = either (AllByRecursion (HasPushesOf script)) (is_cut script) [] (envelopes_past 0 (items_of script)) tt (all_envelopes script 0 (items_of script) parts)
 
-pub all_found : (script : List ℕ) (found : List Enveloped) → AllByRecursion (IsPartOf script) (items_of script) → found ≡ envelopes script → AllByRecursion (HasPushesOf script) found
-all_found script found parts is = subst (λ (found : List Enveloped). AllByRecursion (HasPushesOf script) found) (sym is) (all_in_script script parts)
+pub all_found : (script : List ℕ) (found : List EnvelopePushes) → AllByRecursion (IsPartOf script) (items_of script) → found ≡ envelopes script → AllByRecursion (HasPushesOf script) found
+all_found script found parts is = subst (λ (found : List EnvelopePushes). AllByRecursion (HasPushesOf script) found) (sym is) (all_in_script script parts)

@@ -10,7 +10,7 @@ use Rattle.ox_envelope.specs.declared.search.Opened.TheVariants.{Nothing, Empty,
 use Rattle.std.proofs.lemmas.List.{append_assoc, append-nil}
 use Rattle.std.proofs.lemmas.Bool.{cond-false, eqb-true, ne_eqb}
 use Rattle.ox_script.specs.Script.{Instruction, Push, Op}
-use Rattle.ox_envelope.specs.Envelope.{Enveloped, no_pushes, is_number, bytes_pushed, pushes_number, envelope_of, is_opening, stretch, is_end, envelope_at, envelopes_past, envelopes_among}
+use Rattle.ox_envelope.specs.Envelope.{EnvelopePushes, no_pushes, is_number, bytes_pushed, pushes_number, envelope_of, is_opening, stretch, is_end, envelope_at, envelopes_past, envelopes_among}
 use Rattle.ox_envelope.specs.Opening.{next_opened, with_more, envelopes_within}
 
 -- the items of an opening that stand before the next item
@@ -36,7 +36,7 @@ pub envelopes_among-nil : envelopes_among [] ≡ []
 unfolding envelopes_among
 envelopes_among-nil = refl
 
-chosen : (ends : Bool) (envelope : Enveloped) (after : List Enveloped) → cond ends (envelope ∷ []) [] ++ after ≡ cond ends (envelope ∷ after) after
+chosen : (ends : Bool) (envelope : EnvelopePushes) (after : List EnvelopePushes) → cond ends (envelope ∷ []) [] ++ after ≡ cond ends (envelope ∷ after) after
 chosen true envelope after = refl
 chosen false envelope after = refl
 
@@ -50,7 +50,7 @@ envelopes_among-opening rest =
     ap (λ envelopes. envelope_at rest ++ envelopes) after ∙ chosen (is_end (slice_get rest count)) (envelope_of (stretch rest)) (envelopes_among (drop (count + 1) rest))
 
 -- an item that pushes is one more push
-pushed_more : (before new : Enveloped) (item : Instruction) (bytes : List ℕ) (inside : List Instruction) → bytes_pushed item ≡ Some bytes
+pushed_more : (before new : EnvelopePushes) (item : Instruction) (bytes : List ℕ) (inside : List Instruction) → bytes_pushed item ≡ Some bytes
     → new.pushes ≡ before.pushes ++ bytes ∷ [] → new.has_number ≡ (before.has_number || pushes_number item) → with_more before (envelope_of (item ∷ stretch inside)) ≡ with_more new (envelope_of (stretch inside))
 pushed_more before new item bytes inside is pushes number =
     let all : before.pushes ++ filter_map bytes_pushed (item ∷ stretch inside) ≡ new.pushes ++ filter_map bytes_pushed (stretch inside) =
@@ -59,7 +59,7 @@ pushed_more before new item bytes inside is pushes number =
     sym (or_assoc before.has_number (pushes_number item) (list_any pushes_number (stretch inside))) ∙ ap (λ first. first || list_any pushes_number (stretch inside)) (sym number) in
     ap₂ (λ (pushes : List (List ℕ)) (number : Bool). record { pushes = pushes; has_number = number }) all some
 
-pub envelopes_within-push : (before new : Enveloped) (item : Instruction) (bytes : List ℕ) (inside : List Instruction) → bytes_pushed item ≡ Some bytes
+pub envelopes_within-push : (before new : EnvelopePushes) (item : Instruction) (bytes : List ℕ) (inside : List Instruction) → bytes_pushed item ≡ Some bytes
     → new.pushes ≡ before.pushes ++ bytes ∷ [] → new.has_number ≡ (before.has_number || pushes_number item) → envelopes_within before (item ∷ inside) ≡ envelopes_within new inside
 unfolding envelopes_within
 envelopes_within-push before new item bytes inside is pushes number =
@@ -71,11 +71,11 @@ envelopes_within-push before new item bytes inside is pushes number =
     ap (λ pushes. cond (is_end (slice_get (item ∷ inside) (length pushes))) (with_more before (envelope_of pushes) ∷ envelopes_among (drop (length pushes + 1) (item ∷ inside))) (envelopes_among (drop (length pushes + 1) (item ∷ inside)))) front
     ∙ ap₂ (λ first rest. cond (is_end (slice_get inside count)) (first ∷ rest) rest) same after
 
-with_more-nothing : (before : Enveloped) → with_more before (envelope_of []) ≡ before
+with_more-nothing : (before : EnvelopePushes) → with_more before (envelope_of []) ≡ before
 with_more-nothing before = ap₂ (λ (pushes : List (List ℕ)) (number : Bool). record { pushes = pushes; has_number = number }) (append-nil before.pushes) (or-false before.has_number)
 
 -- another opcode is the stop
-pub envelopes_within-stop : (before : Enveloped) (op : ℕ) (inside : List Instruction) → bytes_pushed (Op op) ≡ None
+pub envelopes_within-stop : (before : EnvelopePushes) (op : ℕ) (inside : List Instruction) → bytes_pushed (Op op) ≡ None
     → envelopes_within before (Op op ∷ inside) ≡ (if op == 0x68 then before ∷ envelopes_among inside else envelopes_among inside)
 unfolding envelopes_within
 envelopes_within-stop before op inside is =
@@ -83,7 +83,7 @@ envelopes_within-stop before op inside is =
     ap (λ pushes. cond (is_end (slice_get (Op op ∷ inside) (length pushes))) (with_more before (envelope_of pushes) ∷ envelopes_among (drop (length pushes + 1) (Op op ∷ inside))) (envelopes_among (drop (length pushes + 1) (Op op ∷ inside)))) front
     ∙ ap (λ first. cond (op == 0x68) (first ∷ envelopes_among inside) (envelopes_among inside)) (with_more-nothing before)
 
-pub envelopes_within-nil : (before : Enveloped) → envelopes_within before [] ≡ []
+pub envelopes_within-nil : (before : EnvelopePushes) → envelopes_within before [] ≡ []
 unfolding envelopes_within envelopes_among
 envelopes_within-nil before = refl
 
@@ -123,13 +123,13 @@ read_all If part = refl
 read_all Whole part = absurd (part refl)
 
 -- the same as a step of a loop: the items that are left begin with one more
-pub read_step : (opened next : Opened) (item : Instruction) (left rest : List Instruction) (all : List Enveloped) → envelopes_among (read_so_far opened ++ left) ≡ all → left ≡ item ∷ rest → opened ≢ Whole → next ≡ next_opened opened item
+pub read_step : (opened next : Opened) (item : Instruction) (left rest : List Instruction) (all : List EnvelopePushes) → envelopes_among (read_so_far opened ++ left) ≡ all → left ≡ item ∷ rest → opened ≢ Whole → next ≡ next_opened opened item
     → envelopes_among (read_so_far next ++ rest) ≡ all
 read_step opened next item left rest all so_far begins part is =
     ap (λ opened. envelopes_among (read_so_far opened ++ rest)) is ∙ sym (read_more opened item rest part) ∙ ap (λ left. envelopes_among (read_so_far opened ++ left)) (sym begins) ∙ so_far
 
 -- one more push, as a step of a loop
-pub push_step : (before new : Enveloped) (item : Instruction) (bytes : List ℕ) (left rest : List Instruction) (all : List Enveloped) → envelopes_within before left ≡ all → left ≡ item ∷ rest → bytes_pushed item ≡ Some bytes
+pub push_step : (before new : EnvelopePushes) (item : Instruction) (bytes : List ℕ) (left rest : List Instruction) (all : List EnvelopePushes) → envelopes_within before left ≡ all → left ≡ item ∷ rest → bytes_pushed item ≡ Some bytes
     → new.pushes ≡ before.pushes ++ bytes ∷ [] → new.has_number ≡ (before.has_number || pushes_number item) → envelopes_within new rest ≡ all
 push_step before new item bytes left rest all so_far begins is pushes number =
     sym (envelopes_within-push before new item bytes rest is pushes number) ∙ ap (envelopes_within before) (sym begins) ∙ so_far
@@ -139,22 +139,22 @@ pushes_number-op op bytes true is some = refl
 pushes_number-op op bytes false is some = let none : bytes_pushed (Op op) ≡ None = rw is refl in cc
 
 -- bytes of the script that are pushed
-pub bytes_step : (before new : Enveloped) (item : Instruction) (bytes : List ℕ) (left rest : List Instruction) (all : List Enveloped) → envelopes_within before left ≡ all → left ≡ item ∷ rest → item ≡ Push bytes
+pub bytes_step : (before new : EnvelopePushes) (item : Instruction) (bytes : List ℕ) (left rest : List Instruction) (all : List EnvelopePushes) → envelopes_within before left ≡ all → left ≡ item ∷ rest → item ≡ Push bytes
     → new.pushes ≡ before.pushes ++ bytes ∷ [] → new.has_number ≡ before.has_number → envelopes_within new rest ≡ all
 bytes_step before new item bytes left rest all so_far begins is pushes number =
     push_step before new (Push bytes) bytes left rest all so_far (begins ∙ ap (λ item. item ∷ rest) is) refl pushes (number ∙ sym (or-false before.has_number))
 
 -- a number that is pushed
-pub number_step : (before new : Enveloped) (item : Instruction) (op : ℕ) (bytes : List ℕ) (left rest : List Instruction) (all : List Enveloped) → envelopes_within before left ≡ all → left ≡ item ∷ rest → item ≡ Op op → Some bytes ≡ bytes_pushed (Op op)
+pub number_step : (before new : EnvelopePushes) (item : Instruction) (op : ℕ) (bytes : List ℕ) (left rest : List Instruction) (all : List EnvelopePushes) → envelopes_within before left ≡ all → left ≡ item ∷ rest → item ≡ Op op → Some bytes ≡ bytes_pushed (Op op)
     → new.pushes ≡ before.pushes ++ bytes ∷ [] → new.has_number ≡ true → envelopes_within new rest ≡ all
 number_step before new item op bytes left rest all so_far begins is some pushes number =
     let numbers = pushes_number-op op bytes (is_number op) refl (sym some) in
     push_step before new (Op op) bytes left rest all so_far (begins ∙ ap (λ item. item ∷ rest) is) (sym some) pushes (number ∙ sym (ap (λ number. before.has_number || number) numbers ∙ or-true before.has_number))
 
 -- OP_ENDIF ends the envelope
-pub end_step : (before : Enveloped) (item : Instruction) (op : ℕ) (left rest : List Instruction) (all : List Enveloped) → envelopes_within before left ≡ all → left ≡ item ∷ rest → item ≡ Op op → op ≡ 0x68 → all ≡ before ∷ envelopes_among rest
+pub end_step : (before : EnvelopePushes) (item : Instruction) (op : ℕ) (left rest : List Instruction) (all : List EnvelopePushes) → envelopes_within before left ≡ all → left ≡ item ∷ rest → item ≡ Op op → op ≡ 0x68 → all ≡ before ∷ envelopes_among rest
 end_step before item op left rest all so_far begins is ends = sym so_far ∙ ap (envelopes_within before) (begins ∙ ap (λ item. item ∷ rest) (is ∙ ap Op ends)) ∙ envelopes_within-stop before 0x68 rest refl
 
 -- another opcode voids it
-pub void_step : (before : Enveloped) (item : Instruction) (op : ℕ) (left rest : List Instruction) (all : List Enveloped) → envelopes_within before left ≡ all → left ≡ item ∷ rest → item ≡ Op op → None ≡ bytes_pushed (Op op) → op ≢ 0x68 → all ≡ envelopes_among rest
+pub void_step : (before : EnvelopePushes) (item : Instruction) (op : ℕ) (left rest : List Instruction) (all : List EnvelopePushes) → envelopes_within before left ≡ all → left ≡ item ∷ rest → item ≡ Op op → None ≡ bytes_pushed (Op op) → op ≢ 0x68 → all ≡ envelopes_among rest
 void_step before item op left rest all so_far begins is none other = sym so_far ∙ ap (envelopes_within before) (begins ∙ ap (λ item. item ∷ rest) is) ∙ envelopes_within-stop before op rest (sym none) ∙ cond-false _ _ _ (ne_eqb op 0x68 other)

@@ -6,13 +6,13 @@ use Rattle.std.specs.List.{AllByRecursion, list_any, filter_map}
 use Rattle.ox_script.specs.Script.{Instruction, Push, Op, StandsIn, items_of, is_cut}
 
 -- what an envelope has between its opening and its end
-pub record Enveloped : Type 0 where
+pub record EnvelopePushes : Type 0 where
   -- the bytes of each push
   pub pushes : List (List ℕ)
   -- whether one of them is by OP_1NEGATE or OP_1 to OP_16
   pub has_number : Bool
 
-abbrev pub no_pushes : Enveloped
+abbrev pub no_pushes : EnvelopePushes
 no_pushes = record { pushes = []; has_number = false }
 
 -- OP_1NEGATE and OP_1 to OP_16
@@ -32,7 +32,7 @@ abbrev pub pushes_number : Instruction → Bool
 pushes_number (Push bytes) = false
 pushes_number (Op op) = is_number op
 
-abbrev pub envelope_of : List Instruction → Enveloped
+abbrev pub envelope_of : List Instruction → EnvelopePushes
 envelope_of items =
     record { pushes = filter_map bytes_pushed items; has_number = list_any pushes_number items }
 
@@ -52,14 +52,14 @@ is_end (Some (Op op)) = op == 0x68
 is_end _ = false
 
 -- the envelope after an opening, if its stop is OP_ENDIF
-abbrev pub envelope_at : List Instruction → List Enveloped
+abbrev pub envelope_at : List Instruction → List EnvelopePushes
 envelope_at inside =
     if is_end (slice_get inside (length (stretch inside)))
     then envelope_of (stretch inside) ∷ [] else []
 
 -- the envelopes whose opening begins after so many items. Behind an opening the next one is looked
 -- for after the stop.
-abbrev pub envelopes_past : ℕ → List Instruction → List Enveloped
+abbrev pub envelopes_past : ℕ → List Instruction → List EnvelopePushes
 envelopes_past _ [] = []
 envelopes_past (suc skipped) (item ∷ items) = envelopes_past skipped items
 envelopes_past zero (item ∷ items) =
@@ -68,11 +68,11 @@ envelopes_past zero (item ∷ items) =
     else envelopes_past zero items
 
 -- the envelopes among these items
-unfoldable pub envelopes_among : List Instruction → List Enveloped
+unfoldable pub envelopes_among : List Instruction → List EnvelopePushes
 envelopes_among items = envelopes_past 0 items
 
 -- the envelopes of a script. One that is cut short has none.
-abbrev pub envelopes : List ℕ → List Enveloped
+abbrev pub envelopes : List ℕ → List EnvelopePushes
 envelopes script = if is_cut script then [] else envelopes_among (items_of script)
 
 -- a push of an envelope is a part of the script, or the byte of OP_1NEGATE or of one of OP_1 to
@@ -81,5 +81,5 @@ abbrev pub IsPushOf : List ℕ → List ℕ → Type 0
 IsPushOf script bytes =
     StandsIn script bytes ⊎ ((op : ℕ) × (is_number op ≡ true) × (bytes ≡ number_of op ∷ []))
 
-abbrev pub HasPushesOf : List ℕ → Enveloped → Type 0
+abbrev pub HasPushesOf : List ℕ → EnvelopePushes → Type 0
 HasPushesOf script envelope = AllByRecursion (IsPushOf script) envelope.pushes

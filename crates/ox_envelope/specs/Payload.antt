@@ -3,7 +3,7 @@ use Rattle.std.specs.Prelude.{ℕ, ◌+◌, ◌%◌, Bool, true, false, not, ◌
 use Rattle.std.specs.Prelude.{length, is_some, Option, Some, None, option_map, ◌==◌, nat_lt}
 use Rattle.std.specs.Prelude.{bytes_eq, if◌then◌else◌}
 use Rattle.std.specs.List.{list_any, filter_map, concat}
-use Rattle.ox_envelope.specs.Envelope.{Enveloped}
+use Rattle.ox_envelope.specs.Envelope.{EnvelopePushes}
 use Rattle.ox_envelope.specs.Id.{id_of_value}
 use Rattle.ox_envelope.specs.Tag as tag
 use Rattle.ox_envelope.specs.declared.inscribed.Inscribed.{Inscribed}
@@ -110,7 +110,7 @@ marks_of all incomplete number =
     + bit number tag.number_mark
 
 -- what an envelope says
-abbrev pub inscribed_of : Enveloped → Inscribed
+abbrev pub inscribed_of : EnvelopePushes → Inscribed
 inscribed_of envelope =
     let all = fields envelope.pushes in
     record {

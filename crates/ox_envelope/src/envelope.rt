@@ -15,9 +15,9 @@ pub struct Envelope<'a> {
 
 impl<'a> Model for Envelope<'a> {
     ghost use Rattle.std.specs.Prelude.{map};
-    ghost use Rattle.ox_envelope.specs.Envelope.{Enveloped};
+    ghost use Rattle.ox_envelope.specs.Envelope.{EnvelopePushes};
 
-    ghost Value = { Enveloped };
+    ghost Value = { EnvelopePushes };
 
     ghost view = { λ e. record {
       pushes = map (λ p. p.now) e.items.items;
@@ -80,9 +80,9 @@ pub struct Envelopes<'a> {
 
 impl<'a> Model for Envelopes<'a> {
     ghost use Rattle.std.specs.Prelude.{List};
-    ghost use Rattle.ox_envelope.specs.Envelope.{Enveloped};
+    ghost use Rattle.ox_envelope.specs.Envelope.{EnvelopePushes};
 
-    ghost Value = { List Enveloped };
+    ghost Value = { List EnvelopePushes };
 
     ghost view = { λ e. e.items.items };
 }

@@ -4,7 +4,7 @@ ghost use Rattle.std.specs.Prelude.{◌≡◌, ◌≢◌, ◌∷◌, ◌++◌, �
 ghost use Rattle.std.specs.Prelude.{map, IfOk, option_to_list, option_map};
 ghost use Rattle.std.specs.List.{AllByRecursion};
 ghost use Rattle.std.specs.Bool.{OnTrue, OnFalse};
-ghost use Rattle.ox_script.specs.Script.{Op, seen};
+ghost use Rattle.ox_script.specs.Script.{Op, instruction_of};
 ghost use Rattle.ox_envelope.specs.Envelope.{bytes_pushed, envelopes_among, envelopes, no_pushes};
 ghost use Rattle.ox_envelope.specs.Envelope.{HasPushesOf};
 ghost use Rattle.ox_envelope.specs.Opening.{next_opened, envelopes_within};
@@ -35,7 +35,7 @@ enum Opened {
 /// How much of an opening stands after an item. An item that breaks an opening may begin another.
 #[inline(always)]
 fn next_opened(opened: Opened, item: Item<'_>) -> Opened
-    ensures { result ≡ next_opened opened (seen item.entry) }
+    ensures { result ≡ next_opened opened (instruction_of item.entry) }
 {
     match item {
         Item::Push([]) => Opened::Empty,

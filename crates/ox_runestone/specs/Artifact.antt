@@ -31,9 +31,9 @@ are_flawed outputs fields =
 abbrev pub cenotaph_of : List Field → Artifact
 cenotaph_of fields = Cenotaph (mint_in fields) (name_in (etching_of (first_of fields)))
 
-abbrev pub judged : ℕ → List Field → Bool → Option (List Edict) → Artifact
-judged outputs fields lone None = cenotaph_of fields
-judged outputs fields lone (Some edicts) =
+abbrev pub artifact_from : ℕ → List Field → Bool → Option (List Edict) → Artifact
+artifact_from outputs fields lone None = cenotaph_of fields
+artifact_from outputs fields lone (Some edicts) =
     if lone || are_flawed outputs fields then cenotaph_of fields
     else Stone (record {
       etching = etching_of (first_of fields);
@@ -44,7 +44,7 @@ judged outputs fields lone (Some edicts) =
 
 abbrev pub of_message : ℕ → Message → Artifact
 of_message outputs message =
-    judged outputs message.fields message.lone (edicts_of outputs message.body)
+    artifact_from outputs message.fields message.lone (edicts_of outputs message.body)
 
 -- without integers there is neither an etching nor a mint
 abbrev pub of_integers : ℕ → Option (List ℕ) → Artifact

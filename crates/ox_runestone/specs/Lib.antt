@@ -1,9 +1,9 @@
 pub mod Payload
 pub mod Message
-pub mod Seen
+pub mod ValuesKept
 pub mod Fields
 pub mod Artifact
 pub mod Causes
-pub mod Kept
+pub mod FieldsKept
 pub mod Spelling
 pub mod Tags

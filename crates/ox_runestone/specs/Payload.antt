@@ -19,14 +19,14 @@ before bytes None = None
 before bytes (Some more) = Some (bytes ++ more)
 
 -- the pushes of items without any other opcode, joined
-abbrev pub joined : List Instruction → Option (List ℕ)
-joined [] = Some []
-joined (Push bytes ∷ items) = before bytes (joined items)
-joined (Op op ∷ items) = None
+abbrev pub joined_pushes : List Instruction → Option (List ℕ)
+joined_pushes [] = Some []
+joined_pushes (Push bytes ∷ items) = before bytes (joined_pushes items)
+joined_pushes (Op op ∷ items) = None
 
 -- what is pushed behind the first two items
 unfoldable pub payload_of : List ℕ → Option (List ℕ)
-payload_of script = if is_cut script then None else joined (drop 2 (items_of script))
+payload_of script = if is_cut script then None else joined_pushes (drop 2 (items_of script))
 
 -- an integer before others, or none where no integer stands there
 abbrev pub integer_before : Result (ℕ × ℕ) VarintFault → Option (List ℕ) → Option (List ℕ)

@@ -54,9 +54,9 @@ fields_of stone =
     etching_pairs stone.etching ++ (mint_pairs stone.mint ++ pair pointer_tag stone.pointer)
 
 -- tags and values in turn
-abbrev pub laid : List Field → List ℕ
-laid [] = []
-laid (field ∷ fields) = field.0 ∷ field.1 ∷ laid fields
+abbrev pub tags_and_values : List Field → List ℕ
+tags_and_values [] = []
+tags_and_values (field ∷ fields) = field.0 ∷ field.1 ∷ tags_and_values fields
 
 -- edicts in fours, behind an id
 abbrev pub deltas : RuneId → List Edict → List ℕ
@@ -72,7 +72,7 @@ body_for [] = []
 body_for (edict ∷ edicts) = 0 ∷ deltas (record { block = 0; tx = 0 }) (edict ∷ edicts)
 
 abbrev pub integers_for : Runestone → List ℕ
-integers_for stone = laid (fields_of stone) ++ body_for stone.edicts
+integers_for stone = tags_and_values (fields_of stone) ++ body_for stone.edicts
 
 abbrev pub payload_for : Runestone → List ℕ
 payload_for stone = flat_map varint (integers_for stone)
@@ -97,7 +97,7 @@ pushed_chunks (chunk ∷ chunks) = push chunk ++ pushed_chunks chunks
 
 -- what a list of fields spells
 abbrev pub text_of : List Field → List ℕ
-text_of fields = flat_map varint (laid fields)
+text_of fields = flat_map varint (tags_and_values fields)
 
 -- the payload in pushes of at most 520 bytes, the most that one may push
 pub record IsPushed (text payload : List ℕ) : Type 0 where

@@ -3,7 +3,7 @@
 ghost use Rattle.std.specs.Prelude.{◌≡◌, ◌<◌, ◌≤◌, ◌^◌, List};
 ghost use Rattle.std.specs.Option.{ForSome};
 ghost use Rattle.ox_runestone.specs.Message.{Field};
-ghost use Rattle.ox_runestone.specs.Seen.{kept_at, Holds};
+ghost use Rattle.ox_runestone.specs.ValuesKept.{values_at, IsKeptOf};
 ghost use Rattle.ox_runestone.specs.Fields.{
   flags_of,
   is_etching,
@@ -18,7 +18,7 @@ ghost use Rattle.ox_runestone.specs.Fields.{
   overflows,
   count_taken,
 };
-ghost use Rattle.ox_runestone.specs.Kept.{firsts_in, mint_kept, supply_of, SaysWhatIsLeft};
+ghost use Rattle.ox_runestone.specs.FieldsKept.{firsts_in, mint_kept, supply_of, SaysWhatIsLeft};
 
 use crate::message::{Fields, id_of};
 use crate::stone::{Etching, RuneId, Terms};
@@ -153,7 +153,7 @@ impl Fields {
 
     /// The rune that is minted.
     pub(crate) fn mint(&self) -> Option<RuneId>
-        ensures { result ≡ mint_of (kept_at self.now 20).first (kept_at self.now 20).second }
+        ensures { result ≡ mint_of (values_at self.now 20).first (values_at self.now 20).second }
     {
         let values = self.values[MINT];
         id_of(values.first?, values.second?)

@@ -3,7 +3,7 @@
 ghost use Rattle.std.specs.Prelude.{◌≡◌, ◌≤◌, ◌<◌, ◌^◌, [], length, All, IfOk};
 ghost use Rattle.std.specs.Option.{option_map};
 ghost use Rattle.ox_runestone.specs.Message.{message_of, id_of, id_after, edicts_of};
-ghost use Rattle.ox_runestone.specs.Seen.{pushed, added, leaves_in, Holds};
+ghost use Rattle.ox_runestone.specs.ValuesKept.{with_value, with_field, leaves_in, IsKeptOf};
 
 use crate::stone::{Edict, RuneId};
 use ox_bytes::Memory;
@@ -30,7 +30,7 @@ impl Values {
 
     /// These and another.
     fn with(self, value: u128) -> Values
-        ensures { result ≡ pushed self value }
+        ensures { result ≡ with_value self value }
     {
         match (self.first, self.second) {
             (None, _) => Values {
@@ -74,7 +74,7 @@ pub(crate) struct Fields {
 impl Fields {
     /// No values.
     fn none() -> Fields
-        ensures { Holds result [] }
+        ensures { IsKeptOf result [] }
     {
         Fields {
             values: [Values::NONE; TAGS],
@@ -84,7 +84,7 @@ impl Fields {
 
     /// Adds a tag and its value.
     fn add(&mut self, tag: u128, value: u128)
-        ensures { self.new ≡ added self.old tag value }
+        ensures { self.new ≡ with_field self.old tag value }
     {
         if tag < TAGS as u128 {
             let place = tag as usize;
@@ -108,7 +108,7 @@ pub(crate) struct Message<'a> {
 
 /// Reads tags and values in turn, up to the tag 0.
 pub(crate) fn message_of(integers: &[u128]) -> Message<'_>
-    ensures fields { Holds result.fields (message_of integers.now).fields }
+    ensures fields { IsKeptOf result.fields (message_of integers.now).fields }
     ensures lone { result.lone ≡ (message_of integers.now).lone }
     ensures body { result.body.now ≡ (message_of integers.now).body }
     ensures small { All (λ n. n < 2 ^ 128) integers.now }

@@ -3,11 +3,11 @@
 ghost use Rattle.std.specs.Prelude.{◌≡◌, List, IfOk, true};
 ghost use Rattle.std.specs.Option.{option_map};
 ghost use Rattle.ox_runestone.specs.Message.{Field};
-ghost use Rattle.ox_runestone.specs.Seen.{Holds};
+ghost use Rattle.ox_runestone.specs.ValuesKept.{IsKeptOf};
 ghost use Rattle.ox_runestone.specs.Payload.{is_stone};
 ghost use Rattle.ox_runestone.specs.Artifact.{name_in, artifact_of};
 ghost use Rattle.ox_runestone.specs.Spelling.{EdictsDontFall, StoneCanCome};
-ghost use Rattle.ox_runestone.specs.Kept.{IsCenotaphOf, IsJudgedOf, SaysWhetherFlawed};
+ghost use Rattle.ox_runestone.specs.FieldsKept.{IsCenotaphOf, IsArtifactOf, SaysWhetherFlawed};
 
 use crate::fields::overflows;
 use crate::message::{Fields, edicts_of, message_of};
@@ -57,7 +57,7 @@ fn are_flawed(fields: &Fields, outputs: u32) -> bool
 
 /// The artifact of a message.
 fn judge(fields: &Fields, lone: bool, edicts: Option<Vec<Edict>>, outputs: u32) -> Artifact
-    ensures { IsJudgedOf fields.now lone (option_map (λ v. v.items) edicts) outputs result }
+    ensures { IsArtifactOf fields.now lone (option_map (λ v. v.items) edicts) outputs result }
 {
     let Some(edicts) = edicts else {
         return cenotaph(fields);

@@ -10,9 +10,9 @@ pub data Instruction : Type 0 where
   Op : ℕ → Instruction
 
 -- an item as plain data
-abbrev pub seen : Item → Instruction
-seen (item.Push bytes) = Push bytes.now
-seen (item.Op op) = Op op
+abbrev pub instruction_of : Item → Instruction
+instruction_of (item.Push bytes) = Push bytes.now
+instruction_of (item.Op op) = Op op
 
 -- the number that bytes spell, the lowest byte first
 abbrev pub little_endian : List ℕ → ℕ
@@ -76,7 +76,7 @@ GivesItem old None new =
     (old.left ≡ []) × (new.left ≡ []) × (new.ends_cut ≡ old.ends_cut)
     × (new.met_cut ≡ old.ends_cut)
 GivesItem old (Some item) new =
-    (old.left ≡ seen item ∷ new.left) × (new.ends_cut ≡ old.ends_cut)
+    (old.left ≡ instruction_of item ∷ new.left) × (new.ends_cut ≡ old.ends_cut)
     × (new.met_cut ≡ old.met_cut)
 
 -- the items still to come

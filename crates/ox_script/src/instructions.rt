@@ -4,7 +4,8 @@ ghost use Rattle.std.specs.Prelude.{◌≡◌, ◌∷◌, ◌<◌, ◌≤◌, �
 ghost use Rattle.std.specs.Prelude.{map, IfSome, IfNone};
 ghost use Rattle.std.specs.List.{AllByRecursion};
 ghost use Rattle.ox_script.specs.Form.{Form, item_of, Splits, HasSplit, is_some_byte};
-ghost use Rattle.ox_script.specs.Script.{seen, width_of, count_of, items_of, is_cut, IsPartOf};
+ghost use Rattle.ox_script.specs.Script.{instruction_of, width_of, count_of, items_of, is_cut};
+ghost use Rattle.ox_script.specs.Script.{IsPartOf};
 
 use std::marker::Model;
 
@@ -58,7 +59,8 @@ fn split_length(op: u8, rest: &[u8]) -> Option<(usize, &[u8])>
 fn split_item(op: u8, rest: &[u8]) -> Option<(Item<'_>, &[u8])>
     ensures cut { IfNone result (
         (items_of (op ∷ rest.now) ≡ []) × (is_cut (op ∷ rest.now) ≡ true)) }
-    ensures items { IfSome result (λ r. items_of (op ∷ rest.now) ≡ seen r.0 ∷ items_of r.1.now) }
+    ensures items { IfSome result (
+        λ r. items_of (op ∷ rest.now) ≡ instruction_of r.0 ∷ items_of r.1.now) }
     ensures whole { IfSome result (λ r. is_cut (op ∷ rest.now) ≡ is_cut r.1.now) }
 {
     if op > OP_PUSHDATA4 {

@@ -1,3 +1,3 @@
-pub mod Reading
-pub mod Writing
-pub mod Laws
+pub mod ReadLoop
+pub mod WriteLoop
+pub mod GrammarLaws

@@ -2,7 +2,7 @@ use Rattle.std.proofs.Common.{◌≡◌, ℕ, ◌<◌, ◌≤◌, List, length, 
 use Rattle.std.specs.Prelude.{IfOk}
 use Rattle.ox_varint.specs.declared.VarintFault.{VarintFault}
 use Rattle.ox_varint.specs.Varint.{IsVarint, varint_at, varint_within}
-use Rattle.ox_varint.proofs.Laws.{Found, IsBytes, is_found, is_read, truncated, truncates, overflowed, overflows}
+use Rattle.ox_varint.proofs.GrammarLaws.{Found, IsBytes, is_found, is_read, truncated, truncates, overflowed, overflows}
 use Rattle.ox_varint.proofs.read.Goals as goal
 
 found_in : (bytes : List ℕ) (r : Result (ℕ × ℕ) VarintFault) → IsBytes bytes → r ≡ varint_at bytes → IfOk r (λ x. Found 18 bytes x.0 x.1)

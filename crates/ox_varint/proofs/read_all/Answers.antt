@@ -1,6 +1,6 @@
 use Rattle.std.proofs.Common.{◌≡◌, ◌≤◌, sym, refl, lit<, slice_index_or, arith}
 use Rattle.ox_varint.specs.Varint.{varint_at, varint_within}
-use Rattle.ox_varint.proofs.Reading.{shifted, below_all, below_more, ends_here, reads_none, reads_on}
+use Rattle.ox_varint.proofs.ReadLoop.{shifted, below_all, below_more, ends_here, reads_none, reads_on}
 use Rattle.ox_varint.proofs.read_all.Goals as goal
 use Rattle.ox_varint.proofs.read_all.Goals.{else-place-via-then-place+else-byte-gt-LAST_MAX, else-place-via-else-place}
 

@@ -1,6 +1,6 @@
 use Rattle.std.proofs.Common.{◌≡◌, ◌<◌, ◌≤◌, ◌^◌, ◌-◌, ◌*◌, drop}
 use Rattle.ox_varint.specs.Varint.{varint_at, varint_within}
-use Rattle.ox_varint.proofs.Reading.{with_front}
+use Rattle.ox_varint.proofs.ReadLoop.{with_front}
 use Rattle.ox_varint.proofs.read_all.Given as goal
 
 abbrev pub invariant-loop-place : goal.invariant-loop-place

@@ -1,7 +1,7 @@
 use Rattle.std.proofs.Common.{◌≡◌, ℕ, List, ◌++◌, length, take, subst, sym, ap, ◌∙◌, arith}
 use Rattle.std.proofs.lemmas.List.{take_at}
 use Rattle.ox_varint.specs.Varint.{IsVarint, IsShortest, varint}
-use Rattle.ox_varint.proofs.Laws.{varint-is, varint-shortest}
+use Rattle.ox_varint.proofs.GrammarLaws.{varint-is, varint-shortest}
 use Rattle.ox_varint.proofs.write.Goals as goal
 
 -- the bytes in front are the spelling

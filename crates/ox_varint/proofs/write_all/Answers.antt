@@ -1,7 +1,7 @@
 use Rattle.std.proofs.Common.{◌<◌, refl, arith, inl, inr}
 use Rattle.std.proofs.lemmas.Bool.{cases_lt}
 use Rattle.ox_varint.specs.Varint.{varint}
-use Rattle.ox_varint.proofs.Writing.{writes_on, stays_behind, finishes, rest_below, none_left}
+use Rattle.ox_varint.proofs.WriteLoop.{writes_on, stays_behind, finishes, rest_below, none_left}
 use Rattle.ox_varint.proofs.write_all.Goals as goal
 
 pub loop-rest-init : goal.loop-rest-init

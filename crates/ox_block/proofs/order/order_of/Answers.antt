@@ -1,6 +1,6 @@
 use Rattle.std.proofs.Common.{◌∙◌, sym, ap, rules}
 use Rattle.std.specs.Ordering.{nat_cmp}
-use Rattle.ox_block.proofs.Fronts.{fronts_decide}
+use Rattle.ox_block.proofs.FrontsDecideOrder.{fronts_decide}
 use Rattle.ox_block.proofs.order.order_of.Goals as goal
 
 pub returns-else-my_front-other_front : goal.returns-else-my_front-other_front

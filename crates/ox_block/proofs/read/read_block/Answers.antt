@@ -2,7 +2,7 @@ use Rattle.std.proofs.Common.{ap, subst, ◌∙◌, arith}
 use Rattle.ox_block.specs.Answer.{Gives}
 use Rattle.ox_block.specs.Reading.{block_of}
 use Rattle.ox_block.proofs.BlockLaws.{is_found, block_again}
-use Rattle.ox_block.proofs.Places.{is_told}
+use Rattle.ox_block.proofs.FirstFaultIsRead.{is_told}
 use Rattle.ox_block.proofs.read.read_block.Goals as goal
 
 pub returns-clause-found : goal.returns-clause-found

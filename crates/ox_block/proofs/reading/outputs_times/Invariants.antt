@@ -1,6 +1,6 @@
 use Rattle.std.proofs.Common.{◌≡◌, ◌-◌}
 use Rattle.ox_block.specs.Reading.{outputs_of}
-use Rattle.ox_bytes.proofs.Loop.{with_front}
+use Rattle.ox_bytes.proofs.TimesLoop.{with_front}
 use Rattle.ox_block.proofs.reading.outputs_times.Given as goal
 
 -- those so far and those to come are all

@@ -1,7 +1,7 @@
 use Rattle.std.proofs.Common.{arith}
 use Rattle.std.proofs.lemmas.Result.{err_from_is_err_and}
 use Rattle.ox_block.specs.Reading.{stacks_of}
-use Rattle.ox_block.proofs.Loops.{stacks_go_on, stacks_end, stacks_done}
+use Rattle.ox_block.proofs.ReadLoops.{stacks_go_on, stacks_end, stacks_done}
 use Rattle.ox_block.proofs.reading.stacks_into.Goals as goal
 
 pub returns-in_err-witness : goal.returns-in_err-witness

@@ -1,6 +1,6 @@
 use Rattle.std.proofs.Common.{◌≡◌, take, drop}
 use Rattle.ox_block.specs.Reading.{stacks_of}
-use Rattle.ox_bytes.proofs.Loop.{with_front}
+use Rattle.ox_bytes.proofs.TimesLoop.{with_front}
 use Rattle.ox_block.proofs.reading.stacks_into.Given as goal
 
 -- those so far and those to come are all

@@ -1,6 +1,6 @@
 use Rattle.std.proofs.lemmas.Result.{err_from_is_err_and}
 use Rattle.ox_bytes.specs.Reading.{string_at, times}
-use Rattle.ox_bytes.proofs.Loop.{goes_on, ends, is_done}
+use Rattle.ox_bytes.proofs.TimesLoop.{goes_on, ends, is_done}
 use Rattle.ox_block.proofs.reading.strings_times.Goals as goal
 
 pub returns-in_err-string : goal.returns-in_err-string

@@ -1,7 +1,7 @@
 use Rattle.std.proofs.lemmas.Result.{err_from_is_err_and}
 use Rattle.ox_bytes.specs.Reading.{times}
 use Rattle.ox_block.specs.Reading.{tx_at}
-use Rattle.ox_bytes.proofs.Loop.{goes_on, ends, is_done}
+use Rattle.ox_bytes.proofs.TimesLoop.{goes_on, ends, is_done}
 use Rattle.ox_block.proofs.reading.txs_times.Goals as goal
 
 pub returns-in_err-tx : goal.returns-in_err-tx

@@ -1,7 +1,7 @@
 use Rattle.std.proofs.Common.{◌≡◌, ◌-◌}
 use Rattle.ox_bytes.specs.Reading.{times}
 use Rattle.ox_block.specs.Reading.{tx_at}
-use Rattle.ox_bytes.proofs.Loop.{with_front}
+use Rattle.ox_bytes.proofs.TimesLoop.{with_front}
 use Rattle.ox_block.proofs.reading.txs_times.Given as goal
 
 -- those so far and those to come are all

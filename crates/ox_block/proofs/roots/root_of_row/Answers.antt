@@ -1,6 +1,6 @@
 use Rattle.std.proofs.Common.{length, ◌∙◌, ap, arith}
 use Rattle.ox_block.specs.Hashes.{root_of, next_row}
-use Rattle.ox_block.proofs.Rows.{length-paired, root_above, root_only, is_root}
+use Rattle.ox_block.proofs.RowsOfHashes.{length-paired, root_above, root_only, is_root}
 use Rattle.ox_block.proofs.roots.root_of_row.Goals as goal
 
 pub returns-then-hashes-eq1 : goal.returns-then-hashes-eq1

@@ -1,6 +1,6 @@
 use Rattle.std.proofs.Common.{arith}
 use Rattle.ox_block.specs.Hashes.{next_row}
-use Rattle.ox_block.proofs.Rows.{pair_put, last_put, none_left}
+use Rattle.ox_block.proofs.RowsOfHashes.{pair_put, last_put, none_left}
 use Rattle.ox_block.proofs.roots.row_above.Goals as goal
 
 pub returns-in-empty : goal.returns-in-empty

@@ -2,7 +2,7 @@ use Rattle.std.proofs.Common.{◌++◌, ◌∷◌, [], subst}
 use Rattle.std.specs.Int.{w32, to_le_bytes}
 use Rattle.ox_block.specs.Spelling.{inputs, outputs, stacks}
 use Rattle.ox_block.specs.Putting.{Puts}
-use Rattle.ox_block.proofs.Puts.{puts_then, puts_last}
+use Rattle.ox_block.proofs.PiecesInTurn.{puts_then, puts_last}
 use Rattle.ox_block.proofs.spelling.put_extended.Goals as goal
 
 pub returns : goal.returns

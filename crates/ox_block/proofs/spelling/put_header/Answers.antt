@@ -1,6 +1,6 @@
 use Rattle.std.proofs.Common.{◌++◌}
 use Rattle.std.specs.Int.{w32, to_le_bytes}
-use Rattle.ox_block.proofs.Puts.{puts_then, puts_last}
+use Rattle.ox_block.proofs.PiecesInTurn.{puts_then, puts_last}
 use Rattle.ox_block.proofs.spelling.put_header.Goals as goal
 
 pub returns : goal.returns

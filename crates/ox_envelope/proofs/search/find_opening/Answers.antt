@@ -1,5 +1,5 @@
 use Rattle.std.proofs.Common.{◌++◌, length, sym, ap, ◌∙◌, arith}
-use Rattle.ox_script.specs.Script.{seen}
+use Rattle.ox_script.specs.Script.{instruction_of}
 use Rattle.ox_envelope.specs.Envelope.{envelopes_among}
 use Rattle.ox_envelope.proofs.SearchLemmas.{read_so_far}
 use Rattle.ox_envelope.proofs.SearchLemmas.{read_step, read_all, envelopes_among-opening}
@@ -8,14 +8,14 @@ use Rattle.ox_envelope.proofs.search.find_opening.Goals as goal
 pub returns-in-Whole-clause-found : goal.returns-in-Whole-clause-found
 returns-in-Whole-clause-found c =
     let loop = c.loop-item in
-    let step = read_step loop.opened _ (seen c.in-Some.item) loop.items.left c.next.new.self.left _ loop.invariant.all c.in-Some.ensures.steps.0 loop.invariant.part c.in-Whole.ensures in
+    let step = read_step loop.opened _ (instruction_of c.in-Some.item) loop.items.left c.next.new.self.left _ loop.invariant.all c.in-Some.ensures.steps.0 loop.invariant.part c.in-Whole.ensures in
     sym step ∙ envelopes_among-opening c.next.new.self.left
 
 pub loop-item-preserved : goal.loop-item-preserved
 loop-item-preserved c =
     let loop = c.loop-item in
     record {
-      all = read_step loop.opened _ (seen c.in-Some.item) loop.items.left c.next.new.self.left _ loop.invariant.all c.in-Some.ensures.steps.0 loop.invariant.part c.next_opened-opened.ensures;
+      all = read_step loop.opened _ (instruction_of c.in-Some.item) loop.items.left c.next.new.self.left _ loop.invariant.all c.in-Some.ensures.steps.0 loop.invariant.part c.next_opened-opened.ensures;
       part = c.in_default-opened.not-Whole;
       fewer = omega (arith, ap length c.in-Some.ensures.steps.0, loop.invariant.fewer);
       ends = c.in-Some.ensures.steps.1 ∙ loop.invariant.ends;

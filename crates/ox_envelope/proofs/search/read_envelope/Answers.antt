@@ -1,5 +1,5 @@
 use Rattle.std.proofs.Common.{length, sym, ap, ◌∙◌, arith}
-use Rattle.ox_script.specs.Script.{seen}
+use Rattle.ox_script.specs.Script.{instruction_of}
 use Rattle.ox_envelope.specs.Opening.{envelopes_within}
 use Rattle.ox_envelope.proofs.SearchLemmas.{bytes_step, number_step, end_step, void_step, envelopes_within-nil, envelopes_among-nil}
 use Rattle.ox_envelope.specs.Envelope.{envelopes_among}
@@ -10,7 +10,7 @@ loop-item-preserved-in-Continue-1 c =
     let loop = c.loop-item in
     let pushed = c.in_ok-push-in-Push.ensures in
     record {
-      all = bytes_step loop.envelope c.push.new.self (seen c.in-Some.item) c.in-Push.bytes.now loop.items.left c.next.new.self.left _ loop.invariant.all c.in-Some.ensures.steps.0 (ap seen c.in-Push.is) pushed.pushes pushed.number;
+      all = bytes_step loop.envelope c.push.new.self (instruction_of c.in-Some.item) c.in-Push.bytes.now loop.items.left c.next.new.self.left _ loop.invariant.all c.in-Some.ensures.steps.0 (ap instruction_of c.in-Push.is) pushed.pushes pushed.number;
       fewer = omega (arith, ap length c.in-Some.ensures.steps.0, loop.invariant.fewer);
       ends = c.in-Some.ensures.steps.1 ∙ loop.invariant.ends;
     }
@@ -20,7 +20,7 @@ loop-item-preserved c =
     let loop = c.loop-item in
     let pushed = c.in_ok-push_number-in-Some-number_pushed.ensures in
     record {
-      all = number_step loop.envelope c.push_number.new.self (seen c.in-Some.item) c.in-Op.op c.in-Some-number_pushed.byte.now loop.items.left c.next.new.self.left _ loop.invariant.all c.in-Some.ensures.steps.0 (ap seen c.in-Op.is) c.in-Some-number_pushed.ensures pushed.pushes pushed.number;
+      all = number_step loop.envelope c.push_number.new.self (instruction_of c.in-Some.item) c.in-Op.op c.in-Some-number_pushed.byte.now loop.items.left c.next.new.self.left _ loop.invariant.all c.in-Some.ensures.steps.0 (ap instruction_of c.in-Op.is) c.in-Some-number_pushed.ensures pushed.pushes pushed.number;
       fewer = omega (arith, ap length c.in-Some.ensures.steps.0, loop.invariant.fewer);
       ends = c.in-Some.ensures.steps.1 ∙ loop.invariant.ends;
     }
@@ -28,12 +28,12 @@ loop-item-preserved c =
 pub returns-in-None-clause-found : goal.returns-in-None-clause-found
 returns-in-None-clause-found c =
     let loop = c.loop-item in
-    end_step loop.envelope (seen c.in-Some.item) c.in-Op.op loop.items.left c.next.new.self.left _ loop.invariant.all c.in-Some.ensures.steps.0 (ap seen c.in-Op.is) c.if-op-eq-OP_ENDIF.true
+    end_step loop.envelope (instruction_of c.in-Some.item) c.in-Op.op loop.items.left c.next.new.self.left _ loop.invariant.all c.in-Some.ensures.steps.0 (ap instruction_of c.in-Op.is) c.if-op-eq-OP_ENDIF.true
 
 pub returns-in-None-2-clause-found : goal.returns-in-None-2-clause-found
 returns-in-None-2-clause-found c =
     let loop = c.loop-item in
-    void_step loop.envelope (seen c.in-Some.item) c.in-Op.op loop.items.left c.next.new.self.left _ loop.invariant.all c.in-Some.ensures.steps.0 (ap seen c.in-Op.is) c.in-None-2.ensures c.if-op-eq-OP_ENDIF.false
+    void_step loop.envelope (instruction_of c.in-Some.item) c.in-Op.op loop.items.left c.next.new.self.left _ loop.invariant.all c.in-Some.ensures.steps.0 (ap instruction_of c.in-Op.is) c.in-None-2.ensures c.if-op-eq-OP_ENDIF.false
 
 pub returns-clause-found : goal.returns-clause-found
 returns-clause-found c =

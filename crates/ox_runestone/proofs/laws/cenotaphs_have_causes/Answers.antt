@@ -1,5 +1,5 @@
 use Rattle.std.proofs.Common.{arith}
-use Rattle.ox_runestone.proofs.Cenotaphs.{cause_cenotaph, cenotaph_cause}
+use Rattle.ox_runestone.proofs.CenotaphsHaveCauses.{cause_cenotaph, cenotaph_cause}
 use Rattle.ox_runestone.proofs.laws.cenotaphs_have_causes.Goals as goal
 
 pub returns-clause-cause : goal.returns-clause-cause

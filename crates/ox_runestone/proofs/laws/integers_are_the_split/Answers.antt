@@ -1,5 +1,5 @@
 use Rattle.std.proofs.Common.{arith}
-use Rattle.ox_runestone.proofs.Split.{read_is_split, split_is_read}
+use Rattle.ox_runestone.proofs.IntegersAreTheSplit.{read_is_split, split_is_read}
 use Rattle.ox_runestone.proofs.laws.integers_are_the_split.Goals as goal
 
 pub returns : goal.returns

@@ -1,4 +1,4 @@
-use Rattle.ox_runestone.proofs.Cenotaphs.{supply_small}
+use Rattle.ox_runestone.proofs.CenotaphsHaveCauses.{supply_small}
 use Rattle.ox_runestone.proofs.laws.supplies_are_amounts.Goals as goal
 
 pub returns : goal.returns

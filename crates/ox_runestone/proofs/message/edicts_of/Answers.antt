@@ -1,7 +1,7 @@
 use Rattle.std.proofs.Common.{sym, arith}
 use Rattle.std.proofs.lemmas.List.{take_rest}
 use Rattle.ox_runestone.specs.Message.{edicts_of}
-use Rattle.ox_runestone.proofs.Messages.{edicts_start, edicts_go_on}
+use Rattle.ox_runestone.proofs.MessageLoops.{edicts_start, edicts_go_on}
 use Rattle.ox_runestone.proofs.message.edicts_of.Goals as goal
 
 pub loop-rest-init : goal.loop-rest-init

@@ -1,6 +1,6 @@
 use Rattle.std.proofs.Common.{◌≡◌, length, Some}
 use Rattle.ox_runestone.specs.Message.{edicts_after, edicts_of}
-use Rattle.ox_runestone.proofs.Messages.{edicts_joined}
+use Rattle.ox_runestone.proofs.MessageLoops.{edicts_joined}
 use Rattle.ox_runestone.proofs.message.edicts_of.Given as goal
 
 abbrev pub invariant-loop-rest : goal.invariant-loop-rest

@@ -1,7 +1,7 @@
 use Rattle.std.proofs.lemmas.List.Elements.{All-from_get_or}
 use Rattle.std.proofs.Common.{◌<◌, ◌^◌, ◌∙◌, arith}
 use Rattle.std.proofs.lemmas.List.{take_rest}
-use Rattle.ox_runestone.proofs.Messages.{passed_none, passed_more, ends_at_body, ends_at_end}
+use Rattle.ox_runestone.proofs.MessageLoops.{passed_none, passed_more, ends_at_body, ends_at_end}
 use Rattle.ox_runestone.proofs.message.message_of.Goals as goal
 
 pub loop-rest-init : goal.loop-rest-init

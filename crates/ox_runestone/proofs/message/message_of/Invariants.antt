@@ -1,5 +1,5 @@
 use Rattle.std.proofs.Common.{length}
-use Rattle.ox_runestone.proofs.Messages.{Passed}
+use Rattle.ox_runestone.proofs.MessageLoops.{Passed}
 use Rattle.ox_runestone.proofs.message.message_of.Given as goal
 
 abbrev pub invariant-loop-rest : goal.invariant-loop-rest

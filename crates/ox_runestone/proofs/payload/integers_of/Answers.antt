@@ -1,6 +1,6 @@
 use Rattle.std.proofs.Common.{sym}
 use Rattle.std.proofs.lemmas.Bool.{eqb-true, eqb-false}
-use Rattle.ox_runestone.proofs.Payloads.{reads_more, reads_fault, reads_all}
+use Rattle.ox_runestone.proofs.PayloadLoops.{reads_more, reads_fault, reads_all}
 use Rattle.ox_runestone.proofs.payload.integers_of.Goals as goal
 
 pub returns-in_default : goal.returns-in_default

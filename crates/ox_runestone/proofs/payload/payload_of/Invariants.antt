@@ -1,4 +1,4 @@
-use Rattle.ox_runestone.proofs.Payloads.{Joins}
+use Rattle.ox_runestone.proofs.PayloadLoops.{Joins}
 use Rattle.ox_runestone.proofs.payload.payload_of.Given as goal
 
 abbrev pub invariant-loop-item : goal.invariant-loop-item

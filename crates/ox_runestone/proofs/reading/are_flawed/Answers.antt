@@ -1,5 +1,5 @@
 use Rattle.std.proofs.Common.{sym, ◌∙◌}
-use Rattle.ox_runestone.proofs.Judging.{flawed_flag, flawed_leaves, flawed_supply}
+use Rattle.ox_runestone.proofs.ArtifactFromFields.{flawed_flag, flawed_leaves, flawed_supply}
 use Rattle.ox_runestone.proofs.reading.are_flawed.Goals as goal
 
 pub returns-then-has_strange_flag : goal.returns-then-has_strange_flag

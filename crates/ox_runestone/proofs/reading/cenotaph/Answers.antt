@@ -1,4 +1,4 @@
-use Rattle.ox_runestone.proofs.Leaves.{cenotaph-same}
+use Rattle.ox_runestone.proofs.EvenTagsLeft.{cenotaph-same}
 use Rattle.ox_runestone.proofs.reading.cenotaph.Goals as goal
 
 pub returns : goal.returns

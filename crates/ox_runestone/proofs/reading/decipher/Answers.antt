@@ -2,10 +2,10 @@ use Rattle.std.proofs.Common.{ap, subst, sym, ◌∙◌}
 use Rattle.std.specs.Option.{option_map}
 use Rattle.ox_runestone.specs.Payload.{integers_of}
 use Rattle.ox_runestone.specs.Message.{message_of, edicts_of}
-use Rattle.ox_runestone.specs.Artifact.{judged, of_message}
-use Rattle.ox_runestone.proofs.Judging.{silent_payload, silent_integers, speaks}
-use Rattle.ox_runestone.proofs.Range.{artifact_can}
-use Rattle.ox_runestone.proofs.Rising.{rising_of}
+use Rattle.ox_runestone.specs.Artifact.{artifact_from, of_message}
+use Rattle.ox_runestone.proofs.ArtifactFromFields.{silent_payload, silent_integers, speaks}
+use Rattle.ox_runestone.proofs.ArtifactCanCome.{artifact_can}
+use Rattle.ox_runestone.proofs.EdictIdsDontFall.{rising_of}
 use Rattle.ox_runestone.specs.Spelling.{EdictsDontFall}
 use Rattle.ox_runestone.proofs.reading.decipher.Goals as goal
 
@@ -21,8 +21,8 @@ returns-in_default-2-clause-exact c =
 pub returns-clause-exact : goal.returns-clause-exact
 returns-clause-exact c =
     c.judge.ensures (message_of c.as_slice-2.result.now).fields c.message_of-message.ensures.fields
-    ∙ ap (λ l. judged c.args.outputs (message_of c.as_slice-2.result.now).fields l (option_map (λ v. v.items) c.in_ok-edicts.edicts)) c.message_of-message.ensures.lone
-    ∙ ap (judged c.args.outputs (message_of c.as_slice-2.result.now).fields (message_of c.as_slice-2.result.now).lone) (c.in_ok-edicts.ensures ∙ ap (edicts_of c.args.outputs) c.message_of-message.ensures.body)
+    ∙ ap (λ l. artifact_from c.args.outputs (message_of c.as_slice-2.result.now).fields l (option_map (λ v. v.items) c.in_ok-edicts.edicts)) c.message_of-message.ensures.lone
+    ∙ ap (artifact_from c.args.outputs (message_of c.as_slice-2.result.now).fields (message_of c.as_slice-2.result.now).lone) (c.in_ok-edicts.ensures ∙ ap (edicts_of c.args.outputs) c.message_of-message.ensures.body)
     ∙ ap (λ i. of_message c.args.outputs (message_of i)) c.as_slice-2.ensures.value
     ∙ speaks c.args.script.now c.in-Some.payload.items c.in-Some-2.integers.items c.args.outputs
     (sym c.in_ok-payload.ensures ∙ ap (option_map (λ v. v.items)) c.in-Some.is)
@@ -32,8 +32,8 @@ pub returns-clause-possible : goal.returns-clause-possible
 returns-clause-possible c =
     artifact_can c.args.outputs c.as_slice-2.result.now c.judge.result c.message_of-message.ensures.small
     (c.judge.ensures (message_of c.as_slice-2.result.now).fields c.message_of-message.ensures.fields
-    ∙ ap (λ l. judged c.args.outputs (message_of c.as_slice-2.result.now).fields l (option_map (λ v. v.items) c.in_ok-edicts.edicts)) c.message_of-message.ensures.lone
-    ∙ ap (judged c.args.outputs (message_of c.as_slice-2.result.now).fields (message_of c.as_slice-2.result.now).lone) (c.in_ok-edicts.ensures ∙ ap (edicts_of c.args.outputs) c.message_of-message.ensures.body))
+    ∙ ap (λ l. artifact_from c.args.outputs (message_of c.as_slice-2.result.now).fields l (option_map (λ v. v.items) c.in_ok-edicts.edicts)) c.message_of-message.ensures.lone
+    ∙ ap (artifact_from c.args.outputs (message_of c.as_slice-2.result.now).fields (message_of c.as_slice-2.result.now).lone) (c.in_ok-edicts.ensures ∙ ap (edicts_of c.args.outputs) c.message_of-message.ensures.body))
 
 pub returns-clause-rising : goal.returns-clause-rising
 returns-clause-rising c = subst EdictsDontFall (sym (returns-clause-exact c)) (rising_of c.args.script.now c.args.outputs)

@@ -2,9 +2,9 @@ use Rattle.std.proofs.Common.{refl, sym, arith}
 use Rattle.std.proofs.lemmas.Bool.{eqb-true}
 use Rattle.std.proofs.lemmas.List.{nil_from_length}
 use Rattle.ox_runestone.specs.Spelling.{payload_for}
-use Rattle.ox_runestone.proofs.Scripts.{push_more, pushes_end}
-use Rattle.ox_runestone.proofs.Back.{stone_marked}
-use Rattle.ox_runestone.proofs.Said.{artifact_back}
+use Rattle.ox_runestone.proofs.ScriptIsSpelled.{push_more, pushes_end}
+use Rattle.ox_runestone.proofs.PayloadReadsBack.{stone_marked}
+use Rattle.ox_runestone.proofs.FieldsReadBack.{artifact_back}
 use Rattle.ox_runestone.proofs.writing.encipher.Goals as goal
 
 pub loop-rest-preserved : goal.loop-rest-preserved

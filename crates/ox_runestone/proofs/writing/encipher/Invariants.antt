@@ -1,6 +1,6 @@
 use Rattle.std.proofs.Common.{length}
 use Rattle.ox_runestone.specs.Spelling.{payload_for}
-use Rattle.ox_runestone.proofs.Scripts.{Pushing}
+use Rattle.ox_runestone.proofs.ScriptIsSpelled.{Pushing}
 use Rattle.ox_runestone.proofs.writing.encipher.Given as goal
 
 abbrev pub invariant-loop-rest : goal.invariant-loop-rest

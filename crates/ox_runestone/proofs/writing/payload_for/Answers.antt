@@ -1,4 +1,4 @@
-use Rattle.ox_runestone.proofs.Scripts.{payload_text}
+use Rattle.ox_runestone.proofs.ScriptIsSpelled.{payload_text}
 use Rattle.ox_runestone.proofs.writing.payload_for.Goals as goal
 
 pub returns : goal.returns

@@ -1,4 +1,4 @@
-use Rattle.ox_runestone.proofs.Scripts.{etching_text}
+use Rattle.ox_runestone.proofs.ScriptIsSpelled.{etching_text}
 use Rattle.ox_runestone.proofs.writing.put_etching.Goals as goal
 
 pub returns : goal.returns

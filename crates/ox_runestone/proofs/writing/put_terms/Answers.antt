@@ -1,4 +1,4 @@
-use Rattle.ox_runestone.proofs.Scripts.{terms_text}
+use Rattle.ox_runestone.proofs.ScriptIsSpelled.{terms_text}
 use Rattle.ox_runestone.proofs.writing.put_terms.Goals as goal
 
 pub returns : goal.returns

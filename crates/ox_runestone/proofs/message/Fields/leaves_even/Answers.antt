@@ -1,6 +1,6 @@
 use Rattle.std.proofs.Common.{sym, ◌∙◌, arith}
 use Rattle.std.proofs.Common.{below_more}
-use Rattle.ox_runestone.proofs.Leaves.{leaves_strange, leaves_known, leaves_none}
+use Rattle.ox_runestone.proofs.EvenTagsLeft.{leaves_strange, leaves_known, leaves_none}
 use Rattle.ox_runestone.proofs.message.Fields.leaves_even.Goals as goal
 
 pub returns-then-self : goal.returns-then-self

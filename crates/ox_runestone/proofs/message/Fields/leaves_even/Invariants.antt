@@ -1,4 +1,4 @@
-use Rattle.ox_runestone.proofs.Leaves.{NoneLeft}
+use Rattle.ox_runestone.proofs.EvenTagsLeft.{NoneLeft}
 use Rattle.ox_runestone.proofs.message.Fields.leaves_even.Given as goal
 
 abbrev pub invariant-loop-half : goal.invariant-loop-half

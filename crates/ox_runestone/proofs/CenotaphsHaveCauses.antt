@@ -5,17 +5,17 @@ use Rattle.std.specs.Prelude.{IfSome, option_and_then, unwrap_or}
 use Rattle.std.specs.List.{AllByRecursion, list_any}
 use Rattle.std.proofs.lemmas.Bool.{and_from, and_parts, cases_Bool, cases_lt, eq-eqb, eqb-true, leb-false, leb-true, le-leb, lt-leb, lt-ltb, ltb-true, or_cases, or_parts}
 use Rattle.ox_script.proofs.PartLemmas.{all_parts}
-use Rattle.ox_varint.proofs.Laws.{IsBytes}
-use Rattle.ox_runestone.proofs.Split.{read_is_split, split_is_read}
+use Rattle.ox_varint.proofs.GrammarLaws.{IsBytes}
+use Rattle.ox_runestone.proofs.IntegersAreTheSplit.{read_is_split, split_is_read}
 use Rattle.std.proofs.lemmas.List.{length-append, get_or-append-add, get_or_append_left, get_or_past}
 use Rattle.std.proofs.Math.Seq.{get_or-append_right}
 use Rattle.ox_script.specs.Script.{Instruction, Push, Op, IsPartOf, StandsIn, items_of, is_cut}
-use Rattle.ox_runestone.specs.Artifact.{are_flawed, artifact_of, cenotaph_of, judged, mint_in, of_integers, of_message}
+use Rattle.ox_runestone.specs.Artifact.{are_flawed, artifact_of, cenotaph_of, artifact_from, mint_in, of_integers, of_message}
 use Rattle.ox_runestone.specs.Causes.{AreIntegers, HasBadId, HasBadOutput, HasCause, HasSmallSupply, IsCenotaph, IsFlawed, LeavesEven, Overflows, has_op, is_op}
 use Rattle.ox_runestone.specs.Causes.{opcode, cut_push, varint, message as message_cause, lone_tag, trailing_integers, edict_id, edict_output, unknown_flag, even_tag, supply}
 use Rattle.ox_runestone.specs.Fields.{count_taken, etching_of, first_of, has_strange_flag, leaves_even, mintable, overflows}
 use Rattle.ox_runestone.specs.Message.{Field, Message, edict_before, edicts_after, edicts_of, id_after, message_of, values}
-use Rattle.ox_runestone.specs.Payload.{before, integers_of, joined, payload_of}
+use Rattle.ox_runestone.specs.Payload.{before, integers_of, joined_pushes, payload_of}
 use Rattle.ox_runestone.specs.declared.stone.Artifact.{Artifact}
 use Rattle.ox_runestone.specs.declared.stone.Edict.{Edict}
 use Rattle.ox_runestone.specs.declared.stone.Etching.{Etching}
@@ -43,9 +43,9 @@ whole_of outputs fields lone is =
     let third = or_parts (leaves_even (first_of fields) (mint_in fields) outputs fields) (overflows (etching_of (first_of fields))) second.1 in
     record { lone_tag = first.0; flag = second.0; even = third.0; supply = third.1 }
 
-judged_supply : (outputs : ℕ) (fields : List Field) (lone : Bool) (edicts : Option (List Edict)) → HasSmallSupply (judged outputs fields lone edicts)
-judged_supply outputs fields lone None = tt
-judged_supply outputs fields lone (Some edicts) =
+artifact_from_supply : (outputs : ℕ) (fields : List Field) (lone : Bool) (edicts : Option (List Edict)) → HasSmallSupply (artifact_from outputs fields lone edicts)
+artifact_from_supply outputs fields lone None = tt
+artifact_from_supply outputs fields lone (Some edicts) =
     elim (cases_Bool (lone || are_flawed outputs fields)) [
       | inl flawed ↦ rw flawed tt
       | inr sound ↦ rw sound (small_supply (etching_of (first_of fields)) (whole_of outputs fields lone sound).supply)
@@ -54,7 +54,7 @@ judged_supply outputs fields lone (Some edicts) =
 integers_supply : (outputs : ℕ) (integers : Option (List ℕ)) → HasSmallSupply (of_integers outputs integers)
 integers_supply outputs None = tt
 integers_supply outputs (Some integers) =
-    judged_supply outputs (message_of integers).fields (message_of integers).lone (edicts_of outputs (message_of integers).body)
+    artifact_from_supply outputs (message_of integers).fields (message_of integers).lone (edicts_of outputs (message_of integers).body)
 
 pub supply_small : (script : List ℕ) (outputs : ℕ) → HasSmallSupply (artifact_of script outputs)
 unfolding artifact_of
@@ -66,12 +66,12 @@ before_none : (bytes : List ℕ) (more : Option (List ℕ)) → before bytes mor
 before_none bytes None is = refl
 before_none bytes (Some more) is = absurd cc
 
-op_where_none : (items : List Instruction) → joined items ≡ None → list_any is_op items ≡ true
+op_where_none : (items : List Instruction) → joined_pushes items ≡ None → list_any is_op items ≡ true
 op_where_none [] is = absurd cc
-op_where_none (Push bytes ∷ items) is = op_where_none items (before_none bytes (joined items) is)
+op_where_none (Push bytes ∷ items) is = op_where_none items (before_none bytes (joined_pushes items) is)
 op_where_none (Op op ∷ items) is = refl
 
-none_where_op : (items : List Instruction) → list_any is_op items ≡ true → joined items ≡ None
+none_where_op : (items : List Instruction) → list_any is_op items ≡ true → joined_pushes items ≡ None
 none_where_op [] is = absurd cc
 none_where_op (Push bytes ∷ items) is = ap (before bytes) (none_where_op items is)
 none_where_op (Op op ∷ items) is = refl
@@ -82,7 +82,7 @@ no_payload script outputs is =
     elim (cases_Bool (is_cut script)) [
       | inl cut ↦ cut_push cut
       | inr whole ↦ opcode (op_where_none (drop 2 (items_of script))
-          (sym (ap (λ b. cond b None (joined (drop 2 (items_of script)))) whole) ∙ is))
+          (sym (ap (λ b. cond b None (joined_pushes (drop 2 (items_of script)))) whole) ∙ is))
     ]
 
 payload_cut : (script : List ℕ) → is_cut script ≡ true → payload_of script ≡ None
@@ -252,7 +252,7 @@ unfolding edicts_of
 no_edicts outputs body is = bad_where_none outputs (record { block = 0; tx = 0 }) body is
 
 flawed_by : (message : Message) (outputs : ℕ) (edicts : Option (List Edict)) → edicts_of outputs message.body ≡ edicts
-    → IsCenotaph (judged outputs message.fields message.lone edicts) → IsFlawed message outputs
+    → IsCenotaph (artifact_from outputs message.fields message.lone edicts) → IsFlawed message outputs
 flawed_by message outputs None at is = flaw_in_edicts message outputs (no_edicts outputs message.body at)
 flawed_by message outputs (Some edicts) at is =
     elim (or_cases message.lone (are_flawed outputs message.fields)
@@ -262,13 +262,13 @@ flawed_by message outputs (Some edicts) at is =
     ]
 
 cenotaph_where : (outputs : ℕ) (fields : List Field) (lone : Bool) (edicts : Option (List Edict))
-    → (lone || are_flawed outputs fields) ≡ true → IsCenotaph (judged outputs fields lone edicts)
+    → (lone || are_flawed outputs fields) ≡ true → IsCenotaph (artifact_from outputs fields lone edicts)
 cenotaph_where outputs fields lone None is = tt
 cenotaph_where outputs fields lone (Some edicts) is = rw is tt
 
 cenotaph_without : (outputs : ℕ) (message : Message) → edicts_of outputs message.body ≡ None → IsCenotaph (of_message outputs message)
 cenotaph_without outputs message none =
-    subst IsCenotaph (ap (judged outputs message.fields message.lone) (sym none)) tt
+    subst IsCenotaph (ap (artifact_from outputs message.fields message.lone) (sym none)) tt
 
 or_left : (a b : Bool) → a ≡ true → (a || b) ≡ true
 or_left a b is = rw is refl
@@ -333,10 +333,10 @@ before_some bytes payload None is = absurd cc
 before_some bytes payload (Some rest) is = (rest, refl, cc)
 
 joined_bytes : (script payload : List ℕ) (items : List Instruction) → IsBytes script → AllByRecursion (IsPartOf script) items
-    → joined items ≡ Some payload → IsBytes payload
+    → joined_pushes items ≡ Some payload → IsBytes payload
 joined_bytes script payload [] fit parts is = let none : [] ≡ payload = cc in subst IsBytes none (λ i. omega arith)
 joined_bytes script payload (Push bytes ∷ items) fit parts is =
-    let found = before_some bytes payload (joined items) is in
+    let found = before_some bytes payload (joined_pushes items) is in
     subst IsBytes found.2 (bytes-append bytes found.0 (part_bytes script bytes parts.0 fit) (joined_bytes script found.0 items fit parts.1 found.1))
 joined_bytes script payload (Op op ∷ items) fit parts is = absurd cc
 
@@ -349,9 +349,9 @@ payload_bytes : (script payload : List ℕ) → IsBytes script → payload_of sc
 unfolding payload_of
 payload_bytes script payload fit is =
     elim (cases_Bool (is_cut script)) [
-      | inl cut ↦ let none : None ≡ Some payload = sym (ap (λ b. cond b None (joined (drop 2 (items_of script)))) cut) ∙ is in absurd cc
+      | inl cut ↦ let none : None ≡ Some payload = sym (ap (λ b. cond b None (joined_pushes (drop 2 (items_of script)))) cut) ∙ is in absurd cc
       | inr whole ↦ joined_bytes script payload (drop 2 (items_of script)) fit (parts_behind script (items_of script) (all_parts script))
-          (sym (ap (λ b. cond b None (joined (drop 2 (items_of script)))) whole) ∙ is)
+          (sym (ap (λ b. cond b None (joined_pushes (drop 2 (items_of script)))) whole) ∙ is)
     ]
 
 -- ---- scripts

@@ -4,20 +4,20 @@ use Rattle.std.specs.Prelude.{if◌then◌else◌}
 use Rattle.ox_runestone.specs.declared.message.Fields.{Fields}
 use Rattle.ox_runestone.specs.declared.stone.Etching.{Etching}
 use Rattle.ox_runestone.specs.Message.{Field}
-use Rattle.ox_runestone.specs.Seen.{kept_at, Holds}
+use Rattle.ox_runestone.specs.ValuesKept.{values_at, IsKeptOf}
 use Rattle.ox_runestone.specs.Tags.{mint_tag}
 use Rattle.ox_runestone.specs.declared.stone.RuneId.{RuneId}
 use Rattle.ox_runestone.specs.Fields.{mint_of, Firsts, first_of, mintable, leaves_even}
 use Rattle.ox_runestone.specs.declared.stone.Edict.{Edict}
 use Rattle.ox_runestone.specs.declared.stone.Artifact.{Artifact}
-use Rattle.ox_runestone.specs.Artifact.{mint_in, are_flawed, cenotaph_of, judged}
+use Rattle.ox_runestone.specs.Artifact.{mint_in, are_flawed, cenotaph_of, artifact_from}
 
 -- the mint by the first two values of its tag
 abbrev pub mint_kept : Fields → Option RuneId
-mint_kept fields = mint_of (kept_at fields mint_tag).first (kept_at fields mint_tag).second
+mint_kept fields = mint_of (values_at fields mint_tag).first (values_at fields mint_tag).second
 
 abbrev pub firsts_in : Fields → Firsts
-firsts_in fields tag = (kept_at fields tag).first
+firsts_in fields tag = (values_at fields tag).first
 
 -- what an etching gives in all, if that is an amount
 abbrev pub supply_of : Etching → Option ℕ
@@ -28,17 +28,18 @@ supply_of etching =
 -- the answer whether a value of an even tag isn't taken, of whatever list the fields hold
 abbrev pub SaysWhatIsLeft : Fields → ℕ → Bool → Type 0
 SaysWhatIsLeft fields outputs answer =
-    (list : List Field) → Holds fields list
+    (list : List Field) → IsKeptOf fields list
     → answer ≡ leaves_even (first_of list) (mint_in list) outputs list
 
 -- of whatever list the fields hold, the answer whether it is flawed, its cenotaph, and its artifact
 abbrev pub SaysWhetherFlawed : Fields → ℕ → Bool → Type 0
 SaysWhetherFlawed fields outputs answer =
-    (list : List Field) → Holds fields list → answer ≡ are_flawed outputs list
+    (list : List Field) → IsKeptOf fields list → answer ≡ are_flawed outputs list
 
 abbrev pub IsCenotaphOf : Fields → Artifact → Type 0
-IsCenotaphOf fields artifact = (list : List Field) → Holds fields list → artifact ≡ cenotaph_of list
+IsCenotaphOf fields artifact =
+    (list : List Field) → IsKeptOf fields list → artifact ≡ cenotaph_of list
 
-abbrev pub IsJudgedOf : Fields → Bool → Option (List Edict) → ℕ → Artifact → Type 0
-IsJudgedOf fields lone edicts outputs artifact =
-    (list : List Field) → Holds fields list → artifact ≡ judged outputs list lone edicts
+abbrev pub IsArtifactOf : Fields → Bool → Option (List Edict) → ℕ → Artifact → Type 0
+IsArtifactOf fields lone edicts outputs artifact =
+    (list : List Field) → IsKeptOf fields list → artifact ≡ artifact_from outputs list lone edicts

@@ -5,7 +5,7 @@ use Rattle.std.specs.Int.{w32, w64, from_le_bytes}
 use Rattle.std.specs.List.{list_any}
 use Rattle.std.proofs.lemmas.Bool.{cases_lt, ltb-false, le-ltb, lt-ltb, ne_eqb, eq-eqb}
 use Rattle.std.proofs.lemmas.List.{length-drop, drop-drop, drop_all}
-use Rattle.ox_bytes.specs.Reading.{◌>>=◌, Reader, number_at, run_at, compact_at, string_at, both, mapped, unless, times}
+use Rattle.ox_bytes.specs.Reading.{◌>>=◌, Reader, number_at, run_at, compact_at, string_at, both, reading_map, unless, times}
 use Rattle.ox_bytes.specs.Reading as reading
 use Rattle.ox_bytes.proofs.Laws.{bind_ok, guard_ok, ok_is, done}
 use Rattle.ox_block.specs.declared.block.TxIn.{TxIn}
@@ -18,27 +18,31 @@ use Rattle.ox_block.specs.declared.fault.BlockFault.{BlockFault}
 use Rattle.ox_block.specs.declared.fault.BlockFault.TheVariants as BlockFaults
 use Rattle.ox_block.specs.Answer.{Gives, Tells}
 use Rattle.ox_block.specs.Spelling.{most_value, most_bytes, has_witness}
-use Rattle.ox_block.proofs.HeaderParts.{header_from, header_parts, header_same}
+use Rattle.ox_block.proofs.PartsAsPairs.{header_from, header_parts, header_same, input_from, input_parts, input_same}
 use Rattle.ox_block.specs.Reading.{count_at, outpoint_at, input_at, inputs_at, output_at, outputs_of, outputs_at, stack_at, stacks_of, witnesses_at, marker_at, maybe_witnesses_at, tx_at, header_at, block_at, whole_of, with_place, block_of}
-use Rattle.ox_block.specs.Fields.{Field, plain, size, count, value, flag, marker, surplus, size_len_at, size_at, value_at, Layout, Laid, one, ◌▹◌, copies, bytes_of, text, counted, input, output, outputs, counted_outputs, stack, some_item, stacks, is_marker, behind_version, tx, header, block, surplus_from, fields_of, is_cut, is_fault, first_fault, fault_of, fault_in}
-use Rattle.ox_block.proofs.Agreement.{Agrees, Joins, cond_true, cond_false, or_left, or_right, or_none, after_none, after_some, single, shifted, agrees_bind, agrees_map, both_joins, mapped_joins, nothing_agrees, cut_agrees, stands_agrees, number_joins, run_joins, size_laid, size_joins, size_number, count_joins, count_number, text_joins, counted_joins, next_of, pair_is}
+use Rattle.ox_block.specs.Fields.{Field, plain, size, count, value, flag, marker, surplus, size_len_at, size_at, value_at, Layout, LayoutFrom, one, ◌▹◌, copies, bytes_of, text, counted_copies, input, output, outputs, counted_outputs, stack, some_item, stacks, is_marker, behind_version, tx, header, block, surplus_from, fields_of, is_cut, is_fault, first_fault, fault_of, fault_in}
+use Rattle.ox_block.proofs.LayoutAgrees.{Agrees, Joins, cond_true, cond_false, or_left, or_right, or_none, after_none, after_some, single, shifted, agrees_bind, agrees_map, both_joins, reading_map_joins, nothing_agrees, cut_agrees, stands_agrees, number_joins, run_joins, size_laid, size_joins, size_number, count_joins, count_number, text_joins, counted_list_joins, next_of, pair_is}
 
 -- ---- inputs
 
 outpoint_joins : (bytes : List ℕ) → Joins bytes (bytes_of 32 ▹ bytes_of 4) outpoint_at
 unfolding outpoint_at
-outpoint_joins bytes = mapped_joins (λ (p : List ℕ × ℕ). record { txid = record { 0 = p.0 }; index = p.1 }) bytes (bytes_of 32 ▹ bytes_of 4) (both (run_at 32) (number_at w32))
+outpoint_joins bytes = reading_map_joins (λ (p : List ℕ × ℕ). record { txid = record { 0 = p.0 }; index = p.1 }) bytes (bytes_of 32 ▹ bytes_of 4) (both (run_at 32) (number_at w32))
     (both_joins bytes (bytes_of 32) (bytes_of 4) (run_at 32) (number_at w32) (run_joins bytes 32) (number_joins bytes w32))
 
-input_joins : (bytes : List ℕ) → Joins bytes (input bytes) input_at
-unfolding input input_at
-input_joins bytes = mapped_joins (λ (p : (OutPoint × List ℕ) × ℕ). record { from = p.0.0; script = p.0.1; sequence = p.1; witness = [] }) bytes (bytes_of 32 ▹ bytes_of 4 ▹ text bytes ▹ bytes_of 4) (both (both outpoint_at string_at) (number_at w32))
+input_parts_joins : (bytes : List ℕ) → Joins bytes (input bytes) input_parts
+unfolding input
+input_parts_joins bytes = reading_map_joins input_from bytes (bytes_of 32 ▹ bytes_of 4 ▹ text bytes ▹ bytes_of 4) (both (both outpoint_at string_at) (number_at w32))
     (both_joins bytes (bytes_of 32 ▹ bytes_of 4 ▹ text bytes) (bytes_of 4) (both outpoint_at string_at) (number_at w32)
     (both_joins bytes (bytes_of 32 ▹ bytes_of 4) (text bytes) outpoint_at string_at (outpoint_joins bytes) (text_joins bytes)) (number_joins bytes w32))
 
-inputs_join : (bytes : List ℕ) → Joins bytes (counted count bytes (input bytes)) inputs_at
+input_joins : (bytes : List ℕ) → Joins bytes (input bytes) input_at
+input_joins bytes p le =
+    subst (λ (r : Result (TxIn × List ℕ) ℕ). Agrees {X = TxIn} bytes (input bytes p) r) (input_same (drop p bytes)) (input_parts_joins bytes p le)
+
+inputs_join : (bytes : List ℕ) → Joins bytes (counted_copies count bytes (input bytes)) inputs_at
 unfolding inputs_at
-inputs_join bytes = counted_joins bytes count (input bytes) count_at input_at (count_joins bytes) (count_number bytes) (input_joins bytes)
+inputs_join bytes = counted_list_joins bytes count (input bytes) count_at input_at (count_joins bytes) (count_number bytes) (input_joins bytes)
 
 times_len : {A : Type 0} (read : Reader A) (n : ℕ) (b : List ℕ) (z : List A × List ℕ) → times read n b ≡ Ok z → length z.0 ≡ n
 unfolding times
@@ -78,7 +82,7 @@ value_joins bytes before most sum p le =
 
 output_joins : (bytes : List ℕ) (before most : ℕ) → before + most ≡ most_value → Joins bytes (output bytes before) (output_at most)
 unfolding output output_at
-output_joins bytes before most sum = mapped_joins (λ (p : ℕ × List ℕ). record { value = p.0; script = p.1 }) bytes (one (value before) 8 ▹ text bytes) (both (unless (λ v. ltb most v) (number_at w64)) string_at)
+output_joins bytes before most sum = reading_map_joins (λ (p : ℕ × List ℕ). record { value = p.0; script = p.1 }) bytes (one (value before) 8 ▹ text bytes) (both (unless (λ v. ltb most v) (number_at w64)) string_at)
     (both_joins bytes (one (value before) 8) (text bytes) (unless (λ v. ltb most v) (number_at w64)) string_at (value_joins bytes before most sum) (text_joins bytes))
 
 output_value : (bytes : List ℕ) (most p : ℕ) (x : TxOut × List ℕ) → output_at most (drop p bytes) ≡ Ok x → (x.0.value ≡ value_at bytes p) × (x.0.value ≤ most)
@@ -125,7 +129,7 @@ counted_outputs_join bytes p le =
 
 stack_joins : (bytes : List ℕ) → Joins bytes (stack bytes) stack_at
 unfolding stack stack_at
-stack_joins bytes = counted_joins bytes size (text bytes) compact_at string_at (size_joins bytes) (size_number bytes) (text_joins bytes)
+stack_joins bytes = counted_list_joins bytes size (text bytes) compact_at string_at (size_joins bytes) (size_number bytes) (text_joins bytes)
 
 stack_number : (bytes : List ℕ) (p : ℕ) (x : List (List ℕ) × List ℕ) → p ≤ length bytes → stack_at (drop p bytes) ≡ Ok x → length x.0 ≡ size_at bytes p
 unfolding stack_at
@@ -255,9 +259,9 @@ more version left m t = inputs_at t >>= λ bare. outputs_at bare.1 >>= λ outs. 
 unmarked_agrees : (bytes : List ℕ) (version left q : ℕ) → q ≤ length bytes → Agrees bytes (behind_version false bytes q) (more version left false (drop q bytes))
 unfolding behind_version maybe_witnesses_at
 unmarked_agrees bytes version left q le =
-    agrees_bind bytes (counted count bytes (input bytes) q) (counted_outputs bytes ▹ bytes_of 4) (inputs_at (drop q bytes)) (λ bare. outputs_at bare.1 >>= λ outs. number_at w32 outs.1 >>= λ lock. Ok (record { version = version; marked = false; inputs = bare.0; outputs = outs.0; lock = lock.0 }, lock.1)) (inputs_join bytes q le)
+    agrees_bind bytes (counted_copies count bytes (input bytes) q) (counted_outputs bytes ▹ bytes_of 4) (inputs_at (drop q bytes)) (λ bare. outputs_at bare.1 >>= λ outs. number_at w32 outs.1 >>= λ lock. Ok (record { version = version; marked = false; inputs = bare.0; outputs = outs.0; lock = lock.0 }, lock.1)) (inputs_join bytes q le)
     (λ x is inside at.
-    let q1 = (counted count bytes (input bytes) q).behind in
+    let q1 = (counted_copies count bytes (input bytes) q).behind in
     subst (λ (t : List ℕ). Agrees {X = Tx} bytes ((counted_outputs bytes ▹ bytes_of 4) q1) (outputs_at t >>= λ outs. number_at w32 outs.1 >>= λ lock. Ok (record { version = version; marked = false; inputs = x.0; outputs = outs.0; lock = lock.0 }, lock.1))) (sym at)
     (agrees_bind bytes (counted_outputs bytes q1) (bytes_of 4) (outputs_at (drop q1 bytes)) (λ outs. number_at w32 outs.1 >>= λ lock. Ok (record { version = version; marked = false; inputs = x.0; outputs = outs.0; lock = lock.0 }, lock.1)) (counted_outputs_join bytes q1 inside)
     (λ y is_ inside_ at_.
@@ -266,16 +270,16 @@ unmarked_agrees bytes version left q le =
     (agrees_map (λ (lock : ℕ). record { version = version; marked = false; inputs = x.0; outputs = y.0; lock = lock }) bytes (bytes_of 4 q2) (number_at w32 (drop q2 bytes)) (number_joins bytes w32 q2 inside_)))))
 
 -- the inputs, outputs, stacks and lock time behind marker and flag
-abbrev marked_parts : List ℕ → ℕ → ℕ → Laid
-marked_parts bytes place n = counted count bytes (input bytes) ▹ (counted_outputs bytes ▹ (stacks bytes place n ▹ bytes_of 4))
+abbrev marked_parts : List ℕ → ℕ → ℕ → LayoutFrom
+marked_parts bytes place n = counted_copies count bytes (input bytes) ▹ (counted_outputs bytes ▹ (stacks bytes place n ▹ bytes_of 4))
 
 marked_agrees : (bytes : List ℕ) (version left place q : ℕ) → q ≤ length bytes → place ≤ length bytes → left ≡ length bytes - place → Agrees bytes (marked_parts bytes place (size_at bytes q) q) (more version left true (drop q bytes))
 unfolding maybe_witnesses_at
 marked_agrees bytes version left place q le marker_in left_is =
     let n = size_at bytes q in
-    agrees_bind bytes (counted count bytes (input bytes) q) (counted_outputs bytes ▹ (stacks bytes place n ▹ bytes_of 4)) (inputs_at (drop q bytes)) (λ bare. outputs_at bare.1 >>= λ outs. witnesses_at left bare.0 outs.1 >>= λ ins. number_at w32 ins.1 >>= λ lock. Ok (record { version = version; marked = true; inputs = ins.0; outputs = outs.0; lock = lock.0 }, lock.1)) (inputs_join bytes q le)
+    agrees_bind bytes (counted_copies count bytes (input bytes) q) (counted_outputs bytes ▹ (stacks bytes place n ▹ bytes_of 4)) (inputs_at (drop q bytes)) (λ bare. outputs_at bare.1 >>= λ outs. witnesses_at left bare.0 outs.1 >>= λ ins. number_at w32 ins.1 >>= λ lock. Ok (record { version = version; marked = true; inputs = ins.0; outputs = outs.0; lock = lock.0 }, lock.1)) (inputs_join bytes q le)
     (λ x is inside at.
-    let q1 = (counted count bytes (input bytes) q).behind in
+    let q1 = (counted_copies count bytes (input bytes) q).behind in
     subst (λ (t : List ℕ). Agrees {X = Tx} bytes ((counted_outputs bytes ▹ (stacks bytes place n ▹ bytes_of 4)) q1) (outputs_at t >>= λ outs. witnesses_at left x.0 outs.1 >>= λ ins. number_at w32 ins.1 >>= λ lock. Ok (record { version = version; marked = true; inputs = ins.0; outputs = outs.0; lock = lock.0 }, lock.1))) (sym at)
     (agrees_bind bytes (counted_outputs bytes q1) (stacks bytes place n ▹ bytes_of 4) (outputs_at (drop q1 bytes)) (λ outs. witnesses_at left x.0 outs.1 >>= λ ins. number_at w32 ins.1 >>= λ lock. Ok (record { version = version; marked = true; inputs = ins.0; outputs = outs.0; lock = lock.0 }, lock.1)) (counted_outputs_join bytes q1 inside)
     (λ y is_ inside_ at_.
@@ -348,7 +352,7 @@ parts_joins bytes =
     let hash = bytes_of 32 in
     let at = number_at w32 in
     let run = run_at 32 in
-    mapped_joins header_from bytes
+    reading_map_joins header_from bytes
     (four ▹ hash ▹ hash ▹ four ▹ four ▹ four) (both (both (both (both (both at run) run) at) at) at)
     (both_joins bytes (four ▹ hash ▹ hash ▹ four ▹ four) four (both (both (both (both at run) run) at) at) at
     (both_joins bytes (four ▹ hash ▹ hash ▹ four) four (both (both (both at run) run) at) at
@@ -361,8 +365,8 @@ header_joins bytes p le =
 
 block_joins : (bytes : List ℕ) → Joins bytes (block bytes) block_at
 unfolding block block_at
-block_joins bytes = mapped_joins (λ (p : Header × List Tx). record { header = p.0; txs = p.1 }) bytes (header ▹ counted count bytes (tx bytes)) (both header_at (reading.counted count_at tx_at))
-    (both_joins bytes header (counted count bytes (tx bytes)) header_at (reading.counted count_at tx_at) (header_joins bytes) (counted_joins bytes count (tx bytes) count_at tx_at (count_joins bytes) (count_number bytes) (tx_joins bytes)))
+block_joins bytes = reading_map_joins (λ (p : Header × List Tx). record { header = p.0; txs = p.1 }) bytes (header ▹ counted_copies count bytes (tx bytes)) (both header_at (reading.counted_list count_at tx_at))
+    (both_joins bytes header (counted_copies count bytes (tx bytes)) header_at (reading.counted_list count_at tx_at) (header_joins bytes) (counted_list_joins bytes count (tx bytes) count_at tx_at (count_joins bytes) (count_number bytes) (tx_joins bytes)))
 
 -- the fields, with what stands behind the last transaction, and what reading makes of it
 from_block : (bytes : List ℕ) (laid : Layout) (r : Result (Block × List ℕ) ℕ) → Agrees bytes laid r

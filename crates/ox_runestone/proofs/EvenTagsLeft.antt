@@ -7,9 +7,9 @@ use Rattle.ox_runestone.specs.declared.message.Values.{Values}
 use Rattle.ox_runestone.specs.declared.message.Fields.{Fields}
 use Rattle.ox_runestone.specs.declared.stone.RuneId.{RuneId}
 use Rattle.ox_runestone.specs.Message.{Field, values}
-use Rattle.ox_runestone.specs.Seen.{kept, kept_at, leaves_in, is_strange, Holds}
+use Rattle.ox_runestone.specs.ValuesKept.{values_kept, values_at, leaves_in, is_strange, IsKeptOf}
 use Rattle.ox_runestone.specs.Fields.{Firsts, first_of, takes, only, taken_of, field_of, mint_of, count_taken, leaves_even, etching_of, has_strange_flag, is_etching, has_terms, is_turbo}
-use Rattle.ox_runestone.specs.Kept.{firsts_in}
+use Rattle.ox_runestone.specs.FieldsKept.{firsts_in}
 use Rattle.ox_runestone.specs.declared.stone.Terms.{Terms}
 use Rattle.ox_runestone.specs.declared.stone.Etching.{Etching}
 use Rattle.ox_runestone.specs.declared.stone.Artifact.TheVariants.{Cenotaph}
@@ -17,38 +17,38 @@ use Rattle.ox_runestone.specs.Artifact.{mint_in, name_in, cenotaph_of}
 
 -- ---- what is kept, and what it is kept of
 
-pub firsts-same : (fields : Fields) (list : List Field) (tag : ℕ) → Holds fields list → tag < 23 → firsts_in fields tag ≡ first_of list tag
+pub firsts-same : (fields : Fields) (list : List Field) (tag : ℕ) → IsKeptOf fields list → tag < 23 → firsts_in fields tag ≡ first_of list tag
 firsts-same fields list tag h lt = ap (λ (v : Values). v.first) (h.known tag lt)
 
-pub mint-same : (fields : Fields) (list : List Field) → Holds fields list → mint_of (kept_at fields 20).first (kept_at fields 20).second ≡ mint_in list
+pub mint-same : (fields : Fields) (list : List Field) → IsKeptOf fields list → mint_of (values_at fields 20).first (values_at fields 20).second ≡ mint_in list
 mint-same fields list h = ap (λ (v : Values). mint_of v.first v.second) (h.known 20 (lit< tt))
 
-takes-same : (fields : Fields) (list : List Field) (outputs tag value : ℕ) → Holds fields list → takes (firsts_in fields) outputs tag value ≡ takes (first_of list) outputs tag value
+takes-same : (fields : Fields) (list : List Field) (outputs tag value : ℕ) → IsKeptOf fields list → takes (firsts_in fields) outputs tag value ≡ takes (first_of list) outputs tag value
 takes-same fields list outputs tag value h = let e = firsts-same fields list 2 h (lit< tt) in rw e refl
 
-taken-same : (fields : Fields) (list : List Field) (outputs tag : ℕ) (value : Option ℕ) → Holds fields list → taken_of (firsts_in fields) outputs tag value ≡ taken_of (first_of list) outputs tag value
+taken-same : (fields : Fields) (list : List Field) (outputs tag : ℕ) (value : Option ℕ) → IsKeptOf fields list → taken_of (firsts_in fields) outputs tag value ≡ taken_of (first_of list) outputs tag value
 taken-same fields list outputs tag None h = refl
 taken-same fields list outputs tag (Some value) h = ap (λ b. only b value) (takes-same fields list outputs tag value h)
 
-pub field-same : (fields : Fields) (list : List Field) (outputs tag : ℕ) → Holds fields list → tag < 23 → field_of (firsts_in fields) outputs tag ≡ field_of (first_of list) outputs tag
+pub field-same : (fields : Fields) (list : List Field) (outputs tag : ℕ) → IsKeptOf fields list → tag < 23 → field_of (firsts_in fields) outputs tag ≡ field_of (first_of list) outputs tag
 field-same fields list outputs tag h lt = taken-same fields list outputs tag (firsts_in fields tag) h ∙ ap (taken_of (first_of list) outputs tag) (firsts-same fields list tag h lt)
 
-pub count-same : (fields : Fields) (list : List Field) (outputs tag : ℕ) → Holds fields list → tag < 23 → count_taken (firsts_in fields) (mint_of (kept_at fields 20).first (kept_at fields 20).second) outputs tag ≡ count_taken (first_of list) (mint_in list) outputs tag
+pub count-same : (fields : Fields) (list : List Field) (outputs tag : ℕ) → IsKeptOf fields list → tag < 23 → count_taken (firsts_in fields) (mint_of (values_at fields 20).first (values_at fields 20).second) outputs tag ≡ count_taken (first_of list) (mint_in list) outputs tag
 count-same fields list outputs tag h lt = rw (mint-same fields list h, field-same fields list outputs tag h lt) refl
 
 -- ---- how many values there are
 
-leaves-kept : (list : List ℕ) (taken : ℕ) → taken ≤ 2 → leaves_in (kept list) taken ≡ ltb taken (length list)
-leaves-kept [] zero le = refl
-leaves-kept [] (suc zero) le = refl
-leaves-kept (a ∷ list) zero le = sym (lt-ltb 0 _ (omega arith))
-leaves-kept (a ∷ []) (suc zero) le = refl
-leaves-kept (a ∷ b ∷ list) (suc zero) le = sym (lt-ltb 1 _ (omega arith))
-leaves-kept list (suc (suc zero)) le = refl
-leaves-kept list (suc (suc (suc n))) le = absurd (omega arith)
+leaves-values_kept : (list : List ℕ) (taken : ℕ) → taken ≤ 2 → leaves_in (values_kept list) taken ≡ ltb taken (length list)
+leaves-values_kept [] zero le = refl
+leaves-values_kept [] (suc zero) le = refl
+leaves-values_kept (a ∷ list) zero le = sym (lt-ltb 0 _ (omega arith))
+leaves-values_kept (a ∷ []) (suc zero) le = refl
+leaves-values_kept (a ∷ b ∷ list) (suc zero) le = sym (lt-ltb 1 _ (omega arith))
+leaves-values_kept list (suc (suc zero)) le = refl
+leaves-values_kept list (suc (suc (suc n))) le = absurd (omega arith)
 
-pub leaves-same : (fields : Fields) (list : List Field) (tag taken : ℕ) → Holds fields list → tag < 23 → taken ≤ 2 → leaves_in (kept_at fields tag) taken ≡ ltb taken (length (values list tag))
-leaves-same fields list tag taken h lt le = ap (λ v. leaves_in v taken) (h.known tag lt) ∙ leaves-kept (values list tag) taken le
+pub leaves-same : (fields : Fields) (list : List Field) (tag taken : ℕ) → IsKeptOf fields list → tag < 23 → taken ≤ 2 → leaves_in (values_at fields tag) taken ≡ ltb taken (length (values list tag))
+leaves-same fields list tag taken h lt le = ap (λ v. leaves_in v taken) (h.known tag lt) ∙ leaves-values_kept (values list tag) taken le
 
 -- ---- some tag of the list, or none
 
@@ -151,7 +151,7 @@ count-small first mint outputs tag = cond_both (eqb tag 20) (cond (is_some mint)
 abbrev pub leaves_tag : List Field → ℕ → ℕ → Bool
 leaves_tag list outputs tag = eqb (tag % 2) 0 && ltb (count_taken (first_of list) (mint_in list) outputs tag) (length (values list tag))
 
-pub leaves_strange : (fields : Fields) (outputs : ℕ) (list : List Field) → fields.strange ≡ true → Holds fields list → true ≡ leaves_even (first_of list) (mint_in list) outputs list
+pub leaves_strange : (fields : Fields) (outputs : ℕ) (list : List Field) → fields.strange ≡ true → IsKeptOf fields list → true ≡ leaves_even (first_of list) (mint_in list) outputs list
 leaves_strange fields outputs list is h =
     let t = strange_tag list (sym h.strange ∙ is) in
     let tag : ℕ = t.0 in
@@ -165,7 +165,7 @@ longer n [] is = absurd (omega (arith, ltb-true n 0 is))
 longer n (a ∷ list) is = omega arith
 
 -- a known tag has more values than are taken
-pub leaves_known : (fields : Fields) (outputs half count : ℕ) (list : List Field) → half < 12 → count ≤ 2 → count ≡ count_taken (firsts_in fields) (mint_of (kept_at fields 20).first (kept_at fields 20).second) outputs (2 * half) → leaves_in (kept_at fields (2 * half)) count ≡ true → Holds fields list → true ≡ leaves_even (first_of list) (mint_in list) outputs list
+pub leaves_known : (fields : Fields) (outputs half count : ℕ) (list : List Field) → half < 12 → count ≤ 2 → count ≡ count_taken (firsts_in fields) (mint_of (values_at fields 20).first (values_at fields 20).second) outputs (2 * half) → leaves_in (values_at fields (2 * half)) count ≡ true → IsKeptOf fields list → true ≡ leaves_even (first_of list) (mint_in list) outputs list
 leaves_known fields outputs half count list low small is leaves h =
     let lt : 2 * half < 23 = omega arith in
     let even : 2 * half % 2 ≡ 0 = omega arith in
@@ -177,9 +177,9 @@ leaves_known fields outputs half count list low small is leaves h =
 -- no tag below has more values than are taken
 abbrev pub NoneLeft : Fields → ℕ → ℕ → Type 0
 NoneLeft fields outputs half =
-    (k : ℕ) → k < half → leaves_in (kept_at fields (2 * k)) (count_taken (firsts_in fields) (mint_of (kept_at fields 20).first (kept_at fields 20).second) outputs (2 * k)) ≡ false
+    (k : ℕ) → k < half → leaves_in (values_at fields (2 * k)) (count_taken (firsts_in fields) (mint_of (values_at fields 20).first (values_at fields 20).second) outputs (2 * k)) ≡ false
 
-pub leaves_none : (fields : Fields) (outputs half : ℕ) (list : List Field) → fields.strange ≡ false → 12 ≤ half → NoneLeft fields outputs half → Holds fields list → false ≡ leaves_even (first_of list) (mint_in list) outputs list
+pub leaves_none : (fields : Fields) (outputs half : ℕ) (list : List Field) → fields.strange ≡ false → 12 ≤ half → NoneLeft fields outputs half → IsKeptOf fields list → false ≡ leaves_even (first_of list) (mint_in list) outputs list
 leaves_none fields outputs half list strange all none h =
     sym (any_false (leaves_tag list outputs) list (λ tag some.
     elim (cases_Bool (eqb (tag % 2) 0)) [
@@ -189,9 +189,9 @@ leaves_none fields outputs half list strange all none h =
                 let k : ℕ = tag / 2 in
                 let zero-rest : tag % 2 ≡ 0 = eqb-true (tag % 2) 0 even in
                 let twice : 2 * (tag / 2) ≡ tag = omega arith in
-                let K : ℕ → Type 0 = λ (t : ℕ). leaves_in (kept_at fields t) (count_taken (firsts_in fields) (mint_of (kept_at fields 20).first (kept_at fields 20).second) outputs t) ≡ false in
+                let K : ℕ → Type 0 = λ (t : ℕ). leaves_in (values_at fields t) (count_taken (firsts_in fields) (mint_of (values_at fields 20).first (values_at fields 20).second) outputs t) ≡ false in
                 let here : K tag = subst K twice (none (tag / 2) (omega arith)) in
-                let same = leaves-same fields list tag (count_taken (firsts_in fields) (mint_of (kept_at fields 20).first (kept_at fields 20).second) outputs tag) h low (count-small (firsts_in fields) (mint_of (kept_at fields 20).first (kept_at fields 20).second) outputs tag) in
+                let same = leaves-same fields list tag (count_taken (firsts_in fields) (mint_of (values_at fields 20).first (values_at fields 20).second) outputs tag) h low (count-small (firsts_in fields) (mint_of (values_at fields 20).first (values_at fields 20).second) outputs tag) in
                 let more : ltb (count_taken (first_of list) (mint_in list) outputs tag) (length (values list tag)) ≡ false = ap (λ n. ltb n (length (values list tag))) (sym (count-same fields list outputs tag h low)) ∙ sym same ∙ here in
                 rw (even, more) refl
             | inr high ↦ absurd (true≢false (sym even ∙ no_strange_tag list tag (sym h.strange ∙ strange) high some))
@@ -221,7 +221,7 @@ etching-parts a a' b b' c c' d d' e e' t t' u u' p q r s v w x = cc
 etching-from : (b b' : Bool) (x x' : Etching) → b ≡ b' → x ≡ x' → ◌≡◌ {A = Option Etching} (cond b (Some x) None) (cond b' (Some x') None)
 etching-from b b' x x' p q = cc
 
-pub etching-same : (fields : Fields) (list : List Field) → Holds fields list → etching_of (firsts_in fields) ≡ etching_of (first_of list)
+pub etching-same : (fields : Fields) (list : List Field) → IsKeptOf fields list → etching_of (firsts_in fields) ≡ etching_of (first_of list)
 etching-same fields list h =
     let f = λ (tag : ℕ) (lt : tag < 23). field-same fields list 0 tag h lt in
     let flags : firsts_in fields 2 ≡ first_of list 2 = firsts-same fields list 2 h (lit< tt) in
@@ -234,8 +234,8 @@ etching-same fields list h =
     (terms-parts _ _ _ _ _ _ _ _ _ _ _ _ (f 10 (lit< tt)) (f 8 (lit< tt)) (f 12 (lit< tt)) (f 14 (lit< tt)) (f 16 (lit< tt)) (f 18 (lit< tt))))
     turbo)
 
-pub strange-same : (fields : Fields) (list : List Field) → Holds fields list → has_strange_flag (firsts_in fields) ≡ has_strange_flag (first_of list)
+pub strange-same : (fields : Fields) (list : List Field) → IsKeptOf fields list → has_strange_flag (firsts_in fields) ≡ has_strange_flag (first_of list)
 strange-same fields list h = let flags = firsts-same fields list 2 h (lit< tt) in rw flags refl
 
-pub cenotaph-same : (fields : Fields) (list : List Field) → Holds fields list → Cenotaph (mint_of (kept_at fields 20).first (kept_at fields 20).second) (name_in (etching_of (firsts_in fields))) ≡ cenotaph_of list
+pub cenotaph-same : (fields : Fields) (list : List Field) → IsKeptOf fields list → Cenotaph (mint_of (values_at fields 20).first (values_at fields 20).second) (name_in (etching_of (firsts_in fields))) ≡ cenotaph_of list
 cenotaph-same fields list h = ap (λ m. Cenotaph m (name_in (etching_of (firsts_in fields)))) (mint-same fields list h) ∙ ap (λ e. Cenotaph (mint_in list) (name_in e)) (etching-same fields list h)

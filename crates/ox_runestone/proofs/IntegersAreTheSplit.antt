@@ -8,10 +8,10 @@ use Rattle.std.proofs.lemmas.List.{length-append, length-take-le, take-append-dr
 use Rattle.ox_varint.specs.Varint.{IsVarint, with_byte, varint_at, varint_within}
 use Rattle.ox_varint.specs.declared.VarintFault.TheVariants.{Overflow}
 use Rattle.ox_varint.specs.declared.VarintFault.{VarintFault}
-use Rattle.ox_varint.proofs.Laws.{Found, IsBytes, is_found, is_read}
+use Rattle.ox_varint.proofs.GrammarLaws.{Found, IsBytes, is_found, is_read}
 use Rattle.ox_runestone.specs.Causes.{AreIntegers, IsInteger}
 use Rattle.ox_runestone.specs.Payload.{before, integers_of}
-use Rattle.ox_runestone.proofs.Payloads.{integers_of-nil, integers_of-more, integers_of-fault}
+use Rattle.ox_runestone.proofs.PayloadLoops.{integers_of-nil, integers_of-more, integers_of-fault}
 
 -- ---- what is split so is read so
 

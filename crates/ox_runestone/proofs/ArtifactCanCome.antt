@@ -10,7 +10,7 @@ use Rattle.ox_runestone.specs.declared.stone.Edict.{Edict}
 use Rattle.ox_runestone.specs.declared.stone.Artifact.{Artifact}
 use Rattle.ox_runestone.specs.Message.{Field, message_of, values, id_of, id_after, edict_before, edicts_after, edicts_of}
 use Rattle.ox_runestone.specs.Fields.{Firsts, first_of, is_etching, has_terms, is_turbo, has_strange_flag, is_character, takes, only, taken_of, field_of, mint_of, terms_of, etching_of, overflows, leaves_even}
-use Rattle.ox_runestone.specs.Artifact.{mint_in, are_flawed, judged, of_message}
+use Rattle.ox_runestone.specs.Artifact.{mint_in, are_flawed, artifact_from, of_message}
 use Rattle.ox_runestone.specs.Spelling.{IsId, AreTerms, IsEtching, IsEdict, CanCome, StoneCanCome}
 
 abbrev pub AreSmall : List ℕ → Type 0
@@ -181,9 +181,9 @@ stone_can outputs fields edicts all each sound =
       edicts = each;
     }
 
-judged_can : (outputs : ℕ) (fields : List Field) (lone : Bool) (edicts : Option (List Edict)) → HaveSmall fields → IfSome edicts (AllByRecursion (IsEdict outputs)) → StoneCanCome outputs (judged outputs fields lone edicts)
-judged_can outputs fields lone None all each = tt
-judged_can outputs fields lone (Some edicts) all each =
+artifact_from_can : (outputs : ℕ) (fields : List Field) (lone : Bool) (edicts : Option (List Edict)) → HaveSmall fields → IfSome edicts (AllByRecursion (IsEdict outputs)) → StoneCanCome outputs (artifact_from outputs fields lone edicts)
+artifact_from_can outputs fields lone None all each = tt
+artifact_from_can outputs fields lone (Some edicts) all each =
     elim (cases_Bool (lone || are_flawed outputs fields)) [
       | inl flawed ↦ rw flawed tt
       | inr sound ↦ rw sound (stone_can outputs fields edicts all each (or_parts lone (are_flawed outputs fields) sound).1)
@@ -192,7 +192,7 @@ judged_can outputs fields lone (Some edicts) all each =
 message_can : (outputs : ℕ) (integers : List ℕ) → AreSmall integers → StoneCanCome outputs (of_message outputs (message_of integers))
 message_can outputs integers all =
     let m = message_small integers all in
-    judged_can outputs (message_of integers).fields (message_of integers).lone (edicts_of outputs (message_of integers).body) m.0 (body_can outputs (message_of integers).body m.1)
+    artifact_from_can outputs (message_of integers).fields (message_of integers).lone (edicts_of outputs (message_of integers).body) m.0 (body_can outputs (message_of integers).body m.1)
 
 pub artifact_can : (outputs : ℕ) (integers : List ℕ) (artifact : Artifact) → All (λ n. n < 2 ^ 128) integers → artifact ≡ of_message outputs (message_of integers) → StoneCanCome outputs artifact
 artifact_can outputs integers artifact all is =

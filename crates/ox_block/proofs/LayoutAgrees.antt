@@ -6,17 +6,17 @@ use Rattle.std.proofs.lemmas.Bool.{cases_lt, le-ltb, lt-ltb}
 use Rattle.std.proofs.lemmas.List.{length-drop, drop-drop, drop_all, get_or_past}
 use Rattle.ox_bytes.specs.declared.compact.CompactFault.{CompactFault}
 use Rattle.ox_bytes.specs.declared.compact.CompactFault.TheVariants.{Short, NotShortest}
-use Rattle.ox_bytes.specs.Reading.{◌>>=◌, Reader, number_at, run_at, long_size, size_of, result_at, compact_at, string_at, both, mapped, unless, times}
+use Rattle.ox_bytes.specs.Reading.{◌>>=◌, Reader, number_at, run_at, long_size, size_of, result_at, compact_at, string_at, both, reading_map, unless, times}
 use Rattle.ox_bytes.specs.Reading as reading
 use Rattle.ox_bytes.proofs.Laws.{bind_ok, guard_ok, ok_is}
 use Rattle.ox_block.specs.Reading.{count_at}
-use Rattle.ox_block.specs.Fields.{Kind, Field, plain, size, count, size_width, size_len, size_least, size_len_at, size_at, Layout, Laid, nothing, one, ◌▹◌, copies, bytes_of, text, counted, is_cut, is_long, is_fault, first_fault}
+use Rattle.ox_block.specs.Fields.{Kind, Field, plain, size, count, size_width, size_len, size_least, size_len_at, size_at, Layout, LayoutFrom, nothing, one, ◌▹◌, copies, bytes_of, text, counted_copies, is_cut, is_long, is_fault, first_fault}
 
 abbrev pub Agrees : {X : Type 0} → List ℕ → Layout → Result (X × List ℕ) ℕ → Type 0
 Agrees bytes laid (Ok x) = (first_fault bytes laid.fields ≡ None) × (laid.behind ≤ length bytes) × (x.1 ≡ drop laid.behind bytes)
 Agrees bytes laid (Err left) = (left ≤ length bytes) × (first_fault bytes laid.fields ≡ Some (length bytes - left))
 
-abbrev pub Joins : {X : Type 0} → List ℕ → Laid → Reader X → Type 0
+abbrev pub Joins : {X : Type 0} → List ℕ → LayoutFrom → Reader X → Type 0
 Joins bytes laid read = (p : ℕ) → p ≤ length bytes → Agrees bytes (laid p) (read (drop p bytes))
 
 -- ---- choices
@@ -80,7 +80,7 @@ pub shifted : {X : Type 0} (bytes : List ℕ) (before : List Field) (after : Lay
 shifted bytes before after (Ok x) none h = (after_none bytes before after.fields none ∙ h.0, h.1, h.2)
 shifted bytes before after (Err left) none h = (h.0, after_none bytes before after.fields none ∙ h.1)
 
-pub agrees_bind : {A B : Type 0} (bytes : List ℕ) (first : Layout) (next : Laid) (r : Result (A × List ℕ) ℕ) (f : A × List ℕ → Result (B × List ℕ) ℕ) → Agrees bytes first r
+pub agrees_bind : {A B : Type 0} (bytes : List ℕ) (first : Layout) (next : LayoutFrom) (r : Result (A × List ℕ) ℕ) (f : A × List ℕ → Result (B × List ℕ) ℕ) → Agrees bytes first r
     → ((x : A × List ℕ) → r ≡ Ok x → first.behind ≤ length bytes → x.1 ≡ drop first.behind bytes → Agrees bytes (next first.behind) (f x))
     → Agrees bytes (record { fields = first.fields ++ (next first.behind).fields; behind = (next first.behind).behind }) (r >>= f)
 agrees_bind bytes first next (Ok x) f h g = shifted bytes first.fields (next first.behind) (f x) h.0 (g x refl h.1 h.2)
@@ -90,20 +90,20 @@ pub agrees_map : {A B : Type 0} (f : A → B) (bytes : List ℕ) (laid : Layout)
 agrees_map f bytes laid (Ok x) h = h
 agrees_map f bytes laid (Err left) h = h
 
-pub both_joins : {A B : Type 0} (bytes : List ℕ) (la lb : Laid) (ra : Reader A) (rb : Reader B) → Joins bytes la ra → Joins bytes lb rb → Joins bytes (la ▹ lb) (both ra rb)
+pub both_joins : {A B : Type 0} (bytes : List ℕ) (la lb : LayoutFrom) (ra : Reader A) (rb : Reader B) → Joins bytes la ra → Joins bytes lb rb → Joins bytes (la ▹ lb) (both ra rb)
 both_joins {A} {B} bytes la lb ra rb ja jb p le =
     agrees_bind bytes (la p) lb (ra (drop p bytes)) (λ x. rb x.1 >>= λ y. Ok ((x.0, y.0), y.1)) (ja p le)
     (λ x is inside at. subst (λ (t : List ℕ). Agrees {X = A × B} bytes (lb (la p).behind) (rb t >>= λ y. Ok ((x.0, y.0), y.1))) (sym at)
     (agrees_map (λ (y : B). (x.0, y)) bytes (lb (la p).behind) (rb (drop (la p).behind bytes)) (jb (la p).behind inside)))
 
-pub mapped_joins : {A B : Type 0} (f : A → B) (bytes : List ℕ) (laid : Laid) (read : Reader A) → Joins bytes laid read → Joins bytes laid (mapped f read)
-mapped_joins f bytes laid read j p le = agrees_map f bytes (laid p) (read (drop p bytes)) (j p le)
+pub reading_map_joins : {A B : Type 0} (f : A → B) (bytes : List ℕ) (laid : LayoutFrom) (read : Reader A) → Joins bytes laid read → Joins bytes laid (reading_map f read)
+reading_map_joins f bytes laid read j p le = agrees_map f bytes (laid p) (read (drop p bytes)) (j p le)
 
 pub nothing_agrees : {X : Type 0} (bytes : List ℕ) (p : ℕ) (x : X) → p ≤ length bytes → Agrees bytes (nothing p) (Ok (x, drop p bytes))
 unfolding first_fault
 nothing_agrees bytes p x le = (refl, le, refl)
 
-pub times_joins : {A : Type 0} (bytes : List ℕ) (laid : Laid) (read : Reader A) → Joins bytes laid read → (n : ℕ) → Joins bytes (copies n laid) (times read n)
+pub times_joins : {A : Type 0} (bytes : List ℕ) (laid : LayoutFrom) (read : Reader A) → Joins bytes laid read → (n : ℕ) → Joins bytes (copies n laid) (times read n)
 unfolding times copies
 times_joins {A} bytes laid read j zero p le = nothing_agrees {X = List A} bytes p [] le
 times_joins {A} bytes laid read j (suc n) p le =
@@ -217,7 +217,7 @@ size_is bytes p le =
       | inr ge ↦ subst (λ (t : List ℕ). SizeIs bytes p (compact_at t)) (sym (drop_all p bytes ge)) (size_end bytes p (omega arith))
     ]
 
-abbrev pub size_laid : Kind → List ℕ → Laid
+abbrev pub size_laid : Kind → List ℕ → LayoutFrom
 size_laid k bytes p = one k (size_len_at bytes p) p
 
 from_size : (bytes : List ℕ) (p : ℕ) (r : Result (ℕ × List ℕ) ℕ) → p ≤ length bytes → SizeIs bytes p r → Agrees bytes (size_laid size bytes p) r
@@ -262,10 +262,10 @@ text_joins bytes p le =
     (λ x is inside at. subst (λ (n : ℕ × List ℕ). Agrees bytes (bytes_of (size_at bytes p) (p + size_len_at bytes p)) (run_at n.0 n.1)) (pair_is x (size_at bytes p) (drop (p + size_len_at bytes p) bytes) (size_number bytes p x le is) at)
     (run_joins bytes (size_at bytes p) (p + size_len_at bytes p) inside))
 
-pub counted_joins : {A : Type 0} (bytes : List ℕ) (k : Kind) (laid : Laid) (rc : Reader ℕ) (read : Reader A) → Joins bytes (size_laid k bytes) rc
-    → ((p : ℕ) (x : ℕ × List ℕ) → p ≤ length bytes → rc (drop p bytes) ≡ Ok x → x.0 ≡ size_at bytes p) → Joins bytes laid read → Joins bytes (counted k bytes laid) (reading.counted rc read)
-unfolding counted
-counted_joins bytes k laid rc read jc number j p le =
+pub counted_list_joins : {A : Type 0} (bytes : List ℕ) (k : Kind) (laid : LayoutFrom) (rc : Reader ℕ) (read : Reader A) → Joins bytes (size_laid k bytes) rc
+    → ((p : ℕ) (x : ℕ × List ℕ) → p ≤ length bytes → rc (drop p bytes) ≡ Ok x → x.0 ≡ size_at bytes p) → Joins bytes laid read → Joins bytes (counted_copies k bytes laid) (reading.counted_list rc read)
+unfolding counted_copies
+counted_list_joins bytes k laid rc read jc number j p le =
     agrees_bind bytes (size_laid k bytes p) (copies (size_at bytes p) laid) (rc (drop p bytes)) (λ n. times read n.0 n.1) (jc p le)
     (λ x is inside at. subst (λ (n : ℕ × List ℕ). Agrees bytes (copies (size_at bytes p) laid (p + size_len_at bytes p)) (times read n.0 n.1)) (pair_is x (size_at bytes p) (drop (p + size_len_at bytes p) bytes) (number p x le is) at)
     (times_joins bytes laid read j (size_at bytes p) (p + size_len_at bytes p) inside))

@@ -6,7 +6,7 @@ use Rattle.std.proofs.lemmas.List.Elements.{All-nil, All-cons, All-head, All-tai
 use Rattle.ox_varint.specs.declared.VarintFault.{VarintFault}
 use Rattle.ox_varint.specs.declared.VarintFault.TheVariants.{Truncated, Overflow}
 use Rattle.ox_varint.specs.Varint.{IsVarint, IsShortest, GoesOn, with_byte, varint_within, varint_at, spelling_within, varint, ReadsBack}
-use Rattle.ox_varint.proofs.Writing.{spelled-low, spelled-high}
+use Rattle.ox_varint.proofs.WriteLoop.{spelled-low, spelled-high}
 
 abbrev pub IsBytes : List ℕ → Type 0
 IsBytes bytes = (i : ℕ) → get_or bytes i 0 < 256

@@ -3,7 +3,7 @@ use Rattle.std.proofs.Common.{◌≡◌, ℕ, ◌+◌, List, [], ◌∷◌, Bool
 use Rattle.std.proofs.Common.{Option, Some, None, refl, sym, ap, subst, ◌∙◌, arith, inl, inr}
 use Rattle.std.specs.Prelude.{option_and_then}
 use Rattle.std.proofs.lemmas.Bool.{cases_Bool, eqb-true, eqb-false}
-use Rattle.ox_runestone.specs.Artifact.{are_flawed, artifact_of, judged, of_integers}
+use Rattle.ox_runestone.specs.Artifact.{are_flawed, artifact_of, artifact_from, of_integers}
 use Rattle.ox_runestone.specs.Message.{edict_before, edicts_after, edicts_of, id_after, id_of, message_of, Field}
 use Rattle.ox_runestone.specs.Payload.{integers_of, payload_of}
 use Rattle.ox_runestone.specs.Spelling.{DontFall, DontFallAfter, EdictsDontFall, NotBelow}
@@ -60,10 +60,10 @@ rising_edicts : (outputs : ℕ) (body : List ℕ) (edicts : List Edict) → edic
 unfolding edicts_of
 rising_edicts outputs body edicts is = rising_after outputs (record { block = 0; tx = 0 }) body edicts is
 
-rising_judged : (outputs : ℕ) (fields : List Field) (lone : Bool) (edicts : Option (List Edict))
-    → ((some : List Edict) → edicts ≡ Some some → DontFall some) → EdictsDontFall (judged outputs fields lone edicts)
-rising_judged outputs fields lone None rising = tt
-rising_judged outputs fields lone (Some edicts) rising =
+rising_artifact_from : (outputs : ℕ) (fields : List Field) (lone : Bool) (edicts : Option (List Edict))
+    → ((some : List Edict) → edicts ≡ Some some → DontFall some) → EdictsDontFall (artifact_from outputs fields lone edicts)
+rising_artifact_from outputs fields lone None rising = tt
+rising_artifact_from outputs fields lone (Some edicts) rising =
     elim (cases_Bool (lone || are_flawed outputs fields)) [
       | inl flawed ↦ rw flawed tt
       | inr sound ↦ rw sound (rising edicts refl)
@@ -72,7 +72,7 @@ rising_judged outputs fields lone (Some edicts) rising =
 rising_integers : (outputs : ℕ) (integers : Option (List ℕ)) → EdictsDontFall (of_integers outputs integers)
 rising_integers outputs None = tt
 rising_integers outputs (Some integers) =
-    rising_judged outputs (message_of integers).fields (message_of integers).lone (edicts_of outputs (message_of integers).body)
+    rising_artifact_from outputs (message_of integers).fields (message_of integers).lone (edicts_of outputs (message_of integers).body)
     (λ some is. rising_edicts outputs (message_of integers).body some is)
 
 -- of every script

@@ -6,7 +6,7 @@ use Rattle.std.proofs.lemmas.List.{append-nil, take_more_set, drop-set-lt, take_
 use Rattle.ox_bytes.specs.declared.fault.ReadError.{ReadError}
 use Rattle.ox_bytes.specs.declared.fault.ReadError.TheVariants as errors
 use Rattle.ox_bytes.specs.Reading.{Fails}
-use Rattle.ox_bytes.proofs.Loop.{with_front, regroup}
+use Rattle.ox_bytes.proofs.TimesLoop.{with_front, regroup}
 use Rattle.ox_block.specs.declared.block.TxOut.{TxOut}
 use Rattle.ox_block.specs.declared.block.TxIn.{TxIn}
 use Rattle.ox_block.specs.Reading.{output_at, outputs_of, stack_at, stacks_of}

@@ -11,11 +11,11 @@ use Rattle.ox_runestone.specs.Message.{Field, values}
 use Rattle.ox_runestone.specs.Fields.{Firsts, first_of, flags_of, is_etching, has_terms, is_turbo, has_strange_flag, is_character, takes, only, taken_of, field_of, mint_of, terms_of, etching_of, overflows, count_taken, leaves_even}
 use Rattle.ox_runestone.specs.declared.stone.Edict.{Edict}
 use Rattle.ox_runestone.specs.declared.stone.Artifact.TheVariants.{Stone}
-use Rattle.ox_runestone.specs.Artifact.{mint_in, are_flawed, judged, of_message, artifact_of}
-use Rattle.ox_runestone.proofs.Back.{id_back, payload_back, integers_back, message_back, edicts_back}
-use Rattle.ox_runestone.proofs.Judging.{speaks}
-use Rattle.ox_runestone.proofs.Leaves.{leaves_tag}
-use Rattle.ox_runestone.specs.Spelling.{pair, terms_pairs, flags_for, etching_pairs, mint_pairs, fields_of, laid, deltas, body_for, integers_for, payload_for, Spells, IsId, AreTerms, IsEtching, IsEdict, CanCome, DontFall}
+use Rattle.ox_runestone.specs.Artifact.{mint_in, are_flawed, artifact_from, of_message, artifact_of}
+use Rattle.ox_runestone.proofs.PayloadReadsBack.{id_back, payload_back, integers_back, message_back, edicts_back}
+use Rattle.ox_runestone.proofs.ArtifactFromFields.{speaks}
+use Rattle.ox_runestone.proofs.EvenTagsLeft.{leaves_tag}
+use Rattle.ox_runestone.specs.Spelling.{pair, terms_pairs, flags_for, etching_pairs, mint_pairs, fields_of, tags_and_values, deltas, body_for, integers_for, payload_for, Spells, IsId, AreTerms, IsEtching, IsEdict, CanCome, DontFall}
 
 -- ---- the values of each tag
 
@@ -494,9 +494,9 @@ pub tags_of : (fields : List Field) → AllByRecursion IsField fields → AllByR
 tags_of [] all = tt
 tags_of (f ∷ fields) all = (all.0.0, tags_of fields all.1)
 
-laid_small : (fields : List Field) → AllByRecursion IsField fields → AllByRecursion (λ n. n < 2 ^ 128) (laid fields)
-laid_small [] all = tt
-laid_small (f ∷ fields) all = (all.0.1, (all.0.2, laid_small fields all.1))
+tags_and_values_small : (fields : List Field) → AllByRecursion IsField fields → AllByRecursion (λ n. n < 2 ^ 128) (tags_and_values fields)
+tags_and_values_small [] all = tt
+tags_and_values_small (f ∷ fields) all = (all.0.1, (all.0.2, tags_and_values_small fields all.1))
 
 tx_small : (a b : ℕ) (same : Bool) → a < 2 ^ 32 → cond same (a - b) a < 2 ^ 128
 tx_small a b true lt = omega arith
@@ -516,15 +516,15 @@ body_small outputs (edict ∷ edicts) few all = (lit< tt, deltas_small outputs (
 
 pub integers_small : (stone : Runestone) (outputs : ℕ) → outputs < 2 ^ 32 → CanCome stone outputs → AllByRecursion (λ n. n < 2 ^ 128) (integers_for stone)
 integers_small stone outputs few can =
-    all-app (λ n. n < 2 ^ 128) (laid (fields_of stone)) (body_for stone.edicts) (laid_small (fields_of stone) (fields_small stone outputs few can)) (body_small outputs stone.edicts few can.edicts)
+    all-app (λ n. n < 2 ^ 128) (tags_and_values (fields_of stone)) (body_for stone.edicts) (tags_and_values_small (fields_of stone) (fields_small stone outputs few can)) (body_small outputs stone.edicts few can.edicts)
 
 -- ---- the artifact
 
 stone-parts : (e e' : Option Etching) (m m' : Option RuneId) (p p' : Option ℕ) (d : List Edict) → e ≡ e' → m ≡ m' → p ≡ p' → Stone (record { etching = e; mint = m; pointer = p; edicts = d }) ≡ Stone (record { etching = e'; mint = m'; pointer = p'; edicts = d })
 stone-parts e e' m m' p p' d x y z = cc
 
-judged_back : (list : List Field) (stone : Runestone) (outputs : ℕ) → IsBack list stone outputs → judged outputs list false (Some stone.edicts) ≡ Stone stone
-judged_back list stone outputs back =
+artifact_from_back : (list : List Field) (stone : Runestone) (outputs : ℕ) → IsBack list stone outputs → artifact_from outputs list false (Some stone.edicts) ≡ Stone stone
+artifact_from_back list stone outputs back =
     cond-false (are_flawed outputs list) _ _ back.sound ∙ stone-parts _ _ _ _ _ _ stone.edicts back.etching back.mint back.pointer
 
 pub artifact_back : (script : List ℕ) (stone : Runestone) (outputs : ℕ) → outputs < 2 ^ 32 → CanCome stone outputs → DontFall stone.edicts → Spells script stone → artifact_of script outputs ≡ Stone stone
@@ -535,5 +535,5 @@ artifact_back script stone outputs few can rising spells =
     let edicts = edicts_back outputs stone.edicts can.edicts rising in
     sym (speaks script (payload_for stone) (integers_for stone) outputs payload integers)
     ∙ ap (of_message outputs) message
-    ∙ ap (judged outputs (fields_of stone) false) edicts
-    ∙ judged_back (fields_of stone) stone outputs (fields_back stone outputs can)
+    ∙ ap (artifact_from outputs (fields_of stone) false) edicts
+    ∙ artifact_from_back (fields_of stone) stone outputs (fields_back stone outputs can)

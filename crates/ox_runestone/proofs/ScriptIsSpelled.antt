@@ -9,19 +9,19 @@ use Rattle.ox_runestone.specs.declared.stone.Etching.{Etching}
 use Rattle.ox_runestone.specs.declared.stone.Edict.{Edict}
 use Rattle.ox_runestone.specs.declared.stone.Runestone.{Runestone}
 use Rattle.ox_runestone.specs.Message.{Field}
-use Rattle.ox_runestone.specs.Spelling.{pair, terms_pairs, etching_pairs, mint_pairs, fields_of, flags_for, laid, deltas, body_for, payload_for, text_of, push, joined_chunks, pushed_chunks, Spells, NotBelow, DontFallAfter}
+use Rattle.ox_runestone.specs.Spelling.{pair, terms_pairs, etching_pairs, mint_pairs, fields_of, flags_for, tags_and_values, deltas, body_for, payload_for, text_of, push, joined_chunks, pushed_chunks, Spells, NotBelow, DontFallAfter}
 
 -- the bytes of integers in a row
 pub spelled-append : (xs ys : List ℕ) → flat_map varint (xs ++ ys) ≡ flat_map varint xs ++ flat_map varint ys
 spelled-append [] ys = refl
 spelled-append (x ∷ xs) ys = ap (λ t. varint x ++ t) (spelled-append xs ys) ∙ sym (append_assoc (varint x) (flat_map varint xs) (flat_map varint ys))
 
-pub laid-append : (xs ys : List Field) → laid (xs ++ ys) ≡ laid xs ++ laid ys
-laid-append [] ys = refl
-laid-append (x ∷ xs) ys = ap (λ t. x.0 ∷ x.1 ∷ t) (laid-append xs ys)
+pub tags_and_values-append : (xs ys : List Field) → tags_and_values (xs ++ ys) ≡ tags_and_values xs ++ tags_and_values ys
+tags_and_values-append [] ys = refl
+tags_and_values-append (x ∷ xs) ys = ap (λ t. x.0 ∷ x.1 ∷ t) (tags_and_values-append xs ys)
 
 pub text_of-append : (xs ys : List Field) → text_of (xs ++ ys) ≡ text_of xs ++ text_of ys
-text_of-append xs ys = ap (flat_map varint) (laid-append xs ys) ∙ spelled-append (laid xs) (laid ys)
+text_of-append xs ys = ap (flat_map varint) (tags_and_values-append xs ys) ∙ spelled-append (tags_and_values xs) (tags_and_values ys)
 
 -- three fields or more, one after another
 more : (old : List ℕ) (xs ys : List Field) → (old ++ text_of xs) ++ text_of ys ≡ old ++ text_of (xs ++ ys)
@@ -46,7 +46,7 @@ etching_text old etching =
 pub payload_text : (stone : Runestone) → ((([] ++ text_of (etching_pairs stone.etching)) ++ text_of (mint_pairs stone.mint)) ++ text_of (pair 22 stone.pointer)) ++ flat_map varint (body_for stone.edicts) ≡ payload_for stone
 payload_text stone =
     ap (λ t. t ++ flat_map varint (body_for stone.edicts)) (more ([] ++ text_of (etching_pairs stone.etching)) (mint_pairs stone.mint) (pair 22 stone.pointer) ∙ more [] (etching_pairs stone.etching) (mint_pairs stone.mint ++ pair 22 stone.pointer))
-    ∙ sym (spelled-append (laid (fields_of stone)) (body_for stone.edicts))
+    ∙ sym (spelled-append (tags_and_values (fields_of stone)) (body_for stone.edicts))
 
 -- ---- edicts
 
@@ -85,13 +85,13 @@ pub record Pushing (payload script rest : List ℕ) : Type 0 where
   pub all : joined_chunks chunks ++ rest ≡ payload
   pub short : AllByRecursion (λ chunk. length chunk ≤ 520) chunks
 
-joined-push : (chunks : List (List ℕ)) (chunk : List ℕ) → joined_chunks (chunks ++ chunk ∷ []) ≡ joined_chunks chunks ++ chunk
-joined-push [] chunk = append-nil chunk
-joined-push (other ∷ chunks) chunk = ap (λ t. other ++ t) (joined-push chunks chunk) ∙ sym (append_assoc other (joined_chunks chunks) chunk)
+joined_chunks-push : (chunks : List (List ℕ)) (chunk : List ℕ) → joined_chunks (chunks ++ chunk ∷ []) ≡ joined_chunks chunks ++ chunk
+joined_chunks-push [] chunk = append-nil chunk
+joined_chunks-push (other ∷ chunks) chunk = ap (λ t. other ++ t) (joined_chunks-push chunks chunk) ∙ sym (append_assoc other (joined_chunks chunks) chunk)
 
-pushed-push : (chunks : List (List ℕ)) (chunk : List ℕ) → pushed_chunks (chunks ++ chunk ∷ []) ≡ pushed_chunks chunks ++ push chunk
-pushed-push [] chunk = append-nil (push chunk)
-pushed-push (other ∷ chunks) chunk = ap (λ t. push other ++ t) (pushed-push chunks chunk) ∙ sym (append_assoc (push other) (pushed_chunks chunks) (push chunk))
+pushed_chunks-push : (chunks : List (List ℕ)) (chunk : List ℕ) → pushed_chunks (chunks ++ chunk ∷ []) ≡ pushed_chunks chunks ++ push chunk
+pushed_chunks-push [] chunk = append-nil (push chunk)
+pushed_chunks-push (other ∷ chunks) chunk = ap (λ t. push other ++ t) (pushed_chunks-push chunks chunk) ∙ sym (append_assoc (push other) (pushed_chunks chunks) (push chunk))
 
 short-push : (chunks : List (List ℕ)) (chunk : List ℕ) → AllByRecursion (λ (c : List ℕ). length c ≤ 520) chunks → length chunk ≤ 520 → AllByRecursion (λ (c : List ℕ). length c ≤ 520) (chunks ++ chunk ∷ [])
 short-push [] chunk all short = (short, tt)
@@ -100,8 +100,8 @@ short-push (other ∷ chunks) chunk all short = (all.0, short-push chunks chunk 
 pub push_more : (payload script new rest chunk behind : List ℕ) (count : ℕ) → Pushing payload script rest → count ≤ 520 → chunk ≡ take count rest → behind ≡ drop count rest → length chunk ≤ 520 → new ≡ script ++ push chunk → Pushing payload new behind
 push_more payload script new rest chunk behind count pushing few chunk-is behind-is short new-is = record {
   chunks = pushing.chunks ++ chunk ∷ [];
-  script-is = new-is ∙ ap (λ s. s ++ push chunk) pushing.script-is ∙ ap (λ t. 0x6a ∷ 0x5d ∷ t) (sym (pushed-push pushing.chunks chunk));
-  all = ap (λ t. t ++ behind) (joined-push pushing.chunks chunk) ∙ append_assoc (joined_chunks pushing.chunks) chunk behind ∙ ap (λ t. joined_chunks pushing.chunks ++ t) (ap (λ t. t ++ behind) chunk-is ∙ ap (λ t. take count rest ++ t) behind-is ∙ take-append-drop count rest) ∙ pushing.all;
+  script-is = new-is ∙ ap (λ s. s ++ push chunk) pushing.script-is ∙ ap (λ t. 0x6a ∷ 0x5d ∷ t) (sym (pushed_chunks-push pushing.chunks chunk));
+  all = ap (λ t. t ++ behind) (joined_chunks-push pushing.chunks chunk) ∙ append_assoc (joined_chunks pushing.chunks) chunk behind ∙ ap (λ t. joined_chunks pushing.chunks ++ t) (ap (λ t. t ++ behind) chunk-is ∙ ap (λ t. take count rest ++ t) behind-is ∙ take-append-drop count rest) ∙ pushing.all;
   short = short-push pushing.chunks chunk pushing.short short;
 }
 

@@ -1,9 +1,11 @@
--- Reading a header field by field is reading its fields as pairs of pairs.
-use Rattle.std.proofs.Common.{◌≡◌, ℕ, List, refl, ◌∙◌}
+-- Reading a header or an input field by field is reading its fields as pairs of pairs.
+use Rattle.std.proofs.Common.{◌≡◌, ℕ, List, [], refl, ◌∙◌}
 use Rattle.std.specs.Prelude.{Result, Ok, Err}
 use Rattle.std.specs.Int.{w32}
-use Rattle.ox_bytes.specs.Reading.{◌>>=◌, Reading, Reader, number_at, run_at, both, mapped}
-use Rattle.ox_block.specs.Reading.{header_at}
+use Rattle.ox_bytes.specs.Reading.{◌>>=◌, Reading, Reader, number_at, run_at, string_at, both, reading_map}
+use Rattle.ox_block.specs.Reading.{outpoint_at, input_at, header_at}
+use Rattle.ox_block.specs.declared.block.OutPoint.{OutPoint}
+use Rattle.ox_block.specs.declared.block.TxIn.{TxIn}
 use Rattle.ox_block.specs.declared.block.Header.{Header}
 
 abbrev pub HeaderParts : Type 0
@@ -13,7 +15,7 @@ abbrev pub header_from : HeaderParts → Header
 header_from p = record { version = p.0.0.0.0.0; previous = p.0.0.0.0.1; root = p.0.0.0.1; time = p.0.0.1; bits = p.0.1; nonce = p.1 }
 
 abbrev pub header_parts : Reader Header
-header_parts bytes = mapped header_from
+header_parts bytes = reading_map header_from
     (both (both (both (both (both (number_at w32) (run_at 32)) (run_at 32)) (number_at w32)) (number_at w32)) (number_at w32)) bytes
 
 -- what a second reader and what follows it make of a first value
@@ -45,3 +47,22 @@ header_same bytes =
     ∙ both_then (both (both at run) run) at (after at (after at made)) bytes
     ∙ both_then (both at run) run (after at (after at (after at made))) bytes
     ∙ both_then at run (after run (after at (after at (after at made)))) bytes
+
+-- ---- an input
+
+abbrev pub InputParts : Type 0
+InputParts = (OutPoint × List ℕ) × ℕ
+
+abbrev pub input_from : InputParts → TxIn
+input_from p = record { from = p.0.0; script = p.0.1; sequence = p.1; witness = [] }
+
+abbrev pub input_parts : Reader TxIn
+input_parts bytes = reading_map input_from (both (both outpoint_at string_at) (number_at w32)) bytes
+
+pub input_same : (bytes : List ℕ) → input_parts bytes ≡ input_at bytes
+unfolding input_at
+input_same bytes =
+    let at = number_at w32 in
+    let made : InputParts × List ℕ → Result (TxIn × List ℕ) ℕ = λ x. Ok (input_from x.0, x.1) in
+    both_then (both outpoint_at string_at) at made bytes
+    ∙ both_then outpoint_at string_at (after at made) bytes

@@ -8,7 +8,7 @@ use Rattle.ox_runestone.specs.declared.message.Fields.{Fields}
 use Rattle.ox_runestone.specs.declared.stone.RuneId.{RuneId}
 use Rattle.ox_runestone.specs.declared.stone.Edict.{Edict}
 use Rattle.ox_runestone.specs.Message.{Field, Message, field_before, message_of, values, id_after, edict_before, edicts_after, edicts_of}
-use Rattle.ox_runestone.specs.Seen.{kept, pushed, kept_at, added, is_strange, Holds}
+use Rattle.ox_runestone.specs.ValuesKept.{values_kept, with_value, values_at, with_field, is_strange, IsKeptOf}
 
 -- ---- the values of a tag
 
@@ -20,10 +20,10 @@ values-append (field ∷ list) own value tag =
       | inr other ↦ rw other (values-append list own value tag)
     ]
 
-kept-push : (list : List ℕ) (value : ℕ) → pushed (kept list) value ≡ kept (list ++ value ∷ [])
-kept-push [] value = refl
-kept-push (a ∷ []) value = refl
-kept-push (a ∷ b ∷ list) value =
+values_kept-push : (list : List ℕ) (value : ℕ) → with_value (values_kept list) value ≡ values_kept (list ++ value ∷ [])
+values_kept-push [] value = refl
+values_kept-push (a ∷ []) value = refl
+values_kept-push (a ∷ b ∷ list) value =
     let more : ltb 2 (suc (suc (length (list ++ value ∷ [])))) ≡ true = lt-ltb 2 _ (omega (arith, length-append list (value ∷ []))) in
     rw more refl
 
@@ -49,11 +49,11 @@ list_any-append : (list : List Field) (field : Field) → list_any is_strange (l
 list_any-append [] field = or-last (is_strange field)
 list_any-append (other ∷ list) field = ap (λ b. is_strange other || b) (list_any-append list field) ∙ sym (or-assoc (is_strange other) (list_any is_strange list) (is_strange field))
 
-added-low : (fields : Fields) (own value : ℕ) → own < 23 → added fields own value ≡ record { values = set fields.values own (pushed (kept_at fields own) value); strange = fields.strange }
-added-low fields own value low = rw (lt-ltb own 23 low) refl
+with_field-low : (fields : Fields) (own value : ℕ) → own < 23 → with_field fields own value ≡ record { values = set fields.values own (with_value (values_at fields own) value); strange = fields.strange }
+with_field-low fields own value low = rw (lt-ltb own 23 low) refl
 
-added-high : (fields : Fields) (own value : ℕ) → 23 ≤ own → added fields own value ≡ record { values = fields.values; strange = fields.strange || eqb (own % 2) 0 }
-added-high fields own value high = rw (le-ltb own 23 high) refl
+with_field-high : (fields : Fields) (own value : ℕ) → 23 ≤ own → with_field fields own value ≡ record { values = fields.values; strange = fields.strange || eqb (own % 2) 0 }
+with_field-high fields own value high = rw (le-ltb own 23 high) refl
 
 values-other : (list : List Field) (own value tag : ℕ) → own ≢ tag → values (list ++ (own, value) ∷ []) tag ≡ values list tag
 values-other list own value tag ne = values-append list own value tag ∙ rw (ne_eqb own tag ne) (append-nil (values list tag))
@@ -61,30 +61,30 @@ values-other list own value tag ne = values-append list own value tag ∙ rw (ne
 values-own : (list : List Field) (own value : ℕ) → values (list ++ (own, value) ∷ []) own ≡ values list own ++ value ∷ []
 values-own list own value = values-append list own value own ∙ rw (eq-eqb own own refl) refl
 
-pub Holds-added : (fields : Fields) (list : List Field) (own value : ℕ) → Holds fields list → Holds (added fields own value) (list ++ (own, value) ∷ [])
-Holds-added fields list own value h =
+pub IsKeptOf-with_field : (fields : Fields) (list : List Field) (own value : ℕ) → IsKeptOf fields list → IsKeptOf (with_field fields own value) (list ++ (own, value) ∷ [])
+IsKeptOf-with_field fields list own value h =
     elim (cases_lt own 23) [
       | inl low ↦
-          let H : Fields → Type 0 = λ (f : Fields). Holds f (list ++ (own, value) ∷ []) in
+          let H : Fields → Type 0 = λ (f : Fields). IsKeptOf f (list ++ (own, value) ∷ []) in
           let long : length fields.values ≡ 23 = h.long in
           let within : own < length fields.values = omega arith in
-          let new : Values = pushed (kept_at fields own) value in
-          subst H (sym (added-low fields own value low)) (record {
+          let new : Values = with_value (values_at fields own) value in
+          subst H (sym (with_field-low fields own value low)) (record {
             known = λ tag lt. elim (cases_eq own tag) [
               | inl same ↦
-                  let K : ℕ → Type 0 = λ (t : ℕ). get_or (set fields.values own new) t (kept []) ≡ kept (values (list ++ (own, value) ∷ []) t) in
-                  subst K same (get_or-set_same fields.values own new (kept []) within ∙ ap (λ v. pushed v value) (h.known own low) ∙ kept-push (values list own) value ∙ ap kept (sym (values-own list own value)))
+                  let K : ℕ → Type 0 = λ (t : ℕ). get_or (set fields.values own new) t (values_kept []) ≡ values_kept (values (list ++ (own, value) ∷ []) t) in
+                  subst K same (get_or-set_same fields.values own new (values_kept []) within ∙ ap (λ v. with_value v value) (h.known own low) ∙ values_kept-push (values list own) value ∙ ap values_kept (sym (values-own list own value)))
               | inr other ↦
                   let ne : tag ≢ own = λ e. other (sym e) in
-                  get_or-set_other fields.values own tag new (kept []) ne ∙ h.known tag lt ∙ ap kept (sym (values-other list own value tag other))
+                  get_or-set_other fields.values own tag new (values_kept []) ne ∙ h.known tag lt ∙ ap values_kept (sym (values-other list own value tag other))
             ];
             strange = h.strange ∙ sym (list_any-append list (own, value) ∙ ap (λ b. list_any is_strange list || b) (low-strange own low) ∙ or_right_false (list_any is_strange list));
             long = length-set fields.values own new ∙ h.long;
           })
       | inr high ↦
-          let H : Fields → Type 0 = λ (f : Fields). Holds f (list ++ (own, value) ∷ []) in
-          subst H (sym (added-high fields own value high)) (record {
-            known = λ tag lt. let ne : own ≢ tag = omega arith in h.known tag lt ∙ ap kept (sym (values-other list own value tag ne));
+          let H : Fields → Type 0 = λ (f : Fields). IsKeptOf f (list ++ (own, value) ∷ []) in
+          subst H (sym (with_field-high fields own value high)) (record {
+            known = λ tag lt. let ne : own ≢ tag = omega arith in h.known tag lt ∙ ap values_kept (sym (values-other list own value tag ne));
             strange = ap (λ b. b || eqb (own % 2) 0) h.strange ∙ sym (list_any-append list (own, value) ∙ ap (λ b. list_any is_strange list || b) (high-strange own high));
             long = h.long;
           })
@@ -97,10 +97,10 @@ fields_before done message = record { fields = done ++ message.fields; lone = me
 
 pub record Passed (integers rest : List ℕ) (fields : Fields) : Type 0 where
   pub done : List Field
-  pub holds : Holds fields done
+  pub holds : IsKeptOf fields done
   pub all : fields_before done (message_of rest) ≡ message_of integers
 
-pub passed_none : (integers : List ℕ) (fields : Fields) → Holds fields [] → Passed integers integers fields
+pub passed_none : (integers : List ℕ) (fields : Fields) → IsKeptOf fields [] → Passed integers integers fields
 passed_none integers fields holds = record { done = []; holds = holds; all = refl }
 
 pair_front : (rest : List ℕ) → 2 ≤ length rest → rest ≡ get_or rest 0 0 ∷ get_or rest 1 0 ∷ drop 2 rest
@@ -114,7 +114,7 @@ message_of-pair tag value rest ne = rw (ne_eqb tag 0 ne) refl
 abbrev fields_with : List Field → Message → Message
 fields_with fields message = record { fields = fields; lone = message.lone; body = message.body }
 
-pub passed_more : (integers rest behind : List ℕ) (fields : Fields) → Passed integers rest fields → 2 ≤ length rest → get_or rest 0 0 ≢ 0 → behind ≡ drop 2 rest → Passed integers behind (added fields (get_or rest 0 0) (get_or rest 1 0))
+pub passed_more : (integers rest behind : List ℕ) (fields : Fields) → Passed integers rest fields → 2 ≤ length rest → get_or rest 0 0 ≢ 0 → behind ≡ drop 2 rest → Passed integers behind (with_field fields (get_or rest 0 0) (get_or rest 1 0))
 passed_more integers rest behind fields passed long ne is =
     let tag : ℕ = get_or rest 0 0 in
     let value : ℕ = get_or rest 1 0 in
@@ -122,7 +122,7 @@ passed_more integers rest behind fields passed long ne is =
     let shift : fields_before (passed.done ++ (get_or rest 0 0, get_or rest 1 0) ∷ []) (message_of behind) ≡ fields_before passed.done (field_before (get_or rest 0 0, get_or rest 1 0) (message_of behind)) = ap (λ f. fields_with f (message_of behind)) (append_assoc passed.done ((tag, value) ∷ []) (message_of behind).fields) in
     record {
       done = passed.done ++ (tag, value) ∷ [];
-      holds = Holds-added fields passed.done tag value passed.holds;
+      holds = IsKeptOf-with_field fields passed.done tag value passed.holds;
       all = shift ∙ ap (fields_before passed.done) (sym here) ∙ passed.all;
     }
 
@@ -131,7 +131,7 @@ message_of-body tag value rest e = rw (eq-eqb tag 0 e) refl
 
 -- the message, where the fields behind those that were passed are none
 pub record Ends (integers : List ℕ) (fields : Fields) (lone : Bool) (body : List ℕ) : Type 0 where
-  pub fields-are : Holds fields (message_of integers).fields
+  pub fields-are : IsKeptOf fields (message_of integers).fields
   pub lone-is : lone ≡ (message_of integers).lone
   pub body-is : body ≡ (message_of integers).body
 
@@ -139,7 +139,7 @@ ends_with : (integers rest : List ℕ) (fields : Fields) (message : Message) →
 ends_with integers rest fields message passed is none =
     let all : fields_before passed.done message ≡ message_of integers = ap (fields_before passed.done) (sym is) ∙ passed.all in
     let fields-all : passed.done ≡ (message_of integers).fields = sym (append-nil passed.done) ∙ ap (λ f. passed.done ++ f) (sym none) ∙ ap (λ (m : Message). m.fields) all in
-    let H : List Field → Type 0 = λ (l : List Field). Holds fields l in
+    let H : List Field → Type 0 = λ (l : List Field). IsKeptOf fields l in
     record {
       fields-are = subst H fields-all passed.holds;
       lone-is = ap (λ (m : Message). m.lone) all;
@@ -163,13 +163,13 @@ abbrev pub edicts_joined : List Edict → Option (List Edict) → Option (List E
 edicts_joined done None = None
 edicts_joined done (Some edicts) = Some (done ++ edicts)
 
-joined-nil : (edicts : Option (List Edict)) → edicts_joined [] edicts ≡ edicts
-joined-nil None = refl
-joined-nil (Some edicts) = refl
+edicts_joined-nil : (edicts : Option (List Edict)) → edicts_joined [] edicts ≡ edicts
+edicts_joined-nil None = refl
+edicts_joined-nil (Some edicts) = refl
 
 pub edicts_start : (outputs : ℕ) (body : List ℕ) → edicts_joined [] (edicts_after outputs (Some (record { block = 0; tx = 0 })) body) ≡ edicts_of outputs body
 unfolding edicts_of
-edicts_start outputs body = joined-nil (edicts_after outputs (Some (record { block = 0; tx = 0 })) body)
+edicts_start outputs body = edicts_joined-nil (edicts_after outputs (Some (record { block = 0; tx = 0 })) body)
 
 four_front : (rest : List ℕ) → 4 ≤ length rest → rest ≡ get_or rest 0 0 ∷ get_or rest 1 0 ∷ get_or rest 2 0 ∷ get_or rest 3 0 ∷ drop 4 rest
 four_front [] long = absurd (omega arith)

@@ -5,7 +5,7 @@ use Rattle.ox_script.specs.declared.instructions.Item.{Item}
 use Rattle.ox_script.specs.Script.{Push, Op, Reading, GivesItem, items_of, is_cut}
 use Rattle.ox_varint.specs.declared.VarintFault.{VarintFault}
 use Rattle.ox_varint.specs.Varint.{varint_at}
-use Rattle.ox_runestone.specs.Payload.{before, joined, payload_of, integer_before, integers_past, integers_of}
+use Rattle.ox_runestone.specs.Payload.{before, joined_pushes, payload_of, integer_before, integers_past, integers_of}
 
 pub before-nil : (more : Option (List ℕ)) → before [] more ≡ more
 before-nil None = refl
@@ -31,15 +31,15 @@ after_two script start one two a b left ends first second =
 
 -- what is joined, in front of what the items to come add
 pub record Joins (script payload : List ℕ) (items : Reading) : Type 0 where
-  pub all : before payload (joined items.left) ≡ joined (drop 2 (items_of script))
+  pub all : before payload (joined_pushes items.left) ≡ joined_pushes (drop 2 (items_of script))
   pub ends : items.ends_cut ≡ is_cut script
 
 pub joins_none : (script : List ℕ) (items : Reading) → (items.left ≡ drop 2 (items_of script)) × (items.ends_cut ≡ is_cut script) → Joins script [] items
-joins_none script items is = record { all = before-nil (joined items.left) ∙ ap joined is.0; ends = is.1 }
+joins_none script items is = record { all = before-nil (joined_pushes items.left) ∙ ap joined_pushes is.0; ends = is.1 }
 
 pub joins_push : (script payload bytes : List ℕ) (old new : Reading) → Joins script payload old → old.left ≡ Push bytes ∷ new.left → new.ends_cut ≡ old.ends_cut → Joins script (payload ++ bytes) new
 joins_push script payload bytes old new joins left ends = record {
-  all = before-append payload bytes (joined new.left) ∙ sym (ap (λ items. before payload (joined items)) left) ∙ joins.all;
+  all = before-append payload bytes (joined_pushes new.left) ∙ sym (ap (λ items. before payload (joined_pushes items)) left) ∙ joins.all;
   ends = ends ∙ joins.ends;
 }
 
@@ -50,7 +50,7 @@ same_none false = refl
 pub joins_op : (script payload : List ℕ) (op : ℕ) (old new : Reading) → Joins script payload old → old.left ≡ Op op ∷ new.left → None ≡ payload_of script
 unfolding payload_of
 joins_op script payload op old new joins left =
-    let none : joined (drop 2 (items_of script)) ≡ None = sym joins.all ∙ ap (λ items. before payload (joined items)) left in
+    let none : joined_pushes (drop 2 (items_of script)) ≡ None = sym joins.all ∙ ap (λ items. before payload (joined_pushes items)) left in
     rw none (same_none (is_cut script))
 
 pub joins_cut : (script : List ℕ) → is_cut script ≡ true → None ≡ payload_of script
@@ -60,7 +60,7 @@ joins_cut script cut = rw cut refl
 pub joins_all : (script payload : List ℕ) (items : Reading) → Joins script payload items → items.left ≡ [] → is_cut script ≡ false → Some payload ≡ payload_of script
 unfolding payload_of
 joins_all script payload items joins left whole =
-    let all : Some (payload ++ []) ≡ joined (drop 2 (items_of script)) = sym (ap (λ i. before payload (joined i)) left) ∙ joins.all in
+    let all : Some (payload ++ []) ≡ joined_pushes (drop 2 (items_of script)) = sym (ap (λ i. before payload (joined_pushes i)) left) ∙ joins.all in
     rw whole (ap Some (sym (append-nil payload)) ∙ all)
 
 -- ---- integers

@@ -6,13 +6,13 @@ use Rattle.std.proofs.lemmas.List.{drop-drop, drop_at, take_at, length-append}
 use Rattle.ox_script.specs.Script.{Push, Op, width_of, count_of, reach, items_of, is_cut}
 use Rattle.ox_script.proofs.ScriptLemmas.{items_of-op, is_cut-op, items_of-push, is_cut-push, items_of-nil, is_cut-nil}
 use Rattle.ox_varint.specs.Varint.{varint}
-use Rattle.ox_varint.proofs.Laws.{varint_at-varint, varint-long}
+use Rattle.ox_varint.proofs.GrammarLaws.{varint_at-varint, varint-long}
 use Rattle.ox_runestone.specs.declared.stone.RuneId.{RuneId}
 use Rattle.ox_runestone.specs.declared.stone.Edict.{Edict}
-use Rattle.ox_runestone.specs.Payload.{is_stone, before, joined, payload_of, integers_of}
+use Rattle.ox_runestone.specs.Payload.{is_stone, before, joined_pushes, payload_of, integers_of}
 use Rattle.ox_runestone.specs.Message.{Field, Message, field_before, message_of, id_of, id_after, edict_before, edicts_after, edicts_of}
-use Rattle.ox_runestone.specs.Spelling.{laid, deltas, body_for, push_head, push, joined_chunks, pushed_chunks, IsPushed, IsId, IsEdict, NotBelow, DontFall, DontFallAfter}
-use Rattle.ox_runestone.proofs.Payloads.{integers_of-nil, integers_of-more}
+use Rattle.ox_runestone.specs.Spelling.{tags_and_values, deltas, body_for, push_head, push, joined_chunks, pushed_chunks, IsPushed, IsId, IsEdict, NotBelow, DontFall, DontFallAfter}
+use Rattle.ox_runestone.proofs.PayloadLoops.{integers_of-nil, integers_of-more}
 
 -- ---- pushes
 
@@ -74,12 +74,12 @@ push_back bytes rest short =
           ]
     ]
 
-pub chunks_back : (chunks : List (List ℕ)) → AllByRecursion (λ (chunk : List ℕ). length chunk ≤ 520) chunks → (joined (items_of (pushed_chunks chunks)) ≡ Some (joined_chunks chunks)) × (is_cut (pushed_chunks chunks) ≡ false)
-chunks_back [] short = (ap joined items_of-nil, is_cut-nil)
+pub chunks_back : (chunks : List (List ℕ)) → AllByRecursion (λ (chunk : List ℕ). length chunk ≤ 520) chunks → (joined_pushes (items_of (pushed_chunks chunks)) ≡ Some (joined_chunks chunks)) × (is_cut (pushed_chunks chunks) ≡ false)
+chunks_back [] short = (ap joined_pushes items_of-nil, is_cut-nil)
 chunks_back (chunk ∷ chunks) short =
     let here = push_back chunk (pushed_chunks chunks) short.0 in
     let rest = chunks_back chunks short.1 in
-    (ap joined here.items ∙ ap (before chunk) rest.0, here.whole ∙ rest.1)
+    (ap joined_pushes here.items ∙ ap (before chunk) rest.0, here.whole ∙ rest.1)
 
 pub stone_items : (script text : List ℕ) → script ≡ 0x6a ∷ 0x5d ∷ text → items_of script ≡ Op 0x6a ∷ Op 0x5d ∷ items_of text
 stone_items script text is =
@@ -93,7 +93,7 @@ unfolding payload_of
 payload_back script text payload is pushed =
     let chunks = chunks_back pushed.chunks pushed.short in
     let cut : is_cut script ≡ false = ap is_cut is ∙ is_cut-op 0x6a (0x5d ∷ text) (lit< tt) ∙ is_cut-op 0x5d text (lit< tt) ∙ ap is_cut (sym pushed.text-is) ∙ chunks.1 in
-    let items : joined (drop 2 (items_of script)) ≡ Some payload = ap (λ i. joined (drop 2 i)) (stone_items script text is) ∙ ap (λ t. joined (items_of t)) (sym pushed.text-is) ∙ chunks.0 ∙ ap Some pushed.payload-is in
+    let items : joined_pushes (drop 2 (items_of script)) ≡ Some payload = ap (λ i. joined_pushes (drop 2 i)) (stone_items script text is) ∙ ap (λ t. joined_pushes (items_of t)) (sym pushed.text-is) ∙ chunks.0 ∙ ap Some pushed.payload-is in
     rw cut items
 
 -- ---- integers
@@ -112,13 +112,13 @@ integers_back (n ∷ integers) all =
 abbrev message_with : List Field → List ℕ → Message
 message_with fields body = record { fields = fields; lone = false; body = body }
 
-fields_back : (fields : List Field) (tail : List ℕ) → AllByRecursion (λ (f : Field). f.0 ≢ 0) fields → message_of (laid fields ++ tail) ≡ record { fields = fields ++ (message_of tail).fields; lone = (message_of tail).lone; body = (message_of tail).body }
+fields_back : (fields : List Field) (tail : List ℕ) → AllByRecursion (λ (f : Field). f.0 ≢ 0) fields → message_of (tags_and_values fields ++ tail) ≡ record { fields = fields ++ (message_of tail).fields; lone = (message_of tail).lone; body = (message_of tail).body }
 fields_back [] tail tags = refl
 fields_back (field ∷ fields) tail tags =
     rw (ne_eqb field.0 0 tags.0) (ap (field_before field) (fields_back fields tail tags.1))
 
 -- the fields, and a body behind the tag 0 or nothing
-pub message_back : (fields : List Field) (edicts : List Edict) → AllByRecursion (λ (f : Field). f.0 ≢ 0) fields → message_of (laid fields ++ body_for edicts) ≡ record { fields = fields; lone = false; body = deltas (record { block = 0; tx = 0 }) edicts }
+pub message_back : (fields : List Field) (edicts : List Edict) → AllByRecursion (λ (f : Field). f.0 ≢ 0) fields → message_of (tags_and_values fields ++ body_for edicts) ≡ record { fields = fields; lone = false; body = deltas (record { block = 0; tx = 0 }) edicts }
 message_back fields [] tags = fields_back fields [] tags ∙ ap (λ f. message_with f []) (append-nil fields)
 message_back fields (edict ∷ edicts) tags =
     fields_back fields (body_for (edict ∷ edicts)) tags ∙ ap (λ f. message_with f (deltas (record { block = 0; tx = 0 }) (edict ∷ edicts))) (append-nil fields)

@@ -8,17 +8,17 @@ use Rattle.ox_runestone.specs.declared.stone.Edict.{Edict}
 use Rattle.ox_runestone.specs.declared.stone.Artifact.TheVariants.{Stone, Cenotaph}
 use Rattle.ox_runestone.specs.Payload.{payload_of, integers_of}
 use Rattle.ox_runestone.specs.Message.{Field, message_of}
-use Rattle.ox_runestone.specs.Seen.{kept_at, Holds}
+use Rattle.ox_runestone.specs.ValuesKept.{values_at, IsKeptOf}
 use Rattle.ox_runestone.specs.Fields.{first_of, field_of, mint_of, etching_of, has_strange_flag, leaves_even, overflows}
-use Rattle.ox_runestone.specs.Artifact.{mint_in, are_flawed, cenotaph_of, judged, of_message, of_integers, artifact_of}
-use Rattle.ox_runestone.specs.Kept.{firsts_in}
-use Rattle.ox_runestone.proofs.Leaves.{strange-same, etching-same, mint-same, field-same}
+use Rattle.ox_runestone.specs.Artifact.{mint_in, are_flawed, cenotaph_of, artifact_from, of_message, of_integers, artifact_of}
+use Rattle.ox_runestone.specs.FieldsKept.{firsts_in}
+use Rattle.ox_runestone.proofs.EvenTagsLeft.{strange-same, etching-same, mint-same, field-same}
 
 or_true : (b : Bool) → (b || true) ≡ true
 or_true true = refl
 or_true false = refl
 
-pub flawed_flag : (fields : Fields) (outputs : ℕ) (list : List Field) → has_strange_flag (firsts_in fields) ≡ true → Holds fields list → true ≡ are_flawed outputs list
+pub flawed_flag : (fields : Fields) (outputs : ℕ) (list : List Field) → has_strange_flag (firsts_in fields) ≡ true → IsKeptOf fields list → true ≡ are_flawed outputs list
 flawed_flag fields outputs list is h =
     let same : has_strange_flag (first_of list) ≡ true = sym (strange-same fields list h) ∙ is in
     sym (ap (λ b. b || (leaves_even (first_of list) (mint_in list) outputs list || overflows (etching_of (first_of list)))) same)
@@ -27,29 +27,29 @@ pub flawed_leaves : (outputs : ℕ) (list : List Field) → true ≡ leaves_even
 flawed_leaves outputs list is =
     sym (ap (λ b. has_strange_flag (first_of list) || (b || overflows (etching_of (first_of list)))) (sym is) ∙ or_true (has_strange_flag (first_of list)))
 
-pub flawed_supply : (fields : Fields) (outputs : ℕ) (list : List Field) (over : Bool) → has_strange_flag (firsts_in fields) ≡ false → false ≡ leaves_even (first_of list) (mint_in list) outputs list → over ≡ overflows (etching_of (firsts_in fields)) → Holds fields list → over ≡ are_flawed outputs list
+pub flawed_supply : (fields : Fields) (outputs : ℕ) (list : List Field) (over : Bool) → has_strange_flag (firsts_in fields) ≡ false → false ≡ leaves_even (first_of list) (mint_in list) outputs list → over ≡ overflows (etching_of (firsts_in fields)) → IsKeptOf fields list → over ≡ are_flawed outputs list
 flawed_supply fields outputs list over flag leaves is h =
     let same : has_strange_flag (first_of list) ≡ false = sym (strange-same fields list h) ∙ flag in
     is ∙ ap overflows (etching-same fields list h)
     ∙ sym (ap (λ b. b || (leaves_even (first_of list) (mint_in list) outputs list || overflows (etching_of (first_of list)))) same ∙ ap (λ b. b || overflows (etching_of (first_of list))) (sym leaves))
 
-pub judged_none : (outputs : ℕ) (list : List Field) (lone : Bool) (edicts : Option (List Edict)) → edicts ≡ None → cenotaph_of list ≡ judged outputs list lone edicts
-judged_none outputs list lone edicts is = sym (ap (judged outputs list lone) is)
+pub artifact_from_none : (outputs : ℕ) (list : List Field) (lone : Bool) (edicts : Option (List Edict)) → edicts ≡ None → cenotaph_of list ≡ artifact_from outputs list lone edicts
+artifact_from_none outputs list lone edicts is = sym (ap (artifact_from outputs list lone) is)
 
-pub judged_lone : (outputs : ℕ) (list : List Field) (lone : Bool) (edicts : Option (List Edict)) (some : List Edict) → edicts ≡ Some some → lone ≡ true → cenotaph_of list ≡ judged outputs list lone edicts
-judged_lone outputs list lone edicts some is alone = sym (ap (λ b. judged outputs list b edicts) alone ∙ ap (judged outputs list true) is)
+pub artifact_from_lone : (outputs : ℕ) (list : List Field) (lone : Bool) (edicts : Option (List Edict)) (some : List Edict) → edicts ≡ Some some → lone ≡ true → cenotaph_of list ≡ artifact_from outputs list lone edicts
+artifact_from_lone outputs list lone edicts some is alone = sym (ap (λ b. artifact_from outputs list b edicts) alone ∙ ap (artifact_from outputs list true) is)
 
-pub judged_flawed : (outputs : ℕ) (list : List Field) (lone : Bool) (edicts : Option (List Edict)) (some : List Edict) → edicts ≡ Some some → lone ≡ false → are_flawed outputs list ≡ true → cenotaph_of list ≡ judged outputs list lone edicts
-judged_flawed outputs list lone edicts some is whole flawed =
-    sym (ap (λ b. judged outputs list b edicts) whole ∙ ap (judged outputs list false) is ∙ rw flawed refl)
+pub artifact_from_flawed : (outputs : ℕ) (list : List Field) (lone : Bool) (edicts : Option (List Edict)) (some : List Edict) → edicts ≡ Some some → lone ≡ false → are_flawed outputs list ≡ true → cenotaph_of list ≡ artifact_from outputs list lone edicts
+artifact_from_flawed outputs list lone edicts some is whole flawed =
+    sym (ap (λ b. artifact_from outputs list b edicts) whole ∙ ap (artifact_from outputs list false) is ∙ rw flawed refl)
 
 stone-parts : (e e' : Option Etching) (m m' : Option RuneId) (p p' : Option ℕ) (d d' : List Edict) → e ≡ e' → m ≡ m' → p ≡ p' → d ≡ d' → Stone (record { etching = e; mint = m; pointer = p; edicts = d }) ≡ Stone (record { etching = e'; mint = m'; pointer = p'; edicts = d' })
 stone-parts e e' m m' p p' d d' x y z w = cc
 
-pub judged_stone : (fields : Fields) (outputs : ℕ) (list : List Field) (lone : Bool) (edicts : Option (List Edict)) (some all : List Edict) → edicts ≡ Some some → all ≡ some → lone ≡ false → are_flawed outputs list ≡ false → Holds fields list → Stone (record { etching = etching_of (firsts_in fields); mint = mint_of (kept_at fields 20).first (kept_at fields 20).second; pointer = field_of (firsts_in fields) outputs 22; edicts = all }) ≡ judged outputs list lone edicts
-judged_stone fields outputs list lone edicts some all is all-is whole sound h =
+pub artifact_from_stone : (fields : Fields) (outputs : ℕ) (list : List Field) (lone : Bool) (edicts : Option (List Edict)) (some all : List Edict) → edicts ≡ Some some → all ≡ some → lone ≡ false → are_flawed outputs list ≡ false → IsKeptOf fields list → Stone (record { etching = etching_of (firsts_in fields); mint = mint_of (values_at fields 20).first (values_at fields 20).second; pointer = field_of (firsts_in fields) outputs 22; edicts = all }) ≡ artifact_from outputs list lone edicts
+artifact_from_stone fields outputs list lone edicts some all is all-is whole sound h =
     stone-parts _ _ _ _ _ _ _ _ (etching-same fields list h) (mint-same fields list h) (field-same fields list outputs 22 h (lit< tt)) all-is
-    ∙ sym (ap (λ b. judged outputs list b edicts) whole ∙ ap (judged outputs list false) is ∙ rw sound refl)
+    ∙ sym (ap (λ b. artifact_from outputs list b edicts) whole ∙ ap (artifact_from outputs list false) is ∙ rw sound refl)
 
 -- ---- the script
 

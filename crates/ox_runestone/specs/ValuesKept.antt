@@ -8,24 +8,24 @@ use Rattle.ox_runestone.specs.declared.message.Fields.{Fields}
 use Rattle.ox_runestone.specs.Message.{Field, values}
 
 -- what is kept of a list of values
-abbrev pub kept : List ℕ → Values
-kept list = record {
+abbrev pub values_kept : List ℕ → Values
+values_kept list = record {
   first = slice_get list 0;
   second = slice_get list 1;
   more = nat_lt 2 (length list);
 }
 
-abbrev pub pushed_onto : Option ℕ → Option ℕ → Bool → ℕ → Values
-pushed_onto None second more value =
+abbrev pub with_value_after : Option ℕ → Option ℕ → Bool → ℕ → Values
+with_value_after None second more value =
     record { first = Some value; second = second; more = more }
-pushed_onto (Some first) None more value =
+with_value_after (Some first) None more value =
     record { first = Some first; second = Some value; more = more }
-pushed_onto (Some first) (Some second) more value =
+with_value_after (Some first) (Some second) more value =
     record { first = Some first; second = Some second; more = true }
 
 -- one value more
-abbrev pub pushed : Values → ℕ → Values
-pushed old value = pushed_onto old.first old.second old.more value
+abbrev pub with_value : Values → ℕ → Values
+with_value old value = with_value_after old.first old.second old.more value
 
 -- whether there are more values than so many
 abbrev pub leaves_in : Values → ℕ → Bool
@@ -34,13 +34,13 @@ leaves_in list (suc zero) = is_some list.second
 leaves_in list _ = list.more
 
 -- the values of a tag with a field
-abbrev pub kept_at : Fields → ℕ → Values
-kept_at fields tag = slice_index_or fields.values tag (kept [])
+abbrev pub values_at : Fields → ℕ → Values
+values_at fields tag = slice_index_or fields.values tag (values_kept [])
 
-abbrev pub added : Fields → ℕ → ℕ → Fields
-added fields tag value =
+abbrev pub with_field : Fields → ℕ → ℕ → Fields
+with_field fields tag value =
     if nat_lt tag 23 then record {
-      values = slice_set fields.values tag (pushed (kept_at fields tag) value);
+      values = slice_set fields.values tag (with_value (values_at fields tag) value);
       strange = fields.strange;
     }
     else record { values = fields.values; strange = fields.strange || (tag % 2 == 0) }
@@ -50,7 +50,7 @@ abbrev pub is_strange : Field → Bool
 is_strange field = nat_le 23 field.0 && (field.0 % 2 == 0)
 
 -- these fields are kept of the list
-pub record Holds (fields : Fields) (list : List Field) : Type 0 where
-  pub known : (tag : ℕ) → tag < 23 → kept_at fields tag ≡ kept (values list tag)
+pub record IsKeptOf (fields : Fields) (list : List Field) : Type 0 where
+  pub known : (tag : ℕ) → tag < 23 → values_at fields tag ≡ values_kept (values list tag)
   pub strange : fields.strange ≡ list_any is_strange list
   pub long : length fields.values ≡ 23
