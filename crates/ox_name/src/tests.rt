@@ -3,92 +3,120 @@ use super::*;
 /// UNCOMMON and GOODS with U+2022 between them.
 const UNCOMMON_GOODS: &[u8; 16] = b"UNCOMMON\xe2\x80\xa2GOODS";
 
-fn name_is(rt: &impl std::process::Abort, number: u128, name: &[u8]) {
+/// The number of the name UNCOMMONGOODS.
+const UNCOMMON: u128 = 2_055_900_680_524_219_742;
+
+/// The number of the name of 27 letters A.
+const FIRST_RESERVED: u128 = 6_402_364_363_415_443_603_228_541_259_936_211_926;
+
+/// Whether the number's name is written so, and is read back as the number without spacers.
+fn has_name(number: u128, name: &[u8]) -> bool {
     let mut room = [0; 28];
     let count = write_name(number, &mut room);
-    assert_eq!(rt; &room[..count], name);
-    assert_eq!(rt;
-        read_name(name),
-        Ok(Named {
-            name: number,
-            spacers: 0
-        })
-    );
+    &room[..count] == name && is_read(name, number, 0)
+}
+
+/// Whether the text is read as this name with these spacers.
+fn is_read(text: &[u8], name: u128, spacers: u32) -> bool {
+    read_name(text) == Ok(Named { name, spacers })
+}
+
+/// Whether the text is refused.
+fn is_refused(text: &[u8]) -> bool {
+    read_name(text) == Err(NotName)
+}
+
+/// Whether the name with these spacers is written so.
+fn is_spaced(name: u128, spacers: u32, text: &[u8]) -> bool {
+    let mut room = [0; 112];
+    let count = write_spaced(name, spacers, &mut room);
+    &room[..count] == text
+}
+
+/// Whether the commitment to a name is written so, and the bytes behind it stay.
+fn has_commitment(name: u128, bytes: &[u8]) -> bool {
+    let mut room = [0xaa; 16];
+    let count = commitment(name, &mut room);
+    if &room[..count] != bytes {
+        return false;
+    }
+    for byte in &room[count..] {
+        if *byte != 0xaa {
+            return false;
+        }
+    }
+    true
+}
+
+/// Whether the amount is written so.
+fn is_amount(amount: u128, divisibility: u8, text: &[u8]) -> bool {
+    if divisibility > 38 {
+        return false;
+    }
+    let mut room = [0; 41];
+    let count = write_amount(amount, divisibility, &mut room);
+    &room[..count] == text
+}
+
+/// Names at the ends, and on both sides of a change of length.
+fn names() -> [(u128, &'static [u8]); 10] {
+    [
+        (0, b"A"),
+        (25, b"Z"),
+        (26, b"AA"),
+        (701, b"ZZ"),
+        (702, b"AAA"),
+        (96_723_641_422, b"LABTESTS"),
+        (UNCOMMON, b"UNCOMMONGOODS"),
+        (FIRST_RESERVED - 1, b"ZZZZZZZZZZZZZZZZZZZZZZZZZZ"),
+        (FIRST_RESERVED, b"AAAAAAAAAAAAAAAAAAAAAAAAAAA"),
+        (u128::MAX, b"BCGDENLQRQWDSLRUGSNLBTMFIJAV"),
+    ]
 }
 
 #[test]
 fn names_at_the_ends_and_at_each_change_of_length(rt: HostRuntime) {
-    name_is(&rt, 0, b"A");
-    name_is(&rt, 25, b"Z");
-    name_is(&rt, 26, b"AA");
-    name_is(&rt, 701, b"ZZ");
-    name_is(&rt, 702, b"AAA");
-    name_is(&rt, 96_723_641_422, b"LABTESTS");
-    name_is(&rt, 2_055_900_680_524_219_742, b"UNCOMMONGOODS");
-    name_is(
-        &rt,
-        6_402_364_363_415_443_603_228_541_259_936_211_925,
-        b"ZZZZZZZZZZZZZZZZZZZZZZZZZZ",
-    );
-    name_is(
-        &rt,
-        6_402_364_363_415_443_603_228_541_259_936_211_926,
-        b"AAAAAAAAAAAAAAAAAAAAAAAAAAA",
-    );
-    name_is(&rt, u128::MAX, b"BCGDENLQRQWDSLRUGSNLBTMFIJAV");
-    assert_eq!(rt;
-        read_name(b"BCGDENLQRQWDSLRUGSNLBTMFIJAW"),
-        Err(NotName),
-        "one above 128 bits"
-    );
-    assert_eq!(rt;
-        read_name(b"AAAAAAAAAAAAAAAAAAAAAAAAAAAAA"),
-        Err(NotName),
-        "29 letters"
-    );
+    for (number, name) in names() {
+        assert!(rt; has_name(number, name), "{number}");
+    }
+}
+
+/// Texts that are no name: above 128 bits, of 29 letters, empty, with a spacer at an end or two in
+/// a row, with a part of a spacer, and with a small letter.
+fn refused_texts() -> [&'static [u8]; 9] {
+    [
+        b"BCGDENLQRQWDSLRUGSNLBTMFIJAW",
+        b"AAAAAAAAAAAAAAAAAAAAAAAAAAAAA",
+        b"",
+        b"A..B",
+        b"A.\xe2\x80\xa2B",
+        b".A",
+        b"A.",
+        b"A\xe2\x80B",
+        b"a",
+    ]
+}
+
+#[test]
+fn texts_that_are_no_name_are_refused(rt: HostRuntime) {
+    for text in refused_texts() {
+        assert!(rt; is_refused(text), "{text:?}");
+    }
 }
 
 #[test]
 fn spacers_stand_singly_between_letters(rt: HostRuntime) {
-    let uncommon = Named {
-        name: 2_055_900_680_524_219_742,
-        spacers: 128,
-    };
-    assert_eq!(rt; read_name(UNCOMMON_GOODS), Ok(uncommon));
-    assert_eq!(rt; read_name(b"UNCOMMON.GOODS"), Ok(uncommon));
-    assert_eq!(rt;
-        read_name(b"A.A.A"),
-        Ok(Named {
-            name: 702,
-            spacers: 3
-        })
-    );
-    assert_eq!(rt; read_name(b""), Err(NotName));
-    assert_eq!(rt; read_name(b"A..B"), Err(NotName));
-    assert_eq!(rt; read_name(b"A.\xe2\x80\xa2B"), Err(NotName));
-    assert_eq!(rt; read_name(b".A"), Err(NotName));
-    assert_eq!(rt; read_name(b"A."), Err(NotName));
-    assert_eq!(rt;
-        read_name(b"A\xe2\x80B"),
-        Err(NotName),
-        "not the whole spacer"
-    );
-    assert_eq!(rt; read_name(b"a"), Err(NotName));
-
-    let mut room = [0; 112];
-    let count = write_spaced(uncommon.name, 128, &mut room);
-    assert_eq!(rt; &room[..count], UNCOMMON_GOODS.as_slice());
-    let count = write_spaced(702, u32::MAX, &mut room);
-    assert_eq!(rt;
-        &room[..count],
-        b"A\xe2\x80\xa2A\xe2\x80\xa2A".as_slice(),
-        "none behind the last letter"
-    );
+    assert!(rt; is_read(UNCOMMON_GOODS, UNCOMMON, 128));
+    assert!(rt; is_read(b"UNCOMMON.GOODS", UNCOMMON, 128));
+    assert!(rt; is_read(b"A.A.A", 702, 3));
+    assert!(rt; is_spaced(UNCOMMON, 128, UNCOMMON_GOODS));
+    // None behind the last letter.
+    assert!(rt; is_spaced(702, u32::MAX, b"A\xe2\x80\xa2A\xe2\x80\xa2A"));
 }
 
-#[test]
-fn the_least_name_falls_within_an_interval(rt: HostRuntime) {
-    let mainnet = [
+/// Heights of mainnet and the least name at each.
+fn least_names() -> [(u64, u128); 8] {
+    [
         (839_998, 99_246_114_928_149_462),
         (839_999, 99_246_114_928_149_462),
         (840_000, 99_240_661_844_911_652),
@@ -97,32 +125,37 @@ fn the_least_name_falls_within_an_interval(rt: HostRuntime) {
         (1_049_998, 1),
         (1_049_999, 0),
         (u64::MAX, 0),
-    ];
-    for (height, least) in mainnet {
-        assert_eq!(rt; minimum(840_000, 17_500, height), least, "at {height}");
+    ]
+}
+
+#[test]
+fn the_least_name_falls_within_an_interval(rt: HostRuntime) {
+    for (height, least) in least_names() {
+        assert!(rt; minimum(840_000, 17_500, height) == least, "at {height}");
     }
-    assert_eq!(rt; minimum(5, 0, 4), 0, "no interval");
-    assert_eq!(rt; minimum(5, 0, 3), 99_246_114_928_149_462);
-    name_is(&rt, minimum(840_000, 17_500, 840_000), b"ZZYZXBRKWXVA");
+    assert!(rt; has_name(minimum(840_000, 17_500, 840_000), b"ZZYZXBRKWXVA"));
+}
+
+#[test]
+fn an_interval_of_no_block_opens_all_names_at_once(rt: HostRuntime) {
+    assert!(rt; minimum(5, 0, 4) == 0);
+    assert!(rt; minimum(5, 0, 3) == 99_246_114_928_149_462);
 }
 
 #[test]
 fn names_are_reserved_and_committed_to(rt: HostRuntime) {
-    let first = 6_402_364_363_415_443_603_228_541_259_936_211_926;
-    assert!(rt; is_reserved(first) && !is_reserved(first - 1));
-    assert_eq!(rt; reserved(0, 0), first);
-    assert_eq!(rt; reserved(1, 2), first + 4_294_967_298);
-
-    let mut room = [0xaa; 16];
-    assert_eq!(rt; commitment(96_723_641_422, &mut room), 5);
-    assert_eq!(rt; &room[..6], [0x4e, 0xa4, 0x2d, 0x85, 0x16, 0xaa].as_slice());
-    assert_eq!(rt; commitment(0, &mut room), 0, "an empty push");
-    assert_eq!(rt; commitment(u128::MAX, &mut room), 16);
+    assert!(rt; is_reserved(FIRST_RESERVED) && !is_reserved(FIRST_RESERVED - 1));
+    assert!(rt; reserved(0, 0) == FIRST_RESERVED);
+    assert!(rt; reserved(1, 2) == FIRST_RESERVED + 4_294_967_298);
+    assert!(rt; has_commitment(96_723_641_422, &[0x4e, 0xa4, 0x2d, 0x85, 0x16]));
+    // An empty push.
+    assert!(rt; has_commitment(0, &[]));
+    assert!(rt; has_commitment(u128::MAX, &[0xff; 16]));
 }
 
-#[test]
-fn amounts_lose_their_zeros_at_the_end(rt: HostRuntime) {
-    let amounts: [(u128, u8, &[u8]); 7] = [
+/// Amounts, their divisibility and how they are written.
+fn amounts() -> [(u128, u8, &'static [u8]); 7] {
+    [
         (1234, 2, b"12.34"),
         (1200, 2, b"12"),
         (5, 3, b"0.005"),
@@ -130,12 +163,15 @@ fn amounts_lose_their_zeros_at_the_end(rt: HostRuntime) {
         (0, 38, b"0"),
         (u128::MAX, 0, b"340282366920938463463374607431768211455"),
         (u128::MAX, 38, b"3.40282366920938463463374607431768211455"),
-    ];
-    let mut room = [0; 41];
-    for (amount, divisibility, text) in amounts {
-        if divisibility <= 38 {
-            let count = write_amount(amount, divisibility, &mut room);
-            assert_eq!(rt; &room[..count], text);
-        }
+    ]
+}
+
+#[test]
+fn amounts_lose_their_zeros_at_the_end(rt: HostRuntime) {
+    for (amount, divisibility, text) in amounts() {
+        assert!(rt;
+            is_amount(amount, divisibility, text),
+            "{amount} {divisibility}"
+        );
     }
 }
