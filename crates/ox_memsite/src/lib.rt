@@ -17,6 +17,3 @@ pub use crash::Choice;
 pub use said::Said;
 pub use site::MemSite;
 pub use step::Step;
-
-#[cfg(test)]
-mod tests;
