@@ -87,49 +87,49 @@ none-in-front (c ∷ cs) long h ne = marks-bad c cs h ne
 -- ---- the loop of the reader
 
 -- what the rest of a text adds to a number and its spacers
-abbrev pub finished : ℕ → ℕ → ℕ → Option (List Mark) → Option Named
-finished n spacers place None = None
-finished n spacers place (Some ms) = name_if_fits (number_after n (letters_of ms)) (spacers + 2 ^ place * spacers_of ms)
+abbrev pub name_from : ℕ → ℕ → ℕ → Option (List Mark) → Option Named
+name_from n spacers place None = None
+name_from n spacers place (Some ms) = name_if_fits (number_after n (letters_of ms)) (spacers + 2 ^ place * spacers_of ms)
 
-begun-letter : (c : ℕ) (ms : Option (List Mark)) → name_of_marks (with_letter c ms) ≡ finished (c - 65) 0 0 ms
+begun-letter : (c : ℕ) (ms : Option (List Mark)) → name_of_marks (with_letter c ms) ≡ name_from (c - 65) 0 0 ms
 begun-letter c None = refl
 begun-letter c (Some ms) = let e : 0 + 2 ^ 0 * spacers_of ms ≡ spacers_of ms = omega arith in rw e refl
 
 -- a letter, with a spacer before it or none
-abbrev pub led : Bool → ℕ → Option (List Mark) → Option (List Mark)
-led b c ms = cond b (with_spacer (with_letter c ms)) (with_letter c ms)
+abbrev pub with_mark : Bool → ℕ → Option (List Mark) → Option (List Mark)
+with_mark b c ms = cond b (with_spacer (with_letter c ms)) (with_letter c ms)
 
-finished-letter : (n spacers place c : ℕ) (b : Bool) (ms : Option (List Mark)) → finished n spacers place (led b c ms) ≡ finished (number_with n c) (spacers + cond b (2 ^ place) 0) (place + 1) ms
-finished-letter n spacers place c true None = refl
-finished-letter n spacers place c false None = refl
-finished-letter n spacers place c true (Some ms) =
+name_from-letter : (n spacers place c : ℕ) (b : Bool) (ms : Option (List Mark)) → name_from n spacers place (with_mark b c ms) ≡ name_from (number_with n c) (spacers + cond b (2 ^ place) 0) (place + 1) ms
+name_from-letter n spacers place c true None = refl
+name_from-letter n spacers place c false None = refl
+name_from-letter n spacers place c true (Some ms) =
     let p : 2 ^ (place + 1) ≡ 2 ^ place * 2 = ap (λ k. 2 ^ k) (add-one place) ∙ pow-suc 2 place in
     let e : spacers + 2 ^ place * (1 + 2 * spacers_of ms) ≡ spacers + 2 ^ place + 2 ^ (place + 1) * spacers_of ms = rw p (omega arith) in
     ap (name_if_fits (number_after (number_with n c) (letters_of ms))) e
-finished-letter n spacers place c false (Some ms) =
+name_from-letter n spacers place c false (Some ms) =
     let p : 2 ^ (place + 1) ≡ 2 ^ place * 2 = ap (λ k. 2 ^ k) (add-one place) ∙ pow-suc 2 place in
     let e : spacers + 2 ^ place * (0 + 2 * spacers_of ms) ≡ spacers + 0 + 2 ^ (place + 1) * spacers_of ms = rw p (omega arith) in
     ap (name_if_fits (number_after (number_with n c) (letters_of ms))) e
 
-finished-over : (n spacers place : ℕ) (ms : Option (List Mark)) → 2 ^ 128 ≤ n → finished n spacers place ms ≡ None
-finished-over n spacers place None over = refl
-finished-over n spacers place (Some ms) over =
+name_from-over : (n spacers place : ℕ) (ms : Option (List Mark)) → 2 ^ 128 ≤ n → name_from n spacers place ms ≡ None
+name_from-over n spacers place None over = refl
+name_from-over n spacers place (Some ms) over =
     let up : 2 ^ 128 ≤ number_after n (letters_of ms) = omega (arith, number_after-ge n (letters_of ms)) in
     rw (le-ltb (number_after n (letters_of ms)) (2 ^ 128) up) refl
 
-finished-end : (n spacers place : ℕ) → n < 2 ^ 128 → finished n spacers place (Some []) ≡ Some (record { name = n; spacers = spacers })
-finished-end n spacers place lt = let e : spacers + 2 ^ place * 0 ≡ spacers = omega arith in rw (e, lt-ltb n (2 ^ 128) lt) refl
+name_from-end : (n spacers place : ℕ) → n < 2 ^ 128 → name_from n spacers place (Some []) ≡ Some (record { name = n; spacers = spacers })
+name_from-end n spacers place lt = let e : spacers + 2 ^ place * 0 ≡ spacers = omega arith in rw (e, lt-ltb n (2 ^ 128) lt) refl
 
 -- what stands in front of the rest, where a letter follows at once or behind a spacer
-marks-led : (b : Bool) (rest behind after : List ℕ) (c : ℕ) → (b ≡ true → dotted_text rest ≡ 46 ∷ dotted_text behind) → (b ≡ false → behind ≡ rest) → IsLetter c → behind ≡ c ∷ after → marks (dotted_text rest) ≡ led b c (marks (dotted_text after))
-marks-led b rest behind after c spacer none letter is =
+marks-with_mark : (b : Bool) (rest behind after : List ℕ) (c : ℕ) → (b ≡ true → dotted_text rest ≡ 46 ∷ dotted_text behind) → (b ≡ false → behind ≡ rest) → IsLetter c → behind ≡ c ∷ after → marks (dotted_text rest) ≡ with_mark b c (marks (dotted_text after))
+marks-with_mark b rest behind after c spacer none letter is =
     let low : 65 ≤ c = letter.0 in
     let up : c ≤ 90 = letter.1 in
     let ne : c ≢ 0xe2 = omega arith in
     let text : dotted_text behind ≡ c ∷ dotted_text after = ap dotted_text is ∙ dotted-other c after ne in
     let here : marks (dotted_text behind) ≡ with_letter c (marks (dotted_text after)) = ap marks text ∙ marks-letter c (dotted_text after) letter in
-    let P : Bool → Type 0 = λ (x : Bool). b ≡ x → marks (dotted_text rest) ≡ led x c (marks (dotted_text after)) in
-    let q : P b = elim b as (λ x. b ≡ x → marks (dotted_text rest) ≡ led x c (marks (dotted_text after))) [
+    let P : Bool → Type 0 = λ (x : Bool). b ≡ x → marks (dotted_text rest) ≡ with_mark x c (marks (dotted_text after)) in
+    let q : P b = elim b as (λ x. b ≡ x → marks (dotted_text rest) ≡ with_mark x c (marks (dotted_text after))) [
       | true ↦ λ t. ap marks (spacer t) ∙ marks-dot (dotted_text behind) ∙ ap with_spacer here
       | false ↦ λ f. ap (λ t. marks (dotted_text t)) (sym (none f)) ∙ here
     ] in
@@ -163,11 +163,11 @@ pub named-none : (text : List ℕ) → BeginsWithNone IsLetter text → name_in 
 unfolding name_in
 named-none text h = begun-none (dotted_text text) (none-behind text h)
 
-pub named-first : (text after : List ℕ) (c : ℕ) → IsLetter c → text ≡ c ∷ after → finished (c - 65) 0 0 (marks (dotted_text after)) ≡ name_in text
+pub named-first : (text after : List ℕ) (c : ℕ) → IsLetter c → text ≡ c ∷ after → name_from (c - 65) 0 0 (marks (dotted_text after)) ≡ name_in text
 unfolding name_in
 named-first text after c letter is =
     let same : (t : List ℕ) → t ≡ t = λ t. refl in
-    sym (ap name_of_marks (marks-led false text text after c (λ t. absurd (false≢true t)) (λ f. refl) letter is) ∙ begun-letter c (marks (dotted_text after)))
+    sym (ap name_of_marks (marks-with_mark false text text after c (λ t. absurd (false≢true t)) (λ f. refl) letter is) ∙ begun-letter c (marks (dotted_text after)))
 
 -- ---- numbers in the loop
 
@@ -213,14 +213,14 @@ bits_fit spacers place b small lt =
 
 -- the state after so many letters
 pub record Read (text rest : List ℕ) (n spacers place : ℕ) : Type 0 where
-  pub is : finished n spacers place (marks (dotted_text rest)) ≡ name_in text
+  pub is : name_from n spacers place (marks (dotted_text rest)) ≡ name_in text
   pub letters : 26 ^ place ≤ n + 1
   pub bits : spacers < 2 ^ place
   pub small : n < 2 ^ 128
 
 pub reads_on : (text rest behind after : List ℕ) (n spacers place c : ℕ) (b : Bool) → Read text rest n spacers place → (b ≡ true → dotted_text rest ≡ 46 ∷ dotted_text behind) → (b ≡ false → behind ≡ rest) → IsLetter c → behind ≡ c ∷ after → number_with n c < 2 ^ 128 → Read text after (number_with n c) (spacers + cond b (2 ^ place) 0) (place + 1)
 reads_on text rest behind after n spacers place c b read spacer none letter is lt = record {
-  is = sym (finished-letter n spacers place c b (marks (dotted_text after))) ∙ ap (finished n spacers place) (sym (marks-led b rest behind after c spacer none letter is)) ∙ read.is;
+  is = sym (name_from-letter n spacers place c b (marks (dotted_text after))) ∙ ap (name_from n spacers place) (sym (marks-with_mark b rest behind after c spacer none letter is)) ∙ read.is;
   letters = place_more place n c read.letters;
   bits = bits_more spacers place b read.bits;
   small = lt;
@@ -228,17 +228,17 @@ reads_on text rest behind after n spacers place c b read spacer none letter is l
 
 pub reads_over : (text rest behind after : List ℕ) (n spacers place c : ℕ) (b : Bool) → Read text rest n spacers place → (b ≡ true → dotted_text rest ≡ 46 ∷ dotted_text behind) → (b ≡ false → behind ≡ rest) → IsLetter c → behind ≡ c ∷ after → 2 ^ 128 ≤ number_with n c → name_in text ≡ None
 reads_over text rest behind after n spacers place c b read spacer none letter is over =
-    let next : finished (number_with n c) (spacers + cond b (2 ^ place) 0) (place + 1) (marks (dotted_text after)) ≡ name_in text = sym (finished-letter n spacers place c b (marks (dotted_text after))) ∙ ap (finished n spacers place) (sym (marks-led b rest behind after c spacer none letter is)) ∙ read.is in
-    sym next ∙ finished-over (number_with n c) (spacers + cond b (2 ^ place) 0) (place + 1) (marks (dotted_text after)) over
+    let next : name_from (number_with n c) (spacers + cond b (2 ^ place) 0) (place + 1) (marks (dotted_text after)) ≡ name_in text = sym (name_from-letter n spacers place c b (marks (dotted_text after))) ∙ ap (name_from n spacers place) (sym (marks-with_mark b rest behind after c spacer none letter is)) ∙ read.is in
+    sym next ∙ name_from-over (number_with n c) (spacers + cond b (2 ^ place) 0) (place + 1) (marks (dotted_text after)) over
 
 pub reads_none : (text rest behind : List ℕ) (n spacers place : ℕ) (b : Bool) → Read text rest n spacers place → 0 < length rest → (b ≡ true → dotted_text rest ≡ 46 ∷ dotted_text behind) → (b ≡ false → (behind ≡ rest) × BeginsWithNone (λ c. c ≡ 46) (dotted_text rest)) → BeginsWithNone IsLetter behind → name_in text ≡ None
 reads_none text rest behind n spacers place b read long spacer none letter =
-    sym read.is ∙ ap (finished n spacers place) (marks-none b rest behind long spacer none letter)
+    sym read.is ∙ ap (name_from n spacers place) (marks-none b rest behind long spacer none letter)
 
 pub reads_all : (text rest : List ℕ) (n spacers place : ℕ) → Read text rest n spacers place → length rest ≡ 0 → name_in text ≡ Some (record { name = n; spacers = spacers })
 reads_all text rest n spacers place read end =
     let none : rest ≡ [] = nil_from_length rest end in
-    sym read.is ∙ ap (λ t. finished n spacers place (marks (dotted_text t))) none ∙ finished-end n spacers place read.small
+    sym read.is ∙ ap (λ t. name_from n spacers place (marks (dotted_text t))) none ∙ name_from-end n spacers place read.small
 
 -- ---- what was written reads back
 

@@ -145,8 +145,8 @@ fn an_interval_of_no_block_opens_all_names_at_once(rt: HostRuntime) {
 #[test]
 fn names_are_reserved_and_committed_to(rt: HostRuntime) {
     assert!(rt; is_reserved(FIRST_RESERVED) && !is_reserved(FIRST_RESERVED - 1));
-    assert!(rt; reserved(0, 0) == FIRST_RESERVED);
-    assert!(rt; reserved(1, 2) == FIRST_RESERVED + 4_294_967_298);
+    assert!(rt; reserved_name(0, 0) == FIRST_RESERVED);
+    assert!(rt; reserved_name(1, 2) == FIRST_RESERVED + 4_294_967_298);
     assert!(rt; has_commitment(96_723_641_422, &[0x4e, 0xa4, 0x2d, 0x85, 0x16]));
     // An empty push.
     assert!(rt; has_commitment(0, &[]));

@@ -75,7 +75,7 @@ pub fn is_reserved(name: u128) -> bool
 
 /// The number of the name of an etching without one, by its height and the place of its
 /// transaction.
-pub fn reserved(height: u32, tx: u32) -> u128
+pub fn reserved_name(height: u32, tx: u32) -> u128
     ensures { result ≡ reserved_name height tx }
 {
     RESERVED + ((height as u128) << 32) + tx as u128

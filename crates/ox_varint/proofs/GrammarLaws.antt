@@ -11,14 +11,14 @@ use Rattle.ox_varint.proofs.WriteLoop.{spelled-low, spelled-high}
 abbrev pub IsBytes : List ℕ → Type 0
 IsBytes bytes = (i : ℕ) → get_or bytes i 0 < 256
 
-abbrev done : ℕ → ℕ → Result (ℕ × ℕ) VarintFault
-done n k = Ok (n, k)
+abbrev ok_of : ℕ → ℕ → Result (ℕ × ℕ) VarintFault
+ok_of n k = Ok (n, k)
 
-within-last : (more b : ℕ) (bs : List ℕ) → b ≤ 3 → varint_within more (b ∷ bs) ≡ done b 1
+within-last : (more b : ℕ) (bs : List ℕ) → b ≤ 3 → varint_within more (b ∷ bs) ≡ ok_of b 1
 within-last zero b bs low = rw (le-leb b 3 low) refl
 within-last (suc more) b bs low = let lt : b < 128 = omega arith in rw (lt-ltb b 128 lt) refl
 
-within-low : (more b : ℕ) (bs : List ℕ) → b < 128 → varint_within (suc more) (b ∷ bs) ≡ done b 1
+within-low : (more b : ℕ) (bs : List ℕ) → b < 128 → varint_within (suc more) (b ∷ bs) ≡ ok_of b 1
 within-low more b bs low = rw (lt-ltb b 128 low) refl
 
 within-high : (more b : ℕ) (bs : List ℕ) → 128 ≤ b → varint_within (suc more) (b ∷ bs) ≡ with_byte b (varint_within more bs)
@@ -27,8 +27,8 @@ within-high more b bs high = rw (le-ltb b 128 high) refl
 within-over : (b : ℕ) (bs : List ℕ) → 3 < b → varint_within zero (b ∷ bs) ≡ Err Overflow
 within-over b bs high = rw (lt-leb b 3 high) refl
 
-done-parts : (m j n k : ℕ) → done m j ≡ done n k → (m ≡ n) × (j ≡ k)
-done-parts m j n k e = let p : ◌≡◌ {A = ℕ × ℕ} (m, j) (n, k) = cc in (ap (λ (x : ℕ × ℕ). x.0) p, ap (λ (x : ℕ × ℕ). x.1) p)
+ok_of-parts : (m j n k : ℕ) → ok_of m j ≡ ok_of n k → (m ≡ n) × (j ≡ k)
+ok_of-parts m j n k e = let p : ◌≡◌ {A = ℕ × ℕ} (m, j) (n, k) = cc in (ap (λ (x : ℕ × ℕ). x.0) p, ap (λ (x : ℕ × ℕ). x.1) p)
 
 IsVarint-cons : (b : ℕ) (text : List ℕ) (high n : ℕ) → 128 ≤ b → b < 256 → n + 128 ≡ b + 128 * high → IsVarint text high → IsVarint (b ∷ text) n
 IsVarint-cons b [] high n low up e h = absurd h
@@ -40,16 +40,16 @@ pub record Found (more : ℕ) (bytes : List ℕ) (n len : ℕ) : Type 0 where
   pub within : len ≤ length bytes
   pub short : len ≤ more + 1
 
-found-one : (more b : ℕ) (bs : List ℕ) (n len : ℕ) → b < 128 → done b 1 ≡ done n len → Found more (b ∷ bs) n len
+found-one : (more b : ℕ) (bs : List ℕ) (n len : ℕ) → b < 128 → ok_of b 1 ≡ ok_of n len → Found more (b ∷ bs) n len
 found-one more b bs n len low e =
-    let p = done-parts b 1 n len e in
+    let p = ok_of-parts b 1 n len e in
     let F : ℕ → Type 0 = λ (k : ℕ). Found more (b ∷ bs) n k in
     subst F p.1 (record { spelled = (low, sym p.0); some = omega arith; within = omega arith; short = omega arith })
 
-found-behind : (more b : ℕ) (bs : List ℕ) (r : Result (ℕ × ℕ) VarintFault) (n len : ℕ) → 128 ≤ b → b < 256 → ((m j : ℕ) → r ≡ done m j → Found more bs m j) → with_byte b r ≡ done n len → Found (suc more) (b ∷ bs) n len
+found-behind : (more b : ℕ) (bs : List ℕ) (r : Result (ℕ × ℕ) VarintFault) (n len : ℕ) → 128 ≤ b → b < 256 → ((m j : ℕ) → r ≡ ok_of m j → Found more bs m j) → with_byte b r ≡ ok_of n len → Found (suc more) (b ∷ bs) n len
 found-behind more b bs (Err fault) n len high up rest e = absurd cc
 found-behind more b bs (Ok x) n len high up rest e =
-    let p = done-parts (b - 128 + 128 * x.0) (x.1 + 1) n len e in
+    let p = ok_of-parts (b - 128 + 128 * x.0) (x.1 + 1) n len e in
     let f = rest x.0 x.1 refl in
     let F : ℕ → Type 0 = λ (k : ℕ). Found (suc more) (b ∷ bs) n k in
     let j : suc x.1 ≡ len = sym (add-one x.1) ∙ p.1 in
@@ -58,12 +58,12 @@ found-behind more b bs (Ok x) n len high up rest e =
     let s : x.1 ≤ more + 1 = f.short in
     subst F j (record { spelled = IsVarint-cons b (take x.1 bs) x.0 n high up (omega arith) f.spelled; some = omega arith; within = omega arith; short = omega arith })
 
-pub is_found : (more : ℕ) (bytes : List ℕ) (n len : ℕ) → IsBytes bytes → varint_within more bytes ≡ done n len → Found more bytes n len
+pub is_found : (more : ℕ) (bytes : List ℕ) (n len : ℕ) → IsBytes bytes → varint_within more bytes ≡ ok_of n len → Found more bytes n len
 is_found zero [] n len fits e = absurd cc
 is_found (suc more) [] n len fits e = absurd cc
 is_found zero (b ∷ bs) n len fits e =
     elim (cases_lt 3 b) [
-      | inl over ↦ let x : Err Overflow ≡ done n len = sym (within-over b bs over) ∙ e in absurd cc
+      | inl over ↦ let x : Err Overflow ≡ ok_of n len = sym (within-over b bs over) ∙ e in absurd cc
       | inr low ↦ found-one zero b bs n len (omega arith) (sym (within-last zero b bs low) ∙ e)
     ]
 is_found (suc more) (b ∷ bs) n len fits e =
@@ -72,16 +72,16 @@ is_found (suc more) (b ∷ bs) n len fits e =
       | inr high ↦ found-behind more b bs (varint_within more bs) n len high (fits 0) (λ m j h. is_found more bs m j (λ i. fits (suc i)) h) (sym (within-high more b bs high) ∙ e)
     ]
 
-pub is_read : (more : ℕ) (text rest : List ℕ) (n : ℕ) → IsVarint text n → length text ≤ suc more → n < 4 * 128 ^ more → varint_within more (text ++ rest) ≡ done n (length text)
+pub is_read : (more : ℕ) (text rest : List ℕ) (n : ℕ) → IsVarint text n → length text ≤ suc more → n < 4 * 128 ^ more → varint_within more (text ++ rest) ≡ ok_of n (length text)
 is_read more [] rest n h short lt = absurd h
-is_read zero (b ∷ []) rest n h short lt = within-last zero b rest (omega (arith, h.1)) ∙ ap (λ k. done k 1) (sym h.1)
-is_read (suc more) (b ∷ []) rest n h short lt = within-low more b rest h.0 ∙ ap (λ k. done k 1) (sym h.1)
+is_read zero (b ∷ []) rest n h short lt = within-last zero b rest (omega (arith, h.1)) ∙ ap (λ k. ok_of k 1) (sym h.1)
+is_read (suc more) (b ∷ []) rest n h short lt = within-low more b rest h.0 ∙ ap (λ k. ok_of k 1) (sym h.1)
 is_read zero (b ∷ c ∷ bs) rest n h short lt = absurd (omega arith)
 is_read (suc more) (b ∷ c ∷ bs) rest n (low, up, (high, (e, h))) short lt =
     let p : 128 ^ suc more ≡ 128 ^ more * 128 = pow-suc 128 more in
     let q : n < 4 * (128 ^ more * 128) = rw p at lt in
     let r : high < 4 * 128 ^ more = omega arith in
-    let ih : varint_within more ((c ∷ bs) ++ rest) ≡ done high (suc (length bs)) = is_read more (c ∷ bs) rest high h (omega arith) r in
+    let ih : varint_within more ((c ∷ bs) ++ rest) ≡ ok_of high (suc (length bs)) = is_read more (c ∷ bs) rest high h (omega arith) r in
     let v : b - 128 + 128 * high ≡ n = omega arith in
     let k : suc (length bs) + 1 ≡ suc (suc (length bs)) = omega arith in
     within-high more b ((c ∷ bs) ++ rest) low ∙ ap (with_byte b) ih ∙ rw (v, k) refl
@@ -97,11 +97,11 @@ truncated more [] e = (omega arith, All-nil GoesOn)
 truncated zero (b ∷ bs) e =
     elim (cases_lt 3 b) [
       | inl over ↦ let x : Err Overflow ≡ Err Truncated = sym (within-over b bs over) ∙ e in absurd cc
-      | inr low ↦ let x : done b 1 ≡ Err Truncated = sym (within-last zero b bs low) ∙ e in absurd cc
+      | inr low ↦ let x : ok_of b 1 ≡ Err Truncated = sym (within-last zero b bs low) ∙ e in absurd cc
     ]
 truncated (suc more) (b ∷ bs) e =
     elim (cases_lt b 128) [
-      | inl low ↦ let x : done b 1 ≡ Err Truncated = sym (within-low more b bs low) ∙ e in absurd cc
+      | inl low ↦ let x : ok_of b 1 ≡ Err Truncated = sym (within-low more b bs low) ∙ e in absurd cc
       | inr high ↦
           let ih = truncated more bs (behind-fault b (varint_within more bs) Truncated (sym (within-high more b bs high) ∙ e)) in
           let len : length bs ≤ more = ih.0 in
@@ -121,11 +121,11 @@ overflowed (suc more) [] e = absurd cc
 overflowed zero (b ∷ bs) e =
     elim (cases_lt 3 b) [
       | inl over ↦ (omega arith, All-nil GoesOn, over)
-      | inr low ↦ let x : done b 1 ≡ Err Overflow = sym (within-last zero b bs low) ∙ e in absurd cc
+      | inr low ↦ let x : ok_of b 1 ≡ Err Overflow = sym (within-last zero b bs low) ∙ e in absurd cc
     ]
 overflowed (suc more) (b ∷ bs) e =
     elim (cases_lt b 128) [
-      | inl low ↦ let x : done b 1 ≡ Err Overflow = sym (within-low more b bs low) ∙ e in absurd cc
+      | inl low ↦ let x : ok_of b 1 ≡ Err Overflow = sym (within-low more b bs low) ∙ e in absurd cc
       | inr high ↦
           let ih = overflowed more bs (behind-fault b (varint_within more bs) Overflow (sym (within-high more b bs high) ∙ e)) in
           let len : more < length bs = ih.0 in
