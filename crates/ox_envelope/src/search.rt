@@ -146,7 +146,7 @@ pub fn envelopes_of(alloc: Global, script: &[u8]) -> Result<Envelopes<'_>, Memor
             found.push(envelope)?;
         }
     }
-    if items.cut() {
+    if items.met_cut() {
         return Ok(Envelopes::new(alloc));
     }
     Ok(found)

@@ -38,7 +38,7 @@ pub(crate) fn payload_of(alloc: Global, script: &[u8]) -> Result<Option<Vec<u8>>
             Item::Op(_) => return Ok(None),
         }
     }
-    if items.cut() {
+    if items.met_cut() {
         return Ok(None);
     }
     Ok(Some(payload))

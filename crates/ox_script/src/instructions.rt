@@ -129,7 +129,7 @@ pub fn forms_spell_the_script()
 impl Instructions<'_> {
     /// Whether the items have ended at a push that is cut short: it is false until `next` has
     /// answered `None` there.
-    pub fn cut(&self) -> bool
+    pub fn met_cut(&self) -> bool
         ensures { result ≡ self.now.met_cut }
     {
         self.met_cut

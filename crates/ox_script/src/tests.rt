@@ -6,11 +6,11 @@ use crate::{Item, instructions_of, is_return, is_taproot, tapscript_place};
 fn reads(script: &[u8], wanted: &[Item<'_>], cut: bool) -> bool {
     let mut items = instructions_of(script);
     for item in wanted {
-        if items.next() != Some(*item) || items.cut() {
+        if items.next() != Some(*item) || items.met_cut() {
             return false;
         }
     }
-    items.next().is_none() && items.cut() == cut && items.next().is_none()
+    items.next().is_none() && items.met_cut() == cut && items.next().is_none()
 }
 
 #[test]
