@@ -7,7 +7,7 @@ use Rattle.std.proofs.lemmas.Bool.{cases_lt, ltb-false, le-ltb, lt-ltb, ne_eqb, 
 use Rattle.std.proofs.lemmas.List.{length-drop, drop-drop, drop_all}
 use Rattle.ox_bytes.specs.Reading.{◌>>=◌, Reader, number_at, run_at, compact_at, string_at, both, reading_map, unless, times}
 use Rattle.ox_bytes.specs.Reading as reading
-use Rattle.ox_bytes.proofs.Laws.{bind_ok, guard_ok, ok_is, done}
+use Rattle.ox_bytes.proofs.Laws.{bind_ok, guard_ok, ok_is, ok_of}
 use Rattle.ox_block.specs.declared.block.TxIn.{TxIn}
 use Rattle.ox_block.specs.declared.block.TxOut.{TxOut}
 use Rattle.ox_block.specs.declared.block.Tx.{Tx}
@@ -375,7 +375,7 @@ unfolding first_fault
 from_block bytes laid (Err left) h = after_some bytes laid.fields (surplus_from bytes laid.behind) (length bytes - left) h.1
 from_block bytes laid (Ok x) h =
     let long : length x.1 ≡ length bytes - laid.behind = ap (λ (t : List ℕ). length t) h.2 ∙ length-drop laid.behind bytes in
-    let P : Bool → Type 0 = λ (b : Bool). first_fault bytes (surplus_from bytes laid.behind) ≡ fault_in (with_place (length bytes) (cond b (done x.0) (Err (length x.1)))) in
+    let P : Bool → Type 0 = λ (b : Bool). first_fault bytes (surplus_from bytes laid.behind) ≡ fault_in (with_place (length bytes) (cond b (ok_of x.0) (Err (length x.1)))) in
     after_none bytes laid.fields (surplus_from bytes laid.behind) h.0 ∙
     elim (cases_lt laid.behind (length bytes)) [
       | inl more_ ↦

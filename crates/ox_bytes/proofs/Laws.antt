@@ -42,10 +42,10 @@ pub guard_ok : {A F : Type 0} (b : Bool) (d : F) (r : Result A F) (y : A) → co
 guard_ok true d r y e = absurd cc
 guard_ok false d r y e = (refl, e)
 
-abbrev pub done : {A F : Type 0} → A → Result A F
-done x = Ok x
+abbrev pub ok_of : {A F : Type 0} → A → Result A F
+ok_of x = Ok x
 
-pub ok_is : {A F : Type 0} (x y : A) → done {F = F} x ≡ done y → x ≡ y
+pub ok_is : {A F : Type 0} (x y : A) → ok_of {F = F} x ≡ ok_of y → x ≡ y
 ok_is x y e = cc
 
 -- what a reader took from the front

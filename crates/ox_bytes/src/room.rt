@@ -63,7 +63,7 @@ impl Room {
     }
 
     /// The bytes. The spare memory stays with them, unseen.
-    pub fn done(self) -> Bytes
+    pub fn into_bytes(self) -> Bytes
         ensures { result ≡ self.filled }
     {
         Bytes::from_vec(self.items)

@@ -39,7 +39,7 @@ fn room_is_filled(rt: HostRuntime) {
     room.put(b"ab");
     assert!(rt; room.spare() == 2);
     room.put(b"cd");
-    assert!(rt; room.done().as_slice() == b"abcd".as_slice());
+    assert!(rt; room.into_bytes().as_slice() == b"abcd".as_slice());
 }
 
 /// The least and the greatest number of each of the four forms, and how they are written.
