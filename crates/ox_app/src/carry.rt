@@ -64,7 +64,7 @@ fn ok_line_in(room: Room, tip: Option<(u32, [u8; 32])>) -> Bytes
         Some(newest) => put_block_line(&mut room, newest.0, &newest.1),
         None => room.put(b"ok empty\n"),
     }
-    room.done()
+    room.into_bytes()
 }
 
 // The store as it is, and the line of a refusal.
