@@ -2,4 +2,6 @@
 #![tactic(auto)]
 
 #[cfg(test)]
+mod short_calls;
+#[cfg(test)]
 mod tests;

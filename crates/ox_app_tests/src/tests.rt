@@ -4,12 +4,12 @@
 use ox_app::run;
 use ox_bytes::Bytes;
 use ox_memsite::{Choice, MemSite};
-use ox_outside::Which;
+use ox_outside::{Site, Which};
 use std::alloc::Global;
 use std::process::Abort;
 
 // Bitcoin's first block.
-const GENESIS: &str = "\
+pub const GENESIS: &str = "\
     0100000000000000000000000000000000000000000000000000000000000000000000003ba3edfd7a7b\
     12b27ac72c3e67768f617fc81bc3888a51323a9fb8aa4b1e5e4a29ab5f49ffff001d1dac2b7c01010000\
     00010000000000000000000000000000000000000000000000000000000000000000ffffffff4d04ffff\
@@ -24,7 +24,7 @@ const TWICE: &[u8] = b"ok 0 000000000019d6689c085ae165831e934ff763ae46a2a6c172b3
     refused 5 0000000000000000000000000000000000000000000000000000000000000000 \
     000000000019d6689c085ae165831e934ff763ae46a2a6c172b3f1b60a8ce26f\n";
 
-const AFTER_BAD_LINES: &[u8] = b"refused 1\nrefused 1\n\
+pub const AFTER_BAD_LINES: &[u8] = b"refused 1\nrefused 1\n\
     ok 0 000000000019d6689c085ae165831e934ff763ae46a2a6c172b3f1b60a8ce26f\nrefused 11\n";
 
 // The header's root, and that of the changed transaction, by a script of another language.
@@ -57,7 +57,8 @@ const THIRD: &str = "\
 // Their hashes are by a script of another language.
 const FIRST_OK: &[u8] = b"ok 0 9df1369ffe84c7f9f18795eda8438c9452ca65ebb35668f5a83ab42b94430908\n";
 
-const THREE_OK: &[u8] = b"ok 0 9df1369ffe84c7f9f18795eda8438c9452ca65ebb35668f5a83ab42b94430908\n\
+pub const THREE_OK: &[u8] =
+    b"ok 0 9df1369ffe84c7f9f18795eda8438c9452ca65ebb35668f5a83ab42b94430908\n\
     ok 1 0722e5045444f199ce474c0d06e47da62974b16d17bf01d351665bc1f12e3b4f\n\
     ok 2 7054e587fec28cf6b25c1f9597629789b86bae696e32960fd80b6521aa1c8a2a\n";
 
@@ -93,24 +94,24 @@ fn words_of(rt: &impl Abort, alloc: Global, words: &[&[u8]]) -> Vec<Bytes> {
 }
 
 // How many bytes a site has shown.
-fn shown_so_far(rt: &impl Abort, site: &MemSite) -> usize {
+pub fn shown_so_far(rt: &impl Abort, site: &MemSite) -> usize {
     site.shown(0).expect(rt, "memory").len()
 }
 
 // Whether a site has shown these bytes behind the first ones.
-fn has_shown(rt: &impl Abort, site: &MemSite, before: usize, bytes: &[u8]) -> bool {
+pub fn has_shown(rt: &impl Abort, site: &MemSite, before: usize, bytes: &[u8]) -> bool {
     let all = site.shown(0).expect(rt, "memory");
     all.as_slice().get(before..) == Some(bytes)
 }
 
 // Runs these words: the exit status.
-fn code_of(rt: &impl Abort, alloc: Global, site: &mut MemSite, words: &[&[u8]]) -> u8 {
+pub fn code_of<S: Site>(rt: &impl Abort, alloc: Global, site: &mut S, words: &[&[u8]]) -> u8 {
     let words = words_of(rt, alloc, words);
     run(alloc, words.as_slice(), site).code()
 }
 
 // Whether a run of these words ends with this exit status and shows these bytes.
-fn ends(
+pub fn ends(
     rt: &impl Abort,
     alloc: Global,
     site: &mut MemSite,
@@ -125,7 +126,7 @@ fn ends(
 // ---- feeds
 
 // A site that gives this input, and at which the call of this number fails.
-fn site_of(rt: &impl Abort, alloc: Global, feed: &[u8], fails: Option<u64>) -> MemSite {
+pub fn site_of(rt: &impl Abort, alloc: Global, feed: &[u8], fails: Option<u64>) -> MemSite {
     let mut site = MemSite::new(alloc).expect(rt, "memory");
     site.input(feed).expect(rt, "memory");
     if let Some(call) = fails {
@@ -141,7 +142,7 @@ fn folds(rt: &impl Abort, alloc: Global, profile: &[u8], feed: &[u8], answers: &
 }
 
 // Several lines in a row.
-fn joined(rt: &impl Abort, alloc: Global, lines: &[&[u8]]) -> Bytes {
+pub fn joined(rt: &impl Abort, alloc: Global, lines: &[&[u8]]) -> Bytes {
     let mut all = Bytes::empty(alloc);
     for line in lines {
         all.append(line).expect(rt, "memory");
@@ -150,7 +151,7 @@ fn joined(rt: &impl Abort, alloc: Global, lines: &[&[u8]]) -> Bytes {
 }
 
 // The line of a connect, by the digits of its block.
-fn connect(rt: &impl Abort, alloc: Global, digits: &str) -> Bytes {
+pub fn connect(rt: &impl Abort, alloc: Global, digits: &str) -> Bytes {
     joined(rt, alloc, &[b"connect ", digits.as_bytes(), b"\n"])
 }
 
@@ -359,7 +360,7 @@ fn empty_store(rt: &impl Abort, alloc: Global) -> MemSite {
 }
 
 // An empty store that will hear these bytes.
-fn store_hearing(rt: &impl Abort, alloc: Global, feed: &[u8]) -> MemSite {
+pub fn store_hearing(rt: &impl Abort, alloc: Global, feed: &[u8]) -> MemSite {
     let mut site = empty_store(rt, alloc);
     site.input(feed).expect(rt, "memory");
     site
@@ -426,7 +427,7 @@ fn refused_lines_leave_a_store_as_it_is(rt: HostRuntime) {
 }
 
 // The lines that connect the three blocks.
-fn three_lines(rt: &impl Abort, alloc: Global) -> Bytes {
+pub fn three_lines(rt: &impl Abort, alloc: Global) -> Bytes {
     let mut feed = connect(rt, alloc, FIRST);
     feed.append(connect(rt, alloc, SECOND).as_slice())
         .expect(rt, "memory");
@@ -436,7 +437,7 @@ fn three_lines(rt: &impl Abort, alloc: Global) -> Bytes {
 }
 
 // Whether a query of the status shows so many of the three blocks.
-fn has_blocks(rt: &impl Abort, alloc: Global, site: &mut MemSite, blocks: u64) -> bool {
+pub fn has_blocks(rt: &impl Abort, alloc: Global, site: &mut MemSite, blocks: u64) -> bool {
     let body = status_body(blocks).as_bytes();
     ends(rt, alloc, site, &[b"query", b"/status"], 0, body)
 }
@@ -463,7 +464,7 @@ fn lines_shown(rt: &impl Abort, site: &MemSite) -> u64 {
 }
 
 // Whether the same feed leads on to all three blocks.
-fn leads_on(rt: &impl Abort, alloc: Global, site: &mut MemSite, feed: &[u8]) -> bool {
+pub fn leads_on(rt: &impl Abort, alloc: Global, site: &mut MemSite, feed: &[u8]) -> bool {
     site.input(feed).expect(rt, "memory");
     code_of(rt, alloc, site, &[b"apply"]) == 0 && has_blocks(rt, alloc, site, 3)
 }
