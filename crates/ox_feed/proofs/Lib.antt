@@ -1,6 +1,6 @@
-pub mod Decoding
-pub mod Hearing
+pub mod HearingOnlyTalks
+pub mod HearingsInTurn
+pub mod PairsOfDigits
 pub mod Parts
 pub mod Table
-pub mod Waiting
 pub mod Words

@@ -5,7 +5,7 @@ use Rattle.hex.specs.Hex.{decode_of}
 use Rattle.ox_feed.specs.declared.command.Command.TheVariants.{Connect}
 use Rattle.std.proofs.lemmas.Bool.{cases_eq, eq-eqb, ne_eqb}
 use Rattle.std.proofs.Common.{inl, inr}
-use Rattle.ox_feed.proofs.Decoding.{error_of}
+use Rattle.ox_feed.proofs.PairsOfDigits.{error_of}
 use Rattle.ox_feed.specs.Command.{after_word, connect_in, command_of_digits}
 
 -- behind a word stands what follows it

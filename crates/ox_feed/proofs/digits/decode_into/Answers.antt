@@ -1,7 +1,7 @@
 use Rattle.std.proofs.Common.{◌≡◌, ◌∙◌, arith}
 use Rattle.std.specs.Prelude.{◌&&◌}
 use Rattle.hex.proofs.Pairs.{decode_done}
-use Rattle.ox_feed.proofs.Decoding.{decodes_more}
+use Rattle.ox_feed.proofs.PairsOfDigits.{decodes_more}
 use Rattle.ox_feed.proofs.digits.decode_into.Goals as goal
 use Rattle.ox_feed.proofs.digits.decode_into.Goals.{then-all, else-all}
 

@@ -1,8 +1,8 @@
 use Rattle.std.proofs.Common.{◌∙◌, le_trans, sym}
 use Rattle.std.proofs.lemmas.Result.{err_from_is_err_and}
 use Rattle.ox_feed.specs.Held.{feed_of}
-use Rattle.ox_feed.proofs.Hearing.{talks_on}
-use Rattle.ox_feed.proofs.Waiting.{waits_on, waits_in_vain}
+use Rattle.ox_feed.proofs.HearingOnlyTalks.{talks_on}
+use Rattle.ox_feed.proofs.HearingsInTurn.{waits_on, waits_in_vain}
 use Rattle.ox_feed.proofs.held.Held.next.Goals as goal
 
 -- what the hearings of the loop and a further one say together, where no line was cut off between

@@ -2,7 +2,7 @@ use Rattle.std.proofs.Common.{arith, take, refl, Ok}
 use Rattle.ox_outside.proofs.Log.{adds_grows}
 use Rattle.ox_outside.specs.Event.{Heard, hear_events}
 use Rattle.ox_outside.specs.declared.site.Heard.TheVariants.{Bytes}
-use Rattle.ox_feed.proofs.Hearing.{only_hears_one, talks_hearing}
+use Rattle.ox_feed.proofs.HearingOnlyTalks.{only_hears_one, talks_hearing}
 use Rattle.ox_feed.proofs.Parts.{heard_front}
 use Rattle.ox_feed.proofs.piece.Piece.hear.Goals as goal
 

@@ -9,7 +9,7 @@ use Rattle.ox_feed.specs.Feed.{Feed, Hears, Answers, lines_from}
 use Rattle.ox_feed.specs.Held.{Waits}
 use Rattle.ox_feed.specs.declared.lines.Line.{Line}
 use Rattle.ox_feed.specs.declared.lines.FeedFault.{FeedFault}
-use Rattle.ox_feed.proofs.Hearing.{only_hears_then}
+use Rattle.ox_feed.proofs.HearingOnlyTalks.{only_hears_then}
 
 or_assoc : (a b c : Bool) → ((a || b) || c) ≡ (a || (b || c))
 or_assoc true b c = refl
