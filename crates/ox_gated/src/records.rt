@@ -4,9 +4,8 @@ ghost use Rattle.ox_bytes.specs.Reading.{Gives};
 ghost use Rattle.ox_gated.specs.Gate.{IsShut, IsOpen, IsBroken, gates_of};
 ghost use Rattle.ox_gated.specs.Reading.{payload_at, chain};
 
-use ox_bytes::{Bytes, FieldFault, Memory, run_field, u32le_field};
+use ox_bytes::{Bytes, FieldFault, List, Memory, run_field, u32le_field};
 use std::alloc::Global;
-use std::marker::Model;
 
 /// One record: the place of its gate in the file, and its payload.
 #[derive(Debug, Drop)]
@@ -16,35 +15,7 @@ pub struct Record {
 }
 
 /// Records, in order.
-#[derive(Debug, Drop)]
-pub struct Records {
-    items: Vec<Record>,
-}
-
-impl Model for Records {
-    ghost use Rattle.std.specs.Prelude.{List};
-    ghost use Rattle.ox_gated.specs.declared.records.Record.{Record};
-
-    ghost Value = { List Record };
-
-    ghost view = { λ r. r.items.items };
-}
-
-impl Records {
-    /// The records, in order.
-    pub fn as_slice(&self) -> &[Record]
-        ensures { result.now ≡ self.now }
-    {
-        self.items.as_slice()
-    }
-
-    /// How many there are.
-    pub fn len(&self) -> usize
-        ensures { result ≡ length self.now }
-    {
-        self.items.len()
-    }
-}
+pub type Records = List<Record>;
 
 /// Records from a place on, and the place of the closed gate behind them; or of the first gate that
 /// is missing or whose record is cut.
@@ -68,7 +39,7 @@ fn walk_on(alloc: Global, place: u64, bytes: &[u8]) -> Result<Walk, Memory>
     requires { place + length bytes.now < 2 ^ 64 }
     ensures { IfOk result (λ walk. gates_of walk ≡ chain place bytes.now) }
 {
-    let mut records = Vec::new(alloc);
+    let mut records = List::new(alloc);
     let mut place = place;
     let mut rest = bytes;
     let end = 'gates: loop {
@@ -85,10 +56,7 @@ fn walk_on(alloc: Global, place: u64, bytes: &[u8]) -> Result<Walk, Memory>
             }
         }
     };
-    Ok(Walk {
-        records: Records { items: records },
-        end,
-    })
+    Ok(Walk { records, end })
 }
 
 // A gate that is missing, or whose record is cut.

@@ -4,7 +4,7 @@ use Rattle.ox_gated.proofs.records.walk_on.Given as goal
 
 abbrev pub invariant-gates : goal.invariant-gates
 invariant-gates l = record {
-  so_far : record { records = l.records.items ++ (chain l.place l.rest).records; end = (chain l.place l.rest).end } ≡ chain l.fn.place l.fn.bytes;
+  so_far : record { records = l.records ++ (chain l.place l.rest).records; end = (chain l.place l.rest).end } ≡ chain l.fn.place l.fn.bytes;
   within : l.place + length l.rest ≤ l.fn.place + length l.fn.bytes;
 }
 
