@@ -13,7 +13,7 @@ use Rattle.ox_gated.specs.Layout.{is_closed, record_bytes}
 use Rattle.ox_gated.specs.Reading.{Found, Fault, reading, with_payload}
 use Rattle.ox_gated.specs.Tail.{Kept, KeepsFound, Keeps, Holds, IsSettled, IsBeforeOrAfter}
 use Rattle.ox_gated.proofs.OneFile.{file_of-with_file, file_of-with_other, with_file-with_file, files_are}
-use Rattle.ox_gated.proofs.RecordWrites.{here, behind, staged, staging, opening, opened, stands_appended, gate_within, gate_within_staged, length-record_bytes}
+use Rattle.ox_gated.proofs.RecordWrites.{here, behind, staged_bytes, staging_is_before, opening_is_either, opened_bytes, stands_appended, gate_within, gate_within_staged, length-record_bytes}
 
 -- ---- by what the tail keeps
 
@@ -25,12 +25,12 @@ module _ (version : ℕ) (payload : List ℕ) (small : length payload < 2 ^ 32) 
   second_files staged_files file gate = with_file staged_files file (with_bytes gate (1 ∷ []) (file_of staged_files file))
 
   first_of : (found : Found) → reading version files ≡ Ok found → (image : Files) → TornFile found.file (found.gate + 1) (length (record_bytes payload)) files image → reading version image ≡ reading version files
-  first_of found is image torn = ap (reading version) (files_are files image found.file torn.others) ∙ staging version files found is payload small (file_of image found.file) torn.torn
+  first_of found is image torn = ap (reading version) (files_are files image found.file torn.others) ∙ staging_is_before version files found is payload small (file_of image found.file) torn.torn
 
   -- the files after the first write
   staged_files : (found : Found) (is : reading version files ≡ Ok found) (mid : Files) → mid ≡ first_files found.file found.gate
       → mid ≡ with_file files found.file ((here version files found is payload small).front ++ 0 ∷ (record_bytes payload ++ behind version files found is payload small))
-  staged_files found is mid mid_is = mid_is ∙ ap (with_file files found.file) (staged version files found is payload small)
+  staged_files found is mid mid_is = mid_is ∙ ap (with_file files found.file) (staged_bytes version files found is payload small)
 
   second_of : (found : Found) → reading version files ≡ Ok found → (mid image : Files) → mid ≡ first_files found.file found.gate → TornFile found.file found.gate 1 mid image → IsBeforeOrAfter version payload files image
   second_of found is mid image mid_is torn =
@@ -38,13 +38,13 @@ module _ (version : ℕ) (payload : List ℕ) (small : length payload < 2 ^ 32) 
       let staged_is = ap (λ (f : Files). file_of f found.file) whole ∙ file_of-with_file files found.file _ in
       let image_is = files_are mid image found.file torn.others ∙ ap (λ (f : Files). with_file f found.file (file_of image found.file)) whole ∙ with_file-with_file files found.file _ (file_of image found.file) in
       let here_torn = subst (λ (l : List ℕ). Torn found.gate 1 l (file_of image found.file)) staged_is torn.torn in
-      subst (IsBeforeOrAfter version payload files) (sym image_is) (opening version files found is payload small (file_of image found.file) here_torn)
+      subst (IsBeforeOrAfter version payload files) (sym image_is) (opening_is_either version files found is payload small (file_of image found.file) here_torn)
 
   after_of : (found : Found) → reading version files ≡ Ok found → (mid last : Files) → mid ≡ first_files found.file found.gate → last ≡ second_files mid found.file found.gate → reading version last ≡ with_payload payload (reading version files)
   after_of found is mid last mid_is last_is =
       let whole = staged_files found is mid mid_is in
       let staged_is = ap (λ (f : Files). file_of f found.file) whole ∙ file_of-with_file files found.file _ in
-      let opened_is = ap (λ (l : List ℕ). with_bytes found.gate (1 ∷ []) l) staged_is ∙ opened version files found is payload small in
+      let opened_is = ap (λ (l : List ℕ). with_bytes found.gate (1 ∷ []) l) staged_is ∙ opened_bytes version files found is payload small in
       let final = (here version files found is payload small).front ++ 1 ∷ (record_bytes payload ++ behind version files found is payload small) in
       let last_whole : last ≡ with_file files found.file final =
       last_is ∙ ap (λ (l : List ℕ). with_file mid found.file l) opened_is ∙ ap (λ (f : Files). with_file f found.file final) whole ∙ with_file-with_file files found.file _ final in

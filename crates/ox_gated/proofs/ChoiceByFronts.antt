@@ -9,9 +9,9 @@ use Rattle.ox_outside.specs.declared.site.Which.{Which}
 use Rattle.ox_outside.specs.declared.site.Which.TheVariants.{A, B}
 use Rattle.ox_gated.specs.Layout.{is_closed, head_of}
 use Rattle.ox_gated.specs.Pick.{lone_choice, greater_of, choice_by, choice_of}
-use Rattle.ox_gated.specs.Reading.{chain, found_or_fault, fault_at, current}
+use Rattle.ox_gated.specs.Reading.{chain, found_or_fault, fault_at, current_reading}
 use Rattle.ox_gated.specs.declared.head.Opening.{Opening}
-use Rattle.ox_gated.proofs.Fronts.{head_of_front}
+use Rattle.ox_gated.proofs.CurrentByFront.{head_of_front}
 
 -- ---- fronts
 
@@ -87,7 +87,7 @@ choice_read files a b is_a is_b = (λ i. choice_of (is_a i) (is_b i)) ∙ choice
 -- the current file by the parts that were read
 pub current_read : (version : ℕ) (file : Which) (bytes : List ℕ) (opening : Opening) (len : ℕ) (body rest : List ℕ) → len ≡ length bytes → opening.head.version ≡ version → nat_lt len (26 + opening.size) ≡ false
     → body ≡ slice_range bytes 26 (26 + opening.size) → rest ≡ slice_range bytes (26 + opening.size) (26 + opening.size + (len - (26 + opening.size)))
-    → found_or_fault file opening.head body (chain (26 + opening.size) rest).records (chain (26 + opening.size) rest).end ≡ current version file bytes opening
+    → found_or_fault file opening.head body (chain (26 + opening.size) rest).records (chain (26 + opening.size) rest).end ≡ current_reading version file bytes opening
 current_read version file bytes opening len body rest is_len is_version fits is_body is_rest =
     let size = opening.size in
     let one : 26 + size - 26 ≡ size = omega arith in

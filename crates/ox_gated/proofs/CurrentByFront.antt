@@ -6,7 +6,7 @@ use Rattle.std.proofs.lemmas.Bool.{le-ltb}
 use Rattle.std.proofs.lemmas.List.{take_at, drop_at, take-append-le, drop-append-le, get_or_append_left}
 use Rattle.ox_outside.specs.declared.site.Which.{Which}
 use Rattle.ox_gated.specs.Layout.{is_magic, has_magic, is_lawful, opening_at, head_of}
-use Rattle.ox_gated.specs.Reading.{chain, fault_at, found_or_fault, current}
+use Rattle.ox_gated.specs.Reading.{chain, fault_at, found_or_fault, current_reading}
 use Rattle.ox_gated.specs.declared.head.Opening.{Opening}
 
 -- ---- a head depends on its 26 bytes alone
@@ -53,7 +53,7 @@ module _ (front t : List ℕ) (long : 26 ≤ length front) where
 
 -- a file that begins with a head and a body
 pub current_on : (version : ℕ) (file : Which) (front t : List ℕ) (opening : Opening) → length front ≡ 26 + opening.size
-    → current version file (front ++ t) opening ≡ (if not (opening.head.version == version) then fault_at file 6 else found_or_fault file opening.head (drop 26 front) (chain (26 + opening.size) t).records (chain (26 + opening.size) t).end)
+    → current_reading version file (front ++ t) opening ≡ (if not (opening.head.version == version) then fault_at file 6 else found_or_fault file opening.head (drop 26 front) (chain (26 + opening.size) t).records (chain (26 + opening.size) t).end)
 current_on version file front t opening size =
     let enough : nat_lt (length (front ++ t)) (26 + opening.size) ≡ false = le-ltb (length (front ++ t)) (26 + opening.size) (omega (arith, size, length-append front t)) in
     let behind : drop 26 (front ++ t) ≡ drop 26 front ++ t = drop-append-le 26 front t (omega (arith, size)) in

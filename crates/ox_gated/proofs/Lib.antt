@@ -1,7 +1,7 @@
 mod AppendKeepsTail
 mod Chain
 mod ChoiceByFronts
-mod Fronts
+mod CurrentByFront
 mod NewFiles
 mod OneFile
 mod OpenedHolds

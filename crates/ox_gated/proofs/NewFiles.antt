@@ -8,13 +8,13 @@ use Rattle.ox_outside.specs.Files.{Files, file_of, with_file, with_bytes}
 use Rattle.ox_outside.specs.declared.site.Which.TheVariants.{A, B}
 use Rattle.ox_gated.specs.Layout.{has_magic, is_lawful, opening_at, head_of, head_bytes, checkpoint_bytes}
 use Rattle.ox_gated.specs.Pick.{lone_choice}
-use Rattle.ox_gated.specs.Reading.{Chain, chain, fault_at, found_or_fault, current, reading_by, reading}
+use Rattle.ox_gated.specs.Reading.{Chain, chain, fault_at, found_or_fault, current_reading, reading_by, reading}
 use Rattle.ox_outside.specs.Crash.{Remains, Only, Follows, Tears}
 use Rattle.ox_gated.specs.Tail.{KeepsFound, new_files, new_found}
 use Rattle.ox_gated.specs.declared.head.Head.{Head}
 use Rattle.ox_gated.specs.declared.head.Opening.{Opening}
 use Rattle.ox_gated.proofs.Chain.{chain_shut}
-use Rattle.ox_gated.proofs.Fronts.{current_on}
+use Rattle.ox_gated.proofs.CurrentByFront.{current_on}
 
 module _ (head : Head) (body : List ℕ) (lawful : IsTrue (is_lawful head)) (depth : head.depth < 2 ^ 16) (generation : head.generation < 2 ^ 64) (small : length body < 2 ^ 32) where
   abbrev opening : Opening
@@ -54,7 +54,7 @@ module _ (head : Head) (body : List ℕ) (lawful : IsTrue (is_lawful head)) (dep
   pub stands_made : reading head.version (new_files (record { head = head; body = body })) ≡ Ok (new_found (record { head = head; body = body }))
   stands_made =
       ap (λ (o : Option Opening). reading_by head.version (new_files (record { head = head; body = body })) (lone_choice A o)) head_there
-      ∙ ap (λ (l : List ℕ). current head.version A l opening) whole
+      ∙ ap (λ (l : List ℕ). current_reading head.version A l opening) whole
       ∙ current_on head.version A front (0 ∷ []) opening length-front
       ∙ ap (λ (b : Bool). if not b then fault_at A 6 else found_or_fault A head (drop 26 front) (chain (26 + length body) (0 ∷ [])).records (chain (26 + length body) (0 ∷ [])).end) (eq-eqb head.version head.version refl)
       ∙ ap (λ (c : Chain). found_or_fault A head (drop 26 front) c.records c.end) (chain_shut (26 + length body) 0 [] refl)

@@ -7,7 +7,7 @@ use Rattle.ox_outside.specs.declared.site.Which.{Which}
 use Rattle.ox_gated.specs.Layout.{is_closed}
 use Rattle.ox_gated.specs.Opened.{IsFault, IsUnpicked, found_of, tail_of}
 use Rattle.ox_gated.specs.Pick.{choice_of}
-use Rattle.ox_gated.specs.Reading.{Found, current, reading_by, reading}
+use Rattle.ox_gated.specs.Reading.{Found, current_reading, reading_by, reading}
 use Rattle.ox_gated.specs.Tail.{Kept, Keeps, Holds, IsSettled}
 use Rattle.ox_gated.specs.declared.fault.GateFault.{GateFault}
 use Rattle.ox_gated.specs.declared.fault.GateFault.TheVariants as gates
@@ -24,7 +24,7 @@ unpicked_fault version files (gates.NotStore file at before) is =
     subst (λ b. IsFault (reading version files) (gates.NotStore file at b)) (sym is.1) (ap (reading_by version files) is.0)
 
 module _ (version : ℕ) (files : Files) (file : Which) (opening : Opening) (picks : choice_of files.a files.b ≡ Ok (file, opening)) where
-  pub reading_is : reading version files ≡ current version file (file_of files file) opening
+  pub reading_is : reading version files ≡ current_reading version file (file_of files file) opening
   reading_is = ap (reading_by version files) picks
 
   keeps_opened : (o : Opened) (other_closed : Bool) → reading version files ≡ Ok (found_of o) → Keeps (tail_of o other_closed) (reading o.head.version files)
@@ -35,11 +35,11 @@ module _ (version : ℕ) (files : Files) (file : Which) (opening : Opening) (pic
       )
 
   -- which file is current, of what was found
-  same_file : (bytes : List ℕ) (found : Found) → current version file bytes opening ≡ Ok found → found.file ≡ file
+  same_file : (bytes : List ℕ) (found : Found) → current_reading version file bytes opening ≡ Ok found → found.file ≡ file
   same_file bytes found is = current_file version file bytes opening found is
 
   pub holds_opened : {S : Type 0} (means : Meanings S) (site : S) → means.seen site ≡ files → IsSettled means site
-      → (o : Opened) (other_closed : Bool) → other_closed ≡ is_closed (file_of files (other file)) → o.tail ≡ tail_of o other_closed → current version file (file_of files file) opening ≡ Ok (found_of o) → Holds means o.tail site
+      → (o : Opened) (other_closed : Bool) → other_closed ≡ is_closed (file_of files (other file)) → o.tail ≡ tail_of o other_closed → current_reading version file (file_of files file) opening ≡ Ok (found_of o) → Holds means o.tail site
   holds_opened means site same settled o other_closed closed tail is =
       let some = choice_some files.a files.b (file, opening) picks in
       let reads : reading version files ≡ Ok (found_of o) = reading_is ∙ is in
@@ -55,7 +55,7 @@ module _ (version : ℕ) (files : Files) (file : Which) (opening : Opening) (pic
       )
 
   pub all_hold : {S : Type 0} (means : Meanings S) (site : S) → means.seen site ≡ files → IsSettled means site
-      → (result : Result Opened GateFault) (other_closed : Bool) → other_closed ≡ is_closed (file_of files (other file)) → IfOk result (λ o. o.tail ≡ tail_of o other_closed) → IfOk result (λ o. current version file (file_of files file) opening ≡ Ok (found_of o))
+      → (result : Result Opened GateFault) (other_closed : Bool) → other_closed ≡ is_closed (file_of files (other file)) → IfOk result (λ o. o.tail ≡ tail_of o other_closed) → IfOk result (λ o. current_reading version file (file_of files file) opening ≡ Ok (found_of o))
       → IfOk result (λ o. Holds means o.tail site)
   all_hold means site same settled (Ok o) other_closed closed tail is = holds_opened means site same settled o other_closed closed tail is
   all_hold means site same settled (Err e) other_closed closed tail is = is

@@ -62,22 +62,22 @@ module _ (version : ℕ) (files : Files) (found : Found) (is : reading version f
   behind = drop (found.gate + 1 + length (record_bytes payload)) (file_of files found.file)
 
   -- the file with the record behind its closed gate
-  pub staged : with_bytes (found.gate + 1) (record_bytes payload) (file_of files found.file) ≡ here.front ++ 0 ∷ (record_bytes payload ++ behind)
-  staged =
+  pub staged_bytes : with_bytes (found.gate + 1) (record_bytes payload) (file_of files found.file) ≡ here.front ++ 0 ∷ (record_bytes payload ++ behind)
+  staged_bytes =
       ap (λ (l : List ℕ). l ++ record_bytes payload ++ drop (found.gate + 1 + length (record_bytes payload)) (file_of files found.file)) with_gate
       ∙ append_assoc (here.front ++ 0 ∷ []) (record_bytes payload) behind
       ∙ append_assoc here.front (0 ∷ []) (record_bytes payload ++ behind)
 
   -- What a crash leaves of the first write stands for what the files stood for.
-  pub staging : (image : List ℕ) → Torn (found.gate + 1) (length (record_bytes payload)) (file_of files found.file) image → reading version (with_file files found.file image) ≡ reading version files
-  staging image torn =
+  pub staging_is_before : (image : List ℕ) → Torn (found.gate + 1) (length (record_bytes payload)) (file_of files found.file) image → reading version (with_file files found.file image) ≡ reading version files
+  staging_is_before image torn =
       let whole : image ≡ here.front ++ 0 ∷ drop (found.gate + 1) image =
       sym (take-append-drop (found.gate + 1) image) ∙ ap (λ (l : List ℕ). l ++ drop (found.gate + 1) image) (torn.before ∙ with_gate) ∙ append_assoc here.front (0 ∷ []) (drop (found.gate + 1) image) in
       ap (λ (l : List ℕ). reading version (with_file files found.file l)) whole ∙ stays_shut (drop (found.gate + 1) image)
 
   -- What a crash leaves of the second stands for that, or for that with the record.
-  pub opening : (image : List ℕ) → Torn found.gate 1 (here.front ++ 0 ∷ (record_bytes payload ++ behind)) image → IsBeforeOrAfter version payload files (with_file files found.file image)
-  opening image torn =
+  pub opening_is_either : (image : List ℕ) → Torn found.gate 1 (here.front ++ 0 ∷ (record_bytes payload ++ behind)) image → IsBeforeOrAfter version payload files (with_file files found.file image)
+  opening_is_either image torn =
       let old = here.front ++ 0 ∷ (record_bytes payload ++ behind) in
       let front : take found.gate image ≡ here.front = torn.before ∙ take_at here.front (0 ∷ (record_bytes payload ++ behind)) found.gate (sym here.gate_is) in
       let old_parts : old ≡ (here.front ++ 0 ∷ []) ++ (record_bytes payload ++ behind) = sym (append_assoc here.front (0 ∷ []) (record_bytes payload ++ behind)) in
@@ -95,8 +95,8 @@ module _ (version : ℕ) (files : Files) (found : Found) (is : reading version f
       ]
 
   -- the file with its gate opened
-  pub opened : with_bytes found.gate (1 ∷ []) (here.front ++ 0 ∷ (record_bytes payload ++ behind)) ≡ here.front ++ 1 ∷ (record_bytes payload ++ behind)
-  opened =
+  pub opened_bytes : with_bytes found.gate (1 ∷ []) (here.front ++ 0 ∷ (record_bytes payload ++ behind)) ≡ here.front ++ 1 ∷ (record_bytes payload ++ behind)
+  opened_bytes =
       let old_parts : here.front ++ 0 ∷ (record_bytes payload ++ behind) ≡ (here.front ++ 0 ∷ []) ++ (record_bytes payload ++ behind) = sym (append_assoc here.front (0 ∷ []) (record_bytes payload ++ behind)) in
       let front = take_at here.front (0 ∷ (record_bytes payload ++ behind)) found.gate (sym here.gate_is) in
       let back : drop (found.gate + 1) (here.front ++ 0 ∷ (record_bytes payload ++ behind)) ≡ record_bytes payload ++ behind =

@@ -10,13 +10,13 @@ use Rattle.ox_outside.specs.Files.{Files, file_of, with_file}
 use Rattle.ox_outside.specs.declared.site.Which.{Which}
 use Rattle.ox_outside.specs.declared.site.Which.TheVariants.{A, B}
 use Rattle.ox_gated.specs.Pick.{Choice, choice_of}
-use Rattle.ox_gated.specs.Reading.{Chain, chain, Found, Fault, fault_at, found_or_fault, current, reading_by, reading}
+use Rattle.ox_gated.specs.Reading.{Chain, chain, Found, Fault, fault_at, found_or_fault, current_reading, reading_by, reading}
 use Rattle.ox_gated.specs.declared.head.Head.{Head}
 use Rattle.ox_gated.specs.declared.head.Opening.{Opening}
 use Rattle.ox_gated.specs.declared.records.Record.{Record}
 use Rattle.ox_gated.proofs.Chain.{fronts}
 use Rattle.ox_gated.proofs.ChoiceByFronts.{choice_of-fronts}
-use Rattle.ox_gated.proofs.Fronts.{current_on}
+use Rattle.ox_gated.proofs.CurrentByFront.{current_on}
 use Rattle.ox_gated.proofs.OneFile.{file_of-with_file}
 
 -- what stands before the last gate of a current file, and what any bytes from there on make of it
@@ -28,7 +28,7 @@ record Current (version : ℕ) (file : Which) (bytes : List ℕ) (opening : Open
   parts : bytes ≡ front ++ 0 ∷ junk
   gate_is : found.gate ≡ length front
   long : 26 ≤ length front
-  any : (t : List ℕ) → current version file (front ++ t) opening ≡ found_or_fault file found.head found.body (found.records ++ (chain found.gate t).records) (chain found.gate t).end
+  any : (t : List ℕ) → current_reading version file (front ++ t) opening ≡ found_or_fault file found.head found.body (found.records ++ (chain found.gate t).records) (chain found.gate t).end
 
 version_ok : (a b : ℕ) (r : Result Found Fault) (file : Which) (found : Found) → (if not (a == b) then fault_at file 6 else r) ≡ Ok found → ((a == b) ≡ true) × (r ≡ Ok found)
 version_ok a b r file found is = go (a == b) is
@@ -42,7 +42,7 @@ judged_ok : (file : Which) (head : Head) (body : List ℕ) (records : List Recor
 judged_ok file head body records (Ok gate) found is = (gate, refl, ok_is {F = Fault} _ _ is)
 judged_ok file head body records (Err at) found is = absurd (cc is)
 
-current_ok : (version : ℕ) (file : Which) (bytes : List ℕ) (opening : Opening) (found : Found) → current version file bytes opening ≡ Ok found → Current version file bytes opening found
+current_ok : (version : ℕ) (file : Which) (bytes : List ℕ) (opening : Opening) (found : Found) → current_reading version file bytes opening ≡ Ok found → Current version file bytes opening found
 current_ok version file bytes opening found is =
     let checked = version_ok opening.head.version version _ file found is in
     let fits = guard_ok {F = Fault} (nat_lt (length bytes) (26 + opening.size)) _ _ found checked.1 in
@@ -52,7 +52,7 @@ current_ok version file bytes opening found is =
     let rest = drop (26 + opening.size) bytes in
     let whole : bytes ≡ front ++ rest = sym (take-append-drop (26 + opening.size) bytes) in
     let here : (if not (opening.head.version == version) then fault_at file 6 else found_or_fault file opening.head (drop 26 front) (chain (26 + opening.size) rest).records (chain (26 + opening.size) rest).end) ≡ Ok found =
-    sym (current_on version file front rest opening size) ∙ ap (λ (l : List ℕ). current version file l opening) (sym whole) ∙ is in
+    sym (current_on version file front rest opening size) ∙ ap (λ (l : List ℕ). current_reading version file l opening) (sym whole) ∙ is in
     let judged_here = (version_ok opening.head.version version _ file found here).1 in
     let ends = judged_ok file opening.head (drop 26 front) (chain (26 + opening.size) rest).records (chain (26 + opening.size) rest).end found judged_here in
     let gates = fronts (length rest) (26 + opening.size) ends.0 rest (omega arith) ends.1 in
@@ -66,14 +66,14 @@ current_ok version file bytes opening found is =
       gate_is = omega (arith, gates.gate_is, size, length-append front gates.front);
       long = omega (arith, size, length-append front gates.front);
       any = λ t.
-          ap (λ (l : List ℕ). current version file l opening) (append_assoc front gates.front t)
+          ap (λ (l : List ℕ). current_reading version file l opening) (append_assoc front gates.front t)
           ∙ current_on version file front (gates.front ++ t) opening size
           ∙ ap (λ (b : Bool). if not b then fault_at file 6 else found_or_fault file opening.head (drop 26 front) (chain (26 + opening.size) (gates.front ++ t)).records (chain (26 + opening.size) (gates.front ++ t)).end) checked.0
           ∙ ap (λ (c : Chain). found_or_fault file opening.head (drop 26 front) c.records c.end) (gates.before t);
     }
     )
 
-pub current_file : (version : ℕ) (file : Which) (bytes : List ℕ) (opening : Opening) (found : Found) → current version file bytes opening ≡ Ok found → found.file ≡ file
+pub current_file : (version : ℕ) (file : Which) (bytes : List ℕ) (opening : Opening) (found : Found) → current_reading version file bytes opening ≡ Ok found → found.file ≡ file
 current_file version file bytes opening found is = (current_ok version file bytes opening found is).same_file
 
 -- ---- both files
@@ -122,7 +122,7 @@ module _ (version : ℕ) (files : Files) (found : Found) where
         any = λ t.
             let new = with_file files which (c.front ++ t) in
             ap (reading_by version new) (choice_with files which c.front t c.junk c.parts c.long ∙ picks)
-            ∙ ap (λ (l : List ℕ). current version which l choice.1) (file_of-with_file files which (c.front ++ t))
+            ∙ ap (λ (l : List ℕ). current_reading version which l choice.1) (file_of-with_file files which (c.front ++ t))
             ∙ c.any t;
       }
       )

@@ -92,8 +92,8 @@ by_parts file opening body rest =
 
 -- The current file: its version is the one that is read, its body is there, and its gates and
 -- records are.
-abbrev pub current : ℕ → Which → List ℕ → Opening → Result Found Fault
-current version file bytes opening =
+abbrev pub current_reading : ℕ → Which → List ℕ → Opening → Result Found Fault
+current_reading version file bytes opening =
     if not (opening.head.version == version) then fault_at file version_at else
     if nat_lt (length bytes) (body_at + opening.size) then fault_at file body_at else
     let behind_head = drop body_at bytes in
@@ -102,7 +102,8 @@ current version file bytes opening =
 -- what the files stand for, once the current one is picked
 abbrev pub reading_by : ℕ → Files → Choice → Result Found Fault
 reading_by version files (Err fault) = fault_at fault.0 fault.1
-reading_by version files (Ok choice) = current version choice.0 (file_of files choice.0) choice.1
+reading_by version files (Ok choice) =
+    current_reading version choice.0 (file_of files choice.0) choice.1
 
 -- what the files stand for, where this version is read
 abbrev pub reading : ℕ → Files → Result Found Fault

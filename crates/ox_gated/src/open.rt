@@ -8,7 +8,7 @@ ghost use Rattle.ox_outside.specs.Runs.{OnlyLooks};
 ghost use Rattle.ox_gated.specs.Layout.{is_closed, body_at};
 ghost use Rattle.ox_gated.specs.Opened.{IsFault, IsUnpicked, found_of, tail_of};
 ghost use Rattle.ox_gated.specs.Pick.{choice_of, of_file};
-ghost use Rattle.ox_gated.specs.Reading.{by_parts, current};
+ghost use Rattle.ox_gated.specs.Reading.{by_parts, current_reading};
 ghost use Rattle.ox_gated.specs.Tail.{IsSettled};
 ghost use Rattle.ox_gated.specs.declared.fault.GateFault.TheVariants.{NotStore};
 
@@ -218,13 +218,14 @@ pub fn read_current<S: Site>(
     ensures found { let e = examined.now in
         IsTrue (S.told site.old)
         → IfOk result (λ o.
-        current version e.file (file_of (S.seen site.old) e.file) e.opening ≡ Ok (found_of o)) }
+        current_reading version e.file (file_of (S.seen site.old) e.file) e.opening
+        ≡ Ok (found_of o)) }
     ensures tail { IfOk result (λ o. o.tail ≡ tail_of o examined.now.other_closed) }
     ensures version { IfOk result (λ o. o.head.version ≡ version) }
     ensures fault { let e = examined.now in
         IsTrue (S.told site.old)
         → IfErr result
-        (IsFault (current version e.file (file_of (S.seen site.old) e.file) e.opening)) }
+        (IsFault (current_reading version e.file (file_of (S.seen site.old) e.file) e.opening)) }
     ensures looks { OnlyLooks S.Site site.old site.new }
     ensures failed { IsErrOf result GateFault.DiskFault
         → Rose (S.counts site.old).disk (S.counts site.new).disk }

@@ -18,21 +18,21 @@ pub fn pick(a: &[u8], b: &[u8]) -> Result<(Which, Opening), (Which, u64)>
             if a.is_empty() {
                 Err((Which::A, 0))
             } else {
-                only(Which::B, opening_of(b))
+                choice_of_one(Which::B, opening_of(b))
             }
         }
         (false, true) => {
             if b.is_empty() {
                 Err((Which::B, 0))
             } else {
-                only(Which::A, opening_of(a))
+                choice_of_one(Which::A, opening_of(a))
             }
         }
-        (false, false) => newer(opening_of(a), opening_of(b)),
+        (false, false) => choice_of_two(opening_of(a), opening_of(b)),
     }
 }
 
-fn only(file: Which, opening: Option<Opening>) -> Result<(Which, Opening), (Which, u64)>
+fn choice_of_one(file: Which, opening: Option<Opening>) -> Result<(Which, Opening), (Which, u64)>
     ensures { result ≡ lone_choice file opening }
 {
     match opening {
@@ -41,7 +41,7 @@ fn only(file: Which, opening: Option<Opening>) -> Result<(Which, Opening), (Whic
     }
 }
 
-fn newer(a: Option<Opening>, b: Option<Opening>) -> Result<(Which, Opening), (Which, u64)>
+fn choice_of_two(a: Option<Opening>, b: Option<Opening>) -> Result<(Which, Opening), (Which, u64)>
     ensures { result ≡ greater_of a b }
 {
     match (a, b) {

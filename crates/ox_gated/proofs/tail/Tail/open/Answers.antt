@@ -5,7 +5,7 @@ use Rattle.ox_outside.specs.Files.{Files, file_of, other}
 use Rattle.ox_gated.specs.Layout.{is_closed}
 use Rattle.ox_gated.specs.Opened.{IsFault, IsUnpicked, found_of}
 use Rattle.ox_gated.specs.Pick.{choice_of}
-use Rattle.ox_gated.specs.Reading.{Found, Fault, current}
+use Rattle.ox_gated.specs.Reading.{Found, Fault, current_reading}
 use Rattle.ox_gated.proofs.OpenedHolds.{unpicked_fault, reading_is, all_hold}
 use Rattle.ox_gated.proofs.tail.Tail.open.Goals as goal
 
@@ -25,7 +25,7 @@ returns-clause-found g c told =
     let files = g.S.Site.seen c.args.site.now in
     let same = more.nothing.files ∙ looks.nothing.files in
     let picks : choice_of files.a files.b ≡ Ok (e.file, e.opening) = subst (λ (f : Files). choice_of f.a f.b ≡ Ok (e.file, e.opening)) looks.nothing.files (c.in-Ok.ensures.found told1) in
-    let read = subst (λ (f : Files). IfOk c.read_current.result (λ o. current 1 e.file (file_of f e.file) e.opening ≡ Ok (found_of o))) same (c.read_current.ensures.found (more.calls.as_told ∙ told1)) in
+    let read = subst (λ (f : Files). IfOk c.read_current.result (λ o. current_reading 1 e.file (file_of f e.file) e.opening ≡ Ok (found_of o))) same (c.read_current.ensures.found (more.calls.as_told ∙ told1)) in
     subst (λ (r : Result Found Fault). IfOk c.read_current.result (λ o. r ≡ Ok (found_of o))) (sym (reading_is 1 files e.file e.opening picks)) read
 
 pub returns-clause-not_store : goal.returns-clause-not_store
@@ -37,7 +37,7 @@ returns-clause-not_store g c told =
     let files = g.S.Site.seen c.args.site.now in
     let same = more.nothing.files ∙ looks.nothing.files in
     let picks : choice_of files.a files.b ≡ Ok (e.file, e.opening) = subst (λ (f : Files). choice_of f.a f.b ≡ Ok (e.file, e.opening)) looks.nothing.files (c.in-Ok.ensures.found told1) in
-    let read = subst (λ (f : Files). IfErr c.read_current.result (IsFault (current 1 e.file (file_of f e.file) e.opening))) same (c.read_current.ensures.fault (more.calls.as_told ∙ told1)) in
+    let read = subst (λ (f : Files). IfErr c.read_current.result (IsFault (current_reading 1 e.file (file_of f e.file) e.opening))) same (c.read_current.ensures.fault (more.calls.as_told ∙ told1)) in
     subst (λ (r : Result Found Fault). IfErr c.read_current.result (IsFault r)) (sym (reading_is 1 files e.file e.opening picks)) read
 
 pub returns-clause-holds : goal.returns-clause-holds
@@ -50,7 +50,7 @@ returns-clause-holds g c told =
     let files = g.S.Site.seen c.args.site.now in
     let same = more.nothing.files ∙ first.looks.nothing.files in
     let picks : choice_of files.a files.b ≡ Ok (e.file, e.opening) = subst (λ (f : Files). choice_of f.a f.b ≡ Ok (e.file, e.opening)) first.looks.nothing.files (c.in-Ok.ensures.found told1) in
-    let read = subst (λ (f : Files). IfOk c.read_current.result (λ o. current 1 e.file (file_of f e.file) e.opening ≡ Ok (found_of o))) same (c.read_current.ensures.found (more.calls.as_told ∙ told1)) in
+    let read = subst (λ (f : Files). IfOk c.read_current.result (λ o. current_reading 1 e.file (file_of f e.file) e.opening ≡ Ok (found_of o))) same (c.read_current.ensures.found (more.calls.as_told ∙ told1)) in
     let closed : e.other_closed ≡ is_closed (file_of files (other e.file)) = subst (λ (f : Files). e.other_closed ≡ is_closed (file_of f (other e.file))) first.looks.nothing.files (c.in-Ok.ensures.closed told1) in
     let settled : (r : Remains) → g.S.Site.may_leave c.read_current.new.site r → r.files ≡ g.S.Site.seen c.read_current.new.site = λ r left. first.settled r (more.nothing.crash r (last.nothing.crash r left)) ∙ sym (last.nothing.files ∙ more.nothing.files) in
     all_hold 1 files e.file e.opening picks g.S.Site c.read_current.new.site (last.nothing.files ∙ same) settled c.read_current.result e.other_closed closed c.read_current.ensures.tail read
