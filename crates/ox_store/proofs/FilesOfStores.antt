@@ -4,6 +4,7 @@ use Rattle.std.specs.Prelude.{Ok}
 use Rattle.ox_outside.specs.Files.{Files}
 use Rattle.ox_outside.specs.declared.site.Which.TheVariants.{A}
 use Rattle.ox_gated.specs.Layout.{Whole}
+use Rattle.ox_gated.specs.declared.head.Head.{Head}
 use Rattle.ox_gated.specs.Reading.{reading, with_payload}
 use Rattle.ox_gated.specs.Tail.{IsBeforeOrAfter, new_found}
 use Rattle.ox_index.specs.Live.{profile_in, index_in}
@@ -15,12 +16,17 @@ use Rattle.ox_sat.specs.Profiles.{name_at, profile_named}
 use Rattle.ox_model.proofs.FilesOfChains.{stands_more}
 use Rattle.ox_sat.specs.declared.profiles.ProfileName.{ProfileName}
 use Rattle.ox_sat.specs.declared.profiles.ProfileName.TheVariants.{Mainnet, Regtest, Lab}
-use Rattle.ox_store.specs.Make.{first_head, made_stack}
-use Rattle.ox_store.specs.Ready.{Prepared, Leads, StandsForEither}
+use Rattle.ox_store.specs.Make.{made_stack}
+use Rattle.ox_store.specs.Ready.{PreparedCommand, Leads, StandsForEither}
 use Rattle.ox_store.specs.Store.{stack_with}
-use Rattle.ox_store.proofs.Replaying.{replayed_none}
+use Rattle.ox_store.proofs.ReplayByRecord.{replayed_none}
 
 -- ---- a store that is made
+
+-- the head of its file: version 1, generation 1
+abbrev first_head : ProfileName → ℕ → Head
+first_head name depth =
+    record { version = 1; profile = (profile_named name).byte; depth = depth; generation = 1 }
 
 -- a profile's byte names it
 name_named : (name : ProfileName) → name_at (profile_named name).byte ≡ name
@@ -46,14 +52,14 @@ stands_first name depth files made is reads =
 
 -- ---- a record more
 
-pub after_record : (version : ℕ) (payload : List ℕ) (old new : Files) (before : Stack) (ready : Prepared) → version ≡ 1 → payload ≡ ready.payload → stands old ≡ Ok before → Leads before ready
+pub after_record : (version : ℕ) (payload : List ℕ) (old new : Files) (before : Stack) (ready : PreparedCommand) → version ≡ 1 → payload ≡ ready.payload → stands old ≡ Ok before → Leads before ready
     → reading version new ≡ with_payload payload (reading version old) → stands new ≡ Ok ready.stack
 after_record version payload old new before ready first same is leads reads =
     let record_is : payload ≡ 1 ∷ leads.block = same ∙ leads.payload in
     let here : reading 1 new ≡ with_payload (1 ∷ leads.block) (reading 1 old) = subst (λ (l : List ℕ). reading 1 new ≡ with_payload l (reading 1 old)) record_is (subst (λ (v : ℕ). reading v new ≡ with_payload payload (reading v old)) first reads) in
     ap stack_in here ∙ stands_more (reading 1 old) leads.block before ready.stack is leads.after
 
-pub before_or_after : (version : ℕ) (payload : List ℕ) (files image : Files) (before : Stack) (ready : Prepared) → version ≡ 1 → payload ≡ ready.payload → stands files ≡ Ok before → Leads before ready
+pub before_or_after : (version : ℕ) (payload : List ℕ) (files image : Files) (before : Stack) (ready : PreparedCommand) → version ≡ 1 → payload ≡ ready.payload → stands files ≡ Ok before → Leads before ready
     → IsBeforeOrAfter version payload files image → StandsForEither before ready.stack image
 before_or_after version payload files image before ready first same is leads = ⊎_elim
     (λ unchanged. inl (ap stack_in (subst (λ (v : ℕ). reading v image ≡ reading v files) first unchanged) ∙ is))

@@ -1,2 +1,2 @@
-pub mod Replaying
-pub mod Standing
+pub mod FilesOfStores
+pub mod ReplayByRecord

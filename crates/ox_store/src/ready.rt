@@ -29,10 +29,10 @@ impl Model for Ready {
     ghost use Rattle.std.specs.Coded.{codes};
     ghost use Rattle.std.specs.FinMap as map;
     ghost use Rattle.ox_gated.specs.Tail.{Fits};
-    ghost use Rattle.ox_store.specs.Ready.{Prepared};
+    ghost use Rattle.ox_store.specs.Ready.{PreparedCommand};
     ghost use Rattle.ox_store.specs.Store.{stack_with};
 
-    ghost Value = { Prepared };
+    ghost Value = { PreparedCommand };
 
     ghost coded = { Prim.hlevel (codes, map.code) };
 

@@ -40,9 +40,9 @@ impl Model for Store {
     ghost use Rattle.std.specs.Prelude.{◌≡◌};
     ghost use Rattle.std.specs.Coded.{codes};
     ghost use Rattle.std.specs.FinMap as map;
-    ghost use Rattle.ox_store.specs.Store.{Stored, stack_with};
+    ghost use Rattle.ox_store.specs.Store.{StoreContents, stack_with};
 
-    ghost Value = { Stored };
+    ghost Value = { StoreContents };
 
     ghost coded = { Prim.hlevel (codes, map.code) };
 
@@ -154,7 +154,7 @@ impl Store {
     {
         match command {
             Command::Connect(block) => self.prepare_connect(block.as_slice()),
-            Command::Disconnect => Err(self.keeping(Why::Refused(Refusal::Depth))),
+            Command::Disconnect => Err(self.store_with_reason(Why::Refused(Refusal::Depth))),
         }
     }
 
@@ -168,7 +168,7 @@ impl Store {
     {
         let framed = match self.record_of(block) {
             Ok(framed) => framed,
-            Err(Memory) => return Err(self.keeping(Why::Memory)),
+            Err(Memory) => return Err(self.store_with_reason(Why::Memory)),
         };
         let Store {
             alloc,
@@ -209,7 +209,7 @@ impl Store {
     }
 
     // The store as it is, and why a command isn't prepared.
-    fn keeping(self, why: Why) -> Kept
+    fn store_with_reason(self, why: Why) -> Kept
         ensures store { result.store ≡ self }
         ensures why { result.why ≡ why }
     {

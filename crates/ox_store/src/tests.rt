@@ -268,14 +268,19 @@ fn give_up(ready: Ready) {
 }
 
 // Prepares the first command of a store.
-fn prepared(rt: &impl Abort, store: Store, command: &Command) -> Result<Ready, Kept> {
+fn preparation_of(rt: &impl Abort, store: Store, command: &Command) -> Result<Ready, Kept> {
     assert!(rt; store.commands() == 0);
     store.prepare(command)
 }
 
 // The store that a command hands back that is refused for this.
-fn refused(rt: &impl Abort, store: Store, command: &Command, refusal: Refusal) -> Store {
-    match prepared(rt, store, command) {
+fn store_after_refusal(
+    rt: &impl Abort,
+    store: Store,
+    command: &Command,
+    refusal: Refusal,
+) -> Store {
+    match preparation_of(rt, store, command) {
         Ok(ready) => {
             give_up(ready);
             panic!(rt; "prepared");
@@ -289,7 +294,7 @@ fn refused(rt: &impl Abort, store: Store, command: &Command, refusal: Refusal) -
 
 // Whether the first block is prepared, and is the tip then.
 fn is_prepared(rt: &impl Abort, alloc: Global, store: Store) -> bool {
-    match prepared(rt, store, &first_block(rt, alloc)) {
+    match preparation_of(rt, store, &first_block(rt, alloc)) {
         Ok(ready) => {
             let height = ready.tip().map(|(height, _)| height);
             give_up(ready);
@@ -306,8 +311,8 @@ fn a_refusal_hands_the_store_back(rt: HostRuntime) {
     let Ok(store) = Store::make(alloc, &mut site, ProfileName::Regtest, 100) else {
         panic!(rt; "not made");
     };
-    let store = refused(&rt, store, &Command::Disconnect, Refusal::Depth);
+    let store = store_after_refusal(&rt, store, &Command::Disconnect, Refusal::Depth);
     let empty = Command::Connect(Bytes::empty(alloc));
-    let store = refused(&rt, store, &empty, Refusal::Malformed { at: 0 });
+    let store = store_after_refusal(&rt, store, &empty, Refusal::Malformed { at: 0 });
     assert!(rt; is_prepared(&rt, alloc, store));
 }

@@ -4,7 +4,7 @@ use Rattle.std.specs.Prelude.{Result}
 use Rattle.ox_model.specs.Stack.{Stack}
 use Rattle.ox_store.specs.Replay.{IsUnjudged}
 use Rattle.ox_store.specs.Store.{stack_with}
-use Rattle.ox_store.proofs.Replaying.{body_there, unjudged_here, goes_on, all_redone}
+use Rattle.ox_store.proofs.ReplayByRecord.{body_there, unjudged_here, goes_on, all_redone}
 use Rattle.ox_store.proofs.replay.judge.Goals as goal
 
 pub returns-in_err-redo-clause-place : goal.returns-in_err-redo-clause-place

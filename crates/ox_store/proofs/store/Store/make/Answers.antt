@@ -5,7 +5,7 @@ use Rattle.ox_gated.specs.declared.head.Head.{Head}
 use Rattle.ox_model.specs.Stack.{Stack}
 use Rattle.ox_sat.specs.declared.profiles.Profile.{Profile}
 use Rattle.ox_store.specs.Store.{stack_with}
-use Rattle.ox_store.proofs.Standing.{stands_first, stack_first}
+use Rattle.ox_store.proofs.FilesOfStores.{stands_first, stack_first}
 use Rattle.ox_store.proofs.store.Store.make.Goals as goal
 
 pub returns-clause-stands : goal.returns-clause-stands
