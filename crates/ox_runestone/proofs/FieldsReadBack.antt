@@ -19,9 +19,9 @@ use Rattle.ox_runestone.specs.Spelling.{pair, terms_pairs, flags_for, etching_pa
 
 -- ---- the values of each tag
 
-abbrev pub listed : Option ℕ → List ℕ
-listed None = []
-listed (Some value) = value ∷ []
+abbrev pub list_of : Option ℕ → List ℕ
+list_of None = []
+list_of (Some value) = value ∷ []
 
 values-app : (xs ys : List Field) (tag : ℕ) → values (xs ++ ys) tag ≡ values xs tag ++ values ys tag
 values-app [] ys tag = refl
@@ -31,7 +31,7 @@ values-app (field ∷ xs) ys tag =
       | inr other ↦ rw other (values-app xs ys tag)
     ]
 
-values-pair : (own : ℕ) (value : Option ℕ) (tag : ℕ) → values (pair own value) tag ≡ cond (eqb own tag) (listed value) []
+values-pair : (own : ℕ) (value : Option ℕ) (tag : ℕ) → values (pair own value) tag ≡ cond (eqb own tag) (list_of value) []
 values-pair own None tag = elim (cases_Bool (eqb own tag)) [ inl same ↦ rw same refl | inr other ↦ rw other refl ]
 values-pair own (Some value) tag = refl
 
@@ -43,27 +43,27 @@ abbrev pub of_etching : (Etching → Option ℕ) → Option Etching → Option �
 of_etching f None = None
 of_etching f (Some etching) = f etching
 
-t8 : (terms : Option Terms) → values (terms_pairs terms) 8 ≡ listed (of_terms (λ t. t.cap) terms)
+t8 : (terms : Option Terms) → values (terms_pairs terms) 8 ≡ list_of (of_terms (λ t. t.cap) terms)
 t8 None = refl
 t8 (Some t) = simp (values-app, values-pair, append-nil)
 
-t10 : (terms : Option Terms) → values (terms_pairs terms) 10 ≡ listed (of_terms (λ t. t.amount) terms)
+t10 : (terms : Option Terms) → values (terms_pairs terms) 10 ≡ list_of (of_terms (λ t. t.amount) terms)
 t10 None = refl
 t10 (Some t) = simp (values-app, values-pair, append-nil)
 
-t12 : (terms : Option Terms) → values (terms_pairs terms) 12 ≡ listed (of_terms (λ t. t.height_start) terms)
+t12 : (terms : Option Terms) → values (terms_pairs terms) 12 ≡ list_of (of_terms (λ t. t.height_start) terms)
 t12 None = refl
 t12 (Some t) = simp (values-app, values-pair, append-nil)
 
-t14 : (terms : Option Terms) → values (terms_pairs terms) 14 ≡ listed (of_terms (λ t. t.height_end) terms)
+t14 : (terms : Option Terms) → values (terms_pairs terms) 14 ≡ list_of (of_terms (λ t. t.height_end) terms)
 t14 None = refl
 t14 (Some t) = simp (values-app, values-pair, append-nil)
 
-t16 : (terms : Option Terms) → values (terms_pairs terms) 16 ≡ listed (of_terms (λ t. t.offset_start) terms)
+t16 : (terms : Option Terms) → values (terms_pairs terms) 16 ≡ list_of (of_terms (λ t. t.offset_start) terms)
 t16 None = refl
 t16 (Some t) = simp (values-app, values-pair, append-nil)
 
-t18 : (terms : Option Terms) → values (terms_pairs terms) 18 ≡ listed (of_terms (λ t. t.offset_end) terms)
+t18 : (terms : Option Terms) → values (terms_pairs terms) 18 ≡ list_of (of_terms (λ t. t.offset_end) terms)
 t18 None = refl
 t18 (Some t) = simp (values-app, values-pair)
 
@@ -82,20 +82,20 @@ t-apart (Some t) tag a = let p8 = a.n8 in let p10 = a.n10 in let p12 = a.n12 in 
 
 -- what the values of each tag are
 pub record AreSaid (list : List Field) (etching : Option Etching) (terms : Option Terms) (mint : Option RuneId) (pointer : Option ℕ) : Type 0 where
-  pub v2 : values list 2 ≡ listed (of_etching (λ e. Some (flags_for e)) etching)
-  pub v4 : values list 4 ≡ listed (of_etching (λ e. e.name) etching)
-  pub v1 : values list 1 ≡ listed (of_etching (λ e. e.divisibility) etching)
-  pub v3 : values list 3 ≡ listed (of_etching (λ e. e.spacers) etching)
-  pub v5 : values list 5 ≡ listed (of_etching (λ e. e.symbol) etching)
-  pub v6 : values list 6 ≡ listed (of_etching (λ e. e.premine) etching)
-  pub v8 : values list 8 ≡ listed (of_terms (λ t. t.cap) terms)
-  pub v10 : values list 10 ≡ listed (of_terms (λ t. t.amount) terms)
-  pub v12 : values list 12 ≡ listed (of_terms (λ t. t.height_start) terms)
-  pub v14 : values list 14 ≡ listed (of_terms (λ t. t.height_end) terms)
-  pub v16 : values list 16 ≡ listed (of_terms (λ t. t.offset_start) terms)
-  pub v18 : values list 18 ≡ listed (of_terms (λ t. t.offset_end) terms)
+  pub v2 : values list 2 ≡ list_of (of_etching (λ e. Some (flags_for e)) etching)
+  pub v4 : values list 4 ≡ list_of (of_etching (λ e. e.name) etching)
+  pub v1 : values list 1 ≡ list_of (of_etching (λ e. e.divisibility) etching)
+  pub v3 : values list 3 ≡ list_of (of_etching (λ e. e.spacers) etching)
+  pub v5 : values list 5 ≡ list_of (of_etching (λ e. e.symbol) etching)
+  pub v6 : values list 6 ≡ list_of (of_etching (λ e. e.premine) etching)
+  pub v8 : values list 8 ≡ list_of (of_terms (λ t. t.cap) terms)
+  pub v10 : values list 10 ≡ list_of (of_terms (λ t. t.amount) terms)
+  pub v12 : values list 12 ≡ list_of (of_terms (λ t. t.height_start) terms)
+  pub v14 : values list 14 ≡ list_of (of_terms (λ t. t.height_end) terms)
+  pub v16 : values list 16 ≡ list_of (of_terms (λ t. t.offset_start) terms)
+  pub v18 : values list 18 ≡ list_of (of_terms (λ t. t.offset_end) terms)
   pub v20 : values list 20 ≡ values (mint_pairs mint) 20
-  pub v22 : values list 22 ≡ listed pointer
+  pub v22 : values list 22 ≡ list_of pointer
 
 m-other : (mint : Option RuneId) (tag : ℕ) → eqb 20 tag ≡ false → values (mint_pairs mint) tag ≡ []
 m-other None tag other = refl
@@ -114,19 +114,19 @@ apart tag a b c d e f = record { n8 = a; n10 = b; n12 = c; n14 = d; n16 = e; n18
 e2 : (e : Etching) → values (etching_pairs (Some e)) 2 ≡ flags_for e ∷ []
 e2 e = let a = t-apart e.terms 2 (apart 2 refl refl refl refl refl refl) in simp (values-app, values-pair, append-nil, a)
 
-e4 : (e : Etching) → values (etching_pairs (Some e)) 4 ≡ listed e.name
+e4 : (e : Etching) → values (etching_pairs (Some e)) 4 ≡ list_of e.name
 e4 e = let a = t-apart e.terms 4 (apart 4 refl refl refl refl refl refl) in simp (values-app, values-pair, append-nil, a)
 
-e1 : (e : Etching) → values (etching_pairs (Some e)) 1 ≡ listed e.divisibility
+e1 : (e : Etching) → values (etching_pairs (Some e)) 1 ≡ list_of e.divisibility
 e1 e = let a = t-apart e.terms 1 (apart 1 refl refl refl refl refl refl) in simp (values-app, values-pair, append-nil, a)
 
-e3 : (e : Etching) → values (etching_pairs (Some e)) 3 ≡ listed e.spacers
+e3 : (e : Etching) → values (etching_pairs (Some e)) 3 ≡ list_of e.spacers
 e3 e = let a = t-apart e.terms 3 (apart 3 refl refl refl refl refl refl) in simp (values-app, values-pair, append-nil, a)
 
-e5 : (e : Etching) → values (etching_pairs (Some e)) 5 ≡ listed e.symbol
+e5 : (e : Etching) → values (etching_pairs (Some e)) 5 ≡ list_of e.symbol
 e5 e = let a = t-apart e.terms 5 (apart 5 refl refl refl refl refl refl) in simp (values-app, values-pair, append-nil, a)
 
-e6 : (e : Etching) → values (etching_pairs (Some e)) 6 ≡ listed e.premine
+e6 : (e : Etching) → values (etching_pairs (Some e)) 6 ≡ list_of e.premine
 e6 e = let a = t-apart e.terms 6 (apart 6 refl refl refl refl refl refl) in simp (values-app, values-pair, append-nil, a)
 
 e20 : (e : Etching) → values (etching_pairs (Some e)) 20 ≡ []
@@ -163,12 +163,12 @@ said None terms mint pointer some none =
       v3 = front [] mint pointer 3 refl refl;
       v5 = front [] mint pointer 5 refl refl;
       v6 = front [] mint pointer 6 refl refl;
-      v8 = front [] mint pointer 8 refl refl ∙ sym (ap (λ t. listed (of_terms (λ t. t.cap) t)) no);
-      v10 = front [] mint pointer 10 refl refl ∙ sym (ap (λ t. listed (of_terms (λ t. t.amount) t)) no);
-      v12 = front [] mint pointer 12 refl refl ∙ sym (ap (λ t. listed (of_terms (λ t. t.height_start) t)) no);
-      v14 = front [] mint pointer 14 refl refl ∙ sym (ap (λ t. listed (of_terms (λ t. t.height_end) t)) no);
-      v16 = front [] mint pointer 16 refl refl ∙ sym (ap (λ t. listed (of_terms (λ t. t.offset_start) t)) no);
-      v18 = front [] mint pointer 18 refl refl ∙ sym (ap (λ t. listed (of_terms (λ t. t.offset_end) t)) no);
+      v8 = front [] mint pointer 8 refl refl ∙ sym (ap (λ t. list_of (of_terms (λ t. t.cap) t)) no);
+      v10 = front [] mint pointer 10 refl refl ∙ sym (ap (λ t. list_of (of_terms (λ t. t.amount) t)) no);
+      v12 = front [] mint pointer 12 refl refl ∙ sym (ap (λ t. list_of (of_terms (λ t. t.height_start) t)) no);
+      v14 = front [] mint pointer 14 refl refl ∙ sym (ap (λ t. list_of (of_terms (λ t. t.height_end) t)) no);
+      v16 = front [] mint pointer 16 refl refl ∙ sym (ap (λ t. list_of (of_terms (λ t. t.offset_start) t)) no);
+      v18 = front [] mint pointer 18 refl refl ∙ sym (ap (λ t. list_of (of_terms (λ t. t.offset_end) t)) no);
       v20 = values-app (mint_pairs mint) (pair 22 pointer) 20 ∙ ap (λ t. values (mint_pairs mint) 20 ++ t) (values-pair 22 pointer 20) ∙ append-nil (values (mint_pairs mint) 20);
       v22 = values-app (mint_pairs mint) (pair 22 pointer) 22 ∙ ap (λ t. t ++ values (pair 22 pointer) 22) (m-other mint 22 refl) ∙ values-pair 22 pointer 22;
     }
@@ -182,30 +182,30 @@ said (Some e) terms mint pointer some none =
       v3 = front (etching_pairs (Some e)) mint pointer 3 refl refl ∙ e3 e;
       v5 = front (etching_pairs (Some e)) mint pointer 5 refl refl ∙ e5 e;
       v6 = front (etching_pairs (Some e)) mint pointer 6 refl refl ∙ e6 e;
-      v8 = front (etching_pairs (Some e)) mint pointer 8 refl refl ∙ e8 e ∙ t8 e.terms ∙ sym (ap (λ t. listed (of_terms (λ t. t.cap) t)) te);
-      v10 = front (etching_pairs (Some e)) mint pointer 10 refl refl ∙ e10 e ∙ t10 e.terms ∙ sym (ap (λ t. listed (of_terms (λ t. t.amount) t)) te);
-      v12 = front (etching_pairs (Some e)) mint pointer 12 refl refl ∙ e12 e ∙ t12 e.terms ∙ sym (ap (λ t. listed (of_terms (λ t. t.height_start) t)) te);
-      v14 = front (etching_pairs (Some e)) mint pointer 14 refl refl ∙ e14 e ∙ t14 e.terms ∙ sym (ap (λ t. listed (of_terms (λ t. t.height_end) t)) te);
-      v16 = front (etching_pairs (Some e)) mint pointer 16 refl refl ∙ e16 e ∙ t16 e.terms ∙ sym (ap (λ t. listed (of_terms (λ t. t.offset_start) t)) te);
-      v18 = front (etching_pairs (Some e)) mint pointer 18 refl refl ∙ e18 e ∙ t18 e.terms ∙ sym (ap (λ t. listed (of_terms (λ t. t.offset_end) t)) te);
+      v8 = front (etching_pairs (Some e)) mint pointer 8 refl refl ∙ e8 e ∙ t8 e.terms ∙ sym (ap (λ t. list_of (of_terms (λ t. t.cap) t)) te);
+      v10 = front (etching_pairs (Some e)) mint pointer 10 refl refl ∙ e10 e ∙ t10 e.terms ∙ sym (ap (λ t. list_of (of_terms (λ t. t.amount) t)) te);
+      v12 = front (etching_pairs (Some e)) mint pointer 12 refl refl ∙ e12 e ∙ t12 e.terms ∙ sym (ap (λ t. list_of (of_terms (λ t. t.height_start) t)) te);
+      v14 = front (etching_pairs (Some e)) mint pointer 14 refl refl ∙ e14 e ∙ t14 e.terms ∙ sym (ap (λ t. list_of (of_terms (λ t. t.height_end) t)) te);
+      v16 = front (etching_pairs (Some e)) mint pointer 16 refl refl ∙ e16 e ∙ t16 e.terms ∙ sym (ap (λ t. list_of (of_terms (λ t. t.offset_start) t)) te);
+      v18 = front (etching_pairs (Some e)) mint pointer 18 refl refl ∙ e18 e ∙ t18 e.terms ∙ sym (ap (λ t. list_of (of_terms (λ t. t.offset_end) t)) te);
       v20 = values-app (etching_pairs (Some e)) (mint_pairs mint ++ pair 22 pointer) 20 ∙ ap (λ t. t ++ values (mint_pairs mint ++ pair 22 pointer) 20) (e20 e) ∙ values-app (mint_pairs mint) (pair 22 pointer) 20 ∙ ap (λ t. values (mint_pairs mint) 20 ++ t) (values-pair 22 pointer 20) ∙ append-nil (values (mint_pairs mint) 20);
       v22 = values-app (etching_pairs (Some e)) (mint_pairs mint ++ pair 22 pointer) 22 ∙ ap (λ t. t ++ values (mint_pairs mint ++ pair 22 pointer) 22) (e22 e) ∙ values-app (mint_pairs mint) (pair 22 pointer) 22 ∙ ap (λ t. t ++ values (pair 22 pointer) 22) (m-other mint 22 refl) ∙ values-pair 22 pointer 22;
     }
 
 -- ---- the fields
 
-first-listed : (value : Option ℕ) → slice_get (listed value) 0 ≡ value
-first-listed None = refl
-first-listed (Some value) = refl
+first-list_of : (value : Option ℕ) → slice_get (list_of value) 0 ≡ value
+first-list_of None = refl
+first-list_of (Some value) = refl
 
-first-at : (list : List Field) (tag : ℕ) (value : Option ℕ) → values list tag ≡ listed value → first_of list tag ≡ value
-first-at list tag value is = ap (λ l. slice_get l 0) is ∙ first-listed value
+first-at : (list : List Field) (tag : ℕ) (value : Option ℕ) → values list tag ≡ list_of value → first_of list tag ≡ value
+first-at list tag value is = ap (λ l. slice_get l 0) is ∙ first-list_of value
 
 taken-all : (first : Firsts) (outputs tag : ℕ) (value : Option ℕ) → IfSome value (λ v. takes first outputs tag v ≡ true) → taken_of first outputs tag value ≡ value
 taken-all first outputs tag None fits = refl
 taken-all first outputs tag (Some value) fits = ap (λ b. only b value) fits
 
-field-at : (list : List Field) (outputs tag : ℕ) (value : Option ℕ) → values list tag ≡ listed value → IfSome value (λ v. takes (first_of list) outputs tag v ≡ true) → field_of (first_of list) outputs tag ≡ value
+field-at : (list : List Field) (outputs tag : ℕ) (value : Option ℕ) → values list tag ≡ list_of value → IfSome value (λ v. takes (first_of list) outputs tag v ≡ true) → field_of (first_of list) outputs tag ≡ value
 field-at list outputs tag value is fits = ap (taken_of (first_of list) outputs tag) (first-at list tag value is) ∙ taken-all (first_of list) outputs tag value fits
 
 all_some : (P : ℕ → Type 0) (value : Option ℕ) → ((v : ℕ) → P v) → IfSome value P
@@ -341,7 +341,7 @@ any-pair : (P : ℕ → Bool) (tag : ℕ) (value : Option ℕ) → P tag ≡ fal
 any-pair P tag None is = refl
 any-pair P tag (Some value) is = rw is refl
 
-quiet_number : (value : Option ℕ) → ltb (cond (is_some value) 1 0) (length (listed value)) ≡ false
+quiet_number : (value : Option ℕ) → ltb (cond (is_some value) 1 0) (length (list_of value)) ≡ false
 quiet_number None = refl
 quiet_number (Some value) = refl
 
@@ -349,7 +349,7 @@ and_right_false : (a : Bool) → (a && false) ≡ false
 and_right_false true = refl
 and_right_false false = refl
 
-quiet : (list : List Field) (outputs tag : ℕ) (value : Option ℕ) → eqb tag 20 ≡ false → values list tag ≡ listed value → field_of (first_of list) outputs tag ≡ value → leaves_tag list outputs tag ≡ false
+quiet : (list : List Field) (outputs tag : ℕ) (value : Option ℕ) → eqb tag 20 ≡ false → values list tag ≡ list_of value → field_of (first_of list) outputs tag ≡ value → leaves_tag list outputs tag ≡ false
 quiet list outputs tag value other is field =
     let count : count_taken (first_of list) (mint_in list) outputs tag ≡ cond (is_some value) 1 0 = ap (λ b. cond b (cond (is_some (mint_in list)) 2 0) (cond (is_some (field_of (first_of list) outputs tag)) 1 0)) other ∙ ap (λ o. cond (is_some o) 1 0) field in
     ap (λ n. eqb (tag % 2) 0 && ltb n (length (values list tag))) count ∙ ap (λ l. eqb (tag % 2) 0 && ltb (cond (is_some value) 1 0) (length l)) is ∙ ap (λ b. eqb (tag % 2) 0 && b) (quiet_number value) ∙ and_right_false (eqb (tag % 2) 0)

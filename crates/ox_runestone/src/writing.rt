@@ -276,7 +276,6 @@ pub fn encipher(alloc: Global, stone: &Runestone, outputs: u32) -> Result<Bytes,
     ensures deciphered { IfOk result (
         λ script. artifact_of script outputs ≡ Artifact.Stone stone.now) }
 {
-    prove!(outputs <= u32::MAX);
     let payload = payload_for(alloc, stone)?;
     let mut script = Vec::new(alloc);
     script.push(OP_RETURN)?;
