@@ -2,7 +2,7 @@
 -- an id: equal coinbases let a whole transaction repeat, with another witness.
 use Rattle.std.specs.Prelude.{ℕ, ◌+◌, Bool, false, ◌&&◌, List, [], ◌∷◌, Option, Some, None}
 use Rattle.std.specs.Prelude.{position, slice_get}
-use Rattle.std.specs.Prelude.{◌==◌, nat_le, nat_lt, bytes_eq, min, option_map, if◌then◌else◌}
+use Rattle.std.specs.Prelude.{◌==◌, nat_lt, bytes_eq, min, option_map, if◌then◌else◌}
 use Rattle.std.specs.List.{list_any}
 use Rattle.std.specs.Option.{option_map_or}
 use Rattle.ox_envelope.specs.declared.id.InsId.{InsId}

@@ -1,2 +1,5 @@
 pub mod Inscriptions
+pub mod Numbers
 pub mod Reveal
+pub mod Moves
+pub mod Origins

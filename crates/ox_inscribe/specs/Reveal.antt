@@ -1,8 +1,8 @@
 -- What a block reveals: the Ordinal Theory Handbook, "Inscriptions", "Pointer" and "Provenance".
-use Rattle.std.specs.Prelude.{ℕ, ◌+◌, ◌%◌, Bool, true, false, not, ◌&&◌, ◌||◌, List, [], ◌∷◌}
+use Rattle.std.specs.Prelude.{ℕ, ◌+◌, ◌%◌, Bool, false, not, ◌&&◌, ◌||◌, List, [], ◌∷◌}
 use Rattle.std.specs.Prelude.{◌++◌, length, map, filter, sum}
 use Rattle.std.specs.Prelude.{drop, slice_get, Option, Some, None, option_and_then, unwrap_or}
-use Rattle.std.specs.Prelude.{is_some, ◌==◌, nat_le, nat_lt, if◌then◌else◌}
+use Rattle.std.specs.Prelude.{◌==◌, nat_le, nat_lt, if◌then◌else◌}
 use Rattle.std.specs.List.{list_any}
 use Rattle.std.specs.Option.{option_map_or}
 use Rattle.ox_script.specs.Script.{little_endian}

@@ -1,10 +1,14 @@
 //! Inscriptions: what a block reveals, and the rows that are kept of it.
 #![tactic(auto)]
 
+pub use laws::{
+    each_envelope_reveals_a_row, new_rows_are_on_their_inputs, parents_were_on_the_inputs,
+    rows_are_looked_up_exactly, transfers_tell_of_transactions,
+};
 pub use ox_bytes::Memory;
 pub use row::InsRow;
 
+mod laws;
 mod row;
-
 #[cfg(test)]
 mod tests;

@@ -1,0 +1,7 @@
+pub mod MoveLaws
+pub mod SightingLaws
+pub mod RowLaws
+pub mod PlaceLaws
+pub mod CountLaws
+pub mod ParentLaws
+pub mod NumberLaws
