@@ -5,3 +5,4 @@ pub mod PlaceLaws
 pub mod CountLaws
 pub mod ParentLaws
 pub mod NumberLaws
+pub mod NextLaws

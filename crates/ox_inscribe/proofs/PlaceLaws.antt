@@ -104,7 +104,7 @@ not_none (suc n) is = omega arith
 
 seen_within : (height : ℕ) (tx : Tx) (did : MovedTx) (seen : Sighting) → IsMoveOf tx did → seen.before + seen.sats ≤ length (sats_of did.spent) → is_unbound seen ≡ false → place_of (revealing_of height tx did) seen < length did.joined
 seen_within height tx did seen move fits bound =
-    let some : 0 < seen.sats = not_none seen.sats (or_parts _ _ bound).1 in
+    let some : 0 < seen.sats = not_none seen.sats (or_parts (seen.says.marks % 2 == 1) (seen.sats == 0) bound).1 in
     let all : length did.joined ≡ length (sats_of did.spent) = ap (λ (sats : List ℕ). length sats) move.joined in
     let within : seen.before < length did.joined = omega (arith, some, all, fits) in
     within_all (sum (values_of tx)) seen.before (length did.joined) seen.says.pointer move.enough within

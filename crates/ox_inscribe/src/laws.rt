@@ -6,9 +6,9 @@ ghost use Rattle.ox_block.specs.declared.block.Tx.{Tx};
 ghost use Rattle.ox_sat.specs.declared.profiles.Profile.{Profile};
 ghost use Rattle.ox_rules.specs.Outputs.{Outputs};
 ghost use Rattle.ox_rules.specs.Transfer.{Transferred, transfer_of};
-ghost use Rattle.ox_inscribe.specs.Inscriptions.{children, on};
+ghost use Rattle.ox_inscribe.specs.Inscriptions.{children, next_on, on};
 ghost use Rattle.ox_inscribe.specs.Moves.{AreMovesOf};
-ghost use Rattle.ox_inscribe.specs.Numbers.{bears, is_among, names};
+ghost use Rattle.ox_inscribe.specs.Numbers.{IsNextOn, bears, is_among, names};
 ghost use Rattle.ox_inscribe.specs.Origins.{AllRevealed, HasParents, IsPlaced, bare, bare_rows_of};
 ghost use Rattle.ox_inscribe.specs.Origins.{rows_before};
 ghost use Rattle.ox_inscribe.specs.Reveal.{reveal_of};
@@ -51,7 +51,7 @@ pub fn parents_were_on_the_inputs()
 {}
 
 /// The children of a row are the rows that name its id, and the rows on a satoshi are those that
-/// bear it; their numbers rise.
+/// bear it; their numbers rise. The next satoshi that bears a row is the least from a number up.
 pub fn rows_are_looked_up_exactly()
     ensures children { (rows : List InsRow) (number child : ℕ) (row : InsRow)
         → slice_get rows number ≡ Some row
@@ -61,4 +61,5 @@ pub fn rows_are_looked_up_exactly()
     ensures children_rise { (rows : List InsRow) (number : ℕ)
         → IsStrictlyIncreasing (children rows number) }
     ensures on_rises { (rows : List InsRow) (sat : ℕ) → IsStrictlyIncreasing (on rows sat) }
+    ensures next { (rows : List InsRow) (low : ℕ) → IsNextOn rows low (next_on rows low) }
 {}

@@ -5,6 +5,7 @@ use Rattle.std.specs.Option.{option_map_or}
 use Rattle.ox_inscribe.specs.Inscriptions.{numbers_where, has_parent, is_on, children_of}
 use Rattle.ox_inscribe.specs.Numbers.{is_among}
 use Rattle.ox_inscribe.specs.declared.row.InsRow.{InsRow}
+use Rattle.ox_inscribe.proofs.NextLaws.{next_shown}
 use Rattle.ox_inscribe.proofs.NumberLaws.{numbers_pass, numbers_rise}
 use Rattle.ox_inscribe.proofs.laws.rows_are_looked_up_exactly.Goals as goal
 
@@ -28,3 +29,6 @@ returns-clause-children_rise c = λ rows number. children_rise rows (slice_get r
 
 pub returns-clause-on_rises : goal.returns-clause-on_rises
 returns-clause-on_rises c = λ rows sat. numbers_rise (is_on sat) 0 rows
+
+pub returns-clause-next : goal.returns-clause-next
+returns-clause-next c = next_shown
