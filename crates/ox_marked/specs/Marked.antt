@@ -1,8 +1,8 @@
 -- A map whose changes since a mark lie over it.
-use Rattle.std.specs.Prelude.{Bool, List, Option, Some, None, if◌then◌else◌}
+use Rattle.std.specs.Prelude.{Bool, List, Option, Some, None, is_some, if◌then◌else◌}
 use Rattle.std.specs.declared.cmp.Ordering.{Ordering}
 use Rattle.std.specs.Option.{unwrap_or}
-use Rattle.std.specs.Map.{lookup, keys_of}
+use Rattle.std.specs.Map.{lookup}
 use Rattle.std.specs.BTreeMap.{is_at}
 
 -- What was put, a value or none for each key, and the entries that it lies over, both in the keys'
@@ -11,10 +11,6 @@ pub record Layers (K V : Type 0) : Type 0 where
   pub changes : List (K × Option V)
   pub below : List (K × V)
   pub marked : Bool
-
--- the keys that were put since the mark, in order
-abbrev pub changed_in : {K V : Type 0} → Layers K V → List K
-changed_in map = keys_of map.changes
 
 module _ {K V : Type 0} (cmp : K → K → Ordering) where
   -- what the map has at a key: what was put there, and what lies below where nothing was
@@ -25,3 +21,7 @@ module _ {K V : Type 0} (cmp : K → K → Ordering) where
   -- what it had at each key at the mark, if there is a mark
   abbrev pub mark_in : Layers K V → Option (K → Option V)
   mark_in map = if map.marked then Some (λ key. lookup (is_at (cmp key)) map.below) else None
+
+  -- whether a key was put since the mark
+  abbrev pub is_changed : Layers K V → K → Bool
+  is_changed map key = is_some (lookup (is_at (cmp key)) map.changes)

@@ -1,10 +1,15 @@
 //! A map with a mark.
 
 ghost use Rattle.std.specs.Prelude.{◌≡◌, ◌↔◌, IsTrue, IsSome, Some, None, [], OnOk, OnErr, IfOk};
-ghost use Rattle.std.specs.Prelude.{cond};
+ghost use Rattle.std.specs.Prelude.{cond, true, false};
+ghost use Rattle.std.specs.List.{list_any};
+ghost use Rattle.std.specs.List.Sorted.{IsStrictlySortedBy};
 ghost use Rattle.std.specs.Ordering.{is_eq};
 ghost use Rattle.std.specs.Option.{option_copied, IfSome, IsSomeAnd};
-ghost use Rattle.ox_marked.specs.Marked.{Layers, content_in, mark_in, changed_in};
+ghost use Rattle.std.specs.BTreeMap as tree;
+ghost use Rattle.std.specs.BTreeMap.Range.{IsInRange, IsLeBy};
+ghost use Rattle.std.specs.declared.ops.Bound.TheVariants.{Included};
+ghost use Rattle.ox_marked.specs.Marked.{Layers, content_in, mark_in, is_changed};
 
 use ox_bytes::Memory;
 use std::alloc::Global;
@@ -16,6 +21,7 @@ use std::marker::Model;
 /// then, so that to go back takes no memory.
 #[derive(Drop)]
 pub struct Marked<K: Ord + Copy, V> {
+    alloc: Global,
     below: BTreeMap<K, V>,
     /// What was put: a value, or `None` where one was taken out.
     changes: BTreeMap<K, Option<V>>,
@@ -33,9 +39,10 @@ impl<K: Ord + Copy, V> Marked<K, V> {
     pub fn new(alloc: Global) -> Marked<K, V>
         ensures content { (q : K) → content_in K.cmp result q ≡ None }
         ensures mark { mark_in K.cmp result ≡ None }
-        ensures changed { changed_in result ≡ [] }
+        ensures changed { (q : K) → is_changed K.cmp result q ≡ false }
     {
         Marked {
+            alloc,
             below: BTreeMap::new(alloc),
             changes: BTreeMap::new(alloc),
             marked: false,
@@ -60,6 +67,8 @@ impl<K: Ord + Copy, V> Marked<K, V> {
         V: Drop,
         ensures content { OnOk result ((q : K) → content_in K.cmp self.new q
             ≡ cond (is_eq (K.cmp key q)) value (content_in K.cmp self.old q)) }
+        ensures changed { OnOk result ((q : K) → is_changed K.cmp self.new q
+            ≡ cond (is_eq (K.cmp key q)) true (is_changed K.cmp self.old q)) }
         ensures mark { mark_in K.cmp self.new ≡ mark_in K.cmp self.old }
         ensures err { OnErr result (self.new ≡ self.old) }
     {
@@ -76,7 +85,7 @@ impl<K: Ord + Copy, V> Marked<K, V> {
         ensures content { (q : K) → content_in K.cmp self.new q ≡ content_in K.cmp self.old q }
         ensures mark { OnOk result (IsSomeAnd (mark_in K.cmp self.new)
             (λ at. (q : K) → at q ≡ content_in K.cmp self.new q)) }
-        ensures changed { OnOk result (changed_in self.new ≡ []) }
+        ensures changed { OnOk result ((q : K) → is_changed K.cmp self.new q ≡ false) }
         ensures err { OnErr result (mark_in K.cmp self.new ≡ None) }
     {
         self.marked = false;
@@ -107,9 +116,66 @@ impl<K: Ord + Copy, V> Marked<K, V> {
         requires { IsSome (mark_in K.cmp self.old) }
         ensures content { IfSome (mark_in K.cmp self.old) (λ at. (q : K) → content_in K.cmp self.new q ≡ at q) }
         ensures mark { mark_in K.cmp self.new ≡ None }
-        ensures changed { changed_in self.new ≡ [] }
+        ensures changed { (q : K) → is_changed K.cmp self.new q ≡ false }
     {
         self.changes.clear();
         self.marked = false;
     }
+
+    /// The value that there was at a key at the mark.
+    pub fn at_mark(&self, key: &K) -> Option<&V>
+        requires { IsSome (mark_in K.cmp self.now) }
+        ensures { IfSome (mark_in K.cmp self.now) (λ at. option_copied result ≡ at key.now) }
+    {
+        self.below.get(key)
+    }
+
+    /// The keys that were put since the mark, in order, whether or not their values differ from
+    /// those at the mark. `Memory` where there is none for the keys.
+    pub fn changed(&self) -> Result<Vec<K>, Memory>
+        ensures rising { IfOk result (λ keys. IsStrictlySortedBy K.cmp keys.items) }
+        ensures put { IfOk result (λ keys. (q : K)
+            → list_any (λ key. is_eq (K.cmp q key)) keys.items ≡ is_changed K.cmp self.now q) }
+        ensures others { IfSome (mark_in K.cmp self.now) (λ at. (q : K)
+            → is_changed K.cmp self.now q ≡ false → content_in K.cmp self.now q ≡ at q) }
+    {
+        Ok(self.changes.keys().copied().collect(self.alloc)?)
+    }
+
+    /// Whether no key from the first to the second, both among them, has a value.
+    pub fn is_empty_between(&self, from: &K, to: &K) -> bool
+        requires { IsLeBy K.cmp from.now to.now }
+        ensures { IsTrue result ↔ ((q : K) → IsInRange K.cmp (Included from.now) (Included to.now) q
+            → content_in K.cmp self.now q ≡ None) }
+    {
+        puts_none_between(&self.changes, *from, *to)
+            && is_hidden_between(&self.below, &self.changes, *from, *to)
+    }
+}
+
+// Whether no value was put at a key from the first to the second.
+fn puts_none_between<K: Ord + Copy, V>(
+    changes: &BTreeMap<K, Option<V>>,
+    from: K,
+    to: K,
+) -> bool
+    requires { IsLeBy K.cmp from to }
+    ensures { IsTrue result ↔ ((q : K) → IsInRange K.cmp (Included from) (Included to) q
+        → IfSome (tree.get K.cmp changes.now q) (λ value. value ≡ None)) }
+{
+    changes.range(from..=to).all(|(_, value)| value.is_none())
+}
+
+// Whether each key below from the first to the second was taken out.
+fn is_hidden_between<K: Ord + Copy, V>(
+    below: &BTreeMap<K, V>,
+    changes: &BTreeMap<K, Option<V>>,
+    from: K,
+    to: K,
+) -> bool
+    requires { IsLeBy K.cmp from to }
+    ensures { IsTrue result ↔ ((q : K) → IsInRange K.cmp (Included from) (Included to) q
+        → IsSome (tree.get K.cmp below.now q) → tree.get K.cmp changes.now q ≡ Some None) }
+{
+    below.range(from..=to).all(|(key, _)| matches!(changes.get(key), Some(None)))
 }
