@@ -82,9 +82,10 @@ module _ {K : Type 0} {cmp : K → K → Ordering} (o : IsTotalOrder cmp) (from 
       × (((q : K) (v : V) → IsInRange cmp (Included from) (Included to) q → get cmp m q ≡ Some v → test (q, v) ≡ true) → r ≡ true)
   all_between test alike m es lo hi starts ends between found r is =
       let list : es ≡ entries_between cmp (Included from) (Included to) m.entries = between ∙ ap₂ (λ a b. entries_between cmp a b m.entries) starts ends in
-      let all : All (IsEntryInRange cmp (Included from) (Included to) m) es = subst₂ (λ a b. All (IsEntryInRange cmp a b m) es) starts ends found in
-      ((λ t q v i f. let at = passes_at test q v m.entries i f (sym (ap (list_all test) list) ∙ sym is ∙ t) in sym (alike q at.0 v at.1) ∙ at.2),
-      (λ h. is ∙ list_all-from_AllPass test es (λ k d l. let e = all k d l in h _ _ e.0 e.1)))
+      let all : All (IsEntryInRange cmp (Included from) (Included to) m) es = subst₂ (λ a b. All (IsEntryInRange cmp a b m) es) starts ends found in (
+        (λ t q v i f. let at = passes_at test q v m.entries i f (sym (ap (list_all test) list) ∙ sym is ∙ t) in sym (alike q at.0 v at.1) ∙ at.2),
+        (λ h. is ∙ list_all-from_AllPass test es (λ k d l. let e = all k d l in h _ _ e.0 e.1)),
+      )
 
 -- whether what was put at a key is none
 pub puts_none : {X : Type 0} (put : Option (Option X)) → ((v : Option X) → put ≡ Some v → is_none v ≡ true) → IfSome put (λ v. v ≡ None)

@@ -5,3 +5,6 @@ mod marked;
 
 pub use marked::Marked;
 pub use ox_bytes::Memory;
+
+#[cfg(test)]
+mod tests;

@@ -63,7 +63,6 @@ impl<K: Ord + Copy, V> Marked<K, V> {
     /// nothing has changed then.
     pub fn put(&mut self, key: K, value: Option<V>) -> Result<(), Memory>
     where
-        K: Drop,
         V: Drop,
         ensures content { OnOk result ((q : K) → content_in K.cmp self.new q
             ≡ cond (is_eq (K.cmp key q)) value (content_in K.cmp self.old q)) }
@@ -80,7 +79,6 @@ impl<K: Ord + Copy, V> Marked<K, V> {
     /// for what was put: the map is as it was, and has no mark.
     pub fn begin(&mut self) -> Result<(), Memory>
     where
-        K: Drop,
         V: Drop,
         ensures content { (q : K) → content_in K.cmp self.new q ≡ content_in K.cmp self.old q }
         ensures mark { OnOk result (IsSomeAnd (mark_in K.cmp self.new)
@@ -111,10 +109,10 @@ impl<K: Ord + Copy, V> Marked<K, V> {
     /// spent.
     pub fn cancel(&mut self)
     where
-        K: Drop,
         V: Drop,
         requires { IsSome (mark_in K.cmp self.old) }
-        ensures content { IfSome (mark_in K.cmp self.old) (λ at. (q : K) → content_in K.cmp self.new q ≡ at q) }
+        ensures content { IfSome (mark_in K.cmp self.old)
+            (λ at. (q : K) → content_in K.cmp self.new q ≡ at q) }
         ensures mark { mark_in K.cmp self.new ≡ None }
         ensures changed { (q : K) → is_changed K.cmp self.new q ≡ false }
     {
@@ -154,11 +152,7 @@ impl<K: Ord + Copy, V> Marked<K, V> {
 }
 
 // Whether no value was put at a key from the first to the second.
-fn puts_none_between<K: Ord + Copy, V>(
-    changes: &BTreeMap<K, Option<V>>,
-    from: K,
-    to: K,
-) -> bool
+fn puts_none_between<K: Ord + Copy, V>(changes: &BTreeMap<K, Option<V>>, from: K, to: K) -> bool
     requires { IsLeBy K.cmp from to }
     ensures { IsTrue result ↔ ((q : K) → IsInRange K.cmp (Included from) (Included to) q
         → IfSome (tree.get K.cmp changes.now q) (λ value. value ≡ None)) }
@@ -177,5 +171,7 @@ fn is_hidden_between<K: Ord + Copy, V>(
     ensures { IsTrue result ↔ ((q : K) → IsInRange K.cmp (Included from) (Included to) q
         → IsSome (tree.get K.cmp below.now q) → tree.get K.cmp changes.now q ≡ Some None) }
 {
-    below.range(from..=to).all(|(key, _)| matches!(changes.get(key), Some(None)))
+    below
+        .range(from..=to)
+        .all(|(key, _)| matches!(changes.get(key), Some(None)))
 }

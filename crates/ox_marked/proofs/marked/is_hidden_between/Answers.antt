@@ -13,8 +13,8 @@ returns g c =
     let cmp = g.K.Ord.cmp in
     let o = g.met.K.Ord.total in
     let shows = all_between o c.args.from c.args.to (λ e. taken_out (tree.get cmp c.args.changes.now e.0))
-        (λ x y v e. ap (λ f. taken_out (lookup (is_at f) c.args.changes.now.entries)) (λ i z. sym (o.congr x y z e) i)) c.args.below.now c.range.result
-        _ _ (ap Included c.new.ensures.start) (ap Included c.new.ensures.end)
-        (c.range.ensures.between c.new.ensures.exhausted) (c.range.ensures.in_range c.new.ensures.exhausted).0 c.all.result
-        (all_from_yields_List (λ e. taken_out (tree.get cmp c.args.changes.now e.0)) _ _ c.all.result c.all.ensures.ran (YieldsList-from_rest c.range.result refl) (λ x b q k. search (rules, tests))) in
+    (λ x y v e. ap (λ f. taken_out (lookup (is_at f) c.args.changes.now.entries)) (λ i z. sym (o.congr x y z e) i)) c.args.below.now c.range.result
+    _ _ (ap Included c.new.ensures.start) (ap Included c.new.ensures.end)
+    (c.range.ensures.between c.new.ensures.exhausted) (c.range.ensures.in_range c.new.ensures.exhausted).0 c.all.result
+    (all_from_yields_List (λ e. taken_out (tree.get cmp c.args.changes.now e.0)) _ _ c.all.result c.all.ensures.ran (YieldsList-from_rest c.range.result refl) (λ x b q k. search (rules, tests))) in
     ((λ t q i s. let at = some_value _ s in is_taken_out _ (shows.0 t q at.0 i at.1)), (λ h. shows.1 (λ q v i f. ap taken_out (h q i (ap is_some f)))))

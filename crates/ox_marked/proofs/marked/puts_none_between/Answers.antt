@@ -10,7 +10,7 @@ pub returns : goal.returns
 returns g c =
     let cmp = g.K.Ord.cmp in
     let shows = all_between g.met.K.Ord.total c.args.from c.args.to (λ e. is_none e.1) (λ x y v e. refl) c.args.changes.now c.range.result
-        _ _ (ap Included c.new.ensures.start) (ap Included c.new.ensures.end)
-        (c.range.ensures.between c.new.ensures.exhausted) (c.range.ensures.in_range c.new.ensures.exhausted).0 c.all.result
-        (all_from_yields_List (λ e. is_none e.1) _ _ c.all.result c.all.ensures.ran (YieldsList-from_rest c.range.result refl) (λ x b q k. search (rules, tests))) in
+    _ _ (ap Included c.new.ensures.start) (ap Included c.new.ensures.end)
+    (c.range.ensures.between c.new.ensures.exhausted) (c.range.ensures.in_range c.new.ensures.exhausted).0 c.all.result
+    (all_from_yields_List (λ e. is_none e.1) _ _ c.all.result c.all.ensures.ran (YieldsList-from_rest c.range.result refl) (λ x b q k. search (rules, tests))) in
     ((λ t q i. puts_none (tree.get cmp c.args.changes.now q) (λ v f. shows.0 t q v i f)), (λ h. shows.1 (λ q v i f. put_none _ v f (h q i))))

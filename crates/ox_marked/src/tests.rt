@@ -1,0 +1,110 @@
+ghost use Rattle.std.specs.Prelude.{IsSome};
+ghost use Rattle.std.specs.Ordering.{nat_cmp};
+ghost use Rattle.ox_marked.specs.Marked.{mark_in};
+
+use super::*;
+use std::alloc::Global;
+use std::process::Abort;
+
+type Amounts = Marked<u32, u64>;
+
+/// A map with 10 at 1 and 20 at 2, marked there.
+fn two(rt: &impl Abort, alloc: Global) -> Amounts
+    ensures { IsSome (mark_in nat_cmp result) }
+{
+    let mut map = Marked::new(alloc);
+    map.put(1, Some(10)).expect(rt, "memory");
+    map.put(2, Some(20)).expect(rt, "memory");
+    map.begin().expect(rt, "memory");
+    map
+}
+
+/// A map with ten times the key at each key below a thousand.
+fn thousand(rt: &impl Abort, alloc: Global) -> Amounts {
+    let mut map = Marked::new(alloc);
+    for key in 0..1_000u32 {
+        map.put(key, Some(u64::from(key) * 10)).expect(rt, "memory");
+    }
+    map
+}
+
+/// Takes the value out at each even key below a thousand.
+fn take_even(rt: &impl Abort, map: &mut Amounts) {
+    for half in 0..500u32 {
+        map.put(half * 2, None).expect(rt, "memory");
+    }
+}
+
+/// Whether the map has this value at a key, or none.
+fn has(map: &Amounts, key: u32, value: Option<u64>) -> bool {
+    map.get(&key).copied() == value
+}
+
+/// Whether these are the keys that were put since the mark.
+fn has_changed(rt: &impl Abort, map: &Amounts, keys: &[u32]) -> bool {
+    map.changed().expect(rt, "memory").as_slice() == keys
+}
+
+#[test]
+fn a_key_changed_twice_goes_back(rt: HostRuntime) {
+    let mut map = two(&rt, rt.alloc());
+    map.put(1, Some(11)).expect(&rt, "memory");
+    map.put(1, Some(12)).expect(&rt, "memory");
+    assert!(rt; has(&map, 1, Some(12)) && has_changed(&rt, &map, &[1]));
+    assert!(rt; map.at_mark(&1).copied() == Some(10));
+    map.cancel();
+    assert!(rt; has(&map, 1, Some(10)) && has(&map, 2, Some(20)));
+    assert!(rt; has_changed(&rt, &map, &[]));
+}
+
+#[test]
+fn a_key_taken_and_put_again_goes_back(rt: HostRuntime) {
+    let mut map = two(&rt, rt.alloc());
+    map.put(2, None).expect(&rt, "memory");
+    assert!(rt; has(&map, 2, None) && map.at_mark(&2).copied() == Some(20));
+    map.put(2, Some(21)).expect(&rt, "memory");
+    map.put(3, Some(30)).expect(&rt, "memory");
+    assert!(rt; has(&map, 2, Some(21)) && has_changed(&rt, &map, &[2, 3]));
+    map.cancel();
+    assert!(rt; has(&map, 2, Some(20)) && has(&map, 3, None));
+}
+
+#[test]
+fn a_new_mark_stands_where_changes_led(rt: HostRuntime) {
+    let mut map = two(&rt, rt.alloc());
+    map.put(1, None).expect(&rt, "memory");
+    map.cancel();
+    map.put(2, None).expect(&rt, "memory");
+    map.put(3, Some(30)).expect(&rt, "memory");
+    map.begin().expect(&rt, "memory");
+    assert!(rt; has_changed(&rt, &map, &[]));
+    map.put(3, None).expect(&rt, "memory");
+    map.cancel();
+    assert!(rt; has(&map, 1, Some(10)) && has(&map, 2, None) && has(&map, 3, Some(30)));
+}
+
+#[test]
+fn both_ends_of_a_stretch_count(rt: HostRuntime) {
+    let mut map = two(&rt, rt.alloc());
+    assert!(rt; !map.is_empty_between(&0, &1) && !map.is_empty_between(&2, &9));
+    assert!(rt; map.is_empty_between(&3, &9) && map.is_empty_between(&0, &0));
+    map.put(2, None).expect(&rt, "memory");
+    map.put(7, Some(70)).expect(&rt, "memory");
+    assert!(rt; map.is_empty_between(&2, &6) && !map.is_empty_between(&2, &7));
+    assert!(rt; !map.is_empty_between(&7, &7));
+}
+
+#[test]
+fn a_thousand_keys_settle(rt: HostRuntime) {
+    let mut map = thousand(&rt, rt.alloc());
+    map.begin().expect(&rt, "memory");
+    take_even(&rt, &mut map);
+    assert!(rt; map.changed().expect(&rt, "memory").len() == 500);
+    assert!(rt; has(&map, 998, None) && has(&map, 999, Some(9_990)));
+    map.begin().expect(&rt, "memory");
+    map.put(999, None).expect(&rt, "memory");
+    assert!(rt; map.is_empty_between(&998, &u32::MAX));
+    map.cancel();
+    assert!(rt; has(&map, 998, None) && has(&map, 999, Some(9_990)));
+    assert!(rt; !map.is_empty_between(&998, &u32::MAX));
+}
