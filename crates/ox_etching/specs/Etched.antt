@@ -1,10 +1,9 @@
 -- Etchings that stand: Runes specification, "Etching" and "Cenotaphs".
 use Rattle.std.specs.Prelude.{ℕ, Bool, false, not, ◌&&◌, Option, Some, None, unwrap_or, List}
-use Rattle.std.specs.Prelude.{nat_le, if◌then◌else◌}
+use Rattle.std.specs.Prelude.{nat_le, option_and_then, if◌then◌else◌}
 use Rattle.std.specs.Option.{option_map}
 use Rattle.ox_block.specs.declared.block.Tx.{Tx}
 use Rattle.ox_block.specs.declared.block.Txid.{Txid}
-use Rattle.ox_block.specs.Hashes.{txid}
 use Rattle.ox_name.specs.Unlock.{first_reserved, least_name, reserved_name}
 use Rattle.ox_runestone.specs.declared.stone.Artifact.{Artifact}
 use Rattle.ox_runestone.specs.declared.stone.Artifact.TheVariants.{Stone, Cenotaph}
@@ -15,19 +14,23 @@ use Rattle.ox_rules.specs.declared.rows.OutRow.{OutRow}
 use Rattle.ox_etching.specs.Commitment.{commits}
 use Rattle.ox_etching.specs.declared.row.RuneRow.{RuneRow}
 
--- where a transaction stands: the chain's profile, the block's height and the place in the block
+-- a transaction in its block: the chain's profile, the block's height, the place in the block, and
+-- the transaction's id
 pub record Spot : Type 0 where
   pub profile : Profile
   pub height : ℕ
   pub tx : ℕ
+  pub txid : Txid
 
--- a name that is given stands: it is at least the least name of the height, not reserved, not
--- taken, and committed to
+-- a name may be given at a height: it is at least the least name of the height, and not reserved
+abbrev pub may_be_given : Profile → ℕ → ℕ → Bool
+may_be_given p height name =
+    nat_le (least_name p.rune_start p.interval height) name && not (nat_le first_reserved name)
+
+-- a name that is given stands: it may be given, is not taken, and is committed to
 abbrev pub may_stand : Spot → Tx → List OutRow → Bool → ℕ → Bool
 may_stand at body spent is_taken name =
-    nat_le (least_name at.profile.rune_start at.profile.interval at.height) name
-    && not (nat_le first_reserved name)
-    && not is_taken && commits body spent name at.height
+    may_be_given at.profile at.height name && not is_taken && commits body spent name at.height
 
 -- the name of an etching: the given one, if it stands; without one the reserved name of its place
 abbrev pub name_of : Spot → Tx → List OutRow → Bool → Option ℕ → Option ℕ
@@ -35,10 +38,14 @@ name_of at body spent is_taken None = Some (reserved_name at.height at.tx)
 name_of at body spent is_taken (Some name) =
     if may_stand at body spent is_taken name then Some name else None
 
+-- where a transaction etches, which is the id of its rune
+abbrev pub id_of : Spot → RuneId
+id_of at = record { block = at.height; tx = at.tx }
+
 -- a rune that is new, with what its etching says
-abbrev pub row_of : Spot → Tx → Etching → ℕ → RuneRow
-row_of at body etching name = record {
-  id = record { block = at.height; tx = at.tx };
+abbrev pub row_of : RuneId → Txid → Etching → ℕ → RuneRow
+row_of id txid etching name = record {
+  id = id;
   name = name;
   spacers = unwrap_or etching.spacers 0;
   divisibility = unwrap_or etching.divisibility 0;
@@ -47,7 +54,7 @@ row_of at body etching name = record {
   terms = etching.terms;
   mints = 0;
   burned = 0;
-  etching = record { 0 = txid body };
+  etching = txid;
 }
 
 -- all that a cenotaph's etching says: its name
@@ -62,20 +69,18 @@ name_alone name = record {
   turbo = false;
 }
 
+-- what an artifact etches; of a cenotaph a name that is given is etched, and nothing else of it
+abbrev pub etching_of : Artifact → Option Etching
+etching_of (Stone stone) = stone.etching
+etching_of (Cenotaph mint name) = option_map name_alone name
+
 -- the row of an etching whose name stands
 abbrev pub row_where : Spot → Tx → List OutRow → Bool → Etching → Option RuneRow
 row_where at body spent is_taken etching =
-    option_map (row_of at body etching) (name_of at body spent is_taken etching.name)
-
--- the row of an etching, if there is one and its name stands
-abbrev pub etched_by : Spot → Tx → List OutRow → Bool → Option Etching → Option RuneRow
-etched_by at body spent is_taken None = None
-etched_by at body spent is_taken (Some etching) = row_where at body spent is_taken etching
+    option_map (row_of (id_of at) at.txid etching) (name_of at body spent is_taken etching.name)
 
 -- The new rune of a transaction with this artifact, given whether the name that it etches is taken;
--- nothing where it etches none or its etching is ignored. Of a cenotaph a name that is given is
--- etched, and nothing else of it.
+-- nothing where it etches none or its etching is ignored.
 abbrev pub etched : Spot → Tx → List OutRow → Artifact → Bool → Option RuneRow
-etched at body spent (Stone stone) is_taken = etched_by at body spent is_taken stone.etching
-etched at body spent (Cenotaph mint name) is_taken =
-    etched_by at body spent is_taken (option_map name_alone name)
+etched at body spent artifact is_taken =
+    option_and_then (row_where at body spent is_taken) (etching_of artifact)

@@ -1,6 +1,16 @@
-//! Mints and etchings of runes: which mints are open, and which etchings stand.
+//! Mints and etchings of runes: which mints are open, which names are committed to, and which
+//! etchings stand. Nothing here takes memory.
 #![tactic(auto)]
 
+mod commitment;
+mod etching;
+mod minting;
+mod row;
+
+pub use commitment::commits;
+pub use etching::etched;
+pub use minting::minted;
 pub use row::RuneRow;
 
-mod row;
+#[cfg(test)]
+mod tests;
