@@ -1,7 +1,7 @@
 -- What holds of the runes of a chain, and in the midst of a block with what is due to its
 -- coinbase's outputs.
 use Rattle.std.specs.Prelude.{◌≡◌, ◌≢◌, ℕ, ◌+◌, ◌*◌, ◌^◌, ◌<◌, ◌≤◌, List, [], All, Contains, map}
-use Rattle.std.specs.Prelude.{Option, Some, None, sum}
+use Rattle.std.specs.Prelude.{Option, Some, sum_by}
 use Rattle.std.specs.Prelude.{slice_get, unwrap_or}
 use Rattle.std.specs.FinMap.{get, values}
 use Rattle.std.specs.Option.{option_map_or}
@@ -15,7 +15,7 @@ use Rattle.ox_ledger.specs.Runes.{Placement, Runes}
 
 -- how much of a rune some outputs hold together
 abbrev pub amount_held : List (List Balance) → RuneId → ℕ
-amount_held all id = sum (map (λ balances. amount_in balances id) all)
+amount_held all id = sum_by (λ balances. amount_in balances id) all
 
 abbrev pub cap_in : Option Terms → ℕ
 cap_in terms = option_map_or (λ t. unwrap_or t.cap 0) terms 0
@@ -34,13 +34,16 @@ pub record IsBounded (row : RuneRow) : Type 0 where
   pub supply : row.premine + cap_in row.terms * amount_per_mint row.terms < 2 ^ 128
   pub mints : row.mints ≤ cap_in row.terms
 
--- what outputs hold of a rune, what is due and what was burned is what its etching and its mints
--- gave
+-- how much of a rune there is: with outputs, due to a coinbase's, and burned
+abbrev pub amount_there : Runes → RuneRow → ℕ
+amount_there state row =
+    amount_held (values state.bal) row.id + amount_held (map (λ new. new.1) state.due) row.id
+    + row.burned
+
+-- that is what its etching and its mints gave
 abbrev pub IsSettled : Runes → RuneRow → Type 0
 IsSettled state row =
-    amount_held (values state.bal) row.id + amount_held
-    (map (λ new. new.1) state.due) row.id + row.burned
-    ≡ row.premine + row.mints * amount_per_mint row.terms
+    amount_there state row ≡ row.premine + row.mints * amount_per_mint row.terms
 
 -- these are balances of runes that are there
 pub record AreKnown (runes : List RuneRow) (balances : List Balance) : Type 0 where

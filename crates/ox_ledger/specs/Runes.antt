@@ -1,8 +1,7 @@
 -- What a block does to runes: Runes specification, "Runestones", "Etching", "Minting" and
 -- "Transferring".
-use Rattle.std.specs.Prelude.{ℕ, ◌+◌, Bool, true, false, not, List, [], ◌∷◌, ◌++◌, length, map}
-use Rattle.std.specs.Prelude.{position, slice_get}
-use Rattle.std.specs.Prelude.{Option, Some, None, option_and_then, is_some, unwrap_or, ◌==◌}
+use Rattle.std.specs.Prelude.{ℕ, ◌+◌, Bool, false, List, [], ◌∷◌, ◌++◌, length, map}
+use Rattle.std.specs.Prelude.{Option, Some, None, option_and_then, unwrap_or, ◌==◌}
 use Rattle.std.specs.Prelude.{nat_lt, if◌then◌else◌}
 use Rattle.std.specs.FinMap.{FinMap, get, insert, remove}
 use Rattle.std.specs.List.{list_any}
@@ -16,8 +15,6 @@ use Rattle.ox_runestone.specs.Artifact.{artifact_of}
 use Rattle.ox_runestone.specs.Payload.{is_stone}
 use Rattle.ox_runestone.specs.declared.stone.Artifact.{Artifact}
 use Rattle.ox_runestone.specs.declared.stone.Artifact.TheVariants.{Stone, Cenotaph}
-use Rattle.ox_runestone.specs.declared.stone.Edict.{Edict}
-use Rattle.ox_runestone.specs.declared.stone.Etching.{Etching}
 use Rattle.ox_runestone.specs.declared.stone.RuneId.{RuneId}
 use Rattle.ox_allocation.specs.Allocation.{Allocation, allocation_of}
 use Rattle.ox_allocation.specs.Balances.{Balance, amount_in, is_same, with_more}
@@ -25,7 +22,7 @@ use Rattle.ox_etching.specs.Etched.{Spot, etched}
 use Rattle.ox_etching.specs.Minted.{minted}
 use Rattle.ox_etching.specs.declared.row.RuneRow.{RuneRow}
 use Rattle.ox_rules.specs.Outputs.{outpoint_cmp}
-use Rattle.ox_rules.specs.Transfer.{txid_of}
+use Rattle.ox_rules.specs.Transfer.{as_list}
 use Rattle.ox_rules.specs.declared.rows.OutRow.{OutRow}
 
 -- the balances of outputs
@@ -172,20 +169,28 @@ abbrev pub in_hand : Brought → List RuneRow → Option Balance → Option Rune
 in_hand brought runes mint etching = record {
   pool = pool_with (pool_with brought.pool mint) (option_map premine_of etching);
   bal = brought.bal;
-  runes = with_mint runes mint ++ option_map_or (λ row. row ∷ []) etching [];
+  runes = with_mint runes mint ++ as_list etching;
   etching = option_map (λ row. row.id) etching;
 }
 
+-- the mint of a transaction with this artifact
+abbrev pub mint_by : ℕ → List RuneRow → Option Artifact → Option Balance
+mint_by height runes artifact = mint_at height runes (option_and_then mint_of artifact)
+
+-- the rune that it etches
+abbrev pub etching_by : Spot → Tx → List OutRow → List RuneRow → Option Artifact → Option RuneRow
+etching_by at tx spent runes artifact =
+    option_and_then
+    (λ a. etched at tx spent a (option_map_or (is_taken runes) (name_of a) false)) artifact
+
 abbrev pub gathered_by : Spot → Tx → List OutRow → Runes → Option Artifact → InHand
-gathered_by at tx spent state None = in_hand (brought_of at.tx tx state.bal) state.runes None None
-gathered_by at tx spent state (Some artifact) =
-    in_hand (brought_of at.tx tx state.bal) state.runes
-    (mint_at at.height state.runes (mint_of artifact))
-    (etched at tx spent artifact (option_map_or (is_taken state.runes) (name_of artifact) false))
+gathered_by at tx spent state artifact =
+    in_hand (brought_of at.tx tx state.bal) state.runes (mint_by at.height state.runes artifact)
+    (etching_by at tx spent state.runes artifact)
 
 -- The outputs get what is dealt to them; those of a coinbase when the block is done.
-abbrev pub settled_by : Spot → Tx → List Placement → InHand → Allocation → List Placement → Runes
-settled_by at tx due hand dealt new =
+abbrev pub settled_by : Spot → List Placement → InHand → Allocation → List Placement → Runes
+settled_by at due hand dealt new =
     let runes = burn dealt.burned hand.runes in
     if at.tx == 0 then record { bal = hand.bal; runes = runes; due = due ++ new }
     else place_all (record { bal = hand.bal; runes = runes; due = due }) new
@@ -193,13 +198,12 @@ settled_by at tx due hand dealt new =
 abbrev pub done_by : Spot → Tx → List Placement → Option Artifact → InHand → Runes
 done_by at tx due artifact hand =
     let dealt = dealt_by artifact hand.pool hand.etching tx.outputs in
-    settled_by at tx due hand dealt (placements (txid_of tx) 0 dealt.given)
+    settled_by at due hand dealt (placements at.txid 0 dealt.given)
 
 -- one transaction, which spends these rows
 abbrev pub turn : Spot → Tx → List OutRow → Runes → Runes
 turn at tx spent state =
-    let artifact =
-    artifact_at at tx in
+    let artifact = artifact_at at tx in
     done_by at tx state.due artifact (gathered_by at tx spent state artifact)
 
 -- the end of a block: what is due to its coinbase's outputs is placed

@@ -1,2 +1,6 @@
 //! The runes of a chain: which there are, and which output holds how much of them.
 #![tactic(auto)]
+
+mod laws;
+
+pub use laws::parts_lead_both_ways;
