@@ -2,7 +2,7 @@
 
 ghost use Rattle.std.specs.Prelude.{◌≡◌};
 ghost use Rattle.std.specs.Option.{option_copied};
-ghost use Rattle.ox_script.specs.Script.{seen};
+ghost use Rattle.ox_script.specs.Script.{instruction_of};
 ghost use Rattle.ox_script.specs.Witness.{tapscript};
 ghost use Rattle.ox_etching.specs.Commitment.{commits, commits_by, has_push, is_mature, pushes, some_commits};
 
@@ -24,7 +24,7 @@ fn tapscript_of(witness: &Witness) -> Option<&[u8]>
 
 /// Whether an item pushes just these bytes.
 fn pushes(bytes: &[u8], item: Item<'_>) -> bool
-    ensures { result ≡ pushes bytes.now (seen item.entry) }
+    ensures { result ≡ pushes bytes.now (instruction_of item.entry) }
 {
     match item {
         Item::Push(pushed) => pushed == bytes,

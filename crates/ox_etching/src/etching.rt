@@ -6,7 +6,7 @@ ghost use Rattle.ox_etching.specs.Etched.{etched, etching_of, may_be_given, name
 use crate::commitment::commits;
 use crate::row::RuneRow;
 use ox_block::{Tx, Txid};
-use ox_name::{is_reserved, minimum, reserved};
+use ox_name::{is_reserved, minimum, reserved_name};
 use ox_rules::SpentRows;
 use ox_runestone::{Artifact, Etching, RuneId};
 use ox_sat::Profile;
@@ -89,7 +89,7 @@ pub fn etched(
 {
     let etching = etching_of(artifact)?;
     let name = match etching.name {
-        None => reserved(height, tx),
+        None => reserved_name(height, tx),
         Some(name) => {
             let is_free = may_be_given(p, height, name) && !is_taken;
             if !(is_free && commits(body, spent, name, height)) {
