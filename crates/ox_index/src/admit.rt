@@ -15,9 +15,9 @@ use ox_model::Refusal;
 use ox_sat::Profile;
 use std::alloc::Global;
 
-/// What the next block has to name as the one before it: the newest block's hash, or 32 zero bytes
-/// on an empty chain.
-pub fn newest(hashes: &[[u8; 32]]) -> [u8; 32]
+// What the next block has to name as the one before it: the newest block's hash, or 32 zero bytes
+// on an empty chain.
+fn newest(hashes: &[[u8; 32]]) -> [u8; 32]
     ensures { result ≡ newest_of hashes.now }
 {
     match hashes.last() {
@@ -55,7 +55,7 @@ fn first_null(txs: &[Tx]) -> Option<usize>
 }
 
 // The first transaction that is a coinbase and mustn't be one, or isn't and must.
-fn misplaced(txs: &[Tx]) -> Option<usize>
+fn misplaced_coinbase(txs: &[Tx]) -> Option<usize>
     ensures first { result ≡ first_misplaced txs.now }
     ensures within { IfSome result (λ place. place ≤ length txs.now) }
 {
@@ -96,7 +96,7 @@ pub fn admit(
     if have != want {
         return Err(ConnectFault::Refused(Refusal::BadRoot { have, want }));
     }
-    match misplaced(block.txs.as_slice()) {
+    match misplaced_coinbase(block.txs.as_slice()) {
         Some(tx) => Err(ConnectFault::Refused(Refusal::Coinbase { tx: tx as u32 })),
         None => Ok(ids),
     }

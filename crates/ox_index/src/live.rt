@@ -4,14 +4,14 @@ ghost use Rattle.std.specs.Prelude.{◌≡◌, Ok, IfOk, IfErr, OnOk, OnErr};
 ghost use Rattle.ox_sat.specs.Profiles.{IsProfile};
 ghost use Rattle.ox_sat.proofs.Known.{IsProfile-prop};
 ghost use Rattle.ox_model.specs.Sound.{IsSound};
-ghost use Rattle.ox_rules.specs.Text.{ok_text};
 ghost use Rattle.ox_outputs.specs.Table.{rows_in};
 
-use crate::admit::{admit, newest};
+use crate::admit::admit;
 use crate::fault::ConnectFault;
+use crate::reply::{LONGEST_OK, ok_line_in};
 use ox_block::{OutPoint, hash, read_block};
-use ox_bytes::{Bytes, Memory};
-use ox_model::{OutRow, OutTable, Place, View, hash_text};
+use ox_bytes::{Bytes, Memory, Room};
+use ox_model::{OutRow, OutTable, Place, View};
 use ox_outputs::Outputs;
 use ox_range::Ranges;
 use ox_sat::Profile;
@@ -38,6 +38,7 @@ impl Live {
     ghost use Rattle.ox_model.specs.Replies.{ok_line};
     ghost use Rattle.ox_index.specs.Live.{profile_in, index_in};
     ghost use Rattle.ox_index.specs.Fault.{Refuses};
+    ghost use Rattle.ox_index.specs.Reply.{tip_line};
 
     /// The index of an empty chain that counts by this profile. It takes no memory until a block is
     /// connected.
@@ -97,7 +98,17 @@ impl Live {
     pub fn line(&self) -> Result<Bytes, Memory>
         ensures { IfOk result (λ line. line ≡ ok_line (index_in self.now)) }
     {
-        ok_line_of(self.alloc, &self.hashes)
+        let room = Room::new(self.alloc, LONGEST_OK)?;
+        Ok(ok_line_in(room, self.tip()))
+    }
+
+    // The newest block's height and hash.
+    fn tip(&self) -> Option<(u32, [u8; 32])>
+        ensures { tip_line result ≡ ok_line (index_in self.now) }
+    {
+        let height = self.blocks().checked_sub(1)?;
+        let hash = self.hash_of(height)?;
+        Some((height, *hash))
     }
 }
 
@@ -136,19 +147,4 @@ impl View for Live {
     }
 
     ghost sound = { λ live. live.sound };
-}
-
-// The line of an accepted command, by the hashes of the chain.
-#[tactic(auto, unfolding(ox_rules::specs::Text::ok_text, ox_rules::specs::Text::block_line))]
-fn ok_line_of(alloc: Global, hashes: &[[u8; 32]]) -> Result<Bytes, Memory>
-    ensures { IfOk result (λ line. line ≡ ok_text hashes.now) }
-{
-    let blocks = hashes.len();
-    if blocks == 0 {
-        return Bytes::copy(alloc, b"ok empty\n");
-    }
-    let height = blocks - 1;
-    let hash = hash_text(alloc, &newest(hashes))?;
-    let text = format!(in alloc; "ok {height} {hash}\n")?;
-    Ok(Bytes::from_vec(text.into_bytes()))
 }
