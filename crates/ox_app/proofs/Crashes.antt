@@ -1,9 +1,8 @@
 -- A run over a feed and a store goes on: what a crash leaves at each moment, and what holds between two lines.
-use Rattle.std.proofs.Common.{◌≡◌, ◌∙◌, ⊎_elim, inl, inr, ℕ, ◌≤◌, Bool, List, [], ◌++◌, length, Option, Some, None, refl, sym, ap, subst}
+use Rattle.std.proofs.Common.{◌≡◌, ◌∙◌, ⊎_elim, inl, inr, ℕ, ◌≤◌, List, [], ◌++◌, length, Option, Some, None, refl, sym, ap, subst}
 use Rattle.std.specs.Prelude.{Result, Ok, Err, IfOk, IsErrOf}
 use Rattle.std.proofs.lemmas.List.{append-nil}
 use Rattle.std.proofs.lemmas.List.Elements.{All-nil}
-use Rattle.ox_outside.specs.Counts.{Counts}
 use Rattle.ox_outside.specs.Crash.{Remains, LeavesFiles}
 use Rattle.ox_outside.specs.Event.{Event}
 use Rattle.ox_outside.specs.Files.{Files, file_of, other}
@@ -21,15 +20,15 @@ use Rattle.ox_model.specs.Replies.{after_on, after_turn, index_on, replies_on, r
 use Rattle.ox_model.specs.Stack.{Stack, turn_on}
 use Rattle.ox_model.specs.Stands.{stands}
 use Rattle.ox_store.specs.Ready.{StandsForEither}
-use Rattle.ox_app.specs.Apply.{CarriedOn, CarriesOut, DuringLine, after_line}
-use Rattle.ox_app.specs.declared.carry.Carried.{Carried as CarriedOut}
+use Rattle.ox_app.specs.Apply.{CarriesOutNext, CarriesOut, DuringLine, after_line}
+use Rattle.ox_app.specs.declared.carry.CarriedLine.{CarriedLine}
 use Rattle.ox_app.specs.declared.status.Status.TheVariants as ends
 use Rattle.ox_app.specs.declared.stop.Stop.{Stop}
 use Rattle.ox_app.specs.declared.stop.Stop.TheVariants.{TooMuch}
-use Rattle.ox_app.proofs.FeedAnswers.{answered_all, carried_none, owing, stopped}
+use Rattle.ox_app.proofs.FeedAnswers.{answered_all, carried_none, owes_answer, run_stopped}
 use Rattle.ox_app.proofs.Pieces.{front_none}
 use Rattle.ox_app.proofs.Prefixes.{stops_hearing, survives_owing, survives_rest}
-use Rattle.ox_app.proofs.FeedState.{Carried, Owing}
+use Rattle.ox_app.proofs.FeedState.{HasAnswered, OwesAnswer}
 use Rattle.ox_outside.proofs.Calls.{leaves_at_first, leaves_then, leaves_weaker}
 use Rattle.ox_app.specs.Headline.{RunsFeed, StopsBefore, Survives}
 use Rattle.ox_gated.specs.Tail.{Holds, IsSettled}
@@ -43,8 +42,8 @@ same_some : (a b : List ℕ) → Some a ≡ Some b → a ≡ b
 same_some a b is = cc is
 
 -- what a line that was heard and carried out says
-carried_line : (line : Line) (lines lines' : Feed) (stack : Stack) (result : Result (Option CarriedOut) Stop) (y : List Event)
-    → Answers lines (Ok line) lines' y → IfOk result (CarriesOut line stack) → CarriedOn lines stack result lines' y
+carried_line : (line : Line) (lines lines' : Feed) (stack : Stack) (result : Result (Option CarriedLine) Stop) (y : List Event)
+    → Answers lines (Ok line) lines' y → IfOk result (CarriesOut line stack) → CarriesOutNext lines stack result lines' y
 carried_line (Text l) lines lines' stack (Ok (Some c)) y answers out = record {
   hears = answers.hears;
   came = record { line = text l; comes = answers.line; says = same_some _ _ out.says; leaves = out.leaves };
@@ -53,23 +52,23 @@ carried_line Long lines lines' stack (Ok (Some c)) y answers out = record {
   hears = answers.hears;
   came = record { line = too_long; comes = answers.line; says = same_some _ _ out.says; leaves = out.leaves };
 }
-carried_line End lines lines' stack (Ok (Some c)) y answers out = absurd out
-carried_line (Text l) lines lines' stack (Ok None) y answers out = absurd out
-carried_line Long lines lines' stack (Ok None) y answers out = absurd out
+carried_line End lines lines' stack (Ok (Some c)) y answers out = cc out
+carried_line (Text l) lines lines' stack (Ok None) y answers out = cc out
+carried_line Long lines lines' stack (Ok None) y answers out = cc out
 carried_line End lines lines' stack (Ok None) y answers out = record { hears = answers.hears; came = answers.line }
 carried_line line lines lines' stack (Err stop) y answers out = record { hears = answers.hears; came = tt }
 
-pub grows_line : (line : Line) (lines lines' : Feed) (stack : Stack) (result : Result (Option CarriedOut) Stop) (log mid now : Option (List Event))
-    → Grows (Answers lines (Ok line) lines') log mid → IfOk result (CarriesOut line stack) → now ≡ mid → Grows (CarriedOn lines stack result lines') log now
+pub grows_line : (line : Line) (lines lines' : Feed) (stack : Stack) (result : Result (Option CarriedLine) Stop) (log mid now : Option (List Event))
+    → Grows (Answers lines (Ok line) lines') log mid → IfOk result (CarriesOut line stack) → now ≡ mid → Grows (CarriesOutNext lines stack result lines') log now
 grows_line line lines lines' stack result log mid now grows out same =
-    grows_same (CarriedOn lines stack result lines') log mid now
-    (grows_weaker (Answers lines (Ok line) lines') (CarriedOn lines stack result lines') log mid (λ y answers. carried_line line lines lines' stack result y answers out) grows) same
+    grows_same (CarriesOutNext lines stack result lines') log mid now
+    (grows_weaker (Answers lines (Ok line) lines') (CarriesOutNext lines stack result lines') log mid (λ y answers. carried_line line lines lines' stack result y answers out) grows) same
 
 -- no line came
 pub grows_no_line : (fault : FeedFault) (stop : Stop) (lines lines' : Feed) (stack : Stack) (log now : Option (List Event))
-    → Grows (Answers lines (Err fault) lines') log now → Grows (CarriedOn lines stack (Err stop) lines') log now
+    → Grows (Answers lines (Err fault) lines') log now → Grows (CarriesOutNext lines stack (Err stop) lines') log now
 grows_no_line fault stop lines lines' stack log now =
-    grows_weaker (Answers lines (Err fault) lines') (CarriedOn lines stack (Err stop) lines') log now (λ y answers. record { hears = answers.hears; came = tt })
+    grows_weaker (Answers lines (Err fault) lines') (CarriesOutNext lines stack (Err stop) lines') log now (λ y answers. record { hears = answers.hears; came = tt })
 
 by_line : (line : Line) (lines lines' : Feed) (stack : Stack) (files : Files) (y : List Event) → Answers lines (Ok line) lines' y → StandsForEither stack (after_line stack line) files
     → DuringLine lines stack lines' files y
@@ -136,13 +135,13 @@ module _ {S : Type 0} (means : Meanings S) where
     abbrev pub Survived : S → Remains → Type 0
     Survived start r = Grows (λ events. Survives (replies_on first) (after_on first) events r.files) (means.log start) (Some r.log)
 
-    by_during : (lines lines' : Feed) (stack : Stack) (files : Files) (x y : List Event) → Carried first lines stack x → DuringLine lines stack lines' files y
+    by_during : (lines lines' : Feed) (stack : Stack) (files : Files) (x y : List Event) → HasAnswered first lines stack x → DuringLine lines stack lines' files y
         → Survives (replies_on first) (after_on first) (x ++ y) files
     by_during lines lines' stack files x y carried (inl rest) = survives_rest first lines stack x y files carried rest.0 rest.1
     by_during lines lines' stack files x y carried (inr heard) =
         let answer = reply_by index_on (turn_on stack heard.line) in
         let stack' = after_turn stack (turn_on stack heard.line) in
-        let owed : Owing first answer lines' stack' (x ++ y) = owing first lines lines' stack stack' answer x y carried heard.hears (record { line = heard.line; comes = heard.comes; says = refl; leaves = refl }) in
+        let owed : OwesAnswer first answer lines' stack' (x ++ y) = owes_answer first lines lines' stack stack' answer x y carried heard.hears (record { line = heard.line; comes = heard.comes; says = refl; leaves = refl }) in
         subst (λ (l : List Event). Survives (replies_on first) (after_on first) l files) (append-nil (x ++ y))
         (survives_owing first answer lines' stack' (x ++ y) [] files owed (front_none answer) heard.stands_for)
 
@@ -154,26 +153,26 @@ module _ {S : Type 0} (means : Meanings S) where
         let now = only_now site r left in
         let stood_r : stands r.files ≡ Ok first = ap stands (settled r now) ∙ stood in
         grows_same _ (means.log site) (means.log site) (Some r.log)
-        (grows_weaker (Carried first new_feed first) (λ events. Survives (replies_on first) (after_on first) events r.files) (means.log site) (means.log site)
+        (grows_weaker (HasAnswered first new_feed first) (λ events. Survives (replies_on first) (after_on first) events r.files) (means.log site) (means.log site)
         (λ x carried. subst (λ (l : List Event). Survives (replies_on first) (after_on first) l r.files) (append-nil x)
         (survives_rest first new_feed first x [] r.files carried (record { only = All-nil _; quiet = λ over. refl }) stood_r)) (carried_none first (means.log site))) (sym (logs_now site r now)))
 
     -- one line more
-    pub survived_line : (lines lines' : Feed) (stack : Stack) (start old new : S) → Only start old (Survived start) → Grows (Carried first lines stack) (means.log start) (means.log old)
+    pub survived_line : (lines lines' : Feed) (stack : Stack) (start old new : S) → Only start old (Survived start) → Grows (HasAnswered first lines stack) (means.log start) (means.log old)
         → Only old new (During lines stack lines' old) → Only start new (Survived start)
     survived_line lines lines' stack start old new so_far carried during =
         leaves_then means start old new (Survived start) so_far
         (leaves_weaker means old new (During lines stack lines' old) (Survived start) (λ r d.
-        grows_then (Carried first lines stack) (DuringLine lines stack lines' r.files) (λ events. Survives (replies_on first) (after_on first) events r.files)
+        grows_then (HasAnswered first lines stack) (DuringLine lines stack lines' r.files) (λ events. Survives (replies_on first) (after_on first) events r.files)
         (means.log start) (means.log old) (Some r.log) (λ x y c e. by_during lines lines' stack r.files x y c e) carried d) during)
 
     -- its answer is shown
-    pub survived_shown : (answer : List ℕ) (lines : Feed) (stack : Stack) (start old new : S) → Only start old (Survived start) → Grows (Owing first answer lines stack) (means.log start) (means.log old)
+    pub survived_shown : (answer : List ℕ) (lines : Feed) (stack : Stack) (start old new : S) → Only start old (Survived start) → Grows (OwesAnswer first answer lines stack) (means.log start) (means.log old)
         → IsSettled means old → stands (means.seen old) ≡ Ok stack → OnlyTalks means (ShowsFront answer) old new → Only start new (Survived start)
     survived_shown answer lines stack start old new so_far owed settled stood talks =
         leaves_then means start old new (Survived start) so_far
         (leaves_weaker means old new _ (Survived start) (λ r talked.
-        grows_then (Owing first answer lines stack) (ShowsFront answer) (λ events. Survives (replies_on first) (after_on first) events r.files)
+        grows_then (OwesAnswer first answer lines stack) (ShowsFront answer) (λ events. Survives (replies_on first) (after_on first) events r.files)
         (means.log start) (means.log old) (Some r.log)
         (λ x z o s. survives_owing first answer lines stack x z r.files o s (same_files old stack settled stood r.files talked.files.0 talked.files.1 talked.files.2)) owed talked.grown) talks.moments)
 
@@ -183,27 +182,27 @@ pub same_stop : (a b : Stop) → IsErrOf (let r : Result (Unit {0}) Stop = Err a
 same_stop a b is = cc
 
 module _ (first : Stack) where
-  pub grows_owing_store : (carried : CarriedOut) (lines lines' : Feed) (stack : Stack) (log mid now : Option (List Event))
-      → Grows (Carried first lines stack) log mid → Grows (CarriedOn lines stack (Ok (Some carried)) lines') mid now → Grows (Owing first carried.answer lines' carried.store.stack) log now
+  pub grows_owing_store : (carried : CarriedLine) (lines lines' : Feed) (stack : Stack) (log mid now : Option (List Event))
+      → Grows (HasAnswered first lines stack) log mid → Grows (CarriesOutNext lines stack (Ok (Some carried)) lines') mid now → Grows (OwesAnswer first carried.answer lines' carried.store.stack) log now
   grows_owing_store carried lines lines' stack log mid now =
-      grows_then (Carried first lines stack) (CarriedOn lines stack (Ok (Some carried)) lines') (Owing first carried.answer lines' carried.store.stack) log mid now
-      (λ x y f q. owing first lines lines' stack carried.store.stack carried.answer x y f q.hears q.came)
+      grows_then (HasAnswered first lines stack) (CarriesOutNext lines stack (Ok (Some carried)) lines') (OwesAnswer first carried.answer lines' carried.store.stack) log mid now
+      (λ x y f q. owes_answer first lines lines' stack carried.store.stack carried.answer x y f q.hears q.came)
 
   pub grows_stopped_store : (lines lines' : Feed) (stack : Stack) (stop : Stop) (log mid now : Option (List Event)) → lines'.heard ≤ feed_limit → (stop ≡ TooMuch → IsTooMuch lines')
-      → Grows (Carried first lines stack) log mid → Grows (CarriedOn lines stack (Err stop) lines') mid now → Grows (RunsFeed (replies_on first) (status_of (Err stop))) log now
+      → Grows (HasAnswered first lines stack) log mid → Grows (CarriesOutNext lines stack (Err stop) lines') mid now → Grows (RunsFeed (replies_on first) (status_of (Err stop))) log now
   grows_stopped_store lines lines' stack stop log mid now within much =
-      grows_then (Carried first lines stack) (CarriedOn lines stack (Err stop) lines') (RunsFeed (replies_on first) (status_of (Err stop))) log mid now
-      (λ x y f q. stopped first lines lines' stack stop x y within much f q.hears)
+      grows_then (HasAnswered first lines stack) (CarriesOutNext lines stack (Err stop) lines') (RunsFeed (replies_on first) (status_of (Err stop))) log mid now
+      (λ x y f q. run_stopped first lines lines' stack stop x y within much f q.hears)
 
   pub grows_whole_store : (lines lines' : Feed) (stack : Stack) (log mid now : Option (List Event)) → lines'.heard ≤ feed_limit
-      → Grows (Carried first lines stack) log mid → Grows (CarriedOn lines stack (Ok None) lines') mid now → Grows (RunsFeed (replies_on first) ends.Done) log now
+      → Grows (HasAnswered first lines stack) log mid → Grows (CarriesOutNext lines stack (Ok None) lines') mid now → Grows (RunsFeed (replies_on first) ends.Done) log now
   grows_whole_store lines lines' stack log mid now within =
-      grows_then (Carried first lines stack) (CarriedOn lines stack (Ok None) lines') (RunsFeed (replies_on first) ends.Done) log mid now
+      grows_then (HasAnswered first lines stack) (CarriesOutNext lines stack (Ok None) lines') (RunsFeed (replies_on first) ends.Done) log mid now
       (λ x y f q. answered_all first lines lines' stack x y within f q.hears q.came)
 
   -- memory ran out at a line
   pub grows_stops : (lines lines' : Feed) (stack : Stack) (stop : Stop) (files : Files) (log mid now : Option (List Event)) → stands files ≡ Ok stack
-      → Grows (Carried first lines stack) log mid → Grows (CarriedOn lines stack (Err stop) lines') mid now → Grows (StopsBefore (replies_on first) (after_on first) files) log now
+      → Grows (HasAnswered first lines stack) log mid → Grows (CarriesOutNext lines stack (Err stop) lines') mid now → Grows (StopsBefore (replies_on first) (after_on first) files) log now
   grows_stops lines lines' stack stop files log mid now stood =
-      grows_then (Carried first lines stack) (CarriedOn lines stack (Err stop) lines') (StopsBefore (replies_on first) (after_on first) files) log mid now
+      grows_then (HasAnswered first lines stack) (CarriesOutNext lines stack (Err stop) lines') (StopsBefore (replies_on first) (after_on first) files) log mid now
       (λ x y f q. stops_hearing first lines lines' stack x y files f q.hears stood)

@@ -24,17 +24,17 @@ use Rattle.ox_sat.specs.declared.profiles.Profile.{Profile}
 use Rattle.ox_index.specs.Live.{profile_in, index_in}
 use Rattle.ox_index.specs.declared.live.Live.{Live}
 use Rattle.ox_model.specs.Index.{Index, no_blocks}
-use Rattle.ox_app.specs.Fold.{Answered, AnswersLine, NextLine, fold_depth, stack_in}
+use Rattle.ox_app.specs.Fold.{AnswersNext, AnswersLine, NextLine, fold_depth, stack_in}
 use Rattle.ox_app.proofs.Pieces.{Own}
-use Rattle.ox_app.proofs.FeedState.{Carried, Owing}
+use Rattle.ox_app.proofs.FeedState.{HasAnswered, OwesAnswer}
 use Rattle.ox_app.specs.Headline.{OnlyOwn, RunsFeed}
 use Rattle.ox_app.specs.Show.{HearsNothing, ShowsFront, ShowsWhole}
 use Rattle.ox_app.specs.Status.{status_of}
 
 -- ---- hearings show nothing
 
-abbrev Hearing : Event → Type 0
-Hearing event = IsTrue (is_hearing event)
+abbrev IsHearing : Event → Type 0
+IsHearing event = IsTrue (is_hearing event)
 
 hearing_own : (event : Event) → IsTrue (is_hearing event) → channel_of event ≡ 0
 hearing_own (Opened channel door) h = cc
@@ -45,10 +45,10 @@ hearing_own (Broke channel) h = eqb-true channel 0 h
 hearing_own (GaveUp channel) h = cc
 hearing_own (Shut channel) h = cc
 
-hearings_own : (events : List Event) → All Hearing events → OnlyOwn events
+hearings_own : (events : List Event) → All IsHearing events → OnlyOwn events
 hearings_own [] h = All-nil Own
 hearings_own (event ∷ events) h =
-    All-cons Own event events (hearing_own event (All-head Hearing event events h)) (hearings_own events (All-tail Hearing event events h))
+    All-cons Own event events (hearing_own event (All-head IsHearing event events h)) (hearings_own events (All-tail IsHearing event events h))
 
 one_shows_nothing : (event : Event) (events : List Event) → IsTrue (is_hearing event) → shown_bytes 0 (event ∷ events) ≡ shown_bytes 0 events
 one_shows_nothing (Opened channel door) events h = refl
@@ -59,10 +59,10 @@ one_shows_nothing (Broke channel) events h = refl
 one_shows_nothing (GaveUp channel) events h = refl
 one_shows_nothing (Shut channel) events h = refl
 
-hearings_show_nothing : (events : List Event) → All Hearing events → shown_bytes 0 events ≡ []
+hearings_show_nothing : (events : List Event) → All IsHearing events → shown_bytes 0 events ≡ []
 hearings_show_nothing [] h = refl
 hearings_show_nothing (event ∷ events) h =
-    one_shows_nothing event events (All-head Hearing event events h) ∙ hearings_show_nothing events (All-tail Hearing event events h)
+    one_shows_nothing event events (All-head IsHearing event events h) ∙ hearings_show_nothing events (All-tail IsHearing event events h)
 
 pub shown_as_before : (x y : List Event) → OnlyHears y → shown_bytes 0 (x ++ y) ≡ shown_bytes 0 x
 shown_as_before x y h = shown_bytes-append 0 x y ∙ ap (λ (l : List ℕ). shown_bytes 0 x ++ l) (hearings_show_nothing y h) ∙ append-nil (shown_bytes 0 x)
@@ -113,7 +113,7 @@ module _ (first : Stack) where
 
   -- what a line in memory was answered
   pub answered_line : (line : Line) (lines lines' : Feed) (stack stack' : Stack) (answer : Option (List ℕ)) (events : List Event)
-      → AnswersLine line stack answer stack' → Answers lines (Ok line) lines' events → Answered lines stack (Ok answer) lines' stack' events
+      → AnswersLine line stack answer stack' → Answers lines (Ok line) lines' events → AnswersNext lines stack (Ok answer) lines' stack' events
   answered_line (Text l) lines lines' stack stack' answer events a h = record {
     hears = h.hears;
     came = rw a.says (record { line = text l; comes = h.line; says = refl; leaves = a.leaves });
@@ -125,8 +125,8 @@ module _ (first : Stack) where
   answered_line End lines lines' stack stack' answer events a h = record { hears = h.hears; came = rw a h.line }
 
   -- before the first line
-  pub carried_none : (log : Option (List Event)) → Grows (Carried first new_feed first) log log
-  carried_none log = grows_none (Carried first new_feed first) log (record {
+  pub carried_none : (log : Option (List Event)) → Grows (HasAnswered first new_feed first) log log
+  carried_none log = grows_none (HasAnswered first new_feed first) log (record {
     only = All-nil Own;
     count = refl;
     ended = refl;
@@ -137,9 +137,9 @@ module _ (first : Stack) where
   })
 
   -- a line is heard and carried out, and its answer is owed
-  pub owing : (lines lines' : Feed) (stack stack' : Stack) (answer : List ℕ) (x y : List Event)
-      → Carried first lines stack x → Hears lines lines' y → NextLine lines stack answer (heard_bytes 0 y) lines' stack' → Owing first answer lines' stack' (x ++ y)
-  owing lines lines' stack stack' answer x y carried hears next = record {
+  pub owes_answer : (lines lines' : Feed) (stack stack' : Stack) (answer : List ℕ) (x y : List Event)
+      → HasAnswered first lines stack x → Hears lines lines' y → NextLine lines stack answer (heard_bytes 0 y) lines' stack' → OwesAnswer first answer lines' stack' (x ++ y)
+  owes_answer lines lines' stack stack' answer x y carried hears next = record {
     only = All-append Own x y carried.only (hearings_own y hears.only);
     count = heard_count lines lines' x y carried.count hears;
     ended = heard_ended lines lines' x y carried.ended hears;
@@ -155,10 +155,10 @@ module _ (first : Stack) where
   }
 
   pub grows_owing : (lines lines' : Feed) (stack stack' : Stack) (answer : List ℕ) (log mid now : Option (List Event))
-      → Grows (Carried first lines stack) log mid → Grows (Answered lines stack (Ok (Some answer)) lines' stack') mid now → Grows (Owing first answer lines' stack') log now
+      → Grows (HasAnswered first lines stack) log mid → Grows (AnswersNext lines stack (Ok (Some answer)) lines' stack') mid now → Grows (OwesAnswer first answer lines' stack') log now
   grows_owing lines lines' stack stack' answer log mid now =
-      grows_then (Carried first lines stack) (Answered lines stack (Ok (Some answer)) lines' stack') (Owing first answer lines' stack') log mid now
-      (λ x y f q. owing lines lines' stack stack' answer x y f q.hears q.came)
+      grows_then (HasAnswered first lines stack) (AnswersNext lines stack (Ok (Some answer)) lines' stack') (OwesAnswer first answer lines' stack') log mid now
+      (λ x y f q. owes_answer lines lines' stack stack' answer x y f q.hears q.came)
 
   ended_kept : (a b : Bool) → b ≡ false → a ≡ (a || b)
   ended_kept true b e = refl
@@ -171,7 +171,7 @@ module _ (first : Stack) where
   same_ended x z quiet = ended_kept (has_ended 0 x) (has_ended 0 z) quiet.not_ended ∙ sym (has_ended-append 0 x z)
 
   -- the answer is shown
-  shown_whole : (lines : Feed) (stack : Stack) (answer : List ℕ) (x z : List Event) → Owing first answer lines stack x → ShowsWhole answer z → Carried first lines stack (x ++ z)
+  shown_whole : (lines : Feed) (stack : Stack) (answer : List ℕ) (x z : List Event) → OwesAnswer first answer lines stack x → ShowsWhole answer z → HasAnswered first lines stack (x ++ z)
   shown_whole lines stack answer x z owed shows = record {
     only = All-append Own x z owed.only shows.quiet.only;
     count = owed.count ∙ ap (λ (l : List ℕ). length l) (sym (same_heard x z shows.quiet));
@@ -190,15 +190,15 @@ module _ (first : Stack) where
   }
 
   pub grows_carried : (lines : Feed) (stack : Stack) (answer : List ℕ) (log mid now : Option (List Event))
-      → Grows (Owing first answer lines stack) log mid → Grows (ShowsWhole answer) mid now → Grows (Carried first lines stack) log now
+      → Grows (OwesAnswer first answer lines stack) log mid → Grows (ShowsWhole answer) mid now → Grows (HasAnswered first lines stack) log now
   grows_carried lines stack answer log mid now =
-      grows_then (Owing first answer lines stack) (ShowsWhole answer) (Carried first lines stack) log mid now (λ x z f q. shown_whole lines stack answer x z f q)
+      grows_then (OwesAnswer first answer lines stack) (ShowsWhole answer) (HasAnswered first lines stack) log mid now (λ x z f q. shown_whole lines stack answer x z f q)
 
   -- ---- the lines that stand whole
 
   -- after a hearing
   pub lines_heard : (lines : Feed) (stack : Stack) (x y : List Event) → Listens lines y
-      → (carried : Carried first lines stack x) → lines_in (x ++ y) ≡ carried.done ++ lines_from lines (heard_bytes 0 y) (has_ended 0 (x ++ y))
+      → (carried : HasAnswered first lines stack x) → lines_in (x ++ y) ≡ carried.done ++ lines_from lines (heard_bytes 0 y) (has_ended 0 (x ++ y))
   lines_heard lines stack x y listens carried =
       let ended = has_ended 0 (x ++ y) in
       let may : MayCome lines (heard_bytes 0 y) ended = λ over.
@@ -207,7 +207,7 @@ module _ (first : Stack) where
 
   -- with an answer that is owed, after showing
   pub lines_owing : (answer : List ℕ) (lines : Feed) (stack : Stack) (x z : List Event) → HearsNothing z
-      → (owed : Owing first answer lines stack x) → lines_in (x ++ z) ≡ owed.done ++ owed.line ∷ lines_from lines [] (has_ended 0 x)
+      → (owed : OwesAnswer first answer lines stack x) → lines_in (x ++ z) ≡ owed.done ++ owed.line ∷ lines_from lines [] (has_ended 0 x)
   lines_owing answer lines stack x z quiet owed =
       ap (λ (l : List ℕ). lines_of l (has_ended 0 (x ++ z))) (same_heard x z quiet ∙ sym (append-nil (heard_bytes 0 x)))
       ∙ ap (λ (b : Bool). lines_of (heard_bytes 0 x ++ []) b) (sym (same_ended x z quiet))
@@ -219,7 +219,7 @@ module _ (first : Stack) where
   -- ---- the end of a run
 
   -- what was shown before a hearing begins the answers to what was heard with it
-  front_heard : (lines : Feed) (stack : Stack) (x y : List Event) (carried : Carried first lines stack x) → Listens lines y
+  front_heard : (lines : Feed) (stack : Stack) (x y : List Event) (carried : HasAnswered first lines stack x) → Listens lines y
       → shown_bytes 0 (x ++ y) ++ concat (replies_on (after_on first carried.done) (lines_from lines (heard_bytes 0 y) (has_ended 0 (x ++ y)))) ≡ concat (replies_on first (lines_in (x ++ y)))
   front_heard lines stack x y carried hears =
       ap (λ (l : List ℕ). l ++ concat (replies_on (after_on first carried.done) (lines_from lines (heard_bytes 0 y) (has_ended 0 (x ++ y))))) (shown_as_before x y hears.only ∙ carried.said)
@@ -250,9 +250,9 @@ module _ (first : Stack) where
   fault_undone e = cc
 
   -- no further line was carried out
-  pub stopped : (lines lines' : Feed) (stack : Stack) (stop : Stop) (x y : List Event) → lines'.heard ≤ feed_limit → (stop ≡ TooMuch → IsTooMuch lines')
-      → Carried first lines stack x → Hears lines lines' y → RunsFeed (replies_on first) (status_of (Err stop)) (x ++ y)
-  stopped lines lines' stack stop x y within much carried hears =
+  pub run_stopped : (lines lines' : Feed) (stack : Stack) (stop : Stop) (x y : List Event) → lines'.heard ≤ feed_limit → (stop ≡ TooMuch → IsTooMuch lines')
+      → HasAnswered first lines stack x → Hears lines lines' y → RunsFeed (replies_on first) (status_of (Err stop)) (x ++ y)
+  run_stopped lines lines' stack stop x y within much carried hears =
       let count = heard_count lines lines' x y carried.count hears in
       record {
         only = All-append Own x y carried.only (hearings_own y hears.only);
@@ -266,7 +266,7 @@ module _ (first : Stack) where
 
   -- the feed has ended, and each line is answered
   pub answered_all : (lines lines' : Feed) (stack : Stack) (x y : List Event) → lines'.heard ≤ feed_limit
-      → Carried first lines stack x → Hears lines lines' y → IsDone lines (heard_bytes 0 y) lines' → RunsFeed (replies_on first) ends.Done (x ++ y)
+      → HasAnswered first lines stack x → Hears lines lines' y → IsDone lines (heard_bytes 0 y) lines' → RunsFeed (replies_on first) ends.Done (x ++ y)
   answered_all lines lines' stack x y within carried hears done =
       let count = heard_count lines lines' x y carried.count hears in
       let over : has_ended 0 (x ++ y) ≡ true = sym (heard_ended lines lines' x y carried.ended hears) ∙ done.ended in
@@ -285,8 +285,8 @@ module _ (first : Stack) where
       }
 
   -- showing an answer failed
-  broken : (answer : List ℕ) (lines : Feed) (stack : Stack) (x z : List Event) → lines.heard ≤ feed_limit → Owing first answer lines stack x → ShowsFront answer z → RunsFeed (replies_on first) ends.ShowFault (x ++ z)
-  broken answer lines stack x z within owed shows =
+  run_broken : (answer : List ℕ) (lines : Feed) (stack : Stack) (x z : List Event) → lines.heard ≤ feed_limit → OwesAnswer first answer lines stack x → ShowsFront answer z → RunsFeed (replies_on first) ends.ShowFault (x ++ z)
+  run_broken answer lines stack x z within owed shows =
       let rest = shows.shown.0 in
       let more = lines_from lines [] (has_ended 0 x) in
       let here = after_on first owed.done in
@@ -309,20 +309,20 @@ module _ (first : Stack) where
       }
 
   pub grows_broken : (answer : List ℕ) (lines : Feed) (stack : Stack) (log mid now : Option (List Event)) → lines.heard ≤ feed_limit
-      → Grows (Owing first answer lines stack) log mid → Grows (ShowsFront answer) mid now → Grows (RunsFeed (replies_on first) ends.ShowFault) log now
+      → Grows (OwesAnswer first answer lines stack) log mid → Grows (ShowsFront answer) mid now → Grows (RunsFeed (replies_on first) ends.ShowFault) log now
   grows_broken answer lines stack log mid now within =
-      grows_then (Owing first answer lines stack) (ShowsFront answer) (RunsFeed (replies_on first) ends.ShowFault) log mid now (λ x z f q. broken answer lines stack x z within f q)
+      grows_then (OwesAnswer first answer lines stack) (ShowsFront answer) (RunsFeed (replies_on first) ends.ShowFault) log mid now (λ x z f q. run_broken answer lines stack x z within f q)
 
   pub grows_stopped : (lines lines' : Feed) (stack stack' : Stack) (stop : Stop) (log mid now : Option (List Event)) → lines'.heard ≤ feed_limit → (stop ≡ TooMuch → IsTooMuch lines')
-      → Grows (Carried first lines stack) log mid → Grows (Answered lines stack (Err stop) lines' stack') mid now → Grows (RunsFeed (replies_on first) (status_of (Err stop))) log now
+      → Grows (HasAnswered first lines stack) log mid → Grows (AnswersNext lines stack (Err stop) lines' stack') mid now → Grows (RunsFeed (replies_on first) (status_of (Err stop))) log now
   grows_stopped lines lines' stack stack' stop log mid now within much =
-      grows_then (Carried first lines stack) (Answered lines stack (Err stop) lines' stack') (RunsFeed (replies_on first) (status_of (Err stop))) log mid now
-      (λ x y f q. stopped lines lines' stack stop x y within much f q.hears)
+      grows_then (HasAnswered first lines stack) (AnswersNext lines stack (Err stop) lines' stack') (RunsFeed (replies_on first) (status_of (Err stop))) log mid now
+      (λ x y f q. run_stopped lines lines' stack stop x y within much f q.hears)
 
   pub grows_whole : (lines lines' : Feed) (stack stack' : Stack) (log mid now : Option (List Event)) → lines'.heard ≤ feed_limit
-      → Grows (Carried first lines stack) log mid → Grows (Answered lines stack (Ok None) lines' stack') mid now → Grows (RunsFeed (replies_on first) ends.Done) log now
+      → Grows (HasAnswered first lines stack) log mid → Grows (AnswersNext lines stack (Ok None) lines' stack') mid now → Grows (RunsFeed (replies_on first) ends.Done) log now
   grows_whole lines lines' stack stack' log mid now within =
-      grows_then (Carried first lines stack) (Answered lines stack (Ok None) lines' stack') (RunsFeed (replies_on first) ends.Done) log mid now
+      grows_then (HasAnswered first lines stack) (AnswersNext lines stack (Ok None) lines' stack') (RunsFeed (replies_on first) ends.Done) log mid now
       (λ x y f q. answered_all lines lines' stack x y within f q.hears q.came)
 
 -- ---- an index in memory without a block

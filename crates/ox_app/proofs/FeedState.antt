@@ -8,7 +8,7 @@ use Rattle.ox_model.specs.Stack.{Stack, turn_on}
 use Rattle.ox_app.specs.Headline.{OnlyOwn}
 
 -- In a run from a stack: the lines that are done lead to this one, all their answers are shown, and these are still to come.
-pub record Carried (first : Stack) (lines : Feed) (stack : Stack) (events : List Event) : Type 0 where
+pub record HasAnswered (first : Stack) (lines : Feed) (stack : Stack) (events : List Event) : Type 0 where
   pub only : OnlyOwn events
   pub count : lines.heard ≡ length (heard_bytes 0 events)
   pub ended : lines.ended ≡ has_ended 0 events
@@ -18,7 +18,7 @@ pub record Carried (first : Stack) (lines : Feed) (stack : Stack) (events : List
   pub said : shown_bytes 0 events ≡ concat (replies_on first done)
 
 -- The same, with one line more that is done and whose answer is owed.
-pub record Owing (first : Stack) (answer : List ℕ) (lines : Feed) (stack : Stack) (events : List Event) : Type 0 where
+pub record OwesAnswer (first : Stack) (answer : List ℕ) (lines : Feed) (stack : Stack) (events : List Event) : Type 0 where
   pub only : OnlyOwn events
   pub count : lines.heard ≡ length (heard_bytes 0 events)
   pub ended : lines.ended ≡ has_ended 0 events

@@ -1,10 +1,9 @@
 -- What a run carries along is fresh indexing of the machine's blocks.
-use Rattle.std.proofs.Common.{◌≡◌, ◌∙◌, ◌⊎◌, ◌≤◌, inl, inr, ℕ, suc, Bool, true, false, List, [], ◌∷◌, take, Option, Some, refl, sym, ap, subst, arith}
+use Rattle.std.proofs.Common.{◌≡◌, ◌∙◌, ◌⊎◌, ◌≤◌, inl, inr, ℕ, suc, Bool, true, false, List, [], ◌∷◌, take, Option, Some, refl, sym, ap, subst}
 use Rattle.std.specs.Prelude.{Ok, bytes_eq}
 use Rattle.std.proofs.lemmas.Bool.{true≢false}
 use Rattle.std.proofs.lemmas.Slice.Eq.{bytes_eq-Decides}
 use Rattle.std.specs.List.{concat}
-use Rattle.ox_outside.specs.Crash.{Remains}
 use Rattle.ox_outside.specs.Event.{Event, has_ended}
 use Rattle.ox_outside.specs.Files.{Files}
 use Rattle.ox_outside.specs.declared.site.Site.{Ghosts as Meanings}
@@ -172,14 +171,14 @@ contradicts : (b : Bool) → b ≡ true → b ≡ false → ⊥
 contradicts b e f = cc
 
 -- without a fault a run over a feed that ends is whole, or memory ran out
-pub completed : (answers : List FeedLine → List (List ℕ)) (status : Status) (disk hear show : Type 0) (events : List Event) → IsApplyStatus status → (status ≡ NotStore → ⊥)
+pub ends_done : (answers : List FeedLine → List (List ℕ)) (status : Status) (disk hear show : Type 0) (events : List Event) → IsApplyStatus status → (status ≡ NotStore → ⊥)
     → (status ≡ DiskFault → disk) → (status ≡ HearFault → hear) → (status ≡ ShowFault → show) → (disk → ⊥) → (hear → ⊥) → (show → ⊥) → RunsFeed answers status events → EndsDone status events
-completed answers status disk hear show events (inl is) opened four five six no_disk no_hear no_show runs ends = inl is
-completed answers status disk hear show events (inr (inl is)) opened four five six no_disk no_hear no_show runs ends = absurd (opened is)
-completed answers status disk hear show events (inr (inr (inl is))) opened four five six no_disk no_hear no_show runs ends = absurd (no_disk (four is))
-completed answers status disk hear show events (inr (inr (inr (inl is)))) opened four five six no_disk no_hear no_show runs ends = absurd (no_hear (five is))
-completed answers status disk hear show events (inr (inr (inr (inr (inl is))))) opened four five six no_disk no_hear no_show runs ends = absurd (no_show (six is))
-completed answers status disk hear show events (inr (inr (inr (inr (inr (inl is)))))) opened four five six no_disk no_hear no_show runs ends = inr is
-completed answers status disk hear show events (inr (inr (inr (inr (inr (inr is)))))) opened four five six no_disk no_hear no_show runs ends =
+ends_done answers status disk hear show events (inl is) opened four five six no_disk no_hear no_show runs ends = inl is
+ends_done answers status disk hear show events (inr (inl is)) opened four five six no_disk no_hear no_show runs ends = absurd (opened is)
+ends_done answers status disk hear show events (inr (inr (inl is))) opened four five six no_disk no_hear no_show runs ends = absurd (no_disk (four is))
+ends_done answers status disk hear show events (inr (inr (inr (inl is)))) opened four five six no_disk no_hear no_show runs ends = absurd (no_hear (five is))
+ends_done answers status disk hear show events (inr (inr (inr (inr (inl is))))) opened four five six no_disk no_hear no_show runs ends = absurd (no_show (six is))
+ends_done answers status disk hear show events (inr (inr (inr (inr (inr (inl is)))))) opened four five six no_disk no_hear no_show runs ends = inr is
+ends_done answers status disk hear show events (inr (inr (inr (inr (inr (inr is)))))) opened four five six no_disk no_hear no_show runs ends =
     let limit = runs.too_much is in
     absurd (contradicts (has_ended 0 events) (ends limit.0) limit.1)

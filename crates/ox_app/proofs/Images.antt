@@ -1,8 +1,7 @@
 -- Runs that look at the files and then only talk, and what is shown in them.
-use Rattle.std.proofs.Common.{◌≡◌, ◌∙◌, inl, inr, ℕ, zero, suc, Bool, List, [], ◌∷◌, take, Option, Some, refl, sym, ap, subst}
+use Rattle.std.proofs.Common.{◌≡◌, ◌∙◌, inl, inr, ℕ, zero, suc, List, [], ◌∷◌, take, Option, Some, refl, sym, ap, subst}
 use Rattle.std.specs.Prelude.{Result, Ok, Err, IsErrOf}
 use Rattle.std.proofs.lemmas.List.{append-nil}
-use Rattle.ox_outside.specs.Counts.{Counts}
 use Rattle.ox_outside.specs.Crash.{Remains, MayLeaveFiles}
 use Rattle.ox_outside.specs.Event.{Event, shown_bytes}
 use Rattle.ox_outside.specs.Files.{Files}
@@ -90,13 +89,13 @@ made_any name depth files [] stood = tt
 made_any name depth files (event ∷ events) stood = stood
 
 module _ {S : Type 0} (means : Meanings S) where
-  pub looked : (old new : S) → OnlyLooks means old new → LeavesOnly means old new (λ r. MayLeaveFiles means.may_leave old r.files)
-  looked old new looks = leaves_weaker means old new (means.may_leave old) (λ r. MayLeaveFiles means.may_leave old r.files) (λ r left. (r, left, refl)) looks.moments
+  pub only_looked : (old new : S) → OnlyLooks means old new → LeavesOnly means old new (λ r. MayLeaveFiles means.may_leave old r.files)
+  only_looked old new looks = leaves_weaker means old new (means.may_leave old) (λ r. MayLeaveFiles means.may_leave old r.files) (λ r left. (r, left, refl)) looks.moments
 
   pub looked_then_talked : (P : List Event → Type 0) (old mid new : S) → OnlyLooks means old mid → OnlyTalks means P mid new
       → LeavesOnly means old new (λ r. MayLeaveFiles means.may_leave old r.files)
   looked_then_talked P old mid new looks talks =
-      leaves_then means old mid new (λ r. MayLeaveFiles means.may_leave old r.files) (looked old mid looks)
+      leaves_then means old mid new (λ r. MayLeaveFiles means.may_leave old r.files) (only_looked old mid looks)
       (leaves_weaker means mid new _ (λ r. MayLeaveFiles means.may_leave old r.files) (λ r talked. (talked.files.0, looks.nothing.crash talked.files.0 talked.files.1, talked.files.2)) talks.moments)
 
   pub talked_old : (P : List Event → Type 0) (old new : S) → OnlyTalks means P old new → LeavesOnly means old new (λ r. MayLeaveFiles means.may_leave old r.files)
@@ -123,11 +122,11 @@ no_misfit standing stack opens.DiskFault events is misfit logs = logs
 no_misfit standing stack opens.Memory events is misfit logs = logs
 
 -- where no line is shown, nothing is logged
-pub unsaid : {S : Type 0} (means : Meanings S) (fault : OpenFault) (status : Status) (old new : S) → UnopenedAs means fault status old new → (status ≡ NotStore → ⊥) → means.log new ≡ means.log old
-unsaid means (opens.NotStore file at) status old new (inl said) isnt = absurd (isnt said.0)
-unsaid means (opens.NotStore file at) status old new (inr quiet) isnt = quiet.1
-unsaid means opens.DiskFault status old new quiet isnt = quiet.1
-unsaid means opens.Memory status old new quiet isnt = quiet.1
+pub says_nothing : {S : Type 0} (means : Meanings S) (fault : OpenFault) (status : Status) (old new : S) → UnopenedAs means fault status old new → (status ≡ NotStore → ⊥) → means.log new ≡ means.log old
+says_nothing means (opens.NotStore file at) status old new (inl said) isnt = absurd (isnt said.0)
+says_nothing means (opens.NotStore file at) status old new (inr quiet) isnt = quiet.1
+says_nothing means opens.DiskFault status old new quiet isnt = quiet.1
+says_nothing means opens.Memory status old new quiet isnt = quiet.1
 
 lines_none : lines_in [] ≡ []
 unfolding lines_of
@@ -138,11 +137,11 @@ take_none zero = refl
 take_none (suc n) = refl
 
 module _ {S : Type 0} (means : Meanings S) where
-  abbrev Left : Stack → S → Remains → Type 0
-  Left stack old r = Grows (Leaves means.may_leave old (replies_on stack) (after_on stack) r.files) (means.log old) (Some r.log)
+  abbrev LeavesFrom : Stack → S → Remains → Type 0
+  LeavesFrom stack old r = Grows (Leaves means.may_leave old (replies_on stack) (after_on stack) r.files) (means.log old) (Some r.log)
 
   -- nothing was logged, and the files might have been left before
-  left_before : ((site : S) (r : Remains) → means.may_leave site r → means.log site ≡ Some r.log) → (stack : Stack) (old : S) (r : Remains) → means.may_leave old r → Left stack old r
+  left_before : ((site : S) (r : Remains) → means.may_leave site r → means.log site ≡ Some r.log) → (stack : Stack) (old : S) (r : Remains) → means.may_leave old r → LeavesFrom stack old r
   left_before logs_now stack old r left =
       grows_same (Leaves means.may_leave old (replies_on stack) (after_on stack) r.files) (means.log old) (means.log old) (Some r.log)
       (grows_none (Leaves means.may_leave old (replies_on stack) (after_on stack) r.files) (means.log old) (inl (r, left, refl))) (sym (logs_now old r left))
@@ -155,11 +154,11 @@ module _ {S : Type 0} (means : Meanings S) where
   -- the files are opened, and then the feed is followed
   pub opened_then_followed : ((site : S) (r : Remains) → means.may_leave site r → means.log site ≡ Some r.log) → (stack : Stack) (old mid new : S) → OnlyLooks means old mid
       → LeavesOnly means mid new (λ r. Grows (λ events. Survives (replies_on stack) (after_on stack) events r.files) (means.log mid) (Some r.log))
-      → LeavesOnly means old new (Left stack old)
+      → LeavesOnly means old new (LeavesFrom stack old)
   opened_then_followed logs_now stack old mid new looks followed =
-      leaves_then means old mid new (Left stack old)
-      (leaves_weaker means old mid (means.may_leave old) (Left stack old) (left_before logs_now stack old) looks.moments)
-      (leaves_weaker means mid new _ (Left stack old) (λ r survived.
+      leaves_then means old mid new (LeavesFrom stack old)
+      (leaves_weaker means old mid (means.may_leave old) (LeavesFrom stack old) (left_before logs_now stack old) looks.moments)
+      (leaves_weaker means mid new _ (LeavesFrom stack old) (λ r survived.
       grows_from (Leaves means.may_leave old (replies_on stack) (after_on stack) r.files) (means.log old) (means.log mid) (Some r.log) looks.nothing.as_logged
       (grows_weaker (λ events. Survives (replies_on stack) (after_on stack) events r.files) (Leaves means.may_leave old (replies_on stack) (after_on stack) r.files) (means.log mid) (Some r.log)
       (by_events stack old r.files) survived)) followed)
@@ -167,11 +166,11 @@ module _ {S : Type 0} (means : Meanings S) where
   -- they aren't opened, though they stand for a stack
   pub unopened_yet : ((site : S) (r : Remains) → means.may_leave site r → means.log site ≡ Some r.log) → (stack : Stack) (fault : OpenFault) (old mid new : S) → stands (means.seen old) ≡ Ok stack → IsMisfit (stands (means.seen old)) fault
       → OnlyLooks means old mid → OnlyTalks means (LogsUnopened fault) mid new
-      → LeavesOnly means old new (Left stack old)
+      → LeavesOnly means old new (LeavesFrom stack old)
   unopened_yet logs_now stack fault old mid new stood misfit looks talks =
-      leaves_then means old mid new (Left stack old)
-      (leaves_weaker means old mid (means.may_leave old) (Left stack old) (left_before logs_now stack old) looks.moments)
-      (leaves_weaker means mid new _ (Left stack old) (λ r talked.
+      leaves_then means old mid new (LeavesFrom stack old)
+      (leaves_weaker means old mid (means.may_leave old) (LeavesFrom stack old) (left_before logs_now stack old) looks.moments)
+      (leaves_weaker means mid new _ (LeavesFrom stack old) (λ r talked.
       grows_from (Leaves means.may_leave old (replies_on stack) (after_on stack) r.files) (means.log old) (means.log mid) (Some r.log) looks.nothing.as_logged
       (grows_weaker (LogsUnopened fault) (Leaves means.may_leave old (replies_on stack) (after_on stack) r.files) (means.log mid) (Some r.log)
       (λ events logs. subst (Leaves means.may_leave old (replies_on stack) (after_on stack) r.files) (sym (no_misfit (stands (means.seen old)) stack fault events stood misfit logs))
@@ -185,4 +184,4 @@ module _ {S : Type 0} (means : Meanings S) where
       grows_same (StopsBefore (replies_on stack) (after_on stack) (means.seen new)) (means.log old) (means.log old) (means.log new)
       (grows_none (StopsBefore (replies_on stack) (after_on stack) (means.seen new)) (means.log old)
       (stops_none stack (means.seen new) (ap stands (talks.files.files ∙ looks.nothing.files) ∙ stood)))
-      (unsaid means fault status mid new says isnt ∙ looks.nothing.as_logged)
+      (says_nothing means fault status mid new says isnt ∙ looks.nothing.as_logged)

@@ -1,3 +1,4 @@
+pub mod AskedLines
 pub mod CommandAnswers
 pub mod Crashes
 pub mod FeedAnswers

@@ -11,7 +11,7 @@ use Rattle.ox_outside.proofs.Log.{grows_add, grows_none, grows_weaker}
 use Rattle.ox_app.specs.Show.{HearsNothing, ShowsFront, ShowsWhole}
 
 -- these bytes are still to be shown
-pub record Showing (bytes rest : List ℕ) (events : List Event) : Type 0 where
+pub record HasShown (bytes rest : List ℕ) (events : List Event) : Type 0 where
   pub quiet : HearsNothing events
   pub shown : shown_bytes 0 events ++ rest ≡ bytes
 
@@ -47,11 +47,11 @@ fault_shows_nothing : (log : List Event) → shown_bytes 0 (fault_events 0 log) 
 fault_shows_nothing log = elim (has_broken 0 log) as (λ b. shown_bytes 0 (if b then [] else Broke 0 ∷ []) ≡ []) [ true ↦ refl | false ↦ refl ]
 
 -- before the first piece
-pub showing_all : (bytes : List ℕ) (log : Option (List Event)) → Grows (Showing bytes bytes) log log
-showing_all bytes log = grows_none (Showing bytes bytes) log (record { quiet = quiet_none; shown = refl })
+pub showing_all : (bytes : List ℕ) (log : Option (List Event)) → Grows (HasShown bytes bytes) log log
+showing_all bytes log = grows_none (HasShown bytes bytes) log (record { quiet = quiet_none; shown = refl })
 
-took : (bytes rest : List ℕ) (n : ℕ) (x : List Event) → Showing bytes rest x → Showing bytes (drop n rest) (x ++ Showed 0 (take n rest) ∷ [])
-took bytes rest n x so_far = record {
+takes_more : (bytes rest : List ℕ) (n : ℕ) (x : List Event) → HasShown bytes rest x → HasShown bytes (drop n rest) (x ++ Showed 0 (take n rest) ∷ [])
+takes_more bytes rest n x so_far = record {
   quiet = quiet_then x (Showed 0 (take n rest) ∷ []) so_far.quiet (quiet_one (Showed 0 (take n rest)) refl refl refl);
   shown =
       ap (λ (l : List ℕ). l ++ drop n rest) (shown_bytes-append 0 x (Showed 0 (take n rest) ∷ []) ∙ ap (λ (l : List ℕ). shown_bytes 0 x ++ l) (append-nil (take n rest)))
@@ -61,13 +61,13 @@ took bytes rest n x so_far = record {
 }
 
 -- a piece was taken
-pub showing_on : (bytes rest : List ℕ) (n : ℕ) (first mid now : Option (List Event)) → Grows (Showing bytes rest) first mid
-    → Adds (show_events 0 rest (Ok (Took n))) mid now → Grows (Showing bytes (drop n rest)) first now
+pub showing_on : (bytes rest : List ℕ) (n : ℕ) (first mid now : Option (List Event)) → Grows (HasShown bytes rest) first mid
+    → Adds (show_events 0 rest (Ok (Took n))) mid now → Grows (HasShown bytes (drop n rest)) first now
 showing_on bytes rest n first mid now =
-    grows_add (show_events 0 rest (Ok (Took n))) (Showing bytes rest) (Showing bytes (drop n rest)) first mid now (λ x log p. took bytes rest n x p)
+    grows_add (show_events 0 rest (Ok (Took n))) (HasShown bytes rest) (HasShown bytes (drop n rest)) first mid now (λ x log p. takes_more bytes rest n x p)
 
-broken : (bytes rest : List ℕ) (x log : List Event) → Showing bytes rest x → ShowsFront bytes (x ++ fault_events 0 log)
-broken bytes rest x log so_far = record {
+showing_broken : (bytes rest : List ℕ) (x log : List Event) → HasShown bytes rest x → ShowsFront bytes (x ++ fault_events 0 log)
+showing_broken bytes rest x log so_far = record {
   quiet = quiet_then x (fault_events 0 log) so_far.quiet (quiet_fault log);
   shown = (
     rest,
@@ -77,18 +77,18 @@ broken bytes rest x log so_far = record {
 }
 
 -- a showing failed
-pub showing_failed : (bytes rest : List ℕ) (first mid now : Option (List Event)) → Grows (Showing bytes rest) first mid
+pub showing_failed : (bytes rest : List ℕ) (first mid now : Option (List Event)) → Grows (HasShown bytes rest) first mid
     → Adds (fault_events 0) mid now → Grows (ShowsFront bytes) first now
-showing_failed bytes rest first mid now = grows_add (fault_events 0) (Showing bytes rest) (ShowsFront bytes) first mid now (λ x log p. broken bytes rest x log p)
+showing_failed bytes rest first mid now = grows_add (fault_events 0) (HasShown bytes rest) (ShowsFront bytes) first mid now (λ x log p. showing_broken bytes rest x log p)
 
 -- nothing is left to show
-pub shown_whole : (bytes rest : List ℕ) (first now : Option (List Event)) → rest ≡ [] → Grows (Showing bytes rest) first now → Grows (ShowsWhole bytes) first now
-shown_whole bytes rest first now none = grows_weaker (Showing bytes rest) (ShowsWhole bytes) first now
+pub shown_whole : (bytes rest : List ℕ) (first now : Option (List Event)) → rest ≡ [] → Grows (HasShown bytes rest) first now → Grows (ShowsWhole bytes) first now
+shown_whole bytes rest first now none = grows_weaker (HasShown bytes rest) (ShowsWhole bytes) first now
     (λ x so_far. record { quiet = so_far.quiet; shown = sym (append-nil (shown_bytes 0 x)) ∙ ap (λ (l : List ℕ). shown_bytes 0 x ++ l) (sym none) ∙ so_far.shown })
 
 -- what was shown so far is a front of all
-pub showing_front : (bytes rest : List ℕ) (first now : Option (List Event)) → Grows (Showing bytes rest) first now → Grows (ShowsFront bytes) first now
-showing_front bytes rest first now = grows_weaker (Showing bytes rest) (ShowsFront bytes) first now (λ x so_far. record { quiet = so_far.quiet; shown = (rest, so_far.shown) })
+pub showing_front : (bytes rest : List ℕ) (first now : Option (List Event)) → Grows (HasShown bytes rest) first now → Grows (ShowsFront bytes) first now
+showing_front bytes rest first now = grows_weaker (HasShown bytes rest) (ShowsFront bytes) first now (λ x so_far. record { quiet = so_far.quiet; shown = (rest, so_far.shown) })
 
 pub front_none : (bytes : List ℕ) → ShowsFront bytes []
 front_none bytes = record { quiet = quiet_none; shown = (bytes, refl) }

@@ -15,7 +15,7 @@ use Rattle.ox_model.specs.Stands.{stands}
 use Rattle.ox_model.proofs.CountedMoments.{HasByte, acknowledged_ahead, acknowledged_at_rest, count_ahead, count_at_rest}
 use Rattle.ox_model.proofs.AnswersOfStacks.{replies_joined, replies_length, after_none, replies_line, replies_none, reply_some}
 use Rattle.ox_app.proofs.FeedAnswers.{answers_joined, lines_heard, lines_owing, one_answer, shown_as_before}
-use Rattle.ox_app.proofs.FeedState.{Carried, Owing}
+use Rattle.ox_app.proofs.FeedState.{HasAnswered, OwesAnswer}
 use Rattle.ox_app.specs.Headline.{StopsBefore, Survives}
 use Rattle.ox_app.specs.Show.{ShowsFront}
 
@@ -87,7 +87,7 @@ module _ (first : Stack) where
       }
 
   -- no further line is carried out, as memory ran out
-  pub stops_hearing : (lines lines' : Feed) (stack : Stack) (x y : List Event) (files : Files) → Carried first lines stack x → Hears lines lines' y
+  pub stops_hearing : (lines lines' : Feed) (stack : Stack) (x y : List Event) (files : Files) → HasAnswered first lines stack x → Hears lines lines' y
       → stands files ≡ Ok stack → StopsBefore (replies_on first) (after_on first) files (x ++ y)
   stops_hearing lines lines' stack x y files carried hears stood =
       stops_at carried.done (lines_from lines (heard_bytes 0 y) (has_ended 0 (x ++ y))) (x ++ y) files
@@ -132,14 +132,14 @@ module _ (first : Stack) where
       }
 
   -- between two lines, and while the next one is heard
-  pub survives_rest : (lines : Feed) (stack : Stack) (x y : List Event) (files : Files) → Carried first lines stack x → Listens lines y
+  pub survives_rest : (lines : Feed) (stack : Stack) (x y : List Event) (files : Files) → HasAnswered first lines stack x → Listens lines y
       → stands files ≡ Ok stack → Survives (replies_on first) (after_on first) (x ++ y) files
   survives_rest lines stack x y files carried listens stood =
       survives_at carried.done (lines_from lines (heard_bytes 0 y) (has_ended 0 (x ++ y))) (x ++ y) files (lines_heard first lines stack x y listens carried)
       (shown_as_before x y listens.only ∙ carried.said) (stood ∙ ap (λ (s : Stack). Ok s) carried.leads)
 
   -- a line is carried out, and a front of its answer is shown
-  pub survives_owing : (answer : List ℕ) (lines : Feed) (stack : Stack) (x z : List Event) (files : Files) → Owing first answer lines stack x → ShowsFront answer z
+  pub survives_owing : (answer : List ℕ) (lines : Feed) (stack : Stack) (x z : List Event) (files : Files) → OwesAnswer first answer lines stack x → ShowsFront answer z
       → stands files ≡ Ok stack → Survives (replies_on first) (after_on first) (x ++ z) files
   survives_owing answer lines stack x z files owed shows stood =
       survives_past owed.done owed.line (lines_from lines [] (has_ended 0 x)) (shown_bytes 0 z) shows.shown.0 (x ++ z) files (lines_owing first answer lines stack x z shows.quiet owed)

@@ -1,20 +1,19 @@
 -- A run over a feed, part by part.
-use Rattle.std.specs.Prelude.{◌≡◌, ℕ, List, [], ◌∷◌, ◌++◌, length, Bool, Option, Some, None}
+use Rattle.std.specs.Prelude.{◌≡◌, ℕ, List, Option, Some, None}
 use Rattle.std.specs.Prelude.{Result, Ok, Err, IfOk}
-use Rattle.std.specs.List.{concat}
-use Rattle.ox_outside.specs.Event.{Event, heard_bytes, shown_bytes, has_ended}
-use Rattle.ox_feed.specs.Feed.{Feed, FeedLine, text, too_long, GivesLine, Hears, IsDone, MayCome}
-use Rattle.ox_feed.specs.Feed.{lines_from, lines_of}
+use Rattle.ox_outside.specs.Event.{Event, heard_bytes}
+use Rattle.ox_feed.specs.Feed.{Feed, FeedLine, text, too_long, GivesLine, Hears, IsDone}
+use Rattle.ox_feed.specs.declared.command.Command.{Command}
 use Rattle.ox_feed.specs.declared.lines.Line.{Line}
 use Rattle.ox_feed.specs.declared.lines.Line.TheVariants.{Text, Long, End}
 use Rattle.ox_feed.specs.declared.lines.FeedFault.{FeedFault}
 use Rattle.ox_feed.specs.declared.lines.FeedFault.TheVariants.{HearFault as FeedHearFault}
 use Rattle.ox_feed.specs.declared.lines.FeedFault.TheVariants.{TooMuch as FeedTooMuch}
 use Rattle.ox_feed.specs.declared.lines.FeedFault.TheVariants.{Memory as FeedMemory}
-use Rattle.ox_model.specs.Replies.{after_turn, after_on, index_on, replies_on, reply_by}
-use Rattle.ox_model.specs.Stack.{Stack, turn_on}
-use Rattle.ox_model.specs.Replies.{ok_line}
+use Rattle.ox_model.specs.Replies.{after_turn, index_on, ok_line, reply_by}
+use Rattle.ox_model.specs.Stack.{Stack, stack_after, turn_on}
 use Rattle.ox_rules.specs.Text.{refusal_line}
+use Rattle.ox_rules.specs.declared.refusal.Refusal.{Refusal}
 use Rattle.ox_store.specs.Store.{stack_with}
 use Rattle.ox_index.specs.declared.live.Live.{Live}
 use Rattle.ox_index.specs.declared.fault.ConnectFault.{ConnectFault}
@@ -30,12 +29,25 @@ fold_depth = 1000
 abbrev pub stack_in : Live → Stack
 stack_in live = stack_with fold_depth live
 
+-- what a command, or a refusal, makes of a stack
+abbrev pub turn_by : Stack → Result Command Refusal → Result Stack Refusal
+turn_by stack (Ok command) = stack_after stack command
+turn_by stack (Err refusal) = Err refusal
+
+-- the command that a line asks for, or why it is refused: what decides its turn on every stack. The
+-- end asks for nothing.
+abbrev pub AsksFor : Line → Option (Result Command Refusal) → Type 0
+AsksFor (Text line) (Some asked) = (stack : Stack) → turn_on stack (text line) ≡ turn_by stack asked
+AsksFor Long (Some asked) = (stack : Stack) → turn_on stack too_long ≡ turn_by stack asked
+AsksFor End (Some asked) = ⊥
+AsksFor line None = line ≡ End
+
 -- a command was carried out, was refused, or found no memory
-abbrev pub Obeys : Stack → List ℕ → Result (Unit {0}) ConnectFault → Stack → Type 0
-Obeys stack line (Ok done) new = turn_on stack (text line) ≡ Ok new
-Obeys stack line (Err (Refused refusal)) new =
-    (turn_on stack (text line) ≡ Err refusal) × (new ≡ stack)
-Obeys stack line (Err NoMemory) new = new ≡ stack
+abbrev pub Obeys : Stack → Command → Result (Unit {0}) ConnectFault → Stack → Type 0
+Obeys stack command (Ok done) new = stack_after stack command ≡ Ok new
+Obeys stack command (Err (Refused refusal)) new =
+    (stack_after stack command ≡ Err refusal) × (new ≡ stack)
+Obeys stack command (Err NoMemory) new = new ≡ stack
 
 -- the line that answers
 abbrev pub IsAnswer : Result (Unit {0}) ConnectFault → Stack → List ℕ → Type 0
@@ -77,9 +89,9 @@ pub record LineDone {C : Type 0} (comes : C → List ℕ → Type 0) (lines : Fe
   pub came : IfOk result (λ what. comes what (heard_bytes 0 events))
 
 -- one line is heard and answered
-abbrev pub Answered : Feed → Stack → Result (Option (List ℕ)) Stop → Feed → Stack → List Event
+abbrev pub AnswersNext : Feed → Stack → Result (Option (List ℕ)) Stop → Feed → Stack → List Event
     → Type 0
-Answered lines stack result lines' stack' =
+AnswersNext lines stack result lines' stack' =
     LineDone (λ answer heard. Comes answer lines stack heard lines' stack') lines result lines'
 
 -- why a run stops where its lines stop

@@ -6,13 +6,14 @@ use Rattle.ox_outside.specs.Log.{Grows}
 use Rattle.ox_outside.specs.declared.site.Site.{Ghosts as Meanings}
 use Rattle.ox_sat.specs.declared.profiles.ProfileName.{ProfileName}
 use Rattle.ox_model.specs.Stands.{stands}
+use Rattle.ox_rules.specs.Text.{ok_text}
 use Rattle.ox_store.specs.Make.{made_stack}
 use Rattle.ox_gated.specs.Tail.{IsSettled}
 use Rattle.ox_outside.specs.Runs.{LeavesOnly}
 
--- the line where a store was made
+-- the line where a store was made: that of an accepted command which leaves no block
 abbrev pub made_line : List ℕ
-made_line = codes "ok empty\n"
+made_line = ok_text []
 
 -- the line where a file isn't empty
 abbrev pub not_empty_line : List ℕ

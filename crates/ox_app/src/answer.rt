@@ -3,21 +3,20 @@
 ghost use Rattle.std.specs.Prelude.{◌≡◌, IfOk};
 ghost use Rattle.ox_app.specs.Fold.{AnswersLine, IsAnswer, Obeys, stack_in};
 
+use crate::line::asked_by;
 use ox_bytes::{Bytes, Memory};
-use ox_feed::{Command, Line, SyntaxFault, command_of};
+use ox_feed::{Command, Line};
 use ox_index::{ConnectFault, Live};
 use ox_model::Refusal;
 use std::alloc::Global;
 
-// Carries out the command of a line.
-fn obey(alloc: Global, live: &mut Live, line: &[u8]) -> Result<(), ConnectFault>
-    ensures { Obeys (stack_in live.old) line.now result (stack_in live.new) }
+// Carries out a command.
+fn obey(live: &mut Live, command: &Command) -> Result<(), ConnectFault>
+    ensures { Obeys (stack_in live.old) command.now result (stack_in live.new) }
 {
-    match command_of(alloc, line) {
-        Ok(Command::Connect(block)) => live.connect(block.as_slice()),
-        Ok(Command::Disconnect) => Err(ConnectFault::Refused(Refusal::Depth)),
-        Err(SyntaxFault::Syntax) => Err(ConnectFault::Refused(Refusal::Syntax)),
-        Err(SyntaxFault::Memory) => Err(ConnectFault::Memory),
+    match command {
+        Command::Connect(block) => live.connect(block.as_slice()),
+        Command::Disconnect => Err(ConnectFault::Refused(Refusal::Depth)),
     }
 }
 
@@ -34,16 +33,16 @@ fn answer_to(alloc: Global, outcome: Result<(), ConnectFault>, live: &Live) -> R
 
 /// Carries out a line and answers it; `None` at the end of the feed. After `Memory` the command may
 /// have been carried out, without an answer.
-pub fn answer(alloc: Global, live: &mut Live, line: Line) -> Result<Option<Bytes>, Memory>
-    ensures { IfOk result
-        (λ answer. AnswersLine line (stack_in live.old) answer (stack_in live.new)) }
+pub fn answer(alloc: Global, live: &mut Live, line: &Line) -> Result<Option<Bytes>, Memory>
+    ensures { IfOk result (λ answer.
+        AnswersLine line.now (stack_in live.old) answer (stack_in live.new)) }
 {
-    match line {
-        Line::Text(text) => {
-            let outcome = obey(alloc, live, text.as_slice());
+    match asked_by(alloc, line)? {
+        Some(Ok(command)) => {
+            let outcome = obey(live, &command);
             Ok(Some(answer_to(alloc, outcome, live)?))
         }
-        Line::Long => Ok(Some(Refusal::TooLong.line(alloc)?)),
-        Line::End => Ok(None),
+        Some(Err(refusal)) => Ok(Some(refusal.line(alloc)?)),
+        None => Ok(None),
     }
 }

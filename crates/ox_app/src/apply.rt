@@ -7,7 +7,7 @@ ghost use Rattle.ox_feed.specs.Feed.{IsTooMuch, feed_limit, bytes_left};
 ghost use Rattle.ox_model.specs.Replies.{after_on, replies_on};
 ghost use Rattle.ox_model.specs.Stack.{Stack};
 ghost use Rattle.ox_model.specs.Stands.{Misfit, stands};
-ghost use Rattle.ox_app.specs.Apply.{CarriedOn, DuringLine};
+ghost use Rattle.ox_app.specs.Apply.{CarriesOutNext, DuringLine};
 ghost use Rattle.ox_app.specs.Headline.{AddsNoImage, Leaves, RunsFeed, StopsBefore, Survives};
 ghost use Rattle.ox_outside.specs.Runs.{Calls, LeavesOnly};
 ghost use Rattle.ox_gated.specs.Tail.{Holds};
@@ -16,7 +16,7 @@ ghost use Rattle.ox_app.specs.Status.{IsApplyStatus, IsUnopened, status_of};
 ghost use Rattle.ox_app.specs.Unopened.{SaysNotStore};
 ghost use Rattle.ox_app.specs.declared.status.Status.TheVariants as ends;
 
-use crate::carry::{Carried, carry_out};
+use crate::carry::{CarriedLine, carry_out};
 use crate::show::show_all;
 use crate::status::Status;
 use crate::stop::{Stop, status};
@@ -33,10 +33,10 @@ fn next_carried<S: Site>(
     lines: &mut Lines,
     store: Store,
     site: &mut S,
-) -> Result<Option<Carried>, Stop>
+) -> Result<Option<CarriedLine>, Stop>
     requires holds { IsTrue (S.told site.old) → Holds S.Site store.tail site.old }
     requires few { store.commands < 2 ^ 64 - 1 }
-    ensures told { Grows (CarriedOn lines.old store.stack result lines.new)
+    ensures told { Grows (CarriesOutNext lines.old store.stack result lines.new)
         (S.log site.old) (S.log site.new) }
     ensures during { IsTrue (S.told site.old) → stands (S.seen site.old) ≡ Ok store.stack
         → LeavesOnly S.Site site.old site.new (λ r.

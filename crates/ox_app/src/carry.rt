@@ -1,22 +1,23 @@
 //! One line of a feed, carried out by a store and answered.
 
-ghost use Rattle.std.specs.Prelude.{◌≡◌, ◌⊎◌, ◌+◌, ◌-◌, ◌<◌, ◌≤◌, ◌^◌, ◌++◌, [], Some, Ok};
+ghost use Rattle.std.specs.Prelude.{◌≡◌, ◌⊎◌, ◌+◌, ◌-◌, ◌<◌, ◌≤◌, ◌^◌, Some, Ok};
 ghost use Rattle.std.specs.Prelude.{IsTrue, IfOk, IfErr, IfSome, IsErrOf};
 ghost use Rattle.ox_outside.specs.Runs.{Calls, LeavesOnly};
 ghost use Rattle.ox_gated.specs.Tail.{Holds};
 ghost use Rattle.ox_model.specs.Replies.{after_turn, index_on, reply_by};
 ghost use Rattle.ox_model.specs.Stack.{stack_after};
 ghost use Rattle.ox_model.specs.Stands.{stands};
-ghost use Rattle.ox_rules.specs.Text.{block_line, refusal_line};
+ghost use Rattle.ox_rules.specs.Text.{refusal_line};
 ghost use Rattle.ox_store.specs.Ready.{StandsForEither};
-ghost use Rattle.ox_app.specs.Apply.{CarriesOut, after_line, tip_line};
+ghost use Rattle.ox_app.specs.Apply.{CarriesOut, after_line};
 ghost use Rattle.ox_app.specs.Show.{DiskFails};
 ghost use Rattle.ox_app.specs.declared.stop.Stop.TheVariants as stops;
 
+use crate::line::asked_by;
 use crate::stop::Stop;
-use itoa::Buffer;
 use ox_bytes::{Bytes, Memory, Room};
-use ox_feed::{Command, Line, SyntaxFault, command_of};
+use ox_feed::{Command, Line};
+use ox_index::{LONGEST_OK, ok_line_in};
 use ox_model::Refusal;
 use ox_outside::Site;
 use ox_store::{Kept, Store, Why};
@@ -24,56 +25,20 @@ use std::alloc::Global;
 
 /// A line that was carried out: the store after it, and its answer.
 #[derive(Drop)]
-pub struct Carried {
+pub struct CarriedLine {
     /// The store as the line leaves it.
     pub store: Store,
     /// The line that answers, with its line feed.
     pub answer: Bytes,
 }
 
-// How many bytes the line of an accepted command has at most: `ok`, a height of at most ten digits,
-// 64 digits of a hash, two spaces and a line feed.
-const LONGEST_OK: usize = 79;
-
-// Puts the line of a newest block.
-#[tactic(auto, unfolding(ox_rules::specs::Text::block_line, ox_rules::specs::Text::hash_text))]
-fn put_block_line(room: &mut Room, height: u32, hash: &[u8; 32])
-    requires { room.old.spare ≡ 79 }
-    ensures { room.new.filled ≡ room.old.filled ++ block_line height hash.now }
-{
-    let mut reversed = *hash;
-    reversed.reverse();
-    let mut digits = [0; 64];
-    let _ = hex::encode_to_slice(&reversed[..], &mut digits);
-    room.put(b"ok ");
-    room.put(Buffer::new().format(height).as_bytes());
-    room.put(b" ");
-    room.put(&digits);
-    room.put(b"\n");
-}
-
-// The line of an accepted command, by the newest block's height and hash, in memory that was taken
-// before.
-fn ok_line_in(room: Room, tip: Option<(u32, [u8; 32])>) -> Bytes
-    requires empty { room.filled ≡ [] }
-    requires spare { room.spare ≡ 79 }
-    ensures { result ≡ tip_line tip }
-{
-    let mut room = room;
-    match tip {
-        Some(newest) => put_block_line(&mut room, newest.0, &newest.1),
-        None => room.put(b"ok empty\n"),
-    }
-    room.into_bytes()
-}
-
 // The store as it is, and the line of a refusal.
-fn refuse(alloc: Global, store: Store, refusal: Refusal) -> Result<Carried, Memory>
+fn refuse(alloc: Global, store: Store, refusal: Refusal) -> Result<CarriedLine, Memory>
     ensures store { IfOk result (λ carried. carried.store ≡ store) }
     ensures answer { IfOk result (λ carried. carried.answer ≡ refusal_line refusal) }
 {
     let answer = refusal.line(alloc)?;
-    Ok(Carried { store, answer })
+    Ok(CarriedLine { store, answer })
 }
 
 // Carries out a command. The memory of its answer is taken first.
@@ -82,7 +47,7 @@ fn carry_command<S: Site>(
     store: Store,
     command: &Command,
     site: &mut S,
-) -> Result<Carried, Stop>
+) -> Result<CarriedLine, Stop>
     requires holds { IsTrue (S.told site.old) → Holds S.Site store.tail site.old }
     requires few { store.commands < 2 ^ 64 - 1 }
     ensures answer { IfOk result (λ carried.
@@ -110,7 +75,7 @@ fn carry_command<S: Site>(
         Ok(ready) => {
             let answer = ok_line_in(room, ready.tip());
             let store = ready.commit(site)?;
-            Ok(Carried { store, answer })
+            Ok(CarriedLine { store, answer })
         }
         Err(Kept { store, why }) => match why {
             Why::Refused(refusal) => Ok(refuse(alloc, store, refusal)?),
@@ -128,7 +93,7 @@ pub fn carry_out<S: Site>(
     store: Store,
     line: &Line,
     site: &mut S,
-) -> Result<Option<Carried>, Stop>
+) -> Result<Option<CarriedLine>, Stop>
     requires holds { IsTrue (S.told site.old) → Holds S.Site store.tail site.old }
     requires few { store.commands < 2 ^ 64 - 1 }
     ensures carried { IfOk result (λ carried. CarriesOut line.now store.stack carried) }
@@ -149,14 +114,9 @@ pub fn carry_out<S: Site>(
     ensures failed { IsErrOf result Stop.DiskFault → DiskFails S.Site site.old site.new }
     ensures calls { Calls S.Site site.old site.new }
 {
-    let text = match line {
-        Line::Text(text) => text,
-        Line::Long => return Ok(Some(refuse(alloc, store, Refusal::TooLong)?)),
-        Line::End => return Ok(None),
-    };
-    match command_of(alloc, text.as_slice()) {
-        Ok(command) => Ok(Some(carry_command(alloc, store, &command, site)?)),
-        Err(SyntaxFault::Syntax) => Ok(Some(refuse(alloc, store, Refusal::Syntax)?)),
-        Err(SyntaxFault::Memory) => Err(Stop::Memory),
+    match asked_by(alloc, line)? {
+        Some(Ok(command)) => Ok(Some(carry_command(alloc, store, &command, site)?)),
+        Some(Err(refusal)) => Ok(Some(refuse(alloc, store, refusal)?)),
+        None => Ok(None),
     }
 }

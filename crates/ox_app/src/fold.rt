@@ -6,7 +6,7 @@ ghost use Rattle.ox_feed.specs.Feed.{IsTooMuch, Listens, feed_limit, bytes_left}
 ghost use Rattle.ox_model.specs.Machine.{empty_machine, stack_of};
 ghost use Rattle.ox_model.specs.Replies.{replies_on};
 ghost use Rattle.ox_sat.specs.Profiles.{IsProfile};
-ghost use Rattle.ox_app.specs.Fold.{Answered, Anything, HasAnswer, fold_depth, stack_in};
+ghost use Rattle.ox_app.specs.Fold.{AnswersNext, Anything, HasAnswer, fold_depth, stack_in};
 ghost use Rattle.ox_app.specs.Headline.{RunsFeed};
 ghost use Rattle.ox_outside.specs.Runs.{OnlyTalks};
 ghost use Rattle.ox_app.specs.Show.{HearFails, ShowFails};
@@ -29,7 +29,7 @@ fn next_answer<S: Site>(
     live: &mut Live,
     site: &mut S,
 ) -> Result<Option<Bytes>, Stop>
-    ensures told { Grows (Answered lines.old
+    ensures told { Grows (AnswersNext lines.old
         (stack_in live.old) result lines.new (stack_in live.new))
         (S.log site.old) (S.log site.new) }
     ensures hear_fault { IsErrOf result Stop.HearFault → HearFails S.Site site.old site.new }
@@ -41,7 +41,7 @@ fn next_answer<S: Site>(
     ensures talks { OnlyTalks S.Site (Listens lines.old) site.old site.new }
 {
     let line = lines.next(site)?;
-    Ok(answer(alloc, live, line)?)
+    Ok(answer(alloc, live, &line)?)
 }
 
 /// Reads the feed of channel 0 to its end, and shows the answer to each line. The chain counts by

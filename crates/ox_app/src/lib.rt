@@ -6,6 +6,7 @@ mod apply;
 mod carry;
 mod fold;
 mod init;
+mod line;
 mod program;
 mod query;
 mod show;

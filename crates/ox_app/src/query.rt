@@ -5,7 +5,6 @@ ghost use Rattle.serde_json.specs.View.{view};
 ghost use Rattle.ox_index.specs.Live.{index_in};
 ghost use Rattle.ox_model.specs.Stack.{Stack};
 ghost use Rattle.ox_model.specs.Stands.{Misfit, stands};
-ghost use Rattle.ox_sat.specs.Profiles.{name_at, profile_word};
 ghost use Rattle.ox_model.specs.Status.{data_at, query_body, status_data, tip_data};
 ghost use Rattle.ox_app.specs.Headline.{AddsNoImage};
 ghost use Rattle.ox_outside.specs.Runs.{Calls};
@@ -20,20 +19,10 @@ use crate::unopened::explain;
 use ox_index::Live;
 use ox_model::{View, hash_text};
 use ox_outside::{Failed, Site};
+use ox_sat::ProfileName;
 use ox_store::Store;
 use serde_json::{Value, json};
 use std::alloc::{AllocError, Global};
-
-// The word of a profile, by its byte.
-fn word_of(byte: u8) -> &'static str
-    ensures { result.now ≡ profile_word (name_at byte) }
-{
-    match byte {
-        0 => "mainnet",
-        1 => "regtest",
-        _ => "lab",
-    }
-}
 
 // The newest block's hash, or null.
 fn tip_value(alloc: Global, live: &Live) -> Result<Value, AllocError>
@@ -60,7 +49,7 @@ fn status_value(alloc: Global, store: &Store) -> Result<Value, AllocError>
         "blocks": live.blocks(),
         "depth": about.depth,
         "kept": about.kept,
-        "profile": word_of(live.profile().byte),
+        "profile": ProfileName::of_byte(live.profile().byte).word(),
         "tip": tip,
     })
 }

@@ -1,8 +1,6 @@
 //! The subcommands.
 
-ghost use Rattle.std.specs.Prelude.{◌≡◌, ◌≢◌, ℕ, Some, IfSome, IfNone, decimal};
-ghost use Rattle.ox_sat.specs.Profiles.{profile_word};
-ghost use Rattle.ox_sat.specs.declared.profiles.ProfileName.{ProfileName};
+ghost use Rattle.std.specs.Prelude.{◌≡◌, ◌≢◌, ℕ, IfSome, IfNone, decimal};
 ghost use Rattle.ox_app.specs.Subcommands.{IsDepth, IsSubcommand};
 
 use ox_bytes::Bytes;
@@ -21,19 +19,6 @@ pub enum Subcommand<'a> {
     Query(&'a [u8]),
     /// The words are no subcommand.
     Unknown,
-}
-
-// The profile that a word names.
-fn profile_in(word: &[u8]) -> Option<ProfileName>
-    ensures found { IfSome result (λ name. word.now ≡ profile_word name) }
-    ensures only { (name : ProfileName) → word.now ≡ profile_word name → result ≡ Some name }
-{
-    match word {
-        b"mainnet" => Some(ProfileName::Mainnet),
-        b"regtest" => Some(ProfileName::Regtest),
-        b"lab" => Some(ProfileName::Lab),
-        _ => None,
-    }
 }
 
 // The depth that a text writes.
@@ -67,14 +52,17 @@ pub fn subcommand_of(words: &[Bytes]) -> Subcommand<'_>
         [first, path] if first.as_slice() == b"query".as_slice() => Subcommand::Query(
             path.as_slice(),
         ),
-        [first, profile] if first.as_slice() == b"fold".as_slice() => match profile_in(
+        [first, profile] if first.as_slice() == b"fold".as_slice() => match ProfileName::of_word(
             profile.as_slice(),
         ) {
             Some(name) => Subcommand::Fold(name),
             None => Subcommand::Unknown,
         },
         [first, profile, depth] if first.as_slice() == b"init".as_slice() => {
-            match (profile_in(profile.as_slice()), depth_in(depth.as_slice())) {
+            match (
+                ProfileName::of_word(profile.as_slice()),
+                depth_in(depth.as_slice()),
+            ) {
                 (Some(name), Some(depth)) => Subcommand::Init(name, depth),
                 _ => Subcommand::Unknown,
             }

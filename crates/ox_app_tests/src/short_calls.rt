@@ -94,18 +94,19 @@ fn an_apply_shows_and_writes_what_it_does_over_whole_calls(rt: HostRuntime) {
 }
 
 // The answers of the first so many of the three blocks, each a line of 70 bytes.
-fn first_answers(blocks: usize) -> &'static [u8] {
-    THREE_OK.get(..blocks * 70).unwrap_or(b"")
+fn first_answers(blocks: u8) -> &'static [u8] {
+    THREE_OK.get(..usize::from(blocks) * 70).unwrap_or(b"")
 }
 
 // Whether an `apply` of three blocks ends with status 4 at the write behind so many whole ones,
-// and what is read then has so many blocks and leads on to all three. Each block is two writes: its
-// record behind a closed gate, of which the portion is cut off, and the one byte of the gate, which
-// is a portion: the file then has the block, whose answer wasn't shown.
+// and what is read then has the blocks and leads on to all three. Each block is two writes: its
+// record behind a closed gate, of which a portion is left, and the one byte of its gate, of which
+// the portion is all. So where a gate's write fails the files have the block too, whose answer
+// wasn't shown.
 fn cut_at(rt: &impl Abort, alloc: Global, portion: Portion, writes: u8, feed: &[u8]) -> bool {
     let inner = store_hearing(rt, alloc, feed);
     let mut site = short_site(inner, portion, u64::from(writes));
-    let shown = first_answers(usize::from(writes / 2));
+    let shown = first_answers(writes / 2);
     let blocks = u64::from(writes.div_ceil(2));
     ends_so(rt, alloc, &mut site, &[b"apply"], 4, shown)
         && site.cut_writes == 1

@@ -3,7 +3,7 @@ use Rattle.ox_outside.specs.Log.{Grows}
 use Rattle.ox_model.specs.Replies.{after_on, replies_on}
 use Rattle.ox_model.specs.Stack.{Stack}
 use Rattle.ox_model.specs.Stands.{stands}
-use Rattle.ox_app.proofs.Images.{grows_from, looked_then_talked, memory_opens, opened_then_followed, same_stack, stopped_by_memory, stops_unopened, unopened_yet, unsaid}
+use Rattle.ox_app.proofs.Images.{grows_from, looked_then_talked, memory_opens, opened_then_followed, same_stack, stopped_by_memory, stops_unopened, unopened_yet, says_nothing}
 use Rattle.ox_app.specs.Headline.{Leaves, StopsBefore}
 use Rattle.ox_outside.specs.Runs.{LeavesOnly}
 use Rattle.ox_app.proofs.apply.apply.Goals as goal
@@ -31,7 +31,7 @@ returns-in-Err-clause-no_store g c is =
 
 pub returns-in-Err-clause-unsaid : goal.returns-in-Err-clause-unsaid
 returns-in-Err-clause-unsaid g c told misfit stood isnt =
-    unsaid g.S.Site c.in-Err.fault c.explain.result c.open.new.site c.explain.new.site c.explain.ensures.says isnt ∙ c.open.ensures.looks.nothing.as_logged
+    says_nothing g.S.Site c.in-Err.fault c.explain.result c.open.new.site c.explain.new.site c.explain.ensures.says isnt ∙ c.open.ensures.looks.nothing.as_logged
 
 pub returns-in-Ok-clause-out_of_memory : goal.returns-in-Ok-clause-out_of_memory
 returns-in-Ok-clause-out_of_memory g c told stack stood is =

@@ -6,7 +6,7 @@ use Rattle.ox_feed.specs.Feed.{Feed, bytes_left}
 use Rattle.ox_app.proofs.FeedAnswers.{carried_none, grows_broken, grows_carried}
 use Rattle.ox_app.proofs.Crashes.{grows_owing_store, grows_stopped_store, grows_stops, same_stop, grows_whole_store, holds_on, stands_on, survived_line, survived_none, survived_shown}
 use Rattle.ox_app.specs.declared.stop.Stop.TheVariants.{Memory}
-use Rattle.ox_app.proofs.FeedState.{Carried}
+use Rattle.ox_app.proofs.FeedState.{HasAnswered}
 use Rattle.ox_outside.proofs.Calls.{calls_then, no_call}
 use Rattle.ox_app.proofs.apply.follow.Goals as goal
 
@@ -14,7 +14,7 @@ pub loop-lines-init : goal.loop-lines-init
 loop-lines-init g c =
     let first = c.args.store.stack in
     let log = g.S.Site.log c.args.site.now in (
-      subst (λ (l : Feed). Grows (Carried first l first) log log) (sym c.new-lines.ensures) (carried_none first log),
+      subst (λ (l : Feed). Grows (HasAnswered first l first) log log) (sym c.new-lines.ensures) (carried_none first log),
       no_call g.S.Site c.args.site.now,
       c.requires.holds,
       λ told stood. stood,

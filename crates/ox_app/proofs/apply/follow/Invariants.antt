@@ -4,7 +4,7 @@ use Rattle.ox_outside.specs.Log.{Grows}
 use Rattle.ox_feed.specs.Feed.{feed_limit, bytes_left}
 use Rattle.ox_model.specs.Replies.{after_on, replies_on}
 use Rattle.ox_model.specs.Stands.{stands}
-use Rattle.ox_app.proofs.FeedState.{Carried}
+use Rattle.ox_app.proofs.FeedState.{HasAnswered}
 use Rattle.ox_app.specs.Headline.{Survives}
 use Rattle.ox_outside.specs.Runs.{Calls, LeavesOnly}
 use Rattle.ox_gated.specs.Tail.{Holds}
@@ -12,7 +12,7 @@ use Rattle.ox_app.proofs.apply.follow.Given as goal
 
 abbrev pub invariant-loop-lines : goal.invariant-loop-lines
 invariant-loop-lines g l =
-    Grows (Carried l.fn.store.stack l.lines l.store.stack) (g.S.Site.log l.initial.site) (g.S.Site.log l.site)
+    Grows (HasAnswered l.fn.store.stack l.lines l.store.stack) (g.S.Site.log l.initial.site) (g.S.Site.log l.site)
     × Calls g.S.Site l.initial.site l.site
     × (IsTrue (g.S.Site.told l.initial.site) → Holds g.S.Site l.store.tail l.site)
     × (IsTrue (g.S.Site.told l.initial.site) → stands (g.S.Site.seen l.initial.site) ≡ Ok l.fn.store.stack → stands (g.S.Site.seen l.site) ≡ Ok l.store.stack)

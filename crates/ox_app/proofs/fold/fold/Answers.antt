@@ -8,7 +8,7 @@ use Rattle.ox_model.specs.Stack.{Stack}
 use Rattle.ox_app.specs.Fold.{Anything, fold_depth, stack_in}
 use Rattle.ox_app.proofs.FeedAnswers.{carried_none, grows_broken, grows_carried, grows_owing, grows_stopped, grows_whole, stack_begun}
 use Rattle.ox_app.proofs.TalksOn.{talks_on}
-use Rattle.ox_app.proofs.FeedState.{Carried}
+use Rattle.ox_app.proofs.FeedState.{HasAnswered}
 use Rattle.ox_outside.proofs.OnlyTalks.{talks_none}
 use Rattle.ox_app.proofs.fold.fold.Goals as goal
 
@@ -16,8 +16,8 @@ pub loop-live-init : goal.loop-live-init
 loop-live-init g c =
     let first = stack_of (empty_machine c.args.p.now fold_depth) in
     let log = g.S.Site.log c.args.site.now in (
-      subst (λ (l : Feed). Grows (Carried first l (stack_in c.new-live.result)) log log) (sym c.new-lines.ensures)
-          (subst (λ (s : Stack). Grows (Carried first new_feed s) log log) (sym (stack_begun c.new-live.result c.args.p.now c.new-live.ensures.profile c.new-live.ensures.index)) (carried_none first log)),
+      subst (λ (l : Feed). Grows (HasAnswered first l (stack_in c.new-live.result)) log log) (sym c.new-lines.ensures)
+          (subst (λ (s : Stack). Grows (HasAnswered first new_feed s) log log) (sym (stack_begun c.new-live.result c.args.p.now c.new-live.ensures.profile c.new-live.ensures.index)) (carried_none first log)),
       talks_none g.S.Site g.met.S.Site.only_now g.met.S.Site.logs_now Anything c.args.site.now tt,
     )
 

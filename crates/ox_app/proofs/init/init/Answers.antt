@@ -1,6 +1,6 @@
 use Rattle.std.proofs.Common.{◌∙◌, ap, inl, inr}
 use Rattle.std.specs.Prelude.{Err, Ok}
-use Rattle.ox_app.proofs.Images.{looked, looked_then_talked, made_then_talked}
+use Rattle.ox_app.proofs.Images.{only_looked, looked_then_talked, made_then_talked}
 use Rattle.ox_app.proofs.init.init.Goals as goal
 
 pub returns-in-Ok-show_all-clause-made_before : goal.returns-in-Ok-show_all-clause-made_before
@@ -18,14 +18,14 @@ returns-in-Err-NotEmpty-clause-spares g c told filled =
     looked_then_talked g.S.Site _ c.args.site.now c.make.new.site c.say.new.site (c.make.ensures.spared told filled) c.say.ensures.talks
 
 pub returns-in-Err-DiskFault-clause-spares : goal.returns-in-Err-DiskFault-clause-spares
-returns-in-Err-DiskFault-clause-spares g c told filled = looked g.S.Site c.args.site.now c.make.new.site (c.make.ensures.spared told filled)
+returns-in-Err-DiskFault-clause-spares g c told filled = only_looked g.S.Site c.args.site.now c.make.new.site (c.make.ensures.spared told filled)
 
 pub returns-clause-spares : goal.returns-clause-spares
-returns-clause-spares g c told filled = looked g.S.Site c.args.site.now c.make.new.site (c.make.ensures.spared told filled)
+returns-clause-spares g c told filled = only_looked g.S.Site c.args.site.now c.make.new.site (c.make.ensures.spared told filled)
 
 pub returns-clause-looks : goal.returns-clause-looks
 returns-clause-looks g c is =
-    looked g.S.Site c.args.site.now c.make.new.site (c.in-Err-Memory.ensures.wrote_nothing (inr (ap Err c.in-Err-Memory.field-0-is)))
+    only_looked g.S.Site c.args.site.now c.make.new.site (c.in-Err-Memory.ensures.wrote_nothing (inr (ap Err c.in-Err-Memory.field-0-is)))
 
 pub returns-in-Err-NotEmpty-clause-looks : goal.returns-in-Err-NotEmpty-clause-looks
 returns-in-Err-NotEmpty-clause-looks g c is =

@@ -1,4 +1,4 @@
-use Rattle.std.proofs.Common.{◌∙◌, ⊎_elim, ℕ, Some, ap, inl, inr, subst, sym}
+use Rattle.std.proofs.Common.{◌∙◌, ⊎_elim, ℕ, ap, inl, subst, sym}
 use Rattle.std.specs.Prelude.{Ok}
 use Rattle.ox_outside.specs.Log.{Grows}
 use Rattle.ox_outside.proofs.Log.{grows_weaker}
@@ -13,7 +13,7 @@ use Rattle.ox_app.specs.Init.{MakesFirst}
 use Rattle.ox_app.specs.Show.{DiskFails, EndsDone, HearFails, ShowFails}
 use Rattle.ox_app.specs.Status.{status_of}
 use Rattle.ox_app.specs.declared.status.Status.{Status}
-use Rattle.ox_app.proofs.FreshIndexing.{apply_refuses, apply_writes, completed, fold_same, grows_alike, grows_stops_alike, init_refuses, init_same, init_writes, leaves_alike, made_same}
+use Rattle.ox_app.proofs.FreshIndexing.{apply_refuses, apply_writes, ends_done, fold_same, grows_alike, grows_stops_alike, init_refuses, init_same, init_writes, leaves_alike, made_same}
 use Rattle.ox_app.proofs.program.run.Goals as goal
 
 pub returns-in-Fold-clause-folds : goal.returns-in-Fold-clause-folds
@@ -66,7 +66,7 @@ pub returns-in-Apply-clause-apply_completes : goal.returns-in-Apply-clause-apply
 returns-in-Apply-clause-apply_completes g c words machine opened no_disk no_hear no_show =
     let feeds = c.apply.ensures.feeds opened.told (stack_of machine) opened.stands_for in
     grows_weaker (RunsFeed (replies_on (stack_of machine)) c.apply.result) (EndsDone c.apply.result) (g.S.Site.log c.args.site.now) (g.S.Site.log c.apply.new.site)
-    (λ events runs. completed (replies_on (stack_of machine)) c.apply.result
+    (λ events runs. ends_done (replies_on (stack_of machine)) c.apply.result
     (DiskFails g.S.Site c.args.site.now c.apply.new.site)
     (HearFails g.S.Site c.args.site.now c.apply.new.site)
     (ShowFails g.S.Site c.args.site.now c.apply.new.site)

@@ -3,7 +3,7 @@ use Rattle.ox_app.specs.declared.status.Status.TheVariants.{Done, Memory}
 use Rattle.ox_outside.specs.Log.{Grows}
 use Rattle.ox_model.specs.Stands.{stands}
 use Rattle.ox_model.specs.Status.{query_body}
-use Rattle.ox_app.proofs.Images.{done_opens, looked_then_talked, memory_opens, memory_undone, reply_none, reply_whole, same_stack, unsaid}
+use Rattle.ox_app.proofs.Images.{done_opens, looked_then_talked, memory_opens, memory_undone, reply_none, reply_whole, same_stack, says_nothing}
 use Rattle.ox_app.specs.Show.{ShowsReply}
 use Rattle.ox_app.proofs.query.query.Goals as goal
 
@@ -36,4 +36,4 @@ returns-clause-looks g c =
 
 pub returns-clause-unsaid : goal.returns-clause-unsaid
 returns-clause-unsaid g c told misfit stood isnt =
-    unsaid g.S.Site c.in-Err.fault c.explain.result c.open.new.site c.explain.new.site c.explain.ensures.says isnt ∙ c.open.ensures.looks.nothing.as_logged
+    says_nothing g.S.Site c.in-Err.fault c.explain.result c.open.new.site c.explain.new.site c.explain.ensures.says isnt ∙ c.open.ensures.looks.nothing.as_logged
