@@ -2,7 +2,7 @@
 //! of what there is, and a write that fails has changed what a read gives.
 
 use crate::tests::{
-    AFTER_BAD_LINES, GENESIS, THREE_OK, code_of, connect, ends, has_blocks, has_shown, joined,
+    AFTER_BAD_LINES, GENESIS, THREE_OK, code_of, connect, ends, has_blocks, has_shown, join_lines,
     leads_on, shown_so_far, site_of, store_hearing, three_lines,
 };
 use ox_memsite::MemSite;
@@ -47,7 +47,7 @@ fn folds(rt: &impl Abort, alloc: Global, portion: Portion, feed: &[u8], answers:
 fn a_fold_shows_the_lines_that_it_shows_over_whole_calls(rt: HostRuntime) {
     let alloc = rt.alloc();
     let first = connect(&rt, alloc, GENESIS);
-    let feed = joined(
+    let feed = join_lines(
         &rt,
         alloc,
         &[b"\nconnect\n", first.as_slice(), b"disconnect"],

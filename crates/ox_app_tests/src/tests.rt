@@ -142,7 +142,7 @@ fn folds(rt: &impl Abort, alloc: Global, profile: &[u8], feed: &[u8], answers: &
 }
 
 // Several lines in a row.
-pub fn joined(rt: &impl Abort, alloc: Global, lines: &[&[u8]]) -> Bytes {
+pub fn join_lines(rt: &impl Abort, alloc: Global, lines: &[&[u8]]) -> Bytes {
     let mut all = Bytes::empty(alloc);
     for line in lines {
         all.append(line).expect(rt, "memory");
@@ -152,11 +152,11 @@ pub fn joined(rt: &impl Abort, alloc: Global, lines: &[&[u8]]) -> Bytes {
 
 // The line of a connect, by the digits of its block.
 pub fn connect(rt: &impl Abort, alloc: Global, digits: &str) -> Bytes {
-    joined(rt, alloc, &[b"connect ", digits.as_bytes(), b"\n"])
+    join_lines(rt, alloc, &[b"connect ", digits.as_bytes(), b"\n"])
 }
 
 // The line of the first block, with one byte of the block changed.
-fn changed(rt: &impl Abort, alloc: Global, at: usize, to: u8) -> Bytes {
+fn changed_block(rt: &impl Abort, alloc: Global, at: usize, to: u8) -> Bytes {
     let mut block = hex::decode(alloc, GENESIS).expect(rt, "digits");
     if let Some(byte) = block.get_mut(at) {
         *byte = to;
@@ -167,7 +167,7 @@ fn changed(rt: &impl Abort, alloc: Global, at: usize, to: u8) -> Bytes {
 
 // Whether a feed of the first block, so changed, has this answer.
 fn is_refused(rt: &impl Abort, alloc: Global, at: usize, to: u8, answer: &[u8]) -> bool {
-    let line = changed(rt, alloc, at, to);
+    let line = changed_block(rt, alloc, at, to);
     folds(rt, alloc, b"regtest", line.as_slice(), answer)
 }
 
@@ -178,9 +178,9 @@ fn each_line_is_answered_by_one(rt: HostRuntime) {
     let line = first.as_slice();
     assert!(rt; folds(&rt, alloc, b"regtest", b"", b""));
     assert!(rt; folds(&rt, alloc, b"regtest", line, OK));
-    let twice = joined(&rt, alloc, &[line, line]);
+    let twice = join_lines(&rt, alloc, &[line, line]);
     assert!(rt; folds(&rt, alloc, b"regtest", twice.as_slice(), TWICE));
-    let bad = joined(&rt, alloc, &[b"\nconnect\n", line, b"disconnect"]);
+    let bad = join_lines(&rt, alloc, &[b"\nconnect\n", line, b"disconnect"]);
     assert!(rt; folds(&rt, alloc, b"regtest", bad.as_slice(), AFTER_BAD_LINES));
 }
 
@@ -202,7 +202,7 @@ fn a_block_that_is_not_taken_in_has_its_refusal(rt: HostRuntime) {
 #[test]
 fn each_profile_begins_with_any_first_block(rt: HostRuntime) {
     let alloc = rt.alloc();
-    let first = joined(&rt, alloc, &[b"connect ", GENESIS.as_bytes()]);
+    let first = join_lines(&rt, alloc, &[b"connect ", GENESIS.as_bytes()]);
     assert!(rt; folds(&rt, alloc, b"mainnet", first.as_slice(), OK));
     assert!(rt; folds(&rt, alloc, b"regtest", first.as_slice(), OK));
     assert!(rt; folds(&rt, alloc, b"lab", first.as_slice(), OK));
@@ -225,7 +225,7 @@ fn a_line_may_have_as_many_bytes_as_the_largest_block(rt: HostRuntime) {
     let longest = zeros(&rt, alloc, 8_000_000);
     let too_long = zeros(&rt, alloc, 8_000_001);
     let lines = [longest.as_slice(), too_long.as_slice(), b"connect \n"];
-    let feed = joined(&rt, alloc, &lines);
+    let feed = join_lines(&rt, alloc, &lines);
     let answers = b"refused 3 80\nrefused 2\nrefused 3 0\n";
     assert!(rt; folds(&rt, alloc, b"regtest", feed.as_slice(), answers));
 }
@@ -370,7 +370,7 @@ pub fn store_hearing(rt: &impl Abort, alloc: Global, feed: &[u8]) -> MemSite {
 // the length 286, the byte of a connect, the block, and a closed gate.
 fn is_record_of_first(rt: &impl Abort, alloc: Global, site: &MemSite) -> bool {
     let head = EMPTY_A.get(..52).unwrap_or("").as_bytes();
-    let digits = joined(
+    let digits = join_lines(
         rt,
         alloc,
         &[head, b"011e01000001", GENESIS.as_bytes(), b"00"],

@@ -50,5 +50,5 @@ pub fn ok_line_in(room: Room, tip: Option<(u32, [u8; 32])>) -> Bytes
         Some(newest) => put_block_line(&mut room, newest.0, &newest.1),
         None => room.put(empty_line()),
     }
-    room.done()
+    room.into_bytes()
 }
