@@ -4,7 +4,8 @@ ghost use Rattle.std.specs.Prelude.{◌≡◌};
 ghost use Rattle.std.specs.Option.{option_copied};
 ghost use Rattle.ox_script.specs.Script.{instruction_of};
 ghost use Rattle.ox_script.specs.Witness.{tapscript};
-ghost use Rattle.ox_etching.specs.Commitment.{commits, commits_by, has_push, is_mature, pushes, some_commits};
+ghost use Rattle.ox_etching.specs.Commitment.{commits, commits_by, has_push, is_mature};
+ghost use Rattle.ox_etching.specs.Commitment.{pushes, some_commits};
 
 use ox_block::{Tx, TxIn, Witness};
 use ox_name::commitment;

@@ -31,7 +31,11 @@ pub struct Marked<K: Ord + Copy, V> {
 impl<K: Ord + Copy, V> Model for Marked<K, V> {
     ghost Value = { Layers K V };
 
-    ghost view = { λ m. record { changes = m.changes.entries; below = m.below.entries; marked = m.marked } };
+    ghost view = { λ m. record {
+      changes = m.changes.entries;
+      below = m.below.entries;
+      marked = m.marked;
+    } };
 }
 
 impl<K: Ord + Copy, V> Marked<K, V> {
