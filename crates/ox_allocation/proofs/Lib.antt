@@ -1,1 +1,12 @@
+pub mod Amounts
 pub mod BalanceLemmas
+pub mod Counting
+pub mod Dealt
+pub mod Giving
+pub mod Handing
+pub mod Holders
+pub mod Ids
+pub mod LawLemmas
+pub mod PartLemmas
+pub mod Rests
+pub mod Sorting

@@ -1,6 +1,6 @@
 -- The runes of a transaction's inputs, mint and etching, dealt to its outputs (Runes specification,
 -- "Transferring").
-use Rattle.std.specs.Prelude.{ℕ, ◌+◌, List, [], ◌∷◌, ◌++◌, map, Option, nat_eq, ◌==◌, ◌&&◌}
+use Rattle.std.specs.Prelude.{ℕ, ◌+◌, List, [], ◌∷◌, ◌++◌, Option, ◌==◌, ◌&&◌}
 use Rattle.std.specs.Prelude.{if◌then◌else◌}
 use Rattle.ox_block.specs.declared.block.TxOut.{TxOut}
 use Rattle.ox_runestone.specs.declared.stone.RuneId.{RuneId}

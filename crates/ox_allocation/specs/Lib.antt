@@ -1,3 +1,5 @@
 pub mod Allocation
 pub mod Balances
+pub mod Dealing
 pub mod Gifts
+pub mod Laws

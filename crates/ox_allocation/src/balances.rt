@@ -2,6 +2,7 @@
 
 ghost use Rattle.std.specs.Prelude.{◌≡◌, ◌==◌, ◌+◌, ◌^◌, ◌<◌, [], length, OnOk, OnErr, IfOk};
 ghost use Rattle.ox_allocation.specs.Balances.{amount_in, with_more};
+ghost use Rattle.ox_allocation.specs.Dealing.{IsPool};
 
 use ox_bytes::Memory;
 use ox_runestone::RuneId;
@@ -70,17 +71,19 @@ pub struct Pool {
 
 impl Model for Pool {
     ghost use Rattle.std.specs.Prelude.{List};
-    ghost use Rattle.ox_allocation.specs.Balances.{AreBalances, Balance};
+    ghost use Rattle.ox_allocation.specs.Balances.{Balance};
+    ghost use Rattle.ox_allocation.specs.Dealing.{IsPool};
 
     ghost Value = { List Balance };
 
     ghost view = { λ pool. pool.amounts.entries };
 
-    ghost invariant = { λ pool. AreBalances pool.amounts.entries };
+    ghost invariant = { λ pool. IsPool pool.amounts.entries };
 }
 
 impl Pool {
     /// No runes. It takes no memory.
+    #[tactic(auto, using(crate::proofs::BalanceLemmas::no_pool))]
     pub fn new(alloc: Global) -> Pool
         ensures { result ≡ [] }
     {
@@ -108,5 +111,24 @@ impl Pool {
         let held = self.amount(id);
         self.amounts.insert(id, held + amount)?;
         Ok(())
+    }
+
+    /// The amounts as a map.
+    pub(crate) fn into_map(self) -> BTreeMap<RuneId, u128>
+        ensures entries { result.entries ≡ self }
+        ensures lawful { IsPool result.entries }
+    {
+        self.amounts
+    }
+
+    /// The same runes, as an output holds them.
+    pub(crate) fn into_balances(self, alloc: Global) -> Result<Balances, Memory>
+        ensures { IfOk result (λ balances. balances ≡ self) }
+    {
+        let mut items = SmallVec::with_capacity(alloc, self.amounts.len())?;
+        for balance in self.amounts {
+            items.push(balance)?;
+        }
+        Ok(Balances { items })
     }
 }

@@ -1,7 +1,16 @@
 //! Amounts of runes, and how a transaction deals them to its outputs.
 #![tactic(auto)]
 
+pub use allocation::{Allocated, allocate};
 pub use balances::{Balances, Pool};
+pub use laws::{nothing_is_lost_or_made, returns_get_nothing, splits_are_even};
 pub use ox_bytes::Memory;
 
+mod allocation;
 mod balances;
+mod deal;
+mod hands;
+mod laws;
+mod parts;
+#[cfg(test)]
+mod tests;

@@ -1,0 +1,179 @@
+//! A pool while it is dealt.
+
+ghost use Rattle.std.specs.Prelude.{◌≡◌, ◌≤◌, ◌<◌, [], ◌∷◌, length, OnOk, IfOk};
+ghost use Rattle.std.specs.Option.{ForSome};
+ghost use Rattle.ox_allocation.specs.Balances.{amount_in, ids_of};
+ghost use Rattle.std.specs.List.{AllByRecursion};
+ghost use Rattle.ox_allocation.specs.Dealing.{empty_hands, Gives, less, with_rest};
+ghost use Rattle.ox_allocation.specs.Gifts.{gifts_by, gifts_to, holders as holders_in, parts_of};
+ghost use Rattle.ox_allocation.specs.Gifts.{rune_of};
+
+use crate::balances::Pool;
+use crate::hands::Hands;
+use crate::parts::Parts;
+use ox_block::TxOut;
+use ox_bytes::Memory;
+use ox_runestone::{Edict, RuneId};
+use ox_script::is_return;
+use std::alloc::Global;
+use std::collections::BTreeMap;
+use std::marker::Model;
+
+/// The places of the outputs that can hold runes, which those that begin with OP_RETURN can't.
+pub(crate) fn holders_of(alloc: Global, outputs: &[TxOut]) -> Result<Vec<usize>, Memory>
+    ensures { IfOk result (λ places. places.items ≡ holders_in outputs.now) }
+{
+    let mut holders = Vec::with_capacity(alloc, outputs.len())?;
+    for (place, output) in outputs.iter().enumerate() {
+        if !is_return(output.script.as_slice()) {
+            holders.push(place)?;
+        }
+    }
+    Ok(holders)
+}
+
+/// The rune that an edict names: 0:0 is the one that is etched here, if any.
+fn rune_of(etched: Option<RuneId>, id: RuneId) -> Option<RuneId>
+    ensures { result ≡ rune_of etched id }
+{
+    if id.block == 0 && id.tx == 0 {
+        etched
+    } else {
+        Some(id)
+    }
+}
+
+/// Takes so much of a rune from what is left.
+fn spend(left: &mut BTreeMap<RuneId, u128>, id: RuneId, amount: u128)
+    requires { amount ≤ amount_in left.old.entries id }
+    ensures left { amount_in left.new.entries ≡ less left.old.entries id amount }
+    ensures ids { ids_of left.new.entries ≡ ids_of left.old.entries }
+{
+    if let Some(left) = left.get_mut(&id) {
+        *left -= amount;
+    }
+}
+
+/// A pool while it is dealt: what is left of each rune, and what has been given.
+#[derive(Drop)]
+pub(crate) struct Deal {
+    left: BTreeMap<RuneId, u128>,
+    hands: Hands,
+}
+
+impl Model for Deal {
+    ghost use Rattle.ox_allocation.specs.Balances.{amount_in};
+    ghost use Rattle.ox_allocation.specs.Dealing.{Fits, Stage};
+
+    ghost Value = { Stage };
+
+    ghost view = { λ deal. record { left = deal.left.entries; hands = deal.hands } };
+
+    ghost invariant = { λ deal. Fits (amount_in deal.left.entries) deal.hands };
+}
+
+impl Deal {
+    /// A pool of which nothing has been given yet.
+    pub(crate) fn new(pool: Pool, hands: Hands) -> Deal
+        requires { hands ≡ empty_hands (length hands.given) }
+        ensures left { result.left ≡ pool }
+        ensures hands { result.hands ≡ hands }
+    {
+        Deal {
+            left: pool.into_map(),
+            hands,
+        }
+    }
+
+    /// How much is left of a rune.
+    fn left(&self, id: RuneId) -> u128
+        ensures { result ≡ amount_in self.now.left id }
+    {
+        self.left.get(&id).copied().unwrap_or(0)
+    }
+
+    /// Gives so much of a rune to the output at a place.
+    fn give(
+        &mut self,
+        outputs: &[TxOut],
+        place: usize,
+        id: RuneId,
+        amount: u128,
+    ) -> Result<(), Memory>
+        requires place { place < length outputs.now }
+        requires count { length self.old.hands.given ≡ length outputs.now }
+        requires amount { amount ≤ amount_in self.old.left id }
+        ensures { OnOk result (Gives outputs.now self.old self.new
+            (record { output = place; id = id; amount = amount } ∷ [])) }
+    {
+        self.hands.give(outputs, place, id, amount)?;
+        spend(&mut self.left, id, amount);
+        Ok(())
+    }
+
+    /// Deals a rune to the outputs at these places: with amount 0 all that is left, evenly, else
+    /// so much to each while it lasts.
+    fn deal(
+        &mut self,
+        outputs: &[TxOut],
+        places: &[usize],
+        id: RuneId,
+        amount: u128,
+    ) -> Result<(), Memory>
+        requires places { AllByRecursion (λ place. place < length outputs.now) places.now }
+        requires count { length self.old.hands.given ≡ length outputs.now }
+        ensures { OnOk result (Gives outputs.now self.old self.new
+            (gifts_to id places.now (parts_of amount (amount_in self.old.left id)
+            (length places.now)))) }
+    {
+        if places.is_empty() {
+            return Ok(());
+        }
+        let mut parts = Parts::new(amount, self.left(id), places.len());
+        for place in places {
+            let part = parts.take_next();
+            self.give(outputs, *place, id, part)?;
+        }
+        Ok(())
+    }
+
+    /// Does what an edict says.
+    pub(crate) fn follow(
+        &mut self,
+        outputs: &[TxOut],
+        holders: &[usize],
+        etched: Option<RuneId>,
+        edict: &Edict,
+    ) -> Result<(), Memory>
+        requires holders { holders.now ≡ holders_in outputs.now }
+        requires count { length self.old.hands.given ≡ length outputs.now }
+        ensures { OnOk result (Gives outputs.now self.old self.new
+            (gifts_by outputs.now edict.now (amount_in self.old.left)
+            (rune_of etched edict.now.id))) }
+    {
+        let Some(id) = rune_of(etched, edict.id) else {
+            return Ok(());
+        };
+        let output = edict.output as usize;
+        if output < outputs.len() {
+            self.deal(outputs, &[output], id, edict.amount)
+        } else {
+            self.deal(outputs, holders, id, edict.amount)
+        }
+    }
+
+    /// Gives what is left to the output at the heir's place, or burns it where there is none.
+    pub(crate) fn give_rest(self, outputs: &[TxOut], heir: Option<usize>) -> Result<Hands, Memory>
+        requires heir { ForSome heir (λ place. place < length outputs.now) }
+        requires count { length self.hands.given ≡ length outputs.now }
+        ensures { IfOk result (λ hands. hands ≡
+            with_rest outputs.now self.hands heir self.left) }
+    {
+        let Deal { left, mut hands } = self;
+        match heir {
+            Some(place) => hands.give_all(outputs, place, left)?,
+            None => hands.burn_all(left)?,
+        }
+        Ok(hands)
+    }
+}

@@ -1,0 +1,20 @@
+//! What holds of every allocation.
+
+ghost use Rattle.ox_allocation.specs.Laws.{NothingIsLostOrMade, ReturnsGetNothing, SplitsAreEven};
+
+/// Of each rune, all that outputs are given and all that is burned is together what there was,
+/// whatever the edicts say.
+pub fn nothing_is_lost_or_made()
+    ensures { NothingIsLostOrMade }
+{}
+
+/// The parts of a rune that is split evenly differ by at most one, the larger ones are in front,
+/// and together they are all that there was.
+pub fn splits_are_even()
+    ensures { SplitsAreEven }
+{}
+
+/// An output that begins with OP_RETURN gets nothing.
+pub fn returns_get_nothing()
+    ensures { ReturnsGetNothing }
+{}

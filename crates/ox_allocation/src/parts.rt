@@ -1,0 +1,71 @@
+//! The parts in which an edict deals a rune.
+
+ghost use Rattle.std.specs.Prelude.{◌≡◌, ℕ, suc, ◌^◌, ◌<◌, ◌∷◌, sum};
+ghost use Rattle.ox_allocation.specs.Gifts.{parts_of};
+ghost use Rattle.ox_allocation.specs.Dealing.{next_parts};
+
+/// The parts in which an edict deals a rune, one after the other.
+#[derive(Clone, Copy)]
+pub(crate) enum Parts {
+    /// The same share to each, and one more to the first ones, so many.
+    Even {
+        /// What each gets.
+        share: u128,
+        /// How many get one more.
+        extra: u128,
+    },
+    /// So much to each while it lasts.
+    Each {
+        /// What each gets.
+        amount: u128,
+        /// What is left.
+        left: u128,
+    },
+}
+
+impl Parts {
+    /// The parts that so many outputs get of what is left of a rune: with amount 0 all of it
+    /// evenly, else so much each.
+    pub(crate) fn new(amount: u128, left: u128, count: usize) -> Parts
+        requires { 0 < count }
+        ensures { next_parts result count ≡ parts_of amount left count }
+    {
+        if amount == 0 {
+            let count = count as u128;
+            Parts::Even {
+                share: left / count,
+                extra: left % count,
+            }
+        } else {
+            Parts::Each { amount, left }
+        }
+    }
+
+    /// The next part.
+    pub(crate) fn take_next(&mut self) -> u128
+        requires { sum (next_parts self.old 1) < 2 ^ 128 }
+        ensures { (count : ℕ) →
+            next_parts self.old (suc count) ≡ result ∷ next_parts self.new count }
+    {
+        match *self {
+            Parts::Even { share, extra } => {
+                if extra == 0 {
+                    return share;
+                }
+                *self = Parts::Even {
+                    share,
+                    extra: extra - 1,
+                };
+                share + 1
+            }
+            Parts::Each { amount, left } => {
+                let part = amount.min(left);
+                *self = Parts::Each {
+                    amount,
+                    left: left - part,
+                };
+                part
+            }
+        }
+    }
+}
