@@ -1,1 +1,12 @@
+pub mod Brought
+pub mod Gains
+pub mod Held
 pub mod PartLemmas
+pub mod TurnLemmas
+pub mod Fresh
+pub mod Deals
+pub mod Pools
+pub mod TurnsAdd
+pub mod Settled
+pub mod Bounded
+pub mod Distinct

@@ -1,5 +1,6 @@
 -- What one transaction adds to runes: its open mint's amount, and its etching's premine.
-use Rattle.std.specs.Prelude.{◌≡◌, ℕ, ◌+◌, List, ◌++◌, Option, Some, None, if◌then◌else◌}
+use Rattle.std.specs.Prelude.{◌≡◌, ◌≢◌, ℕ, ◌+◌, List, ◌++◌, All, Option, Some, None}
+use Rattle.std.specs.Prelude.{if◌then◌else◌}
 use Rattle.std.specs.List.{AllZip}
 use Rattle.ox_block.specs.declared.block.Tx.{Tx}
 use Rattle.ox_runestone.specs.declared.stone.RuneId.{RuneId}
@@ -11,6 +12,10 @@ use Rattle.ox_etching.specs.declared.row.RuneRow.{RuneRow}
 use Rattle.ox_ledger.specs.Balanced.{amount_there}
 use Rattle.ox_ledger.specs.Part.{counts_of, with_counts}
 use Rattle.ox_ledger.specs.Runes.{Runes, artifact_at, etching_by, mint_by}
+
+-- no rune has this id
+abbrev pub NoneHas : RuneId → List RuneRow → Type 0
+NoneHas id runes = All (λ (row : RuneRow). row.id ≢ id) runes
 
 -- how many mints of a rune these are
 abbrev pub mints_in : Option Balance → RuneId → ℕ
