@@ -1,7 +1,7 @@
 -- What a transaction has in hand is dealt: of each rune, what is given and what is burned is what there was.
-use Rattle.std.proofs.Common.{◌≡◌, ◌∙◌, ℕ, ◌+◌, ◌<◌, Bool, true, false, cond, List, [], ◌∷◌, length, map, refl, sym, ap, arith, inl, inr, ◌||◌, Option, Some, None}
+use Rattle.std.proofs.Common.{◌≡◌, ◌∙◌, ℕ, ◌+◌, ◌<◌, Bool, true, false, cond, List, [], ◌∷◌, length, map, refl, sym, ap, subst, arith, inl, inr, ◌||◌, Option, Some, None}
 use Rattle.std.specs.Prelude.{IfSome, nat_lt, option_and_then, if◌then◌else◌}
-use Rattle.std.specs.Option.{option_map}
+use Rattle.std.specs.Option.{ForSome, option_map}
 use Rattle.std.proofs.lemmas.Bool.{cases_Bool, ltb-true}
 use Rattle.ox_block.specs.declared.block.Tx.{Tx}
 use Rattle.ox_block.specs.declared.block.TxOut.{TxOut}
@@ -14,10 +14,9 @@ use Rattle.ox_runestone.specs.declared.stone.Artifact.{Artifact}
 use Rattle.ox_runestone.specs.declared.stone.Artifact.TheVariants.{Stone, Cenotaph}
 use Rattle.ox_runestone.specs.declared.stone.Edict.{Edict}
 use Rattle.ox_runestone.specs.declared.stone.RuneId.{RuneId}
-use Rattle.ox_allocation.specs.Allocation.{Allocation, allocation_of}
+use Rattle.ox_allocation.specs.Laws.{NothingIsLostOrMade}
 use Rattle.ox_allocation.specs.Balances.{AreBalances, Balance, amount_in}
 use Rattle.ox_etching.specs.Etched.{Spot}
-use Rattle.ox_ledger.specs.Balanced.{amount_held}
 use Rattle.ox_ledger.specs.Runes.{artifact_at, dealt_by, stone_in}
 use Rattle.ox_ledger.proofs.TurnLemmas.{dealt_amount, none_given}
 
@@ -69,22 +68,19 @@ artifact_fits at tx = by_test (nat_lt at.height at.profile.rune_start) where
 
 -- ---- what is dealt
 
--- of each rune of a pool, what is burned and what is given is what there was
-pub record Keeps (pool : List Balance) (dealt : Allocation) : Type 0 where
-  pub amount : (id : RuneId) → amount_in dealt.burned id + amount_held dealt.given id ≡ amount_in pool id
+for_some : (pointer : Option ℕ) (count : ℕ) → IfSome pointer (λ place. place < count) → ForSome pointer (λ place. place < count)
+for_some None count fits x is = let none : None ≡ Some x = is in absurd (cc none)
+for_some (Some place) count fits x is =
+    let some : Some place ≡ Some x = is in let same : place ≡ x = cc some in subst (λ n. n < count) same fits
 
--- that this holds of allocations
-abbrev pub AllocationKeeps : Type 0
-AllocationKeeps =
-    (pool : List Balance) (edicts : List Edict) (etching : Option RuneId) (pointer : Option ℕ) (outputs : List TxOut) → AreBalances pool
-    → IfSome pointer (λ place. place < length outputs) → Keeps pool (allocation_of pool edicts etching pointer outputs)
-
-keeps_by : AllocationKeeps → (artifact : Option Artifact) (pool : List Balance) (etching : Option RuneId) (outputs : List TxOut) → AreBalances pool
+keeps_by : NothingIsLostOrMade → (artifact : Option Artifact) (pool : List Balance) (etching : Option RuneId) (outputs : List TxOut) → AreBalances pool
     → AtFits outputs artifact → (id : RuneId) → dealt_amount (dealt_by artifact pool etching outputs) id ≡ amount_in pool id
-keeps_by keeps None pool etching outputs are fits id = (keeps pool [] None None outputs are tt).amount id
-keeps_by keeps (Some (Stone stone)) pool etching outputs are fits id = (keeps pool stone.edicts etching stone.pointer outputs are fits).amount id
+keeps_by keeps None pool etching outputs are fits id =
+    let all = keeps pool [] None None outputs id are (for_some None (length outputs) tt) in omega (arith, all)
+keeps_by keeps (Some (Stone stone)) pool etching outputs are fits id =
+    let all = keeps pool stone.edicts etching stone.pointer outputs id are (for_some stone.pointer (length outputs) fits) in omega (arith, all)
 keeps_by keeps (Some (Cenotaph mint name)) pool etching outputs are fits id = let none = none_given outputs id in omega (arith, none)
 
-pub deals : AllocationKeeps → (at : Spot) (tx : Tx) (pool : List Balance) (etching : Option RuneId) → AreBalances pool
+pub deals : NothingIsLostOrMade → (at : Spot) (tx : Tx) (pool : List Balance) (etching : Option RuneId) → AreBalances pool
     → (id : RuneId) → dealt_amount (dealt_by (artifact_at at tx) pool etching tx.outputs) id ≡ amount_in pool id
 deals keeps at tx pool etching are id = keeps_by keeps (artifact_at at tx) pool etching tx.outputs are (artifact_fits at tx) id

@@ -10,3 +10,5 @@ pub mod TurnsAdd
 pub mod Settled
 pub mod Bounded
 pub mod Distinct
+pub mod NewNames
+pub mod RowsStay
