@@ -11,7 +11,7 @@ use Rattle.ox_outside.specs.declared.site.Which.{Which}
 use Rattle.ox_outside.specs.declared.site.Which.TheVariants.{A, B}
 use Rattle.ox_outside.proofs.Event.{has_broken-append}
 use Rattle.ox_memsite.proofs.RoomLemmas.{owed_most, owed_broke, owed_gave_up, owed_shut, channels_in-append, one_at_least, never_broken, never_opened, opened_below, eqb-same}
-use Rattle.ox_memsite.specs.Room.{channels_in, owed}
+use Rattle.ox_memsite.specs.Room.{channels_in, room_owed}
 use Rattle.ox_memsite.specs.Heard.{steps_with}
 use Rattle.ox_memsite.specs.Kept.{IsKept}
 use Rattle.ox_memsite.specs.World.{is_same, disk_step, disk_after, disk_of, event_of, events_of}
@@ -140,7 +140,7 @@ module _ (first : Files) (a b : List ℕ) (past done : List Step) (broken : List
   kept_event : (step : Step) (done' : List Step) (broken' : List Bool) (spare' : ℕ) → done' ≡ done ++ step ∷ []
       → (disk_step A (disk_of first done A) step).seen ≡ (disk_of first done A).seen → (disk_step B (disk_of first done B) step).seen ≡ (disk_of first done B).seen
       → ((channel : ℕ) → channel < count → get_or broken' channel false ≡ has_broken channel (events_of past ++ events_of (done ++ step ∷ []))) → length broken' ≡ count
-      → channels_in (event_of step) ≤ count → owed count ((events_of past ++ events_of done) ++ event_of step) + 1 ≤ owed count (events_of past ++ events_of done) → spare' + 1 ≡ spare
+      → channels_in (event_of step) ≤ count → room_owed count ((events_of past ++ events_of done) ++ event_of step) + 1 ≤ room_owed count (events_of past ++ events_of done) → spare' + 1 ≡ spare
       → IsKept first a b past done' broken' count spare' heard size
   kept_event step done' broken' spare' is same_a same_b flags as_many named less took =
       subst (λ (l : List Step). IsKept first a b past l broken' count spare' heard size) (sym is) (
@@ -151,7 +151,7 @@ module _ (first : Files) (a b : List ℕ) (past done : List Step) (broken : List
         as_many = as_many;
         numbers = numbers_with step count (omega arith) named;
         few = kept.few;
-        room = subst (λ (l : List Event). owed count l ≤ spare') (sym (log_with step)) (omega (arith, less, took, kept.room));
+        room = subst (λ (l : List Event). room_owed count l ≤ spare') (sym (log_with step)) (omega (arith, less, took, kept.room));
         within = kept.within;
       }
       )

@@ -17,7 +17,7 @@ use Rattle.ox_outside.specs.declared.site.Shown.{Shown as ShownAnswer}
 use Rattle.ox_outside.specs.declared.site.Shown.TheVariants.{Took, NotYet as TookNothing}
 use Rattle.ox_outside.specs.declared.site.Which.{Which}
 use Rattle.ox_outside.specs.declared.site.Which.TheVariants.{A, B}
-use Rattle.ox_memsite.specs.Channels.{channel_at, at_channel, silent, next_count, hear_fault, show_fault, next_script}
+use Rattle.ox_memsite.specs.Channels.{channel_at, at_channel, silent_channel, next_count, hear_fault, show_fault, next_script}
 use Rattle.ox_memsite.specs.Heard.{Hears, Shows, answer_of, bytes_of, after_said, after_saying, channels_after}
 use Rattle.ox_memsite.specs.Opened.{DoorEnds}
 use Rattle.ox_memsite.specs.World.{World, disk_after, disk_of, events_of, seen_of, log_of, Left, MayLeave, LeftSince, counts_of, idles_at, after_call, after_step, after_starving, after_disk_fault, after_door_fault, after_hear_fault, after_show_fault, after_idle, after_opening, Ends}
@@ -57,15 +57,15 @@ none_less_same : (channels : List Channel) → NoneLess channels channels
 none_less_same channels channel = no_less_same (channel_at channels channel)
 
 none_less_set : (channels : List Channel) (i : ℕ) (one : Channel) → NoLess (channel_at channels i) one → NoneLess channels (set channels i one)
-none_less_set [] i one less channel = no_less_same silent
+none_less_set [] i one less channel = no_less_same silent_channel
 none_less_set (c ∷ channels) zero one less zero = less
 none_less_set (c ∷ channels) zero one less (suc channel) = no_less_same (channel_at channels channel)
 none_less_set (c ∷ channels) (suc i) one less zero = no_less_same c
 none_less_set (c ∷ channels) (suc i) one less (suc channel) = none_less_set channels i one less channel
 
-none_less_push : (channels : List Channel) (one : Channel) → NoLess silent one → NoneLess channels (channels ++ one ∷ [])
+none_less_push : (channels : List Channel) (one : Channel) → NoLess silent_channel one → NoneLess channels (channels ++ one ∷ [])
 none_less_push [] one less zero = less
-none_less_push [] one less (suc channel) = no_less_same silent
+none_less_push [] one less (suc channel) = no_less_same silent_channel
 none_less_push (c ∷ channels) one less zero = no_less_same c
 none_less_push (c ∷ channels) one less (suc channel) = none_less_push channels one less channel
 

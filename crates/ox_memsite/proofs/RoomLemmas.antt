@@ -7,7 +7,7 @@ use Rattle.ox_outside.specs.Event.{Event, Opened, Heard, Ended, Showed, Broke, G
 use Rattle.ox_outside.specs.declared.site.Failed.{Failed}
 use Rattle.ox_outside.proofs.Event.{has_broken-append, has_given_up-append, was_shut-append}
 use Rattle.ox_memsite.specs.Opened.{IsPast}
-use Rattle.ox_memsite.specs.Room.{channels_in, one_unless, owed_by, owed}
+use Rattle.ox_memsite.specs.Room.{channels_in, one_unless, room_owed_by, room_owed}
 
 one_at_most : (b : Bool) → one_unless b ≤ 1
 one_at_most true = omega arith
@@ -17,33 +17,33 @@ one_or : (a b : Bool) → one_unless (a || b) ≤ one_unless a
 one_or true b = omega arith
 one_or false b = one_at_most b
 
-pub owed_most : (n : ℕ) (log : List Event) → owed n log ≤ 3 * n
+pub owed_most : (n : ℕ) (log : List Event) → room_owed n log ≤ 3 * n
 owed_most zero log = omega arith
 owed_most (suc n) log = omega (arith, owed_most n log, one_at_most (has_broken n log), one_at_most (has_given_up n log), one_at_most (was_shut n log))
 
 -- more events never let more be owed
-owed_by-append : (channel : ℕ) (log more : List Event) → owed_by channel (log ++ more) ≤ owed_by channel log
-owed_by-append channel log more =
+room_owed_by-append : (channel : ℕ) (log more : List Event) → room_owed_by channel (log ++ more) ≤ room_owed_by channel log
+room_owed_by-append channel log more =
     let broke : one_unless (has_broken channel (log ++ more)) ≤ one_unless (has_broken channel log) = subst (λ (b : Bool). one_unless b ≤ one_unless (has_broken channel log)) (sym (has_broken-append channel log more)) (one_or _ _) in
     let gave : one_unless (has_given_up channel (log ++ more)) ≤ one_unless (has_given_up channel log) = subst (λ (b : Bool). one_unless b ≤ one_unless (has_given_up channel log)) (sym (has_given_up-append channel log more)) (one_or _ _) in
     let shut : one_unless (was_shut channel (log ++ more)) ≤ one_unless (was_shut channel log) = subst (λ (b : Bool). one_unless b ≤ one_unless (was_shut channel log)) (sym (was_shut-append channel log more)) (one_or _ _) in
     omega (arith, broke, gave, shut)
 
-pub owed-append : (n : ℕ) (log more : List Event) → owed n (log ++ more) ≤ owed n log
-owed-append zero log more = omega arith
-owed-append (suc n) log more =
-    let one : owed_by n (log ++ more) ≤ owed_by n log = owed_by-append n log more in
-    omega (arith, owed-append n log more, one)
+pub room_owed-append : (n : ℕ) (log more : List Event) → room_owed n (log ++ more) ≤ room_owed n log
+room_owed-append zero log more = omega arith
+room_owed-append (suc n) log more =
+    let one : room_owed_by n (log ++ more) ≤ room_owed_by n log = room_owed_by-append n log more in
+    omega (arith, room_owed-append n log more, one)
 
 -- where one channel owes one less, so do all
-owed_one : (n channel : ℕ) (log more : List Event) → channel < n → owed_by channel (log ++ more) + 1 ≤ owed_by channel log → owed n (log ++ more) + 1 ≤ owed n log
+owed_one : (n channel : ℕ) (log more : List Event) → channel < n → room_owed_by channel (log ++ more) + 1 ≤ room_owed_by channel log → room_owed n (log ++ more) + 1 ≤ room_owed n log
 owed_one zero channel log more below less = absurd (omega (arith, below))
 owed_one (suc n) channel log more below less = elim (cases_eq channel n) [
   | inl same ↦
-      let one : owed_by n (log ++ more) + 1 ≤ owed_by n log = subst (λ (k : ℕ). owed_by k (log ++ more) + 1 ≤ owed_by k log) same less in
-      omega (arith, owed-append n log more, one)
+      let one : room_owed_by n (log ++ more) + 1 ≤ room_owed_by n log = subst (λ (k : ℕ). room_owed_by k (log ++ more) + 1 ≤ room_owed_by k log) same less in
+      omega (arith, room_owed-append n log more, one)
   | inr other ↦
-      let one : owed_by n (log ++ more) ≤ owed_by n log = owed_by-append n log more in
+      let one : room_owed_by n (log ++ more) ≤ room_owed_by n log = room_owed_by-append n log more in
       let rest = owed_one n channel log more (omega (arith, below, other)) less in
       omega (arith, rest, one)
 ]
@@ -64,21 +64,21 @@ module _ (n channel : ℕ) (log : List Event) (below : channel < n) where
   less_by : (x y z x' y' z' : ℕ) → x' + 1 ≤ x → y' ≤ y → z' ≤ z → x' + y' + z' + 1 ≤ x + y + z
   less_by x y z x' y' z' hx hy hz = omega (arith, hx, hy, hz)
 
-  pub owed_broke : has_broken channel log ≡ false → owed n (log ++ Broke channel ∷ []) + 1 ≤ owed n log
+  pub owed_broke : has_broken channel log ≡ false → room_owed n (log ++ Broke channel ∷ []) + 1 ≤ room_owed n log
   owed_broke whole = owed_one n channel log (Broke channel ∷ []) below (
       let broke : one_unless (has_broken channel (log ++ Broke channel ∷ [])) + 1 ≤ one_unless (has_broken channel log) = subst (λ (b : Bool). one_unless b + 1 ≤ one_unless (has_broken channel log)) (sym (has_broken-append channel log (Broke channel ∷ []))) (spent _ _ whole (or_itself _ (eqb-same channel))) in
       let gave : one_unless (has_given_up channel (log ++ Broke channel ∷ [])) ≤ one_unless (has_given_up channel log) = subst (λ (b : Bool). one_unless b ≤ one_unless (has_given_up channel log)) (sym (has_given_up-append channel log (Broke channel ∷ []))) (one_or _ _) in
       let shut : one_unless (was_shut channel (log ++ Broke channel ∷ [])) ≤ one_unless (was_shut channel log) = subst (λ (b : Bool). one_unless b ≤ one_unless (was_shut channel log)) (sym (was_shut-append channel log (Broke channel ∷ []))) (one_or _ _) in
       omega (arith, broke, gave, shut))
 
-  pub owed_gave_up : has_given_up channel log ≡ false → owed n (log ++ GaveUp channel ∷ []) + 1 ≤ owed n log
+  pub owed_gave_up : has_given_up channel log ≡ false → room_owed n (log ++ GaveUp channel ∷ []) + 1 ≤ room_owed n log
   owed_gave_up whole = owed_one n channel log (GaveUp channel ∷ []) below (
       let broke : one_unless (has_broken channel (log ++ GaveUp channel ∷ [])) ≤ one_unless (has_broken channel log) = subst (λ (b : Bool). one_unless b ≤ one_unless (has_broken channel log)) (sym (has_broken-append channel log (GaveUp channel ∷ []))) (one_or _ _) in
       let gave : one_unless (has_given_up channel (log ++ GaveUp channel ∷ [])) + 1 ≤ one_unless (has_given_up channel log) = subst (λ (b : Bool). one_unless b + 1 ≤ one_unless (has_given_up channel log)) (sym (has_given_up-append channel log (GaveUp channel ∷ []))) (spent _ _ whole (or_itself _ (eqb-same channel))) in
       let shut : one_unless (was_shut channel (log ++ GaveUp channel ∷ [])) ≤ one_unless (was_shut channel log) = subst (λ (b : Bool). one_unless b ≤ one_unless (was_shut channel log)) (sym (was_shut-append channel log (GaveUp channel ∷ []))) (one_or _ _) in
       omega (arith, broke, gave, shut))
 
-  pub owed_shut : was_shut channel log ≡ false → owed n (log ++ Shut channel ∷ []) + 1 ≤ owed n log
+  pub owed_shut : was_shut channel log ≡ false → room_owed n (log ++ Shut channel ∷ []) + 1 ≤ room_owed n log
   owed_shut whole = owed_one n channel log (Shut channel ∷ []) below (
       let broke : one_unless (has_broken channel (log ++ Shut channel ∷ [])) ≤ one_unless (has_broken channel log) = subst (λ (b : Bool). one_unless b ≤ one_unless (has_broken channel log)) (sym (has_broken-append channel log (Shut channel ∷ []))) (one_or _ _) in
       let gave : one_unless (has_given_up channel (log ++ Shut channel ∷ [])) ≤ one_unless (has_given_up channel log) = subst (λ (b : Bool). one_unless b ≤ one_unless (has_given_up channel log)) (sym (has_given_up-append channel log (Shut channel ∷ []))) (one_or _ _) in

@@ -13,12 +13,12 @@ next_count n = if nat_lt n greatest then n + 1 else n
 abbrev pub new_channel : List Said → Channel
 new_channel script = record { script = script; hear_faults = 0; show_faults = 0; not_yets = 0 }
 
-abbrev pub silent : Channel
-silent = new_channel []
+abbrev pub silent_channel : Channel
+silent_channel = new_channel []
 
 -- the channel of this number, silent where there is none
 abbrev pub channel_at : List Channel → ℕ → Channel
-channel_at channels channel = slice_index_or channels channel silent
+channel_at channels channel = slice_index_or channels channel silent_channel
 
 -- what the channel of this number will still say
 abbrev pub script_of : List Channel → ℕ → List Said

@@ -4,7 +4,7 @@ use Rattle.std.specs.Prelude.{length, slice_index_or}
 use Rattle.ox_outside.specs.Event.{has_broken}
 use Rattle.ox_outside.specs.Files.{Files}
 use Rattle.ox_outside.specs.declared.site.Which.TheVariants.{A, B}
-use Rattle.ox_memsite.specs.Room.{channels_in, owed}
+use Rattle.ox_memsite.specs.Room.{channels_in, room_owed}
 use Rattle.ox_memsite.specs.World.{disk_of, events_of}
 use Rattle.ox_memsite.specs.declared.step.Step.{Step}
 
@@ -26,5 +26,5 @@ pub record IsKept (first : Files) (a b : List ℕ) (past done : List Step) (brok
   pub as_many : length broken ≡ count
   pub numbers : channels_in (events_of past ++ events_of done) ≤ count
   pub few : count ≤ 4294967296
-  pub room : owed count (events_of past ++ events_of done) ≤ spare
+  pub room : room_owed count (events_of past ++ events_of done) ≤ spare
   pub within : heard ≤ size

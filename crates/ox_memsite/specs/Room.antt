@@ -12,12 +12,12 @@ one_unless true = 0
 one_unless false = 1
 
 -- how many of `Broke`, `GaveUp` and `Shut` may still come of this channel
-abbrev pub owed_by : ℕ → List Event → ℕ
-owed_by channel log =
+abbrev pub room_owed_by : ℕ → List Event → ℕ
+room_owed_by channel log =
     one_unless (has_broken channel log) + one_unless (has_given_up channel log)
     + one_unless (was_shut channel log)
 
 -- of the channels below this number
-abbrev pub owed : ℕ → List Event → ℕ
-owed zero log = 0
-owed (suc channel) log = owed_by channel log + owed channel log
+abbrev pub room_owed : ℕ → List Event → ℕ
+room_owed zero log = 0
+room_owed (suc channel) log = room_owed_by channel log + room_owed channel log

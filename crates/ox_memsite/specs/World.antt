@@ -15,8 +15,8 @@ use Rattle.ox_outside.specs.declared.site.Doorway.TheVariants.{Public, Operator}
 use Rattle.ox_outside.specs.declared.site.Failed.{Failed}
 use Rattle.ox_outside.specs.declared.site.Which.{Which}
 use Rattle.ox_outside.specs.declared.site.Which.TheVariants.{A, B}
-use Rattle.ox_memsite.specs.Channels.{channel_at, at_channel, new_channel, silent, next_count}
-use Rattle.ox_memsite.specs.Channels.{hear_fault, show_fault}
+use Rattle.ox_memsite.specs.Channels.{channel_at, at_channel, new_channel, silent_channel}
+use Rattle.ox_memsite.specs.Channels.{next_count, hear_fault, show_fault}
 use Rattle.ox_memsite.specs.Room.{channels_in}
 use Rattle.ox_memsite.specs.declared.channel.Channel.{Channel}
 use Rattle.ox_memsite.specs.declared.said.Said.{Said}
@@ -98,7 +98,7 @@ first_site a b past = record {
   past = past;
   steps = [];
   input = [];
-  channels = replicate (channels_in past) silent;
+  channels = replicate (channels_in past) silent_channel;
   at_public = [];
   at_operator = [];
   failing = [];

@@ -1,6 +1,6 @@
 // What each channel will still give, and what is counted of it.
 ghost use Rattle.std.specs.Prelude.{◌≡◌, ◌+◌, ◌<◌, ◌≤◌, length, replicate, IfOk, OnOk, OnErr};
-ghost use Rattle.ox_memsite.specs.Channels.{at_channel, silent, script_of, next_script};
+ghost use Rattle.ox_memsite.specs.Channels.{at_channel, silent_channel, script_of, next_script};
 ghost use Rattle.ox_memsite.specs.Channels.{hear_fault, show_fault, nothing_yet};
 ghost use Rattle.ox_memsite.specs.Script.{said_next};
 
@@ -32,7 +32,7 @@ pub fn new_channel(script: Script) -> Channel
 
 /// So many channels that have nothing to say.
 pub fn silent_channels(alloc: Global, count: usize) -> Result<Vec<Channel>, Memory>
-    ensures { IfOk result (λ channels. channels.items ≡ replicate count silent) }
+    ensures { IfOk result (λ channels. channels.items ≡ replicate count silent_channel) }
 {
     let mut channels = Vec::new(alloc);
     for _ in 0..count {

@@ -15,7 +15,7 @@ fn empty_site(rt: &impl Abort, alloc: Global) -> MemSite {
 }
 
 // An entry of a script: these bytes.
-fn said(rt: &impl Abort, alloc: Global, bytes: &[u8]) -> Said {
+fn bytes_said(rt: &impl Abort, alloc: Global, bytes: &[u8]) -> Said {
     Said::Bytes(Bytes::copy(alloc, bytes).expect(rt, "memory"))
 }
 
@@ -91,7 +91,7 @@ fn is_at_end(site: &mut MemSite, link: u32) -> bool
 }
 
 // The site as a crash now leaves it.
-fn crashed(rt: &impl Abort, site: &MemSite) -> MemSite {
+fn site_after_crash(rt: &impl Abort, site: &MemSite) -> MemSite {
     let choice = Choice {
         moment: site.now(),
         fill: 0,
@@ -174,7 +174,7 @@ fn each_call_fails_in_turn(rt: HostRuntime) {
 #[test]
 fn a_piece_longer_than_the_room_comes_in_parts(rt: HostRuntime) {
     let mut site = empty_site(&rt, rt.alloc());
-    let script = [said(&rt, rt.alloc(), b"abcdefghij")];
+    let script = [bytes_said(&rt, rt.alloc(), b"abcdefghij")];
     add_link(&rt, &mut site, Doorway::Public, &script);
     let link = come(&rt, &mut site, Doorway::Public);
     assert!(rt; says(&mut site, link, 4, b"abcd"));
@@ -187,8 +187,8 @@ fn a_piece_longer_than_the_room_comes_in_parts(rt: HostRuntime) {
 #[test]
 fn empty_bytes_are_passed_over_and_past_the_script_is_nothing_yet(rt: HostRuntime) {
     let mut site = empty_site(&rt, rt.alloc());
-    let empty = said(&rt, rt.alloc(), b"");
-    let x = said(&rt, rt.alloc(), b"x");
+    let empty = bytes_said(&rt, rt.alloc(), b"");
+    let x = bytes_said(&rt, rt.alloc(), b"x");
     add_link(
         &rt,
         &mut site,
@@ -219,13 +219,13 @@ fn each_door_gives_its_own_links(rt: HostRuntime) {
         &rt,
         &mut site,
         Doorway::Operator,
-        &[said(&rt, rt.alloc(), b"op")],
+        &[bytes_said(&rt, rt.alloc(), b"op")],
     );
     add_link(
         &rt,
         &mut site,
         Doorway::Public,
-        &[said(&rt, rt.alloc(), b"pub")],
+        &[bytes_said(&rt, rt.alloc(), b"pub")],
     );
     let public = come(&rt, &mut site, Doorway::Public);
     assert!(rt; says(&mut site, public, 4, b"pub"));
@@ -245,13 +245,13 @@ fn a_link_waits_on_where_the_door_fails(rt: HostRuntime) {
 fn new_links_get_new_numbers_after_a_crash(rt: HostRuntime) {
     let mut old = two_links(&rt, rt.alloc());
     assert!(rt; number_at(&mut old, Doorway::Public) == 1);
-    let mut site = crashed(&rt, &old);
+    let mut site = site_after_crash(&rt, &old);
     assert!(rt; number_at(&mut site, Doorway::Operator) == 0);
     add_link(
         &rt,
         &mut site,
         Doorway::Operator,
-        &[said(&rt, rt.alloc(), b"new")],
+        &[bytes_said(&rt, rt.alloc(), b"new")],
     );
     let link = come(&rt, &mut site, Doorway::Operator);
     assert!(rt; link == 2);
@@ -267,7 +267,7 @@ fn the_last_events_of_a_link_find_room(rt: HostRuntime) {
         &rt,
         &mut site,
         Doorway::Public,
-        &[said(&rt, rt.alloc(), b"ab")],
+        &[bytes_said(&rt, rt.alloc(), b"ab")],
     );
     let link = come(&rt, &mut site, Doorway::Public);
     assert!(rt; last_events(&mut site, link) == 3);
@@ -284,7 +284,7 @@ fn large_values_are_taken(rt: HostRuntime) {
     assert!(rt; site.show(0, &large) == Ok(Shown::Took(1000)));
     assert!(rt; site.write(Which::A, 0, &large) == Ok(()));
     assert!(rt; site.sync(Which::A) == Ok(()));
-    let after = crashed(&rt, &site);
+    let after = site_after_crash(&rt, &site);
     assert!(rt; after.file(Which::A) == large.as_slice());
     let shown = after.shown(0).expect(&rt, "memory");
     assert!(rt; shown.as_slice() == large.as_slice());
@@ -293,7 +293,7 @@ fn large_values_are_taken(rt: HostRuntime) {
 #[test]
 fn many_links_come(rt: HostRuntime) {
     let mut site = empty_site(&rt, rt.alloc());
-    let script = [said(&rt, rt.alloc(), &[7; 1000])];
+    let script = [bytes_said(&rt, rt.alloc(), &[7; 1000])];
     for number in 1..301 {
         add_link(&rt, &mut site, Doorway::Public, &script);
         assert!(rt; number_at(&mut site, Doorway::Public) == number);

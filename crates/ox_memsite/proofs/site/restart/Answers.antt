@@ -1,7 +1,7 @@
 use Rattle.std.proofs.Common.{◌≡◌, ◌∙◌, length, List, false, ap, sym, arith}
 use Rattle.std.specs.Prelude.{replicate}
 use Rattle.std.proofs.lemmas.List.{length-replicate}
-use Rattle.ox_memsite.specs.Channels.{silent}
+use Rattle.ox_memsite.specs.Channels.{silent_channel}
 use Rattle.ox_memsite.specs.Flags.{flags_after}
 use Rattle.ox_memsite.specs.Room.{channels_in}
 use Rattle.ox_memsite.specs.World.{events_of}
@@ -18,4 +18,4 @@ invariant_of-result c =
     (sym (c.in_ok-from_slice-2.ensures.items ∙ c.deref-3.ensures.value))
     is c.count_channels-count.ensures.few (omega (arith, c.in_ok-new.ensures.spare, c.most_owed.ensures)) c.in_ok-new.ensures.steps
     (c.in_ok-broken_channels.ensures ∙ ap (λ (l : List Step). flags_after l (replicate c.count_channels-count.result false)) c.deref-4.ensures.value)
-    (ap length c.in_ok-silent_channels.ensures ∙ length-replicate c.count_channels-count.result silent)
+    (ap length c.in_ok-silent_channels.ensures ∙ length-replicate c.count_channels-count.result silent_channel)
