@@ -1,0 +1,38 @@
+//! What a request asks and what a reply says, as values.
+#![tactic(auto)]
+
+use ox_bytes::Bytes;
+
+/// How a request asks.
+#[derive(Clone, Copy, Debug, PartialEq, Eq)]
+pub enum Method {
+    Get,
+    Post,
+    /// Any other method.
+    Other,
+}
+
+/// A request, as it is cut out of a link's bytes (RFC 9112).
+#[derive(Debug, PartialEq, Eq, Drop)]
+pub struct Request {
+    pub method: Method,
+    /// The target of the request line, byte for byte.
+    pub path: Bytes,
+    pub body: Bytes,
+    /// Whether the link ends with the reply.
+    pub close: bool,
+}
+
+/// A reply, before it is written as a link's bytes.
+#[derive(Debug, PartialEq, Eq, Drop)]
+pub struct Reply {
+    /// The status code (RFC 9110, section 15).
+    pub status: u16,
+    /// The body's kind, the value of `Content-Type`.
+    pub kind: Bytes,
+    /// The body's encoding, the value of `Content-Encoding`, if there is one.
+    pub encoding: Option<Bytes>,
+    pub body: Bytes,
+    /// Whether the link ends with this reply.
+    pub close: bool,
+}

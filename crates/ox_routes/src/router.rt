@@ -1,0 +1,89 @@
+//! The router.
+
+ghost use Rattle.std.specs.Prelude.{◌≡◌, ◌≤◌, List, ℕ, None, Some, MatchOption, OnOk, map, Ok};
+ghost use Rattle.std.specs.List.{count_by};
+ghost use Rattle.matchit.specs.Route.{parse_route};
+ghost use Rattle.matchit.specs.Router.{InsertsRead};
+ghost use Rattle.ox_routes.specs.Table.{found, route_taken, takes, row_of, routes};
+ghost use Rattle.ox_routes.specs.Rows.{entry, shown};
+
+use crate::route::Route;
+use matchit::Router;
+use ox_bytes::Memory;
+use std::alloc::Global;
+
+/// What a path takes: a route, and the part of the path in the route's braces, which is empty where
+/// the route has none.
+#[derive(Clone, Copy, Debug, PartialEq, Eq)]
+pub struct Found<'p> {
+    pub route: Route,
+    pub part: &'p [u8],
+}
+
+/// All routes, to be asked for the one that a path takes.
+#[derive(Drop)]
+pub struct Routes {
+    router: Router<Route>,
+    ghost holds: { map shown router ≡ map entry routes },
+}
+
+impl Routes {
+    /// The routes. `Memory` where there is none for them.
+    pub fn new(alloc: Global) -> Result<Routes, Memory> {
+        let mut router = Router::new(alloc);
+        add(&mut router, "/audit", Route::Audit)?;
+        add(&mut router, "/blockhash/{height}", Route::BlockHash)?;
+        add(&mut router, "/connect", Route::Connect)?;
+        add(&mut router, "/content/{id}", Route::Content)?;
+        add(&mut router, "/disconnect", Route::Disconnect)?;
+        add(&mut router, "/inscription/{id}", Route::Inscription)?;
+        add(&mut router, "/inscriptions/{page}", Route::Inscriptions)?;
+        add(&mut router, "/output/{outpoint}", Route::Output)?;
+        add(&mut router, "/rune/{rune}", Route::Rune)?;
+        add(&mut router, "/runes/{page}", Route::Runes)?;
+        add(&mut router, "/sat/{sat}", Route::Sat)?;
+        add(&mut router, "/status", Route::Status)?;
+        Ok(Routes { router })
+    }
+
+    /// The route that a path takes; `None` where no route takes it, and where it isn't UTF-8.
+    pub fn find<'p>(&self, path: &'p [u8]) -> Option<Found<'p>>
+        ensures { MatchOption result (found path.now ≡ None)
+            (λ taken. found path.now ≡ Some (taken.route, taken.part.now)) }
+    {
+        let Ok(text) = str::from_utf8(path) else {
+            return None;
+        };
+        let route = self.taken(text)?;
+        Some(Found {
+            route,
+            part: &path[route.text().len()..],
+        })
+    }
+
+    // The route whose row takes a text.
+    fn taken(&self, text: &str) -> Option<Route>
+        ensures { result ≡ route_taken text.now }
+    {
+        match self.router.at(text) {
+            Ok(found) => Some(*found.value),
+            Err(_) => None,
+        }
+    }
+}
+
+/// No path is taken by two rows of the table, so that their order says nothing.
+pub fn one_row_takes_a_path()
+    ensures { (path : List ℕ) → count_by (λ route. takes (row_of route) path) routes ≤ 1 }
+{}
+
+// Adds a route.
+fn add(router: &mut Router<Route>, text: &str, route: Route) -> Result<(), Memory>
+    ensures { OnOk result
+        (InsertsRead (parse_route text.now) route router.old router.new (Ok tt)) }
+{
+    match router.insert(text, route) {
+        Ok(()) => Ok(()),
+        Err(_) => Err(Memory),
+    }
+}
