@@ -9,7 +9,8 @@ use Rattle.ox_script.specs.Shape.{is_return}
 use Rattle.ox_allocation.specs.declared.parts.Parts.{Parts}
 use Rattle.ox_allocation.specs.declared.parts.Parts.TheVariants.{Even, Each}
 use Rattle.ox_allocation.specs.Allocation.{Allocation}
-use Rattle.ox_allocation.specs.Balances.{AreBalances, Balance, amount_in, ids_of, is_same, with_more}
+use Rattle.ox_allocation.specs.Balances.{AreBalances, Balance, amount_in, ids_of, is_same}
+use Rattle.ox_allocation.specs.Balances.{with_more}
 use Rattle.ox_allocation.specs.Gifts.{Gift, Left, even_parts, left_after, parts_while}
 
 -- balances of which each amount is below 2 ^ 128

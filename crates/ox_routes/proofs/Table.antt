@@ -11,7 +11,7 @@ use Rattle.matchit.specs.Seek.{first, has_slash}
 use Rattle.matchit.specs.Router.{RouteOf}
 use Rattle.ox_routes.specs.declared.route.Route.{Route}
 use Rattle.ox_routes.specs.declared.route.Route.TheVariants.{Audit, BlockHash, Connect, Content, Disconnect, Inscription, Inscriptions, Output, Rune, Runes, Sat, Status}
-use Rattle.ox_routes.specs.Table.{row_of, routes, fits, takes, route_taken, found}
+use Rattle.ox_routes.specs.Table.{row_of, routes, fits, takes, route_taken, route_and_part}
 use Rattle.ox_routes.specs.Rows.{part_tokens, entry, shown}
 use Rattle.ox_routes.proofs.Walk.{matches, is_simple, Member, AreSimple, first_takes, takes_first, first_half, second_half, either}
 
@@ -247,7 +247,7 @@ taken_fits route path e =
     text_fits (row_of route).text path (first_half (starts_with nat_eq path (row_of route).text) (fits (row_of route).has_part (drop (length (row_of route).text) path)) taken)
 
 -- what isn't UTF-8 takes no route
-pub not_text : (path : List ℕ) → (IsUtf8 path → ⊥) → found path ≡ None
+pub not_text : (path : List ℕ) → (IsUtf8 path → ⊥) → route_and_part path ≡ None
 not_text path h = by (is_utf8 path) refl
   where
     by : (v : Bool) → is_utf8 path ≡ v
@@ -256,7 +256,7 @@ not_text path h = by (is_utf8 path) refl
     by false e = refl
 
 -- what is UTF-8 takes the route of the row that takes it
-pub text_takes : (path : List ℕ) (route : Route) → IsUtf8 path → route_taken path ≡ Some route → found path ≡ Some (route, drop (length (row_of route).text) path)
+pub text_takes : (path : List ℕ) (route : Route) → IsUtf8 path → route_taken path ≡ Some route → route_and_part path ≡ Some (route, drop (length (row_of route).text) path)
 text_takes path route h e =
     ap₂ (λ v o. cond v (option_map {U = Route × List ℕ} (λ route. (route, drop (length (row_of route).text) path)) o) None) (is_utf8-from_IsUtf8 path h) e
 

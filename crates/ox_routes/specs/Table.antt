@@ -1,13 +1,15 @@
 -- The table of routes, and which route a path takes.
-use Rattle.std.specs.Prelude.{ℕ, Bool, true, false, not, ◌&&◌, ◌==◌, List, [], ◌∷◌, Option, None, length, drop, codes, if◌then◌else◌}
-use Rattle.std.specs.Prelude.{nat_eq}
+use Rattle.std.specs.Prelude.{ℕ, Bool, true, false, not, ◌&&◌, ◌==◌, List, [], ◌∷◌, Option, None}
+use Rattle.std.specs.Prelude.{length, drop, codes, if◌then◌else◌, nat_eq}
 use Rattle.std.specs.List.{find, list_any, starts_with}
 use Rattle.std.specs.Option.{option_map}
 use Rattle.std.specs.Str.{is_utf8}
 use Rattle.ox_http.specs.declared.Method.{Method}
 use Rattle.ox_http.specs.declared.Method.TheVariants.{Get, Post}
 use Rattle.ox_routes.specs.declared.route.Route.{Route}
-use Rattle.ox_routes.specs.declared.route.Route.TheVariants.{Audit, BlockHash, Connect, Content, Disconnect, Inscription, Inscriptions, Output, Rune, Runes, Sat, Status}
+use Rattle.ox_routes.specs.declared.route.Route.TheVariants.{Audit, BlockHash, Connect, Content}
+use Rattle.ox_routes.specs.declared.route.Route.TheVariants.{Disconnect, Inscription, Inscriptions}
+use Rattle.ox_routes.specs.declared.route.Route.TheVariants.{Output, Rune, Runes, Sat, Status}
 
 -- A row of the table: a text, whether a part of the asker's choice stands behind it, and the method
 -- that the route has.
@@ -42,7 +44,8 @@ row_of Status = plain (codes "/status")
 -- all routes
 abbrev pub routes : List Route
 routes =
-    Audit ∷ BlockHash ∷ Connect ∷ Content ∷ Disconnect ∷ Inscription ∷ Inscriptions ∷ Output ∷ Rune ∷ Runes ∷ Sat ∷ Status ∷ []
+    Audit ∷ BlockHash ∷ Connect ∷ Content ∷ Disconnect ∷ Inscription ∷ Inscriptions ∷ Output
+    ∷ Rune ∷ Runes ∷ Sat ∷ Status ∷ []
 
 -- one or more bytes without a slash
 abbrev pub is_part : List ℕ → Bool
@@ -63,8 +66,9 @@ takes row path = starts_with nat_eq path row.text && fits row.has_part (drop (le
 unfoldable pub route_taken : List ℕ → Option Route
 route_taken path = find (λ route. takes (row_of route) path) routes
 
--- the route that a path takes, and what stands behind its row's text; none where the path isn't UTF-8
-abbrev pub found : List ℕ → Option (Route × List ℕ)
-found path = if is_utf8 path
+-- the route that a path takes, and what stands behind its row's text; none where the path isn't
+-- UTF-8
+abbrev pub route_and_part : List ℕ → Option (Route × List ℕ)
+route_and_part path = if is_utf8 path
     then option_map (λ route. (route, drop (length (row_of route).text) path)) (route_taken path)
     else None

@@ -4,7 +4,7 @@ ghost use Rattle.std.specs.Prelude.{◌≡◌, ◌≤◌, List, ℕ, None, Some,
 ghost use Rattle.std.specs.List.{count_by};
 ghost use Rattle.matchit.specs.Route.{parse_route};
 ghost use Rattle.matchit.specs.Router.{InsertsRead};
-ghost use Rattle.ox_routes.specs.Table.{found, route_taken, takes, row_of, routes};
+ghost use Rattle.ox_routes.specs.Table.{route_and_part, route_taken, takes, row_of, routes};
 ghost use Rattle.ox_routes.specs.Rows.{entry, shown};
 
 use crate::route::Route;
@@ -48,8 +48,8 @@ impl Routes {
 
     /// The route that a path takes; `None` where no route takes it, and where it isn't UTF-8.
     pub fn find<'p>(&self, path: &'p [u8]) -> Option<Found<'p>>
-        ensures { MatchOption result (found path.now ≡ None)
-            (λ taken. found path.now ≡ Some (taken.route, taken.part.now)) }
+        ensures { MatchOption result (route_and_part path.now ≡ None)
+            (λ taken. route_and_part path.now ≡ Some (taken.route, taken.part.now)) }
     {
         let Ok(text) = str::from_utf8(path) else {
             return None;
