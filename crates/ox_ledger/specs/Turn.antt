@@ -7,11 +7,11 @@ use Rattle.ox_runestone.specs.declared.stone.RuneId.{RuneId}
 use Rattle.ox_rules.specs.Transfer.{as_list}
 use Rattle.ox_rules.specs.declared.rows.OutRow.{OutRow}
 use Rattle.ox_allocation.specs.Balances.{Balance, amount_in, is_same}
-use Rattle.ox_etching.specs.Etched.{Spot}
+use Rattle.ox_etching.specs.Etched.{Spot, id_of}
 use Rattle.ox_etching.specs.declared.row.RuneRow.{RuneRow}
-use Rattle.ox_ledger.specs.Balanced.{amount_there}
+use Rattle.ox_ledger.specs.Balanced.{Balanced, amount_there}
 use Rattle.ox_ledger.specs.Part.{counts_of, with_counts}
-use Rattle.ox_ledger.specs.Runes.{Runes, artifact_at, etching_by, mint_by}
+use Rattle.ox_ledger.specs.Runes.{Runes, artifact_at, etching_by, mint_by, turn}
 
 -- no rune has this id
 abbrev pub NoneHas : RuneId → List RuneRow → Type 0
@@ -51,3 +51,10 @@ TurnAdds at tx spent before after =
     let artifact = artifact_at at tx in
     Adds (mint_by at.height before.runes artifact)
     (etching_by at tx spent before.runes artifact) before after
+
+-- In a balanced state a transaction, of whose place no rune has the id, adds its open mint's amount
+-- and its etching's premine to runes, and nothing else.
+abbrev pub TurnsAdd : Type 0
+TurnsAdd =
+    (at : Spot) (tx : Tx) (spent : List OutRow) (state : Runes) → Balanced state
+    → NoneHas (id_of at) state.runes → TurnAdds at tx spent state (turn at tx spent state)

@@ -1,10 +1,19 @@
 //! What holds of blocks and runes, whatever the block.
 
 ghost use Rattle.ox_ledger.specs.Part.{LeadsBothWays};
+ghost use Rattle.ox_ledger.specs.Turn.{TurnsAdd};
 
 /// Two states of runes have one part: what of a change between them is about runes. With either
 /// state it gives the other, where the later one's runes begin with those of the earlier one, but
 /// for mints and burned, and nothing is due.
 pub fn parts_lead_both_ways()
     ensures { LeadsBothWays }
+{}
+
+/// A transaction changes how much there is of a rune, with outputs, due to the coinbase's and
+/// burned together, by its open mint's amount and its etching's premine, and by nothing else. The
+/// mints of a rune grow by one exactly with the former. This is so in a balanced state in which no
+/// rune has the id of the transaction's place.
+pub fn turns_add_mint_and_premine()
+    ensures { TurnsAdd }
 {}
