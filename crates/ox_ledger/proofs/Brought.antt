@@ -74,13 +74,13 @@ none_rises : Rise []
 unfolding IsStrictlySortedBy
 none_rises = tt
 
-at_rises : (bal : BalanceMap) (at : OutPoint) → AllRise bal → Rise (balances_at bal at)
+pub at_rises : (bal : BalanceMap) (at : OutPoint) → AllRise bal → Rise (balances_at bal at)
 at_rises bal at all = by_found (get bal at) refl where
   by_found : (there : Option (List Balance)) → get bal at ≡ there → Rise (unwrap_or there [])
   by_found None is = none_rises
   by_found (Some balances) is = all at balances is
 
-was_there : {X : Type 0} (b : Bool) (there : Option X) (x : X) → cond b None there ≡ Some x → there ≡ Some x
+pub was_there : {X : Type 0} (b : Bool) (there : Option X) (x : X) → cond b None there ≡ Some x → there ≡ Some x
 was_there true there x is = let none : None ≡ Some x = is in absurd (cc none)
 was_there false there x is = is
 

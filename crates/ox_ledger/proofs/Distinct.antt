@@ -29,7 +29,7 @@ use Rattle.ox_ledger.proofs.Fresh.{some_mapped, some_then}
 abbrev pub HasNoDouble : {A : Type 0} → List A → Type 0
 HasNoDouble {A} xs = (i j : ℕ) (a b : A) → slice_get xs i ≡ Some a → slice_get xs j ≡ Some b → a ≡ b → i ≡ j
 
-get_mapped : {A B : Type 0} (f : A → B) (xs : List A) (i : ℕ) → slice_get (map f xs) i ≡ option_map f (slice_get xs i)
+pub get_mapped : {A B : Type 0} (f : A → B) (xs : List A) (i : ℕ) → slice_get (map f xs) i ≡ option_map f (slice_get xs i)
 get_mapped f [] i = refl
 get_mapped f (x ∷ xs) zero = refl
 get_mapped f (x ∷ xs) (suc i) = get_mapped f xs i
@@ -89,7 +89,7 @@ begun_same of still after (x ∷ xs) (z ∷ zs) begins =
     let rest = begun_same of still after xs zs begins.1 in
     λ i. first i ∷ rest i
 
-same_after : {A : Type 0} (of : RuneRow → A) → IsFixed of → (mint : Option Balance) (etching : Option RuneRow) (before after : Runes) → Adds mint etching before after
+pub same_after : {A : Type 0} (of : RuneRow → A) → IsFixed of → (mint : Option Balance) (etching : Option RuneRow) (before after : Runes) → Adds mint etching before after
     → map of after.runes ≡ map of before.runes ++ map of (as_list etching)
 same_after of still mint etching before after adds =
     let front = grown_same of still mint before after before.runes adds.earlier adds.grows in

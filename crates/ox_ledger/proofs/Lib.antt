@@ -12,3 +12,5 @@ pub mod Bounded
 pub mod Distinct
 pub mod NewNames
 pub mod RowsStay
+pub mod Known
+pub mod StaysBalanced

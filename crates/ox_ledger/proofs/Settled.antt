@@ -41,15 +41,15 @@ opens : (row : RuneRow) (height amount : ℕ) → minted row height ≡ Some amo
 opens row height amount is = let both = opens_by row height amount row.terms is in record { per = both.0; room = both.1 }
 
 -- the row that is found by an id stands at a place
-record Stands (runes : List RuneRow) (id : RuneId) (row : RuneRow) : Type 0 where
-  place : ℕ
-  there : slice_get runes place ≡ Some row
-  same : row.id ≡ id
+pub record Stands (runes : List RuneRow) (id : RuneId) (row : RuneRow) : Type 0 where
+  pub place : ℕ
+  pub there : slice_get runes place ≡ Some row
+  pub same : row.id ≡ id
 
 stands_behind : (first : RuneRow) (runes : List RuneRow) (id : RuneId) (row : RuneRow) → Stands runes id row → Stands (first ∷ runes) id row
 stands_behind first runes id row stands = record { place = suc stands.place; there = stands.there; same = stands.same }
 
-stands : (runes : List RuneRow) (id : RuneId) (row : RuneRow) → by_id runes id ≡ Some row → Stands runes id row
+pub stands : (runes : List RuneRow) (id : RuneId) (row : RuneRow) → by_id runes id ≡ Some row → Stands runes id row
 unfolding by_id
 stands [] id row is = let none : None ≡ Some row = is in absurd (cc none)
 stands (first ∷ runes) id row is = by_test (stands runes id row) (is_same first.id id) refl is where
