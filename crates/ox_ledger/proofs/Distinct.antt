@@ -34,13 +34,13 @@ get_mapped f [] i = refl
 get_mapped f (x ∷ xs) zero = refl
 get_mapped f (x ∷ xs) (suc i) = get_mapped f xs i
 
-no_double_of : {A : Type 0} (of : RuneRow → A) (runes : List RuneRow) → AreDistinct of runes → HasNoDouble (map of runes)
+pub no_double_of : {A : Type 0} (of : RuneRow → A) (runes : List RuneRow) → AreDistinct of runes → HasNoDouble (map of runes)
 no_double_of of runes distinct i j a b here there same =
     let x = some_mapped of (slice_get runes i) a (sym (get_mapped of runes i) ∙ here) in
     let y = some_mapped of (slice_get runes j) b (sym (get_mapped of runes j) ∙ there) in
     distinct i j x.0 y.0 x.1 y.1 (x.2 ∙ same ∙ sym y.2)
 
-distinct_of : {A : Type 0} (of : RuneRow → A) (runes : List RuneRow) → HasNoDouble (map of runes) → AreDistinct of runes
+pub distinct_of : {A : Type 0} (of : RuneRow → A) (runes : List RuneRow) → HasNoDouble (map of runes) → AreDistinct of runes
 distinct_of of runes none i j a b here there same =
     none i j (of a) (of b) (get_mapped of runes i ∙ ap (option_map of) here) (get_mapped of runes j ∙ ap (option_map of) there) same
 

@@ -14,3 +14,4 @@ pub mod NewNames
 pub mod RowsStay
 pub mod Known
 pub mod StaysBalanced
+pub mod BlockStays

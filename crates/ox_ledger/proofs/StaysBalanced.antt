@@ -132,10 +132,10 @@ settled_hold ids at due hand dealt holds known given = by_place (at.tx == 0) whe
         due = subst (λ (all : List Placement). AllKnown ids all) (sym (place_all_due mid (placements at.txid 0 dealt.given))) known;
       }
 
-holds_from : (state : Runes) → Balanced state → Holds (ids_in state.runes) state.bal
+pub holds_from : (state : Runes) → Balanced state → Holds (ids_in state.runes) state.bal
 holds_from state balanced at balances there = let was = balanced.held at balances there in (was.0, knows_from state.runes balances was.1)
 
-due_from : (runes : List RuneRow) (due : List Placement) → AllByRecursion (λ (new : Placement). AreKnown runes new.1) due → AllKnown (ids_in runes) due
+pub due_from : (runes : List RuneRow) (due : List Placement) → AllByRecursion (λ (new : Placement). AreKnown runes new.1) due → AllKnown (ids_in runes) due
 due_from runes [] known = tt
 due_from runes (new ∷ due) known = (knows_from runes new.1 known.0, due_from runes due known.1)
 

@@ -1,13 +1,18 @@
 -- What a whole block does to runes, and the runes that are there before the first.
-use Rattle.std.specs.Prelude.{ℕ, ◌+◌, ◌-◌, ◌^◌, List, [], ◌∷◌, Some, None, replicate}
+use Rattle.std.specs.Prelude.{◌≡◌, ◌≢◌, ℕ, ◌+◌, ◌-◌, ◌^◌, ◌<◌, ◌≤◌, All, List, [], ◌∷◌, length}
+use Rattle.std.specs.Prelude.{Some, None, replicate}
 use Rattle.std.specs.Prelude.{if◌then◌else◌}
 use Rattle.std.specs.FinMap.{empty}
 use Rattle.ox_block.specs.declared.block.Tx.{Tx}
 use Rattle.ox_runestone.specs.declared.stone.Terms.{Terms}
 use Rattle.ox_sat.specs.declared.profiles.Profile.{Profile}
 use Rattle.ox_rules.specs.declared.moved.MovedTx.{MovedTx}
+use Rattle.ox_rules.specs.declared.rows.OutRow.{OutRow}
 use Rattle.ox_etching.specs.declared.row.RuneRow.{RuneRow}
+use Rattle.ox_etching.specs.Etched.{Spot, id_of}
+use Rattle.ox_ledger.specs.Balanced.{Balanced}
 use Rattle.ox_ledger.specs.Runes.{Runes, end, turn}
+use Rattle.ox_ledger.specs.Turn.{NoneHas}
 
 -- the transaction at a place of a block, by what it did with satoshis
 abbrev pub turn_at : Profile → ℕ → ℕ → Tx → MovedTx → Runes → Runes
@@ -58,3 +63,14 @@ no_runes p = record {
   runes = if p.first_rune then first_rune ∷ [] else [];
   due = [];
 }
+
+-- A transaction leaves a balanced state balanced, and so does a block, which leaves nothing due. Of
+-- the transaction's place no rune may have the id, and none may be of the block's height.
+pub record StaysBalanced : Type 0 where
+  pub turn : (at : Spot) (tx : Tx) (spent : List OutRow) (state : Runes) → at.tx < 2 ^ 32
+      → Balanced state → NoneHas (id_of at) state.runes → Balanced (turn at tx spent state)
+  pub block : (p : Profile) (height : ℕ) (txs : List Tx) (moved : List MovedTx) (state : Runes)
+      → length txs ≤ 2 ^ 32 → Balanced state → All (λ row. row.id.block ≢ height) state.runes
+      → Balanced (runes_after p height txs moved state)
+  pub due : (p : Profile) (height : ℕ) (txs : List Tx) (moved : List MovedTx) (state : Runes)
+      → (runes_after p height txs moved state).due ≡ []

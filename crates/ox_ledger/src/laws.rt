@@ -1,5 +1,6 @@
 //! What holds of blocks and runes, whatever the block.
 
+ghost use Rattle.ox_ledger.specs.Block.{StaysBalanced};
 ghost use Rattle.ox_ledger.specs.Part.{LeadsBothWays};
 ghost use Rattle.ox_ledger.specs.Turn.{TurnsAdd};
 
@@ -16,4 +17,12 @@ pub fn parts_lead_both_ways()
 /// rune has the id of the transaction's place.
 pub fn turns_add_mint_and_premine()
     ensures { TurnsAdd }
+{}
+
+/// What holds of runes still holds after a transaction, where no rune has the id of its place, and
+/// after a block, where none is of its height: ids and names are distinct, numbers are within their
+/// bounds, no output has an empty list, and what there is of each rune is its premine and what its
+/// mints gave. A block leaves nothing due.
+pub fn runes_stay_balanced()
+    ensures { StaysBalanced }
 {}

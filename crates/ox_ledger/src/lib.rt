@@ -3,4 +3,4 @@
 
 mod laws;
 
-pub use laws::{parts_lead_both_ways, turns_add_mint_and_premine};
+pub use laws::{parts_lead_both_ways, runes_stay_balanced, turns_add_mint_and_premine};
