@@ -1,10 +1,9 @@
 -- A block leaves a balanced state balanced, and nothing due.
-use Rattle.std.proofs.Common.{◌≡◌, ◌≢◌, ◌∙◌, ℕ, zero, ◌+◌, ◌*◌, ◌^◌, ◌<◌, ◌≤◌, Bool, true, false, List, [], ◌∷◌, ◌++◌, length, map, refl, sym, ap, subst, arith, Option, Some, None}
+use Rattle.std.proofs.Common.{◌≡◌, ◌≢◌, ◌∙◌, ℕ, ◌+◌, ◌*◌, ◌^◌, ◌<◌, ◌≤◌, List, [], ◌∷◌, ◌++◌, length, map, refl, sym, ap, subst, arith, Option, Some, None}
 use Rattle.std.specs.Prelude.{All}
 use Rattle.std.specs.List.{AllByRecursion, AllZip}
 use Rattle.std.proofs.lemmas.List.Elements.{All-from_recursion, recursion_from_All}
 use Rattle.ox_block.specs.declared.block.Tx.{Tx}
-use Rattle.ox_name.specs.Unlock.{first_reserved, reserved_name}
 use Rattle.ox_runestone.specs.declared.stone.RuneId.{RuneId}
 use Rattle.ox_sat.specs.declared.profiles.Profile.{Profile}
 use Rattle.ox_rules.specs.Transfer.{as_list}
@@ -12,9 +11,9 @@ use Rattle.ox_rules.specs.declared.moved.MovedTx.{MovedTx}
 use Rattle.ox_allocation.specs.Laws.{NothingIsLostOrMade}
 use Rattle.ox_etching.specs.Etched.{Spot, id_of}
 use Rattle.ox_etching.specs.declared.row.RuneRow.{RuneRow}
-use Rattle.ox_ledger.specs.Balanced.{AreDistinct, AreKnown, Balanced, IsBounded, IsSettled, amount_held, amount_per_mint, amount_there, cap_in}
+use Rattle.ox_ledger.specs.Balanced.{AreKnown, Balanced, IsBounded, IsSettled, amount_per_mint}
 use Rattle.ox_ledger.specs.Block.{runes_after, turn_all, turn_at}
-use Rattle.ox_ledger.specs.Runes.{Placement, Runes, artifact_at, end, etching_by, mint_by, place_all}
+use Rattle.ox_ledger.specs.Runes.{Placement, Runes, artifact_at, end, etching_by, mint_by}
 use Rattle.ox_ledger.specs.Turn.{NoneHas, TurnAdds}
 use Rattle.ox_ledger.proofs.Distinct.{HasNoDouble, distinct_of, no_double_of, same_after}
 use Rattle.ox_ledger.proofs.Fresh.{etching_row}

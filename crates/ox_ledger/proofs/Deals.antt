@@ -1,12 +1,12 @@
 -- What a transaction has in hand is dealt: of each rune, what is given and what is burned is what there was.
-use Rattle.std.proofs.Common.{◌≡◌, ◌∙◌, ℕ, ◌+◌, ◌<◌, Bool, true, false, cond, List, [], ◌∷◌, length, map, refl, sym, ap, subst, arith, inl, inr, ◌||◌, Option, Some, None}
+use Rattle.std.proofs.Common.{◌≡◌, ℕ, ◌<◌, Bool, true, false, List, [], length, refl, subst, arith, inl, inr, ◌||◌, Option, Some, None}
 use Rattle.std.specs.Prelude.{IfSome, nat_lt, option_and_then, if◌then◌else◌}
 use Rattle.std.specs.Option.{ForSome, option_map}
 use Rattle.std.proofs.lemmas.Bool.{cases_Bool, ltb-true}
 use Rattle.ox_block.specs.declared.block.Tx.{Tx}
 use Rattle.ox_block.specs.declared.block.TxOut.{TxOut}
-use Rattle.ox_runestone.specs.Artifact.{are_flawed, artifact_of, cenotaph_of, judged, of_integers}
-use Rattle.ox_runestone.specs.Fields.{Firsts, first_of, only, takes, taken_of}
+use Rattle.ox_runestone.specs.Artifact.{are_flawed, artifact_of, judged, of_integers}
+use Rattle.ox_runestone.specs.Fields.{Firsts, first_of, only, taken_of}
 use Rattle.ox_runestone.specs.Message.{Field, edicts_of, message_of}
 use Rattle.ox_runestone.specs.Payload.{integers_of, payload_of}
 use Rattle.ox_runestone.specs.Tags.{pointer_tag}

@@ -1,28 +1,17 @@
 -- Ids and names of runes stay distinct.
-use Rattle.std.proofs.Common.{◌≡◌, ◌≢◌, ◌∙◌, ℕ, zero, suc, ◌+◌, ◌*◌, ◌^◌, ◌<◌, ◌≤◌, Bool, true, false, List, [], ◌∷◌, ◌++◌, length, map, refl, sym, ap, subst, arith, inl, inr, ◌⊎◌, ◌&&◌, ◌||◌, Option, Some, None, append-nil}
-use Rattle.std.specs.Prelude.{not, nat_le, slice_get, ◌==◌, option_and_then, if◌then◌else◌}
-use Rattle.std.specs.List.{AllByRecursion, AllZip, list_any}
-use Rattle.std.specs.Option.{option_map, option_map_or}
-use Rattle.std.proofs.lemmas.Bool.{and_parts, or_parts}
-use Rattle.std.proofs.lemmas.Bool.Decides.{Decides-eqb}
+use Rattle.std.proofs.Common.{◌≡◌, ◌≢◌, ◌∙◌, ℕ, zero, suc, List, [], ◌∷◌, ◌++◌, length, map, refl, sym, ap, subst, inl, inr, ◌⊎◌, Option, Some, None, append-nil}
+use Rattle.std.specs.Prelude.{slice_get}
+use Rattle.std.specs.List.{AllByRecursion, AllZip}
+use Rattle.std.specs.Option.{option_map}
 use Rattle.std.proofs.lemmas.List.{map-append}
-use Rattle.ox_block.specs.declared.block.Tx.{Tx}
-use Rattle.ox_name.specs.Unlock.{first_reserved, reserved_name}
-use Rattle.ox_runestone.specs.declared.stone.Artifact.{Artifact}
-use Rattle.ox_runestone.specs.declared.stone.Artifact.TheVariants.{Stone, Cenotaph}
-use Rattle.ox_runestone.specs.declared.stone.Etching.{Etching}
-use Rattle.ox_runestone.specs.declared.stone.RuneId.{RuneId}
 use Rattle.ox_rules.specs.Transfer.{as_list}
-use Rattle.ox_rules.specs.declared.rows.OutRow.{OutRow}
 use Rattle.ox_allocation.specs.Balances.{Balance}
-use Rattle.ox_etching.specs.Commitment.{commits}
-use Rattle.ox_etching.specs.Etched.{Spot, etched, etching_of, id_of, may_be_given, may_stand, name_alone, name_of, row_of, row_where}
+use Rattle.ox_etching.specs.Etched.{etched}
 use Rattle.ox_etching.specs.declared.row.RuneRow.{RuneRow}
-use Rattle.ox_ledger.specs.Balanced.{AreDistinct, IsBounded}
-use Rattle.ox_ledger.specs.Part.{counts_of, with_counts}
-use Rattle.ox_ledger.specs.Runes.{Runes, etching_by, is_taken, name_of as name_in}
+use Rattle.ox_ledger.specs.Balanced.{AreDistinct}
+use Rattle.ox_ledger.specs.Runes.{Runes}
 use Rattle.ox_ledger.specs.Turn.{Adds, Begins, Grows}
-use Rattle.ox_ledger.proofs.Fresh.{some_mapped, some_then}
+use Rattle.ox_ledger.proofs.Fresh.{some_mapped}
 
 -- ---- lists without a double
 

@@ -1,5 +1,5 @@
 -- A rune that is etched is new: nothing was held of it, and it isn't minted.
-use Rattle.std.proofs.Common.{◌≡◌, ◌≢◌, ◌∙◌, ℕ, zero, suc, ◌+◌, Bool, true, false, cond, T, List, [], ◌∷◌, map, refl, sym, ap, subst, arith, Option, Some, None, Ordering}
+use Rattle.std.proofs.Common.{◌≡◌, ◌≢◌, ◌∙◌, ℕ, zero, suc, Bool, true, false, cond, T, List, [], ◌∷◌, map, refl, sym, ap, subst, arith, Option, Some, None, Ordering}
 use Rattle.std.specs.Prelude.{◌&&◌, option_and_then, if◌then◌else◌}
 use Rattle.std.specs.List.{AllByRecursion}
 use Rattle.std.specs.Option.{option_map, option_map_or}
@@ -23,7 +23,7 @@ use Rattle.ox_allocation.proofs.Ids.{same_id, same_turned}
 use Rattle.ox_etching.specs.Etched.{Spot, etched, etching_of, id_of, name_of, row_of, row_where}
 use Rattle.ox_etching.specs.Minted.{minted}
 use Rattle.ox_etching.specs.declared.row.RuneRow.{RuneRow}
-use Rattle.ox_ledger.specs.Balanced.{AreKnown, Balanced, amount_held}
+use Rattle.ox_ledger.specs.Balanced.{AreKnown, Balanced}
 use Rattle.ox_ledger.specs.Runes.{BalanceMap, Placement, Runes, by_id, etching_by, is_taken, mint_at, mint_by, mint_of, name_of as name_in}
 use Rattle.ox_ledger.specs.Turn.{NoneHas}
 use Rattle.ox_ledger.proofs.Held.{amount_held-cons, amount_of, held, total_is}

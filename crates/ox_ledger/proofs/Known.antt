@@ -1,6 +1,6 @@
 -- Balances of runes that are there stay so.
-use Rattle.std.proofs.Common.{◌≡◌, ◌≢◌, ◌∙◌, ℕ, zero, suc, ◌+◌, ◌<◌, ◌≤◌, Bool, true, false, cond, List, [], ◌∷◌, ◌++◌, length, map, refl, sym, ap, subst, arith, Option, Some, None, Ordering, append_assoc}
-use Rattle.std.specs.Prelude.{All, Contains, slice_get, slice_index_or, unwrap_or, ◌==◌, option_and_then, if◌then◌else◌}
+use Rattle.std.proofs.Common.{◌≡◌, ◌≢◌, ◌∙◌, ℕ, zero, suc, ◌+◌, Bool, true, false, cond, List, [], ◌∷◌, ◌++◌, map, refl, sym, ap, subst, arith, Option, Some, None}
+use Rattle.std.specs.Prelude.{slice_get, unwrap_or, ◌==◌, if◌then◌else◌}
 use Rattle.std.specs.List.{AllByRecursion}
 use Rattle.std.specs.Option.{option_map}
 use Rattle.std.specs.Ordering.{eq_by_cmp}
@@ -9,24 +9,19 @@ use Rattle.std.proofs.lemmas.Option.{get_or_from_slice_get, slice_get-get_or, sl
 use Rattle.ox_block.specs.declared.block.OutPoint.{OutPoint}
 use Rattle.ox_block.specs.declared.block.Tx.{Tx}
 use Rattle.ox_block.specs.declared.block.TxIn.{TxIn}
-use Rattle.ox_block.specs.declared.block.TxOut.{TxOut}
 use Rattle.ox_block.specs.declared.block.Txid.{Txid}
 use Rattle.ox_runestone.specs.declared.stone.RuneId.{RuneId}
 use Rattle.ox_rules.proofs.Orders.{outpoints_total}
 use Rattle.ox_rules.specs.Outputs.{outpoint_cmp}
-use Rattle.ox_rules.specs.Transfer.{as_list}
 use Rattle.ox_allocation.specs.Balances.{AreBalances, Balance, amount_in, is_same, with_more}
 use Rattle.ox_allocation.proofs.Amounts.{amount-with_more}
-use Rattle.ox_allocation.proofs.BalanceLemmas.{no_balances}
 use Rattle.ox_allocation.proofs.Ids.{same_id}
 use Rattle.ox_etching.specs.declared.row.RuneRow.{RuneRow}
-use Rattle.ox_ledger.specs.Balanced.{AreKnown, amount_held}
-use Rattle.ox_ledger.specs.Runes.{BalanceMap, Brought, Placement, Runes, balances_at, brought_by, brought_of, joined_with, place, place_all, placements, pool_with, with_balances}
-use Rattle.ox_ledger.proofs.Brought.{AllRise, Rise, amount-joined_with, at_rises, remove_rises, was_there}
+use Rattle.ox_ledger.specs.Balanced.{AreKnown}
+use Rattle.ox_ledger.specs.Runes.{BalanceMap, Brought, Placement, Runes, balances_at, brought_by, brought_of, joined_with, place, place_all, placements, with_balances}
+use Rattle.ox_ledger.proofs.Brought.{AllRise, Rise, amount-joined_with, at_rises, was_there}
 use Rattle.ox_ledger.proofs.Distinct.{get_mapped}
 use Rattle.ox_ledger.proofs.Fresh.{some_mapped}
-use Rattle.ox_ledger.proofs.Held.{amount_held-cons}
-use Rattle.ox_ledger.proofs.TurnLemmas.{one_balance}
 
 -- ---- ids that are there
 

@@ -1,8 +1,8 @@
 -- The name of a rune that is etched is new.
-use Rattle.std.proofs.Common.{◌≡◌, ◌≢◌, ◌∙◌, ℕ, ◌+◌, ◌*◌, ◌^◌, ◌<◌, ◌≤◌, Bool, true, false, List, [], ◌∷◌, refl, sym, ap, subst, arith, ◌&&◌, ◌||◌, Option, Some, None}
+use Rattle.std.proofs.Common.{◌≡◌, ◌≢◌, ◌∙◌, ℕ, ◌^◌, ◌<◌, ◌≤◌, Bool, true, false, List, [], ◌∷◌, refl, sym, ap, subst, arith, ◌&&◌, Option, Some, None}
 use Rattle.std.specs.Prelude.{not, ◌==◌, option_and_then, if◌then◌else◌}
-use Rattle.std.specs.List.{AllByRecursion, list_any}
-use Rattle.std.specs.Option.{option_map, option_map_or}
+use Rattle.std.specs.List.{AllByRecursion}
+use Rattle.std.specs.Option.{option_map_or}
 use Rattle.std.proofs.lemmas.Bool.{and_parts, or_parts}
 use Rattle.std.proofs.lemmas.Bool.Decides.{Decides-eqb}
 use Rattle.ox_block.specs.declared.block.Tx.{Tx}
@@ -10,7 +10,6 @@ use Rattle.ox_name.specs.Unlock.{first_reserved, reserved_name}
 use Rattle.ox_runestone.specs.declared.stone.Artifact.{Artifact}
 use Rattle.ox_runestone.specs.declared.stone.Artifact.TheVariants.{Stone, Cenotaph}
 use Rattle.ox_runestone.specs.declared.stone.Etching.{Etching}
-use Rattle.ox_runestone.specs.declared.stone.RuneId.{RuneId}
 use Rattle.ox_rules.specs.declared.rows.OutRow.{OutRow}
 use Rattle.ox_etching.specs.Commitment.{commits}
 use Rattle.ox_etching.specs.Etched.{Spot, etched, etching_of, id_of, may_be_given, may_stand, name_alone, name_of, row_of, row_where}

@@ -1,19 +1,16 @@
 -- Once a transaction is done, runes are settled again, and within their bounds.
-use Rattle.std.proofs.Common.{◌≡◌, ◌≢◌, ◌∙◌, ℕ, zero, suc, ◌+◌, ◌*◌, ◌<◌, ◌≤◌, Bool, true, false, List, [], ◌∷◌, ◌++◌, refl, sym, ap, subst, arith, add-mul, one-mul, zero-mul, Option, Some, None}
-use Rattle.std.specs.Prelude.{slice_get, unwrap_or, nat_lt, ◌&&◌, option_and_then, if◌then◌else◌}
+use Rattle.std.proofs.Common.{◌≡◌, ◌∙◌, ℕ, suc, ◌+◌, ◌*◌, ◌<◌, ◌≤◌, Bool, true, false, List, [], ◌∷◌, ◌++◌, refl, sym, ap, subst, arith, add-mul, one-mul, zero-mul, Option, Some, None}
+use Rattle.std.specs.Prelude.{slice_get, unwrap_or, nat_lt, option_and_then, if◌then◌else◌}
 use Rattle.std.specs.List.{AllByRecursion, AllZip}
-use Rattle.std.specs.Option.{option_map}
 use Rattle.std.proofs.lemmas.Bool.{and_parts, ltb-true}
-use Rattle.ox_runestone.specs.declared.stone.Artifact.{Artifact}
 use Rattle.ox_runestone.specs.declared.stone.RuneId.{RuneId}
 use Rattle.ox_runestone.specs.declared.stone.Terms.{Terms}
 use Rattle.ox_rules.specs.Transfer.{as_list}
 use Rattle.ox_allocation.specs.Balances.{Balance, amount_in, is_same}
-use Rattle.ox_allocation.proofs.Ids.{same_id, same_itself, same_turned}
+use Rattle.ox_allocation.proofs.Ids.{same_id, same_turned}
 use Rattle.ox_etching.specs.Minted.{is_open, is_within, minted, minted_by}
 use Rattle.ox_etching.specs.declared.row.RuneRow.{RuneRow}
-use Rattle.ox_ledger.specs.Balanced.{AreDistinct, IsBounded, IsSettled, amount_per_mint, amount_there, cap_in}
-use Rattle.ox_ledger.specs.Part.{counts_of, with_counts}
+use Rattle.ox_ledger.specs.Balanced.{AreDistinct, IsSettled, amount_per_mint, cap_in}
 use Rattle.ox_ledger.specs.Runes.{Runes, by_id, mint_at}
 use Rattle.ox_ledger.specs.Turn.{Adds, Begins, Grows, mints_in}
 use Rattle.ox_ledger.proofs.Fresh.{some_mapped, some_then}

@@ -1,12 +1,10 @@
 -- A balanced state is balanced after a transaction.
-use Rattle.std.proofs.Common.{◌≡◌, ◌≢◌, ◌∙◌, ℕ, zero, ◌+◌, ◌^◌, ◌<◌, ◌≤◌, Bool, true, false, List, [], ◌∷◌, ◌++◌, length, map, refl, sym, ap, subst, arith, Option, Some, None}
-use Rattle.std.specs.Prelude.{All, slice_get, ◌==◌, option_and_then, if◌then◌else◌}
+use Rattle.std.proofs.Common.{◌≡◌, ◌∙◌, ℕ, ◌+◌, ◌^◌, ◌<◌, ◌≤◌, Bool, true, false, List, [], ◌∷◌, ◌++◌, map, refl, sym, ap, subst, arith, Option, Some, None}
+use Rattle.std.specs.Prelude.{◌==◌, option_and_then, if◌then◌else◌}
 use Rattle.std.specs.List.{AllByRecursion}
 use Rattle.std.specs.List.Sorted.{IsStrictlySortedBy}
 use Rattle.std.specs.Option.{option_map}
-use Rattle.std.specs.FinMap.{get}
 use Rattle.std.proofs.lemmas.List.Elements.{All-from_recursion, recursion_from_All}
-use Rattle.ox_block.specs.declared.block.OutPoint.{OutPoint}
 use Rattle.ox_block.specs.declared.block.Tx.{Tx}
 use Rattle.ox_block.specs.declared.block.TxOut.{TxOut}
 use Rattle.ox_runestone.specs.declared.stone.Artifact.{Artifact}
@@ -34,8 +32,7 @@ use Rattle.ox_ledger.proofs.Held.{amount_held-cons}
 use Rattle.ox_ledger.proofs.Known.{AllKnown, Holds, Knows, Member, Within, brought_of_holds, brought_of_within, ids_in, known_placements, knows_from, knows_to, member_front, member_last, more_within, place_all_due, place_all_holds}
 use Rattle.ox_ledger.proofs.Pools.{brought_balances, pool_balances}
 use Rattle.ox_ledger.proofs.RowsStay.{RowsBalanced, rows_stay}
-use Rattle.ox_ledger.proofs.Settled.{Stands, stands}
-use Rattle.ox_ledger.proofs.TurnLemmas.{dealt_amount}
+use Rattle.ox_ledger.proofs.Settled.{stands}
 use Rattle.ox_ledger.proofs.TurnsAdd.{turn_adds}
 
 -- ---- with more runes
