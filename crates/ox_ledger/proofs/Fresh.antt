@@ -83,7 +83,7 @@ no_total f (e ∷ es) sorted none =
     let rest : total outpoints_total f es ≡ 0 = no_total f es (second_of_two _ _ sorted) (λ q balances there. none q balances (found_on e es q balances (first_of_two _ _ sorted) there)) in
     omega (arith, first, rest)
 
-none_held : (bal : BalanceMap) (id : RuneId) → ((at : OutPoint) (balances : List Balance) → get bal at ≡ Some balances → amount_in balances id ≡ 0) → held bal id ≡ 0
+pub none_held : (bal : BalanceMap) (id : RuneId) → ((at : OutPoint) (balances : List Balance) → get bal at ≡ Some balances → amount_in balances id ≡ 0) → held bal id ≡ 0
 none_held bal id none =
     total_is (entries bal) id
     ∙ no_total (amount_of id) (entries bal) (entries_sorted bal) (λ q balances there. none q balances (get-entries bal q ∙ there))

@@ -15,3 +15,4 @@ pub mod RowsStay
 pub mod Known
 pub mod StaysBalanced
 pub mod BlockStays
+pub mod StartBalanced

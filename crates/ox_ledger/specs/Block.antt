@@ -64,9 +64,11 @@ no_runes p = record {
   due = [];
 }
 
--- A transaction leaves a balanced state balanced, and so does a block, which leaves nothing due. Of
--- the transaction's place no rune may have the id, and none may be of the block's height.
+-- A chain begins with a balanced state. A transaction leaves such a state balanced, and so does a
+-- block, which leaves nothing due. Of the transaction's place no rune may have the id, and none may
+-- be of the block's height.
 pub record StaysBalanced : Type 0 where
+  pub start : (p : Profile) → Balanced (no_runes p)
   pub turn : (at : Spot) (tx : Tx) (spent : List OutRow) (state : Runes) → at.tx < 2 ^ 32
       → Balanced state → NoneHas (id_of at) state.runes → Balanced (turn at tx spent state)
   pub block : (p : Profile) (height : ℕ) (txs : List Tx) (moved : List MovedTx) (state : Runes)
