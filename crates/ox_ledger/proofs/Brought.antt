@@ -1,4 +1,4 @@
--- What a transaction's inputs bring is what their outputs held.
+-- What a transaction's inputs bring is what their outputs amount_held_in.
 use Rattle.std.proofs.Common.{◌≡◌, ◌∙◌, ℕ, ◌+◌, Bool, true, false, cond, List, [], ◌∷◌, refl, sym, ap, arith, Option, Some, None}
 use Rattle.std.specs.BTreeMap.{is_at}
 use Rattle.std.specs.Map.{lookup}
@@ -18,7 +18,7 @@ use Rattle.ox_allocation.specs.Balances.{Balance, amount_in, id_cmp, ids_of, is_
 use Rattle.ox_allocation.proofs.Amounts.{amount-with_more}
 use Rattle.ox_allocation.proofs.Ids.{same_id, same_turned}
 use Rattle.ox_ledger.specs.Runes.{BalanceMap, Brought, balances_at, brought_by, brought_of, joined_with}
-use Rattle.ox_ledger.proofs.Held.{held, held-remove}
+use Rattle.ox_ledger.proofs.Held.{amount_held_in, held-remove}
 
 -- the ids of some balances rise
 abbrev pub Rise : List Balance → Type 0
@@ -28,14 +28,14 @@ Rise balances = IsStrictlySortedBy id_cmp (ids_of balances)
 abbrev pub AllRise : BalanceMap → Type 0
 AllRise bal = (at : OutPoint) (balances : List Balance) → get bal at ≡ Some balances → Rise balances
 
-abbrev found : RuneId → List Balance → Option ℕ
-found id balances = lookup (is_at (id_cmp id)) balances
+abbrev amount_found : RuneId → List Balance → Option ℕ
+amount_found id balances = lookup (is_at (id_cmp id)) balances
 
 -- a rune below others isn't among them
 none_above : (id : RuneId) (balances : List Balance) → AllByRecursion (λ other. id_cmp id other ≡ Less) (ids_of balances) → amount_in balances id ≡ 0
 none_above id [] below = refl
 none_above id (one ∷ balances) below =
-    ap (λ r. unwrap_or (cond (is_eq r) (Some one.1) (found id balances)) 0) below.0 ∙ none_above id balances below.1
+    ap (λ r. unwrap_or (cond (is_eq r) (Some one.1) (amount_found id balances)) 0) below.0 ∙ none_above id balances below.1
 
 rest_rises : (one : Balance) (balances : List Balance) → Rise (one ∷ balances) → Rise balances
 unfolding IsStrictlySortedBy
@@ -51,12 +51,12 @@ amount_first one balances id rise = by_test (is_same one.0 id) refl where
   by_test : (b : Bool) → is_same one.0 id ≡ b → amount_in (one ∷ balances) id ≡ (if b then one.1 else 0) + amount_in balances id
   by_test true is =
       let here : amount_in (one ∷ balances) id ≡ one.1 =
-      ap (λ (b : Bool). unwrap_or (cond b (Some one.1) (found id balances)) 0) (same_turned id one.0 ∙ is) in
+      ap (λ (b : Bool). unwrap_or (cond b (Some one.1) (amount_found id balances)) 0) (same_turned id one.0 ∙ is) in
       let none : amount_in balances id ≡ 0 = ap (amount_in balances) (sym (same_id one.0 id is)) ∙ none_above one.0 balances (first_below one balances rise) in
       omega (arith, here, none)
   by_test false is =
       let later : amount_in (one ∷ balances) id ≡ amount_in balances id =
-      ap (λ (b : Bool). unwrap_or (cond b (Some one.1) (found id balances)) 0) (same_turned id one.0 ∙ is) in
+      ap (λ (b : Bool). unwrap_or (cond b (Some one.1) (amount_found id balances)) 0) (same_turned id one.0 ∙ is) in
       omega (arith, later)
 
 -- balances that join others
@@ -89,7 +89,7 @@ remove_rises bal at all q balances is =
     all q balances (was_there (eq_by_cmp outpoint_cmp q at) (get bal q) balances (sym (get-remove outpoints_total bal at q) ∙ is))
 
 pub brought-by : (inputs : List TxIn) (bal : BalanceMap) (pool : List Balance) (id : RuneId) → AllRise bal
-    → amount_in (brought_by inputs bal pool).pool id + held (brought_by inputs bal pool).bal id ≡ amount_in pool id + held bal id
+    → amount_in (brought_by inputs bal pool).pool id + amount_held_in (brought_by inputs bal pool).bal id ≡ amount_in pool id + amount_held_in bal id
 unfolding brought_by
 brought-by [] bal pool id all = refl
 brought-by (input ∷ inputs) bal pool id all =
@@ -99,9 +99,9 @@ brought-by (input ∷ inputs) bal pool id all =
     omega (arith, rest, joined, left)
 
 pub brought-of : (place : ℕ) (tx : Tx) (bal : BalanceMap) (id : RuneId) → AllRise bal
-    → amount_in (brought_of place tx bal).pool id + held (brought_of place tx bal).bal id ≡ held bal id
+    → amount_in (brought_of place tx bal).pool id + amount_held_in (brought_of place tx bal).bal id ≡ amount_held_in bal id
 brought-of place tx bal id all = by_test (place == 0) where
   by_test : (b : Bool) → let brought : Brought = if b then record { pool = []; bal = bal } else brought_by tx.inputs bal [] in
-      amount_in brought.pool id + held brought.bal id ≡ held bal id
+      amount_in brought.pool id + amount_held_in brought.bal id ≡ amount_held_in bal id
   by_test true = omega arith
   by_test false = let all_of = brought-by tx.inputs bal [] id all in omega (arith, all_of)

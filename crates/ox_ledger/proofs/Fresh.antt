@@ -1,4 +1,4 @@
--- A rune that is etched is new: nothing was held of it, and it isn't minted.
+-- A rune that is etched is new: nothing was amount_held_in of it, and it isn't minted.
 use Rattle.std.proofs.Common.{◌≡◌, ◌≢◌, ◌∙◌, ℕ, zero, suc, Bool, true, false, cond, T, List, [], ◌∷◌, map, refl, sym, ap, subst, arith, Option, Some, None, Ordering}
 use Rattle.std.specs.Prelude.{◌&&◌, option_and_then, if◌then◌else◌}
 use Rattle.std.specs.List.{AllByRecursion}
@@ -26,12 +26,12 @@ use Rattle.ox_etching.specs.declared.row.RuneRow.{RuneRow}
 use Rattle.ox_ledger.specs.Balanced.{AreKnown, Balanced}
 use Rattle.ox_ledger.specs.Runes.{BalanceMap, Placement, Runes, by_id, etching_by, is_taken, mint_at, mint_by, mint_of, name_of as name_in}
 use Rattle.ox_ledger.specs.Turn.{NoneHas}
-use Rattle.ox_ledger.proofs.Held.{amount_held-cons, amount_of, held, total_is}
+use Rattle.ox_ledger.proofs.Held.{amount_held-cons, amount_of, amount_held_in, total_is}
 use Rattle.ox_ledger.proofs.Brought.{AllRise}
 use Rattle.ox_ledger.proofs.Gains.{amount_placed}
 use Rattle.ox_ledger.proofs.TurnLemmas.{AllFresh, IsFresh, IsOther, one_balance}
 
--- ---- of a rune that no row is of, nothing is held
+-- ---- of a rune that no row is of, nothing is amount_held_in
 
 zero_from_not : (n : ℕ) → (n ≢ 0 → ⊥) → n ≡ 0
 zero_from_not zero none = refl
@@ -80,10 +80,10 @@ no_total : (f : List Balance → ℕ) (es : Entries) → T (is_sorted outpoint_c
 no_total f [] sorted none = refl
 no_total f (e ∷ es) sorted none =
     let first : f e.1 ≡ 0 = none e.0 e.1 (ap (λ r. cond (is_eq r) (Some e.1) (find outpoint_cmp e.0 es)) (tied_itself outpoints_total e.0)) in
-    let rest : total outpoints_total f es ≡ 0 = no_total f es (second_of_two _ _ sorted) (λ q balances there. none q balances (found_on e es q balances (first_of_two _ _ sorted) there)) in
+    let rest : total outpoints_total f es ≡ 0 = no_total f es (second_of_two (below_all outpoint_cmp e.0 es) (is_sorted outpoint_cmp es) sorted) (λ q balances there. none q balances (found_on e es q balances (first_of_two (below_all outpoint_cmp e.0 es) (is_sorted outpoint_cmp es) sorted) there)) in
     omega (arith, first, rest)
 
-pub none_held : (bal : BalanceMap) (id : RuneId) → ((at : OutPoint) (balances : List Balance) → get bal at ≡ Some balances → amount_in balances id ≡ 0) → held bal id ≡ 0
+pub none_held : (bal : BalanceMap) (id : RuneId) → ((at : OutPoint) (balances : List Balance) → get bal at ≡ Some balances → amount_in balances id ≡ 0) → amount_held_in bal id ≡ 0
 none_held bal id none =
     total_is (entries bal) id
     ∙ no_total (amount_of id) (entries bal) (entries_sorted bal) (λ q balances there. none q balances (get-entries bal q ∙ there))
@@ -92,7 +92,7 @@ none_known : (runes : List RuneRow) (balances : List Balance) (id : RuneId) → 
 none_known runes balances id known none = zero_from_not (amount_in balances id) (λ some.
     let row = known.known id some in All-contains (λ (row : RuneRow). row.id ≢ id) runes row.0 none row.1 row.2)
 
-none_held_of : (state : Runes) (id : RuneId) → Balanced state → NoneHas id state.runes → held state.bal id ≡ 0
+none_held_of : (state : Runes) (id : RuneId) → Balanced state → NoneHas id state.runes → amount_held_in state.bal id ≡ 0
 none_held_of state id balanced none = none_held state.bal id (λ at balances there. none_known state.runes balances id (balanced.held at balances there).1 none)
 
 none_due : (runes : List RuneRow) (due : List Placement) (id : RuneId) → AllByRecursion (λ (new : Placement). AreKnown runes new.1) due → NoneHas id runes → amount_placed due id ≡ 0

@@ -7,7 +7,7 @@ use Rattle.ox_allocation.specs.Balances.{Balance, amount_in}
 use Rattle.ox_etching.specs.declared.row.RuneRow.{RuneRow}
 use Rattle.ox_ledger.specs.Balanced.{amount_held, amount_there}
 use Rattle.ox_ledger.specs.Runes.{Placement, Runes, balances_at, burn_of, place, place_all, placements}
-use Rattle.ox_ledger.proofs.Held.{amount_held-cons, held, held-with_balances}
+use Rattle.ox_ledger.proofs.Held.{amount_held-cons, amount_held_in, held-with_balances}
 
 -- there is so much more of a rune, and nothing else of it changes than what was burned
 pub record Gains (gain : RuneId → ℕ) (before after : Runes) (old new : RuneRow) : Type 0 where
@@ -49,7 +49,7 @@ gain_then g h k a b c sum first then = all_then (Gains g a b) (Gains h b c) (Gai
 
 -- one step: so much more is burned of each rune, and outputs and what is due hold more or less
 pub step_gains : (gain burns : RuneId → ℕ) (before after : Runes)
-    → ((id : RuneId) → held after.bal id + amount_held (map (λ new. new.1) after.due) id + burns id ≡ held before.bal id + amount_held (map (λ new. new.1) before.due) id + gain id)
+    → ((id : RuneId) → amount_held_in after.bal id + amount_held (map (λ new. new.1) after.due) id + burns id ≡ amount_held_in before.bal id + amount_held (map (λ new. new.1) before.due) id + gain id)
     → (row : RuneRow) → Gains gain before after row (record row { burned = row.burned + burns row.id })
 step_gains gain burns before after total row = record { stays = refl; amount = omega (arith, total row.id) }
 

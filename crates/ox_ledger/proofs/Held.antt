@@ -18,8 +18,8 @@ use Rattle.ox_ledger.specs.Runes.{BalanceMap, balances_at, with_balances}
 abbrev pub amount_of : RuneId → List Balance → ℕ
 amount_of id balances = amount_in balances id
 
-abbrev pub held : BalanceMap → RuneId → ℕ
-held bal id = amount_held (values bal) id
+abbrev pub amount_held_in : BalanceMap → RuneId → ℕ
+amount_held_in bal id = amount_held (values bal) id
 
 pub total_is : (es : List (OutPoint × List Balance)) (id : RuneId)
     → amount_held (map (λ e. e.1) es) id ≡ total outpoints_total (amount_of id) es
@@ -32,7 +32,7 @@ weight None id = refl
 weight (Some balances) id = refl
 
 held-insert : (bal : BalanceMap) (at : OutPoint) (balances : List Balance) (id : RuneId)
-    → held (insert bal at balances) id + amount_in (balances_at bal at) id ≡ held bal id + amount_in balances id
+    → amount_held_in (insert bal at balances) id + amount_in (balances_at bal at) id ≡ amount_held_in bal id + amount_in balances id
 held-insert bal at balances id =
     let sums = total_insert outpoints_total (amount_of id) bal at balances in
     let was = weight (get bal at) id in
@@ -56,11 +56,11 @@ remove-none bal at none = same_map outpoints_total outpoints_exact (remove bal a
     ∙ none_there (get bal q) (eq_by_cmp outpoint_cmp q at) (λ is. ap (get bal) (outpoints_exact q at (tie (outpoint_cmp q at) is)) ∙ none))
 
 pub held-remove : (bal : BalanceMap) (at : OutPoint) (id : RuneId)
-    → held (remove bal at) id + amount_in (balances_at bal at) id ≡ held bal id
+    → amount_held_in (remove bal at) id + amount_in (balances_at bal at) id ≡ amount_held_in bal id
 held-remove bal at id = by_found (get bal at) refl where
-  by_found : (found : Option (List Balance)) → get bal at ≡ found → held (remove bal at) id + amount_in (unwrap_or (get bal at) []) id ≡ held bal id
+  by_found : (found : Option (List Balance)) → get bal at ≡ found → amount_held_in (remove bal at) id + amount_in (unwrap_or (get bal at) []) id ≡ amount_held_in bal id
   by_found None none =
-      let same = ap (λ (m : BalanceMap). held m id) (remove-none bal at none) in
+      let same = ap (λ (m : BalanceMap). amount_held_in m id) (remove-none bal at none) in
       let nothing : amount_in (unwrap_or (get bal at) []) id ≡ 0 = ap (λ (f : Option (List Balance)). amount_in (unwrap_or f []) id) none in
       omega (arith, same, nothing)
   by_found (Some balances) there =
@@ -71,7 +71,7 @@ held-remove bal at id = by_found (get bal at) refl where
       omega (arith, sums, now, before, some)
 
 pub held-with_balances : (bal : BalanceMap) (at : OutPoint) (balances : List Balance) (id : RuneId)
-    → held (with_balances bal at balances) id + amount_in (balances_at bal at) id ≡ held bal id + amount_in balances id
+    → amount_held_in (with_balances bal at balances) id + amount_in (balances_at bal at) id ≡ amount_held_in bal id + amount_in balances id
 held-with_balances bal at [] id = omega (arith, held-remove bal at id)
 held-with_balances bal at (one ∷ balances) id = held-insert bal at (one ∷ balances) id
 

@@ -1,18 +1,18 @@
 -- The runes of a chain without a block are balanced.
-use Rattle.std.proofs.Common.{◌≡◌, ◌≢◌, ◌∙◌, ℕ, zero, suc, ◌+◌, ◌*◌, ◌^◌, ◌<◌, ◌≤◌, Bool, true, false, List, [], ◌∷◌, refl, sym, subst, arith, lit<, lit≤, Option, Some, None}
+use Rattle.std.proofs.Common.{◌≡◌, ◌∙◌, ℕ, zero, suc, Bool, true, false, List, [], ◌∷◌, refl, sym, arith, lit<, lit≤, Some, None}
 use Rattle.std.specs.Prelude.{All, slice_get, if◌then◌else◌}
 use Rattle.std.specs.FinMap.{empty, get, get-empty}
 use Rattle.std.proofs.lemmas.List.Elements.{All-from_recursion}
 use Rattle.ox_block.specs.declared.block.OutPoint.{OutPoint}
 use Rattle.ox_sat.specs.declared.profiles.Profile.{Profile}
 use Rattle.ox_rules.specs.Outputs.{outpoint_cmp}
-use Rattle.ox_allocation.specs.Balances.{Balance, amount_in}
+use Rattle.ox_allocation.specs.Balances.{Balance}
 use Rattle.ox_etching.specs.declared.row.RuneRow.{RuneRow}
 use Rattle.ox_ledger.specs.Balanced.{AreDistinct, AreKnown, Balanced, IsBounded, IsSettled}
 use Rattle.ox_ledger.specs.Block.{first_rune, no_runes}
 use Rattle.ox_ledger.specs.Runes.{BalanceMap, Placement, Runes}
 use Rattle.ox_ledger.proofs.Fresh.{none_held}
-use Rattle.ox_ledger.proofs.Held.{held}
+use Rattle.ox_ledger.proofs.Held.{amount_held_in}
 
 abbrev no_balances : BalanceMap
 no_balances = empty
@@ -44,7 +44,7 @@ first_bounded = record {
 }
 
 first_settled : IsSettled (start (first_rune ∷ [])) first_rune
-first_settled = let none : held no_balances first_rune.id ≡ 0 = none_held no_balances first_rune.id (λ at balances there. none_there at balances there) in omega (arith, none)
+first_settled = let none : amount_held_in no_balances first_rune.id ≡ 0 = none_held no_balances first_rune.id (λ at balances there. none_there at balances there) in omega (arith, none)
 
 start_by : (b : Bool) → Balanced (start (if b then first_rune ∷ [] else []))
 start_by true = record {

@@ -19,7 +19,7 @@ use Rattle.ox_ledger.specs.Runes.{InHand, Placement, Runes, brought_of, burn, bu
 use Rattle.ox_ledger.specs.Turn.{Adds, Begins, Grows, mints_in}
 use Rattle.ox_ledger.proofs.Brought.{AllRise, brought-of}
 use Rattle.ox_ledger.proofs.Gains.{AllGain, Gains, all_mapped, amount_placed, gain_then, place_all_gains, placed-placements, step_gains}
-use Rattle.ox_ledger.proofs.Held.{amount_held-append, amount_held-cons, held}
+use Rattle.ox_ledger.proofs.Held.{amount_held-append, amount_held-cons, amount_held_in}
 
 -- ---- the pool
 
@@ -87,9 +87,9 @@ same_rows : (rows : List RuneRow) → AllZip (Counted None) rows rows
 same_rows [] = tt
 same_rows (row ∷ rows) = (record { stays = refl; mints = omega arith }, same_rows rows)
 
-counted : (runes : List RuneRow) (mint : Option Balance) → AllZip (Counted mint) runes (with_mint runes mint)
-counted runes None = same_rows runes
-counted runes (Some mint) = all_mapped (Counted (Some mint)) (mint_more mint.0) (counted_one mint) runes
+mint_counted : (runes : List RuneRow) (mint : Option Balance) → AllZip (Counted mint) runes (with_mint runes mint)
+mint_counted runes None = same_rows runes
+mint_counted runes (Some mint) = all_mapped (Counted (Some mint)) (mint_more mint.0) (counted_one mint) runes
 
 -- two parts of a list, each with its own
 record Splits {A B : Type 0} (R : A → B → Type 0) (xs ys : List A) (zs : List B) : Type 0 where
@@ -119,7 +119,7 @@ amount_premine (Some etched) row other = one_balance (premine_of etched) row.id 
 
 -- a rune that is etched is new: there was nothing of it
 pub record IsFresh (before : Runes) (mint : Option Balance) (etched : RuneRow) : Type 0 where
-  pub held_before : held before.bal etched.id ≡ 0
+  pub held_before : amount_held_in before.bal etched.id ≡ 0
   pub due : amount_placed before.due etched.id ≡ 0
   pub minted_before : amount_in (as_list mint) etched.id ≡ 0
   pub mints : etched.mints ≡ 0
@@ -128,7 +128,7 @@ pub record IsFresh (before : Runes) (mint : Option Balance) (etched : RuneRow) :
 -- what of a state goes into a hand: the inputs' balances are in the pool, with the mint and the premine
 record Gathers (before : Runes) (mint : Option Balance) (etching : Option RuneRow) (hand : InHand) : Type 0 where
   brought : RuneId → ℕ
-  held_together : (id : RuneId) → brought id + held hand.bal id ≡ held before.bal id
+  held_together : (id : RuneId) → brought id + amount_held_in hand.bal id ≡ amount_held_in before.bal id
   pool : (id : RuneId) → amount_in hand.pool id ≡ brought id + amount_in (as_list mint) id + amount_in (as_list (option_map premine_of etching)) id
 
 grows_one : (before after : Runes) (mint : Option Balance) (etching : Option RuneRow) (hand : InHand) → Gathers before mint etching hand → (x y z : RuneRow)
@@ -138,7 +138,7 @@ grows_one before after mint etching hand gathers x y z other counts gains =
     let burned : y.burned ≡ x.burned = ap (λ (row : RuneRow). row.burned) counts.stays in
     let mints : z.mints ≡ y.mints = ap (λ (row : RuneRow). row.mints) gains.stays in
     let in_pool : amount_in hand.pool y.id ≡ amount_in hand.pool x.id = ap (amount_in hand.pool) id in
-    let held_of : held hand.bal y.id ≡ held hand.bal x.id = ap (held hand.bal) id in
+    let held_of : amount_held_in hand.bal y.id ≡ amount_held_in hand.bal x.id = ap (amount_held_in hand.bal) id in
     let due_of : amount_placed before.due y.id ≡ amount_placed before.due x.id = ap (amount_placed before.due) id in
     let premine = amount_premine etching x other in
     let pool = gathers.pool x.id in
@@ -217,6 +217,6 @@ adds at tx before mint etching dealt all other fresh deals =
       earlier = split.front;
       last = split.back;
       runes = split.whole;
-      grows = grows_all before after mint etching hand gather before.runes (with_mint before.runes mint) split.front other (counted before.runes mint) split.first;
+      grows = grows_all before after mint etching hand gather before.runes (with_mint before.runes mint) split.front other (mint_counted before.runes mint) split.first;
       begins = begins_all before after mint etching hand gather fresh split.back split.second;
     }

@@ -19,10 +19,10 @@ pub fn turns_add_mint_and_premine()
     ensures { TurnsAdd }
 {}
 
-/// What holds of the runes of a chain without a block, still holds after a transaction, where no rune has the id of its place, and
-/// after a block, where none is of its height: ids and names are distinct, numbers are within their
-/// bounds, no output has an empty list, and what there is of each rune is its premine and what its
-/// mints gave. A block leaves nothing due.
+/// What holds of runes: ids and names are distinct, numbers are within their bounds, no output has
+/// an empty list, and what there is of each rune is its premine and what its mints gave. It holds
+/// of a chain without a block, still after a transaction, where no rune has the id of its place,
+/// and still after a block, where no rune is of its height. A block leaves nothing due.
 pub fn runes_stay_balanced()
     ensures { StaysBalanced }
 {}
