@@ -23,6 +23,7 @@ abbrev pub next_parts : Parts → ℕ → List ℕ
 next_parts (Even share extra) count = even_parts share extra count
 next_parts (Each amount left) count = parts_while amount left count
 
+-- there is an output, and it has OP_RETURN
 abbrev pub burns : Option TxOut → Bool
 burns None = false
 burns (Some output) = is_return output.script

@@ -25,7 +25,8 @@ pub struct Allocated {
 /// Runes"): the edicts in order, and what they leave to the pointer's output, else to the first
 /// that doesn't begin with OP_RETURN, else to nobody. What nobody is given is burned, and what
 /// outputs with OP_RETURN are given. Edicts for block 0, transaction 0 mean the rune that is etched
-/// here. `Memory` where there is none left.
+/// here, and an edict's output from their number on means all outputs. `Memory` where there is none
+/// left.
 pub fn allocate(
     alloc: Global,
     pool: Pool,

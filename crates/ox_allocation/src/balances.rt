@@ -121,8 +121,8 @@ impl Pool {
         self.amounts
     }
 
-    /// The same runes, as an output holds them.
-    pub(crate) fn into_balances(self, alloc: Global) -> Result<Balances, Memory>
+    /// The same runes, as an output holds them. `Memory` where there is none left.
+    pub fn into_balances(self, alloc: Global) -> Result<Balances, Memory>
         ensures { IfOk result (λ balances. balances ≡ self) }
     {
         let mut items = SmallVec::with_capacity(alloc, self.amounts.len())?;

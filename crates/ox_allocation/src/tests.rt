@@ -206,3 +206,10 @@ fn many_runes_go_to_one_output(rt: HostRuntime) {
     );
     assert!(rt; matches!(allocated.given.as_slice(), [first, ..] if is_hundred(first)));
 }
+
+#[test]
+fn a_pool_becomes_balances(rt: HostRuntime) {
+    let pool = hundred(&rt, rt.alloc());
+    let balances = pool.into_balances(rt.alloc()).expect(&rt, "memory");
+    assert!(rt; is_hundred(&balances));
+}
