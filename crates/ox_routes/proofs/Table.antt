@@ -12,7 +12,7 @@ use Rattle.matchit.specs.Router.{RouteOf}
 use Rattle.ox_routes.specs.declared.route.Route.{Route}
 use Rattle.ox_routes.specs.declared.route.Route.TheVariants.{Audit, BlockHash, Connect, Content, Disconnect, Inscription, Inscriptions, Output, Rune, Runes, Sat, Status}
 use Rattle.ox_routes.specs.Table.{row_of, routes, fits, takes, route_taken, route_and_part}
-use Rattle.ox_routes.specs.Rows.{part_tokens, entry, shown}
+use Rattle.ox_routes.specs.Rows.{part_tokens, entry, row_shown}
 use Rattle.ox_routes.proofs.Walk.{matches, is_simple, Member, AreSimple, first_takes, takes_first, first_half, second_half, either}
 
 -- a byte is no token of a parameter
@@ -174,12 +174,12 @@ routes_never path a c h t u = never_both (entry a).0 (entry c).0 path h (route_m
 pub one_route : (path : List ℕ) → count_by (λ route. takes (row_of route) path) routes ≤ 1
 one_route path = at_most_one (λ route. takes (row_of route) path) route_clash (routes_never path) routes routes_clash
 
-shown_member : (t : List ℕ) (e : RouteOf Route) (rs : RowsOf (RouteOf Route)) → Member (t, e) rs → Member (t, e.value) (map shown rs)
+shown_member : (t : List ℕ) (e : RouteOf Route) (rs : RowsOf (RouteOf Route)) → Member (t, e) rs → Member (t, e.value) (map row_shown rs)
 shown_member t e [] m = elim m [ ]
-shown_member t e (r ∷ rs) (inl h) = inl (ap shown h)
+shown_member t e (r ∷ rs) (inl h) = inl (ap row_shown h)
 shown_member t e (r ∷ rs) (inr m) = inr (shown_member t e rs m)
 
-member_shown : (t : List ℕ) (k : Route) (rs : RowsOf (RouteOf Route)) → Member (t, k) (map shown rs) → (e : RouteOf Route) × Member (t, e) rs
+member_shown : (t : List ℕ) (k : Route) (rs : RowsOf (RouteOf Route)) → Member (t, k) (map row_shown rs) → (e : RouteOf Route) × Member (t, e) rs
 member_shown t k [] m = elim m [ ]
 member_shown t k (r ∷ rs) (inl h) = (r.1, inl (ap (λ (p : List ℕ × Route). (p.0, r.1)) h))
 member_shown t k (r ∷ rs) (inr m) = let at = member_shown t k rs m in (at.0, inr at.1)
@@ -198,7 +198,7 @@ simple_from : {K : Type 0} (rs : RowsOf K) → list_all (λ r. is_simple r.0) rs
 simple_from [] h = tt
 simple_from ((t, k) ∷ rs) h = (first_half (is_simple t) (list_all (λ r. is_simple r.0) rs) h, simple_from rs (second_half (is_simple t) (list_all (λ r. is_simple r.0) rs) h))
 
-simple_back : (rs : RowsOf (RouteOf Route)) → AreSimple (map shown rs) → AreSimple rs
+simple_back : (rs : RowsOf (RouteOf Route)) → AreSimple (map row_shown rs) → AreSimple rs
 simple_back [] s = tt
 simple_back ((t, e) ∷ rs) s = (s.0, simple_back rs s.1)
 
@@ -206,7 +206,7 @@ entries_simple : AreSimple (map entry routes)
 entries_simple = simple_from (map entry routes) refl
 
 -- a router of the table's rows finds the route whose row takes the path
-pub router_finds : (rs : RowsOf (RouteOf Route)) → map shown rs ≡ map entry routes → (path : List ℕ)
+pub router_finds : (rs : RowsOf (RouteOf Route)) → map row_shown rs ≡ map entry routes → (path : List ℕ)
     → option_map (λ e. e.value) (first rs path) ≡ route_taken path
 unfolding route_taken
 router_finds rs holds path = by (first rs path) refl

@@ -1,6 +1,7 @@
 -- The table of routes, and which route a path takes.
 use Rattle.std.specs.Prelude.{ℕ, Bool, true, false, not, ◌&&◌, ◌==◌, List, [], ◌∷◌, Option, None}
-use Rattle.std.specs.Prelude.{length, drop, codes, if◌then◌else◌, nat_eq}
+use Rattle.std.specs.Prelude.{length, drop, codes, if◌then◌else◌}
+use Rattle.std.specs.Prelude.{nat_eq}
 use Rattle.std.specs.List.{find, list_any, starts_with}
 use Rattle.std.specs.Option.{option_map}
 use Rattle.std.specs.Str.{is_utf8}

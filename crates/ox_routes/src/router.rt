@@ -5,10 +5,10 @@ ghost use Rattle.std.specs.List.{count_by};
 ghost use Rattle.matchit.specs.Route.{parse_route};
 ghost use Rattle.matchit.specs.Router.{InsertsRead};
 ghost use Rattle.ox_routes.specs.Table.{route_and_part, route_taken, takes, row_of, routes};
-ghost use Rattle.ox_routes.specs.Rows.{entry, shown};
+ghost use Rattle.ox_routes.specs.Rows.{MayJoin, entry, row_shown};
 
 use crate::route::Route;
-use matchit::Router;
+use matchit::{InsertError, Router};
 use ox_bytes::Memory;
 use std::alloc::Global;
 
@@ -24,7 +24,7 @@ pub struct Found<'p> {
 #[derive(Drop)]
 pub struct Routes {
     router: Router<Route>,
-    ghost holds: { map shown router ≡ map entry routes },
+    ghost holds: { map row_shown router ≡ map entry routes },
 }
 
 impl Routes {
@@ -54,7 +54,7 @@ impl Routes {
         let Ok(text) = str::from_utf8(path) else {
             return None;
         };
-        let route = self.taken(text)?;
+        let route = self.route_of(text)?;
         Some(Found {
             route,
             part: &path[route.text().len()..],
@@ -62,7 +62,7 @@ impl Routes {
     }
 
     // The route whose row takes a text.
-    fn taken(&self, text: &str) -> Option<Route>
+    fn route_of(&self, text: &str) -> Option<Route>
         ensures { result ≡ route_taken text.now }
     {
         match self.router.at(text) {
@@ -77,13 +77,15 @@ pub fn one_row_takes_a_path()
     ensures { (path : List ℕ) → count_by (λ route. takes (row_of route) path) routes ≤ 1 }
 {}
 
-// Adds a route.
+// Adds a route that can stand beside the others.
 fn add(router: &mut Router<Route>, text: &str, route: Route) -> Result<(), Memory>
+    requires { MayJoin (parse_route text.now) router.old }
     ensures { OnOk result
         (InsertsRead (parse_route text.now) route router.old router.new (Ok tt)) }
 {
     match router.insert(text, route) {
         Ok(()) => Ok(()),
-        Err(_) => Err(Memory),
+        Err(InsertError::OutOfMemory) => Err(Memory),
+        Err(_) => unreachable!(),
     }
 }

@@ -1,0 +1,8 @@
+use Rattle.ox_ask.proofs.Read.{number_written, number_read}
+use Rattle.ox_ask.proofs.laws.numbers_are_read.Goals as goal
+
+pub returns-clause-written : goal.returns-clause-written
+returns-clause-written c = number_written
+
+pub returns-clause-read : goal.returns-clause-read
+returns-clause-read c = number_read

@@ -1,0 +1,8 @@
+use Rattle.ox_ask.proofs.Read.{outpoint_read, outpoint_written}
+use Rattle.ox_ask.proofs.laws.outpoints_are_read.Goals as goal
+
+pub returns-clause-written : goal.returns-clause-written
+returns-clause-written c = outpoint_written
+
+pub returns-clause-read : goal.returns-clause-read
+returns-clause-read c = outpoint_read

@@ -1,0 +1,71 @@
+-- The reply to each request of a link that isn't the operator's.
+use Rattle.std.specs.Prelude.{ℕ, Bool, true, false, List, Option, Some, None, codes, slice_get}
+use Rattle.std.specs.Prelude.{if◌then◌else◌, not}
+use Rattle.std.specs.Option.{option_map, option_and_then}
+use Rattle.std.specs.FinMap as map
+use Rattle.serde_json.specs.Data.{Data}
+use Rattle.serde_json.specs.Written.{compact_text}
+use Rattle.ox_http.specs.declared.Method.{Method}
+use Rattle.ox_http.specs.declared.Method.TheVariants.{Get, Post, Other}
+use Rattle.ox_http.specs.declared.Reply.{Reply}
+use Rattle.ox_http.specs.declared.Request.{Request}
+use Rattle.ox_routes.specs.declared.route.Route.{Route}
+use Rattle.ox_routes.specs.declared.route.Route.TheVariants.{Status, BlockHash, Output, Sat}
+use Rattle.ox_routes.specs.Table.{row_of, route_and_part}
+use Rattle.ox_sat.specs.Spellings.{sat_in}
+use Rattle.ox_ask.specs.Texts.{number_in, outpoint_in}
+use Rattle.ox_ask.specs.Trees.{Asked, block_tree, error_tree, output_tree, sat_tree, status_tree}
+
+-- the tree that a route has for its part, if the part names something. The other routes are known,
+-- and name nothing yet
+abbrev pub tree_at : Asked → Route → List ℕ → Option Data
+tree_at asked Status part = Some (status_tree asked)
+tree_at asked BlockHash part =
+    option_and_then
+    (λ height. option_map (block_tree height) (slice_get asked.index.hashes height))
+    (number_in part)
+tree_at asked Output part =
+    option_and_then (λ at. option_map output_tree (map.get asked.index.outs at)) (outpoint_in part)
+tree_at asked Sat part = option_map (sat_tree asked.profile asked.index) (sat_in asked.profile part)
+tree_at asked route part = None
+
+abbrev pub same_method : Method → Method → Bool
+same_method Get Get = true
+same_method Post Post = true
+same_method Other Other = true
+same_method a b = false
+
+-- a reply with a tree, as compact JSON
+abbrev pub tree_reply : ℕ → Data → Bool → Reply
+tree_reply status tree close = record {
+  status = status;
+  kind = codes "application/json";
+  encoding = None;
+  body = compact_text tree;
+  close = close;
+}
+
+-- a status that isn't 200
+abbrev pub error_reply : ℕ → Bool → Reply
+error_reply status close = tree_reply status (error_tree status) close
+
+-- the tree that a part names, or 404
+abbrev pub part_reply : Option Data → Bool → Reply
+part_reply None close = error_reply 404 close
+part_reply (Some tree) close = tree_reply 200 tree close
+
+-- what a route that the path takes replies: 405 for a method that isn't the route's, 403 for a
+-- command, and else what its part names
+abbrev pub route_reply : Asked → Request → Route → List ℕ → Reply
+route_reply asked request route part =
+    if not (same_method request.method (row_of route).method) then error_reply 405 request.close
+    else if same_method request.method Post then error_reply 403 request.close
+    else part_reply (tree_at asked route part) request.close
+
+abbrev pub path_reply : Asked → Request → Option (Route × List ℕ) → Reply
+path_reply asked request None = error_reply 404 request.close
+path_reply asked request (Some at) = route_reply asked request at.0 at.1
+
+-- the reply to a request: 404 where its path takes no route
+unfoldable pub reply_of : Asked → Request → Reply
+reply_of asked request = path_reply asked request (route_and_part request.path)

@@ -1,0 +1,4 @@
+pub mod Ask
+pub mod Objects
+pub mod Texts
+pub mod Trees

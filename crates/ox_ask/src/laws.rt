@@ -1,0 +1,32 @@
+//! Laws of what is written in paths and replies.
+
+ghost use Rattle.std.specs.Prelude.{◌≡◌, ◌<◌, ◌^◌, ℕ, List, length, Some, codes, decimal};
+ghost use Rattle.hex.specs.Hex.{IsBytes};
+ghost use Rattle.ox_block.specs.declared.block.OutPoint.{OutPoint};
+ghost use Rattle.ox_http.specs.declared.Request.{Request};
+ghost use Rattle.ox_ask.specs.Trees.{Asked};
+ghost use Rattle.ox_rules.specs.Text.{outpoint_text};
+ghost use Rattle.ox_ask.specs.Ask.{reply_of};
+ghost use Rattle.ox_ask.specs.Texts.{number_in, outpoint_in};
+
+/// A number of 64 bits is read from its decimal digits and from nothing else.
+pub fn numbers_are_read()
+    ensures written { (n : ℕ) → n < 2 ^ 64 → number_in (decimal n) ≡ Some n }
+    ensures read { (text : List ℕ) (n : ℕ) → number_in text ≡ Some n → text ≡ decimal n }
+{}
+
+/// An outpoint is read from its text and from nothing else.
+pub fn outpoints_are_read()
+    ensures written { (at : OutPoint) → length at.txid.0 ≡ 32 → IsBytes at.txid.0
+        → at.index < 2 ^ 32 → outpoint_in (outpoint_text at) ≡ Some at }
+    ensures read { (text : List ℕ) (at : OutPoint) → outpoint_in text ≡ Some at
+        → text ≡ outpoint_text at }
+{}
+
+/// Every reply is JSON, and closes the link where the request does.
+pub fn replies_close_as_asked()
+    ensures close { (asked : Asked) (request : Request)
+        → (reply_of asked request).close ≡ request.close }
+    ensures kind { (asked : Asked) (request : Request)
+        → (reply_of asked request).kind ≡ codes "application/json" }
+{}

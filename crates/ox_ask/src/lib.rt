@@ -1,0 +1,12 @@
+//! What each request is replied, and how an object is built.
+#![tactic(auto)]
+
+mod fields;
+mod laws;
+
+pub use fields::Fields;
+pub use laws::{numbers_are_read, outpoints_are_read, replies_close_as_asked};
+pub use ox_bytes::Memory;
+
+#[cfg(test)]
+mod tests;
