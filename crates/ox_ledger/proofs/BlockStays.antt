@@ -14,7 +14,7 @@ use Rattle.ox_etching.specs.declared.row.RuneRow.{RuneRow}
 use Rattle.ox_ledger.specs.Balanced.{AreKnown, Balanced, IsBounded, IsSettled, amount_per_mint}
 use Rattle.ox_ledger.specs.Block.{runes_after, turn_all, turn_at}
 use Rattle.ox_ledger.specs.Runes.{Placement, Runes, artifact_at, end, etching_by, mint_by}
-use Rattle.ox_ledger.specs.Turn.{NoneHas, TurnAdds}
+use Rattle.ox_ledger.specs.Turn.{IsFree, TurnAdds}
 use Rattle.ox_ledger.proofs.Distinct.{HasNoDouble, distinct_of, no_double_of, same_after}
 use Rattle.ox_ledger.proofs.Fresh.{etching_row}
 use Rattle.ox_ledger.proofs.Gains.{AllGain, Gains, amount_placed, place_all_gains}
@@ -116,22 +116,22 @@ new_before at None rows = tt
 new_before at (Some row) rows = ((λ same. let tx : row.id.tx ≡ at.tx = ap (λ (id : RuneId). id.tx) (rows row refl) in omega arith), tt)
 
 all_balanced : NothingIsLostOrMade → (p : Profile) (height place : ℕ) (txs : List Tx) (moved : List MovedTx) (state : Runes) → place + length txs ≤ 2 ^ 32 → Balanced state
-    → AllByRecursion (Before height place) (ids_in state.runes) → Balanced (turn_all p height place txs moved state)
+    → (p.rune_start ≤ height → AllByRecursion (Before height place) (ids_in state.runes)) → Balanced (turn_all p height place txs moved state)
 unfolding turn_all
 all_balanced keeps p height place [] moved state room balanced all = balanced
 all_balanced keeps p height place (tx ∷ txs) [] state room balanced all = balanced
 all_balanced keeps p height place (tx ∷ txs) (one ∷ moved) state room balanced all =
     let at : Spot = record { profile = p; height = height; tx = place; txid = one.txid } in
-    let none : NoneHas (id_of at) state.runes = All-from_recursion (λ (row : RuneRow). row.id ≢ id_of at) state.runes (none_has at state.runes all) in
+    let none : IsFree at state.runes = λ start. All-from_recursion (λ (row : RuneRow). row.id ≢ id_of at) state.runes (none_has at state.runes (all start)) in
     let after = turn_at p height place tx one state in
     let artifact = artifact_at at tx in
     let etching = etching_by at tx one.spent state.runes artifact in
     let adds : TurnAdds at tx one.spent state after = turn_adds keeps at tx one.spent state balanced none in
     let ids : ids_in after.runes ≡ ids_in state.runes ++ ids_in (as_list etching) =
     same_after (λ (r : RuneRow). r.id) (λ row n m. refl) (mint_by height state.runes artifact) etching state after adds in
-    let next : AllByRecursion (Before height (place + 1)) (ids_in after.runes) =
+    let next : p.rune_start ≤ height → AllByRecursion (Before height (place + 1)) (ids_in after.runes) = λ start.
     subst (λ (all : List RuneId). AllByRecursion (Before height (place + 1)) all) (sym ids)
-    (ids_append (Before height (place + 1)) (ids_in state.runes) (ids_in (as_list etching)) (later height place (ids_in state.runes) all)
+    (ids_append (Before height (place + 1)) (ids_in state.runes) (ids_in (as_list etching)) (later height place (ids_in state.runes) (all start))
     (new_before at etching (λ row is. (etching_row at tx one.spent state.runes artifact row is).id))) in
     all_balanced keeps p height (place + 1) txs moved after (omega arith)
     (stays_balanced keeps at tx one.spent state (omega arith) balanced none) next
@@ -141,10 +141,10 @@ none_of_height height [] all = tt
 none_of_height height (row ∷ runes) all = ((λ same. absurd (all.0 same)), none_of_height height runes all.1)
 
 pub block_balanced : NothingIsLostOrMade → (p : Profile) (height : ℕ) (txs : List Tx) (moved : List MovedTx) (state : Runes) → length txs ≤ 2 ^ 32 → Balanced state
-    → All (λ (row : RuneRow). row.id.block ≢ height) state.runes → Balanced (runes_after p height txs moved state)
+    → (p.rune_start ≤ height → All (λ (row : RuneRow). row.id.block ≢ height) state.runes) → Balanced (runes_after p height txs moved state)
 block_balanced keeps p height txs moved state room balanced none =
     end_balanced (turn_all p height 0 txs moved state) (all_balanced keeps p height 0 txs moved state (omega arith) balanced
-    (none_of_height height state.runes (recursion_from_All (λ (row : RuneRow). row.id.block ≢ height) state.runes none)))
+    (λ start. none_of_height height state.runes (recursion_from_All (λ (row : RuneRow). row.id.block ≢ height) state.runes (none start))))
 
 pub nothing_due : (p : Profile) (height : ℕ) (txs : List Tx) (moved : List MovedTx) (state : Runes) → (runes_after p height txs moved state).due ≡ []
 nothing_due p height txs moved state = place_all_due (undue (turn_all p height 0 txs moved state)) (turn_all p height 0 txs moved state).due

@@ -1,6 +1,8 @@
 -- A rune that is etched is new: nothing was amount_held_in of it, and it isn't minted.
-use Rattle.std.proofs.Common.{◌≡◌, ◌≢◌, ◌∙◌, ℕ, zero, suc, Bool, true, false, cond, T, List, [], ◌∷◌, map, refl, sym, ap, subst, arith, Option, Some, None, Ordering}
-use Rattle.std.specs.Prelude.{◌&&◌, option_and_then, if◌then◌else◌}
+use Rattle.std.proofs.Common.{◌≡◌, ◌≢◌, ◌∙◌, ℕ, zero, suc, Bool, true, false, cond, T, List, [], ◌∷◌, map, refl, sym, ap, subst, arith, Option, Some, None, Ordering, ◌≤◌, length}
+use Rattle.std.proofs.lemmas.Bool.{ltb-false}
+use Rattle.ox_runestone.specs.Artifact.{artifact_of}
+use Rattle.std.specs.Prelude.{◌&&◌, option_and_then, if◌then◌else◌, nat_lt}
 use Rattle.std.specs.List.{AllByRecursion}
 use Rattle.std.specs.Option.{option_map, option_map_or}
 use Rattle.std.specs.Ordering.{is_eq, is_lt}
@@ -24,8 +26,8 @@ use Rattle.ox_etching.specs.Etched.{Spot, etched, etching_of, id_of, name_of, ro
 use Rattle.ox_etching.specs.Minted.{minted}
 use Rattle.ox_etching.specs.declared.row.RuneRow.{RuneRow}
 use Rattle.ox_ledger.specs.Balanced.{AreKnown, Balanced}
-use Rattle.ox_ledger.specs.Runes.{BalanceMap, Placement, Runes, by_id, etching_by, is_taken, mint_at, mint_by, mint_of, name_of as name_in}
-use Rattle.ox_ledger.specs.Turn.{NoneHas}
+use Rattle.ox_ledger.specs.Runes.{BalanceMap, Placement, Runes, artifact_at, by_id, etching_by, is_taken, mint_at, mint_by, mint_of, name_of as name_in, stone_in}
+use Rattle.ox_ledger.specs.Turn.{IsFree, NoneHas}
 use Rattle.ox_ledger.proofs.Held.{amount_held-cons, amount_of, amount_held_in, total_is}
 use Rattle.ox_ledger.proofs.Brought.{AllRise}
 use Rattle.ox_ledger.proofs.Gains.{amount_placed}
@@ -188,13 +190,36 @@ no_others : (runes : List RuneRow) → AllByRecursion (IsOther None) runes
 no_others [] = tt
 no_others (row ∷ runes) = (tt, no_others runes)
 
-pub all_other : (at : Spot) (state : Runes) (etching : Option RuneRow) → NoneHas (id_of at) state.runes → ((row : RuneRow) → etching ≡ Some row → IsRow at row)
+-- where a transaction etches, no rune has the id of its place
+abbrev pub IsFreeFor : Spot → Option RuneRow → List RuneRow → Type 0
+IsFreeFor at None runes = Unit {0}
+IsFreeFor at (Some row) runes = NoneHas (id_of at) runes
+
+-- a runestone is read from the height on at which runes start
+started : (at : Spot) (tx : Tx) (artifact : Artifact) → artifact_at at tx ≡ Some artifact → at.profile.rune_start ≤ at.height
+started at tx artifact is = by_test (nat_lt at.height at.profile.rune_start) refl is where
+  by_test : (b : Bool) → nat_lt at.height at.profile.rune_start ≡ b
+      → (if b then None else option_map (λ script. artifact_of script (length tx.outputs)) (stone_in tx.outputs)) ≡ Some artifact → at.profile.rune_start ≤ at.height
+  by_test true below given = let none : None ≡ Some artifact = given in absurd (cc none)
+  by_test false above given = ltb-false at.height at.profile.rune_start above
+
+free_by : (at : Spot) (tx : Tx) (spent : List OutRow) (runes : List RuneRow) → IsFree at runes → (etching : Option RuneRow)
+    → etching_by at tx spent runes (artifact_at at tx) ≡ etching → IsFreeFor at etching runes
+free_by at tx spent runes free None is = tt
+free_by at tx spent runes free (Some row) is =
+    let there = some_then (λ a. etched at tx spent a (option_map_or (is_taken runes) (name_in a) false)) (artifact_at at tx) row is in
+    free (started at tx there.0 there.1)
+
+pub free_for : (at : Spot) (tx : Tx) (spent : List OutRow) (runes : List RuneRow) → IsFree at runes → IsFreeFor at (etching_by at tx spent runes (artifact_at at tx)) runes
+free_for at tx spent runes free = free_by at tx spent runes free (etching_by at tx spent runes (artifact_at at tx)) refl
+
+pub all_other : (at : Spot) (state : Runes) (etching : Option RuneRow) → IsFreeFor at etching state.runes → ((row : RuneRow) → etching ≡ Some row → IsRow at row)
     → AllByRecursion (IsOther etching) state.runes
 all_other at state None none rows = no_others state.runes
 all_other at state (Some row) none rows =
     others row state.runes (recursion_from_All (λ (r : RuneRow). r.id ≢ row.id) state.runes (subst (λ (id : RuneId). NoneHas id state.runes) (sym (rows row refl).id) none))
 
-pub all_fresh : (at : Spot) (state : Runes) (artifact : Option Artifact) (etching : Option RuneRow) → Balanced state → NoneHas (id_of at) state.runes
+pub all_fresh : (at : Spot) (state : Runes) (artifact : Option Artifact) (etching : Option RuneRow) → Balanced state → IsFreeFor at etching state.runes
     → ((row : RuneRow) → etching ≡ Some row → IsRow at row) → AllFresh state (mint_by at.height state.runes artifact) etching
 all_fresh at state artifact None balanced none rows = tt
 all_fresh at state artifact (Some row) balanced none rows = fresh at state artifact row balanced none (rows row refl)

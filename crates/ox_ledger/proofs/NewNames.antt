@@ -4,6 +4,7 @@ use Rattle.std.specs.Prelude.{not, ◌==◌, option_and_then, if◌then◌else�
 use Rattle.std.specs.List.{AllByRecursion}
 use Rattle.std.specs.Option.{option_map_or}
 use Rattle.std.proofs.lemmas.Bool.{and_parts, or_parts}
+use Rattle.std.proofs.lemmas.List.Elements.{recursion_from_All}
 use Rattle.std.proofs.lemmas.Bool.Decides.{Decides-eqb}
 use Rattle.ox_block.specs.declared.block.Tx.{Tx}
 use Rattle.ox_name.specs.Unlock.{first_reserved, reserved_name}
@@ -17,7 +18,7 @@ use Rattle.ox_etching.specs.declared.row.RuneRow.{RuneRow}
 use Rattle.ox_ledger.specs.Balanced.{IsBounded}
 use Rattle.ox_ledger.specs.Runes.{etching_by, is_taken, name_of as name_in}
 use Rattle.ox_ledger.proofs.Distinct.{NoneLike}
-use Rattle.ox_ledger.proofs.Fresh.{some_mapped, some_then}
+use Rattle.ox_ledger.proofs.Fresh.{IsFreeFor, some_mapped, some_then}
 
 abbrev NoName : ℕ → List RuneRow → Type 0
 NoName name runes = AllByRecursion (λ (row : RuneRow). row.name ≢ name) runes
@@ -84,8 +85,8 @@ etched_name at tx spent runes artifact row small bounded other is =
     (λ n given. ap (λ (found : Option ℕ). option_map_or (is_taken runes) found false) (name_given artifact what.0 what.1 n given)) named.1)
 
 pub new_name : (at : Spot) (tx : Tx) (spent : List OutRow) (runes : List RuneRow) (artifact : Option Artifact) (etching : Option RuneRow) → at.tx < 2 ^ 32
-    → AllByRecursion IsBounded runes → AllByRecursion (λ (r : RuneRow). r.id ≢ id_of at) runes → etching_by at tx spent runes artifact ≡ etching
+    → AllByRecursion IsBounded runes → IsFreeFor at etching runes → etching_by at tx spent runes artifact ≡ etching
     → NoneLike (λ (r : RuneRow). r.name) etching runes
 new_name at tx spent runes artifact None small bounded other is = tt
 new_name at tx spent runes None (Some row) small bounded other is = let none : None ≡ Some row = is in absurd (cc none)
-new_name at tx spent runes (Some artifact) (Some row) small bounded other is = etched_name at tx spent runes artifact row small bounded other is
+new_name at tx spent runes (Some artifact) (Some row) small bounded other is = etched_name at tx spent runes artifact row small bounded (recursion_from_All (λ (r : RuneRow). r.id ≢ id_of at) runes other) is

@@ -11,10 +11,10 @@ use Rattle.ox_etching.specs.Etched.{Spot, id_of}
 use Rattle.ox_etching.specs.declared.row.RuneRow.{RuneRow}
 use Rattle.ox_ledger.specs.Balanced.{AreDistinct, Balanced, IsBounded, IsSettled}
 use Rattle.ox_ledger.specs.Runes.{Runes, artifact_at, etching_by, mint_by, mint_of, turn}
-use Rattle.ox_ledger.specs.Turn.{NoneHas, TurnAdds}
+use Rattle.ox_ledger.specs.Turn.{IsFree, TurnAdds}
 use Rattle.ox_ledger.proofs.Bounded.{new_bounded, stays_bounded}
 use Rattle.ox_ledger.proofs.Distinct.{NoneLike, stays_distinct}
-use Rattle.ox_ledger.proofs.Fresh.{IsRow, etching_row}
+use Rattle.ox_ledger.proofs.Fresh.{IsFreeFor, IsRow, etching_row, free_for}
 use Rattle.ox_ledger.proofs.NewNames.{new_name}
 use Rattle.ox_ledger.proofs.Settled.{all_pay, stays_settled}
 use Rattle.ox_ledger.proofs.TurnsAdd.{turn_adds}
@@ -27,11 +27,12 @@ pub record RowsBalanced (state : Runes) : Type 0 where
   pub settled : All (IsSettled state) state.runes
 
 new_id : (at : Spot) (etching : Option RuneRow) (runes : List RuneRow) → ((row : RuneRow) → etching ≡ Some row → IsRow at row)
-    → AllByRecursion (λ (row : RuneRow). row.id ≢ id_of at) runes → NoneLike (λ (row : RuneRow). row.id) etching runes
+    → IsFreeFor at etching runes → NoneLike (λ (row : RuneRow). row.id) etching runes
 new_id at None runes rows other = tt
-new_id at (Some row) runes rows other = subst (λ (id : RuneId). AllByRecursion (λ (r : RuneRow). r.id ≢ id) runes) (sym (rows row refl).id) other
+new_id at (Some row) runes rows other =
+    subst (λ (id : RuneId). AllByRecursion (λ (r : RuneRow). r.id ≢ id) runes) (sym (rows row refl).id) (recursion_from_All (λ (r : RuneRow). r.id ≢ id_of at) runes other)
 
-pub rows_stay : NothingIsLostOrMade → (at : Spot) (tx : Tx) (spent : List OutRow) (state : Runes) → at.tx < 2 ^ 32 → Balanced state → NoneHas (id_of at) state.runes
+pub rows_stay : NothingIsLostOrMade → (at : Spot) (tx : Tx) (spent : List OutRow) (state : Runes) → at.tx < 2 ^ 32 → Balanced state → IsFree at state.runes
     → RowsBalanced (turn at tx spent state)
 rows_stay keeps at tx spent state small balanced none =
     let after = turn at tx spent state in
@@ -39,7 +40,7 @@ rows_stay keeps at tx spent state small balanced none =
     let mint = mint_by at.height state.runes artifact in
     let etching = etching_by at tx spent state.runes artifact in
     let adds : TurnAdds at tx spent state after = turn_adds keeps at tx spent state balanced none in
-    let other = recursion_from_All (λ (row : RuneRow). row.id ≢ id_of at) state.runes none in
+    let other = free_for at tx spent state.runes none in
     let bounded = recursion_from_All IsBounded state.runes balanced.bounded in
     let pays = all_pay at.height state.runes (option_and_then mint_of artifact) balanced.ids in
     record {

@@ -19,12 +19,12 @@ use Rattle.ox_allocation.specs.Gifts.{Gift}
 use Rattle.ox_allocation.specs.Laws.{NothingIsLostOrMade}
 use Rattle.ox_allocation.proofs.BalanceLemmas.{no_balances}
 use Rattle.ox_allocation.proofs.Sorting.{lawful-balances_by}
-use Rattle.ox_etching.specs.Etched.{Spot, id_of}
+use Rattle.ox_etching.specs.Etched.{Spot}
 use Rattle.ox_etching.specs.Minted.{minted}
 use Rattle.ox_etching.specs.declared.row.RuneRow.{RuneRow}
 use Rattle.ox_ledger.specs.Balanced.{AreKnown, Balanced, amount_held}
 use Rattle.ox_ledger.specs.Runes.{BalanceMap, InHand, Placement, Runes, artifact_at, brought_of, burn, by_id, dealt_by, etching_by, in_hand, mint_at, mint_by, mint_of, place_all, placements, pool_with, premine_of, settled_by, turn}
-use Rattle.ox_ledger.specs.Turn.{NoneHas, TurnAdds}
+use Rattle.ox_ledger.specs.Turn.{IsFree, TurnAdds}
 use Rattle.ox_ledger.proofs.Deals.{deals}
 use Rattle.ox_ledger.proofs.Distinct.{get_mapped, same_after}
 use Rattle.ox_ledger.proofs.Fresh.{some_mapped, some_then}
@@ -165,7 +165,7 @@ all_hold keeps at tx spent state balanced =
     (given_known ids hand.pool dealt.given (dealt_lawful artifact hand.pool hand.etching tx.outputs are) within below)
 
 -- a transaction leaves a balanced state balanced
-pub stays_balanced : NothingIsLostOrMade → (at : Spot) (tx : Tx) (spent : List OutRow) (state : Runes) → at.tx < 2 ^ 32 → Balanced state → NoneHas (id_of at) state.runes
+pub stays_balanced : NothingIsLostOrMade → (at : Spot) (tx : Tx) (spent : List OutRow) (state : Runes) → at.tx < 2 ^ 32 → Balanced state → IsFree at state.runes
     → Balanced (turn at tx spent state)
 stays_balanced keeps at tx spent state small balanced none =
     let after = turn at tx spent state in

@@ -4,19 +4,20 @@ use Rattle.std.specs.Option.{option_map}
 use Rattle.ox_block.specs.declared.block.Tx.{Tx}
 use Rattle.ox_rules.specs.declared.rows.OutRow.{OutRow}
 use Rattle.ox_allocation.specs.Laws.{NothingIsLostOrMade}
-use Rattle.ox_etching.specs.Etched.{Spot, id_of}
+use Rattle.ox_etching.specs.Etched.{Spot}
 use Rattle.ox_etching.specs.declared.row.RuneRow.{RuneRow}
 use Rattle.ox_ledger.specs.Balanced.{Balanced}
 use Rattle.ox_ledger.specs.Runes.{Runes, artifact_at, brought_of, dealt_by, etching_by, in_hand, mint_by, pool_with, premine_of, turn}
-use Rattle.ox_ledger.specs.Turn.{NoneHas, TurnAdds}
+use Rattle.ox_ledger.specs.Turn.{IsFree, TurnAdds}
 use Rattle.ox_ledger.proofs.Deals.{deals}
-use Rattle.ox_ledger.proofs.Fresh.{IsRow, all_fresh, all_other, all_rise, etching_row}
+use Rattle.ox_ledger.proofs.Fresh.{IsRow, all_fresh, all_other, all_rise, etching_row, free_for}
 use Rattle.ox_ledger.proofs.Pools.{brought_balances, pool_balances}
 use Rattle.ox_ledger.proofs.TurnLemmas.{adds}
 
-pub turn_adds : NothingIsLostOrMade → (at : Spot) (tx : Tx) (spent : List OutRow) (state : Runes) → Balanced state → NoneHas (id_of at) state.runes
+pub turn_adds : NothingIsLostOrMade → (at : Spot) (tx : Tx) (spent : List OutRow) (state : Runes) → Balanced state → IsFree at state.runes
     → TurnAdds at tx spent state (turn at tx spent state)
-turn_adds keeps at tx spent state balanced none =
+turn_adds keeps at tx spent state balanced free =
+    let none = free_for at tx spent state.runes free in
     let artifact = artifact_at at tx in
     let mint = mint_by at.height state.runes artifact in
     let etching = etching_by at tx spent state.runes artifact in

@@ -9,10 +9,10 @@ use Rattle.ox_sat.specs.declared.profiles.Profile.{Profile}
 use Rattle.ox_rules.specs.declared.moved.MovedTx.{MovedTx}
 use Rattle.ox_rules.specs.declared.rows.OutRow.{OutRow}
 use Rattle.ox_etching.specs.declared.row.RuneRow.{RuneRow}
-use Rattle.ox_etching.specs.Etched.{Spot, id_of}
+use Rattle.ox_etching.specs.Etched.{Spot}
 use Rattle.ox_ledger.specs.Balanced.{Balanced}
 use Rattle.ox_ledger.specs.Runes.{Runes, end, turn}
-use Rattle.ox_ledger.specs.Turn.{NoneHas}
+use Rattle.ox_ledger.specs.Turn.{IsFree}
 
 -- the transaction at a place of a block, by what it did with satoshis
 abbrev pub turn_at : Profile → ℕ → ℕ → Tx → MovedTx → Runes → Runes
@@ -65,14 +65,15 @@ no_runes p = record {
 }
 
 -- A chain begins with a balanced state. A transaction leaves such a state balanced, and so does a
--- block, which leaves nothing due. Of the transaction's place no rune may have the id, and none may
--- be of the block's height.
+-- block, which leaves nothing due. From the height on at which runes start, no rune may
+-- have the id of the transaction's place, and none may be of the block's height.
 pub record StaysBalanced : Type 0 where
   pub start : (p : Profile) → Balanced (no_runes p)
   pub turn : (at : Spot) (tx : Tx) (spent : List OutRow) (state : Runes) → at.tx < 2 ^ 32
-      → Balanced state → NoneHas (id_of at) state.runes → Balanced (turn at tx spent state)
+      → Balanced state → IsFree at state.runes → Balanced (turn at tx spent state)
   pub block : (p : Profile) (height : ℕ) (txs : List Tx) (moved : List MovedTx) (state : Runes)
-      → length txs ≤ 2 ^ 32 → Balanced state → All (λ row. row.id.block ≢ height) state.runes
+      → length txs ≤ 2 ^ 32 → Balanced state
+      → (p.rune_start ≤ height → All (λ row. row.id.block ≢ height) state.runes)
       → Balanced (runes_after p height txs moved state)
   pub due : (p : Profile) (height : ℕ) (txs : List Tx) (moved : List MovedTx) (state : Runes)
       → (runes_after p height txs moved state).due ≡ []

@@ -1,5 +1,5 @@
 -- What one transaction adds to runes: its open mint's amount, and its etching's premine.
-use Rattle.std.specs.Prelude.{◌≡◌, ◌≢◌, ℕ, ◌+◌, List, ◌++◌, All, Option, Some, None}
+use Rattle.std.specs.Prelude.{◌≡◌, ◌≢◌, ℕ, ◌+◌, ◌≤◌, List, ◌++◌, All, Option, Some, None}
 use Rattle.std.specs.Prelude.{if◌then◌else◌}
 use Rattle.std.specs.List.{AllZip}
 use Rattle.ox_block.specs.declared.block.Tx.{Tx}
@@ -16,6 +16,10 @@ use Rattle.ox_ledger.specs.Runes.{Runes, artifact_at, etching_by, mint_by, turn}
 -- no rune has this id
 abbrev pub NoneHas : RuneId → List RuneRow → Type 0
 NoneHas id runes = All (λ (row : RuneRow). row.id ≢ id) runes
+
+-- where runes are etched, no rune has the id of a transaction's place
+abbrev pub IsFree : Spot → List RuneRow → Type 0
+IsFree at runes = at.profile.rune_start ≤ at.height → NoneHas (id_of at) runes
 
 -- how many mints of a rune these are
 abbrev pub mints_in : Option Balance → RuneId → ℕ
@@ -52,9 +56,9 @@ TurnAdds at tx spent before after =
     Adds (mint_by at.height before.runes artifact)
     (etching_by at tx spent before.runes artifact) before after
 
--- In a balanced state a transaction, of whose place no rune has the id, adds its open mint's amount
+-- In a balanced state a transaction, whose place is free, adds its open mint's amount
 -- and its etching's premine to runes, and nothing else.
 abbrev pub TurnsAdd : Type 0
 TurnsAdd =
     (at : Spot) (tx : Tx) (spent : List OutRow) (state : Runes) → Balanced state
-    → NoneHas (id_of at) state.runes → TurnAdds at tx spent state (turn at tx spent state)
+    → IsFree at state.runes → TurnAdds at tx spent state (turn at tx spent state)

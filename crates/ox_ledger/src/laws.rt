@@ -13,16 +13,17 @@ pub fn parts_lead_both_ways()
 
 /// A transaction changes how much there is of a rune, with outputs, due to the coinbase's and
 /// burned together, by its open mint's amount and its etching's premine, and by nothing else. The
-/// mints of a rune grow by one exactly with the former. This is so in a balanced state in which no
-/// rune has the id of the transaction's place.
+/// mints of a rune grow by one exactly with the former. This is so in a balanced state in which,
+/// from the height on at which runes start, no rune has the id of the transaction's place.
 pub fn turns_add_mint_and_premine()
     ensures { TurnsAdd }
 {}
 
 /// What holds of runes: ids and names are distinct, numbers are within their bounds, no output has
 /// an empty list, and what there is of each rune is its premine and what its mints gave. It holds
-/// of a chain without a block, still after a transaction, where no rune has the id of its place,
-/// and still after a block, where no rune is of its height. A block leaves nothing due.
+/// of a chain without a block, still after a transaction and still after a block: where, from the
+/// height on at which runes start, no rune has the id of the transaction's place, and none is of
+/// the block's height. A block leaves nothing due.
 pub fn runes_stay_balanced()
     ensures { StaysBalanced }
 {}
