@@ -7,7 +7,7 @@ use Rattle.std.proofs.lemmas.Bool.{and_parts, cases_Bool, le-leb, leb-true, ltb-
 use Rattle.ox_block.specs.declared.block.Tx.{Tx}
 use Rattle.ox_block.specs.declared.block.TxOut.{TxOut}
 use Rattle.ox_name.specs.Unlock.{first_reserved, least_name, reserved_name}
-use Rattle.ox_runestone.specs.Artifact.{are_flawed, artifact_of, judged, of_integers}
+use Rattle.ox_runestone.specs.Artifact.{are_flawed, artifact_of, artifact_from, of_integers}
 use Rattle.ox_runestone.specs.Causes.{HasSmallSupply}
 use Rattle.ox_runestone.specs.Fields.{Firsts, etching_of as etching_in, first_of, is_etching, mintable, only, taken_of}
 use Rattle.ox_runestone.specs.Message.{Field, edicts_of, message_of}
@@ -18,7 +18,7 @@ use Rattle.ox_runestone.specs.declared.stone.Artifact.TheVariants.{Stone, Cenota
 use Rattle.ox_runestone.specs.declared.stone.Edict.{Edict}
 use Rattle.ox_runestone.specs.declared.stone.Etching.{Etching}
 use Rattle.ox_runestone.specs.declared.stone.Terms.{Terms}
-use Rattle.ox_runestone.proofs.Cenotaphs.{supply_small}
+use Rattle.ox_runestone.proofs.CenotaphsHaveCauses.{supply_small}
 use Rattle.ox_rules.specs.Transfer.{as_list}
 use Rattle.ox_rules.specs.declared.rows.OutRow.{OutRow}
 use Rattle.ox_allocation.specs.Balances.{Balance}
@@ -122,9 +122,9 @@ abbrev StoneMarks : Artifact → Type 0
 StoneMarks (Stone stone) = IfSome stone.etching MarksFit
 StoneMarks (Cenotaph mint name) = Unit {0}
 
-judged_marks : (outputs : ℕ) (fields : List Field) (lone : Bool) (edicts : Option (List Edict)) → StoneMarks (judged outputs fields lone edicts)
-judged_marks outputs fields lone None = tt
-judged_marks outputs fields lone (Some edicts) =
+artifact_from_marks : (outputs : ℕ) (fields : List Field) (lone : Bool) (edicts : Option (List Edict)) → StoneMarks (artifact_from outputs fields lone edicts)
+artifact_from_marks outputs fields lone None = tt
+artifact_from_marks outputs fields lone (Some edicts) =
     elim (cases_Bool (lone || are_flawed outputs fields)) [
       | inl flawed ↦ rw flawed tt
       | inr sound ↦ rw sound (marks_fit (first_of fields))
@@ -132,7 +132,7 @@ judged_marks outputs fields lone (Some edicts) =
 
 integers_marks : (outputs : ℕ) (integers : Option (List ℕ)) → StoneMarks (of_integers outputs integers)
 integers_marks outputs None = tt
-integers_marks outputs (Some integers) = judged_marks outputs (message_of integers).fields (message_of integers).lone (edicts_of outputs (message_of integers).body)
+integers_marks outputs (Some integers) = artifact_from_marks outputs (message_of integers).fields (message_of integers).lone (edicts_of outputs (message_of integers).body)
 
 stone_marks : (script : List ℕ) (outputs : ℕ) → StoneMarks (artifact_of script outputs)
 unfolding artifact_of

@@ -5,7 +5,7 @@ use Rattle.std.specs.Option.{ForSome, option_map}
 use Rattle.std.proofs.lemmas.Bool.{cases_Bool, ltb-true}
 use Rattle.ox_block.specs.declared.block.Tx.{Tx}
 use Rattle.ox_block.specs.declared.block.TxOut.{TxOut}
-use Rattle.ox_runestone.specs.Artifact.{are_flawed, artifact_of, judged, of_integers}
+use Rattle.ox_runestone.specs.Artifact.{are_flawed, artifact_of, artifact_from, of_integers}
 use Rattle.ox_runestone.specs.Fields.{Firsts, first_of, only, taken_of}
 use Rattle.ox_runestone.specs.Message.{Field, edicts_of, message_of}
 use Rattle.ox_runestone.specs.Payload.{integers_of, payload_of}
@@ -36,9 +36,9 @@ taken_below : (first : Firsts) (outputs : ℕ) (value : Option ℕ) → IfSome (
 taken_below first outputs None = tt
 taken_below first outputs (Some value) = only_below outputs value
 
-judged_fits : (outputs : ℕ) (fields : List Field) (lone : Bool) (edicts : Option (List Edict)) → PointerFits outputs (judged outputs fields lone edicts)
-judged_fits outputs fields lone None = tt
-judged_fits outputs fields lone (Some edicts) =
+artifact_from_fits : (outputs : ℕ) (fields : List Field) (lone : Bool) (edicts : Option (List Edict)) → PointerFits outputs (artifact_from outputs fields lone edicts)
+artifact_from_fits outputs fields lone None = tt
+artifact_from_fits outputs fields lone (Some edicts) =
     elim (cases_Bool (lone || are_flawed outputs fields)) [
       | inl flawed ↦ rw flawed tt
       | inr sound ↦ rw sound (taken_below (first_of fields) outputs (first_of fields pointer_tag))
@@ -46,7 +46,7 @@ judged_fits outputs fields lone (Some edicts) =
 
 integers_fit : (outputs : ℕ) (integers : Option (List ℕ)) → PointerFits outputs (of_integers outputs integers)
 integers_fit outputs None = tt
-integers_fit outputs (Some integers) = judged_fits outputs (message_of integers).fields (message_of integers).lone (edicts_of outputs (message_of integers).body)
+integers_fit outputs (Some integers) = artifact_from_fits outputs (message_of integers).fields (message_of integers).lone (edicts_of outputs (message_of integers).body)
 
 pointer_fits : (script : List ℕ) (outputs : ℕ) → PointerFits outputs (artifact_of script outputs)
 unfolding artifact_of
