@@ -329,7 +329,7 @@ fn stone_of(alloc: Global, etching: Etching) -> Artifact {
         etching: Some(etching),
         mint: None,
         pointer: None,
-        edicts: Edicts::empty(alloc),
+        edicts: Edicts::new(alloc),
     })
 }
 
