@@ -3,7 +3,7 @@ use Rattle.std.specs.Prelude.{Ok, Err}
 use Rattle.ox_outside.specs.Runs.{LeavesOnly}
 use Rattle.ox_model.specs.Stack.{Stack}
 use Rattle.ox_store.specs.Ready.{StandsForEither}
-use Rattle.ox_store.specs.Store.{Stored}
+use Rattle.ox_store.specs.Store.{StoreContents}
 use Rattle.ox_app.specs.Apply.{after_line}
 use Rattle.ox_app.proofs.AskedLines.{after_asked, answers_asked}
 use Rattle.ox_app.proofs.CommandAnswers.{files_untouched}
@@ -19,7 +19,7 @@ pub returns-in_ok-refuse-in-Some-Err-clause-carried : goal.returns-in_ok-refuse-
 returns-in_ok-refuse-in-Some-Err-clause-carried g c =
     let asks = rw (c.in-Some-Err.is, c.in-Some-Err.field-0-is) at c.in_ok-command.ensures in
     let carried = c.in_ok-refuse-in-Some-Err in
-    answers_asked c.args.line.now (Err c.in-Some-Err.refusal) c.args.store.stack carried.field-0.store.stack carried.field-0.answer asks carried.ensures.answer (ap (λ (s : Stored). s.stack) carried.ensures.store)
+    answers_asked c.args.line.now (Err c.in-Some-Err.refusal) c.args.store.stack carried.field-0.store.stack carried.field-0.answer asks carried.ensures.answer (ap (λ (s : StoreContents). s.stack) carried.ensures.store)
 
 pub returns-in_ok-carry_command-in-Some-Ok-clause-any_moment : goal.returns-in_ok-carry_command-in-Some-Ok-clause-any_moment
 returns-in_ok-carry_command-in-Some-Ok-clause-any_moment g c told stood =
