@@ -6,3 +6,7 @@ pub mod CountLaws
 pub mod ParentLaws
 pub mod NumberLaws
 pub mod NextLaws
+pub mod MapLaws
+pub mod ShelfLaws
+pub mod KeyLaws
+pub mod NextKeyLaws

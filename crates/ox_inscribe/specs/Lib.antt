@@ -3,3 +3,4 @@ pub mod Numbers
 pub mod Reveal
 pub mod Moves
 pub mod Origins
+pub mod Shelved

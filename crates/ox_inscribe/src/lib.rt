@@ -7,8 +7,12 @@ pub use laws::{
 };
 pub use ox_bytes::Memory;
 pub use row::InsRow;
+pub use shelf::Shelf;
 
+mod keys;
 mod laws;
+mod numbers;
 mod row;
+mod shelf;
 #[cfg(test)]
 mod tests;

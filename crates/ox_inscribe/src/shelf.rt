@@ -1,0 +1,229 @@
+//! Inscriptions in memory.
+
+ghost use Rattle.std.specs.Prelude.{◌≡◌, ℕ, ◌+◌, ◌-◌, ◌^◌, ◌<◌, ◌≤◌, [], ◌∷◌, ◌++◌, length, take};
+ghost use Rattle.std.specs.Prelude.{◌==◌, Some, None, IsSome, OnOk, OnErr, slice_get, option_map};
+ghost use Rattle.ox_inscribe.specs.Inscriptions.{find, on, next_on, children};
+ghost use Rattle.ox_inscribe.specs.Shelved.{AreKeys};
+
+use crate::keys::Keys;
+use crate::numbers::numbers_below;
+use crate::row::InsRow;
+use ox_bytes::Memory;
+use ox_envelope::InsId;
+use std::alloc::Global;
+use std::marker::Model;
+
+/// Inscriptions in the order of their numbers, with a mark to which they can go back. Contracts see
+/// the list of rows, and beside it the list at the mark or none.
+///
+/// The mark copies nothing: rows that stood there and are dropped stay, unseen, until the next
+/// mark, so that to go back takes no memory.
+#[derive(Drop)]
+pub struct Shelf {
+    alloc: Global,
+    /// All rows, the unseen ones behind the others.
+    rows: Vec<InsRow>,
+    keys: Keys,
+    /// How many rows are seen.
+    shown: usize,
+    /// How many stood at the mark.
+    mark: Option<usize>,
+}
+
+impl Model for Shelf {
+    ghost use Rattle.std.specs.Prelude.{take, option_map};
+    ghost use Rattle.ox_inscribe.specs.Shelved.{IsShelf, Shelved};
+
+    ghost Value = { Shelved };
+
+    ghost view = { λ shelf. record {
+      rows = take shelf.shown shelf.rows.items;
+      mark = option_map (λ n. take n shelf.rows.items) shelf.mark;
+    } };
+
+    ghost invariant = { λ shelf. IsShelf shelf.rows.items shelf.keys shelf.shown shelf.mark };
+}
+
+/// Puts a row behind others that are found by these keys. `Memory` where there is none for it: the
+/// rows are as before.
+fn push_row(rows: &mut Vec<InsRow>, keys: &mut Keys, row: InsRow) -> Result<(), Memory>
+    requires found { AreKeys rows.old.items keys.old }
+    requires small { length rows.old.items < 2 ^ 32 }
+    ensures ok { OnOk result (rows.new.items ≡ rows.old.items ++ row ∷ []) }
+    ensures err { OnErr result (rows.new.items ≡ rows.old.items) }
+    ensures found { AreKeys rows.new.items keys.new }
+{
+    rows.reserve(1)?;
+    keys.add(&row, rows.len() as u32)?;
+    rows.push_reserved(row);
+    Ok(())
+}
+
+/// Puts copies of rows behind others, as far as there is memory.
+fn push_rows(
+    alloc: Global,
+    rows: &mut Vec<InsRow>,
+    keys: &mut Keys,
+    more: &[InsRow],
+) -> Result<(), Memory>
+    requires found { AreKeys rows.old.items keys.old }
+    requires small { length rows.old.items + length more.now < 2 ^ 32 }
+    ensures ok { OnOk result (rows.new.items ≡ rows.old.items ++ more.now) }
+    ensures front { take (length rows.old.items) rows.new.items ≡ rows.old.items }
+    ensures small { length rows.new.items < 2 ^ 32 }
+    ensures found { AreKeys rows.new.items keys.new }
+{
+    for row in more {
+        push_row(rows, keys, row.copy(alloc)?)?;
+    }
+    Ok(())
+}
+
+/// Takes the last rows away until so many are left.
+fn shorten(rows: &mut Vec<InsRow>, keys: &mut Keys, len: usize)
+    requires found { AreKeys rows.old.items keys.old }
+    requires small { length rows.old.items < 2 ^ 32 }
+    ensures rows { rows.new.items ≡ take len rows.old.items }
+    ensures found { AreKeys rows.new.items keys.new }
+{
+    while rows.len() > len {
+        if let Some(row) = rows.pop() {
+            keys.forget(&row, rows.len() as u32);
+        }
+    }
+}
+
+impl Shelf {
+    /// No rows, and no mark. It takes no memory until a row is appended.
+    pub fn new(alloc: Global) -> Shelf
+        ensures rows { result.rows ≡ [] }
+        ensures mark { result.mark ≡ None }
+    {
+        Shelf {
+            alloc,
+            rows: Vec::new(alloc),
+            keys: Keys::new(alloc),
+            shown: 0,
+            mark: None,
+        }
+    }
+
+    /// How many rows there are.
+    pub fn len(&self) -> u32
+        ensures { result ≡ length self.now.rows }
+    {
+        self.shown as u32
+    }
+
+    /// Whether there are none.
+    pub fn is_empty(&self) -> bool
+        ensures { result ≡ (length self.now.rows == 0) }
+    {
+        self.len() == 0
+    }
+
+    /// The row with a number.
+    pub fn row(&self, n: u32) -> &InsRow
+        requires { n < length self.now.rows }
+        ensures { slice_get self.now.rows n ≡ Some result.now }
+    {
+        &self.rows[n as usize]
+    }
+
+    /// The number of the first row with an id, if there is one.
+    pub fn find(&self, id: &InsId) -> Option<u32>
+        ensures { result ≡ find self.now.rows id.now }
+    {
+        let number = self.keys.find(id)?;
+        if (number as usize) < self.shown {
+            Some(number)
+        } else {
+            None
+        }
+    }
+
+    /// The numbers of the rows on a satoshi, rising.
+    pub fn on(&self, sat: u64) -> &[u32]
+        ensures { result.now ≡ on self.now.rows sat }
+    {
+        numbers_below(self.keys.on(sat), self.shown)
+    }
+
+    /// The least satoshi from a number up that a row is on, and the numbers of the rows on it,
+    /// rising. `None` exactly where there is none.
+    pub fn next_on(&self, sat: u64) -> Option<(u64, &[u32])>
+        ensures { option_map (λ found. (found.0, found.1.now)) result
+            ≡ next_on self.now.rows sat }
+    {
+        match self.keys.next_on(sat, self.shown) {
+            Some((found, numbers)) => Some((found, numbers_below(numbers, self.shown))),
+            None => None,
+        }
+    }
+
+    /// The numbers of the rows among whose parents the id of the row with a number stands, rising.
+    pub fn children(&self, of: u32) -> &[u32]
+        requires { of < length self.now.rows }
+        ensures { result.now ≡ children self.now.rows of }
+    {
+        numbers_below(self.keys.children(&self.row(of).id), self.shown)
+    }
+
+    /// Copies of these rows behind the others. While rows that stood at the mark are dropped, it
+    /// finds no memory: set the mark anew first. `Memory` where there is none left: the rows are as
+    /// before.
+    pub fn append(&mut self, rows: &[InsRow]) -> Result<(), Memory>
+        requires { length self.old.rows + length rows.now < 2 ^ 32 }
+        ensures ok { OnOk result (self.new.rows ≡ self.old.rows ++ rows.now) }
+        ensures err { OnErr result (self.new.rows ≡ self.old.rows) }
+        ensures mark { self.new.mark ≡ self.old.mark }
+    {
+        if self.rows.len() > self.shown {
+            return Err(Memory);
+        }
+        match push_rows(self.alloc, &mut self.rows, &mut self.keys, rows) {
+            Ok(()) => {
+                self.shown = self.rows.len();
+                Ok(())
+            }
+            Err(e) => {
+                shorten(&mut self.rows, &mut self.keys, self.shown);
+                Err(e)
+            }
+        }
+    }
+
+    /// Takes the last rows away, so many. It takes no memory.
+    pub fn drop_last(&mut self, n: u32)
+        requires { n ≤ length self.old.rows }
+        ensures rows { self.new.rows ≡ take (length self.old.rows - n) self.old.rows }
+        ensures mark { self.new.mark ≡ self.old.mark }
+    {
+        let left = self.shown - n as usize;
+        let end = left.max(self.mark.unwrap_or(0));
+        shorten(&mut self.rows, &mut self.keys, end);
+        self.shown = left;
+    }
+
+    /// Sets the mark at the rows as they are, in place of an earlier one. It takes no memory.
+    pub fn begin(&mut self)
+        ensures rows { self.new.rows ≡ self.old.rows }
+        ensures mark { self.new.mark ≡ Some self.old.rows }
+    {
+        shorten(&mut self.rows, &mut self.keys, self.shown);
+        self.mark = Some(self.shown);
+    }
+
+    /// Goes back to the rows at the mark, which is spent. It takes no memory.
+    pub fn cancel(&mut self)
+        requires { IsSome self.old.mark }
+        ensures rows { Some self.new.rows ≡ self.old.mark }
+        ensures mark { self.new.mark ≡ None }
+    {
+        if let Some(len) = self.mark {
+            shorten(&mut self.rows, &mut self.keys, len);
+            self.shown = len;
+        }
+        self.mark = None;
+    }
+}
