@@ -1,5 +1,5 @@
 -- What is read is what is written.
-use Rattle.std.proofs.Common.{◌≡◌, ℕ, ◌+◌, ◌-◌, ◌<◌, ◌^◌, ◌==◌, inl, inr, Bool, true, false, cond, ◌&&◌, ltb, lt-ltb, eq-eqb, eqb-true, List, [], ◌∷◌, ◌++◌, length, get_or, take, drop, reverse, length-append, append_assoc, Some, None, is_some, Result, Ok, decimal, bytes_eq, refl, sym, ap, ap₂, ◌∙◌, subst, arith, true≢false, unwrap_or}
+use Rattle.std.proofs.Common.{◌≡◌, ℕ, ◌+◌, ◌-◌, ◌<◌, ◌^◌, ◌==◌, inl, inr, Bool, true, false, cond, ◌&&◌, ltb, lt-ltb, eq-eqb, eqb-true, ltb-true, List, [], ◌∷◌, ◌++◌, length, get_or, take, drop, reverse, length-append, append_assoc, Some, None, is_some, Result, Ok, decimal, bytes_eq, refl, sym, ap, ap₂, ◌∙◌, subst, arith, true≢false, unwrap_or}
 use Rattle.std.specs.List.{before_first, after_first, position_or_len, AllPass}
 use Rattle.std.specs.Result.{result_unwrap_or}
 use Rattle.std.specs.Str.Parse.{digits_value}
@@ -14,7 +14,7 @@ use Rattle.hex.proofs.HexLemmas.{decode_of-encode_lower, decode_of-ok}
 use Rattle.ox_block.specs.declared.block.OutPoint.{OutPoint}
 use Rattle.ox_rules.specs.Text.{outpoint_text, hash_text}
 use Rattle.ox_ask.specs.Texts.{number_in, outpoint_in}
-use Rattle.ox_ask.proofs.Objects.{second_half}
+use Rattle.ox_ask.proofs.Objects.{first_half, second_half}
 
 -- what is test_told where a test passes
 test_told : {A : Type 0} (test : Bool) (a b : A) → cond test (Some a) None ≡ Some b → (test ≡ true) × (a ≡ b)
@@ -33,6 +33,12 @@ number_read text n e =
     let is = test_told (ltb value (2 ^ 64) && bytes_eq text (decimal value)) value n e in
     (bytes_eq-Decides text (decimal value)).0 (second_half (ltb value (2 ^ 64)) (bytes_eq text (decimal value)) is.0) ∙ ap decimal is.1
 
+pub number_within : (text : List ℕ) (n : ℕ) → number_in text ≡ Some n → n < 2 ^ 64
+number_within text n e =
+    let value = digits_value 10 text in
+    let is = test_told (ltb value (2 ^ 64) && bytes_eq text (decimal value)) value n e in
+    subst (λ (v : ℕ). v < 2 ^ 64) is.1 (ltb-true value (2 ^ 64) (first_half (ltb value (2 ^ 64)) (bytes_eq text (decimal value)) is.0))
+
 pub outpoint_read : (text : List ℕ) (at : OutPoint) → outpoint_in text ≡ Some at → text ≡ outpoint_text at
 outpoint_read text at e =
     let txid = reverse (result_unwrap_or (decode_of (before_first (λ c. c == 58) text)) []) in
@@ -42,6 +48,16 @@ outpoint_read text at e =
     (bytes_eq-Decides text (outpoint_text spelled)).0
     (second_half ((length txid == 32) && ltb index (2 ^ 32)) (bytes_eq text (outpoint_text spelled)) is.0)
     ∙ ap outpoint_text is.1
+
+pub outpoint_within : (text : List ℕ) (at : OutPoint) → outpoint_in text ≡ Some at → (length at.txid.0 ≡ 32) × (at.index < 2 ^ 32)
+outpoint_within text at e =
+    let txid = reverse (result_unwrap_or (decode_of (before_first (λ c. c == 58) text)) []) in
+    let index = digits_value 10 (after_first (λ c. c == 58) text) in
+    let spelled : OutPoint = record { txid = record { 0 = txid }; index = index } in
+    let is = test_told (((length txid == 32) && ltb index (2 ^ 32)) && bytes_eq text (outpoint_text spelled)) spelled at e in
+    let fits = first_half ((length txid == 32) && ltb index (2 ^ 32)) (bytes_eq text (outpoint_text spelled)) is.0 in
+    subst (λ (o : OutPoint). (length o.txid.0 ≡ 32) × (o.index < 2 ^ 32)) is.1
+    (eqb-true (length txid) 32 (first_half (length txid == 32) (ltb index (2 ^ 32)) fits), ltb-true index (2 ^ 32) (second_half (length txid == 32) (ltb index (2 ^ 32)) fits))
 
 reverse_bytes : (xs : List ℕ) → IsBytes xs → IsBytes (reverse xs)
 reverse_bytes xs h i = elim (cases_lt i (length xs)) [

@@ -1,6 +1,6 @@
 //! Laws of what is written in paths and replies.
 
-ghost use Rattle.std.specs.Prelude.{◌≡◌, ◌<◌, ◌^◌, ℕ, List, length, Some, codes, decimal};
+ghost use Rattle.std.specs.Prelude.{◌≡◌, ◌<◌, ◌^◌, ℕ, List, length, Some, decimal};
 ghost use Rattle.hex.specs.Hex.{IsBytes};
 ghost use Rattle.ox_block.specs.declared.block.OutPoint.{OutPoint};
 ghost use Rattle.ox_http.specs.declared.Request.{Request};
@@ -13,6 +13,7 @@ ghost use Rattle.ox_ask.specs.Texts.{number_in, outpoint_in};
 pub fn numbers_are_read()
     ensures written { (n : ℕ) → n < 2 ^ 64 → number_in (decimal n) ≡ Some n }
     ensures read { (text : List ℕ) (n : ℕ) → number_in text ≡ Some n → text ≡ decimal n }
+    ensures within { (text : List ℕ) (n : ℕ) → number_in text ≡ Some n → n < 2 ^ 64 }
 {}
 
 /// An outpoint is read from its text and from nothing else.
@@ -21,12 +22,12 @@ pub fn outpoints_are_read()
         → at.index < 2 ^ 32 → outpoint_in (outpoint_text at) ≡ Some at }
     ensures read { (text : List ℕ) (at : OutPoint) → outpoint_in text ≡ Some at
         → text ≡ outpoint_text at }
+    ensures within { (text : List ℕ) (at : OutPoint) → outpoint_in text ≡ Some at
+        → (length at.txid.0 ≡ 32) × (at.index < 2 ^ 32) }
 {}
 
-/// Every reply is JSON, and closes the link where the request does.
+/// Every reply closes the link where the request does.
 pub fn replies_close_as_asked()
-    ensures close { (asked : Asked) (request : Request)
+    ensures { (asked : Asked) (request : Request)
         → (reply_of asked request).close ≡ request.close }
-    ensures kind { (asked : Asked) (request : Request)
-        → (reply_of asked request).kind ≡ codes "application/json" }
 {}

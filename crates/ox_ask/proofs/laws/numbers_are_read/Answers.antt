@@ -1,4 +1,4 @@
-use Rattle.ox_ask.proofs.Read.{number_written, number_read}
+use Rattle.ox_ask.proofs.Read.{number_written, number_read, number_within}
 use Rattle.ox_ask.proofs.laws.numbers_are_read.Goals as goal
 
 pub returns-clause-written : goal.returns-clause-written
@@ -6,3 +6,6 @@ returns-clause-written c = number_written
 
 pub returns-clause-read : goal.returns-clause-read
 returns-clause-read c = number_read
+
+pub returns-clause-within : goal.returns-clause-within
+returns-clause-within c = number_within

@@ -1,4 +1,4 @@
-use Rattle.ox_ask.proofs.Read.{outpoint_read, outpoint_written}
+use Rattle.ox_ask.proofs.Read.{outpoint_read, outpoint_written, outpoint_within}
 use Rattle.ox_ask.proofs.laws.outpoints_are_read.Goals as goal
 
 pub returns-clause-written : goal.returns-clause-written
@@ -6,3 +6,6 @@ returns-clause-written c = outpoint_written
 
 pub returns-clause-read : goal.returns-clause-read
 returns-clause-read c = outpoint_read
+
+pub returns-clause-within : goal.returns-clause-within
+returns-clause-within c = outpoint_within
