@@ -134,8 +134,9 @@ fn drop_number<K: Ord + Copy>(map: &mut BTreeMap<K, Numbers>, key: K, number: u3
     }
 }
 
-/// Puts a number behind those at each of these keys, unless it is their last already. `Memory` where
-/// there is none for it: at each of them the numbers are then as before, or it stands behind them.
+/// Puts a number behind those at each of these keys, unless it is their last already. `Memory`
+/// where there is none for it: at each of them the numbers are then as before, or it stands behind
+/// them.
 pub(crate) fn add_numbers<K: Ord + Copy>(
     alloc: Global,
     map: &mut BTreeMap<K, Numbers>,
