@@ -93,25 +93,30 @@ fn words_of(rt: &impl Abort, alloc: Global, words: &[&[u8]]) -> Vec<Bytes> {
     all
 }
 
-// How many bytes a site has shown.
-pub fn shown_so_far(rt: &impl Abort, site: &MemSite) -> usize {
+/// How many bytes a site has shown.
+pub(crate) fn shown_so_far(rt: &impl Abort, site: &MemSite) -> usize {
     site.shown(0).expect(rt, "memory").len()
 }
 
-// Whether a site has shown these bytes behind the first ones.
-pub fn has_shown(rt: &impl Abort, site: &MemSite, before: usize, bytes: &[u8]) -> bool {
+/// Whether a site has shown these bytes behind the first ones.
+pub(crate) fn has_shown(rt: &impl Abort, site: &MemSite, before: usize, bytes: &[u8]) -> bool {
     let all = site.shown(0).expect(rt, "memory");
     all.as_slice().get(before..) == Some(bytes)
 }
 
-// Runs these words: the exit status.
-pub fn code_of<S: Site>(rt: &impl Abort, alloc: Global, site: &mut S, words: &[&[u8]]) -> u8 {
+/// Runs these words: the exit status.
+pub(crate) fn code_of<S: Site>(
+    rt: &impl Abort,
+    alloc: Global,
+    site: &mut S,
+    words: &[&[u8]],
+) -> u8 {
     let words = words_of(rt, alloc, words);
     run(alloc, words.as_slice(), site).code()
 }
 
-// Whether a run of these words ends with this exit status and shows these bytes.
-pub fn ends(
+/// Whether a run of these words ends with this exit status and shows these bytes.
+pub(crate) fn ends(
     rt: &impl Abort,
     alloc: Global,
     site: &mut MemSite,
@@ -125,8 +130,8 @@ pub fn ends(
 
 // ---- feeds
 
-// A site that gives this input, and at which the call of this number fails.
-pub fn site_of(rt: &impl Abort, alloc: Global, feed: &[u8], fails: Option<u64>) -> MemSite {
+/// A site that gives this input, and at which the call of this number fails.
+pub(crate) fn site_of(rt: &impl Abort, alloc: Global, feed: &[u8], fails: Option<u64>) -> MemSite {
     let mut site = MemSite::new(alloc).expect(rt, "memory");
     site.input(feed).expect(rt, "memory");
     if let Some(call) = fails {
@@ -141,8 +146,8 @@ fn folds(rt: &impl Abort, alloc: Global, profile: &[u8], feed: &[u8], answers: &
     ends(rt, alloc, &mut site, &[b"fold", profile], 0, answers) && site.starved() == 0
 }
 
-// Several lines in a row.
-pub fn join_lines(rt: &impl Abort, alloc: Global, lines: &[&[u8]]) -> Bytes {
+/// Several lines in a row.
+pub(crate) fn join_lines(rt: &impl Abort, alloc: Global, lines: &[&[u8]]) -> Bytes {
     let mut all = Bytes::empty(alloc);
     for line in lines {
         all.append(line).expect(rt, "memory");
@@ -150,8 +155,8 @@ pub fn join_lines(rt: &impl Abort, alloc: Global, lines: &[&[u8]]) -> Bytes {
     all
 }
 
-// The line of a connect, by the digits of its block.
-pub fn connect(rt: &impl Abort, alloc: Global, digits: &str) -> Bytes {
+/// The line of a connect, by the digits of its block.
+pub(crate) fn connect(rt: &impl Abort, alloc: Global, digits: &str) -> Bytes {
     join_lines(rt, alloc, &[b"connect ", digits.as_bytes(), b"\n"])
 }
 
@@ -359,8 +364,8 @@ fn empty_store(rt: &impl Abort, alloc: Global) -> MemSite {
     store_of(rt, alloc, a.as_slice())
 }
 
-// An empty store that will hear these bytes.
-pub fn store_hearing(rt: &impl Abort, alloc: Global, feed: &[u8]) -> MemSite {
+/// An empty store that will hear these bytes.
+pub(crate) fn store_hearing(rt: &impl Abort, alloc: Global, feed: &[u8]) -> MemSite {
     let mut site = empty_store(rt, alloc);
     site.input(feed).expect(rt, "memory");
     site
@@ -426,8 +431,8 @@ fn refused_lines_leave_a_store_as_it_is(rt: HostRuntime) {
     assert!(rt; has_files(&rt, alloc, &site, EMPTY_A));
 }
 
-// The lines that connect the three blocks.
-pub fn three_lines(rt: &impl Abort, alloc: Global) -> Bytes {
+/// The lines that connect the three blocks.
+pub(crate) fn three_lines(rt: &impl Abort, alloc: Global) -> Bytes {
     let mut feed = connect(rt, alloc, FIRST);
     feed.append(connect(rt, alloc, SECOND).as_slice())
         .expect(rt, "memory");
@@ -436,8 +441,8 @@ pub fn three_lines(rt: &impl Abort, alloc: Global) -> Bytes {
     feed
 }
 
-// Whether a query of the status shows so many of the three blocks.
-pub fn has_blocks(rt: &impl Abort, alloc: Global, site: &mut MemSite, blocks: u64) -> bool {
+/// Whether a query of the status shows so many of the three blocks.
+pub(crate) fn has_blocks(rt: &impl Abort, alloc: Global, site: &mut MemSite, blocks: u64) -> bool {
     let body = status_body(blocks).as_bytes();
     ends(rt, alloc, site, &[b"query", b"/status"], 0, body)
 }
@@ -463,8 +468,8 @@ fn lines_shown(rt: &impl Abort, site: &MemSite) -> u64 {
     shown.as_slice().iter().filter(|b| **b == b'\n').count() as u64
 }
 
-// Whether the same feed leads on to all three blocks.
-pub fn leads_on(rt: &impl Abort, alloc: Global, site: &mut MemSite, feed: &[u8]) -> bool {
+/// Whether the same feed leads on to all three blocks.
+pub(crate) fn leads_on(rt: &impl Abort, alloc: Global, site: &mut MemSite, feed: &[u8]) -> bool {
     site.input(feed).expect(rt, "memory");
     code_of(rt, alloc, site, &[b"apply"]) == 0 && has_blocks(rt, alloc, site, 3)
 }
