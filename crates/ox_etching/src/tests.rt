@@ -4,7 +4,7 @@ use super::*;
 use ox_block::{Inputs, OutPoint, Outs, Tx, TxIn, Txid, Witness};
 use ox_bytes::Bytes;
 use ox_range::Ranges;
-use ox_rules::{OutRow, SpentRows};
+use ox_rules::{OutRow, Script, SpentRows};
 use ox_runestone::{Artifact, Edicts, Etching, RuneId, Runestone, Terms, decipher, is_stone};
 use ox_sat::{ProfileName, profile_of};
 use std::alloc::Global;
@@ -217,7 +217,7 @@ fn body_of(rt: &impl Abort, alloc: Global, items: &[&[u8]]) -> Tx {
 
 fn row_of(rt: &impl Abort, alloc: Global, script: &[u8], height: u32) -> OutRow {
     OutRow {
-        script: Bytes::copy(alloc, script).expect(rt, "memory"),
+        script: Script::copy(alloc, script).expect(rt, "memory"),
         height,
         sats: Ranges::empty(alloc),
     }

@@ -6,6 +6,7 @@ mod moved;
 mod place;
 mod refusal;
 mod rows;
+mod script;
 mod table;
 
 ghost use Rattle.std.specs.Prelude.{◌≡◌};
@@ -19,6 +20,7 @@ pub use ox_bytes::Memory;
 pub use place::Place;
 pub use refusal::{Refusal, hash_text, outpoint_text};
 pub use rows::OutRow;
+pub use script::Script;
 pub use table::{OutTable, Unplaced};
 
 /// What differs between two tables of outputs: the rows that are gone and those that came, each by

@@ -2,7 +2,8 @@
 
 ghost use Rattle.std.specs.Prelude.{◌≡◌, IfOk};
 
-use ox_bytes::{Bytes, Memory};
+use crate::script::Script;
+use ox_bytes::Memory;
 use ox_range::Ranges;
 use std::alloc::Global;
 
@@ -10,7 +11,7 @@ use std::alloc::Global;
 #[derive(Debug, Drop)]
 pub struct OutRow {
     /// The output's script.
-    pub script: Bytes,
+    pub script: Script,
     /// The height of the block that made it.
     pub height: u32,
     /// The satoshis that it holds, in order.
@@ -23,7 +24,7 @@ impl OutRow {
         ensures { IfOk result (λ row. row ≡ self.now) }
     {
         Ok(OutRow {
-            script: Bytes::copy(alloc, self.script.as_slice())?,
+            script: Script::copy(alloc, self.script.as_slice())?,
             height: self.height,
             sats: self.sats.copy(alloc)?,
         })

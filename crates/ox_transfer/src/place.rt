@@ -10,9 +10,8 @@ ghost use Rattle.ox_rules.specs.Deal.{all_parts};
 ghost use Rattle.ox_transfer.specs.Parts.{placed_of};
 
 use ox_block::{OutPoint, TxOut, Txid};
-use ox_bytes::Bytes;
 use ox_range::Ranges;
-use ox_rules::{Memory, OutRow, OutTable};
+use ox_rules::{Memory, OutRow, OutTable, Script};
 use std::alloc::Global;
 
 /// Places a row. One that it displaces goes to the displaced ones, and its satoshis are lost.
@@ -67,7 +66,7 @@ pub(crate) fn place_outputs<O: OutTable>(
             unreachable!()
         };
         let row = OutRow {
-            script: Bytes::copy(alloc, output.script.as_slice())?,
+            script: Script::copy(alloc, output.script.as_slice())?,
             height,
             sats,
         };
