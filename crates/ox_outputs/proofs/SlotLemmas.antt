@@ -61,7 +61,7 @@ rows_of_take old new at is = same_map outpoints_total outpoints_exact (rows_of n
     ∙ ap (λ (r : Option OutRow). cond (eq_by_cmp outpoint_cmp q at) None r) (sym (get-rows_of old q))
     ∙ sym (get-put_slot (rows_of old) at None q))
 
-equal : (r : Ordering) → is_eq r ≡ true → r ≡ Equal
+pub equal : (r : Ordering) → is_eq r ≡ true → r ≡ Equal
 equal Less p = absurd (cc p)
 equal Equal p = refl
 equal Greater p = absurd (cc p)

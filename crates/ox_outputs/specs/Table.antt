@@ -5,4 +5,4 @@ use Rattle.ox_outputs.specs.declared.outputs.Outputs.{Outputs}
 
 -- the rows, by outpoint
 abbrev pub rows_in : Outputs → Rows
-rows_in outputs = rows_of outputs.slots.entries
+rows_in outputs = rows_of outputs.slots

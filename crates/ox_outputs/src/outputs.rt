@@ -6,13 +6,11 @@ ghost use Rattle.std.specs.Option.{option_copied};
 ghost use Rattle.std.specs.FinMap as map;
 ghost use Rattle.ox_outputs.specs.Slots.{rows_of, undone, are_slots};
 
-use crate::slots::{
-    Slots, fill, fill_twice, find, forget, go_back, row_at, settle, take_slot, take_twice,
-};
+use crate::changes::{fill_twice, forget, go_back, settle, take_twice};
+use crate::slots::Slots;
 use ox_block::OutPoint;
 use ox_rules::{Memory, OutRow, OutTable, Place, Unplaced};
 use std::alloc::Global;
-use std::collections::BTreeMap;
 
 /// The unspent outputs: rows by outpoint, in memory. With a mark set, the rows that were taken or
 /// displaced since are kept until the next mark, so that to go back takes no memory.
@@ -24,7 +22,7 @@ pub struct Outputs {
     changed: Vec<OutPoint>,
     before: Vec<Option<OutRow>>,
     marked: bool,
-    ghost known: { IsTrue (are_slots changed.items slots.entries) },
+    ghost known: { IsTrue (are_slots changed.items slots) },
     ghost paired: { length before.items ≡ length changed.items },
     ghost unmarked: { marked ≡ false → changed.items ≡ [] },
 }
@@ -39,7 +37,7 @@ impl Outputs {
     {
         Outputs {
             alloc,
-            slots: BTreeMap::new(alloc),
+            slots: Slots::new(alloc),
             changed: Vec::new(alloc),
             before: Vec::new(alloc),
             marked: false,
@@ -51,25 +49,25 @@ impl Outputs {
     pub fn locate(&self, sat: u64) -> Option<Place>
         ensures { result ≡ place_among (map.entries (rows_in self.now)) sat }
     {
-        find(&self.slots, sat)
+        self.slots.find(sat)
     }
 }
 
 impl OutTable for Outputs {
-    ghost contents = { λ outputs. rows_of outputs.slots.entries };
+    ghost contents = { λ outputs. rows_of outputs.slots };
 
     ghost marked = { λ outputs. if outputs.marked
         then Some (undone outputs.before.items outputs.changed.items
-        (rows_of outputs.slots.entries))
+        (rows_of outputs.slots))
         else None };
 
     fn get(&self, at: &OutPoint) -> Option<&OutRow> {
-        row_at(&self.slots, at)
+        self.slots.get(at)
     }
 
     fn take(&mut self, at: &OutPoint) -> Result<Option<OutRow>, Memory> {
         if !self.marked {
-            return Ok(take_slot(&mut self.slots, at));
+            return Ok(self.slots.remove(at));
         }
         self.changed.reserve(1)?;
         self.before.reserve(1)?;
@@ -83,7 +81,7 @@ impl OutTable for Outputs {
 
     fn place(&mut self, at: &OutPoint, row: OutRow) -> Result<Option<OutRow>, Unplaced> {
         if !self.marked {
-            return fill(&mut self.slots, *at, row);
+            return self.slots.fill(*at, row);
         }
         if self.changed.reserve(1).is_err() || self.before.reserve(1).is_err() {
             return Err(Unplaced { row });

@@ -2,13 +2,13 @@ use Rattle.std.proofs.Common.{◌≡◌, ◌∙◌, ◌<◌, sym, ap, arith, len
 use Rattle.ox_rules.specs.declared.rows.OutRow.{OutRow}
 use Rattle.ox_outputs.specs.Slots.{rows_of, undone}
 use Rattle.ox_outputs.proofs.SlotLemmas.{no_rows, undo_step, slots_kept, slot_known}
-use Rattle.ox_outputs.proofs.slots.go_back.Goals as goal
+use Rattle.ox_outputs.proofs.changes.go_back.Goals as goal
 
 pub exchange-changed-requires : goal.exchange-changed-requires
 exchange-changed-requires c =
     let popped = c.in-Some.ensures.items in
     let fits : c.len.result < length c.args.changed.now = omega (arith, c.loop-row.invariant.short, ap length popped, length-append c.pop.new.self.items (c.in-Some.row ∷ [])) in
-    slot_known _ c.args.changed.now c.loop-row.slots.entries c.len.result fits c.loop-row.invariant.known
+    slot_known _ c.args.changed.now c.loop-row.slots c.len.result fits c.loop-row.invariant.known
 
 pub loop-row-preserved-in-Some : goal.loop-row-preserved-in-Some
 loop-row-preserved-in-Some c =
@@ -16,7 +16,7 @@ loop-row-preserved-in-Some c =
     let at : c.len.result ≡ length c.pop.new.self.items = omega (arith, c.len.ensures) in record {
       rows = undo_step _ c.loop-row.before.items c.pop.new.self.items c.in-Some.row c.args.changed.now _ _ _ c.len.result popped c.loop-row.invariant.short at c.exchange-changed.ensures.rows c.loop-row.invariant.rows;
       short = omega (arith, c.loop-row.invariant.short, ap length popped, length-append c.pop.new.self.items (c.in-Some.row ∷ []));
-      known = slots_kept c.args.changed.now c.loop-row.slots.entries c.exchange-changed.new.slots.entries c.exchange-changed.ensures.others c.loop-row.invariant.known;
+      known = slots_kept c.args.changed.now c.loop-row.slots c.exchange-changed.new.self c.exchange-changed.ensures.others c.loop-row.invariant.known;
     }
 
 pub loop-row-preserved : goal.loop-row-preserved
@@ -25,7 +25,7 @@ loop-row-preserved c =
     let at : c.len.result ≡ length c.pop.new.self.items = omega (arith, c.len.ensures) in record {
       rows = undo_step _ c.loop-row.before.items c.pop.new.self.items c.in-Some.row c.args.changed.now _ _ _ c.len.result popped c.loop-row.invariant.short at c.exchange-changed.ensures.rows c.loop-row.invariant.rows;
       short = omega (arith, c.loop-row.invariant.short, ap length popped, length-append c.pop.new.self.items (c.in-Some.row ∷ []));
-      known = slots_kept c.args.changed.now c.loop-row.slots.entries c.exchange-changed.new.slots.entries c.exchange-changed.ensures.others c.loop-row.invariant.known;
+      known = slots_kept c.args.changed.now c.loop-row.slots c.exchange-changed.new.self c.exchange-changed.ensures.others c.loop-row.invariant.known;
     }
 
 pub loop-row-preserved-in-Some-2 : goal.loop-row-preserved-in-Some-2
@@ -34,10 +34,10 @@ loop-row-preserved-in-Some-2 c =
     let at : c.len.result ≡ length c.pop.new.self.items = omega (arith, c.len.ensures) in record {
       rows = undo_step _ c.loop-row.before.items c.pop.new.self.items c.in-Some.row c.args.changed.now _ _ _ c.len.result popped c.loop-row.invariant.short at c.exchange-changed.ensures.rows c.loop-row.invariant.rows;
       short = omega (arith, c.loop-row.invariant.short, ap length popped, length-append c.pop.new.self.items (c.in-Some.row ∷ []));
-      known = slots_kept c.args.changed.now c.loop-row.slots.entries c.exchange-changed.new.slots.entries c.exchange-changed.ensures.others c.loop-row.invariant.known;
+      known = slots_kept c.args.changed.now c.loop-row.slots c.exchange-changed.new.self c.exchange-changed.ensures.others c.loop-row.invariant.known;
     }
 
 pub returns-clause-rows : goal.returns-clause-rows
 returns-clause-rows c =
     let none : c.loop-row.before.items ≡ [] = no_rows _ (omega (arith, c.in_default.ensures.cases)) in
-    sym (ap (λ (r : List (Option OutRow)). undone r c.args.changed.now (rows_of c.loop-row.slots.entries)) none) ∙ c.loop-row.invariant.rows
+    sym (ap (λ (r : List (Option OutRow)). undone r c.args.changed.now (rows_of c.loop-row.slots)) none) ∙ c.loop-row.invariant.rows
