@@ -146,5 +146,7 @@ impl View for Live {
         }
     }
 
+    ghost known = { λ live. live.known };
+
     ghost sound = { λ live. live.sound };
 }

@@ -2,6 +2,7 @@
 
 ghost use Rattle.std.specs.Prelude.{◌≡◌, length, slice_get, option_copied};
 ghost use Rattle.std.specs.FinMap as map;
+ghost use Rattle.ox_sat.specs.Profiles.{IsProfile};
 ghost use Rattle.ox_sat.specs.declared.profiles.Profile.{Profile};
 ghost use Rattle.ox_model.specs.Index.{Index};
 ghost use Rattle.ox_model.specs.Where.{where_is};
@@ -11,7 +12,8 @@ use ox_block::OutPoint;
 use ox_rules::{OutRow, Place};
 use ox_sat::Profile;
 
-/// An index that is sound for its profile, to be read. Nothing here takes memory.
+/// An index that is sound for its profile, which is one of the table, to be read. Nothing here
+/// takes memory.
 pub trait View {
     /// The profile by which the chain counts.
     ghost chain: { Self → Profile };
@@ -44,6 +46,9 @@ pub trait View {
     /// ones; `None` exactly where it is nowhere.
     fn locate(&self, sat: u64) -> Option<Place>
         ensures { result ≡ where_is (index self.now) sat };
+
+    /// The profile is one of the table.
+    ghost known: { (view : Self) → IsProfile (chain view) };
 
     /// The index is sound.
     ghost sound: { (view : Self) → IsSound (chain view) (index view) };
