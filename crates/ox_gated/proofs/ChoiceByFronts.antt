@@ -4,7 +4,7 @@ use Rattle.std.specs.Prelude.{Ok, Err, nat_lt, slice_range}
 use Rattle.std.proofs.lemmas.Bool.{cases_lt, ltb-false, eq-eqb}
 use Rattle.std.proofs.lemmas.Bool.Decides.{eqb_tells}
 use Rattle.std.proofs.lemmas.List.{length-take, take_all, take_min, drop-drop}
-use Rattle.ox_outside.specs.Files.{Files}
+use Rattle.ox_outside.specs.Files.{Files, file_of}
 use Rattle.ox_outside.specs.declared.site.Which.{Which}
 use Rattle.ox_outside.specs.declared.site.Which.TheVariants.{A, B}
 use Rattle.ox_gated.specs.Layout.{is_closed, head_of}
@@ -83,6 +83,11 @@ front_is file bytes len m is_len is_m is =
 
 pub choice_read : (files : Files) (a b : List ℕ) → a ≡ take 26 files.a → b ≡ take 26 files.b → choice_of a b ≡ choice_of files.a files.b
 choice_read files a b is_a is_b = (λ i. choice_of (is_a i) (is_b i)) ∙ choice_of-fronts files.a files.b
+
+-- whether either file is closed
+pub closed_read : (files : Files) (a b : List ℕ) → a ≡ take 26 files.a → b ≡ take 26 files.b → (file : Which) → is_closed (file_of (record { a = a; b = b }) file) ≡ is_closed (file_of files file)
+closed_read files a b is_a is_b A = ap is_closed is_a ∙ closed_front files.a
+closed_read files a b is_a is_b B = ap is_closed is_b ∙ closed_front files.b
 
 -- the current file by the parts that were read
 pub current_read : (version : ℕ) (file : Which) (bytes : List ℕ) (opening : Opening) (len : ℕ) (body rest : List ℕ) → len ≡ length bytes → opening.head.version ≡ version → nat_lt len (26 + opening.size) ≡ false

@@ -1,5 +1,6 @@
 -- What the opening of two files gives, in the words of what they stand for.
-use Rattle.std.specs.Prelude.{◌≡◌, Bool, length, Option, Some, None, Result, Err}
+use Rattle.std.specs.Prelude.{◌≡◌, Bool, IsTrue, length, Option, Some, None, Result, Err}
+use Rattle.ox_gated.specs.Layout.{is_lawful}
 use Rattle.ox_gated.specs.Pick.{Choice}
 use Rattle.ox_gated.specs.Reading.{Found, Fault, IntactPart}
 use Rattle.ox_gated.specs.Tail.{Kept}
@@ -32,6 +33,11 @@ abbrev pub IsUnpicked : Choice → GateFault → Type 0
 IsUnpicked choice gates.DiskFault = Unit {0}
 IsUnpicked choice (gates.NotStore file at before) = (choice ≡ Err (file, at)) × (before ≡ None)
 IsUnpicked choice gates.Memory = Unit {0}
+
+-- a head that stands before the fault is lawful
+abbrev pub IsBehindLawful : GateFault → Type 0
+IsBehindLawful (gates.NotStore file at (Some before)) = IsTrue (is_lawful before.head)
+IsBehindLawful fault = Unit {0}
 
 -- what the opening found
 abbrev pub found_of : Opened → Found

@@ -1,5 +1,5 @@
 // The head of a file.
-ghost use Rattle.std.specs.Prelude.{◌≡◌, ◌+◌, ◌≤◌, length, slice_range};
+ghost use Rattle.std.specs.Prelude.{◌≡◌, ◌+◌, ◌≤◌, IfSome, IsTrue, length, slice_range};
 ghost use Rattle.std.specs.Int.{w16, w64, from_le_bytes};
 ghost use Rattle.ox_gated.specs.Layout.{is_lawful, has_magic, is_closed, head_of, body_at};
 
@@ -42,7 +42,8 @@ impl Head {
 /// The head of an open file, of whose front these bytes are 26 or, where it has fewer, all. None
 /// where they are cut or break the form.
 pub fn opening_of(front: &[u8]) -> Option<Opening>
-    ensures { result ≡ head_of front.now }
+    ensures opening { result ≡ head_of front.now }
+    ensures lawful { IfSome result (λ opening. IsTrue (is_lawful opening.head)) }
 {
     if front.len() < BODY_AT {
         return None;

@@ -5,8 +5,8 @@ ghost use Rattle.std.specs.Prelude.{IsTrue, IfOk, IfErr, OnOk, OnErr, IsErrOf, O
 ghost use Rattle.ox_outside.specs.Counts.{Rose};
 ghost use Rattle.ox_outside.specs.Files.{Files, file_of, other};
 ghost use Rattle.ox_outside.specs.Runs.{OnlyLooks};
-ghost use Rattle.ox_gated.specs.Layout.{is_closed, body_at};
-ghost use Rattle.ox_gated.specs.Opened.{IsFault, IsUnpicked, found_of, tail_of};
+ghost use Rattle.ox_gated.specs.Layout.{is_closed, is_lawful, body_at};
+ghost use Rattle.ox_gated.specs.Opened.{IsBehindLawful, IsFault, IsUnpicked, found_of, tail_of};
 ghost use Rattle.ox_gated.specs.Pick.{choice_of, of_file};
 ghost use Rattle.ox_gated.specs.Reading.{by_parts, current_reading};
 ghost use Rattle.ox_gated.specs.Tail.{IsSettled};
@@ -101,6 +101,8 @@ fn compare(a: &Front, b: &Front) -> Result<Examined, GateFault>
     ensures closed { let fronts : Files = record { a = a.now.bytes.items; b = b.now.bytes.items } in
         IfOk result (λ e. e.other_closed ≡ is_closed (file_of fronts (other e.file))) }
     ensures fault { IfErr result (IsUnpicked (choice_of a.now.bytes.items b.now.bytes.items)) }
+    ensures behind { IfErr result IsBehindLawful }
+    ensures lawful { IfOk result (λ e. IsTrue (is_lawful e.opening.head)) }
     ensures not_disk { IsErrOf result GateFault.DiskFault → ⊥ }
 {
     let (file, opening) = match pick(&a.bytes, &b.bytes) {
@@ -140,6 +142,8 @@ pub fn examine<S: Site>(alloc: Global, site: &mut S) -> Result<Examined, GateFau
         → IfOk result (λ e. e.other_closed ≡ is_closed (file_of (S.seen site.old) (other e.file))) }
     ensures fault { IsTrue (S.told site.old)
         → IfErr result (IsUnpicked (choice_of (S.seen site.old).a (S.seen site.old).b)) }
+    ensures behind { IfErr result IsBehindLawful }
+    ensures lawful { IfOk result (λ e. IsTrue (is_lawful e.opening.head)) }
     ensures looks { OnlyLooks S.Site site.old site.new }
     ensures failed { IsErrOf result GateFault.DiskFault
         → Rose (S.counts site.old).disk (S.counts site.new).disk }
@@ -167,13 +171,15 @@ fn judge(
     body: Vec<u8>,
     rest: &[u8],
 ) -> Result<Opened, GateFault>
-    requires { body_at + examined.now.opening.size + length rest.now < 2 ^ 64 }
+    requires fits { body_at + examined.now.opening.size + length rest.now < 2 ^ 64 }
+    requires lawful { IsTrue (is_lawful examined.now.opening.head) }
     ensures found { let e = examined.now in
         IfOk result (λ o. by_parts e.file e.opening body.items rest.now ≡ Ok (found_of o)) }
     ensures tail { IfOk result (λ o. o.tail ≡ tail_of o examined.now.other_closed) }
     ensures head { IfOk result (λ o. o.head ≡ examined.now.opening.head) }
     ensures fault { let e = examined.now in
         IfErr result (IsFault (by_parts e.file e.opening body.items rest.now)) }
+    ensures behind { IfErr result IsBehindLawful }
     ensures not_disk { IsErrOf result GateFault.DiskFault → ⊥ }
 {
     let head = examined.opening.head;
@@ -213,19 +219,22 @@ pub fn read_current<S: Site>(
     version: u8,
     examined: &Examined,
 ) -> Result<Opened, GateFault>
-    requires { IsTrue (S.told site.old)
+    requires len { IsTrue (S.told site.old)
         → examined.now.len ≡ length (file_of (S.seen site.old) examined.now.file) }
+    requires lawful { IsTrue (is_lawful examined.now.opening.head) }
     ensures found { let e = examined.now in
         IsTrue (S.told site.old)
         → IfOk result (λ o.
         current_reading version e.file (file_of (S.seen site.old) e.file) e.opening
         ≡ Ok (found_of o)) }
     ensures tail { IfOk result (λ o. o.tail ≡ tail_of o examined.now.other_closed) }
+    ensures head { IfOk result (λ o. o.head ≡ examined.now.opening.head) }
     ensures version { IfOk result (λ o. o.head.version ≡ version) }
     ensures fault { let e = examined.now in
         IsTrue (S.told site.old)
         → IfErr result
         (IsFault (current_reading version e.file (file_of (S.seen site.old) e.file) e.opening)) }
+    ensures behind { IfErr result IsBehindLawful }
     ensures looks { OnlyLooks S.Site site.old site.new }
     ensures failed { IsErrOf result GateFault.DiskFault
         → Rose (S.counts site.old).disk (S.counts site.new).disk }
@@ -269,8 +278,8 @@ impl Tail {
     ghost use Rattle.ox_gated.specs.Tail.{Holds};
 
     /// Opens two files of version 1. It begins with a sync of both, and changes nothing: at no
-    /// moment does a crash leave anything that it didn't leave before. What is opened has version
-    /// 1, whatever the site tells.
+    /// moment does a crash leave anything that it didn't leave before. What is opened has a lawful
+    /// head of version 1, whatever the site tells.
     ///
     /// `NotStore` comes exactly where the files stand for nothing, with the file and the place of
     /// the first test that fails; `DiskFault` only where a call on a file failed; `Memory` where
@@ -280,8 +289,10 @@ impl Tail {
             → IfOk result (λ o. reading 1 (S.seen site.old) ≡ Ok (found_of o)) }
         ensures holds { IsTrue (S.told site.old) → IfOk result (λ o. Holds S.Site o.tail site.new) }
         ensures head { IfOk result (λ o. (o.tail.head ≡ o.head) × (o.head.version ≡ 1)) }
+        ensures lawful { IfOk result (λ o. IsTrue (is_lawful o.head)) }
         ensures not_store { IsTrue (S.told site.old)
             → IfErr result (IsFault (reading 1 (S.seen site.old))) }
+        ensures behind { IfErr result IsBehindLawful }
         ensures failed { IsErrOf result GateFault.DiskFault
             → Rose (S.counts site.old).disk (S.counts site.new).disk }
         ensures looks { OnlyLooks S.Site site.old site.new }

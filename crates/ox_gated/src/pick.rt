@@ -1,6 +1,6 @@
 // Which of two files is current.
-ghost use Rattle.std.specs.Prelude.{◌≡◌};
-ghost use Rattle.ox_gated.specs.Layout.{head_of};
+ghost use Rattle.std.specs.Prelude.{◌≡◌, IfOk, IfSome, IsTrue};
+ghost use Rattle.ox_gated.specs.Layout.{head_of, is_lawful};
 ghost use Rattle.ox_gated.specs.Pick.{choice_of, lone_choice, greater_of};
 
 use crate::head::{Opening, is_shut, opening_of};
@@ -10,7 +10,8 @@ use ox_outside::Which;
 /// The current one of two files with these fronts, or the file and the place of the first test that
 /// fails.
 pub fn pick(a: &[u8], b: &[u8]) -> Result<(Which, Opening), (Which, u64)>
-    ensures { result ≡ choice_of a.now b.now }
+    ensures choice { result ≡ choice_of a.now b.now }
+    ensures lawful { IfOk result (λ choice. IsTrue (is_lawful choice.1.head)) }
 {
     match (is_shut(a), is_shut(b)) {
         (true, true) => Err((Which::A, 0)),
@@ -33,7 +34,9 @@ pub fn pick(a: &[u8], b: &[u8]) -> Result<(Which, Opening), (Which, u64)>
 }
 
 fn choice_of_one(file: Which, opening: Option<Opening>) -> Result<(Which, Opening), (Which, u64)>
-    ensures { result ≡ lone_choice file opening }
+    requires { IfSome opening (λ o. IsTrue (is_lawful o.head)) }
+    ensures choice { result ≡ lone_choice file opening }
+    ensures lawful { IfOk result (λ choice. IsTrue (is_lawful choice.1.head)) }
 {
     match opening {
         Some(opening) => Ok((file, opening)),
@@ -42,7 +45,10 @@ fn choice_of_one(file: Which, opening: Option<Opening>) -> Result<(Which, Openin
 }
 
 fn choice_of_two(a: Option<Opening>, b: Option<Opening>) -> Result<(Which, Opening), (Which, u64)>
-    ensures { result ≡ greater_of a b }
+    requires a { IfSome a (λ o. IsTrue (is_lawful o.head)) }
+    requires b { IfSome b (λ o. IsTrue (is_lawful o.head)) }
+    ensures choice { result ≡ greater_of a b }
+    ensures lawful { IfOk result (λ choice. IsTrue (is_lawful choice.1.head)) }
 {
     match (a, b) {
         (None, _) => Err((Which::A, MAGIC_AT as u64)),
