@@ -1,5 +1,5 @@
 -- What the files of a store stand for.
-use Rattle.std.proofs.Common.{◌≡◌, ◌∙◌, inl, inr, ⊎_elim, ℕ, List, [], ◌∷◌, refl, sym, ap, subst}
+use Rattle.std.proofs.Common.{◌≡◌, ◌∙◌, inl, inr, ⊎_elim, ℕ, List, [], refl, sym, ap, subst}
 use Rattle.std.specs.Prelude.{Ok}
 use Rattle.ox_outside.specs.Files.{Files}
 use Rattle.ox_outside.specs.declared.site.Which.TheVariants.{A}
@@ -7,18 +7,14 @@ use Rattle.ox_gated.specs.Layout.{Whole}
 use Rattle.ox_gated.specs.declared.head.Head.{Head}
 use Rattle.ox_gated.specs.Reading.{reading, with_payload}
 use Rattle.ox_gated.specs.Tail.{IsBeforeOrAfter, new_found}
-use Rattle.ox_index.specs.Live.{profile_in, index_in}
-use Rattle.ox_index.specs.declared.live.Live.{Live}
-use Rattle.ox_model.specs.Index.{no_blocks}
 use Rattle.ox_model.specs.Stack.{Stack}
-use Rattle.ox_model.specs.Stands.{empty_stack_at, stack_in, in_file, stands}
+use Rattle.ox_model.specs.Stands.{empty_stack_at, recorded, stack_in, in_file, stands}
 use Rattle.ox_sat.specs.Profiles.{name_at, profile_named}
 use Rattle.ox_model.proofs.FilesOfChains.{stands_more}
 use Rattle.ox_sat.specs.declared.profiles.ProfileName.{ProfileName}
 use Rattle.ox_sat.specs.declared.profiles.ProfileName.TheVariants.{Mainnet, Regtest, Lab}
 use Rattle.ox_store.specs.Make.{made_stack}
 use Rattle.ox_store.specs.Ready.{PreparedCommand, Leads, StandsForEither}
-use Rattle.ox_store.specs.Store.{stack_with}
 use Rattle.ox_store.proofs.ReplayByRecord.{replayed_none}
 
 -- ---- a store that is made
@@ -37,10 +33,6 @@ name_named Lab = refl
 pub begun_first : (name : ProfileName) (depth : ℕ) → empty_stack_at (first_head name depth) ≡ made_stack name depth
 begun_first name depth = ap (λ (n : ProfileName). made_stack n depth) (name_named name)
 
--- an index without a block
-pub stack_first : (name : ProfileName) (depth : ℕ) (live : Live) → profile_in live ≡ profile_named name → index_in live ≡ no_blocks → stack_with depth live ≡ made_stack name depth
-stack_first name depth live profile index = λ i. record { profile = profile i; depth = depth; index = index i }
-
 pub stands_first : (name : ProfileName) (depth : ℕ) (files : Files) (made : Whole) → made ≡ record { head = first_head name depth; body = [] } → reading made.head.version files ≡ Ok (new_found made) → stands files ≡ Ok (made_stack name depth)
 stands_first name depth files made is reads =
     let version : made.head.version ≡ 1 = ap (λ (w : Whole). w.head.version) is in
@@ -55,9 +47,9 @@ stands_first name depth files made is reads =
 pub after_record : (version : ℕ) (payload : List ℕ) (old new : Files) (before : Stack) (ready : PreparedCommand) → version ≡ 1 → payload ≡ ready.payload → stands old ≡ Ok before → Leads before ready
     → reading version new ≡ with_payload payload (reading version old) → stands new ≡ Ok ready.stack
 after_record version payload old new before ready first same is leads reads =
-    let record_is : payload ≡ 1 ∷ leads.block = same ∙ leads.payload in
-    let here : reading 1 new ≡ with_payload (1 ∷ leads.block) (reading 1 old) = subst (λ (l : List ℕ). reading 1 new ≡ with_payload l (reading 1 old)) record_is (subst (λ (v : ℕ). reading v new ≡ with_payload payload (reading v old)) first reads) in
-    ap stack_in here ∙ stands_more (reading 1 old) leads.block before ready.stack is leads.after
+    let record_is : payload ≡ recorded leads.command = same ∙ leads.payload in
+    let here : reading 1 new ≡ with_payload (recorded leads.command) (reading 1 old) = subst (λ (l : List ℕ). reading 1 new ≡ with_payload l (reading 1 old)) record_is (subst (λ (v : ℕ). reading v new ≡ with_payload payload (reading v old)) first reads) in
+    ap stack_in here ∙ stands_more (reading 1 old) leads.command before ready.stack is leads.after
 
 pub before_or_after : (version : ℕ) (payload : List ℕ) (files image : Files) (before : Stack) (ready : PreparedCommand) → version ≡ 1 → payload ≡ ready.payload → stands files ≡ Ok before → Leads before ready
     → IsBeforeOrAfter version payload files image → StandsForEither before ready.stack image

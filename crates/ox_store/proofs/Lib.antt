@@ -1,2 +1,3 @@
+pub mod CommandsInMemory
 pub mod FilesOfStores
 pub mod ReplayByRecord

@@ -1,11 +1,15 @@
 -- What the replay of a file answers. Want of memory is free, and nothing else.
 use Rattle.std.specs.Prelude.{◌≡◌, ℕ, Result, Err}
 use Rattle.ox_outside.specs.declared.site.Which.{Which}
+use Rattle.ox_feed.specs.declared.command.Command.{Command}
+use Rattle.ox_feed.specs.declared.command.Command.TheVariants.{Connect, Disconnect}
 use Rattle.ox_gated.specs.declared.records.Record.{Record}
 use Rattle.ox_model.specs.Stack.{Stack}
-use Rattle.ox_model.specs.Stands.{stack_with_block, block_in, or_place}
+use Rattle.ox_model.specs.Stands.{command_in, or_place, stack_accepting}
 use Rattle.ox_store.specs.declared.fault.OpenFault.{OpenFault}
 use Rattle.ox_store.specs.declared.fault.OpenFault.TheVariants as opens
+use Rattle.ox_store.specs.declared.replay.Recorded.{Recorded}
+use Rattle.ox_store.specs.declared.replay.Recorded.TheVariants as records
 use Rattle.ox_store.specs.declared.replay.Unjudged.{Unjudged}
 use Rattle.ox_store.specs.declared.replay.Unjudged.TheVariants as replays
 
@@ -16,7 +20,13 @@ IsUnjudged judging replays.Memory = Unit {0}
 
 -- the stack after a record, or the place of its gate where it isn't accepted
 abbrev pub stack_after_record : Stack → Record → Result Stack ℕ
-stack_after_record stack one = or_place one.place (stack_with_block stack (block_in one.payload))
+stack_after_record stack one =
+    or_place one.place (stack_accepting stack (command_in one.payload))
+
+-- the command that stands in a record
+abbrev pub command_of : Recorded → Command
+command_of (records.Connect block) = Connect block.now
+command_of records.Disconnect = Disconnect
 
 -- the fault of this file
 abbrev pub fault_in : Which → Unjudged → OpenFault

@@ -1,8 +1,6 @@
 -- What a store holds.
 use Rattle.std.specs.Prelude.{ℕ, ◌-◌, List, length, Option, option_map, slice_get}
 use Rattle.ox_gated.specs.Tail.{Kept}
-use Rattle.ox_index.specs.Live.{profile_in, index_in}
-use Rattle.ox_index.specs.declared.live.Live.{Live}
 use Rattle.ox_model.specs.Index.{Index}
 use Rattle.ox_model.specs.Stack.{Stack}
 
@@ -12,10 +10,6 @@ pub record StoreContents : Type 0 where
   pub stack : Stack
   pub tail : Kept
   pub commands : ℕ
-
--- the stack of an index in memory
-abbrev pub stack_with : ℕ → Live → Stack
-stack_with depth live = record { profile = profile_in live; depth = depth; index = index_in live }
 
 -- the newest block's height and hash, where there is a block
 abbrev pub tip_of : Index → Option (ℕ × List ℕ)

@@ -1,5 +1,5 @@
-//! The store: the index of a chain in memory, and the records of its commands in two files that
-//! survive a crash.
+//! The store: a chain in memory, whose newest blocks can be taken back, and the records of its
+//! commands in two files that survive a crash.
 #![tactic(auto)]
 
 mod fault;
@@ -9,8 +9,9 @@ mod replay;
 mod store;
 
 pub use fault::{Kept, MakeFault, OpenFault, Why};
+pub use ox_index::Changes;
 pub use ox_model::About;
-pub use ready::Ready;
+pub use ready::{Moving, Ready};
 pub use store::Store;
 
 #[cfg(test)]

@@ -3,7 +3,8 @@
 ghost use Rattle.std.specs.Prelude.{◌≡◌, Ok, Result, IsTrue, IfOk, IfErr, IsErrOf};
 ghost use Rattle.ox_outside.specs.Counts.{Rose};
 ghost use Rattle.ox_outside.specs.Runs.{OnlyLooks};
-ghost use Rattle.ox_gated.specs.Opened.{IsFault, found_of};
+ghost use Rattle.ox_gated.specs.Layout.{is_lawful};
+ghost use Rattle.ox_gated.specs.Opened.{IsBehindLawful, IsFault, found_of};
 ghost use Rattle.ox_gated.specs.Reading.{Found, Fault};
 ghost use Rattle.ox_gated.specs.Tail.{Holds};
 ghost use Rattle.ox_model.specs.Stands.{stack_in};
@@ -47,7 +48,8 @@ impl Store {
 
 // The store of files that were read.
 fn store_of(alloc: Global, opened: Opened) -> Result<Store, OpenFault>
-    requires { (opened.tail.head ≡ opened.head) × (opened.head.version ≡ 1) }
+    requires head { (opened.tail.head ≡ opened.head) × (opened.head.version ≡ 1) }
+    requires lawful { IsTrue (is_lawful opened.head) }
     ensures stack { IfOk result (λ store. stack_in (Ok (found_of opened)) ≡ Ok store.stack) }
     ensures fresh { IfOk result (λ store. store.commands ≡ 0) }
     ensures tail { IfOk result (λ store. store.tail ≡ opened.tail) }
@@ -55,9 +57,9 @@ fn store_of(alloc: Global, opened: Opened) -> Result<Store, OpenFault>
     ensures not_disk { IsErrOf result OpenFault.DiskFault → ⊥ }
 {
     match judge(alloc, &opened.head, &opened.body, &opened.records) {
-        Ok(live) => Ok(Store {
+        Ok(chain) => Ok(Store {
             alloc,
-            live,
+            chain,
             tail: opened.tail,
             commands: 0,
         }),
@@ -67,6 +69,7 @@ fn store_of(alloc: Global, opened: Opened) -> Result<Store, OpenFault>
 
 // What is wrong with files that weren't read.
 fn fault_of(alloc: Global, fault: GateFault) -> OpenFault
+    requires { IsBehindLawful fault }
     ensures misfit { (reading : Result Found Fault) → IsFault reading fault
         → IsMisfit (stack_in reading) result }
     ensures disk { result ≡ OpenFault.DiskFault → fault ≡ GateFault.DiskFault }

@@ -7,18 +7,29 @@ ghost use Rattle.ox_gated.specs.Tail.{Holds};
 
 use crate::store::Store;
 use ox_gated::{DiskFault, Framed, Tail};
-use ox_index::Live;
-use ox_model::View;
+use ox_index::Chain;
+use ox_model::{Change, View};
 use ox_outside::Site;
 use std::alloc::Global;
 use std::marker::Model;
 
+/// What a command changes.
+#[derive(Clone, Copy)]
+pub enum Moving<'a> {
+    /// A block is connected, and this is its change.
+    On(&'a Change),
+    /// The block is taken back whose change this is.
+    Back(&'a Change),
+}
+
 /// A command that is accepted, with all its memory taken. It answers no query, and has to be
-/// committed. Contracts see the stack after the command, the tail and the number of commands before
-/// it, and its record's payload.
+/// committed. Contracts see the index before the command, the stack after it, the tail and the
+/// number of commands before it, and its record's payload.
 pub struct Ready {
     pub(crate) alloc: Global,
-    pub(crate) live: Live,
+    pub(crate) chain: Chain,
+    /// The change of the block that a disconnect took back.
+    pub(crate) taken_back: Option<Change>,
     pub(crate) tail: Tail,
     pub(crate) commands: u64,
     pub(crate) framed: Framed,
@@ -29,8 +40,8 @@ impl Model for Ready {
     ghost use Rattle.std.specs.Coded.{codes};
     ghost use Rattle.std.specs.FinMap as map;
     ghost use Rattle.ox_gated.specs.Tail.{Fits};
-    ghost use Rattle.ox_store.specs.Ready.{PreparedCommand};
-    ghost use Rattle.ox_store.specs.Store.{stack_with};
+    ghost use Rattle.ox_index.specs.Chain.{stack_in};
+    ghost use Rattle.ox_store.specs.Ready.{HasChange, PreparedCommand, left_by};
 
     ghost Value = { PreparedCommand };
 
@@ -38,7 +49,8 @@ impl Model for Ready {
 
     ghost view = { λ r.
         record {
-          stack = stack_with r.tail.head.depth r.live;
+          left = left_by (stack_in r.chain) (stack_in r.chain).older r.taken_back;
+          stack = stack_in r.chain;
           tail = r.tail;
           commands = r.commands;
           payload = r.framed;
@@ -46,13 +58,13 @@ impl Model for Ready {
 
     ghost invariant = { λ r.
         (r.tail.head.version ≡ 1) × (r.commands < 2 ^ 64 - 1)
-        × Fits r.tail (length r.framed) };
+        × Fits r.tail (length r.framed) × HasChange (stack_in r.chain) r.taken_back };
 }
 
 impl Ready {
     ghost use Rattle.ox_model.specs.Stack.{Stack};
     ghost use Rattle.ox_model.specs.Stands.{stands};
-    ghost use Rattle.ox_store.specs.Ready.{Leads, StandsForEither};
+    ghost use Rattle.ox_store.specs.Ready.{Leads, Moves, StandsForEither};
     ghost use Rattle.ox_store.specs.Store.{tip_of};
 
     /// The newest block's height and its hash in serialized order, as the command leaves them;
@@ -60,9 +72,23 @@ impl Ready {
     pub fn tip(&self) -> Option<(u32, [u8; 32])>
         ensures { result ≡ tip_of self.now.stack.index }
     {
-        let height = self.live.blocks().checked_sub(1)?;
-        let hash = self.live.hash_of(height)?;
+        let live = self.chain.live();
+        let height = live.blocks().checked_sub(1)?;
+        let hash = live.hash_of(height)?;
         Some((height, *hash))
+    }
+
+    /// The command's own change: that of the block that it connects, or takes back.
+    pub fn moving(&self) -> Moving<'_>
+        ensures { Moves self.now.left self.now.stack.index result }
+    {
+        match &self.taken_back {
+            Some(change) => Moving::Back(change),
+            None => match self.chain.changes().get(0) {
+                Some(change) => Moving::On(change),
+                None => unreachable!(),
+            },
+        }
     }
 
     /// Writes the command's record. At `Ok` it is on the disk: each crash then leaves files that
@@ -93,7 +119,8 @@ impl Ready {
     {
         let Ready {
             alloc,
-            live,
+            chain,
+            taken_back: _taken_back,
             tail,
             commands,
             framed,
@@ -101,7 +128,7 @@ impl Ready {
         let tail = tail.append(site, &framed)?;
         Ok(Store {
             alloc,
-            live,
+            chain,
             tail,
             commands: commands + 1,
         })

@@ -1,27 +1,33 @@
 //! What a head, a body and records stand for.
 
-ghost use Rattle.std.specs.Prelude.{◌≡◌, ℕ, Some, None, Ok, IfOk, IfErr, OnOk, MatchOption};
+ghost use Rattle.std.specs.Prelude.{◌≡◌, IsTrue, Some, None, Ok, Result};
+ghost use Rattle.std.specs.Prelude.{IfOk, IfErr, IfSome, OnOk, MatchOption};
+ghost use Rattle.std.specs.Result.{result_ok};
+ghost use Rattle.ox_gated.specs.Layout.{is_lawful};
 ghost use Rattle.ox_gated.specs.Opened.{intact_part};
-ghost use Rattle.ox_model.specs.Stands.{block_in as block_there, empty_stack_at, stack_in_file};
-ghost use Rattle.ox_model.specs.Stands.{place_of_cut};
+ghost use Rattle.ox_index.specs.Chain.{stack_in};
+ghost use Rattle.ox_index.specs.Fault.{Refuses};
+ghost use Rattle.ox_model.specs.Stack.{Stack};
+ghost use Rattle.ox_model.specs.Stands.{command_in as command_there, empty_stack_at};
+ghost use Rattle.ox_model.specs.Stands.{or_place, place_of_cut, stack_in_file};
+ghost use Rattle.ox_rules.specs.declared.refusal.Refusal.{Refusal};
 ghost use Rattle.ox_sat.specs.Profiles.{name_at as name_there};
-ghost use Rattle.ox_store.specs.Replay.{IsUnjudged, stack_after_record, fault_in};
-ghost use Rattle.ox_store.specs.Store.{stack_with};
+ghost use Rattle.ox_store.specs.Replay.{IsUnjudged, command_of, stack_after_record, fault_in};
 
 use crate::fault::OpenFault;
 use ox_bytes::Bytes;
 use ox_gated::{Before, Head, Record, Records};
-use ox_index::{ConnectFault, Live};
+use ox_index::{Chain, ConnectFault};
 use ox_outside::Which;
 use ox_sat::{ProfileName, profile_of};
 use std::alloc::Global;
 
-/// Why a part of a file gives no index.
+/// Why a part of a file gives no chain.
 #[derive(Clone, Copy, Debug, PartialEq, Eq)]
 pub enum Unjudged {
     /// It stands for none: the place in the file of the first test that fails.
     At(u64),
-    /// There is no memory for the index.
+    /// There is no memory for the chain.
     Memory,
 }
 
@@ -37,27 +43,30 @@ impl Unjudged {
     }
 }
 
-/// The index that a head, a body and records stand for. `At` exactly where they stand for none,
-/// with the place of the first test that fails: 26 where the body isn't empty, or the place of the
-/// gate of the first record that isn't accepted. `Memory` where there is none for the index.
-pub fn judge(alloc: Global, head: &Head, body: &Bytes, records: &Records) -> Result<Live, Unjudged>
-    ensures stack { IfOk result (λ live.
-        stack_in_file head.now body.now records.now ≡ Ok (stack_with head.now.depth live)) }
+/// The chain that a head, a body and records stand for: the commands of the records are carried out
+/// again. `At` exactly where they stand for none, with the place of the first test that fails: 26
+/// where the body isn't empty, or the place of the gate of the first record whose command isn't
+/// accepted. `Memory` where there is none for the chain.
+pub fn judge(alloc: Global, head: &Head, body: &Bytes, records: &Records) -> Result<Chain, Unjudged>
+    requires { IsTrue (is_lawful head.now) }
+    ensures stack { IfOk result (λ chain.
+        stack_in_file head.now body.now records.now ≡ Ok (stack_in chain)) }
     ensures place { IfErr result (IsUnjudged (stack_in_file head.now body.now records.now)) }
 {
     if !body.is_empty() {
         return Err(Unjudged::At(26));
     }
-    let mut live = begin(alloc, head);
+    let mut chain = begin(alloc, head);
     for record in records.as_slice() {
-        redo(&mut live, record)?;
+        redo(&mut chain, record)?;
     }
-    Ok(live)
+    Ok(chain)
 }
 
 /// The first test that fails in a file whose gate or record at this place is cut: the body and the
 /// records before it are tested first.
 pub fn earliest(alloc: Global, before: Option<Before>, at: u64) -> Unjudged
+    requires { IfSome before (λ before. IsTrue (is_lawful before.head)) }
     ensures { IsUnjudged (place_of_cut at (intact_part before)) result }
 {
     let Some(before) = before else {
@@ -80,39 +89,63 @@ fn name_at(byte: u8) -> ProfileName
     }
 }
 
-// The index of a file with this head and no record.
-fn begin(alloc: Global, head: &Head) -> Live
-    ensures { stack_with head.now.depth result ≡ empty_stack_at head.now }
+// The chain of a file with this head and no record.
+fn begin(alloc: Global, head: &Head) -> Chain
+    requires { IsTrue (is_lawful head.now) }
+    ensures { stack_in result ≡ empty_stack_at head.now }
 {
-    Live::new(alloc, &profile_of(name_at(head.profile)))
+    Chain::new(alloc, &profile_of(name_at(head.profile)), head.depth)
 }
 
-// The block of a record's payload, if it has one.
-fn block_in(payload: &[u8]) -> Option<&[u8]>
-    ensures { MatchOption result (block_there payload.now ≡ None)
-        (λ block. block_there payload.now ≡ Some block.now) }
+/// A command as its record has it.
+#[derive(Clone, Copy)]
+pub enum Recorded<'a> {
+    /// The connect of the block that has these bytes.
+    Connect(&'a [u8]),
+    /// A disconnect.
+    Disconnect,
+}
+
+// The command of a record's payload, if it has one.
+fn command_in(payload: &[u8]) -> Option<Recorded<'_>>
+    ensures { MatchOption result (command_there payload.now ≡ None)
+        (λ r. command_there payload.now ≡ Some (command_of r)) }
 {
     match payload {
-        [1, block @ ..] => Some(block),
+        [1, block @ ..] => Some(Recorded::Connect(block)),
+        [0] => Some(Recorded::Disconnect),
         _ => None,
     }
 }
 
-// Takes in the block of a record. `At`, with the place of its gate, exactly where there is none
-// that the chain accepts; `Memory` where there is none for it.
-fn redo(live: &mut Live, record: &Record) -> Result<(), Unjudged>
-    ensures stack { OnOk result ((depth : ℕ)
-        → stack_after_record (stack_with depth live.old) «record».now
-        ≡ Ok (stack_with depth live.new)) }
-    ensures place { IfErr result (λ unjudged. (depth : ℕ)
-        → IsUnjudged (stack_after_record (stack_with depth live.old) «record».now) unjudged) }
+// Why the chain doesn't take the command of the record at this place.
+fn unjudged_by(fault: ConnectFault, place: u64) -> Unjudged
+    ensures { (wanted : Result Stack Refusal) → Refuses fault wanted
+        → IsUnjudged (or_place place (result_ok wanted)) result }
 {
-    let Some(block) = block_in(record.payload.as_slice()) else {
-        return Err(Unjudged::At(record.place));
-    };
-    match live.connect(block) {
-        Ok(()) => Ok(()),
-        Err(ConnectFault::Refused(_)) => Err(Unjudged::At(record.place)),
-        Err(ConnectFault::Memory) => Err(Unjudged::Memory),
+    match fault {
+        ConnectFault::Refused(_) => Unjudged::At(place),
+        ConnectFault::Memory => Unjudged::Memory,
+    }
+}
+
+// Carries out the command of a record again. `At`, with the place of its gate, exactly where there
+// is none that the chain accepts; `Memory` where there is none for it.
+fn redo(chain: &mut Chain, record: &Record) -> Result<(), Unjudged>
+    ensures stack { OnOk result
+        (stack_after_record (stack_in chain.old) «record».now ≡ Ok (stack_in chain.new)) }
+    ensures place { IfErr result
+        (IsUnjudged (stack_after_record (stack_in chain.old) «record».now)) }
+{
+    match command_in(record.payload.as_slice()) {
+        Some(Recorded::Connect(block)) => match chain.connect(block) {
+            Ok(()) => Ok(()),
+            Err(fault) => Err(unjudged_by(fault, record.place)),
+        },
+        Some(Recorded::Disconnect) => match chain.disconnect() {
+            Ok(_) => Ok(()),
+            Err(fault) => Err(unjudged_by(fault, record.place)),
+        },
+        None => Err(Unjudged::At(record.place)),
     }
 }

@@ -5,33 +5,42 @@ ghost use Rattle.std.specs.Prelude.{Some, Ok, Err, IsTrue, IfOk, IfErr, IsErrOf,
 ghost use Rattle.ox_outside.specs.Counts.{Rose};
 ghost use Rattle.ox_outside.specs.Runs.{Calls, LeavesOnly, OnlyLooks};
 ghost use Rattle.ox_gated.specs.Tail.{Holds};
+ghost use Rattle.ox_index.specs.Chain.{stack_in};
+ghost use Rattle.ox_index.specs.Fault.{Refuses};
+ghost use Rattle.ox_model.specs.Ends.{LeadDown};
+ghost use Rattle.ox_model.specs.Stack.{stack_after};
 ghost use Rattle.ox_store.specs.Make.{no_files};
+ghost use Rattle.ox_store.specs.Ready.{HasChange, left_by};
 
 use crate::fault::{Kept, MakeFault, Why};
 use crate::ready::Ready;
 use ox_bytes::Memory;
 use ox_feed::Command;
 use ox_gated::{Framed, Head, Tail, checkpoint_of, frame_parts};
-use ox_index::Live;
-use ox_model::{About, Refusal};
+use ox_index::{Chain, Changes, ConnectFault, Live};
+use ox_model::{About, Change};
 use ox_outside::{Failed, Site, Which};
 use ox_sat::{ProfileName, profile_of};
 use std::alloc::Global;
 use std::marker::Model;
 
-/// The first byte of a record's payload; the block that is connected stands behind it.
+/// The first byte of a record's payload that connects the block behind it.
 const CONNECT: u8 = 1;
+
+/// The payload of a disconnect's record.
+const DISCONNECT: u8 = 0;
 
 /// The greatest number of bytes of a block that has a record: the length of its payload fits 4
 /// bytes.
 const LONGEST_BLOCK: usize = 0xffff_fffe;
 
-/// An index in memory and the tail of its records. Contracts see the stack that the files stand
-/// for, the tail, and the number of commands that were accepted since it was opened.
+/// A chain in memory, whose newest blocks can be taken back, and the tail of its records. Contracts
+/// see the stack that the files stand for, the tail, and the number of commands that were accepted
+/// since it was opened.
 #[derive(Drop)]
 pub struct Store {
     pub(crate) alloc: Global,
-    pub(crate) live: Live,
+    pub(crate) chain: Chain,
     pub(crate) tail: Tail,
     pub(crate) commands: u64,
 }
@@ -40,7 +49,8 @@ impl Model for Store {
     ghost use Rattle.std.specs.Prelude.{◌≡◌};
     ghost use Rattle.std.specs.Coded.{codes};
     ghost use Rattle.std.specs.FinMap as map;
-    ghost use Rattle.ox_store.specs.Store.{StoreContents, stack_with};
+    ghost use Rattle.ox_index.specs.Chain.{stack_in};
+    ghost use Rattle.ox_store.specs.Store.{StoreContents};
 
     ghost Value = { StoreContents };
 
@@ -48,7 +58,7 @@ impl Model for Store {
 
     ghost view = { λ s.
         record {
-          stack = stack_with s.tail.head.depth s.live;
+          stack = stack_in s.chain;
           tail = s.tail;
           commands = s.commands;
         } };
@@ -57,10 +67,9 @@ impl Model for Store {
 }
 
 impl Store {
-    ghost use Rattle.ox_feed.specs.declared.command.Command.TheVariants.{Connect};
     ghost use Rattle.ox_gated.specs.Tail.{Fits};
     ghost use Rattle.ox_index.specs.Live.{profile_in, index_in};
-    ghost use Rattle.ox_model.specs.Stands.{stands};
+    ghost use Rattle.ox_model.specs.Stands.{recorded, stands};
     ghost use Rattle.ox_store.specs.Fault.{IsRefused};
     ghost use Rattle.ox_store.specs.Make.{made_stack};
     ghost use Rattle.ox_store.specs.Ready.{Prepares};
@@ -112,7 +121,7 @@ impl Store {
         let tail = Tail::make(site, &checkpoint)?;
         Ok(Store {
             alloc,
-            live: Live::new(alloc, &profile),
+            chain: Chain::new(alloc, &profile, depth),
             tail,
             commands: 0,
         })
@@ -123,17 +132,23 @@ impl Store {
         ensures profile { profile_in result.now ≡ self.now.stack.profile }
         ensures index { index_in result.now ≡ self.now.stack.index }
     {
-        &self.live
+        self.chain.live()
     }
 
     /// How many blocks may be kept, and how many are.
     pub fn about(&self) -> About
-        ensures { result ≡ record { depth = self.now.stack.depth; kept = 0 } }
+        ensures depth { result.depth ≡ self.now.stack.depth }
+        ensures kept { result.kept ≡ length self.now.stack.older }
     {
-        About {
-            depth: self.tail.head().depth,
-            kept: 0,
-        }
+        self.chain.about()
+    }
+
+    /// The changes of the kept blocks, the newest first. Each leads from the next older index to
+    /// the newer one.
+    pub fn changes(&self) -> &Changes
+        ensures { LeadDown self.now.stack.index self.now.stack.older result.now }
+    {
+        self.chain.changes()
     }
 
     /// How many commands were accepted since the store was opened or made.
@@ -152,34 +167,33 @@ impl Store {
         ensures refused { IfErr result (λ kept. IsRefused self.stack command.now kept.why) }
         ensures kept { IfErr result (λ kept. kept.store ≡ self) }
     {
-        match command {
-            Command::Connect(block) => self.prepare_connect(block.as_slice()),
-            Command::Disconnect => Err(self.store_with_reason(Why::Refused(Refusal::Depth))),
+        match self.record_of(command) {
+            Ok(framed) => self.prepare_with(command, framed),
+            Err(Memory) => Err(self.store_with_reason(Why::Memory)),
         }
     }
 
-    // Prepares a connect: its record is taken first, and the block is connected last, so that want
-    // of memory leaves all as it was.
-    fn prepare_connect(self, block: &[u8]) -> Result<Ready, Kept>
-        requires { self.commands < 2 ^ 64 - 1 }
-        ensures ready { IfOk result (λ ready. Prepares self (Connect block.now) ready) }
-        ensures refused { IfErr result (λ kept. IsRefused self.stack (Connect block.now) kept.why) }
+    // Prepares a command whose record is made. The chain turns last, so that want of memory leaves
+    // all as it was.
+    fn prepare_with(self, command: &Command, framed: Framed) -> Result<Ready, Kept>
+        requires few { self.commands < 2 ^ 64 - 1 }
+        requires payload { framed ≡ recorded command.now }
+        requires fits { Fits self.tail (length framed) }
+        ensures ready { IfOk result (λ ready. Prepares self command.now ready) }
+        ensures refused { IfErr result (λ kept. IsRefused self.stack command.now kept.why) }
         ensures kept { IfErr result (λ kept. kept.store ≡ self) }
     {
-        let framed = match self.record_of(block) {
-            Ok(framed) => framed,
-            Err(Memory) => return Err(self.store_with_reason(Why::Memory)),
-        };
         let Store {
             alloc,
-            mut live,
+            mut chain,
             tail,
             commands,
         } = self;
-        match live.connect(block) {
-            Ok(()) => Ok(Ready {
+        match obey(&mut chain, command) {
+            Ok(taken_back) => Ok(Ready {
                 alloc,
-                live,
+                chain,
+                taken_back,
                 tail,
                 commands,
                 framed,
@@ -187,7 +201,7 @@ impl Store {
             Err(fault) => Err(Kept {
                 store: Store {
                     alloc,
-                    live,
+                    chain,
                     tail,
                     commands,
                 },
@@ -196,16 +210,27 @@ impl Store {
         }
     }
 
-    // The record of a block. `Memory` where the block is too long for one, where the file has no
-    // room for it, and where there is none.
-    fn record_of(&self, block: &[u8]) -> Result<Framed, Memory>
-        ensures payload { IfOk result (λ framed. framed ≡ 1 ∷ block.now) }
+    // The record of a command.
+    fn record_of(&self, command: &Command) -> Result<Framed, Memory>
+        ensures payload { IfOk result (λ framed. framed ≡ recorded command.now) }
+        ensures fits { IfOk result (λ framed. Fits self.now.tail (length framed)) }
+    {
+        match command {
+            Command::Connect(block) => self.frame_of(CONNECT, block.as_slice()),
+            Command::Disconnect => self.frame_of(DISCONNECT, &[]),
+        }
+    }
+
+    // A record of this kind with this block behind it. `Memory` where the block is too long for
+    // one, where the file has no room for it, and where there is none.
+    fn frame_of(&self, kind: u8, block: &[u8]) -> Result<Framed, Memory>
+        ensures payload { IfOk result (λ framed. framed ≡ kind ∷ block.now) }
         ensures fits { IfOk result (λ framed. Fits self.now.tail (length framed)) }
     {
         if block.len() > LONGEST_BLOCK || !self.tail.fits(block.len() as u64 + 1) {
             return Err(Memory);
         }
-        frame_parts(self.alloc, &[CONNECT], block)
+        frame_parts(self.alloc, &[kind], block)
     }
 
     // The store as it is, and why a command isn't prepared.
@@ -214,6 +239,28 @@ impl Store {
         ensures why { result.why ≡ why }
     {
         Kept { store: self, why }
+    }
+}
+
+// Carries out a command in memory. It answers the change that a disconnect took back; of a connect
+// it is the newest that is kept.
+fn obey(chain: &mut Chain, command: &Command) -> Result<Option<Change>, ConnectFault>
+    ensures ok { OnOk result
+        (stack_after (stack_in chain.old) command.now ≡ Ok (stack_in chain.new)) }
+    ensures change { IfOk result (HasChange (stack_in chain.new)) }
+    ensures left { IfOk result (λ taken_back.
+        left_by (stack_in chain.new) (stack_in chain.new).older taken_back
+        ≡ (stack_in chain.old).index) }
+    ensures refused { IfErr result
+        (λ fault. Refuses fault (stack_after (stack_in chain.old) command.now)) }
+    ensures err { OnErr result (stack_in chain.new ≡ stack_in chain.old) }
+{
+    match command {
+        Command::Connect(block) => {
+            chain.connect(block.as_slice())?;
+            Ok(None)
+        }
+        Command::Disconnect => Ok(Some(chain.disconnect()?)),
     }
 }
 

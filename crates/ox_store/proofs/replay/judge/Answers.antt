@@ -1,9 +1,9 @@
 use Rattle.std.proofs.Common.{◌≡◌, ◌∙◌, ◌==◌, ℕ, true, length, sym, subst, arith}
 use Rattle.std.proofs.lemmas.Result.{err_from_is_err_and}
 use Rattle.std.specs.Prelude.{Result}
+use Rattle.ox_index.specs.Chain.{stack_in}
 use Rattle.ox_model.specs.Stack.{Stack}
 use Rattle.ox_store.specs.Replay.{IsUnjudged}
-use Rattle.ox_store.specs.Store.{stack_with}
 use Rattle.ox_store.proofs.ReplayByRecord.{body_there, unjudged_here, goes_on, all_redone}
 use Rattle.ox_store.proofs.replay.judge.Goals as goal
 
@@ -13,17 +13,16 @@ returns-in_err-redo-clause-place c =
     let head = c.args.head.now in
     let all = c.as_slice-record-items.result.now in
     let none : (length c.args.body.now == 0) ≡ true = sym c.is_empty.ensures ∙ c.if-not-is_empty.false in
-    let here = unjudged_here (stack_with head.depth c.loop-record.live) all c.loop-record.record-index c.record-item.result c.in_err-redo.field-0.0 (omega arith) c.record-item.is (c.in_err-redo.ensures.place head.depth) in
+    let here = unjudged_here (stack_in c.loop-record.chain) all c.loop-record.record-index c.record-item.result c.in_err-redo.field-0.0 (omega arith) c.record-item.is c.in_err-redo.ensures.place in
     let whole = subst (λ (r : Result Stack ℕ). IsUnjudged r c.in_err-redo.field-0.0) (c.loop-record.invariant ∙ sym (body_there head c.args.body.now c.args.records.now none)) here in
     rw (p.1, p.2) whole
 
 pub loop-record-preserved : goal.loop-record-preserved
 loop-record-preserved c =
-    let depth = c.args.head.now.depth in
-    sym (goes_on (stack_with depth c.loop-record.live) (stack_with depth c.redo.new.live) c.as_slice-record-items.result.now c.loop-record.record-index c.record-item.result (omega arith) c.record-item.is (c.in_ok-redo.ensures.stack depth)) ∙ c.loop-record.invariant
+    sym (goes_on (stack_in c.loop-record.chain) (stack_in c.redo.new.chain) c.as_slice-record-items.result.now c.loop-record.record-index c.record-item.result (omega arith) c.record-item.is c.in_ok-redo.ensures.stack) ∙ c.loop-record.invariant
 
 pub returns-clause-stack : goal.returns-clause-stack
 returns-clause-stack c =
     let head = c.args.head.now in
     let none : (length c.args.body.now == 0) ≡ true = sym c.is_empty.ensures ∙ c.if-not-is_empty.false in
-    body_there head c.args.body.now c.args.records.now none ∙ sym c.loop-record.invariant ∙ all_redone (stack_with head.depth c.loop-record.live) c.as_slice-record-items.result.now c.loop-record.record-index (omega arith)
+    body_there head c.args.body.now c.args.records.now none ∙ sym c.loop-record.invariant ∙ all_redone (stack_in c.loop-record.chain) c.as_slice-record-items.result.now c.loop-record.record-index (omega arith)

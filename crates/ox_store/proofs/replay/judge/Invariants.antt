@@ -1,8 +1,8 @@
 use Rattle.std.proofs.Common.{◌≡◌, drop}
 use Rattle.ox_model.specs.Stands.{empty_stack_at, stack_after_records}
-use Rattle.ox_store.specs.Store.{stack_with}
+use Rattle.ox_index.specs.Chain.{stack_in}
 use Rattle.ox_store.proofs.replay.judge.Given as goal
 
 -- The records so far and those that are left lead where all lead.
 abbrev pub invariant-loop-record : goal.invariant-loop-record
-invariant-loop-record l = stack_after_records (stack_with l.head.depth l.live) (drop l.record-index l.record-items) ≡ stack_after_records (empty_stack_at l.fn.head) l.fn.records
+invariant-loop-record l = stack_after_records (stack_in l.chain) (drop l.record-index l.record-items) ≡ stack_after_records (empty_stack_at l.fn.head) l.fn.records
