@@ -2,12 +2,12 @@
 //! what stands after some stops. The first block is Bitcoin's; the bytes and places of files are
 //! counted by hand.
 
-use crate::{About, Kept, MakeFault, OpenFault, Ready, Store, Why};
+use crate::{About, Kept, MakeFault, Moving, OpenFault, Ready, Store, Why};
 use ox_block::{hash, read_block, root, write_block};
 use ox_bytes::{Bytes, put_compact, put_u32le};
 use ox_feed::{Command, command_of};
 use ox_memsite::{Choice, MemSite};
-use ox_model::{Refusal, View};
+use ox_model::{Place, Refusal, View};
 use ox_outside::{Site, Which};
 use ox_sat::ProfileName;
 use std::alloc::Global;
@@ -21,6 +21,18 @@ const GENESIS: &[u8] = b"\
     7365636f6e64206261696c6f757420666f722062616e6b73ffffffff0100f2052a01000000434104678afdb0fe\
     5548271967f1a67130b7105cd6a828e03909a67962e0ea1f61deb649f6bc3f4cef38c4f35504e51ec112de5c38\
     4df7ba0b8d578a4c702b6bf11d5fac00000000";
+
+// The first block's hash, in serialized order.
+const GENESIS_HASH: [u8; 32] = [
+    0x6f, 0xe2, 0x8c, 0x0a, 0xb6, 0xf1, 0xb3, 0x72, 0xc1, 0xa6, 0xa2, 0x46, 0xae, 0x63, 0xf7, 0x4f,
+    0x93, 0x1e, 0x83, 0x65, 0xe1, 0x5a, 0x08, 0x9c, 0x68, 0xd6, 0x19, 0x00, 0x00, 0x00, 0x00, 0x00,
+];
+
+// What a block mints below the first halving.
+const SUBSIDY: u64 = 5_000_000_000;
+
+// The record of a disconnect with its gate: the length 1, the payload 00 and a closed gate.
+const DISCONNECTED: [u8; 7] = [0x01, 0x01, 0x00, 0x00, 0x00, 0x00, 0x00];
 
 // Regtest, depth 100, no records.
 const EMPTY: [u8; 27] = [
@@ -45,7 +57,9 @@ fn commits_first<S: Site>(rt: &impl Abort, alloc: Global, site: &mut S) -> bool 
         panic!(rt; "not prepared");
     };
     match ready.commit(site) {
-        Ok(store) => store.commands() == 1 && store.live().blocks() == 1,
+        Ok(store) => {
+            store.commands() == 1 && store.live().blocks() == 1 && store.changes().len() == 1
+        }
         Err(_) => false,
     }
 }
@@ -142,24 +156,76 @@ fn what_is_no_store_is_told_by_its_place(rt: HostRuntime) {
     let alloc = rt.alloc();
     let mut site = empty_site(&rt, alloc);
     assert!(rt; commits_first(&rt, alloc, &mut site));
-    // An open gate with nothing behind it, and one with a payload that has no block.
+    // An open gate with nothing behind it, and payloads of no command: 02, and 00 with a byte more.
     overwrite(&rt, &mut site, 317, &[0x01]);
     assert!(rt; fault_in_a(alloc, &mut site) == 317);
-    overwrite(
-        &rt,
-        &mut site,
-        317,
-        &[0x01, 0x01, 0x00, 0x00, 0x00, 0x00, 0x00],
-    );
+    overwrite(&rt, &mut site, 317, &[1, 1, 0, 0, 0, 2, 0]);
     assert!(rt; fault_in_a(alloc, &mut site) == 317);
-    // The same payload before the gate that is cut.
-    overwrite(&rt, &mut site, 323, &[0x01]);
+    overwrite(&rt, &mut site, 317, &[1, 2, 0, 0, 0, 0, 0, 0]);
+    assert!(rt; fault_in_a(alloc, &mut site) == 317);
+    // The same payload before a gate that is cut.
+    overwrite(&rt, &mut site, 324, &[0x01]);
     assert!(rt; fault_in_a(alloc, &mut site) == 317);
     // A body of one byte.
     overwrite(&rt, &mut site, 18, &[0x01]);
     assert!(rt; fault_in_a(alloc, &mut site) == 26);
     overwrite(&rt, &mut site, 0, &[0x00]);
     assert!(rt; fault_in_a(alloc, &mut site) == 0);
+}
+
+#[test]
+fn more_disconnects_than_blocks_are_no_store(rt: HostRuntime) {
+    let alloc = rt.alloc();
+    let mut site = empty_site(&rt, alloc);
+    assert!(rt; is_made(alloc, &mut site));
+    overwrite(&rt, &mut site, 26, &DISCONNECTED);
+    assert!(rt; fault_in_a(alloc, &mut site) == 26);
+    let mut site = empty_site(&rt, alloc);
+    assert!(rt; commits_first(&rt, alloc, &mut site));
+    overwrite(&rt, &mut site, 317, &DISCONNECTED);
+    assert!(rt; blocks_in(alloc, &mut site) == 0);
+    overwrite(&rt, &mut site, 323, &DISCONNECTED);
+    assert!(rt; fault_in_a(alloc, &mut site) == 323);
+}
+
+// Whether a command that is prepared takes back the block with this hash.
+fn moves_back(ready: &Ready, hash: &[u8; 32]) -> bool {
+    match ready.moving() {
+        Moving::Back(change) => change.hash == *hash,
+        Moving::On(_) => false,
+    }
+}
+
+// Opens a store and commits a disconnect; whether it takes back the block with this hash, and so
+// many stay kept.
+fn takes_back(
+    rt: &impl Abort,
+    alloc: Global,
+    site: &mut MemSite,
+    hash: &[u8; 32],
+    kept: u16,
+) -> bool {
+    let Ok(store) = Store::open(alloc, site) else {
+        panic!(rt; "not opened");
+    };
+    let Ok(ready) = store.prepare(&Command::Disconnect) else {
+        panic!(rt; "not prepared");
+    };
+    let own = moves_back(&ready, hash);
+    match ready.commit(site) {
+        Ok(store) => own && store.about().kept == kept,
+        Err(_) => false,
+    }
+}
+
+#[test]
+fn a_committed_disconnect_is_a_record_of_one_byte(rt: HostRuntime) {
+    let alloc = rt.alloc();
+    let mut site = empty_site(&rt, alloc);
+    assert!(rt; commits_first(&rt, alloc, &mut site));
+    assert!(rt; takes_back(&rt, alloc, &mut site, &GENESIS_HASH, 0));
+    assert!(rt; site.file(Which::A).get(317..) == Some(DISCONNECTED.as_slice()));
+    assert!(rt; blocks_in(alloc, &mut site) == 0);
 }
 
 // The record's write and its sync are the calls 9 and 10.
@@ -188,8 +254,8 @@ fn a_stop_leaves_the_chain_before_or_after(rt: HostRuntime) {
     assert!(rt; blocks_after(&rt, alloc, &site, 11, 0x07) == 1);
 }
 
-// The bytes of a block of a coinbase alone, whose script has so many bytes, with a root of zeros:
-// 140 bytes, the script's length and the script.
+// The bytes of a block of a coinbase alone that claims the whole subsidy, whose script has so many
+// bytes, with a root of zeros: 140 bytes, the script's length and the script.
 fn rootless(rt: &impl Abort, alloc: Global, previous: &[u8; 32], mark: u8, script: u32) -> Bytes {
     let filling = Vec::from_elem(alloc, mark, script as usize).expect(rt, "memory");
     let mut bytes = Bytes::empty(alloc);
@@ -203,7 +269,8 @@ fn rootless(rt: &impl Abort, alloc: Global, previous: &[u8; 32], mark: u8, scrip
     bytes.append(filling.as_slice()).expect(rt, "memory");
     bytes.append(&[0xff; 4]).expect(rt, "memory");
     bytes.append(&[1]).expect(rt, "memory");
-    bytes.append(&[0; 13]).expect(rt, "memory");
+    bytes.append(&SUBSIDY.to_le_bytes()).expect(rt, "memory");
+    bytes.append(&[0; 5]).expect(rt, "memory");
     bytes
 }
 
@@ -238,6 +305,17 @@ fn applies(alloc: Global, site: &mut MemSite, block: Bytes) -> bool {
     }
 }
 
+// Opens a store and takes a block back. Whether its record is written.
+fn disconnects(alloc: Global, site: &mut MemSite) -> bool {
+    match Store::open(alloc, site) {
+        Ok(store) => match store.prepare(&Command::Disconnect) {
+            Ok(ready) => ready.commit(site).is_ok(),
+            Err(_) => false,
+        },
+        Err(_) => false,
+    }
+}
+
 // The greatest block has 4,000,000 bytes: 145 with five for the script's length, and its script.
 #[test]
 fn a_hundred_blocks_and_the_greatest_are_opened_again(rt: HostRuntime) {
@@ -256,11 +334,85 @@ fn a_hundred_blocks_and_the_greatest_are_opened_again(rt: HostRuntime) {
     assert!(rt; blocks_in(alloc, &mut site) == 101);
 }
 
+// How many satoshis are lost in a store, and whether satoshi 0 is the first of an output.
+fn lost_and_first(rt: &impl Abort, alloc: Global, site: &mut MemSite) -> (u64, bool) {
+    let Ok(store) = Store::open(alloc, site) else {
+        panic!(rt; "not opened");
+    };
+    let live = store.live();
+    let first = matches!(live.locate(0), Some(Place::Out { offset: 0, .. }));
+    (live.lost(), first)
+}
+
+// Equal coinbases are one transaction, so the second's output displaces the first's.
+#[test]
+fn a_disconnect_brings_displaced_satoshis_back(rt: HostRuntime) {
+    let alloc = rt.alloc();
+    let mut site = empty_site(&rt, alloc);
+    assert!(rt; is_made(alloc, &mut site));
+    let (first, tip) = block_on(&rt, alloc, &[0; 32], 7, 1);
+    assert!(rt; applies(alloc, &mut site, first));
+    let (second, tip) = block_on(&rt, alloc, &tip, 7, 1);
+    assert!(rt; applies(alloc, &mut site, second));
+    assert!(rt; lost_and_first(&rt, alloc, &mut site) == (SUBSIDY, false));
+    assert!(rt; takes_back(&rt, alloc, &mut site, &tip, 1));
+    assert!(rt; lost_and_first(&rt, alloc, &mut site) == (0, true));
+}
+
+// Connects so many blocks on one another, of coinbases with these marks. The newest hash.
+fn grow(rt: &impl Abort, alloc: Global, site: &mut MemSite, first_mark: u8, count: u8) -> [u8; 32] {
+    let mut tip = [0; 32];
+    for height in 0..count {
+        let (block, hash) = block_on(rt, alloc, &tip, first_mark.wrapping_add(height), 1);
+        assert!(rt; applies(alloc, site, block));
+        tip = hash;
+    }
+    tip
+}
+
+// Whether two chains have this newest block, and each of four blocks' first satoshis in one place.
+fn are_alike(a: &Store, b: &Store, tip: &[u8; 32]) -> bool {
+    let (a, b) = (a.live(), b.live());
+    let newest = a.hash_of(3) == Some(tip) && b.hash_of(3) == Some(tip);
+    let lost = a.lost() == 0 && b.lost() == 0;
+    let mut alike = newest && lost && a.blocks() == 4 && b.blocks() == 4;
+    for height in 0..4u64 {
+        let sat = height * SUBSIDY;
+        alike = alike && a.locate(sat).is_some() && a.locate(sat) == b.locate(sat);
+    }
+    alike
+}
+
+// Three blocks are taken back, and four others connected.
+fn is_replaced(rt: &impl Abort, alloc: Global, site: &mut MemSite) -> bool {
+    let tip = grow(rt, alloc, site, 10, 4);
+    let mut fresh = empty_site(rt, alloc);
+    assert!(rt; is_made(alloc, &mut fresh));
+    assert!(rt; grow(rt, alloc, &mut fresh, 10, 4) == tip);
+    match (Store::open(alloc, site), Store::open(alloc, &mut fresh)) {
+        (Ok(a), Ok(b)) => are_alike(&a, &b, &tip),
+        _ => false,
+    }
+}
+
+#[test]
+fn blocks_that_were_replaced_leave_nothing_behind(rt: HostRuntime) {
+    let alloc = rt.alloc();
+    let mut site = empty_site(&rt, alloc);
+    assert!(rt; is_made(alloc, &mut site));
+    grow(&rt, alloc, &mut site, 1, 3);
+    for _ in 0..3 {
+        assert!(rt; disconnects(alloc, &mut site));
+    }
+    assert!(rt; is_replaced(&rt, alloc, &mut site));
+}
+
 // Lets a command go that isn't to be committed.
 fn give_up(ready: Ready) {
     let Ready {
         alloc: _,
-        live: _live,
+        chain: _chain,
+        taken_back: _taken_back,
         tail: _tail,
         commands: _,
         framed: _framed,
@@ -292,13 +444,24 @@ fn store_after_refusal(
     }
 }
 
+// Whether a command that is prepared connects the block with this hash, which makes one output.
+fn moves_on(ready: &Ready, hash: &[u8; 32]) -> bool {
+    match ready.moving() {
+        Moving::On(change) => {
+            change.hash == *hash && change.came.len() == 1 && change.gone.is_empty()
+        }
+        Moving::Back(_) => false,
+    }
+}
+
 // Whether the first block is prepared, and is the tip then.
 fn is_prepared(rt: &impl Abort, alloc: Global, store: Store) -> bool {
     match preparation_of(rt, store, &first_block(rt, alloc)) {
         Ok(ready) => {
+            let own = moves_on(&ready, &GENESIS_HASH);
             let height = ready.tip().map(|(height, _)| height);
             give_up(ready);
-            height == Some(0)
+            own && height == Some(0)
         }
         Err(_) => false,
     }
