@@ -15,16 +15,11 @@ use Rattle.ox_feed.specs.declared.lines.Line.TheVariants.{Text, Long, End}
 use Rattle.ox_model.specs.Moments.{lines_in}
 use Rattle.ox_model.specs.Replies.{after_on, after_turn, index_on, replies_on, reply_by}
 use Rattle.ox_model.specs.Stack.{Stack, turn_on}
-use Rattle.ox_model.specs.Machine.{stack_of, empty_machine}
 use Rattle.ox_model.proofs.AnswersOfStacks.{after_joined, after_none, after_one, replies_joined, replies_line, replies_none}
 use Rattle.ox_app.specs.declared.status.Status.TheVariants as ends
 use Rattle.ox_app.specs.declared.stop.Stop.{Stop}
 use Rattle.ox_app.specs.declared.stop.Stop.TheVariants.{DiskFault, HearFault, ShowFault, Memory, TooMuch}
-use Rattle.ox_sat.specs.declared.profiles.Profile.{Profile}
-use Rattle.ox_index.specs.Live.{profile_in, index_in}
-use Rattle.ox_index.specs.declared.live.Live.{Live}
-use Rattle.ox_model.specs.Index.{Index, no_blocks}
-use Rattle.ox_app.specs.Fold.{AnswersNext, AnswersLine, NextLine, fold_depth, stack_in}
+use Rattle.ox_app.specs.Fold.{AnswersNext, AnswersLine, NextLine}
 use Rattle.ox_app.proofs.Pieces.{Own}
 use Rattle.ox_app.proofs.FeedState.{HasAnswered, OwesAnswer}
 use Rattle.ox_app.specs.Headline.{OnlyOwn, RunsFeed}
@@ -324,11 +319,3 @@ module _ (first : Stack) where
   grows_whole lines lines' stack stack' log mid now within =
       grows_then (HasAnswered first lines stack) (AnswersNext lines stack (Ok None) lines' stack') (RunsFeed (replies_on first) ends.Done) log mid now
       (λ x y f q. answered_all lines lines' stack x y within f q.hears q.came)
-
--- ---- an index in memory without a block
-
-same_stack : (p q : Profile) (depth : ℕ) (a b : Index) → p ≡ q → a ≡ b → record { profile = p; depth = depth; index = a } ≡ (let s : Stack = record { profile = q; depth = depth; index = b } in s)
-same_stack p q depth a b e f = rw (e, f) refl
-
-pub stack_begun : (live : Live) (p : Profile) → profile_in live ≡ p → index_in live ≡ no_blocks → stack_in live ≡ stack_of (empty_machine p fold_depth)
-stack_begun live p profile index = same_stack _ _ fold_depth _ _ profile index

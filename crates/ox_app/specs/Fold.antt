@@ -14,8 +14,6 @@ use Rattle.ox_model.specs.Replies.{after_turn, index_on, ok_line, reply_by}
 use Rattle.ox_model.specs.Stack.{Stack, stack_after, turn_on}
 use Rattle.ox_rules.specs.Text.{refusal_line}
 use Rattle.ox_rules.specs.declared.refusal.Refusal.{Refusal}
-use Rattle.ox_store.specs.Store.{stack_with}
-use Rattle.ox_index.specs.declared.live.Live.{Live}
 use Rattle.ox_index.specs.declared.fault.ConnectFault.{ConnectFault}
 use Rattle.ox_index.specs.declared.fault.ConnectFault.TheVariants.{Refused, Memory as NoMemory}
 use Rattle.ox_app.specs.declared.stop.Stop.{Stop}
@@ -24,10 +22,6 @@ use Rattle.ox_app.specs.declared.stop.Stop.TheVariants.{HearFault, Memory, TooMu
 -- how many blocks a run without files may keep
 abbrev pub fold_depth : ℕ
 fold_depth = 1000
-
--- the stack of an index in memory
-abbrev pub stack_in : Live → Stack
-stack_in live = stack_with fold_depth live
 
 -- what a command, or a refusal, makes of a stack
 abbrev pub turn_by : Stack → Result Command Refusal → Result Stack Refusal

@@ -1,31 +1,38 @@
 //! One line of a feed, carried out in memory and answered.
 
 ghost use Rattle.std.specs.Prelude.{◌≡◌, IfOk};
-ghost use Rattle.ox_app.specs.Fold.{AnswersLine, IsAnswer, Obeys, stack_in};
+ghost use Rattle.ox_index.specs.Chain.{stack_in};
+ghost use Rattle.ox_app.specs.Fold.{AnswersLine, IsAnswer, Obeys};
 
 use crate::line::asked_by;
 use ox_bytes::{Bytes, Memory};
 use ox_feed::{Command, Line};
-use ox_index::{ConnectFault, Live};
-use ox_model::Refusal;
+use ox_index::{Chain, ConnectFault};
 use std::alloc::Global;
 
 // Carries out a command.
-fn obey(live: &mut Live, command: &Command) -> Result<(), ConnectFault>
-    ensures { Obeys (stack_in live.old) command.now result (stack_in live.new) }
+fn obey(chain: &mut Chain, command: &Command) -> Result<(), ConnectFault>
+    ensures { Obeys (stack_in chain.old) command.now result (stack_in chain.new) }
 {
     match command {
-        Command::Connect(block) => live.connect(block.as_slice()),
-        Command::Disconnect => Err(ConnectFault::Refused(Refusal::Depth)),
+        Command::Connect(block) => chain.connect(block.as_slice()),
+        Command::Disconnect => match chain.disconnect() {
+            Ok(_) => Ok(()),
+            Err(fault) => Err(fault),
+        },
     }
 }
 
 // The line that says how a command went.
-fn answer_to(alloc: Global, outcome: Result<(), ConnectFault>, live: &Live) -> Result<Bytes, Memory>
-    ensures { IfOk result (λ line. IsAnswer outcome (stack_in live.now) line) }
+fn answer_to(
+    alloc: Global,
+    outcome: Result<(), ConnectFault>,
+    chain: &Chain,
+) -> Result<Bytes, Memory>
+    ensures { IfOk result (λ line. IsAnswer outcome (stack_in chain.now) line) }
 {
     match outcome {
-        Ok(()) => live.line(),
+        Ok(()) => chain.live().line(),
         Err(ConnectFault::Refused(refusal)) => refusal.line(alloc),
         Err(ConnectFault::Memory) => Err(Memory),
     }
@@ -33,14 +40,14 @@ fn answer_to(alloc: Global, outcome: Result<(), ConnectFault>, live: &Live) -> R
 
 /// Carries out a line and answers it; `None` at the end of the feed. After `Memory` the command may
 /// have been carried out, without an answer.
-pub fn answer(alloc: Global, live: &mut Live, line: &Line) -> Result<Option<Bytes>, Memory>
+pub fn answer(alloc: Global, chain: &mut Chain, line: &Line) -> Result<Option<Bytes>, Memory>
     ensures { IfOk result (λ answer.
-        AnswersLine line.now (stack_in live.old) answer (stack_in live.new)) }
+        AnswersLine line.now (stack_in chain.old) answer (stack_in chain.new)) }
 {
     match asked_by(alloc, line)? {
         Some(Ok(command)) => {
-            let outcome = obey(live, &command);
-            Ok(Some(answer_to(alloc, outcome, live)?))
+            let outcome = obey(chain, &command);
+            Ok(Some(answer_to(alloc, outcome, chain)?))
         }
         Some(Err(refusal)) => Ok(Some(refusal.line(alloc)?)),
         None => Ok(None),

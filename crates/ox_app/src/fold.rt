@@ -6,7 +6,8 @@ ghost use Rattle.ox_feed.specs.Feed.{IsTooMuch, Listens, feed_limit, bytes_left}
 ghost use Rattle.ox_model.specs.Machine.{empty_machine, stack_of};
 ghost use Rattle.ox_model.specs.Replies.{replies_on};
 ghost use Rattle.ox_sat.specs.Profiles.{IsProfile};
-ghost use Rattle.ox_app.specs.Fold.{AnswersNext, Anything, HasAnswer, fold_depth, stack_in};
+ghost use Rattle.ox_index.specs.Chain.{stack_in};
+ghost use Rattle.ox_app.specs.Fold.{AnswersNext, Anything, HasAnswer, fold_depth};
 ghost use Rattle.ox_app.specs.Headline.{RunsFeed};
 ghost use Rattle.ox_outside.specs.Runs.{OnlyTalks};
 ghost use Rattle.ox_app.specs.Show.{HearFails, ShowFails};
@@ -17,20 +18,23 @@ use crate::show::show_all;
 use crate::stop::Stop;
 use ox_bytes::Bytes;
 use ox_feed::Lines;
-use ox_index::Live;
+use ox_index::Chain;
 use ox_outside::Site;
 use ox_sat::Profile;
 use std::alloc::Global;
+
+/// How many of its blocks a chain without files keeps.
+const DEPTH: u16 = 1000;
 
 // Hears the next line and answers it; `None` at the end of the feed.
 fn next_answer<S: Site>(
     alloc: Global,
     lines: &mut Lines,
-    live: &mut Live,
+    chain: &mut Chain,
     site: &mut S,
 ) -> Result<Option<Bytes>, Stop>
     ensures told { Grows (AnswersNext lines.old
-        (stack_in live.old) result lines.new (stack_in live.new))
+        (stack_in chain.old) result lines.new (stack_in chain.new))
         (S.log site.old) (S.log site.new) }
     ensures hear_fault { IsErrOf result Stop.HearFault → HearFails S.Site site.old site.new }
     ensures no_show_fault { IsErrOf result Stop.ShowFault → ⊥ }
@@ -41,7 +45,7 @@ fn next_answer<S: Site>(
     ensures talks { OnlyTalks S.Site (Listens lines.old) site.old site.new }
 {
     let line = lines.next(site)?;
-    Ok(answer(alloc, live, &line)?)
+    Ok(answer(alloc, chain, &line)?)
 }
 
 /// Reads the feed of channel 0 to its end, and shows the answer to each line. The chain counts by
@@ -57,8 +61,8 @@ pub fn fold<S: Site>(alloc: Global, p: &Profile, site: &mut S) -> Result<(), Sto
     ensures talks { OnlyTalks S.Site Anything site.old site.new }
 {
     let mut lines = Lines::new(alloc);
-    let mut live = Live::new(alloc, p);
-    while let Some(answer) = next_answer(alloc, &mut lines, &mut live, site)? {
+    let mut chain = Chain::new(alloc, p, DEPTH);
+    while let Some(answer) = next_answer(alloc, &mut lines, &mut chain, site)? {
         show_all(site, answer.as_slice())?;
     }
     Ok(())

@@ -1,6 +1,8 @@
-use Rattle.std.proofs.Common.{◌∙◌, ap, sym}
+use Rattle.std.proofs.Common.{◌∙◌, ap, subst, sym}
+use Rattle.ox_outside.specs.Runs.{LeavesOnly}
 use Rattle.ox_model.specs.Replies.{after_turn, index_on, reply_by}
-use Rattle.ox_model.specs.Stack.{stack_after}
+use Rattle.ox_model.specs.Stack.{Stack, stack_after}
+use Rattle.ox_store.specs.Ready.{StandsForEither}
 use Rattle.ox_index.proofs.Tips.{tip_says}
 use Rattle.ox_index.specs.Reply.{tip_line}
 use Rattle.ox_app.proofs.CommandAnswers.{files_untouched}
@@ -29,3 +31,24 @@ pub returns-in_err-room-clause-any_moment : goal.returns-in_err-room-clause-any_
 returns-in_err-room-clause-any_moment g c told stood =
     files_untouched g.S.Site g.met.S.Site.only_now c.args.site.now c.args.store.stack
     (after_turn c.args.store.stack (stack_after c.args.store.stack c.args.command.now)) (c.requires.holds told).settled stood
+
+pub returns-in_err-store-in-Ok-clause-any_moment : goal.returns-in_err-store-in-Ok-clause-any_moment
+returns-in_err-store-in-Ok-clause-any_moment g c told stood =
+    let prepared = c.in-Ok.ensures.ready in
+    let before = c.args.store.stack in
+    subst (λ (after : Stack). LeavesOnly g.S.Site c.args.site.now c.commit.new.site (λ r. StandsForEither before after r.files))
+    (sym (ap (after_turn before) prepared.after))
+    (c.commit.ensures.any_moment told before stood (record { command = c.args.command.now; payload = prepared.payload; after = prepared.after }))
+
+pub returns-in-Ok-clause-stands : goal.returns-in-Ok-clause-stands
+returns-in-Ok-clause-stands g c told stood =
+    let prepared = c.in-Ok.ensures.ready in
+    c.in_ok-store-in-Ok.ensures.stands told c.args.store.stack stood (record { command = c.args.command.now; payload = prepared.payload; after = prepared.after })
+
+pub returns-in-Ok-clause-any_moment : goal.returns-in-Ok-clause-any_moment
+returns-in-Ok-clause-any_moment g c told stood =
+    let prepared = c.in-Ok.ensures.ready in
+    let before = c.args.store.stack in
+    subst (λ (after : Stack). LeavesOnly g.S.Site c.args.site.now c.commit.new.site (λ r. StandsForEither before after r.files))
+    (sym (ap (after_turn before) prepared.after))
+    (c.commit.ensures.any_moment told before stood (record { command = c.args.command.now; payload = prepared.payload; after = prepared.after }))

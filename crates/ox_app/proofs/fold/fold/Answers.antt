@@ -5,19 +5,20 @@ use Rattle.ox_outside.specs.Log.{Grows}
 use Rattle.ox_feed.specs.Feed.{Feed, new_feed}
 use Rattle.ox_model.specs.Machine.{empty_machine, stack_of}
 use Rattle.ox_model.specs.Stack.{Stack}
-use Rattle.ox_app.specs.Fold.{Anything, fold_depth, stack_in}
-use Rattle.ox_app.proofs.FeedAnswers.{carried_none, grows_broken, grows_carried, grows_owing, grows_stopped, grows_whole, stack_begun}
+use Rattle.ox_index.specs.Chain.{stack_in}
+use Rattle.ox_app.specs.Fold.{Anything, fold_depth}
+use Rattle.ox_app.proofs.FeedAnswers.{carried_none, grows_broken, grows_carried, grows_owing, grows_stopped, grows_whole}
 use Rattle.ox_app.proofs.TalksOn.{talks_on}
 use Rattle.ox_app.proofs.FeedState.{HasAnswered}
 use Rattle.ox_outside.proofs.OnlyTalks.{talks_none}
 use Rattle.ox_app.proofs.fold.fold.Goals as goal
 
-pub loop-live-init : goal.loop-live-init
-loop-live-init g c =
+pub loop-chain-init : goal.loop-chain-init
+loop-chain-init g c =
     let first = stack_of (empty_machine c.args.p.now fold_depth) in
     let log = g.S.Site.log c.args.site.now in (
-      subst (λ (l : Feed). Grows (HasAnswered first l (stack_in c.new-live.result)) log log) (sym c.new-lines.ensures)
-          (subst (λ (s : Stack). Grows (HasAnswered first new_feed s) log log) (sym (stack_begun c.new-live.result c.args.p.now c.new-live.ensures.profile c.new-live.ensures.index)) (carried_none first log)),
+      subst (λ (l : Feed). Grows (HasAnswered first l (stack_in c.new-chain.result)) log log) (sym c.new-lines.ensures)
+          (subst (λ (s : Stack). Grows (HasAnswered first new_feed s) log log) (sym c.new-chain.ensures) (carried_none first log)),
       talks_none g.S.Site g.met.S.Site.only_now g.met.S.Site.logs_now Anything c.args.site.now tt,
     )
 
@@ -25,10 +26,10 @@ pub returns-in_err-answer-clause-told : goal.returns-in_err-answer-clause-told
 returns-in_err-answer-clause-told g c =
     let p = err_from_is_err_and c.from_residual.result c.from_residual.ensures.1 in
     rw (p.1, p.2)
-    (grows_stopped (stack_of (empty_machine c.args.p.now fold_depth)) c.loop-live.lines c.next_answer.new.lines (stack_in c.loop-live.live) (stack_in c.next_answer.new.live) c.in_err-answer.field-0.0
-    (g.S.Site.log c.args.site.now) (g.S.Site.log c.loop-live.site) (g.S.Site.log c.next_answer.new.site)
+    (grows_stopped (stack_of (empty_machine c.args.p.now fold_depth)) c.loop-chain.lines c.next_answer.new.lines (stack_in c.loop-chain.chain) (stack_in c.next_answer.new.chain) c.in_err-answer.field-0.0
+    (g.S.Site.log c.args.site.now) (g.S.Site.log c.loop-chain.site) (g.S.Site.log c.next_answer.new.site)
     c.next_answer.ensures.count (λ e. c.in_err-answer.ensures.too_much (ap Err e))
-    c.loop-live.invariant.0 c.in_err-answer.ensures.told)
+    c.loop-chain.invariant.0 c.in_err-answer.ensures.told)
 
 pub returns-in_err-show_all-clause-told : goal.returns-in_err-show_all-clause-told
 returns-in_err-show_all-clause-told g c =
@@ -37,51 +38,51 @@ returns-in_err-show_all-clause-told g c =
     let shown = rw c.as_slice.ensures at c.in_err-show_all.ensures.told in
     let first = stack_of (empty_machine c.args.p.now fold_depth) in
     rw (p.1, p.2)
-    (grows_broken first c.in-Some.answer c.next_answer.new.lines (stack_in c.next_answer.new.live)
+    (grows_broken first c.in-Some.answer c.next_answer.new.lines (stack_in c.next_answer.new.chain)
     (g.S.Site.log c.args.site.now) (g.S.Site.log c.next_answer.new.site) (g.S.Site.log c.show_all.new.site)
     c.next_answer.ensures.count
-    (grows_owing first c.loop-live.lines c.next_answer.new.lines (stack_in c.loop-live.live) (stack_in c.next_answer.new.live) c.in-Some.answer
-    (g.S.Site.log c.args.site.now) (g.S.Site.log c.loop-live.site) (g.S.Site.log c.next_answer.new.site) c.loop-live.invariant.0 heard)
+    (grows_owing first c.loop-chain.lines c.next_answer.new.lines (stack_in c.loop-chain.chain) (stack_in c.next_answer.new.chain) c.in-Some.answer
+    (g.S.Site.log c.args.site.now) (g.S.Site.log c.loop-chain.site) (g.S.Site.log c.next_answer.new.site) c.loop-chain.invariant.0 heard)
     shown)
 
-pub loop-live-preserved : goal.loop-live-preserved
-loop-live-preserved g c =
+pub loop-chain-preserved : goal.loop-chain-preserved
+loop-chain-preserved g c =
     let heard = rw c.in-Some.is at c.in_ok-answer.ensures.told in
     let shown = rw c.as_slice.ensures at c.in_ok-show_all.ensures.told in
     let first = stack_of (empty_machine c.args.p.now fold_depth) in
-    let owed = grows_owing first c.loop-live.lines c.next_answer.new.lines (stack_in c.loop-live.live) (stack_in c.next_answer.new.live) c.in-Some.answer
-    (g.S.Site.log c.args.site.now) (g.S.Site.log c.loop-live.site) (g.S.Site.log c.next_answer.new.site) c.loop-live.invariant.0 heard in (
-      grows_carried first c.next_answer.new.lines (stack_in c.next_answer.new.live) c.in-Some.answer
+    let owed = grows_owing first c.loop-chain.lines c.next_answer.new.lines (stack_in c.loop-chain.chain) (stack_in c.next_answer.new.chain) c.in-Some.answer
+    (g.S.Site.log c.args.site.now) (g.S.Site.log c.loop-chain.site) (g.S.Site.log c.next_answer.new.site) c.loop-chain.invariant.0 heard in (
+      grows_carried first c.next_answer.new.lines (stack_in c.next_answer.new.chain) c.in-Some.answer
           (g.S.Site.log c.args.site.now) (g.S.Site.log c.next_answer.new.site) (g.S.Site.log c.show_all.new.site) owed shown,
       talks_on g.S.Site _ _ c.args.site.now c.next_answer.new.site c.show_all.new.site
-          (talks_on g.S.Site _ _ c.args.site.now c.loop-live.site c.next_answer.new.site
-          c.loop-live.invariant.1 c.loop-live.invariant.0 c.next_answer.ensures.talks)
+          (talks_on g.S.Site _ _ c.args.site.now c.loop-chain.site c.next_answer.new.site
+          c.loop-chain.invariant.1 c.loop-chain.invariant.0 c.next_answer.ensures.talks)
           owed c.show_all.ensures.talks,
     )
 
 pub returns-clause-told : goal.returns-clause-told
 returns-clause-told g c =
     let heard = rw c.in_default.is at c.in_ok-answer.ensures.told in
-    grows_whole (stack_of (empty_machine c.args.p.now fold_depth)) c.loop-live.lines c.next_answer.new.lines (stack_in c.loop-live.live) (stack_in c.next_answer.new.live)
-    (g.S.Site.log c.args.site.now) (g.S.Site.log c.loop-live.site) (g.S.Site.log c.next_answer.new.site)
-    c.next_answer.ensures.count c.loop-live.invariant.0 heard
+    grows_whole (stack_of (empty_machine c.args.p.now fold_depth)) c.loop-chain.lines c.next_answer.new.lines (stack_in c.loop-chain.chain) (stack_in c.next_answer.new.chain)
+    (g.S.Site.log c.args.site.now) (g.S.Site.log c.loop-chain.site) (g.S.Site.log c.next_answer.new.site)
+    c.next_answer.ensures.count c.loop-chain.invariant.0 heard
 
 pub returns-in_err-answer-clause-talks : goal.returns-in_err-answer-clause-talks
 returns-in_err-answer-clause-talks g c =
-    talks_on g.S.Site _ _ c.args.site.now c.loop-live.site c.next_answer.new.site
-    c.loop-live.invariant.1 c.loop-live.invariant.0 c.next_answer.ensures.talks
+    talks_on g.S.Site _ _ c.args.site.now c.loop-chain.site c.next_answer.new.site
+    c.loop-chain.invariant.1 c.loop-chain.invariant.0 c.next_answer.ensures.talks
 
 pub returns-in_err-show_all-clause-talks : goal.returns-in_err-show_all-clause-talks
 returns-in_err-show_all-clause-talks g c =
     let heard = rw c.in-Some.is at c.in_ok-answer.ensures.told in
     talks_on g.S.Site _ _ c.args.site.now c.next_answer.new.site c.show_all.new.site
-    (talks_on g.S.Site _ _ c.args.site.now c.loop-live.site c.next_answer.new.site
-    c.loop-live.invariant.1 c.loop-live.invariant.0 c.next_answer.ensures.talks)
-    (grows_owing (stack_of (empty_machine c.args.p.now fold_depth)) c.loop-live.lines c.next_answer.new.lines (stack_in c.loop-live.live) (stack_in c.next_answer.new.live) c.in-Some.answer
-    (g.S.Site.log c.args.site.now) (g.S.Site.log c.loop-live.site) (g.S.Site.log c.next_answer.new.site) c.loop-live.invariant.0 heard)
+    (talks_on g.S.Site _ _ c.args.site.now c.loop-chain.site c.next_answer.new.site
+    c.loop-chain.invariant.1 c.loop-chain.invariant.0 c.next_answer.ensures.talks)
+    (grows_owing (stack_of (empty_machine c.args.p.now fold_depth)) c.loop-chain.lines c.next_answer.new.lines (stack_in c.loop-chain.chain) (stack_in c.next_answer.new.chain) c.in-Some.answer
+    (g.S.Site.log c.args.site.now) (g.S.Site.log c.loop-chain.site) (g.S.Site.log c.next_answer.new.site) c.loop-chain.invariant.0 heard)
     c.show_all.ensures.talks
 
 pub returns-clause-talks : goal.returns-clause-talks
 returns-clause-talks g c =
-    talks_on g.S.Site _ _ c.args.site.now c.loop-live.site c.next_answer.new.site
-    c.loop-live.invariant.1 c.loop-live.invariant.0 c.next_answer.ensures.talks
+    talks_on g.S.Site _ _ c.args.site.now c.loop-chain.site c.next_answer.new.site
+    c.loop-chain.invariant.1 c.loop-chain.invariant.0 c.next_answer.ensures.talks

@@ -1,6 +1,9 @@
-use Rattle.std.proofs.Common.{◌∙◌, ap, inl, inr}
+use Rattle.std.proofs.Common.{◌∙◌, List, ℕ, ap, inl, inr, subst}
 use Rattle.std.specs.Prelude.{Err, Ok}
-use Rattle.ox_app.proofs.Images.{only_looked, looked_then_talked, made_then_talked}
+use Rattle.ox_outside.specs.Log.{Grows}
+use Rattle.ox_app.specs.Show.{ShowsReply}
+use Rattle.ox_app.specs.declared.status.Status.TheVariants.{Done}
+use Rattle.ox_app.proofs.Images.{only_looked, looked_then_talked, made_then_talked, reply_whole}
 use Rattle.ox_app.proofs.init.init.Goals as goal
 
 pub returns-in-Ok-show_all-clause-made_before : goal.returns-in-Ok-show_all-clause-made_before
@@ -30,3 +33,8 @@ returns-clause-looks g c is =
 pub returns-in-Err-NotEmpty-clause-looks : goal.returns-in-Err-NotEmpty-clause-looks
 returns-in-Err-NotEmpty-clause-looks g c is =
     looked_then_talked g.S.Site _ c.args.site.now c.make.new.site c.say.new.site (c.in-Err-NotEmpty.ensures.wrote_nothing (inl (ap Err c.in-Err-NotEmpty.field-0-is))) c.say.ensures.talks
+
+pub returns-in-Ok-show_all-clause-shows : goal.returns-in-Ok-show_all-clause-shows
+returns-in-Ok-show_all-clause-shows g c isnt =
+    subst (λ (l : List ℕ). Grows (ShowsReply l Done) (g.S.Site.log c.args.site.now) (g.S.Site.log c.show_all.new.site)) c.empty_line.ensures.text
+    (reply_whole _ (g.S.Site.log c.args.site.now) (g.S.Site.log c.make.new.site) (g.S.Site.log c.show_all.new.site) c.make.ensures.logged c.in-Ok-show_all.ensures.told)
