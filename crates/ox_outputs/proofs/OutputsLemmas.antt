@@ -1,7 +1,7 @@
 -- What a change of the outputs leaves of their facts.
 use Rattle.std.proofs.Common.{◌≡◌, ◌∙◌, ℕ, refl, ap, sym, subst, List, [], ◌∷◌, Option, Some, None, Result, Ok, Err}
 use Rattle.std.specs.Prelude.{IfErr, IfOk, IsSomeAnd, IsTrue}
-use Rattle.std.specs.FinMap.{empty, get, get-empty, insert, remove}
+use Rattle.std.specs.FinMap.{empty, get, get-empty, insert}
 use Rattle.ox_block.specs.declared.block.OutPoint.{OutPoint}
 use Rattle.ox_rules.specs.declared.rows.OutRow.{OutRow}
 use Rattle.ox_rules.specs.Outputs.{Outputs, MayStand, outpoint_cmp}

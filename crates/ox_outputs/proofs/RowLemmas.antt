@@ -1,11 +1,11 @@
 -- The runs of outputs, where each of their satoshis stands once.
-use Rattle.std.proofs.Common.{◌≡◌, ◌≢◌, ◌∙◌, ℕ, zero, suc, ◌+◌, ◌-◌, ◌<◌, ◌≤◌, ◌==◌, Bool, true, false, cond, List, [], ◌∷◌, ◌++◌, length, refl, sym, ap, subst, arith, Option, Some, None, true≢false, inl, inr, ⊎_elim, Ordering, nat_lt, add-zero, zero-add, T}
-use Rattle.std.specs.Prelude.{◌⊎◌, ◌&&◌, ◌||◌, if◌then◌else◌, IsSomeAnd}
+use Rattle.std.proofs.Common.{◌≡◌, ◌≢◌, ◌∙◌, ℕ, zero, suc, ◌+◌, ◌-◌, ◌<◌, ◌≤◌, ◌==◌, Bool, true, false, cond, List, [], ◌∷◌, ◌++◌, length, refl, sym, ap, subst, arith, Option, Some, None, true≢false, inl, inr, ⊎_elim, Ordering, nat_lt, zero-add, T}
+use Rattle.std.specs.Prelude.{◌⊎◌, ◌&&◌, if◌then◌else◌, IsSomeAnd}
 use Rattle.std.specs.Ordering.{nat_cmp, is_eq, is_lt, eq_by_cmp}
 use Rattle.std.specs.declared.cmp.Ordering.TheVariants.{Less, Equal, Greater}
 use Rattle.std.specs.Cmp.{eq_by_cmp_equiv}
 use Rattle.std.specs.BTreeMap.{is_at}
-use Rattle.std.specs.List.{position_or_len, position}
+use Rattle.std.specs.List.{position_or_len}
 use Rattle.std.specs.Option.{option_and_then, option_map_or, option_or}
 use Rattle.std.specs.FinMap.{entries, entries_sorted, get, get-entries, find, is_sorted, nat_cmp-IsAntisymmetric}
 use Rattle.std.specs.FinMap.Entries.{below_all, find_tied}
@@ -16,7 +16,7 @@ use Rattle.ox_block.specs.declared.block.OutPoint.{OutPoint}
 use Rattle.ox_range.specs.declared.runs.Run.{Run}
 use Rattle.ox_range.specs.Numbers.{numbers_from}
 use Rattle.ox_range.specs.Runs.{numbers_of, runs_of, runs_with}
-use Rattle.ox_range.proofs.RunLemmas.{numbers-none, numbers-cons, length-numbers_from, numbers_of-runs_of, position_some, position_none}
+use Rattle.ox_range.proofs.RunLemmas.{numbers-none, numbers-cons, numbers_of-runs_of, position_some, position_none}
 use Rattle.ox_rules.specs.declared.rows.OutRow.{OutRow}
 use Rattle.ox_rules.specs.declared.place.Place.{Place}
 use Rattle.ox_rules.specs.declared.place.Place.TheVariants.{Out}
@@ -26,7 +26,7 @@ use Rattle.ox_rules.proofs.Orders.{outpoints_total, outpoints_exact}
 use Rattle.ox_rules.proofs.Conservation.{times-append}
 use Rattle.ox_rules.proofs.Transfers.{counts_numbers}
 use Rattle.ox_outputs.specs.declared.stretch.Stretch.{Stretch}
-use Rattle.ox_outputs.specs.Stretches.{stretch_at, stretches_of, is_among, firsts_of, Holds, AreApart}
+use Rattle.ox_outputs.specs.Stretches.{stretch_at, stretches_of, is_among, firsts_of, AreApart}
 use Rattle.ox_outputs.specs.Finding.{Finds}
 use Rattle.ox_outputs.specs.Located.{StandOnce, AreRuns, stretch_in}
 use Rattle.ox_outputs.proofs.SlotLemmas.{equal}

@@ -4,21 +4,13 @@ use Rattle.std.specs.Prelude.{IsSome, IsTrue, ◌&&◌, if◌then◌else◌}
 use Rattle.std.specs.Ordering.{eq_by_cmp, is_eq}
 use Rattle.std.specs.declared.cmp.Ordering.TheVariants.{Less, Equal, Greater}
 use Rattle.std.specs.Cmp.{eq_by_cmp_equiv}
-use Rattle.std.specs.FinMap.{empty, get, get_tied, get-empty, get-insert, get-remove, same_map}
+use Rattle.std.specs.FinMap.{get, get_tied, get-empty, get-insert, get-remove, same_map}
 use Rattle.ox_block.specs.declared.block.OutPoint.{OutPoint}
 use Rattle.ox_rules.specs.declared.rows.OutRow.{OutRow}
 use Rattle.ox_rules.specs.Outputs.{Outputs, outpoint_cmp}
 use Rattle.ox_rules.proofs.Orders.{outpoints_total, outpoints_exact}
 use Rattle.ox_outputs.specs.Slots.{SlotList, slot_at, put_slot, rows_of, undone, are_slots}
-use Rattle.std.specs.Option.{option_map, option_map_or}
-use Rattle.std.specs.List.{AllByRecursion}
-use Rattle.std.specs.List.Sorted.{IsStrictlySortedBy}
-use Rattle.std.specs.Map.{keys_of}
-use Rattle.std.specs.FinMap.{entries, entries-insert, len-entries, len-empty}
-use Rattle.std.specs.FinMap.Entries.{put, by_order}
-use Rattle.ox_rules.specs.Where.{place_in, place_among}
-use Rattle.ox_rules.specs.declared.place.Place.{Place}
-use Rattle.ox_rules.specs.declared.place.Place.TheVariants.{Out}
+use Rattle.std.specs.Option.{option_map}
 
 -- what a slot holds, where there is one
 abbrev pub held : Option (Option OutRow) → Option OutRow

@@ -1,9 +1,10 @@
 -- Stretches by their first numbers: what changes of them leave.
-use Rattle.std.proofs.Common.{◌≡◌, ◌∙◌, ℕ, ◌+◌, ◌-◌, ◌<◌, ◌≤◌, Bool, true, false, cond, List, [], ◌∷◌, ◌++◌, length, length-append, drop, zero, suc, ◌^◌, Result, Ok, Err, refl, sym, ap, subst, arith, Option, Some, None, true≢false, inl, inr, ⊎_elim, Ordering}
-use Rattle.std.specs.Prelude.{IsSome, ◌||◌, ◌⊎◌, OnOk, OnErr}
+use Rattle.std.proofs.Common.{◌≡◌, ◌∙◌, ℕ, ◌+◌, ◌-◌, ◌<◌, ◌≤◌, Bool, true, false, cond, List, [], ◌∷◌, length, length-append, drop, zero, suc, ◌^◌, Result, Ok, Err, refl, sym, ap, arith, Option, Some, None, true≢false, inl, inr, ⊎_elim, Ordering}
+use Rattle.std.specs.Prelude.{is_some, ◌||◌, ◌⊎◌, OnOk, OnErr}
 use Rattle.std.specs.Result.{is_err}
-use Rattle.std.specs.Ordering.{nat_cmp, is_eq, is_gt, is_lt, eq_by_cmp, MatchOrdering}
+use Rattle.std.specs.Ordering.{nat_cmp, is_eq, is_gt, is_lt, MatchOrdering}
 use Rattle.std.specs.declared.cmp.Ordering.TheVariants.{Less, Equal, Greater}
+use Rattle.std.specs.FinMap.{nat_cmp-IsAntisymmetric}
 use Rattle.std.proofs.lemmas.Bool.{cases_lt}
 use Rattle.std.specs.Cmp.{eq_by_cmp_equiv}
 use Rattle.std.proofs.lemmas.Cmp.{nat_cmp_total, ranked}
@@ -17,7 +18,7 @@ use Rattle.ox_range.specs.Runs.{numbers_of}
 use Rattle.ox_range.proofs.RunLemmas.{numbers-cons, length-numbers_from}
 use Rattle.ox_rules.specs.declared.place.Place.{Place}
 use Rattle.ox_outputs.specs.Finding.{Finds}
-use Rattle.ox_outputs.specs.Stretches.{StretchList, stretch_at, stretches_of, is_among, firsts_of, turned, standing, live_in, kept_in, AreApart, AreKept, AreShort, Holds}
+use Rattle.ox_outputs.specs.Stretches.{StretchList, stretch_at, stretches_of, is_among, firsts_of, turned, standing, live_in, kept_in, AreApart, AreKept, Holds}
 
 -- which number it is, seen from either
 pub same_first : (a b : ℕ) → is_at (nat_cmp a) b ≡ is_at (nat_cmp b) a
@@ -316,3 +317,28 @@ leaves_none stood stood' came goes q turns free = ap standing turns ∙ none_or 
   by_test : (b : Bool) → goes q ≡ b → cond b None (standing (stretch_at stood q)) ≡ None
   by_test true goes = refl
   by_test false stays = nothing_live stood came q (free stays)
+
+-- ---- no stretch begins as runs do
+
+pub none_first_at : (stretches : StretchList) (first : ℕ) → is_some (stretch_at stretches first) ≡ false → stretch_at stretches first ≡ None
+none_first_at stretches first is = by_stretch (stretch_at stretches first) is where
+  by_stretch : (o : Option Stretch) → is_some o ≡ false → o ≡ None
+  by_stretch None is = refl
+  by_stretch (Some s) is = absurd (true≢false is)
+
+same_as : (a b : ℕ) → is_at (nat_cmp a) b ≡ true → a ≡ b
+same_as a b is = nat_cmp-IsAntisymmetric a b (is_equal (nat_cmp a b) is) where
+  is_equal : (r : Ordering) → is_eq r ≡ true → r ≡ Equal
+  is_equal Less is = absurd (true≢false (sym is))
+  is_equal Equal is = refl
+  is_equal Greater is = absurd (true≢false (sym is))
+
+pub none_more : (stretches : StretchList) (q : ℕ) (run : Run) (runs : List Run) → stretch_at stretches run.first ≡ None → (is_among (firsts_of runs) q ≡ true → stretch_at stretches q ≡ None) → is_among (firsts_of (run ∷ runs)) q ≡ true → stretch_at stretches q ≡ None
+none_more stretches q run runs absent rest is = ⊎_elim
+    (λ here. ap (stretch_at stretches) (same_as q run.first here) ∙ absent)
+    rest
+    (either_true (is_at (nat_cmp q) run.first) (is_among (firsts_of runs) q) is)
+
+pub less_same : (b : Bool) (o : Option Stretch) → (b ≡ true → o ≡ None) → o ≡ cond b None o
+less_same true o none = none refl
+less_same false o none = refl

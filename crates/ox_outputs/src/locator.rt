@@ -10,7 +10,8 @@ ghost use Rattle.ox_outputs.specs.Stretches.{AreKept, AreApart};
 ghost use Rattle.ox_outputs.specs.Finding.{Finds};
 
 use crate::stretches::{
-    Stretches, find, insert_runs, remove_noted, remove_runs, settle, turn_back, turn_runs,
+    Stretches, find, insert_runs, none_begin, remove_noted, remove_runs, settle, turn_back,
+    turn_runs,
 };
 use ox_block::OutPoint;
 use ox_range::Ranges;
@@ -84,10 +85,55 @@ impl Locator {
         insert_runs(&mut self.came, outpoint, sats.runs(), sats.len())
     }
 
-    /// The runs of an output's satoshis come in place of those of other ones. `Memory` where there
-    /// is none: all is as before. It copies what came since the mark, so that it can fail before
-    /// anything has changed.
+    /// The runs of an output's satoshis come in place of those of other ones, which were there.
+    /// `Memory` where there is none: all is as before.
     pub(crate) fn displace(
+        &mut self,
+        others: &Ranges,
+        outpoint: &OutPoint,
+        sats: &Ranges,
+    ) -> Result<(), Memory>
+        requires fresh { (q : ℕ) → is_among (firsts_of (runs_of sats.now)) q ≡ true
+            → is_among (firsts_of (runs_of others.now)) q ≡ false → live_at self.old q ≡ None }
+        ensures ok { OnOk result ((q : ℕ) → live_at self.new q
+            ≡ option_or (stretch_at (stretches_of outpoint.now 0 (runs_of sats.now)) q)
+            (if is_among (firsts_of (runs_of others.now)) q then None else live_at self.old q)) }
+        ensures err { OnErr result ((q : ℕ) → live_at self.new q ≡ live_at self.old q) }
+        ensures kept { (q : ℕ) → kept_at self.new q ≡ kept_at self.old q }
+    {
+        if none_begin(&self.came, others.runs()) {
+            self.displace_stood(others, outpoint, sats)
+        } else {
+            self.displace_came(others, outpoint, sats)
+        }
+    }
+
+    // The same where the others stood at the mark.
+    fn displace_stood(
+        &mut self,
+        others: &Ranges,
+        outpoint: &OutPoint,
+        sats: &Ranges,
+    ) -> Result<(), Memory>
+        requires stood { (q : ℕ) → is_among (firsts_of (runs_of others.now)) q ≡ true
+            → stretch_at self.old.came.entries q ≡ None }
+        requires fresh { (q : ℕ) → is_among (firsts_of (runs_of sats.now)) q ≡ true
+            → is_among (firsts_of (runs_of others.now)) q ≡ false → live_at self.old q ≡ None }
+        ensures ok { OnOk result ((q : ℕ) → live_at self.new q
+            ≡ option_or (stretch_at (stretches_of outpoint.now 0 (runs_of sats.now)) q)
+            (if is_among (firsts_of (runs_of others.now)) q then None else live_at self.old q)) }
+        ensures err { OnErr result ((q : ℕ) → live_at self.new q ≡ live_at self.old q) }
+        ensures kept { (q : ℕ) → kept_at self.new q ≡ kept_at self.old q }
+    {
+        self.gone.reserve(others.runs().len())?;
+        insert_runs(&mut self.came, outpoint, sats.runs(), sats.len())?;
+        turn_runs(&mut self.stood, &mut self.gone, others.runs());
+        Ok(())
+    }
+
+    // The same where they came since. What came is copied, so that all can fail before anything
+    // has changed: no block displaces an output of its own.
+    fn displace_came(
         &mut self,
         others: &Ranges,
         outpoint: &OutPoint,

@@ -1,7 +1,8 @@
 //! Runs of satoshis by their first numbers, with where each of them is.
 
 ghost use Rattle.std.specs.Prelude.{◌≡◌, ℕ, ◌+◌, ◌^◌, ◌<◌, ◌≤◌, ◌||◌, [], true, false, length};
-ghost use Rattle.std.specs.Prelude.{None, IsSome, OnOk, OnErr, if◌then◌else◌, vec_len, vec_capacity};
+ghost use Rattle.std.specs.Prelude.{IsTrue, None, IsSome, OnOk, OnErr, if◌then◌else◌, vec_len};
+ghost use Rattle.std.specs.Prelude.{vec_capacity};
 ghost use Rattle.std.specs.BTreeMap.{is_at};
 ghost use Rattle.std.specs.Option.{option_map, option_or};
 ghost use Rattle.std.specs.Ordering.{nat_cmp};
@@ -27,6 +28,19 @@ pub(crate) fn remove_runs(stretches: &mut Stretches, runs: &[Run])
     for run in runs {
         stretches.remove(&run.first);
     }
+}
+
+/// Whether no stretch begins as one of these runs does.
+pub(crate) fn none_begin(stretches: &Stretches, runs: &[Run]) -> bool
+    ensures { IsTrue result → (q : ℕ) → is_among (firsts_of runs.now) q ≡ true
+        → stretch_at stretches.now.entries q ≡ None }
+{
+    for run in runs {
+        if stretches.contains_key(&run.first) {
+            return false;
+        }
+    }
+    true
 }
 
 /// Adds the stretches of an output's runs. Where there is no memory, all is as before.
@@ -122,7 +136,8 @@ pub(crate) fn remove_noted(stretches: &mut Stretches, noted: &mut Vec<u64>)
 pub(crate) fn settle(stood: &mut Stretches, came: &mut Stretches) -> Result<(), Memory>
     requires apart { (q : ℕ) → IsSome (stretch_at came.old.entries q)
         → stretch_at stood.old.entries q ≡ None }
-    ensures all { (q : ℕ) → option_or (stretch_at came.new.entries q) (stretch_at stood.new.entries q)
+    ensures all { (q : ℕ)
+        → option_or (stretch_at came.new.entries q) (stretch_at stood.new.entries q)
         ≡ option_or (stretch_at came.old.entries q) (stretch_at stood.old.entries q) }
     ensures apart { (q : ℕ) → IsSome (stretch_at came.new.entries q)
         → stretch_at stood.new.entries q ≡ None }

@@ -1,9 +1,7 @@
-use Rattle.std.proofs.Common.{◌∙◌, sym, ap, refl, None, Some, Option, List, ℕ, subst}
+use Rattle.std.proofs.Common.{◌∙◌, sym, ap, refl, None, List, ℕ}
 use Rattle.std.specs.FinMap as map
 use Rattle.std.specs.Option.{option_or}
 use Rattle.ox_range.specs.Runs.{runs_of}
-use Rattle.ox_rules.specs.declared.rows.OutRow.{OutRow}
-use Rattle.ox_rules.specs.Outputs.{Outputs}
 use Rattle.ox_outputs.specs.Locator.{live_at}
 use Rattle.ox_outputs.specs.Slots.{rows_of, put_slot}
 use Rattle.ox_outputs.specs.Stretches.{stretch_at, stretches_of}

@@ -1,4 +1,4 @@
-use Rattle.std.proofs.Common.{refl, sym, ap, ◌∙◌, inl, inr, subst, Some}
+use Rattle.std.proofs.Common.{refl, sym, inl, inr, subst}
 use Rattle.std.specs.Prelude.{IsSome, ◌⊎◌, ◌≡◌, true, ◌≤◌, ◌-◌}
 use Rattle.ox_outputs.specs.Stretches.{stretch_at}
 use Rattle.ox_outputs.proofs.StretchLemmas.{up_to, not_above, not_below, none_here, standing_is}

@@ -1,8 +1,7 @@
-use Rattle.std.proofs.Common.{◌≡◌, ◌∙◌, ap, sym, arith, length, refl}
+use Rattle.std.proofs.Common.{◌≡◌, ◌∙◌, ap, arith, length}
 use Rattle.std.specs.FinMap as map
-use Rattle.ox_rules.specs.Outputs.{Outputs}
 use Rattle.ox_outputs.specs.Locator.{live_at, kept_at}
-use Rattle.ox_outputs.specs.Slots.{SlotList, rows_of, undone}
+use Rattle.ox_outputs.specs.Slots.{rows_of, undone}
 use Rattle.ox_outputs.proofs.OutputsLemmas.{none_once, none_runs, none_apart, known_none, undone_none}
 use Rattle.ox_outputs.proofs.outputs.Outputs.new.Goals as goal
 

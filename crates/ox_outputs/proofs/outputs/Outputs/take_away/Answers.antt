@@ -1,8 +1,7 @@
-use Rattle.std.proofs.Common.{refl, ◌∙◌, sym}
-use Rattle.ox_outputs.specs.Locator.{live_at, kept_at}
+use Rattle.std.proofs.Common.{◌∙◌}
+use Rattle.ox_outputs.specs.Locator.{kept_at}
 use Rattle.ox_outputs.specs.Slots.{rows_of, undone}
-use Rattle.ox_outputs.proofs.SlotLemmas.{known_still}
-use Rattle.ox_outputs.proofs.RowLemmas.{runs_alike, apart_alike, once_alike}
+use Rattle.ox_outputs.proofs.RowLemmas.{apart_alike, once_alike}
 use Rattle.ox_outputs.proofs.OutputsLemmas.{undone_none, once_less}
 use Rattle.ox_outputs.proofs.outputs.Outputs.take_away.Goals as goal
 

@@ -1,4 +1,4 @@
-use Rattle.std.proofs.Common.{◌≡◌, ◌∙◌, ap, sym, arith, length, refl, []}
+use Rattle.std.proofs.Common.{◌≡◌, ◌∙◌, ap, arith, length, []}
 use Rattle.ox_outputs.specs.Locator.{live_at, kept_at}
 use Rattle.ox_outputs.specs.Slots.{rows_of, undone}
 use Rattle.ox_outputs.proofs.RowLemmas.{runs_alike, once_alike, apart_runs}

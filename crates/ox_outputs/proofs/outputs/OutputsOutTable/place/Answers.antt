@@ -1,7 +1,7 @@
-use Rattle.std.proofs.Common.{◌≡◌, ◌∙◌, ap, refl, sym, List, Option, Some, [], ◌∷◌, ◌++◌}
+use Rattle.std.proofs.Common.{◌≡◌, ◌∙◌, ap, refl, List, Option, Some, [], ◌∷◌, ◌++◌}
 use Rattle.ox_block.specs.declared.block.OutPoint.{OutPoint}
 use Rattle.ox_rules.specs.declared.rows.OutRow.{OutRow}
-use Rattle.ox_outputs.specs.Locator.{live_at, kept_at}
+use Rattle.ox_outputs.specs.Locator.{kept_at}
 use Rattle.ox_outputs.specs.Slots.{rows_of, undone}
 use Rattle.ox_outputs.proofs.SlotLemmas.{known_more, known_still, both_grown, both_still, mark_kept, mark_still, same_mark}
 use Rattle.ox_outputs.proofs.RowLemmas.{runs_alike, apart_alike, once_alike}

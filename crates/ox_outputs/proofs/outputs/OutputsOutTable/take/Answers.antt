@@ -3,7 +3,7 @@ use Rattle.std.specs.Prelude.{IsSome}
 use Rattle.std.specs.FinMap as map
 use Rattle.ox_block.specs.declared.block.OutPoint.{OutPoint}
 use Rattle.ox_rules.specs.declared.rows.OutRow.{OutRow}
-use Rattle.ox_outputs.specs.Locator.{live_at, kept_at}
+use Rattle.ox_outputs.specs.Locator.{kept_at}
 use Rattle.ox_outputs.specs.Slots.{rows_of, slot_at, undone}
 use Rattle.ox_outputs.proofs.SlotLemmas.{put_none, row_known, known_more, known_still, both_grown, both_still, mark_kept, mark_still, same_mark, twice_none, twice_some}
 use Rattle.ox_outputs.proofs.RowLemmas.{runs_alike, apart_alike, once_alike}

@@ -1,13 +1,13 @@
-use Rattle.std.proofs.Common.{◌≡◌, ◌∙◌, ℕ, ◌<◌, ◌^◌, ap, sym, arith, length, Bool, true, false, cond, None, List, Option}
+use Rattle.std.proofs.Common.{◌≡◌, ◌∙◌, ℕ, ◌<◌, ◌^◌, ap, sym, arith, length, Bool, true, cond, None, List, Option}
 use Rattle.std.specs.Prelude.{◌||◌}
 use Rattle.std.specs.Option.{option_map, option_or}
 use Rattle.std.proofs.lemmas.Map.Entries.{entries_from_clone}
 use Rattle.ox_range.specs.declared.runs.Run.{Run}
 use Rattle.ox_range.specs.Runs.{numbers_of, runs_of}
 use Rattle.ox_outputs.specs.declared.stretch.Stretch.{Stretch}
-use Rattle.ox_outputs.specs.Stretches.{StretchList, is_among, firsts_of, standing, stretch_at, stretches_of, live_in, turned}
+use Rattle.ox_outputs.specs.Stretches.{StretchList, is_among, firsts_of, stretch_at, stretches_of, live_in, turned}
 use Rattle.ox_outputs.proofs.StretchLemmas.{kept_leave, kept_runs, live_displaced, leaves_none}
-use Rattle.ox_outputs.proofs.locator.Locator.displace.Goals as goal
+use Rattle.ox_outputs.proofs.locator.Locator.displace_came.Goals as goal
 
 pub invariant_of-self-2 : goal.invariant_of-self-2
 invariant_of-self-2 c =
