@@ -1,4 +1,4 @@
-"""Chains of regtest blocks, the lines that connect them, and the files of a store that has them."""
+"""Chains of regtest blocks, the lines that connect them and take them back, and the files of a store that heard them."""
 
 import hashlib
 
@@ -6,6 +6,9 @@ SUBSIDY = 5_000_000_000
 HALVING = 210_000
 EMPTY_HEAD = b"\1oxidx\1\1" + (100).to_bytes(2, "little") + (1).to_bytes(8, "little") + bytes(8)
 SHORT = b"\x51"
+
+# what a disconnect's record holds
+DISCONNECT = b"\0"
 
 
 def twice(message):
@@ -27,14 +30,19 @@ def coinbase(height, script):
     return (2).to_bytes(4, "little") + source + target + bytes(4)
 
 
+def block_on(previous, height, script):
+    """The bytes of a block of a coinbase alone, and its hash."""
+    tx = coinbase(height, script)
+    header = (1).to_bytes(4, "little") + previous + twice(tx) + bytes(12)
+    return header + b"\1" + tx, twice(header)
+
+
 def chain(count, script_at=lambda height: SHORT):
-    """The bytes of so many blocks, each a coinbase alone, and their hashes as they are shown."""
+    """The bytes of so many blocks, and their hashes as they are shown."""
     blocks, tips, previous = [], [], bytes(32)
     for height in range(count):
-        tx = coinbase(height, script_at(height))
-        header = (1).to_bytes(4, "little") + previous + twice(tx) + bytes(12)
-        previous = twice(header)
-        blocks.append(header + b"\1" + tx)
+        block, previous = block_on(previous, height, script_at(height))
+        blocks.append(block)
         tips.append(previous[::-1].hex())
     return blocks, tips
 
@@ -44,12 +52,31 @@ def line(block):
     return b"connect " + block.hex().encode() + b"\n"
 
 
-def record(block):
+def payload_of(block):
+    """What a connect's record holds."""
+    return b"\1" + block
+
+
+def line_of(payload):
+    """The line of a record's command."""
+    return b"disconnect\n" if payload == DISCONNECT else line(payload[1:])
+
+
+def record_of(payload):
     """A record but for its gate: the payload's length and the payload, and a closed gate behind it."""
-    payload = b"\1" + block
     return len(payload).to_bytes(4, "little") + payload + b"\0"
 
 
+def record(block):
+    """The record of a connect."""
+    return record_of(payload_of(block))
+
+
+def file_of(payloads):
+    """File A of a regtest store of depth 100 with these records; file B has one byte, 00."""
+    return EMPTY_HEAD + b"".join(b"\1" + record_of(payload)[:-1] for payload in payloads) + b"\0"
+
+
 def file_a(blocks):
-    """File A of a regtest store of depth 100 with these blocks; file B has one byte, 00."""
-    return EMPTY_HEAD + b"".join(b"\1" + record(block)[:-1] for block in blocks) + b"\0"
+    """The same where each record connects a block."""
+    return file_of(map(payload_of, blocks))

@@ -3,12 +3,13 @@
 
     python3 checks/kills.py [KILLS [SEED [PROGRAM]]]
 
-applies a feed of regtest blocks, most of them small and some of up to two million bytes, to a store below out/ beside
-this script, and kills the program (SIGKILL, by the number of its own process): while it starts and opens the store, a
-random time after a random number of lines was shown, or as soon as file A grows by a large block. Then it tests that
+applies a feed of regtest blocks, most of them small and some of up to two million bytes, and of disconnects, one to about
+six blocks, to a store below out/ beside this script, and kills the program (SIGKILL, by the number of its own process):
+while it starts and opens the store, a random time after a random number of lines was shown, or as soon as file A grows by
+a large block. Then it tests that
 
-- `query /status` opens the store, which has at least as many blocks as `ok` lines were shown, and one more at most;
-- its newest block is the one that `fold regtest` shows after the first that many lines of the feed;
+- `query /status` opens the store, which is as the lines shown left it, or as one line more did: its number of blocks, how
+  many of them are kept, and its newest block, which is the one that `fold regtest` shows after that many lines;
 - the lines that were shown, the last of them maybe in part, are those that `fold` shows;
 - file A begins with the bytes that docs/FORMATS.md says, and file B is one byte 00.
 
@@ -28,11 +29,12 @@ import sys
 import tempfile
 import time
 
-from chain import SHORT, chain, file_a, line
+from chain import DISCONNECT, SHORT, block_on, file_of, line_of, payload_of
 
 HERE = pathlib.Path(__file__).resolve().parent
 PROGRAM = HERE.parent / "crates" / "ox_main" / "out" / "ox_main"
 LINES = 1000
+DEPTH = 100
 KILLS_OF_A_STORE = 50
 
 
@@ -45,23 +47,49 @@ def demand(holds, what):
         raise Failed(what)
 
 
+# What a store tells of itself: how many blocks it has and keeps, and the newest one's hash as it is shown, or None.
+State = collections.namedtuple("State", "blocks kept tip")
+
+
 class Feed:
-    """A feed, where each line of it begins, and what `fold` answers to it."""
+    """A feed, where each line of it begins, what the store is before each, and what `fold` answers to it."""
 
     def __init__(self, program, top, chance):
-        self.blocks, self.tips = chain(LINES, lambda height: script_of(chance))
+        self.payloads, self.states = commands(chance)
         self.path = top / "feed"
         self.places = [0]
         with open(self.path, "wb") as feed:
-            for block in self.blocks:
-                feed.write(line(block))
+            for payload in self.payloads:
+                feed.write(line_of(payload))
                 self.places.append(feed.tell())
         with open(self.path, "rb") as given:
             shown = subprocess.run([program, top, "fold", "regtest"], check=True, stdin=given, stdout=subprocess.PIPE)
         self.answers = shown.stdout.splitlines(keepends=True)
         demand(len(self.answers) == LINES, "`fold` doesn't answer each line")
-        for height, answer in enumerate(self.answers):
-            demand(answer == f"ok {height} {self.tips[height]}\n".encode(), f"`fold` answers line {height} otherwise")
+        for number, (answer, state) in enumerate(zip(self.answers, self.states[1:])):
+            demand(answer == answer_of(state), f"`fold` answers line {number} otherwise")
+
+
+def commands(chance):
+    """The payloads of the feed's lines, none of which is refused, and the states before each and after the last."""
+    payloads, hashes, kept, states = [], [], 0, [State(0, 0, None)]
+    while len(payloads) < LINES:
+        if kept and chance.randrange(7) == 0:
+            payloads.append(DISCONNECT)
+            hashes.pop()
+            kept -= 1
+        else:
+            previous = hashes[-1] if hashes else bytes(32)
+            block, hash_ = block_on(previous, len(payloads), script_of(chance))
+            payloads.append(payload_of(block))
+            hashes.append(hash_)
+            kept = min(kept + 1, DEPTH)
+        states.append(State(len(hashes), kept, hashes[-1][::-1].hex() if hashes else None))
+    return payloads, states
+
+
+def answer_of(state):
+    return f"ok {state.blocks - 1} {state.tip}\n".encode() if state.blocks else b"ok empty\n"
 
 
 def script_of(chance):
@@ -75,7 +103,7 @@ def begin(program, folder):
     """An empty store in a folder that is made anew."""
     shutil.rmtree(folder, ignore_errors=True)
     folder.mkdir()
-    subprocess.run([program, folder, "init", "regtest", "100"], check=True, stdout=subprocess.DEVNULL)
+    subprocess.run([program, folder, "init", "regtest", str(DEPTH)], check=True, stdout=subprocess.DEVNULL)
 
 
 def wait_for(child, folder, when):
@@ -103,30 +131,28 @@ def apply_and_kill(program, folder, feed, first, when):
     return shown.read_bytes(), status == -9
 
 
-def look(program, folder, feed):
-    """How many blocks the store has, by `query`, which has to show the newest of them rightly; and how long it took."""
+def look(program, folder):
+    """What the store tells of itself by `query`, and how long it took."""
     begun = time.perf_counter()
     asked = subprocess.run([program, folder, "query", "/status"], stdout=subprocess.PIPE, stderr=subprocess.PIPE)
     seconds = time.perf_counter() - begun
     demand(asked.returncode == 0, f"`query` ended with {asked.returncode} and showed {asked.stdout}")
     body = json.loads(asked.stdout)
-    count = body["blocks"]
-    tip = feed.answers[count - 1].split()[2].decode() if count else None
-    wanted = {"blocks": count, "depth": 100, "kept": 0, "profile": "regtest", "tip": tip}
-    demand(body == wanted, f"`query` shows {body} where {wanted} was wanted")
-    return count, seconds
+    state = State(body.pop("blocks"), body.pop("kept"), body.pop("tip"))
+    demand(body == {"depth": DEPTH, "profile": "regtest"}, f"`query` shows {body} besides {state}")
+    return state, seconds
 
 
 def look_at_files(folder, feed, count):
     """What stands behind the last gate: nothing, a part of the next record, or all of it."""
-    a, wanted = (folder / "a.ox").read_bytes(), file_a(feed.blocks[:count])
-    demand(a.startswith(wanted), "file A doesn't begin with its blocks")
+    a, wanted = (folder / "a.ox").read_bytes(), file_of(feed.payloads[:count])
+    demand(a.startswith(wanted), "file A doesn't begin with its records")
     demand((folder / "b.ox").read_bytes() == b"\0", "file B isn't closed")
     more = len(a) - len(wanted)
     if more == 0:
         return "nothing"
-    # file A with one block more, but for the gate
-    whole = file_a(feed.blocks[: count + 1])[len(wanted) :]
+    # file A with one record more, but for the gate
+    whole = file_of(feed.payloads[: count + 1])[len(wanted) :]
     demand(whole.startswith(a[len(wanted) :]), "another record stands behind the last gate")
     return "a whole record" if more == len(whole) else "a part of a record"
 
@@ -140,28 +166,32 @@ def moment(chance, feed, first, opening):
     kind = chance.randrange(5)
     if kind == 0:
         return Moment(0, False, chance.uniform(0, opening))
-    large = [n for n, block in enumerate(feed.blocks[first : first + 50]) if len(block) > 100_000]
+    large = [n for n, payload in enumerate(feed.payloads[first : first + 50]) if len(payload) > 100_000]
     if kind == 1 and large:
         return Moment(large[0], True, 0)
     return Moment(chance.randint(1, 20), False, chance.uniform(0, chance.choice([0.0002, 0.001, 0.005])))
 
 
 def kill_once(program, folder, feed, before, when, met):
-    """Applies and kills once, and tests what is left. Answers how many blocks there are, and how long it took
-    to open the store."""
+    """Applies and kills once, and tests what is left. Answers how many lines the store has, and how long it took to open
+    it."""
     shown, was_killed = apply_and_kill(program, folder, feed, before, when)
     answers = b"".join(feed.answers[before:])
     demand(answers.startswith(shown), "other lines were shown than `fold` shows")
     lines = shown.count(b"\n")
-    count, opening = look(program, folder, feed)
-    unshown = count - before - lines
-    demand(unshown in (0, 1), f"there were {before} blocks, {lines} lines were shown, and there are {count} blocks")
+    state, opening = look(program, folder)
+    # two states that follow each other differ in their number of blocks
+    count = before + lines
+    unshown = state != feed.states[count]
+    count += unshown
+    demand(count <= LINES and state == feed.states[count], f"{lines} lines were shown behind {before}, and there is {state}")
     behind = look_at_files(folder, feed, count)
     met["killed while it ran"] += was_killed
     met["killed before a line was shown"] += was_killed and not shown
-    met["a block more than lines"] += unshown
+    met["a command more than lines"] += unshown
     met[f"{behind} behind the last gate"] += 1
-    met["blocks"] += count - before
+    met["commands"] += count - before
+    met["disconnects"] += feed.payloads[before:count].count(DISCONNECT)
     return count, opening
 
 
@@ -172,7 +202,9 @@ def kill_often(program, top, kills, chance, met):
     for turn in range(kills):
         if count == LINES or turn % KILLS_OF_A_STORE == 0:
             begin(program, folder)
-            count, opening = look(program, folder, feed)
+            state, opening = look(program, folder)
+            demand(state == feed.states[0], f"a new store has {state}")
+            count = 0
             met["stores"] += 1
         when = moment(chance, feed, count, opening)
         count, opening = kill_once(program, folder, feed, count, when, met)
@@ -196,7 +228,7 @@ def main():
     shutil.rmtree(top)
     for what, times in sorted(met.items()):
         print(f"{times:7,} {what}")
-    print(f"passed: after {kills} kills no block was lost whose line was shown")
+    print(f"passed: after {kills} kills no command was lost whose line was shown")
 
 
 if __name__ == "__main__":

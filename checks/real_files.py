@@ -22,7 +22,7 @@ import sys
 import tempfile
 import traceback
 
-from chain import chain, file_a, line, record
+from chain import DISCONNECT, chain, file_a, file_of, line, payload_of, record
 from kills import Failed, demand, kill_often
 
 HERE = pathlib.Path(__file__).resolve().parent
@@ -88,10 +88,11 @@ class Ox:
     def has_blocks(self, blocks):
         self.has(file_a(blocks), EMPTY_B)
 
-    def status_is(self, count, tip):
-        """The reply to a query has to be this."""
+    def status_is(self, count, tip, kept=None):
+        """The reply to a query has to be this. As many blocks are kept as may be, where it isn't said."""
         tip = f'"{tip}"' if tip else "null"
-        body = f'{{"blocks":{count},"depth":100,"kept":0,"profile":"regtest","tip":{tip}}}'
+        kept = min(count, 100) if kept is None else kept
+        body = f'{{"blocks":{count},"depth":100,"kept":{kept},"profile":"regtest","tip":{tip}}}'
         self.wants((0, body.encode()), "query", "/status")
 
 
@@ -196,7 +197,6 @@ def refused_lines(ox):
     lines = [
         (b"connect " + b"0" * 8_000_001, b"refused 2"),
         (b"connect  00", b"refused 1"),
-        (b"disconnect", b"refused 11"),
         (b"connect ", b"refused 3 0"),
         (line(blocks[2][:90]).rstrip(), b"refused 3 86"),
         (line(blocks[3]).rstrip(), f"refused 5 {tips[2]} {tips[1]}".encode()),
@@ -205,6 +205,43 @@ def refused_lines(ox):
     feed, wanted = (b"".join(part + b"\n" for part in parts) for parts in zip(*lines))
     ox.wants((0, wanted), "apply", feed=feed)
     ox.has_blocks(blocks[:2])
+
+
+@check("a disconnect where no block is kept is refused, and changes no byte of the files")
+def nothing_kept(ox):
+    ox.init()
+    ox.wants((0, b"refused 11\n"), "fold", "regtest", feed=b"disconnect\n")
+    ox.wants((0, b"refused 11\n"), "apply", feed=b"disconnect\n")
+    ox.has(EMPTY_A, EMPTY_B)
+
+
+@check("the newest blocks are taken back, as many as are kept, by a later run too")
+def taken_back(ox):
+    blocks, tips = chain(3)
+    for depth in (1, 2):
+        ox.write(b"", b"")
+        ox.wants((0, b"ok empty\n"), "init", "regtest", str(depth))
+        wanted = b"".join(answer(height, tips) for height in (0, 1, 2, 1))
+        ox.wants((0, wanted), "apply", feed=b"".join(map(line, blocks)) + b"disconnect\n")
+        wanted = b"".join([answer(0, tips)] * (depth - 1) + [b"refused 11\n"])
+        ox.wants((0, wanted), "apply", feed=b"disconnect\n" * depth)
+        head = EMPTY_A[:8] + depth.to_bytes(2, "little") + EMPTY_A[10:]
+        payloads = [payload_of(block) for block in blocks] + [DISCONNECT] * depth
+        ox.has(file_of(payloads).replace(EMPTY_A[:26], head[:26], 1), EMPTY_B)
+
+
+@check("blocks are replaced by others, and a fold of the new chain shows the same")
+def replaced(ox):
+    old, _ = chain(3)
+    new, tips = chain(4, lambda height: b"\x52")
+    lines = b"".join(map(line, old)) + b"disconnect\n" * 3 + b"".join(map(line, new))
+    ox.init()
+    status, got = ox.run("apply", feed=lines)
+    wanted = b"ok empty\n" + b"".join(answer(height, tips) for height in range(4))
+    demand(status == 0 and got.endswith(wanted), f"`apply` ended with {status} and showed {shown(got)}")
+    ox.wants((0, got), "fold", "regtest", feed=lines)
+    ox.has(file_of([*map(payload_of, old), *[DISCONNECT] * 3, *map(payload_of, new)]), EMPTY_B)
+    ox.status_is(4, tips[3])
 
 
 @check("`fold` and `query` change no byte of the files")
@@ -281,6 +318,9 @@ def not_store(ox):
         (whole[:-1], EMPTY_B, f"a {len(whole) - 1}".encode()),
         (EMPTY_A[:26] + b"\1" + record(block[:-1]), EMPTY_B, b"a 26"),
         (whole[:-1] + b"\1" + record(block), EMPTY_B, f"a {len(whole) - 1}".encode()),
+        (file_of([DISCONNECT]), EMPTY_B, b"a 26"),
+        (file_of([payload_of(block), DISCONNECT + b"\0"]), EMPTY_B, f"a {len(whole) - 1}".encode()),
+        (file_of([payload_of(block), DISCONNECT, DISCONNECT]), EMPTY_B, f"a {len(whole) + 5}".encode()),
     ]
     for a, b, told in rows:
         ox.write(a, b)
@@ -418,7 +458,7 @@ def no_memory(ox):
     ox.wants((0, answer(2, tips)), "apply", feed=line(blocks[2]))
 
 
-@check(f"{KILLS} kills of a running `apply` lose no block whose line was shown")
+@check(f"{KILLS} kills of a running `apply` lose no command whose line was shown")
 def killed(ox):
     kill_often(ox.program, ox.folder, KILLS, random.Random(SEED), collections.Counter())
 

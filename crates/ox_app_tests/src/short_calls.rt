@@ -111,7 +111,7 @@ fn cut_at(rt: &impl Abort, alloc: Global, portion: Portion, writes: u8, feed: &[
     ends_so(rt, alloc, &mut site, &[b"apply"], 4, shown)
         && site.cut_writes == 1
         && has_blocks(rt, alloc, &mut site.inner, blocks)
-        && leads_on(rt, alloc, &mut site.inner, feed)
+        && leads_on(rt, alloc, &mut site.inner, feed, 3)
 }
 
 #[test]

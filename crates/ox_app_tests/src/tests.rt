@@ -25,7 +25,7 @@ const TWICE: &[u8] = b"ok 0 000000000019d6689c085ae165831e934ff763ae46a2a6c172b3
     000000000019d6689c085ae165831e934ff763ae46a2a6c172b3f1b60a8ce26f\n";
 
 pub const AFTER_BAD_LINES: &[u8] = b"refused 1\nrefused 1\n\
-    ok 0 000000000019d6689c085ae165831e934ff763ae46a2a6c172b3f1b60a8ce26f\nrefused 11\n";
+    ok 0 000000000019d6689c085ae165831e934ff763ae46a2a6c172b3f1b60a8ce26f\nok empty\n";
 
 // The header's root, and that of the changed transaction, by a script of another language.
 const OTHER_ROOT: &[u8] = b"refused 6 \
@@ -57,25 +57,36 @@ const THIRD: &str = "\
 // Their hashes are by a script of another language.
 const FIRST_OK: &[u8] = b"ok 0 9df1369ffe84c7f9f18795eda8438c9452ca65ebb35668f5a83ab42b94430908\n";
 
+const FIRST_THEN_EMPTY: &[u8] =
+    b"ok 0 9df1369ffe84c7f9f18795eda8438c9452ca65ebb35668f5a83ab42b94430908\nok empty\n";
+
 pub const THREE_OK: &[u8] =
     b"ok 0 9df1369ffe84c7f9f18795eda8438c9452ca65ebb35668f5a83ab42b94430908\n\
     ok 1 0722e5045444f199ce474c0d06e47da62974b16d17bf01d351665bc1f12e3b4f\n\
     ok 2 7054e587fec28cf6b25c1f9597629789b86bae696e32960fd80b6521aa1c8a2a\n";
 
-// What `query /status` shows of the regtest store with the first so many of the three blocks.
+// The three blocks, of which the last is taken back.
+const THREE_THEN_TWO: &[u8] =
+    b"ok 0 9df1369ffe84c7f9f18795eda8438c9452ca65ebb35668f5a83ab42b94430908\n\
+    ok 1 0722e5045444f199ce474c0d06e47da62974b16d17bf01d351665bc1f12e3b4f\n\
+    ok 2 7054e587fec28cf6b25c1f9597629789b86bae696e32960fd80b6521aa1c8a2a\n\
+    ok 1 0722e5045444f199ce474c0d06e47da62974b16d17bf01d351665bc1f12e3b4f\n";
+
+// What `query /status` shows of the regtest store with the first so many of the three blocks, all
+// of which are kept.
 fn status_body(blocks: u64) -> &'static str {
     match blocks {
         0 => r#"{"blocks":0,"depth":100,"kept":0,"profile":"regtest","tip":null}"#,
         1 => concat!(
-            r#"{"blocks":1,"depth":100,"kept":0,"profile":"regtest","tip":"#,
+            r#"{"blocks":1,"depth":100,"kept":1,"profile":"regtest","tip":"#,
             r#""9df1369ffe84c7f9f18795eda8438c9452ca65ebb35668f5a83ab42b94430908"}"#
         ),
         2 => concat!(
-            r#"{"blocks":2,"depth":100,"kept":0,"profile":"regtest","tip":"#,
+            r#"{"blocks":2,"depth":100,"kept":2,"profile":"regtest","tip":"#,
             r#""0722e5045444f199ce474c0d06e47da62974b16d17bf01d351665bc1f12e3b4f"}"#
         ),
         _ => concat!(
-            r#"{"blocks":3,"depth":100,"kept":0,"profile":"regtest","tip":"#,
+            r#"{"blocks":3,"depth":100,"kept":3,"profile":"regtest","tip":"#,
             r#""7054e587fec28cf6b25c1f9597629789b86bae696e32960fd80b6521aa1c8a2a"}"#
         ),
     }
@@ -187,6 +198,7 @@ fn each_line_is_answered_by_one(rt: HostRuntime) {
     assert!(rt; folds(&rt, alloc, b"regtest", twice.as_slice(), TWICE));
     let bad = join_lines(&rt, alloc, &[b"\nconnect\n", line, b"disconnect"]);
     assert!(rt; folds(&rt, alloc, b"regtest", bad.as_slice(), AFTER_BAD_LINES));
+    assert!(rt; folds(&rt, alloc, b"regtest", b"disconnect", b"refused 11\n"));
 }
 
 // Byte 205 is the lowest of the output's value; bytes 80 and 85 count the transactions and the
@@ -441,6 +453,13 @@ pub(crate) fn three_lines(rt: &impl Abort, alloc: Global) -> Bytes {
     feed
 }
 
+/// Those lines, and one that takes the last block back.
+fn three_then_back(rt: &impl Abort, alloc: Global) -> Bytes {
+    let mut feed = three_lines(rt, alloc);
+    feed.append(b"disconnect\n").expect(rt, "memory");
+    feed
+}
+
 /// Whether a query of the status shows so many of the three blocks.
 pub(crate) fn has_blocks(rt: &impl Abort, alloc: Global, site: &mut MemSite, blocks: u64) -> bool {
     let body = status_body(blocks).as_bytes();
@@ -506,6 +525,41 @@ fn a_query_tells_of_a_block_that_was_applied(rt: HostRuntime) {
     assert!(rt; shows(&rt, alloc, &mut site, b"/blockhash/0", block.as_bytes()));
 }
 
+// Whether these lines of commands, applied to a site's store, have these answers.
+fn answers(rt: &impl Abort, alloc: Global, site: &mut MemSite, feed: &[u8], wanted: &[u8]) -> bool {
+    site.input(feed).expect(rt, "memory");
+    ends(rt, alloc, site, &[b"apply"], 0, wanted)
+}
+
+// A regtest store of this depth that has heard the three blocks and a disconnect.
+fn two_of_three(rt: &impl Abort, alloc: Global, depth: &[u8]) -> MemSite {
+    let mut site = MemSite::new(alloc).expect(rt, "memory");
+    assert!(rt;
+        ends(
+            rt,
+            alloc,
+            &mut site,
+            &[b"init", b"regtest", depth],
+            0,
+            b"ok empty\n"
+        )
+    );
+    let feed = three_then_back(rt, alloc);
+    assert!(rt; answers(rt, alloc, &mut site, feed.as_slice(), THREE_THEN_TWO));
+    site
+}
+
+// Each run opens the store again.
+#[test]
+fn as_many_blocks_are_taken_back_as_are_kept(rt: HostRuntime) {
+    let alloc = rt.alloc();
+    let mut site = two_of_three(&rt, alloc, b"1");
+    assert!(rt; answers(&rt, alloc, &mut site, b"disconnect\n", b"refused 11\n"));
+    let mut site = two_of_three(&rt, alloc, b"2");
+    assert!(rt; answers(&rt, alloc, &mut site, b"disconnect\n", FIRST_OK));
+    assert!(rt; answers(&rt, alloc, &mut site, b"disconnect\n", b"refused 11\n"));
+}
+
 // ---- crashes
 
 // How many lines a site has shown.
@@ -514,23 +568,35 @@ fn lines_shown(rt: &impl Abort, site: &MemSite) -> u64 {
     shown.as_slice().iter().filter(|b| **b == b'\n').count() as u64
 }
 
-/// Whether the same feed leads on to all three blocks.
-pub(crate) fn leads_on(rt: &impl Abort, alloc: Global, site: &mut MemSite, feed: &[u8]) -> bool {
+/// Whether the same feed leads on to so many of the three blocks.
+pub(crate) fn leads_on(
+    rt: &impl Abort,
+    alloc: Global,
+    site: &mut MemSite,
+    feed: &[u8],
+    blocks: u64,
+) -> bool {
     site.input(feed).expect(rt, "memory");
-    code_of(rt, alloc, site, &[b"apply"]) == 0 && has_blocks(rt, alloc, site, 3)
+    code_of(rt, alloc, site, &[b"apply"]) == 0 && has_blocks(rt, alloc, site, blocks)
 }
 
-// Whether what this crash leaves has as many blocks as were answered, or one more.
+// How many blocks there are after so many lines: three connect one each, and one takes one back.
+fn blocks_after(lines: u64) -> u64 {
+    if lines < 4 { lines } else { 2 }
+}
+
+// Whether what this crash leaves has the blocks of the lines that were answered, or of one more.
 fn keeps_answered(rt: &impl Abort, alloc: Global, site: &mut MemSite) -> bool {
     let lines = lines_shown(rt, site);
-    has_blocks(rt, alloc, site, lines) || has_blocks(rt, alloc, site, lines.saturating_add(1))
+    has_blocks(rt, alloc, site, blocks_after(lines))
+        || has_blocks(rt, alloc, site, blocks_after(lines.saturating_add(1)))
 }
 
 // Whether this crash keeps what was answered, and the feed leads on from it.
 fn survives(rt: &impl Abort, alloc: Global, site: &MemSite, feed: &[u8], choice: &Choice) -> bool {
     assert!(rt; choice.moment <= site.now());
     let mut left = site.crash(choice).expect(rt, "memory");
-    keeps_answered(rt, alloc, &mut left) && leads_on(rt, alloc, &mut left, feed)
+    keeps_answered(rt, alloc, &mut left) && leads_on(rt, alloc, &mut left, feed, 2)
 }
 
 // The same of crashes at this moment, which change bytes to 00, 01 and 255 and cut the files to
@@ -547,9 +613,9 @@ fn survive_at(rt: &impl Abort, alloc: Global, site: &MemSite, feed: &[u8], momen
 #[test]
 fn a_stop_at_any_moment_keeps_what_was_answered(rt: HostRuntime) {
     let alloc = rt.alloc();
-    let feed = three_lines(&rt, alloc);
+    let feed = three_then_back(&rt, alloc);
     let mut site = store_hearing(&rt, alloc, feed.as_slice());
-    assert!(rt; ends(&rt, alloc, &mut site, &[b"apply"], 0, THREE_OK));
+    assert!(rt; ends(&rt, alloc, &mut site, &[b"apply"], 0, THREE_THEN_TWO));
     for moment in 0..=site.now() {
         survive_at(&rt, alloc, &site, feed.as_slice(), moment);
     }
@@ -557,31 +623,37 @@ fn a_stop_at_any_moment_keeps_what_was_answered(rt: HostRuntime) {
 
 // ---- faults of a store
 
-// The exit status of an `apply` of one block at which the call of this number fails. Calls 0 to 7
-// open the store, 8 hears the line, 9 to 12 write the record and its gate and sync each, 13 shows
-// the answer, and 14 hears the end.
+// The exit status of an `apply` of one block and a disconnect at which the call of this number
+// fails. Calls 0 to 7 open the store and 8 hears both lines; 9 to 12 write the block's record and
+// its gate and sync each, and 13 shows the answer; 14 to 18 do the same of the disconnect; 19 hears
+// the end.
 fn code_by(call: u64) -> u8 {
     match call {
-        8 | 14 => 5,
-        13 => 6,
-        0..=12 => 4,
+        8 | 19 => 5,
+        13 | 18 => 6,
+        0..=17 => 4,
         _ => 0,
     }
 }
 
-// What is shown then: nothing before the gate is synced, and the answer of the block from call 14
-// on.
+// What is shown then: the answer of a line whose showing didn't fail.
 fn shown_by(call: u64) -> &'static [u8] {
-    if call < 14 { b"" } else { FIRST_OK }
+    match call {
+        0..=13 => b"",
+        14..=18 => FIRST_OK,
+        _ => FIRST_THEN_EMPTY,
+    }
 }
 
-// How many blocks a crash leaves then that changes bytes to this one: until the gate's write
-// nothing counts, and from its sync on the block does.
+// How many blocks a crash leaves then that changes bytes to this one: until a gate's write its
+// record doesn't count, and from its sync on it does.
 fn blocks_by(call: u64, fill: u8) -> u64 {
     match call {
         0..=10 => 0,
         11 | 12 => u64::from(fill != 0),
-        _ => 1,
+        13..=15 => 1,
+        16 | 17 => u64::from(fill == 0),
+        _ => 0,
     }
 }
 
@@ -591,10 +663,11 @@ fn leaves(rt: &impl Abort, alloc: Global, site: &MemSite, fill: u8, blocks: u64)
     has_blocks(rt, alloc, &mut left, blocks)
 }
 
-// One block is applied, and the call of this number fails.
+// One block is applied and taken back, and the call of this number fails.
 fn fail_at(rt: &impl Abort, alloc: Global, call: u64) {
-    let line = connect(rt, alloc, FIRST);
-    let mut site = store_hearing(rt, alloc, line.as_slice());
+    let first = connect(rt, alloc, FIRST);
+    let feed = join_lines(rt, alloc, &[first.as_slice(), b"disconnect\n"]);
+    let mut site = store_hearing(rt, alloc, feed.as_slice());
     site.fail(call).expect(rt, "memory");
     let shown = shown_by(call);
     assert!(rt;
@@ -612,7 +685,7 @@ fn fail_at(rt: &impl Abort, alloc: Global, call: u64) {
 #[test]
 fn a_fault_at_any_call_of_an_apply_ends_it(rt: HostRuntime) {
     let alloc = rt.alloc();
-    for call in 0..16u64 {
+    for call in 0..21u64 {
         fail_at(&rt, alloc, call);
     }
 }
