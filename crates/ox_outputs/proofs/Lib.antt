@@ -1,3 +1,4 @@
+pub mod DifferingRows
 pub mod OutputsLemmas
 pub mod PlaceLemmas
 pub mod RowLemmas

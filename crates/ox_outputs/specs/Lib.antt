@@ -4,3 +4,4 @@ pub mod Locator
 pub mod Slots
 pub mod Stretches
 pub mod Table
+pub mod Differing

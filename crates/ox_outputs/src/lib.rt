@@ -2,6 +2,7 @@
 #![tactic(auto)]
 
 mod changes;
+mod differing;
 mod held;
 mod locator;
 mod outputs;

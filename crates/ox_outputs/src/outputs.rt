@@ -10,6 +10,7 @@ ghost use Rattle.ox_outputs.specs.Locator.{live_at, kept_at};
 ghost use Rattle.ox_outputs.specs.Stretches.{AreApart};
 
 use crate::changes::{fill_twice, forget, go_back, settle, take_twice, tidy};
+use crate::differing::{differing, place_all, take_out};
 use crate::locator::Locator;
 use crate::slots::Slots;
 use ox_block::OutPoint;
@@ -91,7 +92,7 @@ impl Outputs {
         ensures { IfOk result (λ rows. (before : Rows) → marked_in self.now ≡ Some before
             → Differ before (rows_in self.now) (record { gone = rows.0; came = rows.1 })) }
     {
-        Err(Memory)
+        differing(self.alloc, &self.slots, &self.changed, &self.before)
     }
 
     /// Brings the table to the other end of a difference that ends here: the rows that came are
@@ -104,7 +105,8 @@ impl Outputs {
             ≡ other_end (rows_in self.old) (record { gone = gone.now; came = came.now })) }
         ensures mark { marked_in self.new ≡ marked_in self.old }
     {
-        Err(Memory)
+        take_out(self, came)?;
+        place_all(self.alloc, self, gone)
     }
 }
 

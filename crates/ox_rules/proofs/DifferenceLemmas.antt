@@ -146,10 +146,10 @@ module _ {K X : Type 0} {R : K → K → Ordering} (o : IsTotalOrder R) (exact :
 
 -- ---- the table of outputs
 
-abbrev same_row : OutRow → OutRow → Bool
+abbrev pub same_row : OutRow → OutRow → Bool
 same_row a b = bytes_eq a.script b.script && ((a.height == b.height) && bytes_eq a.sats b.sats)
 
-same_row-Decides : (a b : OutRow) → Decides (same_row a b) (a ≡ b)
+pub same_row-Decides : (a b : OutRow) → Decides (same_row a b) (a ≡ b)
 same_row-Decides a b =
     Decides-like (same_row a b)
     (λ same i. record { script = same.0 i; height = same.1.0 i; sats = same.1.1 i })

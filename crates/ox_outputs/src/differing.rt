@@ -1,0 +1,140 @@
+//! The rows in which a table differs from itself at its mark, and the way from one to the other.
+
+ghost use Rattle.std.specs.Prelude.{◌≡◌, ◌++◌, ◌↔◌, length, slice_index_or, None};
+ghost use Rattle.std.specs.Prelude.{IsTrue, IfOk, OnOk};
+ghost use Rattle.std.specs.Option.{option_copied};
+ghost use Rattle.std.specs.List.{position_from};
+ghost use Rattle.std.specs.Ordering.{eq_by_cmp};
+ghost use Rattle.std.specs.BTreeMap as trees;
+ghost use Rattle.ox_block.specs.declared.block.OutPoint.{OutPoint};
+ghost use Rattle.ox_rules.specs.Differences.{Differ, without_rows, with_rows};
+ghost use Rattle.ox_rules.specs.Outputs.{Outputs, outpoint_cmp};
+ghost use Rattle.ox_outputs.specs.Differing.{row_at, row_unless, FitIn};
+ghost use Rattle.ox_outputs.specs.Slots.{rows_of, undone};
+
+use crate::slots::Slots;
+use ox_block::OutPoint;
+use ox_range::Ranges;
+use ox_rules::{Memory, OutRow, OutTable, TableRows};
+use std::alloc::Global;
+use std::collections::BTreeMap;
+
+/// The rows that stood before some changes, of which the oldest comes first, and don't stand so
+/// now, and the other way round, each by rising outpoint. `Memory` where there is none for them.
+pub(crate) fn differing(
+    alloc: Global,
+    slots: &Slots,
+    changed: &[OutPoint],
+    before: &[Option<OutRow>],
+) -> Result<(TableRows, TableRows), Memory>
+    requires { length before.now ≡ length changed.now }
+    ensures { IfOk result (λ rows.
+        Differ (undone before.now changed.now (rows_of slots.now)) (rows_of slots.now)
+        (record { gone = rows.0; came = rows.1 })) }
+{
+    let places = oldest(alloc, changed)?;
+    let mut gone = TableRows::new(alloc);
+    let mut came = TableRows::new(alloc);
+    for (at, place) in places.iter() {
+        let stood = row_before(before, *place);
+        let stands = slots.get(at);
+        push_unless(alloc, &mut gone, at, stood, stands)?;
+        push_unless(alloc, &mut came, at, stands, stood)?;
+    }
+    Ok((gone, came))
+}
+
+// What stood before the change at this place, if a row did.
+fn row_before(before: &[Option<OutRow>], place: usize) -> Option<&OutRow>
+    ensures { option_copied result ≡ slice_index_or before.now place None }
+{
+    match before.get(place) {
+        Some(row) => row.as_ref(),
+        None => None,
+    }
+}
+
+// The place of the oldest change at each outpoint.
+fn oldest(alloc: Global, changed: &[OutPoint]) -> Result<BTreeMap<OutPoint, usize>, Memory>
+    ensures places { IfOk result (λ places. (at : OutPoint) → trees.get outpoint_cmp places at
+        ≡ position_from (eq_by_cmp outpoint_cmp at) 0 changed.now) }
+    ensures ordered { IfOk result (trees.IsOrdered outpoint_cmp) }
+{
+    let mut places = BTreeMap::new(alloc);
+    let mut left = changed.len();
+    while left > 0 {
+        left -= 1;
+        let _newer = places.insert(changed[left], left)?;
+    }
+    Ok(places)
+}
+
+// Puts a row behind the others, where there is one and the other one isn't the same.
+fn push_unless(
+    alloc: Global,
+    rows: &mut TableRows,
+    at: &OutPoint,
+    row: Option<&OutRow>,
+    other: Option<&OutRow>,
+) -> Result<(), Memory>
+    ensures { OnOk result (rows.new ≡ rows.old
+        ++ row_at at.now (row_unless (option_copied row.entry) (option_copied other.entry))) }
+{
+    match (row, other) {
+        (None, _) => Ok(()),
+        (Some(row), Some(other)) if is_same_row(row, other) => Ok(()),
+        (Some(row), _) => rows.push((*at, row.copy(alloc)?)),
+    }
+}
+
+// Whether two rows are the same.
+fn is_same_row(row: &OutRow, other: &OutRow) -> bool
+    ensures { IsTrue result ↔ (row.now ≡ other.now) }
+{
+    row.height == other.height
+        && row.script.as_slice() == other.script.as_slice()
+        && are_same(&row.sats, &other.sats)
+}
+
+// Whether two lists of satoshis are the same.
+fn are_same(sats: &Ranges, others: &Ranges) -> bool
+    ensures { IsTrue result ↔ (sats.now ≡ others.now) }
+{
+    sats.runs() == others.runs()
+}
+
+/// Takes the rows at the outpoints of these out of a table. After `Memory` some of them may be out.
+pub(crate) fn take_out<O: OutTable>(table: &mut O, rows: &TableRows) -> Result<(), Memory>
+    ensures ok { OnOk result
+        (O.contents table.new ≡ without_rows (O.contents table.old) rows.now) }
+    ensures mark { O.marked table.new ≡ O.marked table.old }
+{
+    let list = rows.as_slice();
+    let mut left = list.len();
+    while left > 0 {
+        left -= 1;
+        let _taken = table.take(&list[left].0)?;
+    }
+    Ok(())
+}
+
+/// Places these rows in a table, where together with its own they hold no satoshi twice. After
+/// `Memory` some of them may be placed.
+pub(crate) fn place_all<O: OutTable>(
+    alloc: Global,
+    table: &mut O,
+    rows: &TableRows,
+) -> Result<(), Memory>
+    requires { (before : Outputs) × FitIn before (O.contents table.old) rows.now }
+    ensures ok { OnOk result (O.contents table.new ≡ with_rows (O.contents table.old) rows.now) }
+    ensures mark { O.marked table.new ≡ O.marked table.old }
+{
+    let list = rows.as_slice();
+    let mut left = list.len();
+    while left > 0 {
+        left -= 1;
+        let (at, row) = &list[left];
+        let _displaced = table.place(at, row.copy(alloc)?)?;
+    }
+    Ok(())
+}
