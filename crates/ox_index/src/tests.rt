@@ -1,6 +1,8 @@
 //! Chains of small blocks on the profiles, and what they leave.
 
-use crate::{ConnectFault, Live};
+ghost use Rattle.std.specs.Prelude.{◌≤◌};
+
+use crate::{Chain, ConnectFault, Live};
 use ox_block::{
     Block, Header, Inputs, OutPoint, Outs, Tx, TxIn, TxOut, Txid, Txs, Witness, hash, root,
     txid_of, write_block,
@@ -319,4 +321,70 @@ fn a_root_of_other_transactions_is_refused(rt: HostRuntime) {
     let have = block.header.root;
     let refusal = Refusal::BadRoot { have, want };
     assert!(rt; is_refused(&rt, alloc, &mut fresh(alloc), &block, refusal));
+}
+
+/// A chain of no block of a regression-test chain, of whose blocks so many are kept.
+fn fresh_chain(alloc: Global, depth: u16) -> Chain
+    requires { (1 ≤ depth) × (depth ≤ 1000) }
+{
+    Chain::new(alloc, &profile_of(ProfileName::Regtest), depth)
+}
+
+/// Connects a block of a coinbase alone to a chain; the new tip, and its output.
+fn mine_on(
+    rt: &impl Abort,
+    alloc: Global,
+    chain: &mut Chain,
+    tip: [u8; 32],
+    mark: u8,
+) -> ([u8; 32], OutPoint) {
+    let coinbase = coinbase_of(rt, alloc, mark, SUBSIDY);
+    let at = OutPoint {
+        txid: txid_of(&coinbase),
+        index: 0,
+    };
+    let mut txs = Vec::new(alloc);
+    add(rt, &mut txs, coinbase);
+    let block = block_on(rt, alloc, tip, txs);
+    let bytes = write_block(alloc, &block).expect(rt, "memory");
+    assert!(rt; chain.connect(bytes.as_slice()).is_ok());
+    (hash(&block.header), at)
+}
+
+/// Whether so many blocks of a chain stand, and so many are kept.
+fn has_kept(chain: &Chain, blocks: u32, kept: u16) -> bool {
+    chain.live().blocks() == blocks
+        && chain.about().kept == kept
+        && chain.changes().len() == kept as usize
+}
+
+/// Whether a disconnect is refused, since no block is kept.
+fn is_at_its_depth(chain: &mut Chain) -> bool {
+    matches!(chain.disconnect(), Err(fault) if fault == ConnectFault::Refused(Refusal::Depth))
+}
+
+#[test]
+fn a_disconnect_brings_displaced_satoshis_back(rt: HostRuntime) {
+    let alloc = rt.alloc();
+    let mut chain = fresh_chain(alloc, 100);
+    let (tip, at) = mine_on(&rt, alloc, &mut chain, [0; 32], 7);
+    mine_on(&rt, alloc, &mut chain, tip, 7);
+    assert!(rt; chain.live().lost() == SUBSIDY && is_in(chain.live(), 5_000_000_000, at, 0));
+    assert!(rt; chain.disconnect().is_ok());
+    assert!(rt; chain.live().lost() == 0 && is_in(chain.live(), 3, at, 3));
+    assert!(rt; chain.live().locate(5_000_000_000).is_none() && has_kept(&chain, 1, 1));
+    mine_on(&rt, alloc, &mut chain, tip, 7);
+    assert!(rt; is_first_lost(chain.live(), 0) && has_kept(&chain, 2, 2));
+}
+
+#[test]
+fn no_more_blocks_are_kept_than_the_depth(rt: HostRuntime) {
+    let alloc = rt.alloc();
+    let mut chain = fresh_chain(alloc, 1);
+    assert!(rt; is_at_its_depth(&mut chain));
+    let (tip, at) = mine_on(&rt, alloc, &mut chain, [0; 32], 0);
+    mine_on(&rt, alloc, &mut chain, tip, 1);
+    assert!(rt; has_kept(&chain, 2, 1) && chain.disconnect().is_ok());
+    assert!(rt; is_at_its_depth(&mut chain) && has_kept(&chain, 1, 0));
+    assert!(rt; is_in(chain.live(), 7, at, 7));
 }
