@@ -11,7 +11,8 @@ use Rattle.ox_rules.specs.Transfer.{txid_of}
 use Rattle.ox_rules.specs.declared.moved.MovedTx.{MovedTx}
 use Rattle.ox_inscribe.specs.Moves.{IsMoveOf, AreMovesOf}
 use Rattle.ox_inscribe.specs.Origins.{Saying, sayings_of, bare, bare_row, bare_rows_from, bare_rows_of}
-use Rattle.ox_inscribe.specs.Reveal.{Revealing, Sighting, Revealed, row_of, revealed_from, sightings_from, sources_of, revealed_by, rows_of, revealed_by_all, in_order, revealing_of, revealing_all, reveal_of}
+use Rattle.ox_inscribe.specs.Reveal.{Revealing, Revealed, row_of, revealed_from, sightings_from, sources_of, revealed_by, rows_of, revealed_by_all, in_order, revealing_of, revealing_all, reveal_of}
+use Rattle.ox_inscribe.specs.declared.sightings.Sighting.{Sighting}
 use Rattle.ox_inscribe.specs.declared.row.InsRow.{InsRow}
 use Rattle.ox_inscribe.proofs.SightingLaws.{saying_of, sightings_are}
 

@@ -10,3 +10,7 @@ pub mod MapLaws
 pub mod ShelfLaws
 pub mod KeyLaws
 pub mod NextKeyLaws
+pub mod SeenLaws
+pub mod StandLaws
+pub mod OrderLaws
+pub mod TurnLaws

@@ -11,7 +11,8 @@ use Rattle.ox_rules.specs.Transfer.{values_of}
 use Rattle.ox_rules.specs.declared.moved.MovedTx.{MovedTx}
 use Rattle.ox_inscribe.specs.Moves.{IsMoveOf, AreMovesOf}
 use Rattle.ox_inscribe.specs.Origins.{Saying, sayings_of, Origin, ComesFrom, AllRevealed, is_unbound_at, IsPlaced, rows_before}
-use Rattle.ox_inscribe.specs.Reveal.{Revealing, Revealed, Sighting, sightings_from, sources_of, place_from, place_of, is_unbound, sat_of, row_of, revealed_by_all, revealing_of, revealing_all}
+use Rattle.ox_inscribe.specs.Reveal.{Revealing, Revealed, sightings_from, sources_of, place_from, place_of, is_unbound, sat_of, row_of, revealed_by_all, revealing_of, revealing_all}
+use Rattle.ox_inscribe.specs.declared.sightings.Sighting.{Sighting}
 use Rattle.ox_inscribe.specs.declared.row.InsRow.{InsRow}
 use Rattle.ox_inscribe.proofs.SightingLaws.{saying_of, sightings_are, IsIn, all_in}
 use Rattle.ox_inscribe.proofs.RowLaws.{IsFrom, IsOf, of_all, all_in_order, revealing_at}

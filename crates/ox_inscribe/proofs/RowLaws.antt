@@ -7,7 +7,8 @@ use Rattle.std.proofs.lemmas.List.Elements.{All-nil, All-cons, All-append, All-w
 use Rattle.ox_block.specs.declared.block.Tx.{Tx}
 use Rattle.ox_rules.specs.declared.moved.MovedTx.{MovedTx}
 use Rattle.ox_inscribe.specs.Moves.{IsMoveOf}
-use Rattle.ox_inscribe.specs.Reveal.{Revealing, Sighting, Revealed, row_of, revealed_from, sightings_from, goes_to_fees, revealed_by, rows_of, revealed_by_all, in_order, revealing_of, revealing_all}
+use Rattle.ox_inscribe.specs.Reveal.{Revealing, Revealed, row_of, revealed_from, sightings_from, goes_to_fees, revealed_by, rows_of, revealed_by_all, in_order, revealing_of, revealing_all}
+use Rattle.ox_inscribe.specs.declared.sightings.Sighting.{Sighting}
 use Rattle.ox_inscribe.specs.declared.row.InsRow.{InsRow}
 
 -- the row of an envelope among these, the first of them having this index: behind so many of them, and behind these rows

@@ -7,7 +7,8 @@ use Rattle.ox_block.specs.declared.block.TxIn.{TxIn}
 use Rattle.ox_envelope.specs.declared.inscribed.Inscribed.{Inscribed}
 use Rattle.ox_rules.specs.Outputs.{sats_of}
 use Rattle.ox_rules.specs.declared.rows.OutRow.{OutRow}
-use Rattle.ox_inscribe.specs.Reveal.{Sighting, said_by, sightings_in, sightings_from, sources_of}
+use Rattle.ox_inscribe.specs.Reveal.{said_by, sightings_in, sightings_from, sources_of}
+use Rattle.ox_inscribe.specs.declared.sightings.Sighting.{Sighting}
 use Rattle.ox_inscribe.specs.Origins.{Saying, sayings_from}
 
 abbrev pub saying_of : Sighting → Saying

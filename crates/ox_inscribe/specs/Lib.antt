@@ -1,6 +1,7 @@
 pub mod Inscriptions
 pub mod Numbers
 pub mod Reveal
+pub mod Scenes
 pub mod Moves
 pub mod Origins
 pub mod Shelved

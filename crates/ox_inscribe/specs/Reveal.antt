@@ -19,6 +19,7 @@ use Rattle.ox_rules.specs.declared.moved.MovedTx.{MovedTx}
 use Rattle.ox_rules.specs.declared.rows.OutRow.{OutRow}
 use Rattle.ox_inscribe.specs.Inscriptions.{find, is_on, is_same_id}
 use Rattle.ox_inscribe.specs.declared.row.InsRow.{InsRow}
+use Rattle.ox_inscribe.specs.declared.sightings.Sighting.{Sighting}
 
 -- what an input brings: what the envelopes of its tapscript say, and how many satoshis it spends
 pub record Source : Type 0 where
@@ -34,16 +35,6 @@ pub record Revealing : Type 0 where
   -- how many of them its outputs take; the rest goes to the fees
   pub taken : ℕ
   pub sources : List Source
-
--- an envelope, and where it stands
-pub record Sighting : Type 0 where
-  pub says : Inscribed
-  -- the place of its input, and its own place among that input's envelopes
-  pub input : ℕ
-  pub place : ℕ
-  -- how many satoshis the inputs before bring, and how many its input
-  pub before : ℕ
-  pub sats : ℕ
 
 -- the envelopes of an input, the first of them at this place
 unfoldable pub sightings_in : ℕ → ℕ → ℕ → ℕ → List Inscribed → List Sighting

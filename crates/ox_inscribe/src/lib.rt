@@ -12,7 +12,11 @@ pub use shelf::Shelf;
 mod keys;
 mod laws;
 mod numbers;
+mod parents;
+mod reveal;
 mod row;
+mod scene;
 mod shelf;
+mod sightings;
 #[cfg(test)]
 mod tests;
