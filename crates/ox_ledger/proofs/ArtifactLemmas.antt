@@ -1,8 +1,6 @@
 -- What a transaction's runestone says, by the runes as they are.
-use Rattle.std.proofs.Common.{◌≡◌, ◌≢◌, ◌∙◌, ℕ, zero, suc, ◌+◌, ◌<◌, ◌≤◌, Bool, true, false, true≢false, cond, List, [], ◌∷◌, length, drop, refl, sym, ap, Option, Some, None, arith}
+use Rattle.std.proofs.Common.{◌≡◌, ◌≢◌, ◌∙◌, ℕ, zero, suc, ◌+◌, ◌<◌, ◌≤◌, Bool, true, false, List, [], ◌∷◌, length, drop, refl, sym, ap, Option, Some, None}
 use Rattle.std.specs.Prelude.{◌==◌, ◌||◌, ◌↔◌, is_some, slice_get, slice_index_or, if◌then◌else◌}
-use Rattle.std.specs.Bool.{Decides}
-use Rattle.std.specs.List.{AllByRecursion, list_any}
 use Rattle.std.specs.Option.{option_map}
 use Rattle.std.proofs.lemmas.Bool.Decides.{Decides-eqb}
 use Rattle.std.proofs.lemmas.List.{at_drop_all, at_drop_more}
@@ -16,7 +14,7 @@ use Rattle.ox_ledger.specs.Runes.{by_id, is_taken, stone_in}
 use Rattle.ox_ledger.specs.Shown.{HasAt}
 use Rattle.ox_ledger.proofs.BurnLemmas.{at_place}
 use Rattle.ox_ledger.proofs.Fresh.{some_mapped}
-use Rattle.ox_ledger.proofs.Settled.{Stands, stands}
+use Rattle.ox_ledger.proofs.Settled.{stands}
 use Rattle.ox_ledger.proofs.StepLemmas.{not_by_id}
 use Rattle.ox_ledger.proofs.TableLemmas.{value_in}
 

@@ -1,7 +1,7 @@
 -- The tables of runes after the last rune is taken away.
-use Rattle.std.proofs.Common.{◌≡◌, ◌≢◌, ◌∙◌, ℕ, zero, suc, ◌+◌, ◌<◌, Bool, cond, List, [], ◌∷◌, length, take, refl, sym, ap, subst, Option, Some, None, arith, Result}
-use Rattle.std.specs.Prelude.{OnErr, OnOk, slice_get}
-use Rattle.std.specs.Option.{IfSome, option_map}
+use Rattle.std.proofs.Common.{◌≡◌, ◌∙◌, ℕ, zero, suc, ◌<◌, cond, List, [], ◌∷◌, take, sym, ap, subst, Option, Some, None, arith}
+use Rattle.std.specs.Prelude.{slice_get}
+use Rattle.std.specs.Option.{option_map}
 use Rattle.std.specs.Ordering.{is_eq, nat_cmp}
 use Rattle.ox_marked.specs.Marked.{content_in, mark_in}
 use Rattle.ox_runestone.specs.declared.stone.RuneId.{RuneId}
@@ -10,7 +10,7 @@ use Rattle.ox_etching.specs.declared.row.RuneRow.{RuneRow}
 use Rattle.ox_ledger.specs.Indexed.{AreAllIndexed}
 use Rattle.ox_ledger.specs.Shown.{Finds, HasAt, IsAbsent}
 use Rattle.ox_ledger.proofs.Fresh.{some_mapped}
-use Rattle.ox_ledger.proofs.TableLemmas.{Ids, Names, Rows, either, indexed_ids, indexed_names, value_in}
+use Rattle.ox_ledger.proofs.TableLemmas.{Ids, Names, Rows, indexed_ids, indexed_names, value_in}
 
 taken : (runes : List RuneRow) (n i : ℕ) (row : RuneRow) → slice_get (take n runes) i ≡ Some row → (i < n) × (slice_get runes i ≡ Some row)
 taken runes zero i row is = let none : None ≡ Some row = is in absurd (cc none)

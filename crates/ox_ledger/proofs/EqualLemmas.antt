@@ -1,5 +1,5 @@
 -- Balances that are compared.
-use Rattle.std.proofs.Common.{◌≡◌, ◌∙◌, Bool, true, List, refl, sym, ap, Option, Some, None}
+use Rattle.std.proofs.Common.{◌≡◌, ◌∙◌, Bool, List, sym, ap, Option, Some}
 use Rattle.std.specs.Prelude.{◌==◌, ◌&&◌, ◌↔◌, IsTrue}
 use Rattle.std.specs.Bool.{Decides}
 use Rattle.std.specs.Cmp.Lexicographic.{pointwise}

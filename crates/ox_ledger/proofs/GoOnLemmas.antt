@@ -2,8 +2,6 @@
 use Rattle.std.proofs.Common.{◌≡◌, ◌∙◌, ℕ, ◌+◌, Bool, true, false, List, [], ◌∷◌, ◌++◌, map, refl, ap, Option, Some, None}
 use Rattle.std.specs.Prelude.{◌==◌, if◌then◌else◌}
 use Rattle.ox_block.specs.declared.block.Tx.{Tx}
-use Rattle.ox_runestone.specs.declared.stone.Artifact.{Artifact}
-use Rattle.ox_runestone.specs.declared.stone.RuneId.{RuneId}
 use Rattle.ox_sat.specs.declared.profiles.Profile.{Profile}
 use Rattle.ox_rules.specs.Transfer.{as_list}
 use Rattle.ox_rules.specs.declared.moved.MovedTx.{MovedTx}
@@ -14,7 +12,7 @@ use Rattle.ox_etching.specs.declared.row.RuneRow.{RuneRow}
 use Rattle.ox_ledger.specs.Block.{runes_after, turn_all, turn_at}
 use Rattle.ox_ledger.specs.GoOn.{RunesGoOn}
 use Rattle.ox_ledger.specs.Part.{Continues, counts_of, with_counts}
-use Rattle.ox_ledger.specs.Runes.{Placement, Runes, artifact_at, balances_at, burn, burn_of, dealt_by, end, etching_by, gathered_by, mint_by, mint_more, place, place_all, placements, settled_by, turn, with_mint}
+use Rattle.ox_ledger.specs.Runes.{Placement, Runes, artifact_at, balances_at, burn, burn_of, dealt_by, end, etching_by, gathered_by, mint_by, mint_more, place, place_all, placements, turn, with_mint}
 
 pub goes_on_itself : (runes : List RuneRow) → Continues runes runes
 goes_on_itself [] = tt

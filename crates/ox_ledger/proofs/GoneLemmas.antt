@@ -1,9 +1,8 @@
 -- What differs of the balances of outputs since a mark.
 use Rattle.std.proofs.Common.{◌≡◌, ◌≢◌, ◌∙◌, Bool, true, false, true≢false, cond, not, ℕ, ◌+◌, ◌<◌, ◌≤◌, List, [], ◌∷◌, ◌++◌, append_assoc, append-nil, drop, length, refl, sym, ap, subst, Option, Some, None, Ordering}
-use Rattle.std.specs.Prelude.{IsSome, IsTrue, ◌&&◌, ◌||◌, ◌↔◌, if◌then◌else◌}
+use Rattle.std.specs.Prelude.{IsSome, ◌&&◌, ◌||◌, ◌↔◌, if◌then◌else◌}
 use Rattle.std.specs.Prelude.{slice_index_or}
 use Rattle.std.proofs.lemmas.List.{at_drop_all, at_drop_more}
-use Rattle.std.specs.Bool.{Decides}
 use Rattle.std.specs.List.{AllByRecursion, list_any}
 use Rattle.std.specs.List.Sorted.{IsStrictlySortedBy}
 use Rattle.std.specs.Option.{IfSome, option_map}
@@ -15,7 +14,7 @@ use Rattle.std.specs.FinMap.Entries.{below_all}
 use Rattle.std.specs.declared.cmp.Ordering.TheVariants.{Less, Equal, Greater}
 use Rattle.ox_block.specs.declared.block.OutPoint.{OutPoint}
 use Rattle.ox_marked.specs.Marked.{content_in, is_changed, mark_in}
-use Rattle.ox_rules.specs.Differences.{AreGone, Difference, Differ}
+use Rattle.ox_rules.specs.Differences.{AreGone, Differ}
 use Rattle.ox_rules.specs.Outputs.{outpoint_cmp}
 use Rattle.ox_rules.specs.Transfer.{as_list}
 use Rattle.ox_rules.proofs.DifferenceLemmas.{differs, has_gone, or_else}

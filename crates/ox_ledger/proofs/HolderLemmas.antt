@@ -7,23 +7,22 @@ use Rattle.std.specs.Map.{lookup}
 use Rattle.std.specs.BTreeMap.{is_at}
 use Rattle.std.specs.declared.cmp.Ordering.TheVariants.{Less, Equal, Greater}
 use Rattle.std.specs.Cmp.{eq_by_cmp_equiv}
-use Rattle.std.specs.FinMap.{find, from_entries, get, get-from_entries, get-insert, get-remove, insert, remove, same_map}
+use Rattle.std.specs.FinMap.{from_entries, get, get-from_entries, get-insert, get-remove, remove, same_map}
 use Rattle.ox_block.specs.declared.block.OutPoint.{OutPoint}
 use Rattle.ox_marked.specs.Marked.{Layers, content_in, mark_in}
 use Rattle.ox_rules.specs.Outputs.{outpoint_cmp}
 use Rattle.ox_rules.proofs.Orders.{outpoints_total, outpoints_exact}
 use Rattle.std.proofs.lemmas.Bool.Decides.{nat_tests}
 use Rattle.std.specs.Cmp.{tied_itself}
-use Rattle.std.specs.Cmp.Lexicographic.{nat_list_cmp_total, slice_cmp}
+use Rattle.std.specs.Cmp.Lexicographic.{nat_list_cmp_total}
 use Rattle.std.specs.Ordering.{is_gt, nat_cmp, ordering_then}
 use Rattle.std.specs.BTreeMap.Range.{IsLeBy}
-use Rattle.std.specs.List.Sorted.{IsStrictlySortedBy}
 use Rattle.std.specs.Prelude.{slice_index_or, drop, ◌^◌, ◌<◌}
 use Rattle.std.proofs.lemmas.List.{at_drop_more, at_drop_all}
 use Rattle.ox_block.specs.declared.block.TxIn.{TxIn}
 use Rattle.ox_block.specs.declared.block.Txid.{Txid}
 use Rattle.ox_runestone.specs.declared.stone.RuneId.{RuneId}
-use Rattle.ox_allocation.specs.Balances.{Balance, amount_in, id_cmp, ids_of, with_more}
+use Rattle.ox_allocation.specs.Balances.{Balance, amount_in, with_more}
 use Rattle.ox_allocation.specs.Dealing.{with_all}
 use Rattle.ox_allocation.proofs.Amounts.{zero_from}
 use Rattle.ox_allocation.proofs.Rests.{IsBurning, burned_fits, burns_all, burns_on}

@@ -1,11 +1,11 @@
 -- What a ledger keeps.
-use Rattle.std.proofs.Common.{◌≡◌, ◌≢◌, ◌∙◌, ℕ, ◌+◌, ◌*◌, ◌^◌, ◌<◌, ◌≤◌, Bool, true, false, true≢false, List, [], ◌∷◌, ◌++◌, map, refl, sym, ap, subst, Option, Some, None, is_some, arith}
-use Rattle.std.specs.Prelude.{All, slice_get, unwrap_or, if◌then◌else◌}
+use Rattle.std.proofs.Common.{◌≡◌, ◌∙◌, ℕ, ◌+◌, ◌^◌, ◌<◌, Bool, true, false, List, [], ◌∷◌, ◌++◌, refl, sym, Option, Some, None}
+use Rattle.std.specs.Prelude.{slice_get, unwrap_or, if◌then◌else◌}
 use Rattle.std.specs.List.{AllByRecursion}
-use Rattle.std.specs.Option.{ForSome, IfSome}
+use Rattle.std.specs.Option.{ForSome}
 use Rattle.std.specs.FinMap.{empty, values}
-use Rattle.std.proofs.lemmas.List.Elements.{All-from_recursion, All-weaker, recursion_from_All}
-use Rattle.ox_allocation.specs.Balances.{AreBalances, amount_in}
+use Rattle.std.proofs.lemmas.List.Elements.{recursion_from_All}
+use Rattle.ox_allocation.specs.Balances.{AreBalances}
 use Rattle.ox_sat.specs.declared.profiles.Profile.{Profile}
 use Rattle.ox_etching.specs.declared.row.RuneRow.{RuneRow}
 use Rattle.ox_ledger.specs.Balanced.{AreKnown, Balanced, IsBounded, IsSettled, amount_held, made_of}

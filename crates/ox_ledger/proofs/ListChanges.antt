@@ -1,7 +1,6 @@
 -- Values of a list stay where nothing was put since a mark.
 use Rattle.std.proofs.Common.{◌≡◌, ◌≢◌, ◌∙◌, ℕ, ◌<◌, Bool, true, false, true≢false, List, [], ◌∷◌, length, refl, sym, ap, subst, Option, Some, None, arith}
 use Rattle.std.specs.Prelude.{◌==◌, ◌||◌, IfOk, Result, Ok, Err, slice_get}
-use Rattle.std.specs.Bool.{Decides}
 use Rattle.std.specs.List.{list_any}
 use Rattle.std.specs.Option.{IfSome, option_map}
 use Rattle.std.specs.Ordering.{is_eq, nat_cmp}

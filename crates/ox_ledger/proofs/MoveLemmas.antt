@@ -1,7 +1,6 @@
 -- How a part leads from one state to the other, step by step.
-use Rattle.std.proofs.Common.{◌≡◌, ◌≢◌, ◌∙◌, ℕ, zero, suc, ◌+◌, ◌-◌, ◌<◌, ◌≤◌, Bool, true, false, true≢false, cond, List, [], ◌∷◌, ◌++◌, length, take, drop, refl, sym, ap, subst, Option, Some, None, arith, append_assoc, length-append}
-use Rattle.std.specs.Prelude.{◌==◌, All, find, slice_get, slice_index_or, slice_set}
-use Rattle.std.specs.Bool.{Decides}
+use Rattle.std.proofs.Common.{◌≡◌, ◌≢◌, ◌∙◌, ℕ, zero, suc, ◌+◌, ◌<◌, Bool, true, false, cond, List, [], ◌∷◌, ◌++◌, length, drop, refl, sym, ap, subst, Option, Some, None, arith}
+use Rattle.std.specs.Prelude.{◌==◌, slice_get, slice_index_or, slice_set}
 use Rattle.std.specs.List.{AllByRecursion}
 use Rattle.std.specs.Option.{IfSome}
 use Rattle.std.proofs.lemmas.List.{at_drop_more, nil_from_length}
@@ -18,7 +17,7 @@ use Rattle.ox_ledger.specs.Balanced.{AreDistinct}
 use Rattle.ox_ledger.specs.Marks.{WithMark}
 use Rattle.ox_ledger.specs.Part.{CountChange, Counts, change_at, changes_from, counts_alike, row_at_end, rows_at_end, with_counts}
 use Rattle.ox_ledger.specs.Runes.{BalanceMap, Placement, with_balances}
-use Rattle.ox_ledger.specs.Shown.{HasAt, IsAbsent}
+use Rattle.ox_ledger.specs.Shown.{IsAbsent}
 use Rattle.ox_ledger.proofs.Fresh.{some_mapped}
 use Rattle.ox_ledger.proofs.ListLemmas.{length-slice_set}
 use Rattle.ox_ledger.proofs.PartLemmas.{change_of, skips}

@@ -1,7 +1,6 @@
 -- What a part says of the state that it begins or ends in.
-use Rattle.std.proofs.Common.{◌≡◌, ◌≢◌, ◌∙◌, ℕ, ◌+◌, ◌-◌, ◌<◌, ◌≤◌, Bool, true, false, true≢false, cond, T, List, [], ◌∷◌, ◌++◌, length, drop, take, refl, sym, ap, subst, Option, Some, None, arith, length-drop, Ordering}
-use Rattle.std.specs.Prelude.{All, IsTrue, ◌&&◌}
-use Rattle.std.specs.Bool.{Decides}
+use Rattle.std.proofs.Common.{◌≡◌, ◌≢◌, ◌∙◌, ℕ, ◌-◌, ◌<◌, ◌≤◌, Bool, true, false, true≢false, cond, List, [], ◌∷◌, ◌++◌, length, take, refl, sym, ap, subst, Some, arith, length-drop, Ordering}
+use Rattle.std.specs.Prelude.{All, ◌&&◌}
 use Rattle.std.specs.List.{AllByRecursion}
 use Rattle.std.specs.Ordering.{eq_by_cmp, is_eq, is_lt}
 use Rattle.std.specs.FinMap.{find, get, is_sorted}
@@ -17,11 +16,11 @@ use Rattle.ox_rules.proofs.Orders.{outpoints_total, outpoints_exact}
 use Rattle.ox_allocation.specs.Balances.{Balance}
 use Rattle.ox_etching.specs.declared.row.RuneRow.{RuneRow}
 use Rattle.ox_ledger.specs.Balanced.{AreDistinct, Balanced}
-use Rattle.ox_ledger.specs.Moves.{Begins, Ends, Leads, LeadsTo, Touches}
+use Rattle.ox_ledger.specs.Moves.{Begins, Ends, LeadsTo, Touches}
 use Rattle.ox_ledger.specs.Part.{CountChange, RunePart, counts_at, earlier_end, later_end, rows_at_end}
 use Rattle.ox_ledger.specs.Runes.{BalanceMap, Placement, Runes}
-use Rattle.ox_ledger.proofs.MoveLemmas.{AreWithin, changes_within, length-rows}
-use Rattle.ox_ledger.proofs.PartLemmas.{count_before, goes_on_longer, part_back, part_forth}
+use Rattle.ox_ledger.proofs.MoveLemmas.{AreWithin, changes_within}
+use Rattle.ox_ledger.proofs.PartLemmas.{count_before, part_back, part_forth}
 
 -- ---- no output has an empty list
 

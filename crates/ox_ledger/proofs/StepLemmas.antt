@@ -1,10 +1,10 @@
 -- In a balanced state each step of a transaction can be done: no sum overflows.
-use Rattle.std.proofs.Common.{◌≡◌, ◌≢◌, ◌∙◌, ℕ, zero, suc, ◌+◌, ◌*◌, ◌^◌, ◌<◌, ◌≤◌, Bool, true, false, true≢false, cond, List, [], ◌∷◌, ◌++◌, length, map, refl, sym, ap, subst, arith, Option, Some, None}
+use Rattle.std.proofs.Common.{◌≡◌, ◌≢◌, ◌∙◌, ℕ, zero, suc, ◌+◌, ◌*◌, ◌^◌, ◌<◌, ◌≤◌, Bool, true, false, true≢false, cond, List, [], ◌∷◌, ◌++◌, map, refl, sym, ap, subst, arith, Option, Some, None}
 use Rattle.std.specs.Prelude.{All, ◌==◌, option_and_then, unwrap_or, slice_get, slice_index_or, if◌then◌else◌}
 use Rattle.std.specs.List.{AllByRecursion}
-use Rattle.std.specs.Option.{ForSome, option_map}
+use Rattle.std.specs.Option.{option_map}
 use Rattle.std.specs.Ordering.{eq_by_cmp}
-use Rattle.std.specs.FinMap.{get, get-insert, get-remove, insert, remove}
+use Rattle.std.specs.FinMap.{get, get-insert, get-remove, remove}
 use Rattle.std.proofs.lemmas.List.Elements.{All-from_recursion, All-weaker, recursion_from_All}
 use Rattle.std.proofs.lemmas.Nat.{mul-le}
 use Rattle.ox_block.specs.declared.block.OutPoint.{OutPoint}
@@ -29,11 +29,11 @@ use Rattle.ox_allocation.proofs.Sorting.{lawful-balances_by}
 use Rattle.ox_etching.specs.Etched.{Spot, id_of}
 use Rattle.ox_etching.specs.Minted.{minted}
 use Rattle.ox_etching.specs.declared.row.RuneRow.{RuneRow}
-use Rattle.ox_ledger.specs.Balanced.{Balanced, IsBounded, IsSettled, amount_held, amount_per_mint, amount_there, cap_in, made_of}
-use Rattle.ox_ledger.specs.Runes.{BalanceMap, Brought, InHand, Placement, Runes, artifact_at, balances_at, brought_by, brought_of, burn, burn_of, by_id, dealt_by, etching_by, gathered_by, in_hand, mint_at, mint_by, mint_of, place, place_all, placements, pool_with, premine_of, settled_by, turn, with_balances}
-use Rattle.ox_ledger.specs.Shown.{HasAt, IsAbsent}
-use Rattle.ox_ledger.specs.Steps.{CanBurn, CanMint, CanPlace, CanPlaceAll, CanSettle, CanTakeUp, CanTurn, HasRoomFor, HoldAmounts}
-use Rattle.ox_ledger.specs.Turn.{IsFree, NoneHas, mints_in}
+use Rattle.ox_ledger.specs.Balanced.{Balanced, IsBounded, IsSettled, amount_per_mint, amount_there, cap_in, made_of}
+use Rattle.ox_ledger.specs.Runes.{BalanceMap, Brought, InHand, Placement, Runes, artifact_at, balances_at, brought_by, brought_of, burn, burn_of, by_id, dealt_by, etching_by, gathered_by, mint_at, mint_by, mint_of, place, place_all, placements, pool_with, premine_of, settled_by, turn, with_balances}
+use Rattle.ox_ledger.specs.Shown.{IsAbsent}
+use Rattle.ox_ledger.specs.Steps.{CanBurn, CanMint, CanPlaceAll, CanSettle, CanTakeUp, CanTurn}
+use Rattle.ox_ledger.specs.Turn.{IsFree, mints_in}
 use Rattle.ox_ledger.proofs.Bounded.{new_bounded}
 use Rattle.ox_ledger.proofs.Brought.{brought-of, was_there}
 use Rattle.ox_ledger.proofs.ByIds.{found_row}

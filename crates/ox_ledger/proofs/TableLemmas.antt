@@ -1,21 +1,21 @@
 -- Runes that are found by what they have.
-use Rattle.std.proofs.Common.{◌≡◌, ◌≢◌, ◌∙◌, ℕ, zero, suc, ◌+◌, ◌<◌, ◌≤◌, Bool, true, false, true≢false, cond, List, [], ◌∷◌, ◌++◌, length, map, refl, sym, ap, subst, Option, Some, None, arith, length-append, Ordering, append_assoc}
+use Rattle.std.proofs.Common.{◌≡◌, ◌≢◌, ◌∙◌, ℕ, zero, suc, ◌<◌, Bool, true, false, true≢false, cond, List, [], ◌∷◌, ◌++◌, length, map, refl, sym, ap, subst, Option, Some, None, arith, length-append, Ordering}
 use Rattle.std.specs.Prelude.{IsSome, slice_get, slice_set, OnOk, OnErr, Result, Ok, Err}
 use Rattle.std.specs.Option.{IfSome, IfNone, IsSomeAnd, option_map}
 use Rattle.std.specs.Ordering.{is_eq, nat_cmp}
 use Rattle.std.specs.declared.cmp.Ordering.TheVariants.{Less, Equal, Greater}
 use Rattle.std.specs.FinMap.{nat_cmp-IsAntisymmetric}
-use Rattle.std.proofs.lemmas.Option.{slice_get_within, slice_get_past}
+use Rattle.std.proofs.lemmas.Option.{slice_get_within}
 use Rattle.ox_marked.specs.Marked.{Layers, content_in, mark_in}
 use Rattle.ox_runestone.specs.declared.stone.RuneId.{RuneId}
 use Rattle.ox_allocation.specs.Balances.{id_cmp}
-use Rattle.ox_allocation.proofs.Ids.{same_id, same_itself}
+use Rattle.ox_allocation.proofs.Ids.{same_id}
 use Rattle.ox_etching.specs.declared.row.RuneRow.{RuneRow}
 use Rattle.ox_ledger.specs.Indexed.{AreAllIndexed, indexed_by}
 use Rattle.ox_ledger.specs.Marks.{WithMark}
 use Rattle.ox_ledger.specs.Shown.{AreIndexed, Finds, HasAt, IsAbsent, IsOnly}
 use Rattle.ox_ledger.proofs.Fresh.{some_mapped}
-use Rattle.ox_ledger.proofs.ListLemmas.{length-slice_set, same_by_places, set_elsewhere, set_here, tied}
+use Rattle.ox_ledger.proofs.ListLemmas.{set_elsewhere, set_here}
 
 -- a result is Ok or an error
 pub either : {T E : Type 0} {P X Y : Type 0} (r : Result T E) → OnOk r X → OnErr r Y → (X → P) → (Y → P) → P

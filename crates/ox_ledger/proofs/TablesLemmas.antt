@@ -24,7 +24,7 @@ use Rattle.ox_ledger.specs.Balanced.{amount_held}
 use Rattle.ox_ledger.specs.Runes.{BalanceMap, InHand, Placement, Runes, balances_at, burn, burn_of, dealt_by, done_by, mint_more, place, place_all, placements, with_balances}
 use Rattle.ox_ledger.specs.Shown.{IsAbsent, held_in, held_then}
 use Rattle.ox_ledger.specs.Steps.{CanPlace, CanPlaceAll}
-use Rattle.ox_ledger.specs.Tables.{nothing, runes_then}
+use Rattle.ox_ledger.specs.Tables.{runes_then}
 use Rattle.ox_ledger.proofs.Held.{amount_held-cons}
 use Rattle.ox_ledger.proofs.HolderLemmas.{Held, get-held_in, held_same, remove_none, then_is}
 use Rattle.ox_ledger.proofs.TableLemmas.{value_in}

@@ -1,9 +1,8 @@
 -- The steps of a transaction, joined.
-use Rattle.std.proofs.Common.{◌≡◌, ◌≢◌, ◌∙◌, ℕ, zero, suc, ◌+◌, ◌^◌, ◌<◌, Bool, true, false, List, [], ◌∷◌, ◌++◌, length, map, refl, sym, ap, subst, Option, Some, None, arith}
+use Rattle.std.proofs.Common.{◌≡◌, ◌≢◌, ◌∙◌, ℕ, suc, ◌+◌, ◌<◌, true, List, [], ◌∷◌, ◌++◌, length, map, refl, sym, ap, subst, Option, Some, None, arith}
 use Rattle.std.specs.Prelude.{All, ◌==◌, if◌then◌else◌}
 use Rattle.std.specs.Option.{ForSome, IfSome, option_map}
 use Rattle.std.specs.FinMap.{get}
-use Rattle.ox_block.specs.declared.block.OutPoint.{OutPoint}
 use Rattle.ox_block.specs.declared.block.Tx.{Tx}
 use Rattle.ox_block.specs.declared.block.TxOut.{TxOut}
 use Rattle.ox_block.specs.declared.block.Txid.{Txid}
@@ -20,7 +19,7 @@ use Rattle.ox_allocation.specs.Gifts.{Gift}
 use Rattle.ox_allocation.proofs.Amounts.{zero_from}
 use Rattle.ox_etching.specs.Etched.{Spot}
 use Rattle.ox_etching.specs.declared.row.RuneRow.{RuneRow}
-use Rattle.ox_ledger.specs.Runes.{BalanceMap, InHand, Placement, Runes, artifact_at, brought_of, burn, dealt_by, etching_by, gathered_by, mint_by, place_all, placements, pool_with, premine_of, turn, with_mint}
+use Rattle.ox_ledger.specs.Runes.{InHand, Placement, Runes, artifact_at, brought_of, burn, dealt_by, etching_by, gathered_by, mint_by, place_all, placements, pool_with, premine_of, turn, with_mint}
 use Rattle.ox_ledger.specs.Steps.{CanBurn, CanPlaceAll, CanTakeUp, given_out}
 use Rattle.ox_ledger.proofs.TablesLemmas.{nothing_done}
 

@@ -1,7 +1,6 @@
 -- A value now, and what it was at a mark.
-use Rattle.std.specs.Prelude.{◌≡◌, ℕ, ◌+◌, ◌<◌, List, [], ◌++◌, Option, None, Some, IsSome}
+use Rattle.std.specs.Prelude.{ℕ, ◌<◌, List, [], ◌++◌, Option, IsSome}
 use Rattle.std.specs.Prelude.{zero, suc}
-use Rattle.std.specs.Option.{IfSome}
 use Rattle.ox_rules.specs.Transfer.{as_list}
 
 pub record WithMark (A : Type 0) : Type 0 where

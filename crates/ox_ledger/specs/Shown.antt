@@ -8,7 +8,6 @@ use Rattle.ox_marked.specs.Marked.{Layers}
 use Rattle.ox_runestone.specs.declared.stone.RuneId.{RuneId}
 use Rattle.ox_allocation.specs.Balances.{Balance}
 use Rattle.ox_etching.specs.declared.row.RuneRow.{RuneRow}
-use Rattle.ox_ledger.specs.Marks.{WithMark}
 use Rattle.ox_ledger.specs.Runes.{BalanceMap}
 
 -- balances with what was put at an outpoint: a list, or none

@@ -79,9 +79,7 @@ fn inputs(rt: &impl Abort, alloc: Global, from: &[OutPoint]) -> Inputs {
 fn tx(rt: &impl Abort, alloc: Global, from: &[OutPoint], scripts: &[&[u8]]) -> Tx {
     let mut outputs = Outs::new(alloc);
     for script in scripts {
-        outputs
-            .push(output(rt, alloc, script))
-            .expect(rt, "memory");
+        outputs.push(output(rt, alloc, script)).expect(rt, "memory");
     }
     Tx {
         version: 2,
@@ -93,13 +91,7 @@ fn tx(rt: &impl Abort, alloc: Global, from: &[OutPoint], scripts: &[&[u8]]) -> T
 }
 
 /// The turn of a transaction at this height and place, whose id is all this byte.
-fn turn(
-    rt: &impl Abort,
-    ledger: &mut Ledger,
-    alloc: Global,
-    spot: (u32, u32, u8),
-    body: &Tx,
-)
+fn turn(rt: &impl Abort, ledger: &mut Ledger, alloc: Global, spot: (u32, u32, u8), body: &Tx)
     ensures { spot.1 ≢ 0 → Came (mark_in ledger.old) (runes_in ledger.old)
         → Came (mark_in ledger.new) (runes_in ledger.new) }
 {

@@ -1,4 +1,4 @@
-use Rattle.std.proofs.Common.{◌≡◌, ◌∙◌, ap, sym, Option, Some, List}
+use Rattle.std.proofs.Common.{◌∙◌, ap, sym, Some}
 use Rattle.std.specs.Option.{option_copied}
 use Rattle.ox_ledger.proofs.EqualLemmas.{both_ways}
 use Rattle.ox_ledger.proofs.holders.is_same.Goals as goal

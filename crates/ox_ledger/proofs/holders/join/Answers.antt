@@ -1,4 +1,3 @@
-use Rattle.std.proofs.Common.{arith}
 use Rattle.ox_allocation.specs.Dealing.{with_all}
 use Rattle.ox_ledger.proofs.HolderLemmas.{joins_all, joins_fit, joins_on}
 use Rattle.ox_ledger.proofs.holders.join.Goals as goal

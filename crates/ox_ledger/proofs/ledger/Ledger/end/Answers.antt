@@ -1,11 +1,8 @@
-use Rattle.std.proofs.Common.{◌∙◌, ap, arith, is_some, subst, sym}
-use Rattle.ox_allocation.proofs.LawLemmas.{lost_or_made}
+use Rattle.std.proofs.Common.{◌∙◌, ap, is_some, subst, sym}
 use Rattle.ox_ledger.specs.Balanced.{Balanced}
 use Rattle.ox_ledger.specs.Tables.{mark_of, runes_of}
 use Rattle.ox_ledger.proofs.BlockStays.{end_balanced}
 use Rattle.ox_ledger.proofs.LedgerLemmas.{can_end, fallen}
-use Rattle.ox_ledger.proofs.StaysBalanced.{stays_balanced}
-use Rattle.ox_ledger.proofs.StepLemmas.{can_turn}
 use Rattle.ox_ledger.proofs.ledger.Ledger.end.Goals as goal
 
 pub end-requires : goal.end-requires

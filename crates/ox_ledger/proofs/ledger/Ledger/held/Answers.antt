@@ -1,4 +1,4 @@
-use Rattle.std.proofs.Common.{◌≡◌, ◌+◌, ◌-◌, arith, subst, sym, Option}
+use Rattle.std.proofs.Common.{◌≡◌, ◌-◌, arith, subst, sym, Option}
 use Rattle.std.specs.FinMap.{values}
 use Rattle.std.specs.Option.{IfSome}
 use Rattle.ox_etching.specs.declared.row.RuneRow.{RuneRow}

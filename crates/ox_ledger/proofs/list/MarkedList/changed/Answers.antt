@@ -1,5 +1,3 @@
-use Rattle.std.proofs.Common.{subst}
-use Rattle.std.specs.Prelude.{IfOk}
 use Rattle.ox_marked.specs.Marked.{content_in, is_changed, mark_in}
 use Rattle.std.specs.Ordering.{nat_cmp}
 use Rattle.ox_ledger.proofs.ListChanges.{if_ok, stays_beside}

@@ -1,5 +1,5 @@
 use Rattle.std.proofs.Common.{◌∙◌, ap, take}
-use Rattle.ox_marked.specs.Marked.{content_in, mark_in}
+use Rattle.ox_marked.specs.Marked.{content_in}
 use Rattle.std.specs.Ordering.{nat_cmp}
 use Rattle.ox_ledger.proofs.ListLemmas.{full_below, listed_cut, within}
 use Rattle.ox_ledger.proofs.list.MarkedList.cut.Goals as goal

@@ -1,5 +1,5 @@
 use Rattle.std.proofs.Common.{ap}
-use Rattle.ox_marked.specs.Marked.{content_in, mark_in}
+use Rattle.ox_marked.specs.Marked.{content_in}
 use Rattle.std.specs.Ordering.{nat_cmp}
 use Rattle.ox_ledger.proofs.ListLemmas.{get_some, get_value}
 use Rattle.ox_ledger.proofs.list.MarkedList.get.Goals as goal

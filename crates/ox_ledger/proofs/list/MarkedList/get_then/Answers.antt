@@ -1,7 +1,7 @@
 use Rattle.std.proofs.Common.{◌≡◌, ◌<◌, Some, ap, sym, subst, length}
 use Rattle.std.specs.Prelude.{IsSome, slice_get}
 use Rattle.std.specs.Option.{IfSome}
-use Rattle.ox_marked.specs.Marked.{content_in, mark_in}
+use Rattle.ox_marked.specs.Marked.{mark_in}
 use Rattle.std.specs.Ordering.{nat_cmp}
 use Rattle.ox_ledger.proofs.ListLemmas.{then_some, then_value}
 use Rattle.ox_ledger.proofs.list.MarkedList.get_then.Goals as goal

@@ -1,5 +1,5 @@
 use Rattle.std.proofs.Common.{◌∙◌, sym, ap, length}
-use Rattle.ox_marked.specs.Marked.{content_in, mark_in}
+use Rattle.ox_marked.specs.Marked.{content_in}
 use Rattle.std.specs.Ordering.{nat_cmp}
 use Rattle.ox_ledger.proofs.ListLemmas.{length-listed}
 use Rattle.ox_ledger.proofs.list.MarkedList.len.Goals as goal

@@ -1,6 +1,6 @@
 use Rattle.std.proofs.Common.{◌≡◌, ap, subst, length}
 use Rattle.std.specs.Option.{IfSome}
-use Rattle.ox_marked.specs.Marked.{content_in, mark_in}
+use Rattle.ox_marked.specs.Marked.{mark_in}
 use Rattle.std.specs.Ordering.{nat_cmp}
 use Rattle.ox_ledger.proofs.ListLemmas.{then_length}
 use Rattle.ox_ledger.proofs.list.MarkedList.len_then.Goals as goal

@@ -1,7 +1,7 @@
 use Rattle.std.proofs.Common.{◌∙◌, ap}
 use Rattle.std.specs.Prelude.{slice_set}
 use Rattle.std.specs.Option.{option_map}
-use Rattle.ox_marked.specs.Marked.{content_in, mark_in}
+use Rattle.ox_marked.specs.Marked.{content_in}
 use Rattle.std.specs.Ordering.{nat_cmp}
 use Rattle.ox_ledger.specs.Marks.{listed}
 use Rattle.ox_ledger.proofs.HolderLemmas.{on_ok}

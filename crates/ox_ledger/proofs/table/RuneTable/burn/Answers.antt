@@ -1,6 +1,4 @@
-use Rattle.std.proofs.Common.{◌∙◌, ◌+◌, ap, drop, List}
-use Rattle.std.specs.Prelude.{slice_index_or}
-use Rattle.ox_etching.specs.declared.row.RuneRow.{RuneRow}
+use Rattle.std.proofs.Common.{◌∙◌, ◌+◌, ap, drop}
 use Rattle.ox_ledger.specs.Runes.{burn}
 use Rattle.ox_ledger.proofs.BurnLemmas.{burns_all, burns_can, burns_next, burns_on}
 use Rattle.ox_ledger.proofs.table.RuneTable.burn.Goals as goal

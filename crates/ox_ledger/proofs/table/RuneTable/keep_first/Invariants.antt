@@ -1,4 +1,4 @@
-use Rattle.std.proofs.Common.{◌≡◌, ◌≤◌, ◌-◌, length, take}
+use Rattle.std.proofs.Common.{◌≡◌, ◌≤◌, length, take}
 use Rattle.ox_ledger.proofs.table.RuneTable.keep_first.Given as goal
 
 abbrev pub invariant-loop-self : goal.invariant-loop-self

@@ -1,4 +1,4 @@
-use Rattle.std.proofs.Common.{◌≡◌, ◌∙◌, ap, sym, subst, cond, Bool, List, Some}
+use Rattle.std.proofs.Common.{◌∙◌, ap, sym, subst, cond, Bool, List, Some}
 use Rattle.std.specs.Ordering.{nat_cmp}
 use Rattle.ox_marked.specs.Marked.{content_in}
 use Rattle.ox_allocation.proofs.Ids.{same_itself}

@@ -1,8 +1,3 @@
-use Rattle.std.proofs.Common.{◌≡◌, ◌∙◌, ◌+◌, ◌++◌, ◌∷◌, ap, drop, subst, sym, List}
-use Rattle.std.specs.Prelude.{slice_index_or}
-use Rattle.std.proofs.lemmas.List.{at_drop_more}
-use Rattle.ox_etching.specs.declared.row.RuneRow.{RuneRow}
-use Rattle.ox_ledger.specs.Balanced.{AreDistinct}
 use Rattle.ox_ledger.proofs.MoveLemmas.{comes_next}
 use Rattle.ox_ledger.proofs.table.RuneTable.push_all.Goals as goal
 

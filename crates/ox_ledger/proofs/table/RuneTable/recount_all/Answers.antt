@@ -1,8 +1,8 @@
-use Rattle.std.proofs.Common.{◌≡◌, ◌∙◌, ap, arith, length, sym, subst, List, [], refl, Option, Some}
+use Rattle.std.proofs.Common.{◌∙◌, length, refl}
 use Rattle.std.specs.Prelude.{slice_get}
 use Rattle.std.specs.Slice.Iter.{iter_rest}
 use Rattle.std.specs.Iterator.Adapters.{rev_source}
-use Rattle.ox_ledger.specs.Part.{CountChange, counts_at, rows_at_end}
+use Rattle.ox_ledger.specs.Part.{counts_at, rows_at_end}
 use Rattle.ox_ledger.proofs.MoveLemmas.{last_within, put_by, put_length, recount_all, recount_next, recount_within}
 use Rattle.ox_ledger.proofs.table.RuneTable.recount_all.Goals as goal
 

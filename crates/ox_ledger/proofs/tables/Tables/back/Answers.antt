@@ -1,4 +1,4 @@
-use Rattle.std.proofs.Common.{◌≡◌, ◌≢◌, ◌∙◌, ◌-◌, ◌<◌, [], ap, length, subst, sym, List}
+use Rattle.std.proofs.Common.{◌≢◌, ◌-◌, ◌<◌, [], ap, length, subst, sym, List}
 use Rattle.std.specs.Prelude.{All}
 use Rattle.ox_ledger.specs.Part.{CountChange}
 use Rattle.ox_ledger.specs.Runes.{Placement, Runes}

@@ -1,4 +1,4 @@
-use Rattle.ox_ledger.specs.Tables.{mark_of, runes_of}
+use Rattle.ox_ledger.specs.Tables.{runes_of}
 use Rattle.ox_ledger.specs.Shown.{held_then}
 use Rattle.ox_ledger.proofs.HolderLemmas.{held_same, on_ok}
 use Rattle.ox_ledger.proofs.TablesLemmas.{all_marks, begun}

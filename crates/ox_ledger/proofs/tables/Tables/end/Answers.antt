@@ -1,4 +1,4 @@
-use Rattle.std.proofs.Common.{ap, sym, subst, List}
+use Rattle.std.proofs.Common.{sym, subst, List}
 use Rattle.ox_ledger.specs.Runes.{Placement}
 use Rattle.ox_ledger.specs.Steps.{CanPlaceAll}
 use Rattle.ox_ledger.specs.Tables.{runes_of}

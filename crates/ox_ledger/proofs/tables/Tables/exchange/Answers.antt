@@ -1,14 +1,12 @@
-use Rattle.std.proofs.Common.{◌≡◌, ◌≢◌, ◌∙◌, ◌++◌, ◌∷◌, ap, sym, subst, List, []}
+use Rattle.std.proofs.Common.{◌≢◌, ◌∙◌, ap, sym, subst, []}
 use Rattle.std.specs.List.{AllByRecursion}
 use Rattle.std.specs.Slice.Iter.{iter_rest}
 use Rattle.std.specs.Iterator.Adapters.{rev_source}
-use Rattle.std.specs.FinMap.{remove}
-use Rattle.std.proofs.lemmas.List.{nil_from_length}
 use Rattle.std.proofs.lemmas.List.Elements.{recursion_from_All}
 use Rattle.ox_rules.specs.Differences.{with_rows, without_rows}
 use Rattle.ox_ledger.specs.Runes.{Placement}
 use Rattle.ox_ledger.specs.Shown.{held_in}
-use Rattle.ox_ledger.proofs.MoveLemmas.{all_placed, all_taken, filled_last, filled_rest, placed_last, taken_last}
+use Rattle.ox_ledger.proofs.MoveLemmas.{all_taken, filled_last, filled_rest, placed_last, taken_last}
 use Rattle.ox_ledger.proofs.tables.Tables.exchange.Goals as goal
 
 pub loop-at-preserved : goal.loop-at-preserved

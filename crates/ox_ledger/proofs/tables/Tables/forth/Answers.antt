@@ -1,4 +1,4 @@
-use Rattle.std.proofs.Common.{◌≡◌, ◌≢◌, ◌∙◌, ◌++◌, ◌<◌, [], ap, false, length, subst, sym, List}
+use Rattle.std.proofs.Common.{◌≢◌, ◌∙◌, ◌++◌, ◌<◌, [], ap, false, length, subst, sym, List}
 use Rattle.std.specs.Prelude.{All}
 use Rattle.std.proofs.lemmas.List.Elements.{All-from_recursion}
 use Rattle.ox_etching.specs.declared.row.RuneRow.{RuneRow}

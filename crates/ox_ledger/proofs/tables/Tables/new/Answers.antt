@@ -1,4 +1,3 @@
-use Rattle.std.proofs.Common.{ap}
 use Rattle.ox_ledger.proofs.TablesLemmas.{held_none}
 use Rattle.ox_ledger.proofs.tables.Tables.new.Goals as goal
 

@@ -1,5 +1,4 @@
 use Rattle.std.proofs.Common.{◌≡◌, ◌++◌}
-use Rattle.ox_ledger.specs.Runes.{Runes}
 use Rattle.ox_ledger.specs.Tables.{mark_of, runes_of}
 use Rattle.ox_ledger.proofs.tables.Tables.owe.Given as goal
 

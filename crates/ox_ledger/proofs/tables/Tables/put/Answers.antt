@@ -1,4 +1,3 @@
-use Rattle.std.proofs.Common.{◌∙◌}
 use Rattle.ox_ledger.specs.Tables.{runes_of}
 use Rattle.ox_ledger.proofs.HolderLemmas.{on_ok}
 use Rattle.ox_ledger.proofs.PartMoves.{leads_back, leads_forth, touches_end, touches_start}

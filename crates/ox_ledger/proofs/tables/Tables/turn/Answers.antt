@@ -1,4 +1,4 @@
-use Rattle.std.proofs.Common.{◌≡◌, ◌∙◌, ap, arith, length, sym}
+use Rattle.std.proofs.Common.{◌∙◌, ap, arith, length, sym}
 use Rattle.ox_allocation.specs.Allocation.{Allocation}
 use Rattle.ox_etching.specs.Etched.{Spot}
 use Rattle.ox_ledger.specs.Tables.{runes_of}
