@@ -1,6 +1,6 @@
--- The machine that commands drive: a chain of blocks, of which the newest ones are kept, so that they
--- can be taken back. What is accepted is what its stack accepts; the machine says which blocks are
--- left, and how many of them are kept.
+-- The machine that commands drive: a chain of blocks, of which the newest ones are kept, so that
+-- they can be taken back. What is accepted is what its stack accepts; the machine says which blocks
+-- are left, and how many of them are kept.
 use Rattle.std.specs.Prelude.{ℕ, zero, suc, ◌-◌, List, [], ◌∷◌, ◌++◌, length, take, min}
 use Rattle.std.specs.Prelude.{Option, Some, None, Result, Ok, Err}
 use Rattle.ox_feed.specs.Command.{command_of}
