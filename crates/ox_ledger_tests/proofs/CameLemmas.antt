@@ -9,7 +9,8 @@ use Rattle.ox_etching.specs.Etched.{Spot}
 use Rattle.ox_etching.specs.declared.row.RuneRow.{RuneRow}
 use Rattle.ox_ledger.specs.Balanced.{Balanced}
 use Rattle.ox_ledger.specs.Moves.{Begins, Ends, Leads}
-use Rattle.ox_ledger.specs.Part.{Continues, IsPart, RunePart}
+use Rattle.ox_ledger.specs.Part.{Continues, IsPart}
+use Rattle.ox_ledger.specs.declared.part.RunePart.{RunePart}
 use Rattle.ox_ledger.specs.Runes.{InHand, Placement, Runes, artifact_at, burn, dealt_by, gathered_by, place_all, placements, turn}
 use Rattle.ox_ledger.proofs.GoOnLemmas.{goes_on_itself, runes_go_on}
 use Rattle.ox_ledger.proofs.Known.{place_all_due}
