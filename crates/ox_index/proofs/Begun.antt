@@ -10,7 +10,7 @@ use Rattle.ox_transfer.specs.Apart.{HoldsOnce}
 use Rattle.ox_model.specs.Index.{Index}
 use Rattle.ox_model.specs.Sound.{IsSound}
 use Rattle.ox_model.proofs.FreePlaces.{open_first}
-use Rattle.ox_index.specs.Parts.{Held, NoneOf}
+use Rattle.ox_index.specs.Held.{Held, NoneOf}
 use Rattle.ox_index.specs.declared.lengths.Lengths.{Lengths}
 use Rattle.ox_index.proofs.Steps.{holds_once}
 use Rattle.ox_index.proofs.Whole.{Whole, blocks_are, held_are}

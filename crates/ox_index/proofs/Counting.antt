@@ -24,7 +24,7 @@ use Rattle.ox_model.specs.Sound.{IsSound}
 use Rattle.ox_model.specs.declared.change.Change.{Change}
 use Rattle.ox_model.proofs.Changes.{outputs_differ}
 use Rattle.ox_index.specs.Lengths.{AreWithin, index_of_parts, index_to}
-use Rattle.ox_index.specs.Parts.{Held}
+use Rattle.ox_index.specs.Held.{Held}
 use Rattle.ox_index.specs.declared.lengths.Lengths.{Lengths}
 
 pub whole_list : {X : Type 0} (xs : List X) (n : ℕ) → length xs ≡ n → take n xs ≡ xs

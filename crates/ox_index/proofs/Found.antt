@@ -49,7 +49,7 @@ told_first of value p runes found sound whole exact = by_position (position p ru
       let has = having of value (slice_get runes n) ((exact n).0 is) in
       let fails : p has.row ≡ false = none_passes p runes n has.row none has.there in
       let passes : p has.row ≡ true = whole has.row has.has in
-      absurd (cc (fails, passes))
+      absurd (cc (sym fails ∙ passes))
 
   by_position : (o : Option ℕ) → position p runes ≡ o → found ≡ o
   by_position (Some n) is =

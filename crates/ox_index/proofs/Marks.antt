@@ -1,10 +1,11 @@
 -- A mark of all parts is a mark of each.
-use Rattle.std.proofs.Common.{◌≡◌, ◌∙◌, List, refl, sym, ap, Option, Some, None}
-use Rattle.std.specs.Prelude.{IsSome}
+use Rattle.std.proofs.Common.{◌≡◌, ◌∙◌, List, [], refl, sym, ap, subst, Option, Some, None}
+use Rattle.std.specs.Prelude.{IsSome, unwrap_or}
 use Rattle.ox_rules.specs.Outputs.{Outputs}
 use Rattle.ox_inscribe.specs.declared.row.InsRow.{InsRow}
 use Rattle.ox_ledger.specs.Runes.{Runes}
-use Rattle.ox_index.specs.Parts.{Held, held_then}
+use Rattle.ox_ledger.specs.Tables.{nothing}
+use Rattle.ox_index.specs.Held.{Held, held_then}
 
 pub outs_marked : (outs : Option Outputs) (rows : Option (List InsRow)) (runes : Option Runes) → IsSome (held_then outs rows runes) → IsSome outs
 outs_marked (Some o) rows runes there = refl
@@ -47,3 +48,23 @@ all_marked outs rows runes held are = λ i. held_then (are.outs_at i) (are.rows_
 pub all_back : (outs : Option Outputs) (rows : Option (List InsRow)) (runes : Option Runes) (o : Outputs) (r : List InsRow) (u : Runes)
     → Some o ≡ outs → Some r ≡ rows → runes ≡ Some u → Some (record { outs = o; inscriptions = r; runes = u }) ≡ held_then outs rows runes
 all_back outs rows runes o r u outs_are rows_are runes_are = λ i. held_then (outs_are i) (rows_are i) (sym runes_are i)
+
+-- ---- between two blocks nothing is due
+
+pub undue_begun : (mark : Option Runes) (state : Runes) → mark ≡ Some state → state.due ≡ [] → (x : Runes) → mark ≡ Some x → x.due ≡ []
+undue_begun mark state is undue x at = ap (λ (r : Runes). r.due) (some_same x state (sym at ∙ is)) ∙ undue where
+  some_same : (a b : Runes) → Some a ≡ Some b → a ≡ b
+  some_same a b same = cc
+
+pub undue_none : (mark : Option Runes) → mark ≡ None → (x : Runes) → mark ≡ Some x → x.due ≡ []
+undue_none mark none x at = absurd (cc (sym none ∙ at))
+
+pub undue_fallen : (mark : Option Runes) (now : Runes) → ((x : Runes) → mark ≡ Some x → x.due ≡ []) → now ≡ unwrap_or mark nothing → now.due ≡ []
+undue_fallen None now undue is = ap (λ (r : Runes). r.due) is
+undue_fallen (Some state) now undue is = ap (λ (r : Runes). r.due) is ∙ undue state refl
+
+pub marked_some : (mark : Option Held) (held : Held) → mark ≡ Some held → IsSome mark
+marked_some mark held is = subst (λ (m : Option Held). IsSome m) (sym is) refl
+
+pub same_held : (a b : Held) → Some a ≡ Some b → a ≡ b
+same_held a b same = cc

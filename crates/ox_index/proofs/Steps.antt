@@ -54,11 +54,16 @@ admitted_after : (p : Profile) (index : Index) (block : Block) → admission p i
 admitted_after p index block begun =
     ap (λ (r : Result (Unit {0}) Refusal). r >>= λ begun. transfer_of p (length index.hashes) block.txs index.outs >>= λ after. Ok (grown_index p index block after)) begun
 
+-- satoshis that can't be moved
+pub unmoved : (fault : TransferFault) (e : ConnectFault) (wanted : Result Transferred Refusal) → transfers.Refuses fault wanted → e ≡ of_transfer fault → Refuses e wanted
+unmoved (BadTransfer refusal) e wanted refuses is = rw is refuses
+unmoved NoRoom e wanted refuses is = rw is tt
+
 -- a block whose satoshis can't be moved
-pub after_unmoved : (p : Profile) (index : Index) (block : Block) (fault : TransferFault) (e : ConnectFault) → admission p index.hashes block ≡ Ok tt → transfers.Refuses fault (transfer_of p (length index.hashes) block.txs index.outs) → e ≡ of_transfer fault → Refuses e (index_after p index block)
-after_unmoved p index block (BadTransfer refusal) e begun refuses is =
-    rw is (admitted_after p index block begun ∙ ap (λ (r : Result Transferred Refusal). r >>= λ after. Ok (grown_index p index block after)) refuses)
-after_unmoved p index block NoRoom e begun refuses is = rw is tt
+pub after_unmoved : (p : Profile) (index : Index) (block : Block) (e : ConnectFault) → admission p index.hashes block ≡ Ok tt → Refuses e (transfer_of p (length index.hashes) block.txs index.outs) → Refuses e (index_after p index block)
+after_unmoved p index block (Refused refusal) begun refuses =
+    admitted_after p index block begun ∙ ap (λ (r : Result Transferred Refusal). r >>= λ after. Ok (grown_index p index block after)) refuses
+after_unmoved p index block Memory begun refuses = tt
 
 -- a block that is taken in
 pub after_taken : (p : Profile) (index : Index) (block : Block) (after : Transferred) → admission p index.hashes block ≡ Ok tt → transfer_of p (length index.hashes) block.txs index.outs ≡ Ok after → index_after p index block ≡ Ok (grown_index p index block after)

@@ -12,7 +12,7 @@ use Rattle.ox_etching.specs.declared.row.RuneRow.{RuneRow}
 use Rattle.ox_ledger.specs.Block.{turn_all, turn_at}
 use Rattle.ox_ledger.specs.Runes.{Runes}
 use Rattle.ox_model.proofs.FreePlaces.{IsOpen}
-use Rattle.ox_index.specs.Parts.{NoneOf}
+use Rattle.ox_index.specs.Held.{NoneOf}
 
 -- the turns from a place on
 abbrev pub turns_from : Profile → ℕ → ℕ → List Tx → List MovedTx → Runes → Runes

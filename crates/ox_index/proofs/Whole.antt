@@ -16,7 +16,7 @@ use Rattle.ox_model.specs.Sound.{IsSound}
 use Rattle.ox_model.specs.Step.{grown_index}
 use Rattle.ox_model.specs.declared.change.Change.{Change}
 use Rattle.ox_index.specs.Lengths.{AreWithin, IsMark, index_of_parts, index_to}
-use Rattle.ox_index.specs.Parts.{Held, IsBack, IsOn, IsTaken}
+use Rattle.ox_index.specs.Held.{Held, IsBack, IsOn, IsTaken}
 use Rattle.ox_index.specs.declared.lengths.Lengths.{Lengths}
 use Rattle.ox_index.proofs.Counting.{grown_to, kept_to, shrunk_to, whole_list, within_more}
 

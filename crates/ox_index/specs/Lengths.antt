@@ -3,7 +3,7 @@ use Rattle.std.specs.Prelude.{◌≡◌, ℕ, ◌≤◌, List, length, take, Opt
 use Rattle.ox_sat.specs.declared.profiles.Profile.{Profile}
 use Rattle.ox_model.specs.Index.{Index}
 use Rattle.ox_model.specs.Sound.{IsSound}
-use Rattle.ox_index.specs.Parts.{Held}
+use Rattle.ox_index.specs.Held.{Held}
 use Rattle.ox_index.specs.declared.lengths.Lengths.{Lengths}
 
 -- the index that has these parts

@@ -3,6 +3,7 @@
 ghost use Rattle.std.specs.Prelude.{◌≡◌, Some, None, Ok, IsSome, IfOk, IfErr, OnOk, OnErr};
 ghost use Rattle.std.specs.Prelude.{◌^◌, length, map};
 ghost use Rattle.std.specs.Option.{ForSome};
+ghost use Rattle.std.proofs.Props.{props};
 ghost use Rattle.ox_model.specs.Sound.{IsSound};
 ghost use Rattle.ox_index.specs.Lengths.{index_to, AreWithin, IsMark};
 ghost use Rattle.ox_index.specs.Parts.{held_in, mark_of};
@@ -34,9 +35,10 @@ pub struct Live {
     /// And so much did before the last command, where it can be gone back to.
     marked: Option<Lengths>,
     ghost within: { AreWithin hashes.items lost shown },
-    ghost sound: { IsSound parts.profile (index_to hashes.items (held_in parts) lost shown) },
-    ghost mark: { ForSome marked
-        (λ lengths. IsMark parts.profile hashes.items (mark_of parts) lost lengths) },
+    ghost sound: { IsSound parts.profile
+        (index_to hashes.items (held_in parts) lost shown) } by { Prim.hlevel props },
+    ghost mark: { ForSome marked (λ lengths.
+        IsMark parts.profile hashes.items (mark_of parts) lost lengths) } by { Prim.hlevel props },
 }
 
 impl Live {
@@ -60,10 +62,11 @@ impl Live {
         ensures profile { IfOk result (λ live. profile_in live ≡ p.now) }
         ensures index { IfOk result (λ live. index_in live ≡ no_blocks p.now) }
     {
+        let parts = Parts::new(alloc, p)?;
         Ok(Live {
             alloc,
             hashes: Vec::new(alloc),
-            parts: Parts::new(alloc, p)?,
+            parts,
             lost: Ranges::empty(alloc),
             shown: Lengths { blocks: 0, lost: 0 },
             marked: None,

@@ -8,7 +8,7 @@ ghost use Rattle.ox_sat.proofs.Known.{IsProfile-prop};
 ghost use Rattle.ox_ledger.specs.Block.{runes_after};
 ghost use Rattle.ox_ledger.specs.Ledger.{mark_in as rune_mark, runes_in};
 ghost use Rattle.ox_ledger.specs.Tables.{nothing};
-ghost use Rattle.ox_index.specs.Parts.{NoneOf};
+ghost use Rattle.ox_index.specs.Held.{NoneOf};
 
 use crate::fault::ConnectFault;
 use ox_block::{Block, Txids, hash};
@@ -50,7 +50,7 @@ impl Parts {
     ghost use Rattle.ox_outputs.specs.Table.{EndsIn as EndsAt};
     ghost use Rattle.ox_transfer.specs.Apart.{HoldsOnce};
     ghost use Rattle.ox_index.specs.Fault.{Refuses};
-    ghost use Rattle.ox_index.specs.Parts.{HasMoved, Held, IsBack, IsOn, IsTaken};
+    ghost use Rattle.ox_index.specs.Held.{HasMoved, Held, IsBack, IsOn, IsTaken};
     ghost use Rattle.ox_index.specs.Parts.{held_in, mark_of};
 
     /// No outputs, no inscriptions, and the runes that are there before a chain's first block.
@@ -61,12 +61,13 @@ impl Parts {
         ensures held { IfOk result (λ parts. held_in parts
             ≡ record { outs = empty; inscriptions = []; runes = no_runes p.now }) }
     {
+        let ledger = Ledger::new(alloc, p)?;
         Ok(Parts {
             alloc,
             profile: *p,
             outputs: Outputs::new(alloc),
             shelf: Shelf::new(alloc),
-            ledger: Ledger::new(alloc, p)?,
+            ledger,
         })
     }
 

@@ -7,7 +7,8 @@ use Rattle.ox_model.specs.Sound.{IsSound}
 use Rattle.ox_sat.specs.declared.profiles.Profile.{Profile}
 use Rattle.ox_index.specs.Lengths.{IsMark, index_to}
 use Rattle.ox_index.specs.Live.{index_in}
-use Rattle.ox_index.specs.Parts.{Held, IsBack, IsOn, held_in, mark_of}
+use Rattle.ox_index.specs.Held.{Held, IsBack, IsOn}
+use Rattle.ox_index.specs.Parts.{held_in, mark_of}
 use Rattle.ox_index.specs.declared.lengths.Lengths.{Lengths}
 use Rattle.ox_index.proofs.Counting.{begins_at, ends_at, lost_few}
 use Rattle.ox_index.proofs.Whole.{Whole, all_within, back_is, blocks_are, blocks_few, few_inscriptions, held_are, held_of, mark_right, marked_to, more_to, on_is, runes_begin, runes_end, sats_are, some_same, within_to, without_block}

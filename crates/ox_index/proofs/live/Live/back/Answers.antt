@@ -7,7 +7,8 @@ use Rattle.ox_model.specs.Sound.{IsSound}
 use Rattle.ox_sat.specs.declared.profiles.Profile.{Profile}
 use Rattle.ox_index.specs.Lengths.{IsMark, index_to}
 use Rattle.ox_index.specs.Live.{index_in}
-use Rattle.ox_index.specs.Parts.{Held, IsBack, IsOn, held_in, mark_of}
+use Rattle.ox_index.specs.Held.{Held, IsBack, IsOn}
+use Rattle.ox_index.specs.Parts.{held_in, mark_of}
 use Rattle.ox_index.specs.declared.lengths.Lengths.{Lengths}
 use Rattle.ox_index.proofs.Counting.{begins_at, ends_at, lost_few}
 use Rattle.ox_index.proofs.Whole.{Whole, all_within, back_is, blocks_are, blocks_few, few_inscriptions, held_are, held_of, mark_right, marked_to, more_to, on_is, runes_begin, runes_end, sats_are, some_same, within_to, without_block}
@@ -58,8 +59,7 @@ without_block-self-requires c =
     let whole : Whole index live.hashes.items (held_in live.parts) live.lost live.shown = record { index_is = c.forget.ensures.index; undue = live.parts.undue; many = c.forget.ensures.blocks; few = c.forget.ensures.lost } in
     let sound : IsSound p index = subst (IsSound p) whole.index_is live.sound in
     let are : held_in live.parts ≡ held_of index = held_are index live.hashes.items (held_in live.parts) live.lost live.shown whole in
-    let ends : EndsIn p index change = subst (λ (q : Profile). EndsIn q index change) (sym c.forget.ensures.profile) c.requires in
-    (
+    let ends : EndsIn p index change = subst (λ (q : Profile). EndsIn q index change) (sym c.forget.ensures.profile) c.requires in (
       omega (arith, ap (λ (l : List (List ℕ)). length l) ends.leads.hash, length-append (undone index change).hashes (change.hash ∷ []), blocks_are index live.hashes.items (held_in live.parts) live.lost live.shown whole),
       omega (arith, ap (λ (l : List ℕ). length l) ends.leads.lost, length-append (undone index change).lost change.lost, sats_are index live.hashes.items (held_in live.parts) live.lost live.shown whole),
     )

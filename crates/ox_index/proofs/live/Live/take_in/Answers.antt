@@ -9,7 +9,8 @@ use Rattle.ox_sat.specs.declared.profiles.Profile.{Profile}
 use Rattle.ox_transfer.proofs.Sizes.{few_txs}
 use Rattle.ox_index.specs.Lengths.{IsMark, index_to}
 use Rattle.ox_index.specs.Live.{index_in}
-use Rattle.ox_index.specs.Parts.{IsTaken, held_in, mark_of}
+use Rattle.ox_index.specs.Held.{IsTaken}
+use Rattle.ox_index.specs.Parts.{held_in, mark_of}
 use Rattle.ox_index.specs.declared.lengths.Lengths.{Lengths}
 use Rattle.ox_index.proofs.Begun.{none_here, once_here}
 use Rattle.ox_index.proofs.Steps.{after_taken, lost_fits}
