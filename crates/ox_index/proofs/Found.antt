@@ -1,5 +1,6 @@
 -- A number that is told exactly where a rune has something is the first such rune's.
 use Rattle.std.proofs.Common.{◌≡◌, ◌∙◌, ◌≤◌, ◌<◌, ℕ, Bool, true, false, cond, List, length, get_or, refl, sym, ap, arith, Option, Some, None, nat_lt}
+use Rattle.std.specs.Option.{IfSome}
 use Rattle.std.specs.Prelude.{◌==◌, ◌↔◌, option_map, position, slice_get}
 use Rattle.std.specs.List.{position_or_len}
 use Rattle.std.proofs.lemmas.Bool.{ltb-false}
@@ -67,3 +68,11 @@ pub id_found : (runes : List RuneRow) (id : RuneId) (found : Option ℕ) → ((n
 id_found runes id found exact =
     told_first (λ (row : RuneRow). row.id) id (λ (row : RuneRow). is_same row.id id) runes found
     (λ row is. same_id row.id id is) (λ row is. ap (λ (i : RuneId). is_same i id) is ∙ same_itself id) exact
+
+-- what is told of the rune with a number that is there
+pub held_there : (of : RuneRow → ℕ) (runes : List RuneRow) (n value : ℕ) → n < length runes → IfSome (slice_get runes n) (λ row. value ≡ of row)
+    → option_map of (slice_get runes n) ≡ Some value
+held_there of runes n value less told = by_row (slice_get runes n) (slice_get-get_or runes n first_rune less) told where
+  by_row : (o : Option RuneRow) → o ≡ Some (get_or runes n first_rune) → IfSome o (λ row. value ≡ of row) → option_map of o ≡ Some value
+  by_row (Some row) is told = ap Some (sym told)
+  by_row None is told = absurd (cc is)
