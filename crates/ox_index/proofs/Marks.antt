@@ -3,6 +3,9 @@ use Rattle.std.proofs.Common.{◌≡◌, ◌∙◌, List, [], refl, sym, ap, sub
 use Rattle.std.specs.Prelude.{IsSome, unwrap_or}
 use Rattle.ox_rules.specs.Outputs.{Outputs}
 use Rattle.ox_inscribe.specs.declared.row.InsRow.{InsRow}
+use Rattle.std.specs.Option.{IfSome}
+use Rattle.ox_etching.specs.declared.row.RuneRow.{RuneRow}
+use Rattle.ox_ledger.specs.Part.{Continues}
 use Rattle.ox_ledger.specs.Runes.{Runes}
 use Rattle.ox_ledger.specs.Tables.{nothing}
 use Rattle.ox_index.specs.Held.{Held, held_then}
@@ -68,3 +71,11 @@ marked_some mark held is = subst (λ (m : Option Held). IsSome m) (sym is) refl
 
 pub same_held : (a b : Held) → Some a ≡ Some b → a ≡ b
 same_held a b same = cc
+
+-- so what goes on from all goes on from the runes at their mark
+pub runes_continue : (outs : Option Outputs) (rows : Option (List InsRow)) (runes : Option Runes) (now : List RuneRow) → IsSome (held_then outs rows runes)
+    → ((before : Held) → held_then outs rows runes ≡ Some before → Continues before.runes.runes now) → IfSome runes (λ (r : Runes). Continues r.runes now)
+runes_continue (Some o) (Some r) (Some u) now there on = on (record { outs = o; inscriptions = r; runes = u }) refl
+runes_continue (Some o) (Some r) None now there on = absurd (cc there)
+runes_continue (Some o) None runes now there on = absurd (cc there)
+runes_continue None rows runes now there on = absurd (cc there)

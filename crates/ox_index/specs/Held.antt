@@ -1,6 +1,6 @@
 -- What the parts of an index hold that go back to a mark, and what a block makes of it.
-use Rattle.std.specs.Prelude.{◌≡◌, ◌≢◌, ℕ, ◌-◌, ◌≤◌, All, List, ◌++◌, length, take, Option, Some}
-use Rattle.std.specs.Prelude.{None, Ok, true, false}
+use Rattle.std.specs.Prelude.{◌≡◌, ◌≢◌, ℕ, ◌-◌, ◌≤◌, All, List, ◌++◌, drop, length, take}
+use Rattle.std.specs.Prelude.{Option, Some, None, Ok, true, false}
 use Rattle.ox_block.specs.Hashes.{block_hash}
 use Rattle.ox_block.specs.declared.block.Block.{Block}
 use Rattle.ox_sat.specs.declared.profiles.Profile.{Profile}
@@ -46,6 +46,17 @@ pub record TellsOf (before after : Held) (change : Change) : Type 0 where
   pub inscriptions : after.inscriptions ≡ before.inscriptions ++ change.inscriptions
   pub continues : Continues before.runes.runes after.runes.runes
   pub runes : IsPart before.runes after.runes change.runes
+
+-- a change tells what came since a mark, by a block with this hash that lost these satoshis, behind
+-- so many inscriptions
+pub record IsTold (mark : Option Held) (now : Held) (hash lost : List ℕ) (from : ℕ)
+    (change : Change) : Type 0 where
+  pub hash_is : change.hash ≡ hash
+  pub lost_are : change.lost ≡ lost
+  pub outputs : (before : Held) → mark ≡ Some before
+      → Differ before.outs now.outs (outputs_changed change)
+  pub inscriptions : change.inscriptions ≡ drop from now.inscriptions
+  pub runes : (before : Held) → mark ≡ Some before → IsPart before.runes now.runes change.runes
 
 -- a block at a height was taken in, and this is its change
 pub record IsTaken (p : Profile) (height : ℕ) (block : Block) (before after : Held)

@@ -41,16 +41,16 @@ impl Parts {
     ghost use Rattle.std.specs.FinMap.{empty};
     ghost use Rattle.ox_block.specs.Hashes.{txid};
     ghost use Rattle.ox_sat.specs.Heights.{first_at};
-    ghost use Rattle.ox_rules.specs.Differences.{Differ, reverse_of};
+    ghost use Rattle.ox_rules.specs.Differences.{reverse_of};
     ghost use Rattle.ox_rules.specs.Transfer.{transfer_of};
     ghost use Rattle.ox_ledger.specs.Block.{no_runes};
     ghost use Rattle.ox_ledger.specs.Moves.{Begins, Ends};
-    ghost use Rattle.ox_ledger.specs.Part.{Continues, IsPart};
+    ghost use Rattle.ox_ledger.specs.Part.{Continues};
     ghost use Rattle.ox_model.specs.Change.{outputs_changed};
     ghost use Rattle.ox_outputs.specs.Table.{EndsIn as EndsAt};
     ghost use Rattle.ox_transfer.specs.Apart.{HoldsOnce};
     ghost use Rattle.ox_index.specs.Fault.{Refuses};
-    ghost use Rattle.ox_index.specs.Held.{HasMoved, Held, IsBack, IsOn, IsTaken};
+    ghost use Rattle.ox_index.specs.Held.{HasMoved, Held, IsBack, IsOn, IsTaken, IsTold};
     ghost use Rattle.ox_index.specs.Parts.{held_in, mark_of};
 
     /// No outputs, no inscriptions, and the runes that are there before a chain's first block.
@@ -135,14 +135,8 @@ impl Parts {
         requires from { from ≤ length (held_in self.now).inscriptions }
         requires continues { (before : Held) → mark_of self.now ≡ Some before
             → Continues before.runes.runes (held_in self.now).runes.runes }
-        ensures hash { IfOk result (λ change. change.hash ≡ hash) }
-        ensures lost { IfOk result (λ change. change.lost ≡ lost) }
-        ensures rows { IfOk result (λ change. (before : Held) → mark_of self.now ≡ Some before
-            → Differ before.outs (held_in self.now).outs (outputs_changed change)) }
-        ensures inscriptions { IfOk result
-            (λ change. change.inscriptions ≡ drop from (held_in self.now).inscriptions) }
-        ensures runes { IfOk result (λ change. (before : Held) → mark_of self.now ≡ Some before
-            → IsPart before.runes (held_in self.now).runes change.runes) }
+        ensures { IfOk result
+            (IsTold (mark_of self.now) (held_in self.now) hash lost from) }
     {
         let (gone, came) = self.outputs.changed()?;
         let inscriptions = rows_from(self.alloc, &self.shelf, from)?;

@@ -10,9 +10,14 @@ use Rattle.ox_ledger.specs.Runes.{Runes}
 use Rattle.ox_sat.specs.declared.profiles.Profile.{Profile}
 use Rattle.ox_outputs.specs.Table.{rows_in}
 use Rattle.ox_transfer.specs.Parts.{transferred_of}
-use Rattle.ox_index.specs.Held.{Held, NoneOf}
+use Rattle.ox_index.specs.Held.{Held, IsTold, NoneOf, held_then}
 use Rattle.ox_index.specs.Parts.{held_in, mark_of}
+use Rattle.std.proofs.lemmas.Result.{IfOk-weaker}
+use Rattle.ox_inscribe.specs.Reveal.{reveal_of}
+use Rattle.ox_ledger.specs.Block.{runes_after}
+use Rattle.ox_outputs.specs.Table.{marked_in}
 use Rattle.ox_index.proofs.Marks.{marked_some, same_held, undue_fallen}
+use Rattle.ox_index.proofs.Told.{taken_by}
 use Rattle.ox_index.proofs.parts.Parts.follow.Goals as goal
 
 pub reveal-requires : goal.reveal-requires
@@ -42,3 +47,34 @@ invariant_of-self c =
       undue = ap (λ (r : Runes). r.due) c.in_ok-move_runes.ensures.ok ∙ nothing_due self.ledger.profile c.args.height c.args.block.now.txs c.args.moved.txs (runes_in self.ledger);
       undue_then = λ x is. self.undue_then x (sym c.move_runes.ensures.mark ∙ is);
     }
+
+pub changed-requires-clause-marked : goal.changed-requires-clause-marked
+changed-requires-clause-marked c =
+    let self = c.args.self.now in
+    marked_some _ _ ((λ i. held_then (marked_in self.outputs) (c.reveal.ensures.mark i) (c.move_runes.ensures.mark i)) ∙ c.requires.moved.marked)
+
+pub changed-requires-clause-from : goal.changed-requires-clause-from
+changed-requires-clause-from c =
+    omega (arith, c.len-before.ensures, ap (λ (l : List InsRow). length l) c.in_ok-reveal.ensures.rows, length-append c.args.self.now.shelf.rows (reveal_of c.args.self.now.shelf.rows c.args.height c.args.block.now.txs c.args.moved.txs))
+
+pub changed-requires-clause-continues : goal.changed-requires-clause-continues
+changed-requires-clause-continues c =
+    let self = c.args.self.now in
+    let marked = (λ i. held_then (marked_in self.outputs) (c.reveal.ensures.mark i) (c.move_runes.ensures.mark i)) ∙ c.requires.moved.marked in
+    let on : Continues (runes_in self.ledger).runes (runes_in c.move_runes.new.ledger).runes =
+    subst (λ (r : Runes). Continues (runes_in self.ledger).runes r.runes) (sym c.in_ok-move_runes.ensures.ok)
+    (runes_go_on.block self.ledger.profile c.args.height c.args.block.now.txs c.args.moved.txs (runes_in self.ledger)) in
+    λ before is. subst (λ (h : Held). Continues h.runes.runes (runes_in c.move_runes.new.ledger).runes) (same_held _ before (sym marked ∙ is)) on
+
+pub returns-clause-ok : goal.returns-clause-ok
+returns-clause-ok c =
+    let self = c.args.self.now in
+    let same_mark = λ i. held_then (marked_in self.outputs) (c.reveal.ensures.mark i) (c.move_runes.ensures.mark i) in
+    IfOk-weaker c.changed.result _ _
+    (λ change told before is.
+    taken_by self.profile c.args.height c.args.block.now c.args.moved (mark_of self) (held_in self) before c.reveal.new.self.rows (runes_in c.move_runes.new.ledger) c.len-before.result change
+    c.requires.moved is c.in_ok-reveal.ensures.rows
+    (subst (λ (p : Profile). runes_in c.move_runes.new.ledger ≡ runes_after p c.args.height c.args.block.now.txs c.args.moved.txs (runes_in self.ledger)) self.counted c.in_ok-move_runes.ensures.ok)
+    c.len-before.ensures c.hash.ensures
+    (subst (λ (m : Option Held). IsTold m _ _ _ _ change) same_mark told))
+    c.changed.ensures
