@@ -81,6 +81,10 @@ abbrev pub NoneOf : Profile → ℕ → List RuneRow → Type 0
 NoneOf p height runes =
     p.rune_start ≤ height → All (λ (row : RuneRow). row.id.block ≢ height) runes
 
+-- a change has no more inscriptions than these
+abbrev pub RevealsWithin : Change → Held → Type 0
+RevealsWithin change held = length change.inscriptions ≤ length held.inscriptions
+
 -- these are had by going back over a change, and by going on over it
 pub record IsBack (now other : Held) (change : Change) : Type 0 where
   pub outputs : other.outs ≡ other_end now.outs (outputs_changed change)

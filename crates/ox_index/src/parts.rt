@@ -51,6 +51,7 @@ impl Parts {
     ghost use Rattle.ox_transfer.specs.Apart.{HoldsOnce};
     ghost use Rattle.ox_index.specs.Fault.{Refuses};
     ghost use Rattle.ox_index.specs.Held.{HasMoved, Held, IsBack, IsOn, IsTaken, IsTold};
+    ghost use Rattle.ox_index.specs.Held.{RevealsWithin};
     ghost use Rattle.ox_index.specs.Parts.{held_in, mark_of};
 
     /// No outputs, no inscriptions, and the runes that are there before a chain's first block.
@@ -110,8 +111,8 @@ impl Parts {
         }
     }
 
-    // What a block reveals, and what it does to runes, once its satoshis have moved since the marks.
-    // It answers what the block changed. `Memory` where there is none: the marks stay.
+    // What a block reveals, and what it does to runes, once its satoshis have moved since the
+    // marks. It answers what the block changed. `Memory` where there is none: the marks stay.
     fn follow(&mut self, block: &Block, moved: Moved, height: u32) -> Result<Change, Memory>
         requires lawful { Lawful block.now }
         requires moved { HasMoved self.old.profile height block.now moved (mark_of self.old)
@@ -155,7 +156,7 @@ impl Parts {
     /// then.
     pub fn back(&mut self, change: &Change) -> Result<(), Memory>
         requires rows { EndsAt (held_in self.old).outs (outputs_changed change.now) }
-        requires inscriptions { length change.now.inscriptions ≤ length (held_in self.old).inscriptions }
+        requires inscriptions { RevealsWithin change.now (held_in self.old) }
         requires runes { Ends change.now.runes (held_in self.old).runes }
         ensures ok { OnOk result (IsBack (held_in self.old) (held_in self.new) change.now) }
         ensures err { OnErr result (held_in self.new ≡ held_in self.old) }
@@ -176,7 +177,7 @@ impl Parts {
     fn put_back(&mut self, change: &Change) -> Result<(), Memory>
         requires marked { IsSome (mark_of self.old) }
         requires rows { EndsAt (held_in self.old).outs (outputs_changed change.now) }
-        requires inscriptions { length change.now.inscriptions ≤ length (held_in self.old).inscriptions }
+        requires inscriptions { RevealsWithin change.now (held_in self.old) }
         requires runes { Ends change.now.runes (held_in self.old).runes }
         ensures ok { OnOk result (IsBack (held_in self.old) (held_in self.new) change.now) }
         ensures mark { mark_of self.new ≡ mark_of self.old }
