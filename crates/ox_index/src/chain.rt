@@ -23,7 +23,8 @@ pub struct Chain {
     ghost some: { 1 ≤ depth },
     ghost few: { depth ≤ 1000 },
     ghost kept: { length changes ≤ depth },
-    ghost lead: { AllEnd (profile_there live) (index_there live) changes } by { AllEnd-prop (profile_there live) (index_there live) changes },
+    ghost lead: { AllEnd (profile_there live) (index_there live)
+        changes } by { AllEnd-prop (profile_there live) (index_there live) changes },
 }
 
 impl Chain {
