@@ -1,15 +1,18 @@
 -- A machine's answers are those of its stack, and lines that come later go on from where the earlier ones lead.
-use Rattle.std.proofs.Common.{◌≡◌, ◌∙◌, ◌<◌, ℕ, suc, List, [], ◌∷◌, ◌++◌, length, refl, ap, arith}
-use Rattle.std.specs.Prelude.{Option, Some, None, Result, Ok, Err, ◌==◌, Bool, true, false, if◌then◌else◌}
+use Rattle.std.proofs.Common.{◌≡◌, ◌∙◌, ◌<◌, ◌+◌, ◌-◌, ℕ, zero, suc, List, [], ◌∷◌, ◌++◌, length, take, refl, sym, ap, arith, length-append}
+use Rattle.std.specs.Prelude.{min, slice_get, Option, Some, None, Result, Ok, Err, ◌==◌, Bool, true, false, if◌then◌else◌}
+use Rattle.std.proofs.Math.Nat.{min-zero, zero-min, suc-min-suc}
+use Rattle.std.proofs.lemmas.List.{length-take-le, take-take, take_at}
 use Rattle.std.proofs.lemmas.List.Sums.{fold_push}
 use Rattle.ox_feed.specs.Command.{command_of}
 use Rattle.ox_feed.specs.Feed.{FeedLine, text, too_long}
 use Rattle.ox_feed.specs.declared.command.Command.{Command}
 use Rattle.ox_feed.specs.declared.command.Command.TheVariants.{Connect, Disconnect}
-use Rattle.ox_model.specs.Chain.{after_block, kept_index}
+use Rattle.ox_sat.specs.declared.profiles.Profile.{Profile}
+use Rattle.ox_model.specs.Chain.{after_block, index_of, kept_index}
 use Rattle.ox_model.specs.Index.{Index, no_blocks}
-use Rattle.ox_model.specs.Machine.{Machine, blocks_after, chain_index, stack_of, turn, with_blocks}
-use Rattle.ox_model.specs.Stack.{Stack, stack_after_any, turn_on, with_index}
+use Rattle.ox_model.specs.Machine.{Machine, all_but_last, chain_index, chosen, chosen_if, older_of, stack_of, turn}
+use Rattle.ox_model.specs.Stack.{Stack, back_to, stack_after_any, turn_on, with_index}
 use Rattle.ox_model.specs.Replies.{after_turn, reply_by, after_by, replies_by, after, replies, index_on, after_on, replies_on}
 use Rattle.ox_model.specs.Step.{step}
 use Rattle.ox_rules.specs.Text.{block_line, ok_text, refusal_line}
@@ -20,18 +23,77 @@ abbrev pub on_stack : Result Machine Refusal → Result Stack Refusal
 on_stack (Ok machine) = Ok (stack_of machine)
 on_stack (Err refusal) = Err refusal
 
--- the machine's chain with one block more has the index that its stack gets
+-- ---- the older indexes
+
+pub length-older_of : (p : Profile) (kept : ℕ) (blocks : List (List ℕ)) → length (older_of p kept blocks) ≡ kept
+length-older_of p zero blocks = refl
+length-older_of p (suc kept) blocks = ap suc (length-older_of p kept (all_but_last blocks))
+
+-- of a shorter chain without its last blocks
+shorter : (blocks : List (List ℕ)) (j : ℕ)
+    → take (length (all_but_last blocks) - (j + 1)) (all_but_last blocks) ≡ take (length blocks - (suc j + 1)) blocks
+shorter blocks j =
+    let fewer : length (all_but_last blocks) ≡ length blocks - 1 = length-take-le (length blocks - 1) blocks (omega arith) in
+    let places : length (all_but_last blocks) - (j + 1) ≡ length blocks - (suc j + 1) = omega (arith, fewer) in
+    take-take (length (all_but_last blocks) - (j + 1)) (length blocks - 1) blocks (omega (arith, fewer))
+    ∙ ap (λ (n : ℕ). take n blocks) places
+
+pub older_index : (p : Profile) (kept : ℕ) (blocks : List (List ℕ)) (j : ℕ) → j < kept
+    → slice_get (older_of p kept blocks) j ≡ Some (index_of p (take (length blocks - (j + 1)) blocks))
+older_index p zero blocks j less = absurd (omega arith)
+older_index p (suc kept) blocks zero less = refl
+older_index p (suc kept) blocks (suc j) less =
+    older_index p kept (all_but_last blocks) j (omega arith) ∙ ap (λ (l : List (List ℕ)). Some (index_of p l)) (shorter blocks j)
+
+-- so many of them at most
+take_older : (p : Profile) (depth kept : ℕ) (blocks : List (List ℕ)) → take depth (older_of p kept blocks) ≡ older_of p (min kept depth) blocks
+take_older p zero kept blocks = ap (λ (n : ℕ). older_of p n blocks) (sym (min-zero kept))
+take_older p (suc depth) zero blocks = ap (λ (n : ℕ). older_of p n blocks) (sym (zero-min (suc depth)))
+take_older p (suc depth) (suc kept) blocks =
+    ap (λ (l : List Index). index_of p (all_but_last blocks) ∷ l) (take_older p depth kept (all_but_last blocks))
+    ∙ ap (λ (n : ℕ). older_of p n blocks) (sym (suc-min-suc kept depth))
+
+without_pushed : (blocks : List (List ℕ)) (bytes : List ℕ) → all_but_last (blocks ++ bytes ∷ []) ≡ blocks
+without_pushed blocks bytes = take_at blocks (bytes ∷ []) _ (omega (arith, length-append blocks (bytes ∷ [])))
+
+-- those of a chain with one block more
+older_pushed : (p : Profile) (depth kept : ℕ) (blocks : List (List ℕ)) (bytes : List ℕ)
+    → older_of p (min (suc kept) depth) (blocks ++ bytes ∷ []) ≡ take depth (index_of p blocks ∷ older_of p kept blocks)
+older_pushed p depth kept blocks bytes =
+    sym (take_older p depth (suc kept) (blocks ++ bytes ∷ []))
+    ∙ ap (λ (l : List (List ℕ)). take depth (index_of p l ∷ older_of p kept l)) (without_pushed blocks bytes)
+
+-- ---- a command
+
+-- the machine's chain with one block more has the indexes that its stack gets
 connects : (m : Machine) (bytes : List ℕ) (r : Result Index Refusal) → step m.profile (chain_index m) bytes ≡ r
-    → on_stack (with_blocks m (m.blocks ++ bytes ∷ []) (with_index (stack_of m) r)) ≡ with_index (stack_of m) r
+    → on_stack (chosen_if (chosen m (Some (Connect bytes))) (with_index (stack_of m) r)) ≡ with_index (stack_of m) r
 connects m bytes (Ok index) is =
-    ap (λ (i : Index). Ok (record { profile = m.profile; depth = m.depth; index = i }))
-    (fold_push (after_block m.profile) no_blocks m.blocks bytes ∙ ap (kept_index (chain_index m)) is)
+    let newest : index_of m.profile (m.blocks ++ bytes ∷ []) ≡ index =
+    fold_push (after_block m.profile) no_blocks m.blocks bytes ∙ ap (kept_index (chain_index m)) is in
+    let older : older_of m.profile (min (suc m.kept) m.depth) (m.blocks ++ bytes ∷ []) ≡ take m.depth (chain_index m ∷ older_of m.profile m.kept m.blocks) =
+    older_pushed m.profile m.depth m.kept m.blocks bytes in
+    λ i. Ok (record { profile = m.profile; depth = m.depth; index = newest i; older = older i })
 connects m bytes (Err refusal) is = refl
 
+-- and without its last one those that the stack goes back to
+goes_back : (m : Machine) (kept : ℕ) → m.kept ≡ kept
+    → on_stack (chosen_if (chosen m (Some Disconnect)) (back_to (stack_of m) (older_of m.profile kept m.blocks)))
+    ≡ back_to (stack_of m) (older_of m.profile kept m.blocks)
+goes_back m zero is = refl
+goes_back m (suc kept) is =
+    let one_less : m.kept - 1 ≡ kept = omega (arith, is) in
+    λ i. Ok (record {
+      profile = m.profile;
+      depth = m.depth;
+      index = index_of m.profile (all_but_last m.blocks);
+      older = older_of m.profile (one_less i) (all_but_last m.blocks);
+    })
+
 pub obeys_alike : (m : Machine) (command : Option Command)
-    → on_stack (with_blocks m (blocks_after m.blocks command) (stack_after_any (stack_of m) command)) ≡ stack_after_any (stack_of m) command
+    → on_stack (chosen_if (chosen m command) (stack_after_any (stack_of m) command)) ≡ stack_after_any (stack_of m) command
 obeys_alike m (Some (Connect bytes)) = connects m bytes (step m.profile (chain_index m) bytes) refl
-obeys_alike m (Some Disconnect) = refl
+obeys_alike m (Some Disconnect) = goes_back m m.kept refl
 obeys_alike m None = refl
 
 turns_alike : (m : Machine) (line : FeedLine) → on_stack (turn m line) ≡ turn_on (stack_of m) line

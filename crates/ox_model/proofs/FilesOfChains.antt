@@ -1,7 +1,8 @@
 -- What files stand for once a record is appended, and of which chain that is.
-use Rattle.std.proofs.Common.{◌≡◌, ◌∙◌, ℕ, List, [], ◌∷◌, ◌++◌, ap, refl, subst}
-use Rattle.std.specs.Prelude.{Option, Some, None, Result, Ok, Err}
+use Rattle.std.proofs.Common.{◌≡◌, ◌∙◌, ℕ, zero, suc, List, [], ◌∷◌, ◌++◌, ap, refl, subst}
+use Rattle.std.specs.Prelude.{All, Option, Some, None, Result, Ok, Err}
 use Rattle.std.specs.Result.{result_ok}
+use Rattle.std.proofs.lemmas.List.Elements.{All-nil, All-cons}
 use Rattle.ox_bytes.specs.Reading.{◌>>=◌}
 use Rattle.ox_outside.specs.Files.{Files}
 use Rattle.ox_outside.specs.declared.site.Which.{Which}
@@ -9,11 +10,14 @@ use Rattle.ox_gated.specs.Reading.{Found, Fault, IntactPart, with_payload, readi
 use Rattle.ox_gated.specs.declared.head.Head.{Head}
 use Rattle.ox_gated.specs.declared.records.Record.{Record}
 use Rattle.ox_sat.specs.Profiles.{name_at, profile_named}
-use Rattle.ox_feed.specs.declared.command.Command.TheVariants.{Connect}
-use Rattle.ox_model.specs.Machine.{Machine, blocks_after, empty_machine, stack_of, with_blocks}
+use Rattle.ox_feed.specs.declared.command.Command.{Command}
+use Rattle.ox_feed.specs.declared.command.Command.TheVariants.{Connect, Disconnect}
+use Rattle.ox_sat.specs.declared.profiles.Profile.{Profile}
+use Rattle.ox_model.specs.Machine.{Machine, all_but_last, chain_index, chosen, chosen_if, empty_machine, older_of, stack_of}
+use Rattle.ox_model.specs.Chain.{index_of}
 use Rattle.ox_model.specs.Sound.{IsSound}
 use Rattle.ox_model.specs.Stack.{Stack, stack_after}
-use Rattle.ox_model.specs.Stands.{empty_stack_at, block_in, stack_with_block, or_place, stack_after_records, stack_in_file, in_file, place_of_cut, stack_in, stands}
+use Rattle.ox_model.specs.Stands.{empty_stack_at, command_in, recorded, stack_accepting, or_place, stack_after_records, stack_in_file, in_file, place_of_cut, stack_in, stands}
 use Rattle.ox_rules.specs.declared.refusal.Refusal.{Refusal}
 use Rattle.ox_model.proofs.Soundness.{sound_chain}
 use Rattle.ox_model.proofs.AnswersOfStacks.{on_stack, obeys_alike}
@@ -21,7 +25,7 @@ use Rattle.ox_model.proofs.AnswersOfStacks.{on_stack, obeys_alike}
 -- ---- one record more
 
 abbrev one_more : Stack → Record → Result Stack ℕ
-one_more stack one = or_place one.place (stack_with_block stack (block_in one.payload))
+one_more stack one = or_place one.place (stack_accepting stack (command_in one.payload))
 
 then_one : (r : Result Stack ℕ) (records : List Record) (one : Record)
     → ((next : Stack) → r ≡ Ok next → stack_after_records next (records ++ one ∷ []) ≡ (stack_after_records next records >>= λ last. one_more last one))
@@ -49,9 +53,16 @@ judged_more head [] records one stack new is next =
     replayed_more (empty_stack_at head) records one ∙ ap (λ (r : Result Stack ℕ). r >>= λ last. one_more last one) is ∙ next
 judged_more head (b ∷ body) records one stack new is next = absurd (cc is)
 
-next_of : (stack : Stack) (place : ℕ) (bytes : List ℕ) (new : Stack) → stack_after stack (Connect bytes) ≡ Ok new
-    → one_more stack (record { place = place; payload = 1 ∷ bytes }) ≡ Ok new
-next_of stack place bytes new is = ap (λ (r : Result Stack Refusal). or_place place (result_ok r)) is
+-- what a command is recorded as, it is read as
+command_recorded : (command : Command) → command_in (recorded command) ≡ Some command
+command_recorded (Connect block) = refl
+command_recorded Disconnect = refl
+
+next_of : (stack : Stack) (place : ℕ) (command : Command) (new : Stack) → stack_after stack command ≡ Ok new
+    → one_more stack (record { place = place; payload = recorded command }) ≡ Ok new
+next_of stack place command new is =
+    ap (λ (asked : Option Command). or_place place (stack_accepting stack asked)) (command_recorded command)
+    ∙ ap (λ (r : Result Stack Refusal). or_place place (result_ok r)) is
 
 -- files in which a test fails stand for no stack
 abbrev err_at : ℕ → Result Stack ℕ
@@ -65,14 +76,14 @@ no_stack : (file : Which) (at : ℕ) (before : Option IntactPart) (stack : Stack
 no_stack file at None stack is = cc is
 no_stack file at (Some before) stack is = no_cut file at (stack_in_file before.head before.body before.records) stack is
 
--- the record of a block that is accepted
-pub stands_more : (found : Result Found Fault) (bytes : List ℕ) (stack new : Stack) → stack_in found ≡ Ok stack → stack_after stack (Connect bytes) ≡ Ok new
-    → stack_in (with_payload (1 ∷ bytes) found) ≡ Ok new
-stands_more (Ok found) bytes stack new is next =
+-- the record of a command that is accepted
+pub stands_more : (found : Result Found Fault) (command : Command) (stack new : Stack) → stack_in found ≡ Ok stack → stack_after stack command ≡ Ok new
+    → stack_in (with_payload (recorded command) found) ≡ Ok new
+stands_more (Ok found) command stack new is next =
     ap (in_file found.file)
-    (judged_more found.head found.body found.records (record { place = found.gate; payload = 1 ∷ bytes }) stack new
-    (in_file_ok found.file (stack_in_file found.head found.body found.records) stack is) (next_of stack found.gate bytes new next))
-stands_more (Err fault) bytes stack new is next = absurd (no_stack fault.file fault.at fault.before stack is)
+    (judged_more found.head found.body found.records (record { place = found.gate; payload = recorded command }) stack new
+    (in_file_ok found.file (stack_in_file found.head found.body found.records) stack is) (next_of stack found.gate command new next))
+stands_more (Err fault) command stack new is next = absurd (no_stack fault.file fault.at fault.before stack is)
 
 -- ---- whose chain it is
 
@@ -87,10 +98,10 @@ taken : (place : ℕ) (r : Result Stack Refusal) (stack : Stack) → or_place pl
 taken place (Ok s) stack is = cc is
 taken place (Err refusal) stack is = absurd (cc is)
 
-chain_more : (machine : Machine) (place : ℕ) (block : Option (List ℕ)) (stack : Stack) → or_place place (stack_with_block (stack_of machine) block) ≡ Ok stack → IsOfChain stack
-chain_more machine place (Some bytes) stack is =
-    machine_of (with_blocks machine (blocks_after machine.blocks (Some (Connect bytes))) (stack_after (stack_of machine) (Connect bytes))) stack
-    (obeys_alike machine (Some (Connect bytes)) ∙ taken place (stack_after (stack_of machine) (Connect bytes)) stack is)
+chain_more : (machine : Machine) (place : ℕ) (command : Option Command) (stack : Stack) → or_place place (stack_accepting (stack_of machine) command) ≡ Ok stack → IsOfChain stack
+chain_more machine place (Some command) stack is =
+    machine_of (chosen_if (chosen machine (Some command)) (stack_after (stack_of machine) command)) stack
+    (obeys_alike machine (Some command) ∙ taken place (stack_after (stack_of machine) command) stack is)
 chain_more machine place None stack is = absurd (cc is)
 
 chain_behind : (r : Result Stack ℕ) (records : List Record) (stack : Stack) → ((next : Stack) → r ≡ Ok next → IsOfChain next)
@@ -103,7 +114,7 @@ unfolding stack_after_records
 chain_replayed first [] stack of is = (of.0, of.1 ∙ cc is)
 chain_replayed first (one ∷ records) stack of is =
     chain_behind (one_more first one) records stack
-    (λ next is. chain_more of.0 one.place (block_in one.payload) next (ap (λ (s : Stack). or_place one.place (stack_with_block s (block_in one.payload))) of.1 ∙ is))
+    (λ next is. chain_more of.0 one.place (command_in one.payload) next (ap (λ (s : Stack). or_place one.place (stack_accepting s (command_in one.payload))) of.1 ∙ is))
     (λ next of_next is. chain_replayed next records stack of_next is) is
 
 chain_judged : (head : Head) (body : List ℕ) (records : List Record) (stack : Stack) → stack_in_file head body records ≡ Ok stack → IsOfChain stack
@@ -118,5 +129,15 @@ chain_in (Err fault) stack is = absurd (no_stack fault.file fault.at fault.befor
 pub stands_for_chain : (files : Files) (stack : Stack) → stands files ≡ Ok stack → IsOfChain stack
 stands_for_chain files stack is = chain_in (reading 1 files) stack is
 
-pub chain_sound : (stack : Stack) → IsOfChain stack → IsSound stack.profile stack.index
-chain_sound stack of = subst (λ (s : Stack). IsSound s.profile s.index) of.1 (sound_chain of.0.profile of.0.blocks)
+sound_older : (p : Profile) (kept : ℕ) (blocks : List (List ℕ)) → All (IsSound p) (older_of p kept blocks)
+sound_older p zero blocks = All-nil (IsSound p)
+sound_older p (suc kept) blocks =
+    All-cons (IsSound p) (index_of p (all_but_last blocks)) (older_of p kept (all_but_last blocks))
+    (sound_chain p (all_but_last blocks)) (sound_older p kept (all_but_last blocks))
+
+pub chain_sound : (stack : Stack) → IsOfChain stack → All (IsSound stack.profile) (stack.index ∷ stack.older)
+chain_sound stack of =
+    let machine = of.0 in
+    subst (λ (s : Stack). All (IsSound s.profile) (s.index ∷ s.older)) of.1
+    (All-cons (IsSound machine.profile) (chain_index machine) (older_of machine.profile machine.kept machine.blocks)
+    (sound_chain machine.profile machine.blocks) (sound_older machine.profile machine.kept machine.blocks))

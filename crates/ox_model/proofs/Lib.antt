@@ -3,3 +3,4 @@ pub mod CountedMoments
 pub mod FilesOfChains
 pub mod AnswersOfStacks
 pub mod RunsInTurn
+pub mod Changes

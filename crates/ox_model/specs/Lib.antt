@@ -3,6 +3,7 @@ pub mod Where
 pub mod Step
 pub mod Chain
 pub mod Sound
+pub mod Change
 pub mod Stack
 pub mod Machine
 pub mod Replies

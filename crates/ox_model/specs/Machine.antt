@@ -1,6 +1,8 @@
--- The machine that commands drive: a chain of blocks, of which the newest ones may be kept to be
--- taken back. What is accepted is what its stack accepts; the machine says which blocks are left.
-use Rattle.std.specs.Prelude.{ℕ, List, [], ◌∷◌, ◌++◌, Option, Some, None, Result, Ok, Err}
+-- The machine that commands drive: a chain of blocks, of which the newest ones are kept, so that they
+-- can be taken back. What is accepted is what its stack accepts; the machine says which blocks are
+-- left, and how many of them are kept.
+use Rattle.std.specs.Prelude.{ℕ, zero, suc, ◌-◌, List, [], ◌∷◌, ◌++◌, length, take, min}
+use Rattle.std.specs.Prelude.{Option, Some, None, Result, Ok, Err}
 use Rattle.ox_feed.specs.Command.{command_of}
 use Rattle.ox_feed.specs.Feed.{FeedLine, text, too_long}
 use Rattle.ox_feed.specs.declared.command.Command.{Command}
@@ -18,12 +20,22 @@ pub record Machine : Type 0 where
   pub depth : ℕ
   -- the bytes of its blocks, by height
   pub blocks : List (List ℕ)
-  -- how many of the newest are kept: none yet, whatever is connected
+  -- how many of the newest are kept
   pub kept : ℕ
 
 -- before the first command
 abbrev pub empty_machine : Profile → ℕ → Machine
 empty_machine p depth = record { profile = p; depth = depth; blocks = []; kept = 0 }
+
+-- a chain without its last block
+abbrev pub all_but_last : List (List ℕ) → List (List ℕ)
+all_but_last blocks = take (length blocks - 1) blocks
+
+-- fresh indexing of a chain without its last block, its last two, and so on, so many times
+abbrev pub older_of : Profile → ℕ → List (List ℕ) → List Index
+older_of p zero blocks = []
+older_of p (suc kept) blocks =
+    index_of p (all_but_last blocks) ∷ older_of p kept (all_but_last blocks)
 
 -- the index of its chain: fresh indexing of its blocks
 abbrev pub chain_index : Machine → Index
@@ -35,25 +47,32 @@ stack_of machine = record {
   profile = machine.profile;
   depth = machine.depth;
   index = chain_index machine;
+  older = older_of machine.profile machine.kept machine.blocks;
 }
 
--- the blocks of a chain after a command that is accepted
-abbrev pub blocks_after : List (List ℕ) → Option Command → List (List ℕ)
-blocks_after blocks (Some (Connect bytes)) = blocks ++ bytes ∷ []
-blocks_after blocks (Some Disconnect) = blocks
-blocks_after blocks None = blocks
+-- the machine after a command that is accepted: a block is appended, and one more is kept, but no
+-- more than depth; or the last block is gone
+abbrev pub chosen : Machine → Option Command → Machine
+chosen machine (Some (Connect bytes)) = record machine {
+  blocks = machine.blocks ++ bytes ∷ [];
+  kept = min (suc machine.kept) machine.depth;
+}
+chosen machine (Some Disconnect) = record machine {
+  blocks = all_but_last machine.blocks;
+  kept = machine.kept - 1;
+}
+chosen machine None = machine
 
 -- and after a line that is
-abbrev pub blocks_after_line : List (List ℕ) → FeedLine → List (List ℕ)
-blocks_after_line blocks (text line) = blocks_after blocks (command_of line)
-blocks_after_line blocks too_long = blocks
+abbrev pub chosen_by : Machine → FeedLine → Machine
+chosen_by machine (text line) = chosen machine (command_of line)
+chosen_by machine too_long = machine
 
--- a machine with these blocks, where its stack has turned
-abbrev pub with_blocks : Machine → List (List ℕ) → Result Stack Refusal → Result Machine Refusal
-with_blocks machine blocks (Ok stack) = Ok (record machine { blocks = blocks })
-with_blocks machine blocks (Err refusal) = Err refusal
+-- the machine, where its stack has turned
+abbrev pub chosen_if : Machine → Result Stack Refusal → Result Machine Refusal
+chosen_if machine (Ok stack) = Ok machine
+chosen_if machine (Err refusal) = Err refusal
 
--- the machine after a line, or why it is refused: what its stack says, with the line's block
+-- the machine after a line, or why it is refused: what its stack says
 abbrev pub turn : Machine → FeedLine → Result Machine Refusal
-turn machine line =
-    with_blocks machine (blocks_after_line machine.blocks line) (turn_on (stack_of machine) line)
+turn machine line = chosen_if (chosen_by machine line) (turn_on (stack_of machine) line)

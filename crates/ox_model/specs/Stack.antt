@@ -1,6 +1,6 @@
--- What a machine's answers depend on, which turns by commands. Of the indexes there is the newest
--- one alone, since no block is kept to be taken back.
-use Rattle.std.specs.Prelude.{ℕ, Option, Some, None, Result, Ok, Err}
+-- What a machine's answers depend on, which turns by commands: the index of its chain, and those of
+-- the shorter chains that it can go back to.
+use Rattle.std.specs.Prelude.{ℕ, List, [], ◌∷◌, take, Option, Some, None, Result, Ok, Err}
 use Rattle.ox_feed.specs.Command.{command_of}
 use Rattle.ox_feed.specs.Feed.{FeedLine, text, too_long}
 use Rattle.ox_feed.specs.declared.command.Command.{Command}
@@ -18,16 +18,26 @@ pub record Stack : Type 0 where
   pub depth : ℕ
   -- the index of the chain
   pub index : Index
+  -- those of the chain without its last block, its last two, and so on: one for each kept block
+  pub older : List Index
 
--- with another index, where there is one
+-- with a new index in front, where there is one, of the older ones at most depth many are kept
 abbrev pub with_index : Stack → Result Index Refusal → Result Stack Refusal
-with_index stack (Ok index) = Ok (record stack { index = index })
+with_index stack (Ok index) = Ok (record stack {
+  index = index;
+  older = take stack.depth (stack.index ∷ stack.older);
+})
 with_index stack (Err refusal) = Err refusal
 
--- The stack after a command, or why it is refused. No block is kept that could be taken back.
+-- gone back to the first of the older ones; where there is none, no block is kept
+abbrev pub back_to : Stack → List Index → Result Stack Refusal
+back_to stack [] = Err Depth
+back_to stack (index ∷ older) = Ok (record stack { index = index; older = older })
+
+-- the stack after a command, or why it is refused
 abbrev pub stack_after : Stack → Command → Result Stack Refusal
 stack_after stack (Connect bytes) = with_index stack (step stack.profile stack.index bytes)
-stack_after stack Disconnect = Err Depth
+stack_after stack Disconnect = back_to stack stack.older
 
 -- a line that is no command is refused
 abbrev pub stack_after_any : Stack → Option Command → Result Stack Refusal

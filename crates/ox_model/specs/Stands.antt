@@ -1,5 +1,5 @@
 -- What two files stand for, at version 1: a stack, or the file and the place of the first test that
--- fails. The body is empty, and a record's payload is 01 and a block that the chain before it
+-- fails. The body is empty, and a record's payload is that of a command which the stack before it
 -- accepts.
 use Rattle.std.specs.Prelude.{ℕ, ◌==◌, List, [], ◌∷◌, Option, Some, None, Result, Ok, Err}
 use Rattle.std.specs.Prelude.{if◌then◌else◌}
@@ -11,7 +11,8 @@ use Rattle.ox_gated.specs.Reading.{Found, Fault, IntactPart, reading}
 use Rattle.ox_gated.specs.declared.head.Head.{Head}
 use Rattle.ox_gated.specs.declared.records.Record.{Record}
 use Rattle.ox_sat.specs.Profiles.{name_at, profile_named}
-use Rattle.ox_feed.specs.declared.command.Command.TheVariants.{Connect}
+use Rattle.ox_feed.specs.declared.command.Command.{Command}
+use Rattle.ox_feed.specs.declared.command.Command.TheVariants.{Connect, Disconnect}
 use Rattle.ox_model.specs.Machine.{empty_machine, stack_of}
 use Rattle.ox_model.specs.Stack.{Stack, stack_after}
 
@@ -19,15 +20,28 @@ use Rattle.ox_model.specs.Stack.{Stack, stack_after}
 abbrev pub empty_stack_at : Head → Stack
 empty_stack_at head = stack_of (empty_machine (profile_named (name_at head.profile)) head.depth)
 
--- the block of a payload: 01 and the block
-abbrev pub block_in : List ℕ → Option (List ℕ)
-block_in [] = None
-block_in (kind ∷ bytes) = if kind == 1 then Some bytes else None
+-- a command as the payload of a record: 01 and the block, or 00
+abbrev pub recorded : Command → List ℕ
+recorded (Connect block) = 1 ∷ block
+recorded Disconnect = 0 ∷ []
 
--- the stack after this block, if it is accepted
-abbrev pub stack_with_block : Stack → Option (List ℕ) → Option Stack
-stack_with_block stack None = None
-stack_with_block stack (Some bytes) = result_ok (stack_after stack (Connect bytes))
+-- nothing may stand behind the byte of a disconnect
+abbrev pub disconnect_before : List ℕ → Option Command
+disconnect_before [] = Some Disconnect
+disconnect_before (b ∷ rest) = None
+
+-- the command of a payload
+abbrev pub command_in : List ℕ → Option Command
+command_in [] = None
+command_in (kind ∷ rest) =
+    if kind == 1 then Some (Connect rest)
+    else if kind == 0 then disconnect_before rest
+    else None
+
+-- the stack after this command, if it is accepted
+abbrev pub stack_accepting : Stack → Option Command → Option Stack
+stack_accepting stack None = None
+stack_accepting stack (Some command) = result_ok (stack_after stack command)
 
 abbrev pub or_place : {X : Type 0} → ℕ → Option X → Result X ℕ
 or_place place None = Err place
@@ -37,7 +51,7 @@ or_place place (Some x) = Ok x
 unfoldable pub stack_after_records : Stack → List Record → Result Stack ℕ
 stack_after_records stack [] = Ok stack
 stack_after_records stack (one ∷ records) = do
-  next ← or_place one.place (stack_with_block stack (block_in one.payload))
+  next ← or_place one.place (stack_accepting stack (command_in one.payload))
   stack_after_records next records
 
 -- the stack of a head, a body and records; a body that isn't empty is at fault, and its place is 26

@@ -21,7 +21,7 @@ abbrev pub status_data : Stack → Data
 status_data stack = object (
     member (codes "blocks") (count_data (length stack.index.hashes)) (
     member (codes "depth") (count_data stack.depth) (
-    member (codes "kept") (count_data 0) (
+    member (codes "kept") (count_data (length stack.older)) (
     member (codes "profile") (string (profile_word (name_at stack.profile.byte))) (
     member (codes "tip") (tip_data stack.index.hashes) no_members)))))
 

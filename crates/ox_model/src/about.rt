@@ -5,6 +5,6 @@
 pub struct About {
     /// From 1 to 1,000.
     pub depth: u16,
-    /// None yet.
+    /// Up to `depth`.
     pub kept: u16,
 }

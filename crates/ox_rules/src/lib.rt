@@ -21,7 +21,7 @@ pub use place::Place;
 pub use refusal::{Refusal, hash_text, outpoint_text};
 pub use rows::OutRow;
 pub use script::Script;
-pub use table::{OutTable, Unplaced};
+pub use table::{OutTable, TableRows, Unplaced};
 
 /// What differs between two tables of outputs: the rows that are gone and those that came, each by
 /// rising outpoint. There is one such pair of lists, and with either table it gives the other.

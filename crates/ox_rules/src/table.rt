@@ -7,7 +7,10 @@ ghost use Rattle.ox_rules.specs.Outputs.{Outputs, MayStand};
 
 use crate::rows::OutRow;
 use ox_block::OutPoint;
-use ox_bytes::Memory;
+use ox_bytes::{List, Memory};
+
+/// Rows of a table, each with its outpoint.
+pub type TableRows = List<(OutPoint, OutRow)>;
 
 /// There was no memory for a row in the table, which is as it was. The row is handed back.
 #[derive(Debug, Drop)]

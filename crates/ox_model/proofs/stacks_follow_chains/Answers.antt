@@ -1,5 +1,5 @@
 use Rattle.ox_model.proofs.AnswersOfStacks.{replies_alike, after_alike}
-use Rattle.ox_model.proofs.answers_are_of_the_stack.Goals as goal
+use Rattle.ox_model.proofs.stacks_follow_chains.Goals as goal
 
 pub returns-clause-answers : goal.returns-clause-answers
 returns-clause-answers c = replies_alike

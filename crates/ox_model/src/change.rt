@@ -1,0 +1,18 @@
+//! What one block changes.
+
+use ox_range::Ranges;
+use ox_rules::TableRows;
+
+/// What one block changes in the index: with the index before it, it gives the one after it, and
+/// the other way round.
+#[derive(Debug, Drop)]
+pub struct Change {
+    /// The block's hash, in serialized order.
+    pub hash: [u8; 32],
+    /// The outputs before it that are gone or different after it, by rising outpoint.
+    pub gone: TableRows,
+    /// The outputs after it that are new or different, by rising outpoint.
+    pub came: TableRows,
+    /// The satoshis that it lost, in the order in which they were.
+    pub lost: Ranges,
+}
