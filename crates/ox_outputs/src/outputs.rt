@@ -9,7 +9,7 @@ ghost use Rattle.ox_outputs.specs.Slots.{rows_of, undone, are_slots};
 use crate::changes::{fill_twice, forget, go_back, settle, take_twice};
 use crate::slots::Slots;
 use ox_block::OutPoint;
-use ox_rules::{Memory, OutRow, OutTable, Place, Unplaced};
+use ox_rules::{Memory, OutRow, OutTable, Place, TableRows, Unplaced};
 use std::alloc::Global;
 
 /// The unspent outputs: rows by outpoint, in memory. With a mark set, the rows that were taken or
@@ -29,7 +29,9 @@ pub struct Outputs {
 
 impl Outputs {
     ghost use Rattle.ox_rules.specs.Where.{place_among};
-    ghost use Rattle.ox_outputs.specs.Table.{rows_in};
+    ghost use Rattle.ox_rules.specs.Differences.{Differ, other_end};
+    ghost use Rattle.ox_rules.specs.Outputs.{Outputs as Rows};
+    ghost use Rattle.ox_outputs.specs.Table.{rows_in, marked_in, EndsIn};
 
     /// No outputs, and no mark. It takes no memory until a row is placed.
     pub fn new(alloc: Global) -> Outputs
@@ -50,6 +52,29 @@ impl Outputs {
         ensures { result ≡ place_among (map.entries (rows_in self.now)) sat }
     {
         self.slots.find(sat)
+    }
+
+    /// The rows that are gone since the mark was set, and those that came; a row that changed is in
+    /// both. Each list stands by rising outpoint. `Memory` where there is none for them.
+    pub fn changed(&self) -> Result<(TableRows, TableRows), Memory>
+        requires { IsSome (marked_in self.now) }
+        ensures { IfOk result (λ rows. (before : Rows) → marked_in self.now ≡ Some before
+            → Differ before (rows_in self.now) (record { gone = rows.0; came = rows.1 })) }
+    {
+        Err(Memory)
+    }
+
+    /// Brings the table to the other end of a difference that ends here: the rows that came are
+    /// taken out, and those that are gone are placed again. It asks for a mark, which stays. After
+    /// `Memory` the caller goes back by `cancel`.
+    pub fn put(&mut self, gone: &TableRows, came: &TableRows) -> Result<(), Memory>
+        requires marked { IsSome (marked_in self.old) }
+        requires ends { EndsIn (rows_in self.old) (record { gone = gone.now; came = came.now }) }
+        ensures ok { OnOk result (rows_in self.new
+            ≡ other_end (rows_in self.old) (record { gone = gone.now; came = came.now })) }
+        ensures mark { marked_in self.new ≡ marked_in self.old }
+    {
+        Err(Memory)
     }
 }
 
