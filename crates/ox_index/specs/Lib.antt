@@ -1,3 +1,5 @@
+pub mod Chain
 pub mod Fault
+pub mod Lengths
 pub mod Live
 pub mod Reply

@@ -9,7 +9,7 @@ use ox_model::Refusal;
 use ox_transfer::TransferFault;
 use std::alloc::AllocError;
 
-/// Why a block wasn't connected. The index is as before.
+/// Why a block wasn't connected, or taken back. The index is as before.
 #[derive(Clone, Copy, Debug, PartialEq, Eq)]
 pub enum ConnectFault {
     /// The block is refused.

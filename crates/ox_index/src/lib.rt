@@ -2,10 +2,15 @@
 #![tactic(auto)]
 
 mod admit;
+mod chain;
+mod changes;
 mod fault;
+mod lengths;
 mod live;
 mod reply;
 
+pub use chain::Chain;
+pub use changes::Changes;
 pub use fault::ConnectFault;
 pub use live::Live;
 pub use reply::{LONGEST_OK, empty_line, ok_line_in};

@@ -98,7 +98,7 @@ fn extend(
 ) -> [u8; 32] {
     let block = block_on(rt, alloc, tip, txs);
     let bytes = write_block(alloc, &block).expect(rt, "memory");
-    assert!(rt; live.connect(bytes.as_slice()) == Ok(()));
+    assert!(rt; live.connect(bytes.as_slice()).is_ok());
     hash(&block.header)
 }
 
@@ -111,7 +111,7 @@ fn is_refused(
     refusal: Refusal,
 ) -> bool {
     let bytes = write_block(alloc, block).expect(rt, "memory");
-    live.connect(bytes.as_slice()) == Err(ConnectFault::Refused(refusal))
+    matches!(live.connect(bytes.as_slice()), Err(fault) if fault == ConnectFault::Refused(refusal))
 }
 
 /// Connects a block of a coinbase alone; the new tip, and its output.

@@ -4,3 +4,4 @@ pub mod FilesOfChains
 pub mod AnswersOfStacks
 pub mod RunsInTurn
 pub mod Changes
+pub mod Ended

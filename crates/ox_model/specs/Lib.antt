@@ -4,6 +4,7 @@ pub mod Step
 pub mod Chain
 pub mod Sound
 pub mod Change
+pub mod Ends
 pub mod Stack
 pub mod Machine
 pub mod Replies

@@ -1,0 +1,120 @@
+//! A chain in memory whose newest blocks can be taken back.
+
+ghost use Rattle.std.specs.Prelude.{◌≡◌, ◌≤◌, Ok, IfOk, IfErr, OnOk, OnErr, length};
+ghost use Rattle.ox_model.specs.Ends.{AllEnd};
+ghost use Rattle.ox_model.proofs.Ended.{AllEnd-prop};
+ghost use Rattle.ox_index.specs.Live.{index_in as index_there, profile_in as profile_there};
+
+use crate::changes::Changes;
+use crate::fault::ConnectFault;
+use crate::live::Live;
+use ox_model::{About, Change, Refusal};
+use ox_sat::Profile;
+use std::alloc::Global;
+
+/// An index in memory with the changes of its newest blocks, at most `depth` many, so that each of
+/// these can be taken back. Contracts see its stack.
+#[derive(Drop)]
+pub struct Chain {
+    live: Live,
+    depth: u16,
+    changes: Changes,
+    ghost some: { 1 ≤ depth },
+    ghost kept: { length changes ≤ depth },
+    ghost lead: { AllEnd (profile_there live) (index_there live) changes } by { AllEnd-prop (profile_there live) (index_there live) changes },
+}
+
+impl Chain {
+    ghost use Rattle.ox_feed.specs.declared.command.Command.TheVariants.{Connect, Disconnect};
+    ghost use Rattle.ox_sat.specs.Profiles.{IsProfile};
+    ghost use Rattle.ox_model.specs.Change.{IsChange};
+    ghost use Rattle.ox_model.specs.Ends.{LeadDown};
+    ghost use Rattle.ox_model.specs.Machine.{empty_machine, stack_of};
+    ghost use Rattle.ox_model.specs.Stack.{stack_after};
+    ghost use Rattle.ox_index.specs.Chain.{stack_in};
+    ghost use Rattle.ox_index.specs.Fault.{Refuses};
+    ghost use Rattle.ox_index.specs.Live.{index_in, profile_in};
+
+    /// A chain without a block that counts by this profile, and of whose blocks at most `depth` are
+    /// kept. It takes no memory until a block is connected.
+    pub fn new(alloc: Global, p: &Profile, depth: u16) -> Chain
+        requires known { IsProfile p.now }
+        requires some { 1 ≤ depth }
+        ensures { stack_in result ≡ stack_of (empty_machine p.now depth) }
+    {
+        Chain {
+            live: Live::new(alloc, p),
+            depth,
+            changes: Changes::new(alloc),
+        }
+    }
+
+    /// The index.
+    pub fn live(&self) -> &Live
+        ensures profile { profile_in result.now ≡ (stack_in self.now).profile }
+        ensures index { index_in result.now ≡ (stack_in self.now).index }
+    {
+        &self.live
+    }
+
+    /// How many blocks may be kept, and how many are.
+    pub fn about(&self) -> About
+        ensures depth { result.depth ≡ (stack_in self.now).depth }
+        ensures kept { result.kept ≡ length (stack_in self.now).older }
+    {
+        About {
+            depth: self.depth,
+            kept: self.changes.len() as u16,
+        }
+    }
+
+    /// The changes of the kept blocks, the newest first: each leads from the next older index to
+    /// the newer one.
+    pub fn changes(&self) -> &Changes
+        ensures { LeadDown (stack_in self.now).index (stack_in self.now).older result.now }
+    {
+        &self.changes
+    }
+
+    /// Takes in the block that has these bytes, and keeps it, so that it can be taken back; where
+    /// more than `depth` would be kept the oldest of them isn't any more. `Refused` exactly where
+    /// the definition refuses, with the first cause; `Memory` where there is none. After a refusal
+    /// or `Memory` the chain is as before.
+    pub fn connect(&mut self, block: &[u8]) -> Result<(), ConnectFault>
+        ensures ok { OnOk result
+            (stack_after (stack_in self.old) (Connect block.now) ≡ Ok (stack_in self.new)) }
+        ensures refused { IfErr result
+            (λ fault. Refuses fault (stack_after (stack_in self.old) (Connect block.now))) }
+        ensures err { OnErr result (stack_in self.new ≡ stack_in self.old) }
+    {
+        let change = self.live.connect(block)?;
+        if let Err(e) = self.changes.push(change) {
+            self.live.cancel();
+            return Err(e.into());
+        }
+        self.changes.truncate(self.depth as usize);
+        Ok(())
+    }
+
+    /// Takes back the newest block and answers its change, which leads from the index now to the
+    /// one before. `Refused` with `Depth` exactly where no block is kept; `Memory` where there is
+    /// none. After either the chain is as before.
+    pub fn disconnect(&mut self) -> Result<Change, ConnectFault>
+        ensures ok { OnOk result
+            (stack_after (stack_in self.old) Disconnect ≡ Ok (stack_in self.new)) }
+        ensures change { IfOk result
+            (IsChange (stack_in self.new).index (stack_in self.old).index) }
+        ensures refused { IfErr result
+            (λ fault. Refuses fault (stack_after (stack_in self.old) Disconnect)) }
+        ensures err { OnErr result (stack_in self.new ≡ stack_in self.old) }
+    {
+        let Some(change) = self.changes.get(0) else {
+            return Err(ConnectFault::Refused(Refusal::Depth));
+        };
+        self.live.back(change)?;
+        match self.changes.pop() {
+            Some(change) => Ok(change),
+            None => unreachable!(),
+        }
+    }
+}
