@@ -44,23 +44,26 @@ step_unadmitted p index bytes block (Refused refusal) read refuses =
     ∙ ap (λ (r : Result (Unit {0}) Refusal). r >>= λ begun. transfer_of p (length index.hashes) block.txs index.outs >>= λ after. Ok (grown_index index block after)) refuses
 step_unadmitted p index bytes block Memory read refuses = tt
 
--- what a step makes of a block that is admitted
-admitted_step : (p : Profile) (index : Index) (bytes : List ℕ) (block : Block) → block_of bytes ≡ Ok block → admission p index.hashes block ≡ Ok tt → step p index bytes ≡ (transfer_of p (length index.hashes) block.txs index.outs >>= λ after. Ok (grown_index index block after))
+-- the step of bytes that spell a block
+pub step_read : (p : Profile) (index : Index) (bytes : List ℕ) (block : Block) → block_of bytes ≡ Ok block → step p index bytes ≡ index_after p index block
 unfolding step
-admitted_step p index bytes block read begun =
-    ap (λ (r : Result Block ℕ). or_malformed r >>= index_after p index) read
-    ∙ ap (λ (r : Result (Unit {0}) Refusal). r >>= λ begun. transfer_of p (length index.hashes) block.txs index.outs >>= λ after. Ok (grown_index index block after)) begun
+step_read p index bytes block read = ap (λ (r : Result Block ℕ). or_malformed r >>= index_after p index) read
+
+-- what is made of a block that is admitted
+admitted_after : (p : Profile) (index : Index) (block : Block) → admission p index.hashes block ≡ Ok tt → index_after p index block ≡ (transfer_of p (length index.hashes) block.txs index.outs >>= λ after. Ok (grown_index index block after))
+admitted_after p index block begun =
+    ap (λ (r : Result (Unit {0}) Refusal). r >>= λ begun. transfer_of p (length index.hashes) block.txs index.outs >>= λ after. Ok (grown_index index block after)) begun
 
 -- a block whose satoshis can't be moved
-pub step_unmoved : (p : Profile) (index : Index) (bytes : List ℕ) (block : Block) (fault : TransferFault) (e : ConnectFault) → block_of bytes ≡ Ok block → admission p index.hashes block ≡ Ok tt → transfers.Refuses fault (transfer_of p (length index.hashes) block.txs index.outs) → e ≡ of_transfer fault → Refuses e (step p index bytes)
-step_unmoved p index bytes block (BadTransfer refusal) e read begun refuses is =
-    rw is (admitted_step p index bytes block read begun ∙ ap (λ (r : Result Transferred Refusal). r >>= λ after. Ok (grown_index index block after)) refuses)
-step_unmoved p index bytes block NoRoom e read begun refuses is = rw is tt
+pub after_unmoved : (p : Profile) (index : Index) (block : Block) (fault : TransferFault) (e : ConnectFault) → admission p index.hashes block ≡ Ok tt → transfers.Refuses fault (transfer_of p (length index.hashes) block.txs index.outs) → e ≡ of_transfer fault → Refuses e (index_after p index block)
+after_unmoved p index block (BadTransfer refusal) e begun refuses is =
+    rw is (admitted_after p index block begun ∙ ap (λ (r : Result Transferred Refusal). r >>= λ after. Ok (grown_index index block after)) refuses)
+after_unmoved p index block NoRoom e begun refuses is = rw is tt
 
 -- a block that is taken in
-pub step_taken : (p : Profile) (index : Index) (bytes : List ℕ) (block : Block) (after : Transferred) → block_of bytes ≡ Ok block → admission p index.hashes block ≡ Ok tt → transfer_of p (length index.hashes) block.txs index.outs ≡ Ok after → step p index bytes ≡ Ok (grown_index index block after)
-step_taken p index bytes block after read begun moved =
-    admitted_step p index bytes block read begun ∙ ap (λ (r : Result Transferred Refusal). r >>= λ after. Ok (grown_index index block after)) moved
+pub after_taken : (p : Profile) (index : Index) (block : Block) (after : Transferred) → admission p index.hashes block ≡ Ok tt → transfer_of p (length index.hashes) block.txs index.outs ≡ Ok after → index_after p index block ≡ Ok (grown_index index block after)
+after_taken p index block after begun moved =
+    admitted_after p index block begun ∙ ap (λ (r : Result Transferred Refusal). r >>= λ after. Ok (grown_index index block after)) moved
 
 -- a sound index holds no satoshi twice, and none that the next height mints
 pub holds_once : (p : Profile) (index : Index) → IsSound p index → HoldsOnce (first_at p (length index.hashes)) index.outs
@@ -76,9 +79,3 @@ lost_fits p index block after known sound begun moved =
     let few : length (index.lost ++ after.moved.lost) ≤ first_at p (length new.hashes) = fits (first_at p (length new.hashes)) (index.lost ++ after.moved.lost) (λ sat. omega (arith, again.once sat, times-append sat (sats_held after.outs) (index.lost ++ after.moved.lost))) in
     let top : first_at p (length new.hashes) ≡ first_at p height + subsidy_at p height = ap (first_at p) higher ∙ first_next p height in
     omega (arith, few, top, minted_few p height known, length-append index.lost after.moved.lost)
-
--- an index by its parts
-pub grown_parts : (index : Index) (block : Block) (after : Transferred) (hashes : List (List ℕ)) (hash lost : List ℕ) → hashes ≡ index.hashes ++ hash ∷ [] → hash ≡ block_hash block.header → lost ≡ index.lost ++ after.moved.lost → record { hashes = hashes; outs = after.outs; lost = lost } ≡ grown_index index block after
-grown_parts index block after hashes hash lost h is l =
-    let whole : hashes ≡ index.hashes ++ block_hash block.header ∷ [] = h ∙ ap (λ (x : List ℕ). index.hashes ++ x ∷ []) is in
-    λ i. record { hashes = whole i; outs = after.outs; lost = l i }

@@ -20,6 +20,7 @@ pub struct Chain {
     depth: u16,
     changes: Changes,
     ghost some: { 1 ≤ depth },
+    ghost few: { depth ≤ 1000 },
     ghost kept: { length changes ≤ depth },
     ghost lead: { AllEnd (profile_there live) (index_there live) changes } by { AllEnd-prop (profile_there live) (index_there live) changes },
 }
@@ -36,10 +37,10 @@ impl Chain {
     ghost use Rattle.ox_index.specs.Live.{index_in, profile_in};
 
     /// A chain without a block that counts by this profile, and of whose blocks at most `depth` are
-    /// kept. It takes no memory until a block is connected.
+    /// kept, from 1 to 1,000. It takes no memory until a block is connected.
     pub fn new(alloc: Global, p: &Profile, depth: u16) -> Chain
         requires known { IsProfile p.now }
-        requires some { 1 ≤ depth }
+        requires depth { (1 ≤ depth) × (depth ≤ 1000) }
         ensures { stack_in result ≡ stack_of (empty_machine p.now depth) }
     {
         Chain {

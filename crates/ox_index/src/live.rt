@@ -1,7 +1,7 @@
 //! The index in memory.
 
 ghost use Rattle.std.specs.Prelude.{◌≡◌, Some, None, Ok, IsSome, IfOk, IfErr, OnOk, OnErr};
-ghost use Rattle.std.specs.Prelude.{◌+◌, ◌<◌, ◌^◌, ◌++◌, length};
+ghost use Rattle.std.specs.Prelude.{◌+◌, ◌<◌, ◌^◌, ◌++◌, length, map};
 ghost use Rattle.std.specs.Option.{ForSome};
 ghost use Rattle.ox_sat.specs.Profiles.{IsProfile};
 ghost use Rattle.ox_sat.proofs.Known.{IsProfile-prop};
@@ -17,7 +17,7 @@ use crate::admit::admit;
 use crate::fault::ConnectFault;
 use crate::lengths::Lengths;
 use crate::reply::{LONGEST_OK, ok_line_in};
-use ox_block::{OutPoint, hash, read_block};
+use ox_block::{Block, OutPoint, Txids, hash, read_block};
 use ox_bytes::{Bytes, Memory, Room};
 use ox_model::{Change, OutRow, OutTable, Place, View};
 use ox_outputs::Outputs;
@@ -49,7 +49,10 @@ pub struct Live {
 impl Live {
     ghost use Rattle.ox_model.specs.Change.{IsChange, redone, undone};
     ghost use Rattle.ox_model.specs.Index.{no_blocks};
-    ghost use Rattle.ox_model.specs.Step.{step};
+    ghost use Rattle.ox_block.specs.Hashes.{txid};
+    ghost use Rattle.ox_block.specs.Spelling.{Lawful};
+    ghost use Rattle.ox_rules.specs.Where.{place_in};
+    ghost use Rattle.ox_model.specs.Step.{admission, index_after, step};
     ghost use Rattle.ox_model.specs.Replies.{ok_line};
     ghost use Rattle.ox_model.specs.Ends.{BeginsIn, EndsIn};
     ghost use Rattle.ox_index.specs.Live.{profile_in, index_in, marked_in};
@@ -91,17 +94,35 @@ impl Live {
     {
         let block = read_block(self.alloc, bytes)?;
         let ids = admit(self.alloc, &self.profile, self.hashes(), &block)?;
+        self.take_in(&block, &ids)
+    }
+
+    // Takes in a block that is admitted, and answers what it changed. The fault is that of the
+    // first satoshis that can't be moved.
+    fn take_in(&mut self, block: &Block, ids: &Txids) -> Result<Change, ConnectFault>
+        requires lawful { Lawful block.now }
+        requires ids { ids.now ≡ map txid block.now.txs }
+        requires admitted { admission (profile_in self.old) (index_in self.old).hashes block.now
+            ≡ Ok tt }
+        ensures ok { OnOk result (index_after (profile_in self.old) (index_in self.old) block.now
+            ≡ Ok (index_in self.new)) }
+        ensures change { IfOk result (IsChange (index_in self.old) (index_in self.new)) }
+        ensures refused { IfErr result (λ fault.
+            Refuses fault (index_after (profile_in self.old) (index_in self.old) block.now)) }
+        ensures err { OnErr result (index_in self.new ≡ index_in self.old) }
+        ensures mark { OnOk result (marked_in self.new ≡ Some (index_in self.old)) }
+        ensures profile { profile_in self.new ≡ profile_in self.old }
+    {
         self.forget();
         self.hashes.reserve(1)?;
         let before = self.shown;
-        let height = before.blocks as u32;
         let moved = transfer(
             self.alloc,
             &mut self.outputs,
             &self.profile,
-            &block,
-            &ids,
-            height,
+            block,
+            ids,
+            before.blocks as u32,
         )?;
         let hash = hash(&block.header);
         match change_of(&self.outputs, &mut self.lost, hash, moved.lost) {
@@ -192,6 +213,16 @@ impl Live {
         &self.hashes[..self.shown.blocks]
     }
 
+    // The place of a satoshi among the lost ones.
+    fn lost_at(&self, sat: u64) -> Option<u64>
+        ensures { result ≡ place_in (index_in self.now).lost sat }
+    {
+        match self.lost.place_of(sat) {
+            Some(offset) if offset < self.shown.lost => Some(offset),
+            _ => None,
+        }
+    }
+
     // Drops what doesn't count of the lists, and the mark, which might have counted it again.
     fn forget(&mut self)
         ensures index { index_in self.new ≡ index_in self.old }
@@ -255,10 +286,7 @@ impl View for Live {
     fn locate(&self, sat: u64) -> Option<Place> {
         match self.outputs.locate(sat) {
             Some(place) => Some(place),
-            None => match self.lost.place_of(sat) {
-                Some(offset) if offset < self.shown.lost => Some(Place::Lost { offset }),
-                _ => None,
-            },
+            None => self.lost_at(sat).map(|offset| Place::Lost { offset }),
         }
     }
 
