@@ -1,4 +1,6 @@
 pub mod Brought
+pub mod HolderLemmas
+pub mod ListLemmas
 pub mod Gains
 pub mod Held
 pub mod PartLemmas
