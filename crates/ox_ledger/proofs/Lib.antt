@@ -1,6 +1,9 @@
 pub mod Brought
 pub mod HolderLemmas
 pub mod ListLemmas
+pub mod TableLemmas
+pub mod BurnLemmas
+pub mod StepLemmas
 pub mod Gains
 pub mod Held
 pub mod PartLemmas

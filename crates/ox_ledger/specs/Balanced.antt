@@ -23,6 +23,10 @@ cap_in terms = option_map_or (λ t. unwrap_or t.cap 0) terms 0
 abbrev pub amount_per_mint : Option Terms → ℕ
 amount_per_mint terms = option_map_or (λ t. unwrap_or t.amount 0) terms 0
 
+-- what its etching and its mints gave
+abbrev pub made_of : RuneRow → ℕ
+made_of row = row.premine + row.mints * amount_per_mint row.terms
+
 -- the numbers of a rune are within their bounds, and it isn't minted beyond its cap
 pub record IsBounded (row : RuneRow) : Type 0 where
   -- so reserved names of different places differ
@@ -42,8 +46,7 @@ amount_there state row =
 
 -- that is what its etching and its mints gave
 abbrev pub IsSettled : Runes → RuneRow → Type 0
-IsSettled state row =
-    amount_there state row ≡ row.premine + row.mints * amount_per_mint row.terms
+IsSettled state row = amount_there state row ≡ made_of row
 
 -- these are balances of runes that are there
 pub record AreKnown (runes : List RuneRow) (balances : List Balance) : Type 0 where

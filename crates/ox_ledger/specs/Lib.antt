@@ -1,8 +1,11 @@
 pub mod Balanced
 pub mod Block
+pub mod Indexed
+pub mod Ledger
 pub mod Marks
 pub mod Part
 pub mod Runes
 pub mod Shown
 pub mod Steps
+pub mod Tables
 pub mod Turn

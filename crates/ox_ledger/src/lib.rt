@@ -1,8 +1,17 @@
 //! The runes of a chain: which there are, and which output holds how much of them.
 #![tactic(auto)]
 
+mod artifact;
 mod holders;
 mod laws;
+mod ledger;
 mod list;
+mod table;
+mod tables;
 
 pub use laws::{parts_lead_both_ways, runes_stay_balanced, turns_add_mint_and_premine};
+pub use ledger::Ledger;
+pub use ox_bytes::Memory;
+
+#[cfg(test)]
+mod tests;
