@@ -3,6 +3,7 @@ pub mod Block
 pub mod Indexed
 pub mod Ledger
 pub mod Marks
+pub mod Moves
 pub mod Part
 pub mod Runes
 pub mod Shown

@@ -6,26 +6,10 @@ use Rattle.ox_block.specs.declared.block.OutPoint.{OutPoint}
 use Rattle.ox_rules.specs.Differences.{Difference, Differ, other_end, reverse_of}
 use Rattle.ox_allocation.specs.Balances.{Balance}
 use Rattle.ox_etching.specs.declared.row.RuneRow.{RuneRow}
-use Rattle.ox_ledger.specs.Runes.{Placement, Runes}
-
--- what is counted of a rune: its mints, and how much of it was burned
-pub record Counts : Type 0 where
-  pub mints : ℕ
-  pub burned : ℕ
-
--- what is counted of the rune at a place, before and after
-pub record CountChange : Type 0 where
-  pub place : ℕ
-  pub before : Counts
-  pub after : Counts
-
--- The balances that are gone and those that came, by rising outpoint; the changed counts of earlier
--- runes, by rising place; and the runes that were appended.
-pub record RunePart : Type 0 where
-  pub before : List Placement
-  pub after : List Placement
-  pub counts : List CountChange
-  pub appended : List RuneRow
+use Rattle.ox_ledger.specs.Runes.{Runes}
+pub use Rattle.ox_ledger.specs.declared.part.CountChange.{CountChange}
+pub use Rattle.ox_ledger.specs.declared.part.Counts.{Counts}
+pub use Rattle.ox_ledger.specs.declared.part.RunePart.{RunePart}
 
 abbrev pub balances_of : RunePart → Difference OutPoint (List Balance)
 balances_of part = record { gone = part.before; came = part.after }

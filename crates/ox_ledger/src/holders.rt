@@ -1,7 +1,10 @@
 //! What outputs hold, with a mark.
 
-ghost use Rattle.std.specs.Prelude.{◌≡◌, ◌+◌, ◌^◌, ◌<◌, ℕ, [], IsTrue, None, OnOk, OnErr, IfOk};
+ghost use Rattle.std.specs.Prelude.{◌≡◌, ◌+◌, ◌^◌, ◌<◌, ◌↔◌, ◌++◌, ℕ, [], IsTrue, IsSome, None, OnOk, OnErr, IfOk};
 ghost use Rattle.std.specs.FinMap as map;
+ghost use Rattle.std.specs.Option.{option_copied, option_map, IfSome};
+ghost use Rattle.ox_rules.specs.Differences.{Differ};
+ghost use Rattle.ox_rules.specs.Transfer.{as_list};
 ghost use Rattle.std.specs.List.Sorted.{IsStrictlySortedBy};
 ghost use Rattle.ox_runestone.specs.declared.stone.RuneId.{RuneId};
 ghost use Rattle.ox_allocation.specs.Balances.{amount_in, id_cmp, ids_of};
@@ -11,10 +14,13 @@ ghost use Rattle.ox_ledger.specs.Steps.{HoldAmounts};
 
 use ox_allocation::{Balances, Pool};
 use ox_block::{OutPoint, TxIn, Txid};
-use ox_bytes::Memory;
+use ox_bytes::{List, Memory};
 use ox_marked::Marked;
 use ox_runestone::RuneId;
 use std::alloc::Global;
+
+/// The runes of an output that is made.
+pub type Placement = (OutPoint, Balances);
 
 /// The runes of outputs by outpoint; of one without runes there is nothing.
 pub(crate) type Holders = Marked<OutPoint, Balances>;
@@ -127,4 +133,58 @@ pub(crate) fn are_free(holders: &Holders, txid: Txid, count: u32) -> bool
         index: count - 1,
     };
     holders.is_empty_between(&first, &last)
+}
+
+/// The balances of outputs that are gone since a mark, and those that came.
+#[derive(Drop)]
+pub(crate) struct Exchange {
+    pub(crate) gone: List<Placement>,
+    pub(crate) came: List<Placement>,
+}
+
+/// Whether two outputs hold the same.
+fn is_same(one: Option<&Balances>, other: Option<&Balances>) -> bool
+    ensures { IsTrue result ↔ (option_copied one ≡ option_copied other) }
+{
+    match (one, other) {
+        (Some(one), Some(other)) => one.as_slice() == other.as_slice(),
+        (None, None) => true,
+        _ => false,
+    }
+}
+
+/// Appends what an output holds, once more, if it holds anything.
+fn push_copy(
+    alloc: Global,
+    list: &mut List<Placement>,
+    at: OutPoint,
+    balances: Option<&Balances>,
+) -> Result<(), Memory>
+    ensures { OnOk result (list.new ≡ list.old
+        ++ as_list (option_map (λ b. (at, b)) (option_copied balances))) }
+{
+    if let Some(balances) = balances {
+        list.push((at, balances.copy(alloc)?))?;
+    }
+    Ok(())
+}
+
+/// What differs between what outputs held at the mark and what they hold, by rising outpoint.
+pub(crate) fn changed(alloc: Global, holders: &Holders) -> Result<Exchange, Memory>
+    requires { IsSome (held_then holders.now) }
+    ensures { IfOk result (λ exchange. IfSome (held_then holders.now) (λ then.
+        Differ then (held_in holders.now)
+        (record { gone = exchange.gone; came = exchange.came }))) }
+{
+    let mut gone = List::new(alloc);
+    let mut came = List::new(alloc);
+    for at in holders.changed()? {
+        let then = holders.at_mark(&at);
+        let now = holders.get(&at);
+        if !is_same(then, now) {
+            push_copy(alloc, &mut gone, at, then)?;
+            push_copy(alloc, &mut came, at, now)?;
+        }
+    }
+    Ok(Exchange { gone, came })
 }

@@ -5,6 +5,7 @@ ghost use Rattle.std.specs.Option.{IfSome};
 ghost use Rattle.ox_ledger.specs.Balanced.{Balanced, made_of};
 ghost use Rattle.ox_ledger.specs.Tables.{mark_of, runes_of};
 
+use crate::part::RunePart;
 use crate::tables::Tables;
 use ox_block::{OutPoint, Tx, Txid};
 use ox_bytes::Memory;
@@ -70,7 +71,9 @@ impl Ledger {
     ghost use Rattle.ox_ledger.specs.Balanced.{amount_held};
     ghost use Rattle.ox_ledger.specs.Block.{no_runes};
     ghost use Rattle.ox_ledger.specs.Ledger.{mark_in, runes_in};
-    ghost use Rattle.ox_ledger.specs.Runes.{balances_at, end, turn};
+    ghost use Rattle.ox_ledger.specs.Moves.{LeadsTo, Touches};
+    ghost use Rattle.ox_ledger.specs.Part.{Continues, IsPart};
+    ghost use Rattle.ox_ledger.specs.Runes.{Runes, balances_at, end, turn};
     ghost use Rattle.ox_ledger.specs.Shown.{HasAt};
     ghost use Rattle.ox_ledger.specs.Tables.{nothing};
     ghost use Rattle.ox_ledger.specs.Turn.{IsFree};
@@ -192,6 +195,45 @@ impl Ledger {
         ensures profile { self.new.profile ≡ self.old.profile }
     {
         match self.tables.end(self.alloc) {
+            Ok(()) => Ok(()),
+            Err(e) => {
+                self.tables.fall_back(self.alloc, self.marked);
+                Err(e)
+            }
+        }
+    }
+
+    /// What of the change since the mark is about runes: the balances that are gone and those that
+    /// came, the changed counts of the runes that there were, and the runes that came behind these,
+    /// which are as they were but for the counts. `Memory` where there is none for it.
+    pub fn changed(&self) -> Result<RunePart, Memory>
+        requires mark { IsSome (mark_in self.now) }
+        requires continues { IfSome (mark_in self.now)
+            (λ then. Continues then.runes (runes_in self.now).runes) }
+        ensures { IfOk result (λ part. IfSome (mark_in self.now)
+            (λ then. IsPart then (runes_in self.now) part)) }
+    {
+        self.tables.changed(self.alloc)
+    }
+
+    /// Goes to the other end of a part: where `back` is true, from the state in which the part ends
+    /// to the one in which it begins, else the other way. Nothing is due at either. After `Memory`
+    /// the ledger is as it was at the mark, which stays.
+    pub fn put(&mut self, part: &RunePart, back: bool) -> Result<(), Memory>
+        requires mark { IsSome (mark_in self.old) }
+        requires touches { Touches back part.now (runes_in self.old) }
+        ensures ok { OnOk result ((other : Runes) → LeadsTo back (runes_in self.old) part.now other
+            → runes_in self.new ≡ other) }
+        ensures err { OnErr result (runes_in self.new ≡ unwrap_or (mark_in self.old) nothing) }
+        ensures mark { mark_in self.new ≡ mark_in self.old }
+        ensures profile { self.new.profile ≡ self.old.profile }
+    {
+        let done = if back {
+            self.tables.back(self.alloc, part)
+        } else {
+            self.tables.forth(self.alloc, part)
+        };
+        match done {
             Ok(()) => Ok(()),
             Err(e) => {
                 self.tables.fall_back(self.alloc, self.marked);

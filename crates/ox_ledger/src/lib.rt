@@ -6,12 +6,15 @@ mod holders;
 mod laws;
 mod ledger;
 mod list;
+mod part;
 mod table;
 mod tables;
 
 pub use laws::{parts_lead_both_ways, runes_stay_balanced, turns_add_mint_and_premine};
 pub use ledger::Ledger;
+pub use holders::Placement;
 pub use ox_bytes::Memory;
+pub use part::{CountChange, Counts, RunePart};
 
 #[cfg(test)]
 mod tests;

@@ -1,8 +1,11 @@
 //! A list with a mark.
 
-ghost use Rattle.std.specs.Prelude.{◌≡◌, ◌++◌, ◌∷◌, ◌<◌, ◌≤◌, [], length, take, slice_get};
-ghost use Rattle.std.specs.Prelude.{slice_set, IsSome, Some, None, OnOk, OnErr};
+ghost use Rattle.std.specs.Prelude.{◌≡◌, ◌==◌, ◌++◌, ◌∷◌, ◌<◌, ◌≤◌, ℕ, [], false, length, take};
+ghost use Rattle.std.specs.Prelude.{slice_get, slice_set, IsSome, Some, None, IfOk, OnOk, OnErr};
+ghost use Rattle.std.specs.List.{list_any};
+ghost use Rattle.std.specs.List.Sorted.{IsStrictlySortedBy};
 ghost use Rattle.std.specs.Option.{IfSome};
+ghost use Rattle.std.specs.Ordering.{nat_cmp};
 
 use ox_bytes::Memory;
 use ox_marked::Marked;
@@ -85,6 +88,21 @@ impl<T> MarkedList<T> {
             Some(value) => value,
             None => unreachable!(),
         }
+    }
+}
+
+impl<T> MarkedList<T> {
+    /// The places at which a value was put since the mark, in order; perhaps also some behind the
+    /// last value. `Memory` where there is none for them.
+    pub(crate) fn changed(&self) -> Result<Vec<u32>, Memory>
+        requires { IsSome self.now.mark }
+        ensures rising { IfOk result (λ places. IsStrictlySortedBy nat_cmp places.items) }
+        ensures others { IfOk result (λ places. IfSome self.now.mark (λ list. (place : ℕ)
+            → place < length self.now.now → place < length list
+            → list_any (λ p. p == place) places.items ≡ false
+            → slice_get self.now.now place ≡ slice_get list place)) }
+    {
+        self.items.changed()
     }
 }
 

@@ -1,18 +1,21 @@
 //! The runes of a chain in the order of their etchings, found by id and by name, with a mark.
 
-ghost use Rattle.std.specs.Prelude.{◌≡◌, ◌↔◌, ◌+◌, ◌<◌, ◌++◌, ◌∷◌, [], length, map, ℕ};
+ghost use Rattle.std.specs.Prelude.{◌≡◌, ◌↔◌, ◌+◌, ◌<◌, ◌++◌, ◌∷◌, ◌-◌, [], length, map, ℕ};
+ghost use Rattle.std.specs.Prelude.{drop, take, IfOk};
 ghost use Rattle.std.specs.Prelude.{slice_get, slice_set, All, IsSome, IfNone, Some, None};
 ghost use Rattle.std.specs.Prelude.{OnOk, OnErr};
 ghost use Rattle.std.specs.Option.{option_copied, IfSome};
 ghost use Rattle.std.specs.List.Sorted.{IsStrictlySortedBy};
 ghost use Rattle.ox_allocation.specs.Balances.{id_cmp, ids_of};
 ghost use Rattle.ox_ledger.specs.Balanced.{cap_in};
+ghost use Rattle.ox_ledger.specs.Part.{changes_from, with_counts};
 ghost use Rattle.ox_ledger.specs.Runes.{burn, mint_more};
 ghost use Rattle.ox_ledger.specs.Shown.{HasAt, IsAbsent, IsOnly};
 ghost use Rattle.ox_ledger.specs.Steps.{CanBurn, CanMint};
 
 use crate::list::MarkedList;
-use ox_bytes::Memory;
+use crate::part::{CountChange, Counts, counts_of, with_counts};
+use ox_bytes::{List, Memory};
 use ox_etching::RuneRow;
 use ox_marked::Marked;
 use ox_runestone::RuneId;
@@ -214,6 +217,68 @@ impl RuneTable {
             self.burn_one(*id, *amount)?;
         }
         Ok(())
+    }
+
+    /// The changed counts of the runes that there were at the mark, by rising places.
+    pub(crate) fn counts_changed(&self, alloc: Global) -> Result<List<CountChange>, Memory>
+        requires { IsSome self.now.mark }
+        ensures { IfOk result (λ counts. IfSome self.now.mark
+            (λ then. counts ≡ changes_from 0 then self.now.now)) }
+    {
+        let mut counts = List::new(alloc);
+        for place in self.rows.changed()? {
+            if place < self.rows.len_then() && place < self.rows.len() {
+                let before = counts_of(self.rows.get_then(place));
+                let after = counts_of(self.rows.get(place));
+                if before != after {
+                    counts.push(CountChange {
+                        place,
+                        before,
+                        after,
+                    })?;
+                }
+            }
+        }
+        Ok(counts)
+    }
+
+    /// The runes that were appended since the mark.
+    pub(crate) fn appended(&self, alloc: Global) -> Result<List<RuneRow>, Memory>
+        requires { IsSome self.now.mark }
+        ensures { IfOk result (λ rows. IfSome self.now.mark
+            (λ then. rows ≡ drop (length then) self.now.now)) }
+    {
+        let mut rows = List::new(alloc);
+        for place in self.rows.len_then()..self.rows.len() {
+            rows.push(*self.rows.get(place))?;
+        }
+        Ok(rows)
+    }
+
+    /// Puts other counts of the rune at a place.
+    pub(crate) fn recount(&mut self, place: u32, counts: Counts) -> Result<(), Memory>
+        requires { place < length self.old.now }
+        ensures ok { OnOk result (IfSome (slice_get self.old.now place) (λ row.
+            self.new ≡ record self.old {
+                now = slice_set self.old.now place (with_counts row counts) })) }
+        ensures mark { self.new.mark ≡ self.old.mark }
+    {
+        let row = with_counts(self.rows.get(place), counts);
+        self.set(place, row)
+    }
+
+    /// Takes the last rune away. After `Memory` a part of that may be done.
+    pub(crate) fn drop_last(&mut self) -> Result<(), Memory>
+        requires { 0 < length self.old.now }
+        ensures ok { OnOk result (self.new ≡ record self.old {
+            now = take (length self.old.now - 1) self.old.now }) }
+        ensures mark { self.new.mark ≡ self.old.mark }
+    {
+        let place = self.rows.len() - 1;
+        let row = *self.rows.get(place);
+        self.rows.cut(place);
+        self.ids.put(row.id, None)?;
+        self.names.put(row.name, None)
     }
 
     /// Sets the mark at the runes as they are. `Memory` where there is none: the runes are as they

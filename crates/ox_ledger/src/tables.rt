@@ -1,11 +1,14 @@
 //! The tables of the ledger together, and what a transaction does to them.
 
 ghost use Rattle.std.specs.Prelude.{◌≡◌, ◌==◌, ◌^◌, ◌<◌, ◌++◌, [], map, length, IsSome, Some, None};
-ghost use Rattle.std.specs.Prelude.{if◌then◌else◌, is_some, unwrap_or, IfOk, OnOk, OnErr};
-ghost use Rattle.std.specs.Option.{option_map, ForSome};
+ghost use Rattle.std.specs.Prelude.{All, ◌≢◌, if◌then◌else◌, is_some, unwrap_or, IfOk, OnOk, OnErr};
+ghost use Rattle.std.specs.Option.{option_map, ForSome, IfSome};
 ghost use Rattle.ox_runestone.specs.Spelling.{StoneCanCome};
+ghost use Rattle.ox_rules.specs.Differences.{with_rows, without_rows};
 ghost use Rattle.ox_rules.specs.Transfer.{as_list};
 ghost use Rattle.ox_ledger.specs.Balanced.{amount_held};
+ghost use Rattle.ox_ledger.specs.Moves.{Begins, Ends};
+ghost use Rattle.ox_ledger.specs.Part.{Continues, IsPart, earlier_end, later_end};
 ghost use Rattle.ox_ledger.specs.Runes.{balances_at, brought_of, dealt_by, end, pool_with, place};
 ghost use Rattle.ox_ledger.specs.Runes.{place_all};
 ghost use Rattle.ox_ledger.specs.Runes.{placements, premine_of, turn, with_mint};
@@ -13,8 +16,9 @@ ghost use Rattle.ox_ledger.specs.Steps.{CanPlace, CanPlaceAll, CanTakeUp, CanTur
 ghost use Rattle.ox_ledger.specs.Tables.{mark_of, nothing, runes_of};
 
 use crate::artifact::{artifact_at, count_of, etching_by, mint_by};
-use crate::holders::{Holders, amount_in, balances_at, fill, gather, are_free};
+use crate::holders::{Placement, changed, empty, Holders, amount_in, balances_at, fill, gather, are_free};
 use crate::list::MarkedList;
+use crate::part::RunePart;
 use crate::table::RuneTable;
 use ox_allocation::{Allocated, Balances, Pool, allocate};
 use ox_block::{OutPoint, Tx, TxOut, Txid};
@@ -25,9 +29,6 @@ use ox_rules::SpentRows;
 use ox_runestone::{Artifact, RuneId};
 use ox_sat::Profile;
 use std::alloc::Global;
-
-/// The runes of an output that is made.
-pub(crate) type Placement = (OutPoint, Balances);
 
 /// What outputs hold, the runes, and what is due to the outputs of a block's coinbase.
 #[derive(Drop)]
@@ -241,6 +242,78 @@ impl Tables {
         let dealt = deal(alloc, artifact, pool, etching.map(|row| row.id), outputs)?;
         self.runes.burn(dealt.burned.as_slice())?;
         self.settle(tx, placements(alloc, id, dealt.given)?)
+    }
+
+    /// What of the change since the mark is about runes.
+    pub(crate) fn changed(&self, alloc: Global) -> Result<RunePart, Memory>
+        requires mark { IsSome (mark_of self.now) }
+        requires continues { IfSome (mark_of self.now)
+            (λ then. Continues then.runes (runes_of self.now).runes) }
+        ensures { IfOk result (λ part. IfSome (mark_of self.now)
+            (λ then. IsPart then (runes_of self.now) part)) }
+    {
+        let exchange = changed(alloc, &self.holders)?;
+        Ok(RunePart {
+            before: exchange.gone,
+            after: exchange.came,
+            counts: self.runes.counts_changed(alloc)?,
+            appended: self.runes.appended(alloc)?,
+        })
+    }
+
+    /// Takes away what some outputs hold, and gives others these runes.
+    fn exchange(
+        &mut self,
+        alloc: Global,
+        gone: &[Placement],
+        came: &[Placement],
+    ) -> Result<(), Memory>
+        requires { All (λ new. new.1 ≢ []) came.now }
+        ensures ok { OnOk result (runes_of self.new ≡ record (runes_of self.old) {
+            bal = with_rows (without_rows (runes_of self.old).bal gone.now) came.now }) }
+        ensures mark { mark_of self.new ≡ mark_of self.old }
+    {
+        for (at, _) in gone {
+            empty(&mut self.holders, at)?;
+        }
+        for (at, balances) in came {
+            fill(&mut self.holders, *at, balances.copy(alloc)?)?;
+        }
+        Ok(())
+    }
+
+    /// Goes to the state before a part, from the one after it.
+    pub(crate) fn back(&mut self, alloc: Global, part: &RunePart) -> Result<(), Memory>
+        requires { Ends part.now (runes_of self.old) }
+        ensures ok { OnOk result (runes_of self.new ≡ earlier_end (runes_of self.old) part.now) }
+        ensures mark { mark_of self.new ≡ mark_of self.old }
+    {
+        self.due.cut(0);
+        self.exchange(alloc, part.after.as_slice(), part.before.as_slice())?;
+        for _ in part.appended.as_slice() {
+            self.runes.drop_last()?;
+        }
+        for change in part.counts.as_slice() {
+            self.runes.recount(change.place, change.before)?;
+        }
+        Ok(())
+    }
+
+    /// Goes to the state after a part, from the one before it.
+    pub(crate) fn forth(&mut self, alloc: Global, part: &RunePart) -> Result<(), Memory>
+        requires { Begins part.now (runes_of self.old) }
+        ensures ok { OnOk result (runes_of self.new ≡ later_end (runes_of self.old) part.now) }
+        ensures mark { mark_of self.new ≡ mark_of self.old }
+    {
+        self.due.cut(0);
+        self.exchange(alloc, part.before.as_slice(), part.after.as_slice())?;
+        for change in part.counts.as_slice() {
+            self.runes.recount(change.place, change.after)?;
+        }
+        for row in part.appended.as_slice() {
+            self.runes.push(*row)?;
+        }
+        Ok(())
     }
 
     /// The end of a block: what is due to its coinbase's outputs is placed. After `Memory` a part

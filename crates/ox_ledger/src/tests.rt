@@ -224,3 +224,57 @@ fn a_displaced_output_burns(rt: HostRuntime) {
     ledger.cancel();
     assert!(rt; counts(&ledger, 0, 0, 7) && amount_at(&ledger, at(1, 0)) == 7);
 }
+
+/// Whether the first rune is minted once, all of it is burned, and the part says so.
+fn tells(part: &RunePart) -> bool {
+    let counts = part.counts.as_slice();
+    part.before.len() == 1
+        && part.after.is_empty()
+        && part.appended.is_empty()
+        && matches!(counts, [change] if change.place == 0
+            && change.after == Counts { mints: 1, burned: 12 })
+}
+
+/// The part of a block leads to the state before it and to the one after it.
+#[test]
+fn a_part_leads_both_ways(rt: HostRuntime) {
+    let alloc = rt.alloc();
+    let mut ledger = etched(&rt, alloc, ETCHES);
+    let body = tx(&rt, alloc, &[at(1, 0)], &[PLAIN, MINTS_AND_BURNS]);
+    turn(&rt, &mut ledger, alloc, (4, 1, 2), &body);
+    let part = ledger.changed().expect(&rt, "memory");
+    assert!(rt; tells(&part));
+    ledger.put(&part, true).expect(&rt, "memory");
+    assert!(rt; counts(&ledger, 0, 0, 7) && amount_at(&ledger, at(1, 0)) == 7);
+    ledger.put(&part, false).expect(&rt, "memory");
+    assert!(rt; counts(&ledger, 1, 12, 0) && amount_at(&ledger, at(1, 0)) == 0);
+}
+
+/// An output that is spent and made again with other runes is in both lists.
+#[test]
+fn an_output_made_again_is_in_both_lists(rt: HostRuntime) {
+    let alloc = rt.alloc();
+    let mut ledger = etched(&rt, alloc, ETCHES);
+    let body = tx(&rt, alloc, &[at(1, 0)], &[PLAIN, MINTS]);
+    turn(&rt, &mut ledger, alloc, (4, 1, 1), &body);
+    let part = ledger.changed().expect(&rt, "memory");
+    assert!(rt; part.before.len() == 1 && part.after.len() == 1);
+    assert!(rt; amount_at(&ledger, at(1, 0)) == 12);
+    ledger.put(&part, true).expect(&rt, "memory");
+    assert!(rt; counts(&ledger, 0, 0, 7) && amount_at(&ledger, at(1, 0)) == 7);
+}
+
+/// A part takes a rune that was etched away, with its id and its name, and brings it again.
+#[test]
+fn a_part_takes_an_etching_back(rt: HostRuntime) {
+    let alloc = rt.alloc();
+    let mut ledger = lab(&rt, alloc);
+    let body = tx(&rt, alloc, &[], &[PLAIN, ETCHES]);
+    turn(&rt, &mut ledger, alloc, (3, 1, 1), &body);
+    let part = ledger.changed().expect(&rt, "memory");
+    ledger.put(&part, true).expect(&rt, "memory");
+    assert!(rt; ledger.len() == 0 && ledger.by_id(RUNE) == None);
+    assert!(rt; ledger.balance(&at(1, 0)).is_empty());
+    ledger.put(&part, false).expect(&rt, "memory");
+    assert!(rt; counts(&ledger, 0, 0, 7) && ledger.by_id(RUNE) == Some(0));
+}
