@@ -28,7 +28,7 @@ same_or_other P zero (suc k) first second = second (λ e. absurd (omega (arith, 
 same_or_other P (suc i) zero first second = second (λ e. absurd (omega (arith, e)))
 same_or_other P (suc i) (suc k) first second = same_or_other P i k (λ e. first (ap suc e)) (λ other. second (λ e. other (omega (arith, e))))
 
-value_in : {A : Type 0} (x y : A) → Some x ≡ Some y → x ≡ y
+pub value_in : {A : Type 0} (x y : A) → Some x ≡ Some y → x ≡ y
 value_in x y is = cc is
 
 module _ {A : Type 0} (of : RuneRow → A) where

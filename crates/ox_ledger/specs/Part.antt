@@ -31,6 +31,13 @@ Continues (old ∷ before) (new ∷ after) =
 abbrev pub counts_alike : RuneRow → RuneRow → Bool
 counts_alike old new = (old.mints == new.mints) && (old.burned == new.burned)
 
+-- the changed counts of one rune that is at a place, if it is there before and after
+abbrev pub change_in : ℕ → Option RuneRow → Option RuneRow → List CountChange
+change_in place (Some old) (Some new) =
+    if counts_alike old new then []
+    else (record { place = place; before = counts_of old; after = counts_of new } ∷ [])
+change_in place _ _ = []
+
 -- the changed counts of runes, the first of them at this place
 unfoldable pub changes_from : ℕ → List RuneRow → List RuneRow → List CountChange
 changes_from place (old ∷ before) (new ∷ after) =

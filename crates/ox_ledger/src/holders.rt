@@ -144,7 +144,7 @@ pub(crate) struct Exchange {
 
 /// Whether two outputs hold the same.
 fn is_same(one: Option<&Balances>, other: Option<&Balances>) -> bool
-    ensures { IsTrue result ↔ (option_copied one ≡ option_copied other) }
+    ensures { IsTrue result ↔ (option_copied one.entry ≡ option_copied other.entry) }
 {
     match (one, other) {
         (Some(one), Some(other)) => one.as_slice() == other.as_slice(),
@@ -161,7 +161,7 @@ fn push_copy(
     balances: Option<&Balances>,
 ) -> Result<(), Memory>
     ensures { OnOk result (list.new ≡ list.old
-        ++ as_list (option_map (λ b. (at, b)) (option_copied balances))) }
+        ++ as_list (option_map (λ b. (at, b)) (option_copied balances.entry))) }
 {
     if let Some(balances) = balances {
         list.push((at, balances.copy(alloc)?))?;
@@ -178,12 +178,13 @@ pub(crate) fn changed(alloc: Global, holders: &Holders) -> Result<Exchange, Memo
 {
     let mut gone = List::new(alloc);
     let mut came = List::new(alloc);
-    for at in holders.changed()? {
-        let then = holders.at_mark(&at);
-        let now = holders.get(&at);
+    let keys = holders.changed()?;
+    for at in &keys {
+        let then = holders.at_mark(at);
+        let now = holders.get(at);
         if !is_same(then, now) {
-            push_copy(alloc, &mut gone, at, then)?;
-            push_copy(alloc, &mut came, at, now)?;
+            push_copy(alloc, &mut gone, *at, then)?;
+            push_copy(alloc, &mut came, *at, now)?;
         }
     }
     Ok(Exchange { gone, came })

@@ -8,7 +8,7 @@ ghost use Rattle.std.specs.Option.{option_copied, IfSome};
 ghost use Rattle.std.specs.List.Sorted.{IsStrictlySortedBy};
 ghost use Rattle.ox_allocation.specs.Balances.{id_cmp, ids_of};
 ghost use Rattle.ox_ledger.specs.Balanced.{cap_in};
-ghost use Rattle.ox_ledger.specs.Part.{changes_from, with_counts};
+ghost use Rattle.ox_ledger.specs.Part.{change_in, changes_from, with_counts};
 ghost use Rattle.ox_ledger.specs.Runes.{burn, mint_more};
 ghost use Rattle.ox_ledger.specs.Shown.{HasAt, IsAbsent, IsOnly};
 ghost use Rattle.ox_ledger.specs.Steps.{CanBurn, CanMint};
@@ -219,6 +219,28 @@ impl RuneTable {
         Ok(())
     }
 
+    /// Appends the change of the counts of the rune at a place, if there were other counts of it at
+    /// the mark.
+    fn push_change(&self, counts: &mut List<CountChange>, place: u32) -> Result<(), Memory>
+        requires { IsSome self.now.mark }
+        ensures { OnOk result (IfSome self.now.mark (λ then. counts.new ≡ counts.old
+            ++ change_in place (slice_get then place) (slice_get self.now.now place))) }
+    {
+        if place >= self.rows.len_then() || place >= self.rows.len() {
+            return Ok(());
+        }
+        let before = counts_of(self.rows.get_then(place));
+        let after = counts_of(self.rows.get(place));
+        if before != after {
+            counts.push(CountChange {
+                place,
+                before,
+                after,
+            })?;
+        }
+        Ok(())
+    }
+
     /// The changed counts of the runes that there were at the mark, by rising places.
     pub(crate) fn counts_changed(&self, alloc: Global) -> Result<List<CountChange>, Memory>
         requires { IsSome self.now.mark }
@@ -226,18 +248,9 @@ impl RuneTable {
             (λ then. counts ≡ changes_from 0 then self.now.now)) }
     {
         let mut counts = List::new(alloc);
-        for place in self.rows.changed()? {
-            if place < self.rows.len_then() && place < self.rows.len() {
-                let before = counts_of(self.rows.get_then(place));
-                let after = counts_of(self.rows.get(place));
-                if before != after {
-                    counts.push(CountChange {
-                        place,
-                        before,
-                        after,
-                    })?;
-                }
-            }
+        let places = self.rows.changed()?;
+        for place in &places {
+            self.push_change(&mut counts, *place)?;
         }
         Ok(counts)
     }

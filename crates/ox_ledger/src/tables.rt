@@ -248,9 +248,9 @@ impl Tables {
     pub(crate) fn changed(&self, alloc: Global) -> Result<RunePart, Memory>
         requires mark { IsSome (mark_of self.now) }
         requires continues { IfSome (mark_of self.now)
-            (λ then. Continues then.runes (runes_of self.now).runes) }
+            (λ before. Continues before.runes (runes_of self.now).runes) }
         ensures { IfOk result (λ part. IfSome (mark_of self.now)
-            (λ then. IsPart then (runes_of self.now) part)) }
+            (λ before. IsPart before (runes_of self.now) part)) }
     {
         let exchange = changed(alloc, &self.holders)?;
         Ok(RunePart {
@@ -273,10 +273,10 @@ impl Tables {
             bal = with_rows (without_rows (runes_of self.old).bal gone.now) came.now }) }
         ensures mark { mark_of self.new ≡ mark_of self.old }
     {
-        for (at, _) in gone {
+        for (at, _) in gone.iter().rev() {
             empty(&mut self.holders, at)?;
         }
-        for (at, balances) in came {
+        for (at, balances) in came.iter().rev() {
             fill(&mut self.holders, *at, balances.copy(alloc)?)?;
         }
         Ok(())
@@ -293,7 +293,7 @@ impl Tables {
         for _ in part.appended.as_slice() {
             self.runes.drop_last()?;
         }
-        for change in part.counts.as_slice() {
+        for change in part.counts.as_slice().iter().rev() {
             self.runes.recount(change.place, change.before)?;
         }
         Ok(())
@@ -307,7 +307,7 @@ impl Tables {
     {
         self.due.cut(0);
         self.exchange(alloc, part.before.as_slice(), part.after.as_slice())?;
-        for change in part.counts.as_slice() {
+        for change in part.counts.as_slice().iter().rev() {
             self.runes.recount(change.place, change.after)?;
         }
         for row in part.appended.as_slice() {
