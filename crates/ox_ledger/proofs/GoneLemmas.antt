@@ -112,26 +112,27 @@ both_true a b first second = ap (λ (x : Bool). x && b) first ∙ second
 
 gone_below : (was now : Values) (at : OutPoint) (keys : List OutPoint) → AllByRecursion (λ k. outpoint_cmp at k ≡ Less) keys → below_all outpoint_cmp at (gone_among was now keys) ≡ true
 gone_below was now at [] all = refl
-gone_below was now at (k ∷ keys) all = by_value (gone_of (was k) (now k)) where
-  by_value : (value : Value) → below_all outpoint_cmp at (entry_of k value ++ gone_among was now keys) ≡ true
-  by_value None = gone_below was now at keys all.1
-  by_value (Some x) = both_true (is_lt (outpoint_cmp at k)) (below_all outpoint_cmp at (gone_among was now keys)) (ap is_lt all.0) (gone_below was now at keys all.1)
+gone_below was now at (k ∷ keys) all = by_value (gone_below was now at keys all.1) (gone_of (was k) (now k)) where
+  by_value : below_all outpoint_cmp at (gone_among was now keys) ≡ true → (value : Value) → below_all outpoint_cmp at (entry_of k value ++ gone_among was now keys) ≡ true
+  by_value rest None = rest
+  by_value rest (Some x) = both_true (is_lt (outpoint_cmp at k)) (below_all outpoint_cmp at (gone_among was now keys)) (ap is_lt all.0) rest
 
 gone_rising : (was now : Values) (keys : List OutPoint) → IsStrictlySortedBy outpoint_cmp keys → is_sorted outpoint_cmp (gone_among was now keys) ≡ true
 unfolding IsStrictlySortedBy
 gone_rising was now [] rising = refl
-gone_rising was now (k ∷ keys) rising = by_value (gone_of (was k) (now k)) where
-  by_value : (value : Value) → is_sorted outpoint_cmp (entry_of k value ++ gone_among was now keys) ≡ true
-  by_value None = gone_rising was now keys rising.1
-  by_value (Some x) = both_true (below_all outpoint_cmp k (gone_among was now keys)) (is_sorted outpoint_cmp (gone_among was now keys)) (gone_below was now k keys rising.0) (gone_rising was now keys rising.1)
+gone_rising was now (k ∷ keys) rising = by_value (gone_below was now k keys rising.0) (gone_rising was now keys rising.1) (gone_of (was k) (now k)) where
+  by_value : below_all outpoint_cmp k (gone_among was now keys) ≡ true → is_sorted outpoint_cmp (gone_among was now keys) ≡ true → (value : Value)
+      → is_sorted outpoint_cmp (entry_of k value ++ gone_among was now keys) ≡ true
+  by_value below rest None = rest
+  by_value below rest (Some x) = both_true (below_all outpoint_cmp k (gone_among was now keys)) (is_sorted outpoint_cmp (gone_among was now keys)) below rest
 
 are_gone : (before after : BalanceMap) (was now : Values) (keys : List OutPoint) → ((q : OutPoint) → get before q ≡ was q) → ((q : OutPoint) → get after q ≡ now q)
     → IsStrictlySortedBy outpoint_cmp keys → ((q : OutPoint) → list_any (λ k. is_eq (outpoint_cmp q k)) keys ≡ false → was q ≡ now q)
     → AreGone before after (gone_among was now keys)
-are_gone before after was now keys was is rising others = record {
+are_gone before after was now keys at_was at_now rising others = record {
   rising = gone_rising was now keys rising;
   rows = λ at row.
-      let found : find outpoint_cmp at (gone_among was now keys) ≡ gone_of (get before at) (get after at) = found_all was now keys others at ∙ (λ i. gone_of (sym (was at) i) (sym (is at) i)) in
+      let found : find outpoint_cmp at (gone_among was now keys) ≡ gone_of (get before at) (get after at) = found_all was now keys others at ∙ (λ i. gone_of (sym (at_was at) i) (sym (at_now at) i)) in
       subst (λ (there : Value). (there ≡ Some row) ↔ ((get before at ≡ Some row) × (get after at ≢ Some row))) (sym found)
       (has_gone outpoints_total outpoints_exact same_balances same_balances-Decides (get before at) (get after at) row);
 }
@@ -144,8 +145,8 @@ abbrev pub value_now : Held → Values
 value_now map q = content_in outpoint_cmp map q
 
 -- what is said of the mark
-pub at_the_mark : (map : Held) {P : Values → Type 0} → IsSome (mark_in outpoint_cmp map) → IfSome (mark_in outpoint_cmp map) P → P (value_then map)
-at_the_mark map {P} some is = by_mark map.marked some is where
+pub at_the_mark : (map : Held) (P : Values → Type 0) → IsSome (mark_in outpoint_cmp map) → IfSome (mark_in outpoint_cmp map) P → P (value_then map)
+at_the_mark map P some is = by_mark map.marked some is where
   by_mark : (b : Bool) → IsSome {T = Values} (if b then Some (value_then map) else None) → IfSome {T = Values} (if b then Some (value_then map) else None) P → P (value_then map)
   by_mark true some is = is
   by_mark false some is = absurd (true≢false (sym some))

@@ -25,7 +25,9 @@ pub mod BlockStays
 pub mod StartBalanced
 pub mod GoOnLemmas
 pub mod ArtifactLemmas
+pub mod DropLemmas
 pub mod TablesLemmas
+pub mod LedgerLemmas
 pub mod MoveLemmas
 pub mod CountLemmas
 pub mod GoneLemmas

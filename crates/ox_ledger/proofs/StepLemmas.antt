@@ -103,7 +103,7 @@ brought_of_proper at tx bal proper = by_test (at == 0) where
   by_test true = proper
   by_test false = brought_proper tx.inputs bal [] proper
 
-abbrev AllProper : List Placement → Type 0
+abbrev pub AllProper : List Placement → Type 0
 AllProper new = AllByRecursion (λ (one : Placement). AreBalances one.1) new
 
 placements_proper : (txid : Txid) (index : ℕ) (given : List (List Balance)) → AllByRecursion AreBalances given → AllProper (placements txid index given)
