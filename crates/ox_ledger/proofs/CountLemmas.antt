@@ -1,6 +1,10 @@
 -- The counts of runes that changed since a mark.
-use Rattle.std.proofs.Common.{◌≡◌, ◌∙◌, ℕ, zero, suc, ◌+◌, ◌-◌, ◌<◌, ◌≤◌, Bool, true, false, true≢false, cond, List, [], ◌∷◌, ◌++◌, length, refl, sym, ap, subst, Option, Some, None, arith}
-use Rattle.std.specs.Prelude.{◌==◌, ◌&&◌, ◌||◌, slice_get}
+use Rattle.std.proofs.Common.{◌≡◌, ◌∙◌, ℕ, zero, suc, ◌+◌, ◌-◌, ◌<◌, ◌≤◌, Bool, true, false, true≢false, cond, List, [], ◌∷◌, ◌++◌, length, refl, sym, ap, subst, Option, Some, None, arith, append_assoc, append-nil, drop}
+use Rattle.std.specs.Prelude.{◌==◌, ◌&&◌, ◌||◌, slice_get, slice_index_or}
+use Rattle.std.specs.Option.{IfSome}
+use Rattle.std.proofs.lemmas.List.{at_drop_all, at_drop_more}
+use Rattle.std.proofs.lemmas.Option.{slice_get_past, slice_get_within}
+use Rattle.ox_ledger.specs.Indexed.{indexed_by}
 use Rattle.std.specs.Bool.{Decides}
 use Rattle.std.specs.List.{AllByRecursion, list_any}
 use Rattle.std.specs.List.Sorted.{IsStrictlySortedBy}
@@ -85,9 +89,9 @@ first_alike old new before after first places rises stays =
 drop_first : {first place : ℕ} (places : List ℕ) (before after : List RuneRow) → first ≡ place → Rises (place + 1) places → StaysBeside (first + 1) before after (place ∷ places) → StaysBeside (first + 1) before after places
 drop_first {first} {place} places before after here rises stays k x y was is none =
     stays k x y was is (by_test (place == first + 1 + k) refl) where
-  by_test : (b : Bool) → (place == first + 1 + k) ≡ b → (b || list_any (λ p. p == first + 1 + k) places) ≡ false
-  by_test true e = let same : place ≡ first + 1 + k = (Decides-eqb place (first + 1 + k)).0 e in absurd (omega (arith, same, here))
-  by_test false e = none
+      by_test : (b : Bool) → (place == first + 1 + k) ≡ b → (b || list_any (λ p. p == first + 1 + k) places) ≡ false
+      by_test true e = let same : place ≡ first + 1 + k = (Decides-eqb place (first + 1 + k)).0 e in absurd (omega (arith, same, here))
+      by_test false e = none
 
 front : (b : Bool) (change : CountChange) (rest : List CountChange) → cond b [] (change ∷ []) ++ rest ≡ cond b rest (change ∷ rest)
 front true change rest = refl
@@ -111,22 +115,22 @@ whole (old ∷ before) (new ∷ after) first [] rises stays =
     ∙ skip (counts_alike old new) (change_of first old new) (changes_from (first + 1) before after) (first_alike old new before after first [] tt stays)
 whole (old ∷ before) (new ∷ after) first (place ∷ places) rises stays =
     by_place (whole before after (first + 1) places) (whole before after (first + 1) (place ∷ places)) (place == first) refl where
-  by_place : (Rises (first + 1) places → StaysBeside (first + 1) before after places → changes_among (first + 1) before after places ≡ changes_from (first + 1) before after)
-      → (Rises (first + 1) (place ∷ places) → StaysBeside (first + 1) before after (place ∷ places) → changes_among (first + 1) before after (place ∷ places) ≡ changes_from (first + 1) before after)
-      → (b : Bool) → (place == first) ≡ b
-      → changes_among first (old ∷ before) (new ∷ after) (place ∷ places) ≡ cond (counts_alike old new) (changes_from (first + 1) before after) (change_of first old new ∷ changes_from (first + 1) before after)
-  by_place without with true is =
-      let same : place ≡ first = (Decides-eqb place first).0 is in
-      let later : Rises (first + 1) places = weaker (first + 1) (place + 1) places (omega (arith, same)) rises.1 in
-      let rest = shifted old new before after first places later
-      ∙ without later (drop_first places before after (sym same) rises.1 (next_beside old new before after first (place ∷ places) stays)) in
-      (λ i. here old new before after first place same i ++ rest i) ∙ front (counts_alike old new) (change_of first old new) (changes_from (first + 1) before after)
-  by_place without with false is =
-      let other : place ≡ first → ⊥ = λ same. true≢false (sym ((Decides-eqb place first).1 same) ∙ is) in
-      let h = rises.0 in
-      let later : Rises (first + 1) (place ∷ places) = (omega (arith, h, other), rises.1) in
-      shifted old new before after first (place ∷ places) later ∙ with later (next_beside old new before after first (place ∷ places) stays)
-      ∙ skip (counts_alike old new) (change_of first old new) (changes_from (first + 1) before after) (first_alike old new before after first (place ∷ places) later stays)
+      by_place : (Rises (first + 1) places → StaysBeside (first + 1) before after places → changes_among (first + 1) before after places ≡ changes_from (first + 1) before after)
+          → (Rises (first + 1) (place ∷ places) → StaysBeside (first + 1) before after (place ∷ places) → changes_among (first + 1) before after (place ∷ places) ≡ changes_from (first + 1) before after)
+          → (b : Bool) → (place == first) ≡ b
+          → changes_among first (old ∷ before) (new ∷ after) (place ∷ places) ≡ cond (counts_alike old new) (changes_from (first + 1) before after) (change_of first old new ∷ changes_from (first + 1) before after)
+      by_place without with true is =
+          let same : place ≡ first = (Decides-eqb place first).0 is in
+          let later : Rises (first + 1) places = weaker (first + 1) (place + 1) places (omega (arith, same)) rises.1 in
+          let rest = shifted old new before after first places later
+          ∙ without later (drop_first places before after (sym same) rises.1 (next_beside old new before after first (place ∷ places) stays)) in
+          (λ i. here old new before after first place same i ++ rest i) ∙ front (counts_alike old new) (change_of first old new) (changes_from (first + 1) before after)
+      by_place without with false is =
+          let other : place ≡ first → ⊥ = λ same. true≢false (sym ((Decides-eqb place first).1 same) ∙ is) in
+          let h = rises.0 in
+          let later : Rises (first + 1) (place ∷ places) = (omega (arith, h, other), rises.1) in
+          shifted old new before after first (place ∷ places) later ∙ with later (next_beside old new before after first (place ∷ places) stays)
+          ∙ skip (counts_alike old new) (change_of first old new) (changes_from (first + 1) before after) (first_alike old new before after first (place ∷ places) later stays)
 
 nat_cmp-less : (a b : ℕ) → nat_cmp a b ≡ Less → a < b
 nat_cmp-less a b is = grind (arith, nat_tests)
@@ -150,3 +154,53 @@ pub all_changes : (before after : List RuneRow) (places : List ℕ) → IsStrict
 all_changes before after places sorted stays =
     whole before after 0 places (all_rise 0 places (from_zero places) sorted)
     (λ k old new was is none. stays k old new was is (ap (λ (n : ℕ). list_any (λ p. p == n) places) (let e : k ≡ 0 + k = omega arith in e) ∙ none))
+
+-- ---- one place
+
+no_new : (place : ℕ) (old : Option RuneRow) → change_in place old None ≡ []
+no_new place None = refl
+no_new place (Some old) = refl
+
+pub past_then : (mark : Option (List RuneRow)) (now : List RuneRow) (counts : List CountChange) (place n : ℕ) → IfSome mark (λ list. n ≡ length list) → n ≤ place
+    → IfSome mark (λ before. counts ≡ counts ++ change_in place (slice_get before place) (slice_get now place))
+past_then None now counts place n long past = tt
+past_then (Some before) now counts place n long past =
+    sym (ap (λ (o : Option RuneRow). counts ++ change_in place o (slice_get now place)) (slice_get_past before place (omega (arith, long, past))) ∙ append-nil counts)
+
+pub past_now : (mark : Option (List RuneRow)) (now : List RuneRow) (counts : List CountChange) (place n : ℕ) → n ≡ length now → n ≤ place
+    → IfSome mark (λ before. counts ≡ counts ++ change_in place (slice_get before place) (slice_get now place))
+past_now None now counts place n long past = tt
+past_now (Some before) now counts place n long past =
+    sym (ap (λ (o : Option RuneRow). counts ++ change_in place (slice_get before place) o) (slice_get_past now place (omega (arith, long, past))) ∙ ap (λ (l : List CountChange). counts ++ l) (no_new place (slice_get before place)) ∙ append-nil counts)
+
+pub if_indexed : {A B : Type 0} (P : List RuneRow → Type 0) (m : Option (List RuneRow)) (i : Option A) (n : Option B) → IfSome m P → IfSome (indexed_by m i n) P
+if_indexed P m None n is = tt
+if_indexed P m (Some i) None is = tt
+if_indexed P m (Some i) (Some n) is = is
+
+-- one place more
+pub change_next : (mark : Option (List RuneRow)) (now : List RuneRow) (places : List ℕ) (i : ℕ) (d : ℕ) (counts new : List CountChange) → i < length places
+    → IfSome mark (λ before. counts ++ changes_among 0 before now (drop i places) ≡ changes_among 0 before now places)
+    → IfSome mark (λ before. new ≡ counts ++ change_in (slice_index_or places i d) (slice_get before (slice_index_or places i d)) (slice_get now (slice_index_or places i d)))
+    → IfSome mark (λ before. new ++ changes_among 0 before now (drop (i + 1) places) ≡ changes_among 0 before now places)
+change_next None now places i d counts new less so_far more = tt
+change_next (Some before) now places i d counts new less so_far more =
+    let place = slice_index_or places i d in
+    let same : place ≡ place - 0 = omega arith in
+    ap (λ (l : List CountChange). l ++ changes_among 0 before now (drop (i + 1) places)) (more ∙ (λ k. counts ++ change_in place (slice_get before (same k)) (slice_get now (same k))))
+    ∙ append_assoc counts (change_in place (slice_get before (place - 0)) (slice_get now (place - 0))) (changes_among 0 before now (drop (i + 1) places))
+    ∙ ap (λ (l : List ℕ). counts ++ changes_among 0 before now l) (sym (at_drop_more (λ l. l) places i d less)) ∙ so_far
+
+same_rows : (old new : RuneRow) (o n : Option RuneRow) → o ≡ Some old → n ≡ Some new → n ≡ o → old ≡ new
+same_rows old new o n was is same = let e : Some old ≡ Some new = sym was ∙ sym same ∙ is in cc e
+
+-- all places
+pub change_all : (mark : Option (List RuneRow)) (now : List RuneRow) (places : List ℕ) (i : ℕ) (counts : List CountChange) → length places ≤ i → IsStrictlySortedBy nat_cmp places
+    → IfSome mark (λ before. counts ++ changes_among 0 before now (drop i places) ≡ changes_among 0 before now places)
+    → IfSome mark (λ before. (place : ℕ) → place < length now → place < length before → list_any (λ p. p == place) places ≡ false → slice_get now place ≡ slice_get before place)
+    → IfSome mark (λ before. counts ≡ changes_from 0 before now)
+change_all None now places i counts past rising so_far others = tt
+change_all (Some before) now places i counts past rising so_far others =
+    sym (append-nil counts) ∙ ap (λ (l : List ℕ). counts ++ changes_among 0 before now l) (sym (at_drop_all (λ l. l) places i past)) ∙ so_far
+    ∙ all_changes before now places rising
+    (λ k old new was is none. same_rows old new (slice_get before k) (slice_get now k) was is (others k (slice_get_within now k new is) (slice_get_within before k old was) none))

@@ -46,6 +46,7 @@ mint_on runes (Some mint) = mapped_on (mint_more mint.0) counts runes where
   by_test : (row : RuneRow) (b : Bool) → let new : RuneRow = if b then record row { mints = row.mints + 1 } else row in new ≡ with_counts row (counts_of new)
   by_test row true = refl
   by_test row false = refl
+
   counts : (row : RuneRow) → mint_more mint.0 row ≡ with_counts row (counts_of (mint_more mint.0 row))
   counts row = by_test row (is_same row.id mint.0)
 

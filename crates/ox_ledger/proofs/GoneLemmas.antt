@@ -1,6 +1,8 @@
 -- What differs of the balances of outputs since a mark.
-use Rattle.std.proofs.Common.{◌≡◌, ◌≢◌, ◌∙◌, Bool, true, false, true≢false, cond, not, List, [], ◌∷◌, ◌++◌, append_assoc, refl, sym, ap, subst, Option, Some, None, Ordering}
+use Rattle.std.proofs.Common.{◌≡◌, ◌≢◌, ◌∙◌, Bool, true, false, true≢false, cond, not, ℕ, ◌+◌, ◌<◌, ◌≤◌, List, [], ◌∷◌, ◌++◌, append_assoc, append-nil, drop, length, refl, sym, ap, subst, Option, Some, None, Ordering}
 use Rattle.std.specs.Prelude.{IsSome, IsTrue, ◌&&◌, ◌||◌, ◌↔◌, if◌then◌else◌}
+use Rattle.std.specs.Prelude.{slice_index_or}
+use Rattle.std.proofs.lemmas.List.{at_drop_all, at_drop_more}
 use Rattle.std.specs.Bool.{Decides}
 use Rattle.std.specs.List.{AllByRecursion, list_any}
 use Rattle.std.specs.List.Sorted.{IsStrictlySortedBy}
@@ -22,6 +24,7 @@ use Rattle.ox_allocation.specs.Balances.{Balance}
 use Rattle.ox_ledger.specs.Runes.{BalanceMap, Placement}
 use Rattle.ox_ledger.specs.Shown.{held_in, held_then}
 use Rattle.ox_ledger.proofs.HolderLemmas.{Held, get-held_in}
+use Rattle.ox_ledger.proofs.TablesLemmas.{is_marked}
 use Rattle.ox_ledger.proofs.PartLemmas.{same_balances, same_balances-Decides}
 
 abbrev pub Value : Type 0
@@ -41,6 +44,9 @@ entry_of at value = as_list (option_map (λ balances. (at, balances)) value)
 abbrev pub gone_among : Values → Values → List OutPoint → List Placement
 gone_among was now [] = []
 gone_among was now (at ∷ keys) = entry_of at (gone_of (was at) (now at)) ++ gone_among was now keys
+
+some_value : (x y : List Balance) → Some x ≡ Some y → x ≡ y
+some_value x y is = cc is
 
 not_same : (x : List Balance) → same_balances x x ≡ true
 not_same x = (same_balances-Decides x x).1 refl
@@ -90,14 +96,14 @@ found_among was now (at ∷ keys) q =
     find_first q at (gone_of (was at) (now at)) (gone_among was now keys)
     ∙ ap (λ (found : Value). cond (eq_by_cmp outpoint_cmp q at) (or_else (gone_of (was at) (now at)) found) found) rest
     ∙ by_test (eq_by_cmp outpoint_cmp q at) refl where
-  by_test : (b : Bool) → eq_by_cmp outpoint_cmp q at ≡ b
-      → let found = cond (list_any (λ k. is_eq (outpoint_cmp q k)) keys) (gone_of (was q) (now q)) None in
-      cond b (or_else (gone_of (was at) (now at)) found) found ≡ cond (b || list_any (λ k. is_eq (outpoint_cmp q k)) keys) (gone_of (was q) (now q)) None
-  by_test true is =
-      let same : gone_of (was at) (now at) ≡ gone_of (was q) (now q) = ap (λ (k : OutPoint). gone_of (was k) (now k)) (sym (same_key q at is)) in
-      ap (λ (value : Value). or_else value (cond (list_any (λ k. is_eq (outpoint_cmp q k)) keys) (gone_of (was q) (now q)) None)) same
-      ∙ either_gone (gone_of (was q) (now q)) (list_any (λ k. is_eq (outpoint_cmp q k)) keys)
-  by_test false is = refl
+      by_test : (b : Bool) → eq_by_cmp outpoint_cmp q at ≡ b
+          → let found = cond (list_any (λ k. is_eq (outpoint_cmp q k)) keys) (gone_of (was q) (now q)) None in
+          cond b (or_else (gone_of (was at) (now at)) found) found ≡ cond (b || list_any (λ k. is_eq (outpoint_cmp q k)) keys) (gone_of (was q) (now q)) None
+      by_test true is =
+          let same : gone_of (was at) (now at) ≡ gone_of (was q) (now q) = ap (λ (k : OutPoint). gone_of (was k) (now k)) (sym (same_key q at is)) in
+          ap (λ (value : Value). or_else value (cond (list_any (λ k. is_eq (outpoint_cmp q k)) keys) (gone_of (was q) (now q)) None)) same
+          ∙ either_gone (gone_of (was q) (now q)) (list_any (λ k. is_eq (outpoint_cmp q k)) keys)
+      by_test false is = refl
 
 -- all that is gone is found, where only these keys changed
 found_all : (was now : Values) (keys : List OutPoint) → ((q : OutPoint) → list_any (λ k. is_eq (outpoint_cmp q k)) keys ≡ false → was q ≡ now q)
@@ -165,3 +171,35 @@ differ map keys gone came rising others went comes = then_by map.marked map.belo
   came = subst (λ (l : List Placement). AreGone (held_in map) (from_entries map.below) l) (sym comes)
       (are_gone (held_in map) (from_entries map.below) (value_now map) (value_then map) keys (get-held_in map) (get-from_entries outpoints_total map.below) rising others);
 })
+
+-- ---- one outpoint more
+
+told : (at : OutPoint) (old new : List Placement) (was is : Value) → (was ≢ is → new ≡ old ++ entry_of at was) → (was ≡ is → new ≡ old) → new ≡ old ++ entry_of at (gone_of was is)
+told at old new None None differ same = same refl ∙ sym (append-nil old)
+told at old new None (Some y) differ same = differ (λ e. absurd (cc e))
+told at old new (Some x) None differ same = differ (λ e. absurd (cc e))
+told at old new (Some x) (Some y) differ same = by_test (same_balances x y) refl where
+  by_test : (b : Bool) → same_balances x y ≡ b → new ≡ old ++ entry_of at (cond (not b) (Some x) None)
+  by_test true is = same (ap Some ((same_balances-Decides x y).0 is)) ∙ sym (append-nil old)
+  by_test false is = differ (λ e. true≢false (sym ((same_balances-Decides x y).1 (some_value x y e)) ∙ is))
+
+pub gone_next : (was now : Values) (keys : List OutPoint) (i : ℕ) (d : OutPoint) (old new all : List Placement) (then_is now_is : Value) → i < length keys
+    → then_is ≡ was (slice_index_or keys i d) → now_is ≡ now (slice_index_or keys i d) → old ++ gone_among was now (drop i keys) ≡ all
+    → (then_is ≢ now_is → new ≡ old ++ entry_of (slice_index_or keys i d) then_is) → (then_is ≡ now_is → new ≡ old) → new ++ gone_among was now (drop (i + 1) keys) ≡ all
+gone_next was now keys i d old new all then_is now_is less here here_now whole differ same =
+    let at = slice_index_or keys i d in
+    ap (λ (l : List Placement). l ++ gone_among was now (drop (i + 1) keys)) (told at old new then_is now_is differ same ∙ (λ k. old ++ entry_of at (gone_of (here k) (here_now k))))
+    ∙ append_assoc old (entry_of at (gone_of (was at) (now at))) (gone_among was now (drop (i + 1) keys))
+    ∙ ap (λ (l : List OutPoint). old ++ gone_among was now l) (sym (at_drop_more (λ l. l) keys i d less)) ∙ whole
+
+pub gone_all : (was now : Values) (keys : List OutPoint) (i : ℕ) (old all : List Placement) → length keys ≤ i → old ++ gone_among was now (drop i keys) ≡ all → old ≡ all
+gone_all was now keys i old all past whole = sym (append-nil old) ∙ ap (λ (l : List OutPoint). old ++ gone_among was now l) (sym (at_drop_all (λ l. l) keys i past)) ∙ whole
+
+pub marked_from : (map : Held) → IsSome (held_then map) → IsSome (mark_in outpoint_cmp map)
+marked_from map some = is_marked map some
+
+-- where no key was put, nothing changed
+pub beside : (map : Held) (keys put_keys : List OutPoint) → keys ≡ put_keys → ((q : OutPoint) → list_any (λ k. is_eq (outpoint_cmp q k)) put_keys ≡ is_changed outpoint_cmp map q)
+    → ((q : OutPoint) → is_changed outpoint_cmp map q ≡ false → value_now map q ≡ value_then map q)
+    → (q : OutPoint) → list_any (λ k. is_eq (outpoint_cmp q k)) keys ≡ false → value_now map q ≡ value_then map q
+beside map keys put_keys same put others q none = others q (sym (put q) ∙ sym (ap (λ (l : List OutPoint). list_any (λ k. is_eq (outpoint_cmp q k)) l) same) ∙ none)

@@ -1,13 +1,15 @@
 -- What a ledger keeps.
 use Rattle.std.proofs.Common.{◌≡◌, ◌≢◌, ◌∙◌, ℕ, ◌+◌, ◌*◌, ◌^◌, ◌<◌, ◌≤◌, Bool, true, false, true≢false, List, [], ◌∷◌, ◌++◌, map, refl, sym, ap, subst, Option, Some, None, is_some, arith}
-use Rattle.std.specs.Prelude.{All, slice_get, unwrap_or}
+use Rattle.std.specs.Prelude.{All, slice_get, unwrap_or, if◌then◌else◌}
 use Rattle.std.specs.List.{AllByRecursion}
 use Rattle.std.specs.Option.{ForSome, IfSome}
-use Rattle.std.specs.FinMap.{values}
+use Rattle.std.specs.FinMap.{empty, values}
 use Rattle.std.proofs.lemmas.List.Elements.{All-from_recursion, All-weaker, recursion_from_All}
 use Rattle.ox_allocation.specs.Balances.{AreBalances, amount_in}
+use Rattle.ox_sat.specs.declared.profiles.Profile.{Profile}
 use Rattle.ox_etching.specs.declared.row.RuneRow.{RuneRow}
 use Rattle.ox_ledger.specs.Balanced.{AreKnown, Balanced, IsBounded, IsSettled, amount_held, made_of}
+use Rattle.ox_ledger.specs.Block.{first_rune, no_runes}
 use Rattle.ox_ledger.specs.Runes.{Placement, Runes, end}
 use Rattle.ox_ledger.specs.Steps.{CanPlaceAll}
 use Rattle.ox_ledger.specs.Tables.{nothing}
@@ -38,3 +40,18 @@ can_end state balanced =
 pub fallen : (mark : Option Runes) → ForSome mark Balanced → Balanced (unwrap_or mark nothing)
 fallen None all = nothing_balanced
 fallen (Some state) all = all state refl
+
+-- ---- the runes that are there before the first block
+
+pub first_there : (p : Profile) (start : Runes) (rows : List RuneRow) → start ≡ nothing → rows ≡ start.runes ++ first_rune ∷ [] → p.first_rune ≡ true
+    → record { bal = start.bal; runes = rows; due = start.due } ≡ no_runes p
+first_there p start rows none more is =
+    (λ i. record { bal = start.bal; runes = more i; due = start.due })
+    ∙ (λ i. record { bal = (none i).bal; runes = (none i).runes ++ first_rune ∷ []; due = (none i).due })
+    ∙ (λ i. record { bal = empty; runes = (let b : Bool = sym is i in if b then first_rune ∷ [] else []); due = [] })
+
+pub none_first : (p : Profile) (start : Runes) → start ≡ nothing → p.first_rune ≡ false → start ≡ no_runes p
+none_first p start none is = none ∙ (λ i. record { bal = empty; runes = (let b : Bool = sym is i in if b then first_rune ∷ [] else []); due = [] })
+
+pub no_mark_balanced : (mark : Option Runes) → mark ≡ None → ForSome mark Balanced
+no_mark_balanced mark none x is = let no : None ≡ Some x = sym none ∙ is in absurd (cc no)

@@ -28,6 +28,9 @@ pub mod ArtifactLemmas
 pub mod DropLemmas
 pub mod TablesLemmas
 pub mod LedgerLemmas
+pub mod TurnSteps
 pub mod MoveLemmas
+pub mod PartMoves
+pub mod EqualLemmas
 pub mod CountLemmas
 pub mod GoneLemmas

@@ -1,19 +1,26 @@
 -- How a part leads from one state to the other, step by step.
 use Rattle.std.proofs.Common.{◌≡◌, ◌≢◌, ◌∙◌, ℕ, zero, suc, ◌+◌, ◌-◌, ◌<◌, ◌≤◌, Bool, true, false, true≢false, cond, List, [], ◌∷◌, ◌++◌, length, take, drop, refl, sym, ap, subst, Option, Some, None, arith, append_assoc, length-append}
-use Rattle.std.specs.Prelude.{◌==◌, All, find, slice_get, slice_set}
+use Rattle.std.specs.Prelude.{◌==◌, All, find, slice_get, slice_index_or, slice_set}
 use Rattle.std.specs.Bool.{Decides}
 use Rattle.std.specs.List.{AllByRecursion}
+use Rattle.std.specs.Option.{IfSome}
+use Rattle.std.proofs.lemmas.List.{at_drop_more, nil_from_length}
 use Rattle.std.specs.FinMap.{FinMap, insert, remove}
 use Rattle.std.specs.declared.cmp.Ordering.{Ordering}
 use Rattle.std.proofs.lemmas.Bool.Decides.{Decides-eqb}
 use Rattle.std.proofs.lemmas.Option.{slice_get_within}
 use Rattle.ox_rules.specs.Differences.{with_rows, without_rows}
 use Rattle.ox_rules.proofs.DifferenceLemmas.{or_else}
+use Rattle.ox_block.specs.declared.block.OutPoint.{OutPoint}
+use Rattle.ox_allocation.specs.Balances.{Balance}
 use Rattle.ox_etching.specs.declared.row.RuneRow.{RuneRow}
 use Rattle.ox_ledger.specs.Balanced.{AreDistinct}
+use Rattle.ox_ledger.specs.Marks.{WithMark}
 use Rattle.ox_ledger.specs.Part.{CountChange, Counts, change_at, changes_from, counts_alike, row_at_end, rows_at_end, with_counts}
+use Rattle.ox_ledger.specs.Runes.{BalanceMap, Placement, with_balances}
 use Rattle.ox_ledger.specs.Shown.{HasAt, IsAbsent}
 use Rattle.ox_ledger.proofs.Fresh.{some_mapped}
+use Rattle.ox_ledger.proofs.ListLemmas.{length-slice_set}
 use Rattle.ox_ledger.proofs.PartLemmas.{change_of, skips}
 use Rattle.ox_ledger.proofs.TableLemmas.{value_in}
 
@@ -28,6 +35,11 @@ without_last map [] row = refl
 without_last {R} map (first ∷ rows) row = ap (λ (m : FinMap R _). remove m first.0) (without_last map rows row)
 
 -- ---- counts
+
+not_past : (rows : List RuneRow) (k : ℕ) → k < length rows → slice_get rows k ≡ None → ⊥
+not_past [] k less none = absurd (omega (arith, less))
+not_past (row ∷ rows) zero less none = let no : Some row ≡ None = none in absurd (cc no)
+not_past (row ∷ rows) (suc k) less none = not_past rows k (omega (arith, less)) none
 
 module _ (side : CountChange → Counts) where
   at_last : (changes : List CountChange) (last : CountChange) (p : ℕ) → change_at (changes ++ last ∷ []) p ≡ or_else (change_at changes p) (change_at (last ∷ []) p)
@@ -93,6 +105,19 @@ module _ (side : CountChange → Counts) where
   length-rows changes p [] = refl
   length-rows changes p (row ∷ rows) = ap suc (length-rows changes (p + 1) rows)
 
+  -- the changes are done when none is left
+  pub recount_all : (now : List RuneRow) (left : List CountChange) (all : List RuneRow) → length left ≡ 0 → rows_at_end side left 0 now ≡ all → now ≡ all
+  recount_all now left all none whole = sym (ap (λ (l : List CountChange). rows_at_end side l 0 now) (nil_from_length left none) ∙ rows_none 0 now) ∙ whole
+
+  -- the last of those that are left
+  pub recount_next : (now new : List RuneRow) (left before : List CountChange) (change : CountChange) (all : List RuneRow) → left ≡ before ++ change ∷ [] → rows_at_end side left 0 now ≡ all
+      → IfSome (slice_get now change.place) (λ row. new ≡ slice_set now change.place (with_counts row (side change))) → change.place < length now → rows_at_end side before 0 new ≡ all
+  recount_next now new left before change all is whole put within = by_row (slice_get now change.place) refl put where
+    by_row : (there : Option RuneRow) → slice_get now change.place ≡ there → IfSome there (λ row. new ≡ slice_set now change.place (with_counts row (side change))) → rows_at_end side before 0 new ≡ all
+    by_row None none put = absurd (not_past now change.place within none)
+    by_row (Some row) there put =
+        ap (rows_at_end side before 0) (put ∙ recounted change now row there) ∙ sym (rows_last before change 0 now) ∙ sym (ap (λ (l : List CountChange). rows_at_end side l 0 now) is) ∙ whole
+
 abbrev pub AreWithin : ℕ → List CountChange → Type 0
 AreWithin count changes = AllByRecursion (λ (change : CountChange). change.place < count) changes
 
@@ -114,6 +139,26 @@ pub within_last : (count : ℕ) (changes : List CountChange) (last : CountChange
 within_last count [] last all = (all.0, tt)
 within_last count (change ∷ changes) last all = let rest = within_last count changes last all.1 in (rest.0, (all.0, rest.1))
 
+pub last_within : (count : ℕ) (left before : List CountChange) (change : CountChange) → left ≡ before ++ change ∷ [] → AreWithin count left → change.place < count
+last_within count left before change is within = (within_last count before change (subst (AreWithin count) is within)).0
+
+pub put_length : (side : CountChange → Counts) (now new : List RuneRow) (change : CountChange) (there : Option RuneRow) → slice_get now change.place ≡ there
+    → IfSome there (λ row. new ≡ slice_set now change.place (with_counts row (side change))) → change.place < length now → length new ≡ length now
+put_length side now new change None is put within = absurd (not_past now change.place within is)
+put_length side now new change (Some row) is put within = ap length put ∙ length-slice_set now change.place (with_counts row (side change))
+
+-- what is put at a place, by its counts
+pub put_by : (side : CountChange → Counts) (now new : WithMark (List RuneRow)) (change : CountChange) (counts : Counts) (there : Option RuneRow) → counts ≡ side change
+    → IfSome there (λ row. new ≡ record now { now = slice_set now.now change.place (with_counts row counts) }) → IfSome there (λ row. new.now ≡ slice_set now.now change.place (with_counts row (side change)))
+put_by side now new change counts None is put = tt
+put_by side now new change counts (Some row) is put = ap (λ (v : WithMark (List RuneRow)). v.now) put ∙ ap (λ (k : Counts). slice_set now.now change.place (with_counts row k)) is
+
+-- those that are left stay within
+pub recount_within : (side : CountChange → Counts) (now new : List RuneRow) (left before : List CountChange) (change : CountChange) → left ≡ before ++ change ∷ [] → AreWithin (length now) left → length new ≡ length now
+    → AreWithin (length new) before
+recount_within side now new left before change is within same =
+    subst (λ n. AreWithin n before) (sym same) (within_last (length now) before change (subst (AreWithin (length now)) is within)).1
+
 -- ---- new runes
 
 slice_get_at : (rows more : List RuneRow) (row : RuneRow) → slice_get (rows ++ row ∷ more) (length rows) ≡ Some row
@@ -132,3 +177,42 @@ comes_new of rows more row distinct place has =
     let same : place ≡ length rows = distinct place (length rows) there.0 row (slice_get_front rows (row ∷ more) place there.0 there.1) (slice_get_at rows more row) there.2 in
     let within = slice_get_within rows place there.0 there.1 in
     absurd (omega (arith, same, within))
+
+pub comes_next : {A : Type 0} (of : RuneRow → A) (now rows : List RuneRow) (i : ℕ) (d : RuneRow) (all : List RuneRow) → i < length rows → now ++ drop i rows ≡ all → AreDistinct of all
+    → IsAbsent of now (of (slice_index_or rows i d))
+comes_next of now rows i d all less whole distinct =
+    comes_new of now (drop (i + 1) rows) (slice_index_or rows i d)
+    (subst (AreDistinct of) (sym whole ∙ ap (λ (l : List RuneRow). now ++ l) (at_drop_more (λ l. l) rows i d less)) distinct)
+
+-- ---- balances, one by one
+
+pub taken_last : (bal less : BalanceMap) (left before : List Placement) (one : Placement) (all : BalanceMap) → left ≡ before ++ one ∷ [] → less ≡ remove bal one.0 → without_rows bal left ≡ all → without_rows less before ≡ all
+taken_last bal less left before one all is gone whole =
+    ap (λ (m : BalanceMap). without_rows m before) gone ∙ sym (without_last bal before one) ∙ sym (ap (without_rows bal) is) ∙ whole
+
+pub all_taken : (bal : BalanceMap) (left : List Placement) (all : BalanceMap) → length left ≡ 0 → without_rows bal left ≡ all → bal ≡ all
+all_taken bal left all none whole = sym (ap (without_rows bal) (nil_from_length left none)) ∙ whole
+
+pub all_placed : (bal : BalanceMap) (left : List Placement) (all : BalanceMap) → length left ≡ 0 → with_rows bal left ≡ all → bal ≡ all
+all_placed bal left all none whole = sym (ap (with_rows bal) (nil_from_length left none)) ∙ whole
+
+with_one : (bal : BalanceMap) (at : OutPoint) (balances : List Balance) → balances ≢ [] → with_balances bal at balances ≡ insert bal at balances
+with_one bal at [] some = absurd (some refl)
+with_one bal at (one ∷ balances) some = refl
+
+pub placed_last : (bal more : BalanceMap) (left before : List Placement) (one : Placement) (balances : List Balance) (all : BalanceMap) → left ≡ before ++ one ∷ [] → balances ≡ one.1 → one.1 ≢ []
+    → more ≡ with_balances bal one.0 balances → with_rows bal left ≡ all → with_rows more before ≡ all
+placed_last bal more left before one balances all is same some came whole =
+    ap (λ (m : BalanceMap). with_rows m before) (came ∙ ap (with_balances bal one.0) same ∙ with_one bal one.0 one.1 some) ∙ sym (with_last bal before one) ∙ sym (ap (with_rows bal) is) ∙ whole
+
+pub filled_last : (left before : List Placement) (one : Placement) → left ≡ before ++ one ∷ [] → AllByRecursion (λ (new : Placement). new.1 ≢ []) left → one.1 ≢ []
+filled_last left before one is all = last_of before (subst (AllByRecursion (λ (new : Placement). new.1 ≢ [])) is all) where
+  last_of : (front : List Placement) → AllByRecursion (λ (new : Placement). new.1 ≢ []) (front ++ one ∷ []) → one.1 ≢ []
+  last_of [] all = all.0
+  last_of (x ∷ front) all = last_of front all.1
+
+pub filled_rest : (left before : List Placement) (one : Placement) → left ≡ before ++ one ∷ [] → AllByRecursion (λ (new : Placement). new.1 ≢ []) left → AllByRecursion (λ (new : Placement). new.1 ≢ []) before
+filled_rest left before one is all = rest_of before (subst (AllByRecursion (λ (new : Placement). new.1 ≢ [])) is all) where
+  rest_of : (front : List Placement) → AllByRecursion (λ (new : Placement). new.1 ≢ []) (front ++ one ∷ []) → AllByRecursion (λ (new : Placement). new.1 ≢ []) front
+  rest_of [] all = tt
+  rest_of (x ∷ front) all = (all.0, rest_of front all.1)

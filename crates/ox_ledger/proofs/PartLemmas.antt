@@ -134,13 +134,13 @@ rows_forth p (old ∷ before) (new ∷ after) go_on = by_test (rows_forth (p + 1
       (skips later (change_of p old new) (changes_from (p + 1) before after) (p + 1) (omega arith) before)
       ∙ rest)
 
-goes_on_longer : (before after : List RuneRow) → Continues before after → length before ≤ length after
+pub goes_on_longer : (before after : List RuneRow) → Continues before after → length before ≤ length after
 goes_on_longer [] after go_on = omega arith
 goes_on_longer (old ∷ before) [] go_on = absurd go_on
 goes_on_longer (old ∷ before) (new ∷ after) go_on = let h = goes_on_longer before after go_on.1 in omega arith
 
 -- how many runes there were
-count_before : (before after : List RuneRow) → Continues before after → length after - length (drop (length before) after) ≡ length before
+pub count_before : (before after : List RuneRow) → Continues before after → length after - length (drop (length before) after) ≡ length before
 count_before before after go_on = let h = goes_on_longer before after go_on in omega (arith, length-drop (length before) after)
 
 -- ---- the law

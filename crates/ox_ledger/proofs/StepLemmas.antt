@@ -127,6 +127,7 @@ can_settle : (at : Spot) (hand : InHand) (due : List Placement) (dealt : Allocat
 can_settle at hand due dealt proper given burned = by_place (at.tx == 0) refl where
   mid : Runes
   mid = record { bal = hand.bal; runes = burn dealt.burned hand.runes; due = due }
+
   by_place : (b : Bool) → (at.tx == 0) ≡ b → let after : Runes =
       if b then record { bal = hand.bal; runes = burn dealt.burned hand.runes; due = due ++ placements at.txid 0 dealt.given }
       else place_all (record { bal = hand.bal; runes = burn dealt.burned hand.runes; due = due }) (placements at.txid 0 dealt.given) in

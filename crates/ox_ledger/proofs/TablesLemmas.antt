@@ -1,5 +1,5 @@
 -- What the tables of the ledger show together.
-use Rattle.std.proofs.Common.{◌≡◌, ◌≢◌, ◌∙◌, ℕ, zero, suc, ◌+◌, ◌<◌, ◌≤◌, Bool, true, false, true≢false, List, [], ◌∷◌, ◌++◌, length, map, take, refl, sym, ap, subst, Option, Some, None, is_some, arith, append_assoc, append-nil}
+use Rattle.std.proofs.Common.{◌≡◌, ◌≢◌, ◌∙◌, ℕ, zero, suc, ◌+◌, ◌<◌, ◌≤◌, Bool, true, false, true≢false, List, [], ◌∷◌, ◌++◌, length, map, take, drop, refl, sym, ap, subst, Option, Some, None, is_some, arith, append_assoc, append-nil}
 use Rattle.std.specs.Prelude.{IsSome, slice_get, unwrap_or, ◌==◌, if◌then◌else◌}
 use Rattle.std.specs.Option.{IfSome, IsSomeAnd, option_map}
 use Rattle.std.specs.FinMap.{empty, from_entries, get, get-empty, same_map}
@@ -25,6 +25,7 @@ use Rattle.ox_ledger.specs.Runes.{BalanceMap, InHand, Placement, Runes, balances
 use Rattle.ox_ledger.specs.Shown.{IsAbsent, held_in, held_then}
 use Rattle.ox_ledger.specs.Steps.{CanPlace, CanPlaceAll}
 use Rattle.ox_ledger.specs.Tables.{nothing, runes_then}
+use Rattle.ox_ledger.proofs.Held.{amount_held-cons}
 use Rattle.ox_ledger.proofs.HolderLemmas.{Held, get-held_in, held_same, remove_none, then_is}
 use Rattle.ox_ledger.proofs.TableLemmas.{value_in}
 
@@ -166,22 +167,33 @@ none_next (output ∷ outputs) (suc n) less =
 abbrev pub owed : List Placement → RuneId → ℕ
 owed due id = amount_held (map (λ (new : Placement). new.1) due) id
 
-pub owed_next : (due : List Placement) (place : ℕ) (one : Placement) (id : RuneId) → slice_get due place ≡ Some one → owed (take (place + 1) due) id ≡ owed (take place due) id + amount_in one.1 id
-owed_next [] place one id is = let none : None ≡ Some one = is in absurd (cc none)
+abbrev given_in : List Placement → List (List Balance)
+given_in due = map (λ (new : Placement). new.1) due
+
+pub owed_next : (due : List Placement) (k : ℕ) (one : Placement) (id : RuneId) → slice_get due k ≡ Some one → owed (take (k + 1) due) id ≡ owed (take k due) id + amount_in one.1 id
+owed_next [] k one id is = let none : None ≡ Some one = is in absurd (cc none)
 owed_next (first ∷ due) zero one id is =
     let same : first ≡ one = value_in first one is in
     let here : amount_in first.1 id ≡ amount_in one.1 id = ap (λ (p : Placement). amount_in p.1 id) same in
-    omega (arith, here)
+    let sums = amount_held-cons first.1 [] id in
+    omega (arith, here, sums)
 owed_next (first ∷ due) (suc n) one id is =
     let rest = owed_next due n one id is in
     let e : suc n + 1 ≡ suc (n + 1) = omega arith in
     let longer : owed (take (suc n + 1) (first ∷ due)) id ≡ owed (take (suc (n + 1)) (first ∷ due)) id = ap (λ k. owed (take k (first ∷ due)) id) e in
-    omega (arith, rest, longer)
+    let more = amount_held-cons first.1 (given_in (take (n + 1) due)) id in
+    let less = amount_held-cons first.1 (given_in (take n due)) id in
+    omega (arith, rest, longer, more, less)
 
 pub owed_upto : (due : List Placement) (n : ℕ) (id : RuneId) → owed (take n due) id ≤ owed due id
-owed_upto [] n id = omega arith
+owed_upto [] zero id = omega arith
+owed_upto [] (suc n) id = omega arith
 owed_upto (first ∷ due) zero id = omega arith
-owed_upto (first ∷ due) (suc n) id = let rest = owed_upto due n id in omega (arith, rest)
+owed_upto (first ∷ due) (suc n) id =
+    let rest = owed_upto due n id in
+    let less = amount_held-cons first.1 (given_in (take n due)) id in
+    let more = amount_held-cons first.1 (given_in due) id in
+    omega (arith, rest, less, more)
 
 -- ---- what a mint keeps
 
@@ -258,8 +270,10 @@ pub nothing_done : (at : Spot) (tx : Tx) (artifact : Option Artifact) (due : Lis
 nothing_done at tx artifact due hand empty other none = sym (by_place (at.tx == 0) refl) where
   mid : Runes
   mid = record { bal = hand.bal; runes = hand.runes; due = due }
+
   dealt : dealt_by artifact hand.pool hand.etching tx.outputs ≡ record { given = none_each tx.outputs; burned = [] }
   dealt = ap (λ (pool : List Balance). dealt_by artifact pool hand.etching tx.outputs) empty ∙ none_dealt artifact hand.etching tx.outputs
+
   by_place : (b : Bool) → (at.tx == 0) ≡ b
       → let all = dealt_by artifact hand.pool hand.etching tx.outputs in
       let new = placements at.txid 0 all.given in
@@ -272,3 +286,19 @@ nothing_done at tx artifact due hand empty other none = sym (by_place (at.tx == 
       (λ i. place_all (record { bal = hand.bal; runes = burn (dealt i).burned hand.runes; due = due }) (placements at.txid 0 (dealt i).given))
       ∙ (λ i. place_all (record { bal = hand.bal; runes = burn_none hand.runes i; due = due }) (placements at.txid 0 (none_each tx.outputs)))
       ∙ place_all_none mid at.txid 0 tx.outputs (λ index less. none index (omega (arith, less)))
+
+-- ---- a list from a place on
+
+drop_next : {A : Type 0} (xs : List A) (i : ℕ) (x : A) → slice_get xs i ≡ Some x → x ∷ drop (i + 1) xs ≡ drop i xs
+drop_next [] i x is = let none : None ≡ Some x = is in absurd (cc none)
+drop_next (y ∷ xs) zero x is = let same : x ≡ y = sym (value_in y x is) in λ i. same i ∷ xs
+drop_next (y ∷ xs) (suc n) x is = ap (λ k. x ∷ drop k (y ∷ xs)) (let e : suc n + 1 ≡ suc (n + 1) = omega arith in e) ∙ drop_next xs n x is
+
+pub dropped_next : {A : Type 0} (xs : List A) (i : ℕ) (x : A) (rows new : List A) (all : List A) → slice_get xs i ≡ Some x → rows ++ drop i xs ≡ all → new ≡ rows ++ x ∷ [] → new ++ drop (i + 1) xs ≡ all
+dropped_next xs i x rows new all there whole more =
+    ap (λ l. l ++ drop (i + 1) xs) more ∙ append_assoc rows (x ∷ []) (drop (i + 1) xs) ∙ ap (λ l. rows ++ l) (drop_next xs i x there) ∙ whole
+
+pub dropped_more : (mark : Option (List RuneRow)) (xs : List RuneRow) (i : ℕ) (x : RuneRow) (rows new : List RuneRow) → slice_get xs i ≡ Some x → new ≡ rows ++ x ∷ []
+    → IfSome mark (λ before. rows ++ drop i xs ≡ drop (length before) xs) → IfSome mark (λ before. new ++ drop (i + 1) xs ≡ drop (length before) xs)
+dropped_more None xs i x rows new there more whole = tt
+dropped_more (Some before) xs i x rows new there more whole = dropped_next xs i x rows new (drop (length before) xs) there whole more

@@ -1,6 +1,6 @@
 -- What of a change between two states is about runes, and how it leads from either state to the
 -- other.
-use Rattle.std.specs.Prelude.{◌≡◌, ℕ, ◌+◌, ◌-◌, Bool, ◌&&◌, ◌==◌, List, [], ◌∷◌, ◌++◌, length, take}
+use Rattle.std.specs.Prelude.{◌≡◌, ℕ, ◌+◌, ◌-◌, Bool, true, false, ◌&&◌, ◌==◌, List, [], ◌∷◌, ◌++◌, length, take}
 use Rattle.std.specs.Prelude.{drop, find, Option, Some, None, if◌then◌else◌}
 use Rattle.ox_block.specs.declared.block.OutPoint.{OutPoint}
 use Rattle.ox_rules.specs.Differences.{Difference, Differ, other_end, reverse_of}
@@ -55,6 +55,11 @@ pub record IsPart (before after : Runes) (part : RunePart) : Type 0 where
 -- the change at a place, if there is one
 abbrev pub change_at : List CountChange → ℕ → Option CountChange
 change_at changes place = find (λ change. change.place == place) changes
+
+-- what is counted before a change, or after it
+abbrev pub counts_at : Bool → CountChange → Counts
+counts_at true change = change.before
+counts_at false change = change.after
 
 abbrev pub row_at_end : (CountChange → Counts) → Option CountChange → RuneRow → RuneRow
 row_at_end side None row = row

@@ -229,12 +229,7 @@ impl Ledger {
         ensures mark { mark_in self.new ≡ mark_in self.old }
         ensures profile { self.new.profile ≡ self.old.profile }
     {
-        let done = if back {
-            self.tables.back(self.alloc, part)
-        } else {
-            self.tables.forth(self.alloc, part)
-        };
-        match done {
+        match self.tables.put(self.alloc, part, back) {
             Ok(()) => Ok(()),
             Err(e) => {
                 self.tables.fall_back(self.alloc, self.marked);

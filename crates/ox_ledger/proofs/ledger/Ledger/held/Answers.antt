@@ -1,4 +1,4 @@
-use Rattle.std.proofs.Common.{◌≡◌, ◌+◌, arith, subst, sym, Option}
+use Rattle.std.proofs.Common.{◌≡◌, ◌+◌, ◌-◌, arith, subst, sym, Option}
 use Rattle.std.specs.FinMap.{values}
 use Rattle.std.specs.Option.{IfSome}
 use Rattle.ox_etching.specs.declared.row.RuneRow.{RuneRow}
@@ -31,4 +31,4 @@ returns c =
     let row = c.get-row.result.now in
     let bal = (runes_of c.args.self.now.tables).bal in
     let parts = parts_of (runes_of c.args.self.now.tables) c.args.n row c.args.self.now.balanced c.get-row.ensures in
-    subst (λ (o : Option RuneRow). IfSome o (λ r. c.result ≡ amount_held (values bal) r.id)) (sym c.get-row.ensures) (omega (arith, parts, c.made_of.ensures, c.due_of.ensures))
+    subst (λ (o : Option RuneRow). IfSome o (λ r. c.made_of.result - row.burned - c.due_of.result ≡ amount_held (values bal) r.id)) (sym c.get-row.ensures) (omega (arith, parts, c.made_of.ensures, c.due_of.ensures))

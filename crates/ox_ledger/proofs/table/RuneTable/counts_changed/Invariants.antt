@@ -5,4 +5,4 @@ use Rattle.ox_ledger.proofs.table.RuneTable.counts_changed.Given as goal
 
 abbrev pub invariant-loop-place : goal.invariant-loop-place
 invariant-loop-place l =
-    IfSome l.self.mark (λ before. l.counts ++ changes_among 0 before l.self.now (drop l.place-index l.places.items) ≡ changes_among 0 before l.self.now l.places.items)
+    IfSome l.self.mark (λ before. l.counts ++ changes_among 0 before l.self.now (drop l.place-index l.place-items) ≡ changes_among 0 before l.self.now l.place-items)

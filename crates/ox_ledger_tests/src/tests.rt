@@ -1,8 +1,14 @@
 //! Blocks of a lab chain, transaction by transaction.
 
-use super::*;
+ghost use Rattle.std.specs.Prelude.{◌≡◌, ◌≢◌, IsSome};
+ghost use Rattle.ox_ledger.specs.Ledger.{mark_in, runes_in};
+ghost use Rattle.ox_ledger.specs.Moves.{Begins};
+ghost use Rattle.ox_ledger_tests.specs.Came.{Came};
+
 use ox_block::{Inputs, OutPoint, Outs, Tx, TxIn, TxOut, Txid, Witness};
 use ox_bytes::Bytes;
+use ox_etching::RuneRow;
+use ox_ledger::{Counts, Ledger, RunePart};
 use ox_rules::SpentRows;
 use ox_runestone::RuneId;
 use ox_sat::{ProfileName, profile_of};
@@ -38,7 +44,9 @@ fn at(number: u8, index: u32) -> OutPoint {
 }
 
 /// A ledger of a lab chain, with a mark.
-fn lab(rt: &impl Abort, alloc: Global) -> Ledger {
+fn lab(rt: &impl Abort, alloc: Global) -> Ledger
+    ensures { Came (mark_in result) (runes_in result) }
+{
     let p = profile_of(ProfileName::Lab);
     let mut ledger = Ledger::new(alloc, &p).expect(rt, "memory");
     ledger.begin().expect(rt, "memory");
@@ -91,9 +99,17 @@ fn turn(
     alloc: Global,
     spot: (u32, u32, u8),
     body: &Tx,
-) {
+)
+    ensures { spot.1 ≢ 0 → Came (mark_in ledger.old) (runes_in ledger.old)
+        → Came (mark_in ledger.new) (runes_in ledger.new) }
+{
     let spent = SpentRows::new(alloc);
     let (height, place, number) = spot;
+    let id = RuneId {
+        block: height as u64,
+        tx: place,
+    };
+    assert!(rt; ledger.by_id(id).is_none());
     ledger
         .turn(height, place, txid(number), body, &spent)
         .expect(rt, "memory");
@@ -101,12 +117,33 @@ fn turn(
 
 /// A ledger in which transaction 1 of block 3 has etched by a runestone, and has the premine at
 /// its output 0.
-fn etched(rt: &impl Abort, alloc: Global, stone: &[u8]) -> Ledger {
+fn etched(rt: &impl Abort, alloc: Global, stone: &[u8]) -> Ledger
+    ensures { Came (mark_in result) (runes_in result) }
+{
     let mut ledger = lab(rt, alloc);
     let body = tx(rt, alloc, &[], &[PLAIN, stone]);
     turn(rt, &mut ledger, alloc, (3, 1, 1), &body);
     ledger.begin().expect(rt, "memory");
     ledger
+}
+
+/// Goes back to the mark by the part of what changed since.
+fn undo(rt: &impl Abort, ledger: &mut Ledger) -> RunePart
+    requires { Came (mark_in ledger.old) (runes_in ledger.old) }
+    ensures mark { IsSome (mark_in ledger.new) }
+    ensures begins { Begins result (runes_in ledger.new) }
+{
+    let part = ledger.changed().expect(rt, "memory");
+    ledger.put(&part, true).expect(rt, "memory");
+    part
+}
+
+/// Goes on by a part.
+fn redo(rt: &impl Abort, ledger: &mut Ledger, part: &RunePart)
+    requires mark { IsSome (mark_in ledger.old) }
+    requires begins { Begins part.now (runes_in ledger.old) }
+{
+    ledger.put(part, false).expect(rt, "memory");
 }
 
 /// How much of the rune an output holds, where it is the only one.
@@ -120,6 +157,9 @@ fn amount_at(ledger: &Ledger, at: OutPoint) -> u128 {
 /// Whether so many mints of the first rune are counted, so much of it is burned, and outputs hold
 /// so much.
 fn counts(ledger: &Ledger, mints: u128, burned: u128, held: u128) -> bool {
+    if ledger.len() == 0 {
+        return false;
+    }
     let row = ledger.rune(0);
     row.mints == mints && row.burned == burned && ledger.held(0) == held
 }
@@ -158,11 +198,32 @@ fn an_edict_splits_evenly(rt: HostRuntime) {
     assert!(rt; shares(&rt, alloc, four) == [4, 4, 2]);
 }
 
+/// Whether this is mainnet's first rune as its chain begins.
+fn is_uncommon_goods(row: &RuneRow) -> bool {
+    match &row.terms {
+        Some(terms) => {
+            terms.amount == Some(1)
+                && terms.cap == Some(340_282_366_920_938_463_463_374_607_431_768_211_455)
+                && terms.height_start == Some(840_000)
+                && terms.height_end == Some(1_050_000)
+                && terms.offset_start.is_none()
+                && terms.offset_end.is_none()
+                && row.divisibility == 0
+                && row.spacers == 128
+                && row.symbol == Some('⧉')
+                && row.premine == 0
+                && row.etching == txid(0)
+        }
+        None => false,
+    }
+}
+
 #[test]
 fn mainnet_has_its_first_rune(rt: HostRuntime) {
     let p = profile_of(ProfileName::Mainnet);
     let ledger = Ledger::new(rt.alloc(), &p).expect(&rt, "memory");
     assert!(rt; ledger.len() == 1 && counts(&ledger, 0, 0, 0));
+    assert!(rt; is_uncommon_goods(ledger.rune(0)));
     assert!(rt; ledger.by_id(RuneId { block: 1, tx: 0 }) == Some(0));
     assert!(rt; ledger.by_name(2_055_900_680_524_219_742) == Some(0));
     assert!(rt; ledger.by_name(0) == None && ledger.by_id(RUNE) == None);
@@ -242,11 +303,10 @@ fn a_part_leads_both_ways(rt: HostRuntime) {
     let mut ledger = etched(&rt, alloc, ETCHES);
     let body = tx(&rt, alloc, &[at(1, 0)], &[PLAIN, MINTS_AND_BURNS]);
     turn(&rt, &mut ledger, alloc, (4, 1, 2), &body);
-    let part = ledger.changed().expect(&rt, "memory");
+    let part = undo(&rt, &mut ledger);
     assert!(rt; tells(&part));
-    ledger.put(&part, true).expect(&rt, "memory");
     assert!(rt; counts(&ledger, 0, 0, 7) && amount_at(&ledger, at(1, 0)) == 7);
-    ledger.put(&part, false).expect(&rt, "memory");
+    redo(&rt, &mut ledger, &part);
     assert!(rt; counts(&ledger, 1, 12, 0) && amount_at(&ledger, at(1, 0)) == 0);
 }
 
@@ -257,10 +317,9 @@ fn an_output_made_again_is_in_both_lists(rt: HostRuntime) {
     let mut ledger = etched(&rt, alloc, ETCHES);
     let body = tx(&rt, alloc, &[at(1, 0)], &[PLAIN, MINTS]);
     turn(&rt, &mut ledger, alloc, (4, 1, 1), &body);
-    let part = ledger.changed().expect(&rt, "memory");
-    assert!(rt; part.before.len() == 1 && part.after.len() == 1);
     assert!(rt; amount_at(&ledger, at(1, 0)) == 12);
-    ledger.put(&part, true).expect(&rt, "memory");
+    let part = undo(&rt, &mut ledger);
+    assert!(rt; part.before.len() == 1 && part.after.len() == 1);
     assert!(rt; counts(&ledger, 0, 0, 7) && amount_at(&ledger, at(1, 0)) == 7);
 }
 
@@ -271,10 +330,9 @@ fn a_part_takes_an_etching_back(rt: HostRuntime) {
     let mut ledger = lab(&rt, alloc);
     let body = tx(&rt, alloc, &[], &[PLAIN, ETCHES]);
     turn(&rt, &mut ledger, alloc, (3, 1, 1), &body);
-    let part = ledger.changed().expect(&rt, "memory");
-    ledger.put(&part, true).expect(&rt, "memory");
+    let part = undo(&rt, &mut ledger);
     assert!(rt; ledger.len() == 0 && ledger.by_id(RUNE) == None);
     assert!(rt; ledger.balance(&at(1, 0)).is_empty());
-    ledger.put(&part, false).expect(&rt, "memory");
+    redo(&rt, &mut ledger, &part);
     assert!(rt; counts(&ledger, 0, 0, 7) && ledger.by_id(RUNE) == Some(0));
 }
