@@ -1,6 +1,7 @@
 //! What outputs hold, with a mark.
 
-ghost use Rattle.std.specs.Prelude.{◌≡◌, ◌≢◌, ◌+◌, ◌^◌, ◌<◌, ◌↔◌, ◌++◌, ℕ, [], IsTrue, IsSome, None, OnOk, OnErr, IfOk};
+ghost use Rattle.std.specs.Prelude.{◌≡◌, ◌≢◌, ◌+◌, ◌^◌, ◌<◌, ◌↔◌, ◌++◌, ℕ};
+ghost use Rattle.std.specs.Prelude.{[], IsTrue, IsSome, None, OnOk, OnErr, IfOk};
 ghost use Rattle.std.specs.FinMap as map;
 ghost use Rattle.std.specs.Option.{option_copied, option_map, IfSome};
 ghost use Rattle.ox_rules.specs.Differences.{Differ};
@@ -90,7 +91,8 @@ pub(crate) fn join(pool: &mut Pool, balances: &[(RuneId, u128)]) -> Result<(), M
 fn bring(holders: &mut Holders, at: &OutPoint, pool: &mut Pool) -> Result<(), Memory>
     requires fits { (id : RuneId) → amount_in pool.old id
         + amount_in (balances_at (held_in holders.old) at.now) id < 2 ^ 128 }
-    requires proper { IsStrictlySortedBy id_cmp (ids_of (balances_at (held_in holders.old) at.now)) }
+    requires proper { IsStrictlySortedBy id_cmp
+        (ids_of (balances_at (held_in holders.old) at.now)) }
     ensures pool { OnOk result
         (pool.new ≡ joined_with pool.old (balances_at (held_in holders.old) at.now)) }
     ensures left { OnOk result (held_in holders.new ≡ map.remove (held_in holders.old) at.now) }
