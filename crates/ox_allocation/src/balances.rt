@@ -60,6 +60,14 @@ impl Balances {
     {
         self.items.is_empty()
     }
+
+    /// The same runes once more. `Memory` where there is none for them.
+    pub fn copy(&self, alloc: Global) -> Result<Balances, Memory>
+        ensures { IfOk result (λ copy. copy ≡ self.now) }
+    {
+        let items = SmallVec::from_slice(alloc, &self.items)?;
+        Ok(Balances { items })
+    }
 }
 
 /// The runes that a transaction has to give: those of its inputs, its mint and its etching.
@@ -90,6 +98,13 @@ impl Pool {
         Pool {
             amounts: BTreeMap::new(alloc),
         }
+    }
+
+    /// Whether there are no runes.
+    pub fn is_empty(&self) -> bool
+        ensures { result ≡ (length self.now == 0) }
+    {
+        self.amounts.is_empty()
     }
 
     /// How much of a rune there is.

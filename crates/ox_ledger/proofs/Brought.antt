@@ -45,7 +45,7 @@ first_below : (one : Balance) (balances : List Balance) → Rise (one ∷ balanc
 unfolding IsStrictlySortedBy
 first_below one balances rise = rise.0
 
-amount_first : (one : Balance) (balances : List Balance) (id : RuneId) → Rise (one ∷ balances)
+pub amount_first : (one : Balance) (balances : List Balance) (id : RuneId) → Rise (one ∷ balances)
     → amount_in (one ∷ balances) id ≡ (if is_same one.0 id then one.1 else 0) + amount_in balances id
 amount_first one balances id rise = by_test (is_same one.0 id) refl where
   by_test : (b : Bool) → is_same one.0 id ≡ b → amount_in (one ∷ balances) id ≡ (if b then one.1 else 0) + amount_in balances id

@@ -91,7 +91,7 @@ none_lawful : (outputs : List TxOut) → AllByRecursion AreBalances (map (λ (ou
 none_lawful [] = tt
 none_lawful (output ∷ outputs) = (no_balances, none_lawful outputs)
 
-dealt_lawful : (artifact : Option Artifact) (pool : List Balance) (etching : Option RuneId) (outputs : List TxOut) → AreBalances pool
+pub dealt_lawful : (artifact : Option Artifact) (pool : List Balance) (etching : Option RuneId) (outputs : List TxOut) → AreBalances pool
     → AllByRecursion AreBalances (dealt_by artifact pool etching outputs).given
 dealt_lawful None pool etching outputs are = from_lawful 0 (ids_of pool) (gifts_from pool [] None None outputs) outputs are.rising
 dealt_lawful (Some (Stone stone)) pool etching outputs are = from_lawful 0 (ids_of pool) (gifts_from pool stone.edicts etching stone.pointer outputs) outputs are.rising

@@ -29,7 +29,7 @@ one_balance one id = ap (λ (b : Bool). unwrap_or (cond b (Some one.1) None) 0) 
   by_test true = refl
   by_test false = refl
 
-amount-pool_with : (pool : List Balance) (one : Option Balance) (id : RuneId) → amount_in (pool_with pool one) id ≡ amount_in pool id + amount_in (as_list one) id
+pub amount-pool_with : (pool : List Balance) (one : Option Balance) (id : RuneId) → amount_in (pool_with pool one) id ≡ amount_in pool id + amount_in (as_list one) id
 amount-pool_with pool None id = omega arith
 amount-pool_with pool (Some one) id = amount-with_more pool one.0 one.1 id ∙ ap (λ n. amount_in pool id + n) (sym (one_balance one id))
 

@@ -1,6 +1,6 @@
 -- What holds of the runes of a chain, and in the midst of a block with what is due to its
 -- coinbase's outputs.
-use Rattle.std.specs.Prelude.{◌≡◌, ◌≢◌, ℕ, ◌+◌, ◌*◌, ◌^◌, ◌<◌, ◌≤◌, List, [], All, Contains, map}
+use Rattle.std.specs.Prelude.{◌≡◌, ◌≢◌, ℕ, ◌+◌, ◌*◌, ◌^◌, ◌<◌, ◌≤◌, List, [], All, IsSome, map}
 use Rattle.std.specs.Prelude.{Option, Some, sum_by}
 use Rattle.std.specs.Prelude.{slice_get, unwrap_or}
 use Rattle.std.specs.FinMap.{get, values}
@@ -11,7 +11,7 @@ use Rattle.ox_runestone.specs.declared.stone.RuneId.{RuneId}
 use Rattle.ox_runestone.specs.declared.stone.Terms.{Terms}
 use Rattle.ox_allocation.specs.Balances.{AreBalances, Balance, amount_in}
 use Rattle.ox_etching.specs.declared.row.RuneRow.{RuneRow}
-use Rattle.ox_ledger.specs.Runes.{Placement, Runes}
+use Rattle.ox_ledger.specs.Runes.{Placement, Runes, by_id}
 
 -- how much of a rune some outputs hold together
 abbrev pub amount_held : List (List Balance) → RuneId → ℕ
@@ -22,6 +22,10 @@ cap_in terms = option_map_or (λ t. unwrap_or t.cap 0) terms 0
 
 abbrev pub amount_per_mint : Option Terms → ℕ
 amount_per_mint terms = option_map_or (λ t. unwrap_or t.amount 0) terms 0
+
+-- what its etching and its mints gave
+abbrev pub made_of : RuneRow → ℕ
+made_of row = row.premine + row.mints * amount_per_mint row.terms
 
 -- the numbers of a rune are within their bounds, and it isn't minted beyond its cap
 pub record IsBounded (row : RuneRow) : Type 0 where
@@ -42,14 +46,12 @@ amount_there state row =
 
 -- that is what its etching and its mints gave
 abbrev pub IsSettled : Runes → RuneRow → Type 0
-IsSettled state row =
-    amount_there state row ≡ row.premine + row.mints * amount_per_mint row.terms
+IsSettled state row = amount_there state row ≡ made_of row
 
 -- these are balances of runes that are there
 pub record AreKnown (runes : List RuneRow) (balances : List Balance) : Type 0 where
   pub proper : AreBalances balances
-  pub known : (id : RuneId) → amount_in balances id ≢ 0
-      → (row : RuneRow) × Contains runes row × (row.id ≡ id)
+  pub known : (id : RuneId) → amount_in balances id ≢ 0 → IsSome (by_id runes id)
 
 -- no two runes have one of these
 abbrev pub AreDistinct : {A : Type 0} → (RuneRow → A) → List RuneRow → Type 0

@@ -1,5 +1,13 @@
 pub mod Balanced
 pub mod Block
+pub mod GoOn
+pub mod Indexed
+pub mod Ledger
+pub mod Marks
+pub mod Moves
 pub mod Part
 pub mod Runes
+pub mod Shown
+pub mod Steps
+pub mod Tables
 pub mod Turn

@@ -1,31 +1,16 @@
 -- What of a change between two states is about runes, and how it leads from either state to the
 -- other.
-use Rattle.std.specs.Prelude.{◌≡◌, ℕ, ◌+◌, ◌-◌, Bool, ◌&&◌, ◌==◌, List, [], ◌∷◌, ◌++◌, length, take}
+use Rattle.std.specs.Prelude.{◌≡◌, ℕ, ◌+◌, ◌-◌, Bool, true, false, ◌&&◌}
+use Rattle.std.specs.Prelude.{◌==◌, List, [], ◌∷◌, ◌++◌, length, take}
 use Rattle.std.specs.Prelude.{drop, find, Option, Some, None, if◌then◌else◌}
 use Rattle.ox_block.specs.declared.block.OutPoint.{OutPoint}
 use Rattle.ox_rules.specs.Differences.{Difference, Differ, other_end, reverse_of}
 use Rattle.ox_allocation.specs.Balances.{Balance}
 use Rattle.ox_etching.specs.declared.row.RuneRow.{RuneRow}
-use Rattle.ox_ledger.specs.Runes.{Placement, Runes}
-
--- what is counted of a rune: its mints, and how much of it was burned
-pub record Counts : Type 0 where
-  pub mints : ℕ
-  pub burned : ℕ
-
--- what is counted of the rune at a place, before and after
-pub record CountChange : Type 0 where
-  pub place : ℕ
-  pub before : Counts
-  pub after : Counts
-
--- The balances that are gone and those that came, by rising outpoint; the changed counts of earlier
--- runes, by rising place; and the runes that were appended.
-pub record RunePart : Type 0 where
-  pub before : List Placement
-  pub after : List Placement
-  pub counts : List CountChange
-  pub appended : List RuneRow
+use Rattle.ox_ledger.specs.Runes.{Runes}
+pub use Rattle.ox_ledger.specs.declared.part.CountChange.{CountChange}
+pub use Rattle.ox_ledger.specs.declared.part.Counts.{Counts}
+pub use Rattle.ox_ledger.specs.declared.part.RunePart.{RunePart}
 
 abbrev pub balances_of : RunePart → Difference OutPoint (List Balance)
 balances_of part = record { gone = part.before; came = part.after }
@@ -47,6 +32,13 @@ Continues (old ∷ before) (new ∷ after) =
 abbrev pub counts_alike : RuneRow → RuneRow → Bool
 counts_alike old new = (old.mints == new.mints) && (old.burned == new.burned)
 
+-- the changed counts of one rune that is at a place, if it is there before and after
+abbrev pub change_in : ℕ → Option RuneRow → Option RuneRow → List CountChange
+change_in place (Some old) (Some new) =
+    if counts_alike old new then []
+    else (record { place = place; before = counts_of old; after = counts_of new } ∷ [])
+change_in place _ _ = []
+
 -- the changed counts of runes, the first of them at this place
 unfoldable pub changes_from : ℕ → List RuneRow → List RuneRow → List CountChange
 changes_from place (old ∷ before) (new ∷ after) =
@@ -64,6 +56,11 @@ pub record IsPart (before after : Runes) (part : RunePart) : Type 0 where
 -- the change at a place, if there is one
 abbrev pub change_at : List CountChange → ℕ → Option CountChange
 change_at changes place = find (λ change. change.place == place) changes
+
+-- what is counted before a change, or after it
+abbrev pub counts_at : Bool → CountChange → Counts
+counts_at true change = change.before
+counts_at false change = change.after
 
 abbrev pub row_at_end : (CountChange → Counts) → Option CountChange → RuneRow → RuneRow
 row_at_end side None row = row

@@ -124,6 +124,19 @@ impl<K: Ord + Copy, V> Marked<K, V> {
         self.marked = false;
     }
 
+    /// Drops what was put since the mark, as `cancel` does, but the mark stays.
+    pub fn restore(&mut self)
+    where
+        V: Drop,
+        requires { IsSome (mark_in K.cmp self.old) }
+        ensures content { IfSome (mark_in K.cmp self.old)
+            (λ at. (q : K) → content_in K.cmp self.new q ≡ at q) }
+        ensures mark { mark_in K.cmp self.new ≡ mark_in K.cmp self.old }
+        ensures changed { (q : K) → is_changed K.cmp self.new q ≡ false }
+    {
+        self.changes = BTreeMap::new(self.alloc);
+    }
+
     /// The value that there was at a key at the mark.
     pub fn at_mark(&self, key: &K) -> Option<&V>
         requires { IsSome (mark_in K.cmp self.now) }
