@@ -3,12 +3,12 @@
 
     python3 bench/fold_blocks.py [BLOCKS..]
 
-makes a chain of as many blocks as the greatest number says (400 and 4,000 without a word) in a temporary folder: each
-block but the first two spends 500 outputs, chosen at random, into two each. It runs both programs three times over the
-first so many blocks of it and prints, of the run that took least, blocks and megabytes of blocks a second of processor
-time, and the memory that an output takes at the end; and how long the last tenth of the greatest number took, beside
-the first. Nothing here is proved. Build both programs
-first, as bench/README.md says.
+makes a chain of as many blocks as the greatest number says (600, 2,000 and 6,000 without a word, which leave 300,000,
+1,000,000 and 3,000,000 outputs) in a temporary folder: each block but the first two spends 500 outputs, chosen at
+random, into two each. It runs the programs in turn, each three times, over the first so many blocks of it and prints,
+of the run that took least, blocks and megabytes of blocks a second of processor time, and the memory that an output
+takes at the end; and how many blocks a second the last tenth of the greatest number was connected in. Nothing here is
+proved. Build both programs first, as bench/README.md says.
 """
 
 import concurrent.futures
@@ -94,40 +94,56 @@ def run(program, folder, feed):
     return usage.ru_utime + usage.ru_stime, usage.ru_maxrss * 1024, shown.read_bytes()
 
 
+def measure(feed, count, folder):
+    """The least of the runs of each program over a feed of so many blocks."""
+    runs = {name: [] for name in PROGRAMS}
+    for _ in range(RUNS):
+        for name, program in PROGRAMS.items():
+            runs[name].append(run(program, folder, feed))
+    answers = {shown for taken in runs.values() for _, _, shown in taken}
+    if len(answers) != 1 or answers.pop().count(b"\n") != count:
+        sys.exit("the answers differ")
+    return {name: min(taken)[:2] for name, taken in runs.items()}
+
+
+def write_part(whole, part, left):
+    """The first bytes of a file, so many as are left."""
+    with open(whole, "rb") as given, open(part, "wb") as taken:
+        while left:
+            left -= taken.write(given.read(min(left, 1 << 20)))
+
+
+def tell(count, end, least):
+    # each block takes 500 outputs away, and adds 1,001
+    outputs = 1000 + max(count - 2, 0) * (SPENDS + 1)
+    for name, (seconds, memory) in least.items():
+        print(
+            f"{count:6} blocks, {outputs:9,} outputs, {name:5}: {count / seconds:8.0f} blocks a second,"
+            f" {end / 2e6 / seconds:6.1f} MB a second, at most {memory / outputs:6.0f} bytes an output"
+        )
+    print(f"       ox to plain: {least['plain'][0] / least['ox'][0]:.2f}", flush=True)
+
+
 def main():
-    counts = sorted(int(word) for word in sys.argv[1:]) or [400, 4000]
+    counts = sorted(int(word) for word in sys.argv[1:]) or [600, 2000, 6000]
     most = counts[-1]
     tenth = most // 10
     with tempfile.TemporaryDirectory() as folder:
-        whole = pathlib.Path(folder) / "whole"
+        whole, part = pathlib.Path(folder) / "whole", pathlib.Path(folder) / "part"
         # in a process of its own, since a child's greatest memory is never below that of its parent
         with concurrent.futures.ProcessPoolExecutor(1) as other:
             ends = other.submit(write_chain, whole, most).result()
         times = {}
-        for count in sorted({*counts, tenth, most - tenth}):
-            feed = pathlib.Path(folder) / "feed"
-            with open(whole, "rb") as given, open(feed, "wb") as part:
-                left = ends[count - 1]
-                while left:
-                    left -= part.write(given.read(min(left, 1 << 20)))
-            # each block takes 500 outputs away, and adds 1,001
-            outputs = 1000 + max(count - 2, 0) * (SPENDS + 1)
-            answers = []
-            for name, program in PROGRAMS.items():
-                seconds, memory, shown = min(run(program, folder, feed) for _ in range(RUNS))
-                times[name, count] = seconds
-                answers.append(shown)
-                megabytes = ends[count - 1] / 2e6
-                print(
-                    f"{count:6} blocks, {outputs:9,} outputs, {name:5}: {count / seconds:8.0f} blocks a second,"
-                    f" {megabytes / seconds:6.1f} MB a second, at most {memory / outputs:6.0f} bytes an output"
-                )
-            if answers[0] != answers[1] or answers[0].count(b"\n") != count:
-                sys.exit("the answers differ")
-            print(f"       ox to plain: {times['plain', count] / times['ox', count]:.2f}")
+        for count in sorted({*counts, most - tenth}):
+            write_part(whole, part, ends[count - 1])
+            least = measure(part, count, folder)
+            times |= {(name, count): seconds for name, (seconds, _) in least.items()}
+            if count in counts:
+                tell(count, ends[count - 1], least)
+        last = {name: times[name, most] - times[name, most - tenth] for name in PROGRAMS}
         for name in PROGRAMS:
-            first, last = times[name, tenth], times[name, most] - times[name, most - tenth]
-            print(f"{name}: the last {tenth} blocks took {last / first:.2f} times as long as the first {tenth}")
+            print(f"{name:5}: the last {tenth} blocks at {tenth / last[name]:.0f} blocks a second")
+        print(f"       ox to plain: {last['plain'] / last['ox']:.2f}")
 
 
 if __name__ == "__main__":

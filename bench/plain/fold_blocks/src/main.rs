@@ -1,29 +1,99 @@
-//! The work of `ox fold regtest` in plain Rust: blocks of a feed, read, hashed, linked, and their satoshis moved.
-//! It stops at the first block that `ox` would refuse, and shows the same line for each other one.
+//! The work of `ox fold regtest` in plain Rust, written for speed: blocks of a feed, read, hashed, linked, and their
+//! satoshis moved, over a hash map whose rows hold short scripts and single runs themselves. What a block needs is read
+//! into memory that the next block uses again. It stops at the first block that `ox` would refuse, and shows the same
+//! line for each other one.
 use sha2::{Digest, Sha256};
-use std::collections::BTreeMap;
+use std::collections::HashMap;
 use std::io::{BufRead, Write};
+use std::ops::Range;
 
 type Hash = [u8; 32];
-type Runs = Vec<(u64, u64)>;
+type Run = (u64, u64);
+
+/// As many bytes as an output's script mostly has at most.
+const SHORT: usize = 36;
+
+enum Script {
+    Short(u8, [u8; SHORT]),
+    Long(Box<[u8]>),
+}
+
+impl Script {
+    fn new(bytes: &[u8]) -> Script {
+        if bytes.len() > SHORT {
+            return Script::Long(bytes.into());
+        }
+        let mut held = [0; SHORT];
+        held[..bytes.len()].copy_from_slice(bytes);
+        Script::Short(bytes.len() as u8, held)
+    }
+
+    fn as_slice(&self) -> &[u8] {
+        match self {
+            Script::Short(len, bytes) => &bytes[..*len as usize],
+            Script::Long(bytes) => bytes,
+        }
+    }
+}
+
+/// Runs of satoshis, each its first number and how many.
+enum Runs {
+    One(Run),
+    Many(Box<[Run]>),
+}
+
+impl Runs {
+    fn new(runs: &[Run]) -> Runs {
+        match runs {
+            [run] => Runs::One(*run),
+            _ => Runs::Many(runs.into()),
+        }
+    }
+
+    fn as_slice(&self) -> &[Run] {
+        match self {
+            Runs::One(run) => std::slice::from_ref(run),
+            Runs::Many(runs) => runs,
+        }
+    }
+}
 
 struct Row {
-    script: Vec<u8>,
+    script: Script,
     height: u32,
     sats: Runs,
 }
 
+#[derive(Clone, Copy, PartialEq, Eq, Hash)]
+struct OutPoint {
+    txid: Hash,
+    index: u32,
+}
+
+struct Output<'a> {
+    value: u64,
+    script: &'a [u8],
+}
+
+/// A transaction's id, and where its inputs and outputs stand among those of its block.
 struct Tx {
-    inputs: Vec<(Hash, u32)>,
-    outputs: Vec<(u64, Vec<u8>)>,
     id: Hash,
+    inputs: Range<usize>,
+    outputs: Range<usize>,
+}
+
+#[derive(Default)]
+struct Block<'a> {
+    txs: Vec<Tx>,
+    inputs: Vec<OutPoint>,
+    outputs: Vec<Output<'a>>,
 }
 
 #[derive(Default)]
 struct Index {
     hashes: Vec<Hash>,
-    outputs: BTreeMap<(Hash, u32), Row>,
-    lost: Runs,
+    outputs: HashMap<OutPoint, Row>,
+    lost: Vec<Run>,
 }
 
 fn twice(bytes: &[u8]) -> Hash {
@@ -66,22 +136,25 @@ impl<'a> Reader<'a> {
     }
 
     // A transaction without a marker.
-    fn tx(&mut self) -> Option<Tx> {
-        let first = self.at;
+    fn tx(&mut self, block: &mut Block<'a>) -> Option<()> {
+        let start = self.at;
+        let (inputs, outputs) = (block.inputs.len(), block.outputs.len());
         self.u32()?;
-        let mut inputs = Vec::new();
         for _ in 0..self.size()? {
-            inputs.push((self.take(32)?.try_into().ok()?, self.u32()?));
+            block.inputs.push(OutPoint { txid: self.take(32)?.try_into().ok()?, index: self.u32()? });
             self.string()?;
             self.u32()?;
         }
-        let mut outputs = Vec::new();
         for _ in 0..self.size()? {
-            outputs.push((self.u64()?, self.string()?.to_vec()));
+            block.outputs.push(Output { value: self.u64()?, script: self.string()? });
         }
         self.u32()?;
-        let id = twice(&self.bytes[first..self.at]);
-        Some(Tx { inputs, outputs, id })
+        block.txs.push(Tx {
+            id: twice(&self.bytes[start..self.at]),
+            inputs: inputs..block.inputs.len(),
+            outputs: outputs..block.outputs.len(),
+        });
+        Some(())
     }
 }
 
@@ -90,13 +163,16 @@ fn root(mut row: Vec<Hash>) -> Hash {
         if row.len() % 2 == 1 {
             row.push(*row.last().unwrap());
         }
-        row = row.chunks(2).map(|pair| twice(&[pair[0], pair[1]].concat())).collect();
+        for pair in 0..row.len() / 2 {
+            row[pair] = twice(row[2 * pair..2 * pair + 2].as_flattened());
+        }
+        row.truncate(row.len() / 2);
     }
     row[0]
 }
 
-fn join(runs: &mut Runs, more: Runs) {
-    for (first, count) in more {
+fn join(runs: &mut Vec<Run>, more: &[Run]) {
+    for &(first, count) in more {
         match runs.last_mut() {
             Some(last) if last.0 + last.1 == first => last.1 += count,
             _ => runs.push((first, count)),
@@ -104,89 +180,109 @@ fn join(runs: &mut Runs, more: Runs) {
     }
 }
 
-// The satoshis of the outputs, each as many as its value says, and what is left over.
-fn deal(sats: Runs, outputs: &[(u64, Vec<u8>)]) -> Option<(Vec<Runs>, Runs)> {
-    let mut rest = sats.into_iter();
-    let mut open = rest.next();
-    let mut parts = Vec::new();
-    for (value, _) in outputs {
-        let (mut part, mut wanted) = (Vec::new(), *value);
-        while wanted > 0 {
-            let (first, count) = open?;
-            let taken = count.min(wanted);
-            part.push((first, taken));
-            wanted -= taken;
-            open = if taken < count { Some((first + taken, count - taken)) } else { rest.next() };
-        }
-        parts.push(part);
-    }
-    Some((parts, open.into_iter().chain(rest).collect()))
-}
-
 impl Index {
-    fn place(&mut self, height: u32, tx: &Tx, parts: Vec<Runs>) {
-        for (index, (sats, (_, script))) in parts.into_iter().zip(&tx.outputs).enumerate() {
-            let row = Row { script: script.clone(), height, sats };
-            if let Some(displaced) = self.outputs.insert((tx.id, index as u32), row) {
-                join(&mut self.lost, displaced.sats);
+    /// Deals satoshis to the outputs of a transaction, each as many as its value says, and leaves what is left over.
+    fn deal(&mut self, sats: &mut Vec<Run>, part: &mut Vec<Run>, id: Hash, outputs: &[Output]) -> Option<()> {
+        let height = self.hashes.len() as u32;
+        let mut at = 0;
+        for (index, output) in outputs.iter().enumerate() {
+            part.clear();
+            let mut wanted = output.value;
+            while wanted > 0 {
+                let (first, count) = sats.get_mut(at)?;
+                let taken = wanted.min(*count);
+                part.push((*first, taken));
+                *first += taken;
+                *count -= taken;
+                wanted -= taken;
+                at += (*count == 0) as usize;
+            }
+            let row = Row { script: Script::new(output.script), height, sats: Runs::new(part) };
+            if let Some(displaced) = self.outputs.insert(OutPoint { txid: id, index: index as u32 }, row) {
+                join(&mut self.lost, displaced.sats.as_slice());
             }
         }
+        sats.drain(..at);
+        Some(())
     }
 
     fn connect(&mut self, bytes: &[u8]) -> Option<Hash> {
         let mut reader = Reader { bytes, at: 0 };
         let header = reader.take(80)?;
         let count = reader.size()?;
-        let txs = (0..count).map(|_| reader.tx()).collect::<Option<Vec<Tx>>>()?;
+        let mut block = Block::default();
+        for _ in 0..count {
+            reader.tx(&mut block)?;
+        }
         let tip = self.hashes.last().copied().unwrap_or_default();
         if reader.at != bytes.len() || header[4..36] != tip {
             return None;
         }
-        if header[36..68] != root(txs.iter().map(|tx| tx.id).collect()) {
+        if header[36..68] != root(block.txs.iter().map(|tx| tx.id).collect()) {
             return None;
         }
-        let height = self.hashes.len() as u32;
-        let mut fees = Runs::new();
-        for tx in &txs[1..] {
-            let mut sats = Runs::new();
-            for input in &tx.inputs {
-                join(&mut sats, self.outputs.remove(input)?.sats);
+        let (mut fees, mut sats, mut part) = (Vec::new(), Vec::new(), Vec::new());
+        for tx in &block.txs[1..] {
+            sats.clear();
+            for input in &block.inputs[tx.inputs.clone()] {
+                join(&mut sats, self.outputs.remove(input)?.sats.as_slice());
             }
-            let (parts, fee) = deal(sats, &tx.outputs)?;
-            join(&mut fees, fee);
-            self.place(height, tx, parts);
+            self.deal(&mut sats, &mut part, tx.id, &block.outputs[tx.outputs.clone()])?;
+            join(&mut fees, &sats);
         }
         // Below the first halving.
-        let mut sats = vec![(u64::from(height) * 5_000_000_000, 5_000_000_000)];
-        join(&mut sats, fees);
-        let (parts, lost) = deal(sats, &txs[0].outputs)?;
-        self.place(height, &txs[0], parts);
-        join(&mut self.lost, lost);
+        sats.clear();
+        sats.push((self.hashes.len() as u64 * 5_000_000_000, 5_000_000_000));
+        join(&mut sats, &fees);
+        let coinbase = &block.txs[0];
+        self.deal(&mut sats, &mut part, coinbase.id, &block.outputs[coinbase.outputs.clone()])?;
+        join(&mut self.lost, &sats);
         let hash = twice(header);
         self.hashes.push(hash);
         Some(hash)
     }
 }
 
-fn digit(c: u8) -> Option<u8> {
-    (c as char).to_digit(16).map(|d| d as u8)
-}
+/// The number that a digit stands for; above 15 for what is none.
+const DIGITS: [u8; 256] = {
+    let mut numbers = [0xff; 256];
+    let mut number = 0;
+    while number < 16 {
+        numbers[b"0123456789abcdef"[number] as usize] = number as u8;
+        numbers[b"0123456789ABCDEF"[number] as usize] = number as u8;
+        number += 1;
+    }
+    numbers
+};
 
-fn decoded(digits: &[u8]) -> Option<Vec<u8>> {
-    digits.chunks(2).map(|pair| Some(digit(pair[0])? << 4 | digit(*pair.get(1)?)?)).collect()
+fn decode(digits: &[u8], bytes: &mut Vec<u8>) -> Option<()> {
+    let (pairs, []) = digits.as_chunks::<2>() else {
+        return None;
+    };
+    let mut seen = 0;
+    bytes.clear();
+    bytes.extend(pairs.iter().map(|[high, low]| {
+        let (high, low) = (DIGITS[*high as usize], DIGITS[*low as usize]);
+        seen |= high | low;
+        high << 4 | low
+    }));
+    (seen < 16).then_some(())
 }
 
 fn main() {
     let mut index = Index::default();
+    let mut input = std::io::stdin().lock();
     let mut out = std::io::stdout().lock();
-    for line in std::io::stdin().lock().split(b'\n') {
-        let line = line.unwrap();
-        let block = line.strip_prefix(b"connect ").and_then(decoded).expect("a connect");
+    let (mut line, mut block) = (Vec::new(), Vec::new());
+    while input.read_until(b'\n', &mut line).unwrap() > 0 {
+        let digits = line.trim_ascii_end().strip_prefix(b"connect ").expect("a connect");
+        decode(digits, &mut block).expect("hex digits");
+        line.clear();
         let hash = index.connect(&block).expect("a block that is accepted");
         let printed: String = hash.iter().rev().map(|byte| format!("{byte:02x}")).collect();
         writeln!(out, "ok {} {printed}", index.hashes.len() - 1).unwrap();
     }
-    let bytes: usize = index.outputs.values().map(|row| row.script.len()).sum();
+    let bytes: usize = index.outputs.values().map(|row| row.script.as_slice().len()).sum();
     let newest = index.outputs.values().map(|row| row.height).max();
     eprintln!("{} outputs up to height {newest:?}, {bytes} bytes of scripts", index.outputs.len());
 }
