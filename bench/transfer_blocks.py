@@ -1,16 +1,17 @@
 #!/usr/bin/env python3
-"""Times moving the satoshis of blocks of 500 transactions over a table of a given size.
+"""Times the table of outputs: blocks of 500 transactions moved over it, and satoshis looked for in it.
 
-    python3 bench/transfer_blocks.py [OUTPUTS] [BLOCKS]
+    python3 bench/transfer_blocks.py [OUTPUTS..]
 
-fills the table with OUTPUTS (3,000,000 without a word) in blocks of 100,000, and then connects BLOCKS (400) blocks of 500
-transactions, each of which spends an output chosen at random into two. It runs `ox_transfer_speed` three times over the
-first part and over the whole, and prints the least processor seconds of both, blocks a second of the second part, and the
-most memory, in which the bytes of the blocks stand too. Nothing here is proved. Build the program first:
-
-    (cd crates/ox_transfer_speed && rt run < stdin)
+fills a table with as many outputs as each number says (20,000, 300,000, 1,000,000 and 3,000,000 without a word) in blocks
+of 10,000, and then connects 400 blocks of 500 transactions, each of which spends an output chosen at random into two.
+`ox_transfer_speed` and a plain Rust program with a hash map run in turn, three times, over the first part, over the
+whole, and over the first part with 1,000,000 satoshis looked for (the plain program in an ordered map of runs). It prints,
+of the runs that took least, blocks and satoshis a second of processor time, and the memory that an output takes.
+Nothing here is proved. Build both programs first, as bench/README.md says.
 """
 
+import concurrent.futures
 import hashlib
 import os
 import pathlib
@@ -21,11 +22,16 @@ import sys
 import tempfile
 
 TOP = pathlib.Path(__file__).resolve().parent.parent
-PROGRAM = TOP / "crates" / "ox_transfer_speed" / "out" / "ox_transfer_speed"
+PROGRAMS = {
+    "ox": TOP / "crates" / "ox_transfer_speed" / "out" / "ox_transfer_speed",
+    "plain": TOP / "bench" / "plain" / "fold_blocks" / "target" / "release" / "transfer_blocks",
+}
 RUNS = 3
+BLOCKS = 400
 SPENDS = 500
 SUBSIDY = 5_000_000_000
-FILL = 100_000
+FILL = 10_000
+SATOSHIS = 1_000_000
 
 
 def twice(message):
@@ -33,15 +39,13 @@ def twice(message):
 
 
 def size(n):
-    if n < 253:
-        return bytes([n])
-    return b"\xfd" + struct.pack("<H", n) if n < 1 << 16 else b"\xfe" + struct.pack("<I", n)
+    return bytes([n]) if n < 253 else b"\xfd" + struct.pack("<H", n)
 
 
 def tx(chance, txid, index, script, values):
-    parts = [b"\1\0\0\0\1" + txid + struct.pack("<I", index) + size(len(script)) + script + b"\xff" * 4 + size(len(values))]
-    parts += [struct.pack("<Q", value) + b"\x16\0\x14" + chance.randbytes(20) for value in values]
-    return b"".join(parts) + bytes(4)
+    head = b"\1\0\0\0\1" + txid + struct.pack("<I", index) + size(len(script)) + script + b"\xff" * 4 + size(len(values))
+    outputs = (struct.pack("<Q", value) + b"\x16\0\x14" + chance.randbytes(20) for value in values)
+    return head + b"".join(outputs) + bytes(4)
 
 
 def put_block(feed, txs):
@@ -49,60 +53,85 @@ def put_block(feed, txs):
     feed.write(struct.pack("<I", len(block)) + block)
 
 
-def write_blocks(path, outputs, blocks):
+def spend(chance, unspent):
+    """A transaction of one output chosen at random, and its two outputs' values."""
+    at = chance.randrange(len(unspent))
+    unspent[at], unspent[-1] = unspent[-1], unspent[at]
+    txid, index, value = unspent.pop()
+    first = chance.randint(0, value)
+    values = [first, value - first]
+    return tx(chance, txid, index, b"", values), values
+
+
+def write_blocks(path, outputs):
     """The blocks, each behind its length. Answers where those end that fill the table."""
     chance = random.Random(11)
     unspent = []
     fills = outputs // FILL
+    part = SUBSIDY // FILL
     with open(path, "wb") as feed:
         for height in range(fills):
-            part = SUBSIDY // FILL
             coinbase = tx(chance, bytes(32), 0xFFFFFFFF, struct.pack("<I", height), [part] * FILL)
-            unspent += [(twice(coinbase), index, part) for index in range(FILL)]
+            txid = twice(coinbase)
+            unspent += [(txid, index, part) for index in range(FILL)]
             put_block(feed, [coinbase])
         filled = feed.tell()
-        for height in range(fills, fills + blocks):
-            txs = [tx(chance, bytes(32), 0xFFFFFFFF, struct.pack("<I", height), [0])]
-            new = [(0, 0, 0)]
-            for place in range(SPENDS):
-                at = chance.randrange(len(unspent))
-                txid, index, value = unspent[at]
-                unspent[at] = unspent[-1]
-                unspent.pop()
-                first = chance.randint(0, value)
-                txs.append(tx(chance, txid, index, b"", [first, value - first]))
-                new += [(place + 1, 0, first), (place + 1, 1, value - first)]
-            ids = [twice(t) for t in txs]
-            unspent += [(ids[place], index, value) for place, index, value in new]
-            put_block(feed, txs)
+        for height in range(fills, fills + BLOCKS):
+            coinbase = tx(chance, bytes(32), 0xFFFFFFFF, struct.pack("<I", height), [0])
+            spends = [spend(chance, unspent) for _ in range(SPENDS)]
+            for body, values in spends:
+                txid = twice(body)
+                unspent += [(txid, index, value) for index, value in enumerate(values)]
+            put_block(feed, [coinbase] + [body for body, _ in spends])
     return filled
 
 
-def run(feed, wanted):
-    """Processor seconds and the most memory in bytes."""
+def run(program, feed, satoshis):
+    """Processor seconds, the most memory in bytes, and what was shown."""
     with open(feed, "rb") as given:
-        child = subprocess.Popen([PROGRAM], stdin=given, stdout=subprocess.PIPE)
+        child = subprocess.Popen([program, str(satoshis)], stdin=given, stdout=subprocess.PIPE)
         shown = child.stdout.read()
         _, status, usage = os.wait4(child.pid, 0)
         child.returncode = os.waitstatus_to_exitcode(status)
-    if child.returncode or int(shown) != wanted:
-        sys.exit(f"{PROGRAM} connected {shown!r} of {wanted} blocks")
-    return usage.ru_utime + usage.ru_stime, usage.ru_maxrss * 1024
+    if child.returncode:
+        sys.exit(f"{program} ended with {child.returncode}")
+    return usage.ru_utime + usage.ru_stime, usage.ru_maxrss * 1024, shown
+
+
+def measure(feed, satoshis):
+    """The least seconds and memory of each program."""
+    took, answers = {name: [] for name in PROGRAMS}, set()
+    for _ in range(RUNS):
+        for name, program in PROGRAMS.items():
+            seconds, memory, shown = run(program, feed, satoshis)
+            took[name].append((seconds, memory))
+            answers.add(shown)
+    if len(answers) != 1:
+        sys.exit(f"the answers differ: {answers}")
+    return {name: min(taken) for name, taken in took.items()}
+
+
+def tell(outputs, filled, fill, both, looked):
+    rates = {}
+    for name in PROGRAMS:
+        rates[name] = BLOCKS / (both[name][0] - fill[name][0]), SATOSHIS / (looked[name][0] - fill[name][0])
+        print(
+            f"{outputs:9,} outputs, {name:5}: {rates[name][0]:7.0f} blocks and {rates[name][1]:11,.0f} satoshis a second,"
+            f" at most {(fill[name][1] - filled) / outputs:4.0f} bytes an output"
+        )
+    blocks, satoshis = (ours / plain for ours, plain in zip(rates["ox"], rates["plain"]))
+    print(f"           ox to plain: {blocks:.2f} for blocks, {satoshis:.2f} for satoshis", flush=True)
 
 
 def main():
-    outputs = int(sys.argv[1]) if len(sys.argv) > 1 else 3_000_000
-    blocks = int(sys.argv[2]) if len(sys.argv) > 2 else 400
-    fills = outputs // FILL
-    with tempfile.TemporaryDirectory() as folder:
-        whole = pathlib.Path(folder) / "whole"
-        filled = write_blocks(whole, outputs, blocks)
-        first = pathlib.Path(folder) / "first"
-        first.write_bytes(whole.read_bytes()[:filled])
-        fill, memory = min(run(first, fills) for _ in range(RUNS))
-        both, _ = min(run(whole, fills + blocks) for _ in range(RUNS))
-    print(f"{outputs:,} outputs were made in {fill:.2f} s, with at most {memory / 1e6:.0f} MB, {filled / 1e6:.0f} MB of them blocks")
-    print(f"{blocks} blocks then took {both - fill:.2f} s: {blocks / (both - fill):.0f} a second")
+    for outputs in [int(word) for word in sys.argv[1:]] or [20_000, 300_000, 1_000_000, 3_000_000]:
+        with tempfile.TemporaryDirectory() as folder:
+            whole, first = pathlib.Path(folder) / "whole", pathlib.Path(folder) / "first"
+            # in a process of its own, since a child's greatest memory is never below that of its parent
+            with concurrent.futures.ProcessPoolExecutor(1) as other:
+                filled = other.submit(write_blocks, whole, outputs).result()
+            subprocess.run(["head", "-c", str(filled), whole], stdout=open(first, "wb"), check=True)
+            tell(outputs, filled, measure(first, 1), measure(whole, 1), measure(first, SATOSHIS))
 
 
 if __name__ == "__main__":

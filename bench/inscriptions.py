@@ -1,0 +1,64 @@
+#!/usr/bin/env python3
+"""Times inscriptions that are kept in memory, beside a plain Rust program of the same work.
+
+    python3 bench/inscriptions.py
+
+has crates/ox_inscribe_speed append 100,000 and 1,000,000 rows, look each up by its id, its satoshi, the next one and its
+children, and, over as many rows, set a mark, append 1,000 rows and go back. It prints the processor time of the runs
+that took least of three, and the memory that a row takes. Build both programs first, as bench/README.md says.
+"""
+import os
+import pathlib
+import subprocess
+
+TOP = pathlib.Path(__file__).resolve().parent.parent
+PROGRAMS = {
+    "proved": TOP / "crates" / "ox_inscribe_speed" / "out" / "ox_inscribe_speed",
+    "plain": TOP / "bench" / "plain" / "inscriptions" / "target" / "release" / "inscriptions",
+}
+RUNS = 3
+LOOKS = 1
+MARKS = 500
+
+
+def run(program, kind, count, times):
+    """Processor seconds, the most memory in bytes, and what was answered."""
+    child = subprocess.Popen([program, kind, str(count), str(times)], stdout=subprocess.PIPE)
+    answer = child.stdout.read()
+    _, status, usage = os.wait4(child.pid, 0)
+    child.returncode = os.waitstatus_to_exitcode(status)
+    assert child.returncode == 0, child.args
+    return usage.ru_utime + usage.ru_stime, usage.ru_maxrss * 1024, answer
+
+
+def least(kind, count, times):
+    """The seconds and the memory of each program."""
+    taken, answers = {name: [] for name in PROGRAMS}, set()
+    for _ in range(RUNS):
+        for name, program in PROGRAMS.items():
+            seconds, memory, answer = run(program, kind, count, times)
+            taken[name].append((seconds, memory))
+            answers.add(answer)
+    assert len(answers) == 1, answers
+    return {name: min(runs) for name, runs in taken.items()}
+
+
+def tell(what, unit, proved, plain):
+    print(f"{what}: {proved:.2f} {unit}, plain Rust {plain:.2f} {unit}, {proved / plain:.2f} times", flush=True)
+
+
+def main():
+    for count in (100_000, 1_000_000):
+        filled = least("look", count, 0)
+        looked = least("look", count, LOOKS)
+        marked = least("mark", count, MARKS)
+        proved, plain = ((filled[name], looked[name], marked[name]) for name in PROGRAMS)
+        tell(f"{count:,} rows, appended, a row", "microseconds", *(it[0][0] / count * 1e6 for it in (proved, plain)))
+        tell(f"{count:,} rows, looked up in four ways, a row", "microseconds",
+             *((it[1][0] - it[0][0]) / LOOKS / count * 1e6 for it in (proved, plain)))
+        tell(f"{count:,} rows, a mark, 1,000 more and back", "milliseconds",
+             *((it[2][0] - it[0][0]) / MARKS * 1e3 for it in (proved, plain)))
+        tell(f"{count:,} rows, the most memory a row", "bytes", *(it[0][1] / count for it in (proved, plain)))
+
+
+main()

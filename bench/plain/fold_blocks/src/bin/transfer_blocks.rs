@@ -1,0 +1,49 @@
+//! Moves the satoshis of blocks that stand on standard input, each with its length before it, and then looks for as many
+//! satoshis as the argument says, in an ordered map of runs that is made at the end, if there are any.
+use fold_blocks::{Block, Hash, Index, OutPoint, SUBSIDY};
+use std::collections::BTreeMap;
+use std::io::Read;
+
+type Locator = BTreeMap<u64, (u64, OutPoint, u64)>;
+
+fn locator_of(index: &Index) -> Locator {
+    let mut locator = Locator::new();
+    for (at, row) in &index.outputs {
+        let mut place = 0;
+        for &(first, count) in row.sats.as_slice() {
+            locator.insert(first, (count, *at, place));
+            place += count;
+        }
+    }
+    locator
+}
+
+fn locate(locator: &Locator, sat: u64) -> Option<(OutPoint, u64)> {
+    let (first, (count, at, place)) = locator.range(..=sat).next_back()?;
+    (sat - first < *count).then_some((*at, place + (sat - first)))
+}
+
+/// The sum of the places of so many satoshis, in a scattered order.
+fn look(locator: &Locator, height: u64, count: u64) -> u64 {
+    let mined = height * SUBSIDY;
+    let sat = |turn: u64| turn.wrapping_mul(0x9e37_79b9_7f4a_7c15) % mined;
+    let found = (0..count).filter_map(|turn| locate(locator, sat(turn)));
+    found.fold(0, |sum, (at, offset)| sum.wrapping_add(offset + u64::from(at.index)))
+}
+
+fn main() {
+    let count = std::env::args().nth(1).map_or(0, |word| word.parse().unwrap());
+    let mut feed = Vec::new();
+    std::io::stdin().read_to_end(&mut feed).unwrap();
+    let mut index = Index::default();
+    let mut rest = feed.as_slice();
+    while let Some((length, behind)) = rest.split_first_chunk() {
+        let (block, behind) = behind.split_at(u32::from_le_bytes(*length) as usize);
+        index.transfer(&Block::read(block).expect("a block")).expect("a block that is accepted");
+        index.hashes.push(Hash::default());
+        rest = behind;
+    }
+    let height = index.hashes.len() as u64;
+    let sum = if count == 0 { 0 } else { look(&locator_of(&index), height, count) };
+    println!("{height} blocks, {sum}");
+}

@@ -1,0 +1,5 @@
+//! Tests of the table of unspent outputs, over its public items.
+#![tactic(auto)]
+
+#[cfg(test)]
+mod tests;
