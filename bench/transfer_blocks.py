@@ -4,11 +4,11 @@
     python3 bench/transfer_blocks.py [OUTPUTS..]
 
 fills a table with as many outputs as each number says (20,000, 300,000, 1,000,000 and 3,000,000 without a word) in blocks
-of 10,000, and then connects 400 blocks of 500 transactions, each of which spends an output chosen at random into two.
+of 10,000, and then connects 1,000 blocks of 500 transactions, each of which spends an output chosen at random into two.
 `ox_transfer_speed` and a plain Rust program with a hash map run in turn, three times, over the first part, over the
 whole, and over the first part with 1,000,000 satoshis looked for (the plain program in an ordered map of runs). It prints,
-of the runs that took least, blocks and satoshis a second of processor time, and the memory that an output takes.
-Nothing here is proved. Build both programs first, as bench/README.md says.
+of the runs that took least, blocks and satoshis a second of processor time, and the memory that an output takes. The
+plain program's map is made where a satoshi is looked for, and isn't timed. Nothing here is proved. Build both programs first, as bench/README.md says.
 """
 
 import concurrent.futures
@@ -27,7 +27,7 @@ PROGRAMS = {
     "plain": TOP / "bench" / "plain" / "fold_blocks" / "target" / "release" / "transfer_blocks",
 }
 RUNS = 3
-BLOCKS = 400
+BLOCKS = 1_000
 SPENDS = 500
 SUBSIDY = 5_000_000_000
 FILL = 10_000
@@ -111,10 +111,10 @@ def measure(feed, satoshis):
     return {name: min(taken) for name, taken in took.items()}
 
 
-def tell(outputs, filled, fill, both, looked):
+def tell(outputs, filled, fill, both, one, looked):
     rates = {}
     for name in PROGRAMS:
-        rates[name] = BLOCKS / (both[name][0] - fill[name][0]), SATOSHIS / (looked[name][0] - fill[name][0])
+        rates[name] = BLOCKS / (both[name][0] - fill[name][0]), SATOSHIS / (looked[name][0] - one[name][0])
         print(
             f"{outputs:9,} outputs, {name:5}: {rates[name][0]:7.0f} blocks and {rates[name][1]:11,.0f} satoshis a second,"
             f" at most {(fill[name][1] - filled) / outputs:4.0f} bytes an output"
@@ -131,7 +131,8 @@ def main():
             with concurrent.futures.ProcessPoolExecutor(1) as other:
                 filled = other.submit(write_blocks, whole, outputs).result()
             subprocess.run(["head", "-c", str(filled), whole], stdout=open(first, "wb"), check=True)
-            tell(outputs, filled, measure(first, 1), measure(whole, 1), measure(first, SATOSHIS))
+            fill, both = measure(first, 0), measure(whole, 0)
+            tell(outputs, filled, fill, both, measure(first, 1), measure(first, SATOSHIS + 1))
 
 
 if __name__ == "__main__":
