@@ -16,16 +16,16 @@ none_hold outs is at row found = absurd (by_none (sym (get-empty outpoint_cmp at
 pub insert_holds : (outs new : Outputs) (at : OutPoint) (row : OutRow) → new ≡ insert outs at row → row.sats ≡ [] → HoldNothing outs → HoldNothing new
 insert_holds outs new at row is none h q r found =
     by_test (eq_by_cmp outpoint_cmp q at) (sym (ap (λ (o : Outputs). get o q) is ∙ get-insert outpoints_total outs at row q) ∙ found) where
-  by_test : (b : Bool) → cond b (Some row) (get outs q) ≡ Some r → r.sats ≡ []
-  by_test true same = let e : row ≡ r = cc same in ap (λ (x : OutRow). x.sats) (sym e) ∙ none
-  by_test false other = h q r other
+      by_test : (b : Bool) → cond b (Some row) (get outs q) ≡ Some r → r.sats ≡ []
+      by_test true same = let e : row ≡ r = cc same in ap (λ (x : OutRow). x.sats) (sym e) ∙ none
+      by_test false other = h q r other
 
 pub remove_holds : (outs new : Outputs) (at : OutPoint) → new ≡ remove outs at → HoldNothing outs → HoldNothing new
 remove_holds outs new at is h q r found =
     by_test (eq_by_cmp outpoint_cmp q at) (sym (ap (λ (o : Outputs). get o q) is ∙ get-remove outpoints_total outs at q) ∙ found) where
-  by_test : (b : Bool) → cond b None (get outs q) ≡ Some r → r.sats ≡ []
-  by_test true same = absurd (cc same)
-  by_test false other = h q r other
+      by_test : (b : Bool) → cond b None (get outs q) ≡ Some r → r.sats ≡ []
+      by_test true same = absurd (cc same)
+      by_test false other = h q r other
 
 no_times : (sats : List ℕ) (sat : ℕ) → sats ≡ [] → times sat sats ≡ 0
 no_times sats sat none = ap (times sat) none

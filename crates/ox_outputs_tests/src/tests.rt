@@ -1,4 +1,5 @@
 ghost use Rattle.std.specs.Prelude.{◌≡◌, [], IsSome};
+ghost use Rattle.ox_outputs.specs.Table.{rows_in};
 ghost use Rattle.ox_outputs_tests.specs.Empty.{HoldNothing};
 
 use ox_block::{OutPoint, Txid};
@@ -41,22 +42,24 @@ fn row_of(rt: &impl Abort, alloc: Global, length: usize, height: u32) -> OutRow
 }
 
 /// Places a row at this outpoint.
+#[tactic(auto, using(crate::proofs::Nothing::insert_holds, crate::proofs::Nothing::nothing_may_stand))]
 fn put<O: OutTable>(rt: &impl Abort, alloc: Global, table: &mut O, number: u32, height: u32)
     requires { HoldNothing (O.contents table.old) }
     ensures rows { HoldNothing (O.contents table.new) }
     ensures mark { O.marked table.new ≡ O.marked table.old }
 {
     let row = row_of(rt, alloc, length_at(number), height);
-    assert!(rt; table.place(&outpoint(number), row).is_ok());
+    table.place(&outpoint(number), row).expect(rt, "memory");
 }
 
 /// Takes the row at this outpoint, if there is one.
+#[tactic(auto, using(crate::proofs::Nothing::remove_holds))]
 fn take<O: OutTable>(rt: &impl Abort, table: &mut O, number: u32)
     requires { HoldNothing (O.contents table.old) }
     ensures rows { HoldNothing (O.contents table.new) }
     ensures mark { O.marked table.new ≡ O.marked table.old }
 {
-    assert!(rt; table.take(&outpoint(number)).is_ok());
+    table.take(&outpoint(number)).expect(rt, "memory");
 }
 
 /// Rows at two of three outpoints of 300.
@@ -99,9 +102,17 @@ fn is_filled(table: &Outputs, number: u32) -> bool {
     }
 }
 
+/// No outputs.
+#[tactic(auto, using(crate::proofs::Nothing::none_hold))]
+fn fresh(alloc: Global) -> Outputs
+    ensures { HoldNothing (rows_in result) }
+{
+    Outputs::new(alloc)
+}
+
 #[test]
 fn a_table_goes_back_over_a_thousand_changes(rt: HostRuntime) {
-    let mut table = Outputs::new(rt.alloc());
+    let mut table = fresh(rt.alloc());
     fill(&rt, rt.alloc(), &mut table);
     table.begin().expect(&rt, "memory");
     change(&rt, rt.alloc(), &mut table);
