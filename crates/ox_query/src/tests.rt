@@ -1,0 +1,6 @@
+use super::*;
+
+#[test]
+fn nothing_yet(rt: HostRuntime) {
+    assert!(rt; true);
+}
