@@ -1,17 +1,14 @@
 //! Replies to queries over any view of an index.
 #![tactic(auto)]
 
-mod answer;
 mod block;
 mod output;
 mod parts;
+mod replies;
 mod sat;
 mod status;
 mod texts;
 mod values;
 
-pub use answer::{answer, answer_by};
 pub use ox_bytes::Memory;
-
-#[cfg(test)]
-mod tests;
+pub use replies::{answer, answer_by};

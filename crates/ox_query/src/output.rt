@@ -31,7 +31,8 @@ fn runs_value(alloc: Global, runs: &[Run]) -> Result<Value, Memory>
 {
     let mut values = Vec::new(alloc);
     for run in runs {
-        values.push(run_value(alloc, run)?)?;
+        let value = run_value(alloc, run)?;
+        values.push(value)?;
     }
     Ok(Value::Array(values))
 }

@@ -3,7 +3,7 @@
 ghost use Rattle.std.specs.Prelude.{◌≡◌, IfOk, option_copied};
 ghost use Rattle.serde_json.specs.View.{view};
 ghost use Rattle.serde_json.specs.Data.{string};
-ghost use Rattle.ox_ask.specs.Trees.{hash_or_null};
+ghost use Rattle.ox_ask.specs.Trees.{hash_or_null as hash_said};
 ghost use Rattle.ox_rules.specs.Text.{hash_text as printed};
 
 use ox_bytes::Memory;
@@ -27,7 +27,7 @@ pub(crate) fn hash_value(alloc: Global, hash: &[u8; 32]) -> Result<Value, Memory
 
 /// A hash as it is printed, or null without one. `Memory` where there is none for it.
 pub(crate) fn hash_or_null(alloc: Global, hash: Option<&[u8; 32]>) -> Result<Value, Memory>
-    ensures { IfOk result (λ value. view value ≡ hash_or_null (option_copied hash)) }
+    ensures { IfOk result (λ value. view value ≡ hash_said (option_copied hash.entry)) }
 {
     match hash {
         Some(hash) => hash_value(alloc, hash),

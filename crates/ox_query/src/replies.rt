@@ -3,8 +3,9 @@
 ghost use Rattle.std.specs.Prelude.{◌≡◌, false, IfOk, option_map};
 ghost use Rattle.serde_json.specs.View.{view};
 ghost use Rattle.serde_json.specs.Written.{has_float};
-ghost use Rattle.ox_ask.specs.Ask.{error_reply, reply_of, route_reply, tree_at, tree_reply};
-ghost use Rattle.ox_ask.specs.Ask.{same_method as is_same};
+ghost use Rattle.ox_ask.specs.Ask.{error_reply as error_said, reply_of, route_reply as route_said};
+ghost use Rattle.ox_ask.specs.Ask.{same_method as is_same, tree_at, tree_reply as tree_said};
+ghost use Rattle.ox_ask.specs.Trees.{error_tree};
 ghost use Rattle.ox_query.specs.Asked.{asked_of};
 
 use crate::block::block_at;
@@ -23,7 +24,7 @@ use std::alloc::Global;
 // A reply with a tree, as compact JSON.
 fn tree_reply(alloc: Global, status: u16, tree: &Value, close: bool) -> Result<Reply, Memory>
     requires { has_float (view tree.now) ≡ false }
-    ensures { IfOk result (λ reply. reply ≡ tree_reply status (view tree.now) close) }
+    ensures { IfOk result (λ reply. reply ≡ tree_said status (view tree.now) close) }
 {
     let text = tree.to_string(alloc)?;
     Ok(Reply {
@@ -35,13 +36,21 @@ fn tree_reply(alloc: Global, status: u16, tree: &Value, close: bool) -> Result<R
     })
 }
 
-// A status that isn't 200.
-fn error_reply(alloc: Global, status: u16, close: bool) -> Result<Reply, Memory>
-    ensures { IfOk result (λ reply. reply ≡ error_reply status close) }
+// What a status that isn't 200 says.
+fn error_value(alloc: Global, status: u16) -> Result<Value, Memory>
+    ensures { IfOk result (λ value. view value ≡ error_tree status) }
 {
     let mut fields = Fields::new(alloc);
     fields.add("error", Value::from(status))?;
-    tree_reply(alloc, status, &fields.into_value(), close)
+    Ok(fields.into_value())
+}
+
+// A status that isn't 200.
+fn error_reply(alloc: Global, status: u16, close: bool) -> Result<Reply, Memory>
+    ensures { IfOk result (λ reply. reply ≡ error_said status close) }
+{
+    let tree = error_value(alloc, status)?;
+    tree_reply(alloc, status, &tree, close)
 }
 
 // What a route says of its part, if the part names something.
@@ -89,7 +98,7 @@ fn route_reply<V: View>(
     found: &Found,
 ) -> Result<Reply, Memory>
     ensures { IfOk result (λ reply. reply
-        ≡ route_reply (asked_of (V.chain live.now) (V.index live.now) about.now)
+        ≡ route_said (asked_of (V.chain live.now) (V.index live.now) about.now)
         request.now found.now.route found.now.part.now) }
 {
     if !same_method(request.method, found.route.method()) {

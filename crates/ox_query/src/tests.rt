@@ -1,6 +1,0 @@
-use super::*;
-
-#[test]
-fn nothing_yet(rt: HostRuntime) {
-    assert!(rt; true);
-}
