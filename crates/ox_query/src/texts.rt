@@ -1,8 +1,8 @@
 //! How satoshis are written in replies.
 
 ghost use Rattle.std.specs.Prelude.{◌≡◌, ◌<◌, IfOk, string_bytes};
-ghost use Rattle.ox_ask.specs.Texts.{decimal_text as decimal_written, degree_text as degree_written};
-ghost use Rattle.ox_ask.specs.Texts.{rarity_text};
+ghost use Rattle.ox_ask.specs.Texts.{decimal_text as decimal_written};
+ghost use Rattle.ox_ask.specs.Texts.{degree_text as degree_written, rarity_text};
 ghost use Rattle.ox_sat.specs.Names.{name_of};
 ghost use Rattle.ox_sat.specs.Profiles.{IsProfile};
 
