@@ -1,11 +1,11 @@
 -- An outpoint is what its parts spell.
 use Rattle.std.proofs.Common.{◌≡◌, ◌≢◌, ℕ, ◌+◌, ◌-◌, ◌*◌, ◌<◌, ◌≤◌, ◌^◌, ◌==◌, ◌&&◌, inl, inr, Bool, true, false, cond, ltb, List, [], ◌∷◌, ◌++◌, length, get_or, take, drop, reverse, append_assoc, Option, Some, None, is_some, MatchResult, Result, Ok, Err, decimal, bytes_eq, refl, sym, ap, ap₂, ◌∙◌, subst, arith, true≢false, unwrap_or, ltb-true, eqb-true}
 use Rattle.std.specs.List.{before_first, after_first}
-use Rattle.std.specs.Result.{result_unwrap_or}
+use Rattle.std.specs.Result.{OkIff, result_ok, result_unwrap_or}
 use Rattle.std.specs.Str.Parse.{digits_value}
-use Rattle.std.proofs.Math.Seq.{take-append_seam, drop-append-add}
+use Rattle.std.proofs.Math.Seq.{take-append_seam, drop-append-add, split_at}
 use Rattle.std.proofs.lemmas.Bool.{cases_lt}
-use Rattle.std.proofs.lemmas.List.{get_or_past, get_or-reverse, length-reverse, reverse-reverse}
+use Rattle.std.proofs.lemmas.List.{get_or_past, get_or-reverse, length-reverse, reverse-reverse, length-take-le, take_all, length-drop}
 use Rattle.hex.specs.Hex.{IsBytes, decode_of, decode_sized, encode_lower, lower_digits}
 use Rattle.hex.specs.declared.error.FromHexError.{FromHexError}
 use Rattle.hex.proofs.HexLemmas.{decode_of-ok, decode_sized-ok, decode_sized-twice, decode_sized-encode_lower, length-encode_with}
@@ -74,6 +74,19 @@ apart a b x y same e = (
   sym (drop-append-add a (58 ∷ x) 1) ∙ ap₂ (λ (n : ℕ) (t : List ℕ). drop (n + 1) t) same e ∙ drop-append-add b (58 ∷ y) 1,
 )
 
+-- a colon behind 64 bytes has both its sides
+pub cut_at : (part : List ℕ) → 64 < length part → get_or part 64 0 ≡ 58 → Sides part (take 64 part) (take (length part - 65) (drop 65 part))
+cut_at part within colon = (
+  split_at part 64 0 within ∙ ap₂ (λ (c : ℕ) (rest : List ℕ). take 64 part ++ c ∷ rest) colon (sym (take_all (length part - 65) (drop 65 part) rest)),
+  front,
+)
+  where
+    rest : length (drop 65 part) ≤ length part - 65
+    rest = omega (arith, length-drop 65 part)
+
+    front : length (take 64 part) ≡ 64
+    front = length-take-le 64 part (omega arith)
+
 parts_of : (at : OutPoint) → outpoint_text at ≡ hash_text at.txid.0 ++ 58 ∷ decimal at.index
 unfolding outpoint_text
 parts_of at = append_assoc (hash_text at.txid.0) (58 ∷ []) (decimal at.index)
@@ -133,6 +146,18 @@ past_numbers text digits rest n sides is past =
     none_spelled text (λ at long bytes small e.
       let same : n ≡ at.index = ap (λ o. unwrap_or o n) (is ∙ index_read text digits rest at sides long small e) in
       omega (arith, same, small, past))
+
+-- an index that fits 32 bits, or is none
+pub index_within : {E : Type 0} (r : Result ℕ E) (n i : ℕ) → OkIff r (n < 4294967296) n → Some i ≡ result_ok r → (i ≡ n) × (i < 2 ^ 32)
+index_within (Ok x) n i h e = (first, omega (arith, h.0, first))
+  where
+    first : i ≡ n
+    first = let same : i ≡ x = ap (λ o. unwrap_or o i) e in same ∙ h.1
+index_within (Err e) n i h is = let no : Some i ≡ None = is in absurd cc
+
+pub index_past : {E : Type 0} (r : Result ℕ E) (n : ℕ) → OkIff r (n < 4294967296) n → None ≡ result_ok r → 2 ^ 32 ≤ n
+index_past (Ok x) n h is = let no : None ≡ Some x = is in absurd cc
+index_past (Err e) n h is = omega (arith, h)
 
 pub outpoint_is : (text digits rest : List ℕ) (at : OutPoint) → Sides text digits rest → digits ≡ hash_text at.txid.0
     → length at.txid.0 ≡ 32 → IsBytes at.txid.0 → Some at.index ≡ number_in rest → at.index < 2 ^ 32 → Some at ≡ outpoint_in text

@@ -79,10 +79,6 @@ fn sides(part: &[u8]) -> Option<(&[u8], &[u8])>
 
 /// The outpoint that a part spells, if any: its transaction's id as it is printed, a colon, and
 /// its index.
-#[tactic(
-    auto,
-    using(crate::proofs::Outpoints::outpoint_is, crate::proofs::Outpoints::past_numbers)
-)]
 pub(crate) fn outpoint(part: &[u8]) -> Option<OutPoint>
     ensures { result ≡ outpoint_in part.now }
 {
