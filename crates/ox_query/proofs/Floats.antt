@@ -1,7 +1,7 @@
 -- No tree of a reply has a float, so that its text is the compact one.
-use Rattle.std.proofs.Common.{◌≡◌, ℕ, Bool, true, false, ◌||◌, List, [], ◌∷◌, Option, Some, None, IfSome, option_map, option_and_then, slice_get, refl, sym, ap, ◌∙◌, subst, unwrap_or}
+use Rattle.std.proofs.Common.{◌≡◌, ℕ, Bool, false, ◌||◌, List, [], ◌∷◌, Option, Some, None, IfSome, option_map, option_and_then, slice_get, refl, sym, ap, subst}
 use Rattle.std.specs.FinMap as map
-use Rattle.serde_json.specs.Data.{Data, array, Items}
+use Rattle.serde_json.specs.Data.{Data, array}
 use Rattle.serde_json.specs.Written.{has_float}
 use Rattle.ox_range.specs.declared.runs.Run.{Run}
 use Rattle.ox_range.specs.Runs.{runs_of}

@@ -1,5 +1,5 @@
 -- An outpoint is what its parts spell.
-use Rattle.std.proofs.Common.{◌≡◌, ◌≢◌, ℕ, ◌+◌, ◌-◌, ◌*◌, ◌<◌, ◌≤◌, ◌^◌, ◌==◌, ◌&&◌, inl, inr, Bool, true, false, cond, ltb, List, [], ◌∷◌, ◌++◌, length, get_or, take, drop, reverse, append_assoc, Option, Some, None, is_some, MatchResult, Result, Ok, Err, decimal, bytes_eq, refl, sym, ap, ap₂, ◌∙◌, subst, arith, true≢false, unwrap_or, ltb-true, eqb-true}
+use Rattle.std.proofs.Common.{◌≡◌, ◌≢◌, ℕ, ◌+◌, ◌-◌, ◌<◌, ◌≤◌, ◌^◌, ◌==◌, ◌&&◌, inl, inr, ltb, List, [], ◌∷◌, ◌++◌, length, get_or, take, drop, reverse, append_assoc, Option, Some, None, MatchResult, Result, Ok, Err, decimal, bytes_eq, refl, sym, ap, ap₂, ◌∙◌, subst, arith, unwrap_or, ltb-true, eqb-true}
 use Rattle.std.specs.List.{before_first, after_first}
 use Rattle.std.specs.Result.{OkIff, result_ok, result_unwrap_or}
 use Rattle.std.specs.Str.Parse.{digits_value}
@@ -110,14 +110,14 @@ none_spelled text none = by (outpoint_in text) refl
     by : (r : Option OutPoint) → outpoint_in text ≡ r → None ≡ outpoint_in text
     by None e = sym e
     by (Some at) e =
-      let txid = reverse (result_unwrap_or (decode_of (before_first (λ c. c == 58) text)) []) in
-      let index = digits_value 10 (after_first (λ c. c == 58) text) in
-      let spelled : OutPoint = record { txid = record { 0 = txid }; index = index } in
-      let is = test_passed (((length txid == 32) && ltb index (2 ^ 32)) && bytes_eq text (outpoint_text spelled)) spelled at e in
-      let fits = first_half ((length txid == 32) && ltb index (2 ^ 32)) (bytes_eq text (outpoint_text spelled)) is.0 in
-      let long : length txid ≡ 32 = eqb-true (length txid) 32 (first_half (length txid == 32) (ltb index (2 ^ 32)) fits) in
-      let small : index < 2 ^ 32 = ltb-true index (2 ^ 32) (second_half (length txid == 32) (ltb index (2 ^ 32)) fits) in
-      absurd (none spelled long (bytes_of (decode_of (before_first (λ c. c == 58) text)) refl) small (outpoint_read text at e ∙ ap outpoint_text (sym is.1)))
+        let txid = reverse (result_unwrap_or (decode_of (before_first (λ c. c == 58) text)) []) in
+        let index = digits_value 10 (after_first (λ c. c == 58) text) in
+        let spelled : OutPoint = record { txid = record { 0 = txid }; index = index } in
+        let is = test_passed (((length txid == 32) && ltb index (2 ^ 32)) && bytes_eq text (outpoint_text spelled)) spelled at e in
+        let fits = first_half ((length txid == 32) && ltb index (2 ^ 32)) (bytes_eq text (outpoint_text spelled)) is.0 in
+        let long : length txid ≡ 32 = eqb-true (length txid) 32 (first_half (length txid == 32) (ltb index (2 ^ 32)) fits) in
+        let small : index < 2 ^ 32 = ltb-true index (2 ^ 32) (second_half (length txid == 32) (ltb index (2 ^ 32)) fits) in
+        absurd (none spelled long (bytes_of (decode_of (before_first (λ c. c == 58) text)) refl) small (outpoint_read text at e ∙ ap outpoint_text (sym is.1)))
       where
         bytes_of : (r : Result (List ℕ) FromHexError) → decode_of (before_first (λ c. c == 58) text) ≡ r → IsBytes (reverse (result_unwrap_or r []))
         bytes_of (Ok bytes) d = reverse_bytes bytes (decode_of-ok (before_first (λ c. c == 58) text) bytes d).3
@@ -144,8 +144,8 @@ without_number text digits rest sides none =
 pub past_numbers : (text digits rest : List ℕ) (n : ℕ) → Sides text digits rest → Some n ≡ number_in rest → 2 ^ 32 ≤ n → None ≡ outpoint_in text
 past_numbers text digits rest n sides is past =
     none_spelled text (λ at long bytes small e.
-      let same : n ≡ at.index = ap (λ o. unwrap_or o n) (is ∙ index_read text digits rest at sides long small e) in
-      omega (arith, same, small, past))
+    let same : n ≡ at.index = ap (λ o. unwrap_or o n) (is ∙ index_read text digits rest at sides long small e) in
+    omega (arith, same, small, past))
 
 -- an index that fits 32 bits, or is none
 pub index_within : {E : Type 0} (r : Result ℕ E) (n i : ℕ) → OkIff r (n < 4294967296) n → Some i ≡ result_ok r → (i ≡ n) × (i < 2 ^ 32)

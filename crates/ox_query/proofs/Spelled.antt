@@ -1,5 +1,5 @@
 -- What a part spells is text, so that a part that is none spells nothing.
-use Rattle.std.proofs.Common.{◌≡◌, ◌≢◌, ℕ, ◌+◌, ◌-◌, ◌<◌, ◌^◌, ◌==◌, ◌&&◌, inl, inr, Bool, true, false, cond, ltb, List, [], ◌∷◌, ◌++◌, length, get_or, All, Option, Some, None, is_some, IfSome, IfNone, decimal, bytes_eq, IsUtf8, IsAscii, refl, sym, ap, ◌∙◌, subst, arith, true≢false, unwrap_or, ltb-true}
+use Rattle.std.proofs.Common.{◌≡◌, ◌≢◌, ℕ, ◌+◌, ◌-◌, ◌<◌, ◌^◌, ◌==◌, ◌&&◌, Bool, true, false, cond, ltb, List, ◌∷◌, ◌++◌, All, Option, Some, None, is_some, IfSome, IfNone, decimal, bytes_eq, IsUtf8, refl, sym, ap, ◌∙◌, subst, arith, true≢false, unwrap_or, ltb-true}
 use Rattle.std.specs.List.{before_first, after_first}
 use Rattle.std.specs.Option.{option_or}
 use Rattle.std.specs.Str.Parse.{digits_value}
@@ -83,7 +83,7 @@ sat_unread p text known h =
     none_passes _ _ _ number (first_at p height + offset) named
     (test_fails (ltb number p.supply) text (decimal number) h (λ e. digits_text number (omega (arith, ltb-true number p.supply e, c.few))))
     (test_fails (ltb offset (subsidy_at p height)) text (decimal height ++ 46 ∷ decimal offset) h (λ e.
-      let small = small_decimal p height offset c (ltb-true offset (subsidy_at p height) e) in
-      IsUtf8-from_ascii _ (IsAscii-append (decimal height) (46 ∷ decimal offset) (IsAscii-decimal height small.0)
-        (IsAscii-cons 46 (decimal offset) (omega arith) (IsAscii-decimal offset small.1)))))
+    let small = small_decimal p height offset c (ltb-true offset (subsidy_at p height) e) in
+    IsUtf8-from_ascii _ (IsAscii-append (decimal height) (46 ∷ decimal offset) (IsAscii-decimal height small.0)
+    (IsAscii-cons 46 (decimal offset) (omega arith) (IsAscii-decimal offset small.1)))))
     (test_fails (ltb named p.supply) text (name_of p named) h (λ e. name_is_text p named known (ltb-true named p.supply e)))

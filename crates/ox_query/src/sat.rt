@@ -24,10 +24,7 @@ fn place_value(alloc: Global, place: Option<Place>) -> Result<Value, Memory>
     match place {
         Place::Out { outpoint, offset } => {
             fields.add("offset", Value::from(offset))?;
-            fields.add(
-                "outpoint",
-                Value::String(outpoint_text(alloc, &outpoint)?),
-            )?;
+            fields.add("outpoint", Value::String(outpoint_text(alloc, &outpoint)?))?;
         }
         Place::Lost { offset } => fields.add("lost", Value::from(offset))?,
     }
@@ -50,6 +47,9 @@ pub(crate) fn sat_value<V: View>(alloc: Global, live: &V, sat: u64) -> Result<Va
     fields.add("name", Value::String(name_text(alloc, p, sat)?))?;
     fields.add("number", Value::from(sat))?;
     fields.add("place", place)?;
-    fields.add("rarity", text_value(alloc, rarity_word(rarity_of(&degree)))?)?;
+    fields.add(
+        "rarity",
+        text_value(alloc, rarity_word(rarity_of(&degree)))?,
+    )?;
     Ok(fields.into_value())
 }

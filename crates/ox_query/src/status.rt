@@ -22,11 +22,7 @@ fn newest<V: View>(live: &V) -> Option<&[u8; 32]>
 
 /// How many blocks there are, may be taken back and can be, the profile and the newest block's
 /// hash. `Memory` where there is none for it.
-pub(crate) fn status_value<V: View>(
-    alloc: Global,
-    live: &V,
-    about: &About,
-) -> Result<Value, Memory>
+pub(crate) fn status_value<V: View>(alloc: Global, live: &V, about: &About) -> Result<Value, Memory>
     ensures { IfOk result (λ value. view value
         ≡ status_tree (asked_of (V.chain live.now) (V.index live.now) about.now)) }
 {

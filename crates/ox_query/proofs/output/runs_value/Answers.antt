@@ -1,5 +1,4 @@
 use Rattle.std.proofs.Common.{ap, ◌∙◌, map}
-use Rattle.serde_json.specs.Data.{array}
 use Rattle.serde_json.specs.View.{view}
 use Rattle.ox_range.proofs.RunLemmas.{maximal-at, zero_run}
 use Rattle.ox_query.proofs.Runs.{one_more, all_runs}
