@@ -24,3 +24,8 @@ pub returns-clause-any_moment : goal.returns-clause-any_moment
 returns-clause-any_moment g c told stood =
     files_untouched g.S.Site g.met.S.Site.only_now c.args.site.now c.args.store.stack
     (after_turn c.args.store.stack (stack_after c.args.store.stack c.args.command.now)) (c.requires.holds told).settled stood
+
+pub returns-in_err-room-clause-any_moment : goal.returns-in_err-room-clause-any_moment
+returns-in_err-room-clause-any_moment g c told stood =
+    files_untouched g.S.Site g.met.S.Site.only_now c.args.site.now c.args.store.stack
+    (after_turn c.args.store.stack (stack_after c.args.store.stack c.args.command.now)) (c.requires.holds told).settled stood

@@ -47,3 +47,8 @@ pub returns-in-None-clause-any_moment : goal.returns-in-None-clause-any_moment
 returns-in-None-clause-any_moment g c told stood =
     files_untouched g.S.Site g.met.S.Site.only_now c.args.site.now c.args.store.stack
     (after_line c.args.store.stack c.args.line.now) (c.requires.holds told).settled stood
+
+pub returns-in_err-command-clause-any_moment : goal.returns-in_err-command-clause-any_moment
+returns-in_err-command-clause-any_moment g c told stood =
+    files_untouched g.S.Site g.met.S.Site.only_now c.args.site.now c.args.store.stack
+    (after_line c.args.store.stack c.args.line.now) (c.requires.holds told).settled stood
