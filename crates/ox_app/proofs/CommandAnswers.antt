@@ -3,7 +3,6 @@ use Rattle.std.proofs.Common.{◌≡◌, ◌∙◌, inl, ap}
 use Rattle.std.specs.Prelude.{Ok}
 use Rattle.ox_outside.specs.declared.site.Site.{Ghosts as Meanings}
 use Rattle.ox_outside.specs.Crash.{Remains}
-use Rattle.ox_outside.specs.Files.{Files}
 use Rattle.ox_model.specs.Stack.{Stack}
 use Rattle.ox_model.specs.Stands.{stands}
 use Rattle.ox_store.specs.Ready.{StandsForEither}

@@ -1,9 +1,6 @@
 -- A run that only talks goes on, whatever it says.
-use Rattle.std.proofs.Common.{ℕ, Bool, List, Option}
-use Rattle.ox_outside.specs.Counts.{Counts}
-use Rattle.ox_outside.specs.Crash.{Remains}
+use Rattle.std.proofs.Common.{List}
 use Rattle.ox_outside.specs.Event.{Event}
-use Rattle.ox_outside.specs.Files.{Files}
 use Rattle.ox_outside.specs.declared.site.Site.{Ghosts as Meanings}
 use Rattle.ox_outside.specs.Log.{Grows}
 use Rattle.ox_app.specs.Fold.{Anything}

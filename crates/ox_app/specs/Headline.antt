@@ -7,7 +7,7 @@
 -- by fresh indexing of the machine's blocks then, `after machine lines` is the machine that they
 -- lead to, `stack_of` is what its answers depend on, and `stands files` is the stack that files
 -- stand for.
-use Rattle.std.specs.Prelude.{◌≡◌, ◌⊎◌, ℕ, suc, ◌≤◌, true, false, IsTrue, List, [], ◌∷◌, ◌++◌}
+use Rattle.std.specs.Prelude.{◌≡◌, ◌⊎◌, ℕ, suc, ◌≤◌, true, false, IsTrue, List, [], ◌∷◌}
 use Rattle.std.specs.Prelude.{length, take, All, Some, Ok, Err}
 use Rattle.std.specs.List.{concat}
 use Rattle.ox_outside.specs.Crash.{Remains, MayLeaveFiles}
@@ -17,7 +17,7 @@ use Rattle.ox_outside.specs.Log.{Grows}
 use Rattle.ox_outside.specs.declared.site.Site.{Ghosts as Meanings}
 use Rattle.ox_feed.specs.Feed.{FeedLine, feed_limit}
 use Rattle.ox_model.specs.Machine.{Machine, stack_of}
-use Rattle.ox_model.specs.Moments.{acknowledgements_in, count, lines_in}
+use Rattle.ox_model.specs.Moments.{count, lines_in}
 use Rattle.ox_model.specs.Replies.{after, replies}
 use Rattle.ox_model.specs.Stack.{Stack}
 use Rattle.ox_model.specs.Stands.{Misfit, stands}

@@ -5,7 +5,6 @@ ghost use Rattle.ox_outside.specs.Log.{Grows};
 ghost use Rattle.ox_model.specs.Machine.{Machine, empty_machine, stack_of};
 ghost use Rattle.ox_model.specs.Stack.{Stack};
 ghost use Rattle.ox_model.specs.Stands.{Misfit};
-ghost use Rattle.ox_model.specs.Status.{query_body};
 ghost use Rattle.ox_sat.specs.Profiles.{profile_named};
 ghost use Rattle.ox_sat.specs.declared.profiles.ProfileName.{ProfileName};
 ghost use Rattle.ox_store.specs.Make.{no_files};
@@ -14,6 +13,7 @@ ghost use Rattle.ox_app.specs.Headline.{AddsNoImage, AnswersFeed, StandsFor, Sta
 ghost use Rattle.ox_app.specs.Headline.{StopsAtLine, SurvivesCrash};
 ghost use Rattle.ox_app.specs.Init.{IsMade, MakesFirst, made_line, not_empty_line};
 ghost use Rattle.ox_outside.specs.Runs.{Calls};
+ghost use Rattle.ox_app.specs.Query.{query_body};
 ghost use Rattle.ox_app.specs.Show.{DiskFails, EndsDone, HearFails, Says, ShowFails, ShowsText};
 ghost use Rattle.ox_app.specs.Show.{usage_line};
 ghost use Rattle.ox_app.specs.Status.{IsApplyStatus, IsDone, IsFoldStatus, IsInitStatus};
@@ -45,8 +45,8 @@ use std::alloc::Global;
 /// | | most `depth` may be kept, from 1 to 1,000, and shows `ok empty`. |
 /// | `apply` | Opens the store and carries out the commands of channel 0: each line is answered |
 /// | | by one, once its record is on the disk. |
-/// | `query <path>` | Opens the store and shows the body of the reply to a query of that path: of |
-/// | | `/status`, or `{"error":404}`. |
+/// | `query <path>` | Opens the store and shows the body of the reply to a GET of that path, with |
+/// | | nothing added. |
 /// | `fold <profile>` | As `apply`, from no block on and without files. |
 ///
 /// The profile is `mainnet`, `regtest` or `lab`, and a number has decimal digits with no sign and

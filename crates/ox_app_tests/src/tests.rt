@@ -455,9 +455,55 @@ fn a_status_tells_of_the_blocks_that_were_applied(rt: HostRuntime) {
     assert!(rt; has_blocks(&rt, alloc, &mut site, 0));
     assert!(rt; ends(&rt, alloc, &mut site, &[b"apply"], 0, THREE_OK));
     assert!(rt; has_blocks(&rt, alloc, &mut site, 3));
-    let no_path = br#"{"error":404}"#;
-    assert!(rt; ends(&rt, alloc, &mut site, &[b"query", b"/x"], 0, no_path));
-    assert!(rt; ends(&rt, alloc, &mut site, &[b"query", b""], 0, no_path));
+}
+
+// Whether a query of this path shows these bytes and ends well.
+fn shows(rt: &impl Abort, alloc: Global, site: &mut MemSite, path: &[u8], body: &[u8]) -> bool {
+    ends(rt, alloc, site, &[b"query", path], 0, body)
+}
+
+#[test]
+fn a_query_of_an_empty_store_shows_the_body_of_its_reply(rt: HostRuntime) {
+    let alloc = rt.alloc();
+    let mut site = empty_store(&rt, alloc);
+    let sat = concat!(
+        r#"{"decimal":"3891094.16797","degree":"3°111094′214″16797‴","inscriptions":[],"#,
+        r#""name":"satoshi","number":2099994106992659,"place":null,"rarity":"common"}"#
+    );
+    assert!(rt; shows(&rt, alloc, &mut site, b"/status", status_body(0).as_bytes()));
+    assert!(rt; shows(&rt, alloc, &mut site, b"/sat/satoshi", sat.as_bytes()));
+}
+
+#[test]
+fn a_query_of_what_is_not_there_shows_its_status(rt: HostRuntime) {
+    let alloc = rt.alloc();
+    let mut site = empty_store(&rt, alloc);
+    let missing = br#"{"error":404}"#;
+    let paths: [&[u8]; 6] = [
+        b"",
+        b"/x",
+        b"/blockhash/0",
+        b"/sat/01",
+        b"/sat/\xff",
+        b"//status",
+    ];
+    for path in paths {
+        assert!(rt; shows(&rt, alloc, &mut site, path, missing));
+    }
+    assert!(rt; shows(&rt, alloc, &mut site, b"/connect", br#"{"error":405}"#));
+}
+
+#[test]
+fn a_query_tells_of_a_block_that_was_applied(rt: HostRuntime) {
+    let alloc = rt.alloc();
+    let line = connect(&rt, alloc, FIRST);
+    let mut site = store_hearing(&rt, alloc, line.as_slice());
+    let block = concat!(
+        r#"{"hash":"9df1369ffe84c7f9f18795eda8438c9452ca65ebb35668f5a83ab42b94430908","#,
+        r#""height":0}"#
+    );
+    assert!(rt; ends(&rt, alloc, &mut site, &[b"apply"], 0, FIRST_OK));
+    assert!(rt; shows(&rt, alloc, &mut site, b"/blockhash/0", block.as_bytes()));
 }
 
 // ---- crashes

@@ -1,3 +1,4 @@
+pub mod Nowhere
 pub mod Objects
 pub mod Read
 pub mod Told

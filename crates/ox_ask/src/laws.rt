@@ -1,9 +1,14 @@
 //! Laws of what is written in paths and replies.
 
-ghost use Rattle.std.specs.Prelude.{◌≡◌, ◌<◌, ◌^◌, ℕ, List, length, Some, decimal};
+ghost use Rattle.std.specs.Prelude.{◌≡◌, ◌<◌, ◌≤◌, ◌^◌, ℕ, List, length, None, Some, decimal};
 ghost use Rattle.hex.specs.Hex.{IsBytes};
 ghost use Rattle.ox_block.specs.declared.block.OutPoint.{OutPoint};
 ghost use Rattle.ox_http.specs.declared.Request.{Request};
+ghost use Rattle.ox_model.specs.Index.{Index};
+ghost use Rattle.ox_model.specs.Sound.{IsSound};
+ghost use Rattle.ox_model.specs.Where.{where_is};
+ghost use Rattle.ox_sat.specs.declared.profiles.Profile.{Profile};
+ghost use Rattle.ox_sat.specs.Heights.{first_at};
 ghost use Rattle.ox_ask.specs.Trees.{Asked};
 ghost use Rattle.ox_rules.specs.Text.{outpoint_text};
 ghost use Rattle.ox_ask.specs.Ask.{reply_of};
@@ -30,4 +35,10 @@ pub fn outpoints_are_read()
 pub fn replies_close_as_asked()
     ensures { (asked : Asked) (request : Request)
         → (reply_of asked request).close ≡ request.close }
+{}
+
+/// A satoshi that no block of a sound index mints is nowhere, so that its place is told as null.
+pub fn unminted_satoshis_are_nowhere()
+    ensures { (p : Profile) (index : Index) (sat : ℕ) → IsSound p index
+        → first_at p (length index.hashes) ≤ sat → where_is index sat ≡ None }
 {}

@@ -5,7 +5,9 @@ mod fields;
 mod laws;
 
 pub use fields::Fields;
-pub use laws::{numbers_are_read, outpoints_are_read, replies_close_as_asked};
+pub use laws::{
+    numbers_are_read, outpoints_are_read, replies_close_as_asked, unminted_satoshis_are_nowhere,
+};
 pub use ox_bytes::Memory;
 
 #[cfg(test)]

@@ -10,4 +10,3 @@ pub mod Moments
 pub mod Stands
 pub mod Survives
 pub mod Runs
-pub mod Status

@@ -2,15 +2,15 @@ use Rattle.std.proofs.Common.{◌∙◌, ℕ, List, ap, subst}
 use Rattle.ox_app.specs.declared.status.Status.TheVariants.{Done, Memory}
 use Rattle.ox_outside.specs.Log.{Grows}
 use Rattle.ox_model.specs.Stands.{stands}
-use Rattle.ox_model.specs.Status.{query_body}
 use Rattle.ox_app.proofs.Images.{done_opens, looked_then_talked, memory_opens, memory_undone, reply_none, reply_whole, same_stack, says_nothing}
+use Rattle.ox_app.specs.Query.{query_body}
 use Rattle.ox_app.specs.Show.{ShowsReply}
 use Rattle.ox_app.proofs.query.query.Goals as goal
 
 pub returns-in-Ok-show_all-clause-shows : goal.returns-in-Ok-show_all-clause-shows
 returns-in-Ok-show_all-clause-shows g c told stack stood =
     let same = same_stack (stands (g.S.Site.seen c.args.site.now)) c.in-Ok.store.stack stack (c.in-Ok.ensures.stands told) stood in
-    let bytes = c.as_bytes.ensures.value ∙ c.in-Ok-body_of.ensures ∙ ap (query_body c.args.path.now) same in (
+    let bytes = c.as_slice.ensures ∙ c.in-Ok-body_of.ensures ∙ ap (query_body c.args.path.now) same in (
       done_opens,
       subst (λ (l : List ℕ). Grows (ShowsReply l Done) (g.S.Site.log c.args.site.now) (g.S.Site.log c.show_all.new.site)) bytes
           (reply_whole _ (g.S.Site.log c.args.site.now) (g.S.Site.log c.open.new.site) (g.S.Site.log c.show_all.new.site) c.open.ensures.looks.nothing.as_logged c.in-Ok-show_all.ensures.told),

@@ -1,0 +1,4 @@
+pub mod Spelled
+pub mod Runs
+pub mod Floats
+pub mod Outpoints

@@ -1,0 +1,5 @@
+//! Replies over indexes of small chains.
+#![tactic(auto)]
+
+#[cfg(test)]
+mod tests;
