@@ -29,7 +29,8 @@ PROGRAMS = {
 RUNS = 3
 EACH = 20_000
 SUBSIDY = 5_000_000_000
-# how many replies of each route are timed: a satoshi is looked for in one output after the other
+# how many replies of each route are timed: a satoshi is looked for in one output after the other, so that route's time
+# alone is told
 REPLIES = {"status": 200_000, "blockhash": 200_000, "output": 200_000, "sat": 20}
 
 
@@ -107,6 +108,9 @@ def compare_bodies(blocks, ids, folder):
 
 def tell(route, outputs, replies, base, with_paths):
     seconds = {name: with_paths[name] - base[name] for name in PROGRAMS}
+    if replies < 1000:
+        print(f"{outputs:9,} outputs, /{route}: {seconds['ox'] / replies * 1e3:.2f} ms a reply", flush=True)
+        return
     rates = ", ".join(f"{name} {replies / seconds[name]:,.0f} a second" for name in PROGRAMS)
     print(f"{outputs:9,} outputs, /{route}: {rates}; ox to tree {seconds['tree'] / seconds['ox']:.2f},"
           f" to structs {seconds['structs'] / seconds['ox']:.2f}", flush=True)
