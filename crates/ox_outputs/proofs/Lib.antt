@@ -1,2 +1,4 @@
 pub mod SlotLemmas
 pub mod PlaceLemmas
+pub mod RowLemmas
+pub mod StretchLemmas

@@ -29,7 +29,7 @@ same_or_not a b = by_test (is_same a b) refl where
 same_itself : (a : OutPoint) → is_same a a ≡ true
 same_itself a = (eq_by_cmp_equiv outpoints_total).refl a
 
-not_both : (a b : OutPoint) → a ≡ b → is_same a b ≡ false → ⊥
+pub not_both : (a b : OutPoint) → a ≡ b → is_same a b ≡ false → ⊥
 not_both a b same other = true≢false (sym (same_itself a) ∙ ap (is_same a) same ∙ other)
 
 the_place : (p q : ℕ) → ◌≡◌ {A = Option ℕ} (Some p) (Some q) → p ≡ q
