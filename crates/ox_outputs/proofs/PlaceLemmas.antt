@@ -250,8 +250,3 @@ given_back s t v p row free u w r = ⊎_elim
     (λ same. ap (get v) same ∙ w.changed ∙ sym free ∙ sym (ap (get s) same))
     (λ other. w.others r other ∙ u.others r other)
     (cases_eq r p)
-
--- the outpoints of slots are those of their places
-pub keys_alike : (m : Places) (s : Held) → keys_of (slots_in m s) ≡ keys_of m
-keys_alike [] s = refl
-keys_alike (e ∷ m) s = ap (λ l. e.0 ∷ l) (keys_alike m s)

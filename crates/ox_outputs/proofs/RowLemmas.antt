@@ -1,6 +1,6 @@
 -- The runs of outputs, where each of their satoshis stands once.
 use Rattle.std.proofs.Common.{◌≡◌, ◌≢◌, ◌∙◌, ℕ, zero, suc, ◌+◌, ◌-◌, ◌<◌, ◌≤◌, ◌==◌, Bool, true, false, cond, List, [], ◌∷◌, ◌++◌, length, refl, sym, ap, subst, arith, Option, Some, None, true≢false, inl, inr, ⊎_elim, Ordering, nat_lt, add-zero, zero-add, T}
-use Rattle.std.specs.Prelude.{◌⊎◌, ◌&&◌, ◌||◌, if◌then◌else◌}
+use Rattle.std.specs.Prelude.{◌⊎◌, ◌&&◌, ◌||◌, if◌then◌else◌, IsSomeAnd}
 use Rattle.std.specs.Ordering.{nat_cmp, is_eq, is_lt, eq_by_cmp}
 use Rattle.std.specs.declared.cmp.Ordering.TheVariants.{Less, Equal, Greater}
 use Rattle.std.specs.Cmp.{eq_by_cmp_equiv}
@@ -138,12 +138,12 @@ unfolding numbers_from
 place_inside first zero x rest low high = absurd (omega (arith, low, high))
 place_inside first (suc count) x rest low high = ⊎_elim
     (λ below.
-      let other : (first == x) ≡ false = ne_eqb first x (λ e. absurd (omega (arith, e, below))) in
-      let more : position_or_len (λ n. n == x) (numbers_from (first + 1) count ++ rest) + (first + 1) ≡ x = place_inside (first + 1) count x rest (omega arith) (omega (arith, high)) in
-      rw other (omega (arith, more)))
+    let other : (first == x) ≡ false = ne_eqb first x (λ e. absurd (omega (arith, e, below))) in
+    let more : position_or_len (λ n. n == x) (numbers_from (first + 1) count ++ rest) + (first + 1) ≡ x = place_inside (first + 1) count x rest (omega arith) (omega (arith, high)) in
+    rw other (omega (arith, more)))
     (λ here.
-      let same : (first == x) ≡ true = eq-eqb first x (omega (arith, here, low)) in
-      rw same (omega (arith, here, low)))
+    let same : (first == x) ≡ true = eq-eqb first x (omega (arith, here, low)) in
+    rw same (omega (arith, here, low)))
     (cases_lt first x)
 
 place_behind : (first count x : ℕ) (rest : List ℕ) → (x < first) ⊎ (first + count ≤ x) → position_or_len (λ n. n == x) (numbers_from first count ++ rest) ≡ count + position_or_len (λ n. n == x) rest
@@ -193,9 +193,9 @@ absent_place x [] none = refl
 absent_place x (y ∷ ys) none = ⊎_elim
     (λ same. absurd (let one = times_same x y ys (eq-eqb y x same) in omega (arith, one, none)))
     (λ other. let differ = ne_eqb y x other in
-      let rest = times_other x y ys differ in
-      let more = absent_place x ys (omega (arith, rest, none)) in
-      rw differ (omega (arith, more)))
+    let rest = times_other x y ys differ in
+    let more = absent_place x ys (omega (arith, rest, none)) in
+    rw differ (omega (arith, more)))
     (cases_eq y x)
 
 present_place : (x : ℕ) (xs : List ℕ) → 1 ≤ times x xs → position_or_len (λ n. n == x) xs < length xs
@@ -203,9 +203,9 @@ present_place x [] some = absurd (omega (arith, some))
 present_place x (y ∷ ys) some = ⊎_elim
     (λ same. rw (eq-eqb y x same) (omega arith))
     (λ other. let differ = ne_eqb y x other in
-      let rest = times_other x y ys differ in
-      let more = present_place x ys (omega (arith, rest, some)) in
-      rw differ (omega (arith, more)))
+    let rest = times_other x y ys differ in
+    let more = present_place x ys (omega (arith, rest, some)) in
+    rw differ (omega (arith, more)))
     (cases_eq y x)
 
 pub absent_from : (sats : List ℕ) (sat : ℕ) → times sat sats ≡ 0 → place_in sats sat ≡ None
@@ -250,8 +250,8 @@ met at place x [] some once is = absurd (let none = ap (times x) numbers-none in
 met at place x (run ∷ runs) some once is = ⊎_elim
     (λ here. let within = one_within x run.first run.count (omega (arith, here)) in met_here at place x run runs within.0 within.1)
     (λ there. let sum = times_cons x run runs in
-      let m = met at (place + run.count) x runs some.1 (λ y. let sum = times_cons y run runs in let most = once y in omega (arith, sum, most)) (omega (arith, there, sum, is)) in
-      met_behind (is_at (nat_cmp m.first) run.first) at place x run runs some.0 once m refl)
+    let m = met at (place + run.count) x runs some.1 (λ y. let sum = times_cons y run runs in let most = once y in omega (arith, sum, most)) (omega (arith, there, sum, is)) in
+    met_behind (is_at (nat_cmp m.first) run.first) at place x run runs some.0 once m refl)
     (cases_lt 0 (times x (numbers_from run.first run.count)))
 
 -- ---- the runs of a row
@@ -296,12 +296,12 @@ apart_runs live outs runs once = record { before = before } where
       let some = held_some outs t.outpoint g t b in
       let other = held_times outs t.outpoint g g t b (omega arith) (omega (arith, some)) in ⊎_elim
       (λ same. let row = one_row outs s.outpoint t.outpoint a.row b.row same a.there b.there in
-        let is = ap (λ (r : OutRow). stretch_at (stretches_of t.outpoint 0 (runs_of r.sats)) g) row ∙ b.is in
-        let twice = two s.outpoint t.outpoint 0 0 g f g (runs_of a.row.sats) s t (λ e. absurd (omega (arith, e, low))) a.is is (omega (arith, low)) over (omega arith) (omega (arith, some)) in
-        let most = once.alone s.outpoint a.row g a.there in
-        omega (arith, twice, most, times_row g a.row.sats))
+      let is = ap (λ (r : OutRow). stretch_at (stretches_of t.outpoint 0 (runs_of r.sats)) g) row ∙ b.is in
+      let twice = two s.outpoint t.outpoint 0 0 g f g (runs_of a.row.sats) s t (λ e. absurd (omega (arith, e, low))) a.is is (omega (arith, low)) over (omega arith) (omega (arith, some)) in
+      let most = once.alone s.outpoint a.row g a.there in
+      omega (arith, twice, most, times_row g a.row.sats))
       (λ differ. let most = once.apart s.outpoint t.outpoint a.row b.row g (λ e. not_both s.outpoint t.outpoint e differ) a.there b.there in
-        omega (arith, most, one, other))
+      omega (arith, most, one, other))
       (same_or_not s.outpoint t.outpoint)
 
   before : (f g : ℕ) (s t : Stretch) → live f ≡ Some s → live g ≡ Some t → f < g → f + s.count ≤ g
@@ -372,7 +372,7 @@ leave_rows live live' outs outs' at row runs there goes gets = record { sound = 
   complete f s q is = ⊎_elim
       (λ same. absurd (none_is s (sym (ap (option_and_then (λ (row : OutRow). stretch_at (stretches_of q 0 (runs_of row.sats)) f)) (ap (get outs') same ∙ here_is outs outs' at None (gets at))) ∙ is)))
       (λ other. let was = sym (elsewhere outs outs' q at f None (gets q) other) ∙ is in
-        goes f ∙ keeps (is_among (firsts_of (runs_of row.sats)) f) (live f) s (runs.complete f s q was) (gone_there f s q other was))
+      goes f ∙ keeps (is_among (firsts_of (runs_of row.sats)) f) (live f) s (runs.complete f s q was) (gone_there f s q other was))
       (which q at)
 
 -- no run begins yet as those of satoshis that may stand do
@@ -398,11 +398,11 @@ arrive_rows live live' outs outs' at row runs none may comes gets = record { sou
   sound : (f : ℕ) (s : Stretch) → live' f ≡ Some s → stretch_in outs' s.outpoint f ≡ Some s
   sound f s is = ⊎_elim
       (λ new. let mine = (made_of at 0 f (runs_of row.sats) s new).outpoint in
-        ap (λ (a : OutPoint). stretch_in outs' a f) mine ∙ in_row outs' at row f there ∙ new)
+      ap (λ (a : OutPoint). stretch_in outs' a f) mine ∙ in_row outs' at row f there ∙ new)
       (λ old. let h = held_in outs s.outpoint f s (runs.sound f s old) in ⊎_elim
-        (λ same. absurd (none_is h.row (sym none ∙ ap (get outs) (sym same) ∙ h.there)))
-        (λ other. elsewhere outs outs' s.outpoint at f (Some row) (gets s.outpoint) other ∙ runs.sound f s old)
-        (which s.outpoint at))
+      (λ same. absurd (none_is h.row (sym none ∙ ap (get outs) (sym same) ∙ h.there)))
+      (λ other. elsewhere outs outs' s.outpoint at f (Some row) (gets s.outpoint) other ∙ runs.sound f s old)
+      (which s.outpoint at))
       (either_is (stretch_at (stretches_of at 0 (runs_of row.sats)) f) (live f) s (sym (comes f) ∙ is))
 
   was : (f : ℕ) (s : Stretch) → live f ≡ Some s → (b : Bool) → is_among (firsts_of (runs_of row.sats)) f ≡ b → option_or (stretch_at (stretches_of at 0 (runs_of row.sats)) f) (live f) ≡ Some s
@@ -412,9 +412,9 @@ arrive_rows live live' outs outs' at row runs none may comes gets = record { sou
   complete : (f : ℕ) (s : Stretch) (q : OutPoint) → stretch_in outs' q f ≡ Some s → live' f ≡ Some s
   complete f s q is = ⊎_elim
       (λ same. let new = sym (in_row outs' at row f there) ∙ ap (λ (a : OutPoint). stretch_in outs' a f) (sym same) ∙ is in
-        comes f ∙ ap (λ (o : Option Stretch). option_or o (live f)) new)
+      comes f ∙ ap (λ (o : Option Stretch). option_or o (live f)) new)
       (λ other. let old = runs.complete f s q (sym (elsewhere outs outs' q at f (Some row) (gets q) other) ∙ is) in
-        comes f ∙ was f s old (is_among (firsts_of (runs_of row.sats)) f) refl)
+      comes f ∙ was f s old (is_among (firsts_of (runs_of row.sats)) f) refl)
       (which q at)
 
 -- ---- no satoshi stands twice
@@ -429,7 +429,7 @@ once_taken outs outs' at once gets = record {
 after : (outs outs' : Outputs) (at q : OutPoint) (row r : OutRow) → get outs' q ≡ cond (is_same q at) (Some row) (get outs q) → get outs' q ≡ Some r → ((q ≡ at) × (r ≡ row)) ⊎ ((is_same q at ≡ false) × (get outs q ≡ Some r))
 after outs outs' at q row r gets is = ⊎_elim
     (λ same. let here = gets ∙ tested (is_same q at) true (Some row) (get outs q) (ap (λ (a : OutPoint). is_same a at) same ∙ same_itself at) in
-      let one : Some r ≡ Some row = sym is ∙ here in inl (same, cc one))
+    let one : Some r ≡ Some row = sym is ∙ here in inl (same, cc one))
     (λ other. inr (other, sym (gets ∙ tested (is_same q at) false (Some row) (get outs q) other) ∙ is))
     (which q at)
 
@@ -450,13 +450,13 @@ once_placed outs outs' at row once may gets = record { alone = alone; apart = ap
   apart : (a b : OutPoint) (r q : OutRow) (sat : ℕ) → a ≢ b → get outs' a ≡ Some r → get outs' b ≡ Some q → times sat r.sats + times sat q.sats ≤ 1
   apart a b r q sat differ is js = ⊎_elim
       (λ new. ⊎_elim
-        (λ too. absurd (differ (new.0 ∙ sym too.0)))
-        (λ old. let most = may.apart b q sat (differs b at old.0) old.1 in omega (arith, most, times_as sat r row new.1))
-        (after outs outs' at b row q (gets b) js))
+      (λ too. absurd (differ (new.0 ∙ sym too.0)))
+      (λ old. let most = may.apart b q sat (differs b at old.0) old.1 in omega (arith, most, times_as sat r row new.1))
+      (after outs outs' at b row q (gets b) js))
       (λ was. ⊎_elim
-        (λ too. let most = may.apart a r sat (differs a at was.0) was.1 in omega (arith, most, times_as sat q row too.1))
-        (λ old. once.apart a b r q sat differ was.1 old.1)
-        (after outs outs' at b row q (gets b) js))
+      (λ too. let most = may.apart a r sat (differs a at was.0) was.1 in omega (arith, most, times_as sat q row too.1))
+      (λ old. once.apart a b r q sat differ was.1 old.1)
+      (after outs outs' at b row q (gets b) js))
       (after outs outs' at a row r (gets a) is)
 
 -- ---- where a satoshi is
@@ -527,8 +527,8 @@ place_held outs f sat s once h low high =
 met_row : (live : ℕ → Option Stretch) (outs : Outputs) (sat : ℕ) (k : OutPoint) (x : OutRow) → AreRuns live outs → StandOnce outs → Finds live sat None → get outs k ≡ Some x → place_in x.sats sat ≡ None
 met_row live outs sat k x runs once none there = ⊎_elim
     (λ some. absurd (
-      let m = met k 0 sat (runs_of x.sats) (some_runs x.sats) (λ y. let most = once.alone k x y there in omega (arith, most, times_row y x.sats)) (omega (arith, some, times_row sat x.sats)) in
-      none m.first m.stretch (Out m.stretch.outpoint (m.stretch.place + (sat - m.first))) (runs.complete m.first m.stretch k (in_row outs k x m.first there ∙ m.is)) (record { low = m.low; high = m.high; place = refl })))
+    let m = met k 0 sat (runs_of x.sats) (some_runs x.sats) (λ y. let most = once.alone k x y there in omega (arith, most, times_row y x.sats)) (omega (arith, some, times_row sat x.sats)) in
+    none m.first m.stretch (Out m.stretch.outpoint (m.stretch.place + (sat - m.first))) (runs.complete m.first m.stretch k (in_row outs k x m.first there ∙ m.is)) (record { low = m.low; high = m.high; place = refl })))
     (λ zero. absent_from x.sats sat (omega (arith, zero)))
     (cases_lt 0 (times sat x.sats))
 
@@ -545,3 +545,45 @@ found_exact live outs sat (Some place) runs once found =
     ap (λ (p : Place). Some p) holds.place
     ∙ sym (one_among (entries outs) sat s.outpoint h.row (s.place + (sat - f)) (entries_sorted outs) (sym (get-entries outs s.outpoint) ∙ h.there) here
     (λ k x is differ. let most = once.apart k s.outpoint x h.row sat differ (get-entries outs k ∙ is) h.there in absent_from x.sats sat (omega (arith, most, one))))
+
+-- ---- the same runs, the same rows
+
+pub runs_alike : (live live' : ℕ → Option Stretch) (outs outs' : Outputs) → AreRuns live outs → ((q : ℕ) → live' q ≡ live q) → outs' ≡ outs → AreRuns live' outs'
+runs_alike live live' outs outs' runs same is = subst (AreRuns live') (sym is) (record {
+  sound = λ f s there. runs.sound f s (sym (same f) ∙ there);
+  complete = λ f s at there. same f ∙ runs.complete f s at there;
+})
+
+pub apart_alike : (live live' : ℕ → Option Stretch) → AreApart live → ((q : ℕ) → live' q ≡ live q) → AreApart live'
+apart_alike live live' apart same = record { before = λ f g s t is js low. apart.before f g s t (sym (same f) ∙ is) (sym (same g) ∙ js) low }
+
+pub once_alike : (outs outs' : Outputs) → StandOnce outs → outs' ≡ outs → StandOnce outs'
+once_alike outs outs' once is = subst StandOnce (sym is) once
+
+pub may_alike : (at : OutPoint) (sats sats' : List ℕ) (outs outs' : Outputs) → MayStand at sats outs → sats' ≡ sats → outs' ≡ outs → MayStand at sats' outs'
+may_alike at sats sats' outs outs' may is same = subst (λ (l : List ℕ). MayStand at l outs') (sym is) (subst (MayStand at sats) (sym same) may)
+
+pub may_less : (at : OutPoint) (sats : List ℕ) (outs outs' : Outputs) → MayStand at sats outs → ((q : OutPoint) → get outs' q ≡ cond (is_same q at) None (get outs q)) → MayStand at sats outs'
+may_less at sats outs outs' may gets = record {
+  once = may.once;
+  apart = λ other row sat differ is. may.apart other row sat differ (less_row (is_same other at) (get outs other) row (sym (gets other) ∙ is)).1;
+}
+
+-- a row with these satoshis
+pub the_row : (o : Option OutRow) (sats : List ℕ) → IsSomeAnd o (λ row. row.sats ≡ sats) → (row : OutRow) × (o ≡ Some row) × (row.sats ≡ sats)
+the_row None sats none = absurd none
+the_row (Some row) sats is = (row, refl, is)
+
+-- rows seen from those that differ at one outpoint
+pub gets_again : (rows outs : Outputs) (at : OutPoint) (row : OutRow) → get rows at ≡ Some row → ((q : OutPoint) → is_same q at ≡ false → get outs q ≡ get rows q) → (q : OutPoint) → get rows q ≡ cond (is_same q at) (Some row) (get outs q)
+gets_again rows outs at row there others q = ⊎_elim
+    (λ same. ap (get rows) same ∙ there ∙ sym (tested (is_same q at) true (Some row) (get outs q) (ap (λ (a : OutPoint). is_same a at) same ∙ same_itself at)))
+    (λ other. sym (others q other) ∙ sym (tested (is_same q at) false (Some row) (get outs q) other))
+    (which q at)
+
+pub elsewhere_is : {A : Type 0} (b : Bool) (x y : A) → b ≡ false → cond b x y ≡ y
+elsewhere_is b x y is = tested b false x y is
+
+-- where nothing was live but what goes
+pub stays_none : (b : Bool) (o : Option Stretch) → cond b None o ≡ None → b ≡ false → o ≡ None
+stays_none b o is stays = sym (tested b false None o stays) ∙ is

@@ -115,12 +115,12 @@ pub none_here : (at : ℕ → Option Stretch) (first sat f : ℕ) (last s : Stre
 none_here at first sat f last s place apart there is holds low within out =
     let stands = standing_is (at f) s is in ⊎_elim
     (λ below. let ends : f + s.count ≤ first = apart.before f first (turned false s) (turned false last) (ap (option_map (turned false)) stands.0) (ap (option_map (turned false)) there) below in
-      omega (arith, ends, holds.high, within))
+    omega (arith, ends, holds.high, within))
     (λ above. let same : f ≡ first = omega (arith, low, above) in
-      let one : s ≡ last = some_same s last (sym stands.0 ∙ ap at same ∙ there) in ⊎_elim
-      (λ gone. true≢false (sym gone ∙ ap (λ (x : Stretch). x.gone) (sym one) ∙ stands.1))
-      (λ short. let count : s.count ≡ last.count = ap (λ (x : Stretch). x.count) one in omega (arith, short, count, holds.high, same, within))
-      out)
+    let one : s ≡ last = some_same s last (sym stands.0 ∙ ap at same ∙ there) in ⊎_elim
+    (λ gone. true≢false (sym gone ∙ ap (λ (x : Stretch). x.gone) (sym one) ∙ stands.1))
+    (λ short. let count : s.count ≡ last.count = ap (λ (x : Stretch). x.count) one in omega (arith, short, count, holds.high, same, within))
+    out)
     (cases_lt f first)
 
 pub came_apart : (stood came : StretchList) → AreApart (live_in stood came) → AreApart (kept_in came)

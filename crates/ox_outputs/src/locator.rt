@@ -9,8 +9,9 @@ ghost use Rattle.ox_outputs.specs.Stretches.{stretch_at, stretches_of, is_among,
 ghost use Rattle.ox_outputs.specs.Stretches.{AreKept, AreApart};
 ghost use Rattle.ox_outputs.specs.Finding.{Finds};
 
-use crate::stretches::{Stretches, find, insert_runs, remove_noted, remove_runs};
-use crate::stretches::{settle, turn_back, turn_runs};
+use crate::stretches::{
+    Stretches, find, insert_runs, remove_noted, remove_runs, settle, turn_back, turn_runs,
+};
 use ox_block::OutPoint;
 use ox_range::Ranges;
 use ox_rules::{Memory, Place};

@@ -12,7 +12,7 @@ invariant_of-self c =
     let runs = c.runs.result.now in
     let short : length (numbers_of runs) < 2 ^ 64 = omega (arith, ap length c.runs.ensures.numbers, c.len.ensures, c.len.type_inv) in
     let fresh : (q : ℕ) → is_among (firsts_of runs) q ≡ true → standing (stretch_at self.stood.entries q) ≡ None = λ q among.
-        nothing_live self.stood.entries self.came.entries q (c.requires.fresh q (ap (λ (rs : List Run). is_among (firsts_of rs) q) (sym c.runs.ensures.exact) ∙ among)) in record {
+    nothing_live self.stood.entries self.came.entries q (c.requires.fresh q (ap (λ (rs : List Run). is_among (firsts_of rs) q) (sym c.runs.ensures.exact) ∙ among)) in record {
       kept = either_way c.insert_runs.result c.insert_runs.ensures.ok c.insert_runs.ensures.err
           (λ ok. kept_runs self.stood.entries self.came.entries came self.gone.items c.args.outpoint.now runs self.kept short ok fresh)
           (λ err. kept_still self.stood.entries self.came.entries came self.gone.items self.kept err);

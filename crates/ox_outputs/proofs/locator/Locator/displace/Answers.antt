@@ -18,7 +18,7 @@ invariant_of-self-2 c =
     let copy : c.in_ok-came.came.entries ≡ self.came.entries = entries_from_clone _ _ (λ x y is. is) (λ v w is. is) self.came.entries c.in_ok-came.came.entries c.in_ok-came.ensures.cases in
     let same_others : c.runs-4.result.now ≡ others = c.runs-4.ensures.exact ∙ sym c.runs.ensures.exact in
     let less : (q : ℕ) → stretch_at c.remove_runs.new.stretches.entries q ≡ cond (goes q) None (stretch_at self.came.entries q) = λ q.
-        c.remove_runs.ensures q ∙ ap (λ (l : StretchList). cond (goes q) None (stretch_at l q)) copy in
+    c.remove_runs.ensures q ∙ ap (λ (l : StretchList). cond (goes q) None (stretch_at l q)) copy in
     let turns = λ (q : ℕ). c.turn_runs.ensures.gone q ∙ ap (λ (rs : List Run). cond (is_among (firsts_of rs) q) (option_map (turned true) (stretch_at self.stood.entries q)) (stretch_at self.stood.entries q)) same_others in
     let notes = λ (q : ℕ). c.turn_runs.ensures.noted q ∙ ap (λ (rs : List Run). is_among (firsts_of rs) q || is_among c.reserve.new.self.items q) same_others ∙ ap (λ (l : List ℕ). goes q || is_among l q) c.in_ok-reserve.ensures.items in
     let left = kept_leave self.stood.entries c.turn_runs.new.stretches.entries self.came.entries c.remove_runs.new.stretches.entries self.gone.items c.turn_runs.new.noted.items goes self.kept less turns notes in
