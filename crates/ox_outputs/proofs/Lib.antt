@@ -1,2 +1,5 @@
-pub mod SlotLemmas
+pub mod OutputsLemmas
 pub mod PlaceLemmas
+pub mod RowLemmas
+pub mod SlotLemmas
+pub mod StretchLemmas

@@ -29,7 +29,7 @@ same_or_not a b = by_test (is_same a b) refl where
 same_itself : (a : OutPoint) → is_same a a ≡ true
 same_itself a = (eq_by_cmp_equiv outpoints_total).refl a
 
-not_both : (a b : OutPoint) → a ≡ b → is_same a b ≡ false → ⊥
+pub not_both : (a b : OutPoint) → a ≡ b → is_same a b ≡ false → ⊥
 not_both a b same other = true≢false (sym (same_itself a) ∙ ap (is_same a) same ∙ other)
 
 the_place : (p q : ℕ) → ◌≡◌ {A = Option ℕ} (Some p) (Some q) → p ≡ q
@@ -250,8 +250,3 @@ given_back s t v p row free u w r = ⊎_elim
     (λ same. ap (get v) same ∙ w.changed ∙ sym free ∙ sym (ap (get s) same))
     (λ other. w.others r other ∙ u.others r other)
     (cases_eq r p)
-
--- the outpoints of slots are those of their places
-pub keys_alike : (m : Places) (s : Held) → keys_of (slots_in m s) ≡ keys_of m
-keys_alike [] s = refl
-keys_alike (e ∷ m) s = ap (λ l. e.0 ∷ l) (keys_alike m s)

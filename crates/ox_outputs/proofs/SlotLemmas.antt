@@ -9,7 +9,7 @@ use Rattle.ox_block.specs.declared.block.OutPoint.{OutPoint}
 use Rattle.ox_rules.specs.declared.rows.OutRow.{OutRow}
 use Rattle.ox_rules.specs.Outputs.{Outputs, outpoint_cmp}
 use Rattle.ox_rules.proofs.Orders.{outpoints_total, outpoints_exact}
-use Rattle.ox_outputs.specs.Slots.{SlotList, slot_at, put_slot, rows_of, undone, are_slots, found_among}
+use Rattle.ox_outputs.specs.Slots.{SlotList, slot_at, put_slot, rows_of, undone, are_slots}
 use Rattle.std.specs.Option.{option_map, option_map_or}
 use Rattle.std.specs.List.{AllByRecursion}
 use Rattle.std.specs.List.Sorted.{IsStrictlySortedBy}
@@ -190,63 +190,3 @@ both_still before before' changed changed' b c same = omega (arith, ap length b,
 -- the rows at the mark
 pub same_mark : (marked : Bool) (old new : Outputs) → new ≡ old → (if marked then Some new else None) ≡ (if marked then Some old else None)
 same_mark marked old new is = ap (λ (o : Outputs). if marked then Some o else None) is
-
--- ---- where a satoshi is
-
--- a slot that doesn't hold it is passed over
-pub found_behind : (e : OutPoint × Option OutRow) (slots : SlotList) (sat : ℕ) → found_among (e ∷ []) sat ≡ None → found_among (e ∷ slots) sat ≡ found_among slots sat
-found_behind (at, None) slots sat none = refl
-found_behind (at, Some row) slots sat none = by_place (place_in row.sats sat) none where
-  by_place : (place : Option ℕ) → option_map_or (λ offset. Some (Out at offset)) place None ≡ None → option_map_or (λ offset. Some (Out at offset)) place (found_among slots sat) ≡ found_among slots sat
-  by_place None none = refl
-  by_place (Some offset) none = absurd (cc none)
-
--- one that holds it is the first
-pub found_in_front : (e : OutPoint × Option OutRow) (slots : SlotList) (sat : ℕ) (place : Place) → found_among (e ∷ []) sat ≡ Some place → found_among (e ∷ slots) sat ≡ Some place
-found_in_front (at, None) slots sat place is = absurd (cc is)
-found_in_front (at, Some row) slots sat place is = by_place (place_in row.sats sat) is where
-  by_place : (p : Option ℕ) → option_map_or (λ offset. Some (Out at offset)) p None ≡ Some place → option_map_or (λ offset. Some (Out at offset)) p (found_among slots sat) ≡ Some place
-  by_place None none = absurd (cc none)
-  by_place (Some offset) some = some
-
--- the rows that slots hold, in the slots' order
-living : SlotList → List (OutPoint × OutRow)
-living [] = []
-living ((at, None) ∷ slots) = living slots
-living ((at, Some row) ∷ slots) = (at, row) ∷ living slots
-
-place-living : (slots : SlotList) (sat : ℕ) → place_among (living slots) sat ≡ found_among slots sat
-unfolding living
-place-living [] sat = refl
-place-living ((at, None) ∷ slots) sat = place-living slots sat
-place-living ((at, Some row) ∷ slots) sat = ap (λ rest. option_map_or (λ offset. Some (Out at offset)) (place_in row.sats sat) rest) (place-living slots sat)
-
-abbrev IsFirst : OutPoint → SlotList → Type 0
-IsFirst at slots = AllByRecursion (λ q. outpoint_cmp at q ≡ Less) (keys_of slots)
-
-none_at : (at : OutPoint) (slots : SlotList) → IsFirst at slots → slot_at slots at ≡ None
-none_at at [] first = refl
-none_at at (e ∷ slots) first = ap (λ (r : Ordering). cond (is_eq r) (Some e.1) (slot_at slots at)) first.0 ∙ none_at at slots first.1
-
-put-living : (at : OutPoint) (row : OutRow) (slots : SlotList) → IsFirst at slots → put outpoint_cmp at row (living slots) ≡ (at, row) ∷ living slots
-unfolding living
-put-living at row [] first = refl
-put-living at row ((q, None) ∷ slots) first = put-living at row slots first.1
-put-living at row ((q, Some r) ∷ slots) first =
-    ap (λ (o : Ordering). by_order o ((at, row) ∷ (q, r) ∷ living slots) ((q, row) ∷ living slots) ((q, r) ∷ put outpoint_cmp at row (living slots))) first.0
-
-no_list : (es : List (OutPoint × OutRow)) → length es ≡ 0 → es ≡ []
-no_list [] none = refl
-no_list (e ∷ es) none = absurd (cc none)
-
-entries-rows_of : (slots : SlotList) → IsStrictlySortedBy outpoint_cmp (keys_of slots) → entries (rows_of slots) ≡ living slots
-unfolding living IsStrictlySortedBy
-entries-rows_of [] sorted = no_list _ (sym (len-entries {R = outpoint_cmp} empty) ∙ len-empty outpoint_cmp OutRow)
-entries-rows_of ((at, None) ∷ slots) sorted =
-    ap entries (put_none (rows_of slots) at (get-rows_of slots at ∙ ap held (none_at at slots sorted.0))) ∙ entries-rows_of slots sorted.1
-entries-rows_of ((at, Some row) ∷ slots) sorted =
-    entries-insert outpoints_total (rows_of slots) at row ∙ ap (put outpoint_cmp at row) (entries-rows_of slots sorted.1) ∙ put-living at row slots sorted.0
-
--- the first output that holds a satoshi is the first slot's
-pub place-rows_of : (slots : SlotList) (sat : ℕ) → IsStrictlySortedBy outpoint_cmp (keys_of slots) → place_among (entries (rows_of slots)) sat ≡ found_among slots sat
-place-rows_of slots sat sorted = ap (λ es. place_among es sat) (entries-rows_of slots sorted) ∙ place-living slots sat

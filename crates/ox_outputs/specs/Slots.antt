@@ -9,11 +9,7 @@ use Rattle.std.specs.FinMap.{empty, insert, remove}
 use Rattle.slab.specs.Slab.{Slab, get}
 use Rattle.ox_block.specs.declared.block.OutPoint.{OutPoint}
 use Rattle.ox_rules.specs.declared.rows.OutRow.{OutRow}
-use Rattle.std.specs.Option.{option_map_or}
-use Rattle.ox_rules.specs.declared.place.Place.{Place}
-use Rattle.ox_rules.specs.declared.place.Place.TheVariants.{Out}
 use Rattle.ox_rules.specs.Outputs.{Outputs, outpoint_cmp}
-use Rattle.ox_rules.specs.Where.{place_in}
 
 abbrev pub SlotList : Type 0
 SlotList = List (OutPoint × Option OutRow)
@@ -70,10 +66,3 @@ undone before changed outs = outs
 -- there is a slot at each of these outpoints
 abbrev pub are_slots : List OutPoint → SlotList → Bool
 are_slots ats slots = list_all (λ at. is_some (slot_at slots at)) ats
-
--- the first slot whose row holds a satoshi, and its place there
-abbrev pub found_among : SlotList → ℕ → Option Place
-found_among [] sat = None
-found_among ((at, None) ∷ slots) sat = found_among slots sat
-found_among ((at, Some row) ∷ slots) sat =
-    option_map_or (λ offset. Some (Out at offset)) (place_in row.sats sat) (found_among slots sat)

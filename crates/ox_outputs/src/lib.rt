@@ -3,7 +3,10 @@
 
 mod changes;
 mod held;
+mod locator;
 mod outputs;
 mod slots;
+mod stretch;
+mod stretches;
 
 pub use outputs::Outputs;

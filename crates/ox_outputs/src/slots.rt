@@ -1,17 +1,14 @@
 //! Slots for rows. A slot that is there can be filled and emptied without memory.
 
-ghost use Rattle.std.specs.Prelude.{◌≡◌, [], ◌∷◌, None, IsSome, IfOk, IfErr, OnOk, OnErr};
+ghost use Rattle.std.specs.Prelude.{◌≡◌, [], None, IsSome, IfOk, IfErr, OnOk, OnErr};
 ghost use Rattle.std.specs.Option.{option_copied};
 ghost use Rattle.std.specs.FinMap as map;
-ghost use Rattle.std.specs.BTreeMap.{IsOrdered};
 ghost use Rattle.ox_block.specs.declared.block.OutPoint.{OutPoint};
-ghost use Rattle.ox_rules.specs.Outputs.{outpoint_cmp};
-ghost use Rattle.ox_rules.specs.Where.{place_among};
-ghost use Rattle.ox_outputs.specs.Slots.{slot_at, put_slot, rows_of, found_among, slots_in};
+ghost use Rattle.ox_outputs.specs.Slots.{slot_at, put_slot, rows_of};
 
 use crate::held::{Held, exchange_in, give_out, row_in, take_back};
 use ox_block::OutPoint;
-use ox_rules::{OutRow, Place, Unplaced};
+use ox_rules::{OutRow, Unplaced};
 use slab::Slab;
 use std::alloc::Global;
 use std::collections::BTreeMap;
@@ -115,37 +112,5 @@ impl Slots {
                 None => unreachable!(),
             },
         }
-    }
-
-    /// The first slot whose row holds a satoshi, and the satoshi's place there.
-    pub(crate) fn find(&self, sat: u64) -> Option<Place>
-        ensures { result ≡ place_among (map.entries (rows_of self.now)) sat }
-    {
-        find_among(&self.places, &self.held, sat)
-    }
-}
-
-fn find_among(places: &BTreeMap<OutPoint, u32>, held: &Held, sat: u64) -> Option<Place>
-    ensures found { result ≡ found_among (slots_in places.now.entries held.now) sat }
-    ensures ordered { IsOrdered outpoint_cmp places.now }
-{
-    for (at, place) in places.iter() {
-        if let Some(found) = place_in_row(at, row_in(held, *place), sat) {
-            return Some(found);
-        }
-    }
-    None
-}
-
-// The place of a satoshi in the row of a slot.
-fn place_in_row(at: &OutPoint, row: Option<&OutRow>, sat: u64) -> Option<Place>
-    ensures { result ≡ found_among ((at.now, option_copied row.entry) ∷ []) sat }
-{
-    match row {
-        Some(row) => row.sats.place_of(sat).map(|offset| Place::Out {
-            outpoint: *at,
-            offset,
-        }),
-        None => None,
     }
 }

@@ -1,22 +1,83 @@
-use Rattle.std.proofs.Common.{◌≡◌, ◌∙◌, sym, ap, Option, Some, None}
+use Rattle.std.proofs.Common.{◌≡◌, ◌∙◌, sym, ap, refl, None, Some, Option}
 use Rattle.std.specs.FinMap as map
+use Rattle.ox_block.specs.declared.block.OutPoint.{OutPoint}
 use Rattle.ox_rules.specs.declared.rows.OutRow.{OutRow}
 use Rattle.ox_rules.specs.Outputs.{Outputs}
-use Rattle.ox_outputs.specs.Slots.{rows_of}
-use Rattle.ox_outputs.proofs.SlotLemmas.{get-put_slot_same, put_again}
+use Rattle.ox_outputs.specs.Locator.{live_at}
+use Rattle.ox_outputs.specs.Slots.{rows_of, put_slot}
+use Rattle.ox_outputs.proofs.SlotLemmas.{get-put_slot_same, put_slot-put_slot}
+use Rattle.ox_outputs.proofs.RowLemmas.{runs_alike, may_alike}
+use Rattle.ox_outputs.proofs.OutputsLemmas.{err_so, some_and}
 use Rattle.ox_outputs.proofs.changes.fill_twice.Goals as goal
 
-pub unreachable-requires : goal.unreachable-requires
-unreachable-requires c =
-    let stands = ap (λ (o : Outputs). map.get o c.args.at) c.in_ok-held.ensures.rows ∙ get-put_slot_same (rows_of c.args.slots.now) c.args.at (Some c.args.row) in
-    let gone : ◌≡◌ {A = Option OutRow} None (Some c.args.row) = c.in-None.ensures.held ∙ stands in
-    cc gone
+-- a row that was put at an outpoint stands there
+there : (rows filled : Outputs) (at : OutPoint) (row : OutRow) → filled ≡ map.insert rows at row → map.get filled at ≡ Some row
+there rows filled at row is = ap (λ (o : Outputs). map.get o at) is ∙ get-put_slot_same rows at (Some row)
 
-pub returns-in-Some-exchange-clause-handed_back : goal.returns-in-Some-exchange-clause-handed_back
-returns-in-Some-exchange-clause-handed_back c =
-    let stands = ap (λ (o : Outputs). map.get o c.args.at) c.in_ok-held.ensures.rows ∙ get-put_slot_same (rows_of c.args.slots.now) c.args.at (Some c.args.row) in
-    let same : ◌≡◌ {A = Option OutRow} (Some c.in-Some-exchange.row) (Some c.args.row) = c.in-Some-exchange.ensures.held ∙ stands in
-    cc same
+-- with what stood there in its place all is as before
+before : (rows filled : Outputs) (at : OutPoint) (row : OutRow) (o held : Option OutRow) → filled ≡ map.insert rows at row → o ≡ map.get rows at → o ≡ held → put_slot filled at held ≡ rows
+before rows filled at row o held is stood same =
+    ap (λ (x : Outputs). put_slot x at held) is
+    ∙ ap (λ (x : Option OutRow). put_slot (put_slot rows at (Some row)) at x) (sym same ∙ stood)
+    ∙ put_slot-put_slot rows at (Some row)
 
-pub returns-in-Some-exchange-clause-err : goal.returns-in-Some-exchange-clause-err
-returns-in-Some-exchange-clause-err c = put_again (rows_of c.args.slots.now) (rows_of c.fill.new.self) (rows_of c.exchange.new.self) c.args.at (Some c.args.row) (Some c.in-Some.held) c.in_ok-held.ensures.rows (sym c.in-Some.is ∙ c.in_ok-held.ensures.held) c.exchange.ensures.rows
+back : (o : Option OutRow) (x row : OutRow) → Some x ≡ o → o ≡ Some row → x ≡ row
+back o x row is stands = let both : Some x ≡ Some row = is ∙ stands in cc both
+
+pub arrive_at-requires-clause-stands : goal.arrive_at-requires-clause-stands
+arrive_at-requires-clause-stands c =
+    some_and (map.get (rows_of c.fill.new.self) c.args.at) c.args.row c.in-Ok.sats (there (rows_of c.args.slots.now) (rows_of c.fill.new.self) c.args.at c.args.row c.in_ok-fill.ensures.rows) (sym c.in-Ok.ensures)
+
+pub arrive_at-requires-clause-runs : goal.arrive_at-requires-clause-runs
+arrive_at-requires-clause-runs c =
+    let rows = rows_of c.args.slots.now in
+    let filled = rows_of c.fill.new.self in
+    runs_alike (live_at c.args.locator.now) (live_at c.args.locator.now) rows (put_slot filled c.args.at None) c.requires.runs (λ q. refl)
+    (before rows filled c.args.at c.args.row c.in_ok-fill.field-0 None c.in_ok-fill.ensures.rows c.in_ok-fill.ensures.held c.in-None.is)
+
+pub arrive_at-requires-clause-may : goal.arrive_at-requires-clause-may
+arrive_at-requires-clause-may c =
+    let rows = rows_of c.args.slots.now in
+    let filled = rows_of c.fill.new.self in
+    may_alike c.args.at c.args.row.sats c.in-Ok.sats rows (put_slot filled c.args.at None) c.requires.may c.in-Ok.ensures
+    (before rows filled c.args.at c.args.row c.in_ok-fill.field-0 None c.in_ok-fill.ensures.rows c.in_ok-fill.ensures.held c.in-None.is)
+
+pub returns-in-None-clause-handed_back : goal.returns-in-None-clause-handed_back
+returns-in-None-clause-handed_back c =
+    let stands = there (rows_of c.args.slots.now) (rows_of c.fill.new.self) c.args.at c.args.row c.in_ok-fill.ensures.rows in
+    err_so c.arrive_at.result (λ e is. back (map.get (rows_of c.fill.new.self) c.args.at) e.row c.args.row is stands) c.arrive_at.ensures.handed_back
+
+pub returns-in-None-clause-err : goal.returns-in-None-clause-err
+returns-in-None-clause-err c =
+    let rows = rows_of c.args.slots.now in
+    let filled = rows_of c.fill.new.self in
+    err_so c.arrive_at.result (λ e is. is ∙ before rows filled c.args.at c.args.row c.in_ok-fill.field-0 None c.in_ok-fill.ensures.rows c.in_ok-fill.ensures.held c.in-None.is) c.arrive_at.ensures.err
+
+pub displace_at-requires-clause-stands : goal.displace_at-requires-clause-stands
+displace_at-requires-clause-stands c =
+    some_and (map.get (rows_of c.fill.new.self) c.args.at) c.args.row c.in-Ok.sats (there (rows_of c.args.slots.now) (rows_of c.fill.new.self) c.args.at c.args.row c.in_ok-fill.ensures.rows) (sym c.in-Ok.ensures)
+
+pub displace_at-requires-clause-runs : goal.displace_at-requires-clause-runs
+displace_at-requires-clause-runs c =
+    let rows = rows_of c.args.slots.now in
+    let filled = rows_of c.fill.new.self in
+    runs_alike (live_at c.args.locator.now) (live_at c.args.locator.now) rows (put_slot filled c.args.at (Some c.in-Some.other)) c.requires.runs (λ q. refl)
+    (before rows filled c.args.at c.args.row c.in_ok-fill.field-0 (Some c.in-Some.other) c.in_ok-fill.ensures.rows c.in_ok-fill.ensures.held c.in-Some.is)
+
+pub displace_at-requires-clause-may : goal.displace_at-requires-clause-may
+displace_at-requires-clause-may c =
+    let rows = rows_of c.args.slots.now in
+    let filled = rows_of c.fill.new.self in
+    may_alike c.args.at c.args.row.sats c.in-Ok.sats rows (put_slot filled c.args.at (Some c.in-Some.other)) c.requires.may c.in-Ok.ensures
+    (before rows filled c.args.at c.args.row c.in_ok-fill.field-0 (Some c.in-Some.other) c.in_ok-fill.ensures.rows c.in_ok-fill.ensures.held c.in-Some.is)
+
+pub returns-clause-handed_back : goal.returns-clause-handed_back
+returns-clause-handed_back c =
+    let stands = there (rows_of c.args.slots.now) (rows_of c.fill.new.self) c.args.at c.args.row c.in_ok-fill.ensures.rows in
+    err_so c.displace_at.result (λ e is. back (map.get (rows_of c.fill.new.self) c.args.at) e.row c.args.row is stands) c.displace_at.ensures.handed_back
+
+pub returns-clause-err : goal.returns-clause-err
+returns-clause-err c =
+    let rows = rows_of c.args.slots.now in
+    let filled = rows_of c.fill.new.self in
+    err_so c.displace_at.result (λ e is. is ∙ before rows filled c.args.at c.args.row c.in_ok-fill.field-0 (Some c.in-Some.other) c.in_ok-fill.ensures.rows c.in_ok-fill.ensures.held c.in-Some.is) c.displace_at.ensures.err

@@ -3,44 +3,76 @@ use Rattle.std.specs.Prelude.{IsSome}
 use Rattle.std.specs.FinMap as map
 use Rattle.ox_block.specs.declared.block.OutPoint.{OutPoint}
 use Rattle.ox_rules.specs.declared.rows.OutRow.{OutRow}
-use Rattle.ox_outputs.specs.Slots.{rows_of, slot_at}
+use Rattle.ox_outputs.specs.Locator.{live_at, kept_at}
+use Rattle.ox_outputs.specs.Slots.{rows_of, slot_at, undone}
 use Rattle.ox_outputs.proofs.SlotLemmas.{put_none, row_known, known_more, known_still, both_grown, both_still, mark_kept, mark_still, same_mark, twice_none, twice_some}
+use Rattle.ox_outputs.proofs.RowLemmas.{runs_alike, apart_alike, once_alike}
+use Rattle.ox_outputs.proofs.OutputsLemmas.{once_less}
 use Rattle.ox_outputs.proofs.outputs.OutputsOutTable.take.Goals as goal
 
 pub invariant_of-self-in-Break-branch-3 : goal.invariant_of-self-in-Break-branch-3
-invariant_of-self-in-Break-branch-3 c = record {
-  known = known_still c.args.self.now.changed.items _ c.args.self.now.slots c.take_twice.new.slots c.reserve.ensures.items c.args.self.now.known c.take_twice.ensures.others;
-  paired = both_still c.args.self.now.before.items _ c.args.self.now.changed.items _ c.reserve-2.ensures.items c.reserve.ensures.items c.args.self.now.paired;
-  unmarked = λ is. absurd (cc (is, c.if-not-self.false));
-}
+invariant_of-self-in-Break-branch-3 c =
+    let self = c.args.self.now in
+    let rows = rows_of c.take_twice.new.slots in
+    let same = c.in_err-taken.ensures.err in
+    let mark = mark_still self.before.items c.reserve-2.new.self.items self.changed.items c.reserve.new.self.items (rows_of self.slots) rows c.reserve-2.ensures.items c.reserve.ensures.items same in record {
+      known = known_still self.changed.items c.reserve.new.self.items self.slots c.take_twice.new.slots c.reserve.ensures.items self.known c.take_twice.ensures.others;
+      paired = both_still self.before.items c.reserve-2.new.self.items self.changed.items c.reserve.new.self.items c.reserve-2.ensures.items c.reserve.ensures.items self.paired;
+      unmarked = λ is. absurd (cc (is, c.if-not-self.false));
+      once = once_alike (rows_of self.slots) rows self.once same;
+      once_before = once_alike (undone self.before.items self.changed.items (rows_of self.slots)) _ self.once_before mark;
+      runs = c.take_twice.ensures.runs;
+      runs_before = λ is. runs_alike (kept_at self.locator) (kept_at c.take_twice.new.locator) (undone self.before.items self.changed.items (rows_of self.slots)) _ (self.runs_before is) c.take_twice.ensures.kept mark;
+      apart = apart_alike (kept_at self.locator) (kept_at c.take_twice.new.locator) self.apart c.take_twice.ensures.kept;
+    }
 
 pub invariant_of-self-in_default : goal.invariant_of-self-in_default
-invariant_of-self-in_default c = record {
-  known = known_still c.args.self.now.changed.items _ c.args.self.now.slots c.take_twice.new.slots c.reserve.ensures.items c.args.self.now.known c.take_twice.ensures.others;
-  paired = both_still c.args.self.now.before.items _ c.args.self.now.changed.items _ c.reserve-2.ensures.items c.reserve.ensures.items c.args.self.now.paired;
-  unmarked = λ is. absurd (cc (is, c.if-not-self.false));
-}
+invariant_of-self-in_default c =
+    let self = c.args.self.now in
+    let rows = rows_of c.take_twice.new.slots in
+    let none = twice_none (map.get (rows_of self.slots) c.args.at.now) (sym c.in_default.is ∙ c.in_ok-taken.ensures.held) in
+    let same = c.in_ok-taken.ensures.rows ∙ put_none (rows_of self.slots) c.args.at.now none in
+    let mark = mark_still self.before.items c.reserve-2.new.self.items self.changed.items c.reserve.new.self.items (rows_of self.slots) rows c.reserve-2.ensures.items c.reserve.ensures.items same in record {
+      known = known_still self.changed.items c.reserve.new.self.items self.slots c.take_twice.new.slots c.reserve.ensures.items self.known c.take_twice.ensures.others;
+      paired = both_still self.before.items c.reserve-2.new.self.items self.changed.items c.reserve.new.self.items c.reserve-2.ensures.items c.reserve.ensures.items self.paired;
+      unmarked = λ is. absurd (cc (is, c.if-not-self.false));
+      once = once_alike (rows_of self.slots) rows self.once same;
+      once_before = once_alike (undone self.before.items self.changed.items (rows_of self.slots)) _ self.once_before mark;
+      runs = c.take_twice.ensures.runs;
+      runs_before = λ is. runs_alike (kept_at self.locator) (kept_at c.take_twice.new.locator) (undone self.before.items self.changed.items (rows_of self.slots)) _ (self.runs_before is) c.take_twice.ensures.kept mark;
+      apart = apart_alike (kept_at self.locator) (kept_at c.take_twice.new.locator) self.apart c.take_twice.ensures.kept;
+    }
 
 pub returns-in_default-clause-mark : goal.returns-in_default-clause-mark
 returns-in_default-clause-mark c =
-    let none = twice_none (map.get (rows_of c.args.self.now.slots) c.args.at.now) (sym c.in_default.is ∙ c.in_ok-row.ensures.held) in
-    let same = c.in_ok-row.ensures.rows ∙ put_none (rows_of c.args.self.now.slots) c.args.at.now none in
-    same_mark c.args.self.now.marked _ _ (mark_still c.args.self.now.before.items _ c.args.self.now.changed.items _ (rows_of c.args.self.now.slots) _ c.reserve-2.ensures.items c.reserve.ensures.items same)
+    let self = c.args.self.now in
+    let none = twice_none (map.get (rows_of self.slots) c.args.at.now) (sym c.in_default.is ∙ c.in_ok-taken.ensures.held) in
+    let same = c.in_ok-taken.ensures.rows ∙ put_none (rows_of self.slots) c.args.at.now none in
+    same_mark self.marked _ _ (mark_still self.before.items _ self.changed.items _ (rows_of self.slots) _ c.reserve-2.ensures.items c.reserve.ensures.items same)
 
 pub invariant_of-self-2 : goal.invariant_of-self-2
 invariant_of-self-2 c =
-    let changed : c.push_reserved.new.self.items ≡ c.args.self.now.changed.items ++ c.args.at.now ∷ [] = c.push_reserved.ensures.items ∙ ap (λ (l : List OutPoint). l ++ c.args.at.now ∷ []) c.reserve.ensures.items in
-    let before : c.push_reserved-2.new.self.items ≡ c.args.self.now.before.items ++ Some c.in-Some.kept ∷ [] = c.push_reserved-2.ensures.items ∙ ap (λ (l : List (Option OutRow)). l ++ Some c.in-Some.kept ∷ []) c.reserve-2.ensures.items in
-    let stood = (twice_some (map.get (rows_of c.args.self.now.slots) c.args.at.now) c.in-Some.row c.in-Some.kept (sym c.in-Some.is ∙ c.in_ok-row.ensures.held)).1 in
-    let there : IsSome (slot_at c.args.self.now.slots c.args.at.now) = row_known c.args.self.now.slots c.args.at.now c.in-Some.kept stood in record {
-      known = known_more c.args.self.now.changed.items c.push_reserved.new.self.items c.args.at.now c.args.self.now.slots c.take_twice.new.slots changed c.args.self.now.known (c.take_twice.ensures.others c.args.at.now there) c.take_twice.ensures.others;
-      paired = both_grown c.args.self.now.before.items _ c.args.self.now.changed.items _ _ _ before changed c.args.self.now.paired;
+    let self = c.args.self.now in
+    let rows = rows_of c.take_twice.new.slots in
+    let changed : c.push_reserved.new.self.items ≡ self.changed.items ++ c.args.at.now ∷ [] = c.push_reserved.ensures.items ∙ ap (λ (l : List OutPoint). l ++ c.args.at.now ∷ []) c.reserve.ensures.items in
+    let before : c.push_reserved-2.new.self.items ≡ self.before.items ++ Some c.in-Some.kept ∷ [] = c.push_reserved-2.ensures.items ∙ ap (λ (l : List (Option OutRow)). l ++ Some c.in-Some.kept ∷ []) c.reserve-2.ensures.items in
+    let stood = (twice_some (map.get (rows_of self.slots) c.args.at.now) c.in-Some.row c.in-Some.kept (sym c.in-Some.is ∙ c.in_ok-taken.ensures.held)).1 in
+    let there : IsSome (slot_at self.slots c.args.at.now) = row_known self.slots c.args.at.now c.in-Some.kept stood in
+    let mark = mark_kept self.before.items c.push_reserved-2.new.self.items self.changed.items c.push_reserved.new.self.items (rows_of self.slots) rows (Some c.in-Some.kept) None c.args.at.now before changed c.in_ok-taken.ensures.rows stood self.paired in record {
+      known = known_more self.changed.items c.push_reserved.new.self.items c.args.at.now self.slots c.take_twice.new.slots changed self.known (c.take_twice.ensures.others c.args.at.now there) c.take_twice.ensures.others;
+      paired = both_grown self.before.items c.push_reserved-2.new.self.items self.changed.items c.push_reserved.new.self.items _ _ before changed self.paired;
       unmarked = λ is. absurd (cc (is, c.if-not-self.false));
+      once = once_less (rows_of self.slots) rows c.args.at.now self.once c.in_ok-taken.ensures.rows;
+      once_before = once_alike (undone self.before.items self.changed.items (rows_of self.slots)) _ self.once_before mark;
+      runs = c.take_twice.ensures.runs;
+      runs_before = λ is. runs_alike (kept_at self.locator) (kept_at c.take_twice.new.locator) (undone self.before.items self.changed.items (rows_of self.slots)) _ (self.runs_before is) c.take_twice.ensures.kept mark;
+      apart = apart_alike (kept_at self.locator) (kept_at c.take_twice.new.locator) self.apart c.take_twice.ensures.kept;
     }
 
 pub returns-clause-mark : goal.returns-clause-mark
 returns-clause-mark c =
-    let changed : c.push_reserved.new.self.items ≡ c.args.self.now.changed.items ++ c.args.at.now ∷ [] = c.push_reserved.ensures.items ∙ ap (λ (l : List OutPoint). l ++ c.args.at.now ∷ []) c.reserve.ensures.items in
-    let before : c.push_reserved-2.new.self.items ≡ c.args.self.now.before.items ++ Some c.in-Some.kept ∷ [] = c.push_reserved-2.ensures.items ∙ ap (λ (l : List (Option OutRow)). l ++ Some c.in-Some.kept ∷ []) c.reserve-2.ensures.items in
-    let stood = (twice_some (map.get (rows_of c.args.self.now.slots) c.args.at.now) c.in-Some.row c.in-Some.kept (sym c.in-Some.is ∙ c.in_ok-row.ensures.held)).1 in
-    same_mark c.args.self.now.marked _ _ (mark_kept c.args.self.now.before.items _ c.args.self.now.changed.items _ (rows_of c.args.self.now.slots) _ (Some c.in-Some.kept) None c.args.at.now before changed c.in_ok-row.ensures.rows stood c.args.self.now.paired)
+    let self = c.args.self.now in
+    let changed : c.push_reserved.new.self.items ≡ self.changed.items ++ c.args.at.now ∷ [] = c.push_reserved.ensures.items ∙ ap (λ (l : List OutPoint). l ++ c.args.at.now ∷ []) c.reserve.ensures.items in
+    let before : c.push_reserved-2.new.self.items ≡ self.before.items ++ Some c.in-Some.kept ∷ [] = c.push_reserved-2.ensures.items ∙ ap (λ (l : List (Option OutRow)). l ++ Some c.in-Some.kept ∷ []) c.reserve-2.ensures.items in
+    let stood = (twice_some (map.get (rows_of self.slots) c.args.at.now) c.in-Some.row c.in-Some.kept (sym c.in-Some.is ∙ c.in_ok-taken.ensures.held)).1 in
+    same_mark self.marked _ _ (mark_kept self.before.items _ self.changed.items _ (rows_of self.slots) _ (Some c.in-Some.kept) None c.args.at.now before changed c.in_ok-taken.ensures.rows stood self.paired)

@@ -1,0 +1,63 @@
+-- What a change of the outputs leaves of their facts.
+use Rattle.std.proofs.Common.{◌≡◌, ◌∙◌, ℕ, refl, ap, sym, subst, List, [], ◌∷◌, Option, Some, None, Result, Ok, Err}
+use Rattle.std.specs.Prelude.{IfErr, IfOk, IsSomeAnd, IsTrue}
+use Rattle.std.specs.FinMap.{empty, get, get-empty, insert, remove}
+use Rattle.ox_block.specs.declared.block.OutPoint.{OutPoint}
+use Rattle.ox_rules.specs.declared.rows.OutRow.{OutRow}
+use Rattle.ox_rules.specs.Outputs.{Outputs, MayStand, outpoint_cmp}
+use Rattle.ox_outputs.specs.declared.stretch.Stretch.{Stretch}
+use Rattle.ox_outputs.specs.Stretches.{AreApart}
+use Rattle.ox_outputs.specs.Slots.{SlotList, put_slot, undone, are_slots}
+use Rattle.ox_outputs.specs.Located.{StandOnce, AreRuns, stretch_in}
+use Rattle.ox_outputs.proofs.SlotLemmas.{get-put_slot}
+use Rattle.ox_outputs.proofs.RowLemmas.{once_taken, once_placed, once_alike, runs_alike, held_in}
+
+pub undone_none : (before : List (Option OutRow)) (changed : List OutPoint) (outs : Outputs) → changed ≡ [] → undone before changed outs ≡ outs
+undone_none [] changed outs none = refl
+undone_none (row ∷ before) [] outs none = refl
+undone_none (row ∷ before) (at ∷ changed) outs none = absurd (cc none)
+
+pub once_less : (outs outs' : Outputs) (at : OutPoint) → StandOnce outs → outs' ≡ put_slot outs at None → StandOnce outs'
+once_less outs outs' at once is = once_taken outs outs' at once (λ q. ap (λ (o : Outputs). get o q) is ∙ get-put_slot outs at None q)
+
+pub once_more : (outs outs' : Outputs) (at : OutPoint) (row : OutRow) → StandOnce outs → MayStand at row.sats outs → outs' ≡ insert outs at row → StandOnce outs'
+once_more outs outs' at row once may is = once_placed outs outs' at row once may (λ q. ap (λ (o : Outputs). get o q) is ∙ get-put_slot outs at (Some row) q)
+
+pub err_so : {A E : Type 0} {P Q : E → Type 0} (r : Result A E) → ((e : E) → P e → Q e) → IfErr r P → IfErr r Q
+err_so (Ok x) more is = tt
+err_so (Err e) more is = more e is
+
+pub ok_so : {A E : Type 0} {P Q : A → Type 0} (r : Result A E) → ((x : A) → P x → Q x) → IfOk r P → IfOk r Q
+ok_so (Ok x) more is = more x is
+ok_so (Err e) more is = tt
+
+pub some_and : (o : Option OutRow) (row : OutRow) (sats : List ℕ) → o ≡ Some row → row.sats ≡ sats → IsSomeAnd o (λ row. row.sats ≡ sats)
+some_and o row sats is same = subst (λ (o : Option OutRow). IsSomeAnd o (λ row. row.sats ≡ sats)) (sym is) same
+
+-- ---- no outputs, and no changes
+
+pub none_once : (outs : Outputs) → outs ≡ empty → StandOnce outs
+none_once outs none = once_alike empty outs (record {
+  alone = λ at row sat is. absurd (none_there at row is);
+  apart = λ a b r q sat differ is js. absurd (none_there a r is);
+}) none where
+  none_there : (at : OutPoint) (row : OutRow) → get (empty {X = OutRow} {R = outpoint_cmp}) at ≡ Some row → ⊥
+  none_there at row is = absurd (cc (is, get-empty {X = OutRow} outpoint_cmp at))
+
+pub none_runs : (live : ℕ → Option Stretch) (outs : Outputs) → ((q : ℕ) → live q ≡ None) → outs ≡ empty → AreRuns live outs
+none_runs live outs none is = runs_alike live live empty outs (record {
+  sound = λ f s there. absurd (cc (there, none f));
+  complete = λ f s at there. absurd (none_in at f s there);
+}) (λ q. refl) is where
+  none_in : (at : OutPoint) (f : ℕ) (s : Stretch) → stretch_in empty at f ≡ Some s → ⊥
+  none_in at f s there = let h = held_in empty at f s there in absurd (cc (h.there, get-empty {X = OutRow} outpoint_cmp at))
+
+pub none_apart : (live : ℕ → Option Stretch) → ((q : ℕ) → live q ≡ None) → AreApart live
+none_apart live none = record { before = λ f g s t is js low. absurd (cc (is, none f)) }
+
+pub apart_among : (live live' : ℕ → Option Stretch) → AreApart live → ((q : ℕ) (s : Stretch) → live' q ≡ Some s → live q ≡ Some s) → AreApart live'
+apart_among live live' apart among = record { before = λ f g s t is js low. apart.before f g s t (among f s is) (among g t js) low }
+
+pub known_none : (ats : List OutPoint) (slots : SlotList) → ats ≡ [] → IsTrue (are_slots ats slots)
+known_none [] slots none = refl
+known_none (at ∷ ats) slots none = absurd (cc none)

@@ -1,0 +1,47 @@
+use Rattle.std.proofs.Common.{◌≡◌, ◌∙◌, sym, ap, refl, None, Some, Option, Bool, cond, List, ℕ, subst}
+use Rattle.std.specs.FinMap as map
+use Rattle.std.specs.Option.{option_or}
+use Rattle.ox_range.specs.Runs.{runs_of}
+use Rattle.ox_rules.specs.declared.rows.OutRow.{OutRow}
+use Rattle.ox_rules.specs.Outputs.{Outputs}
+use Rattle.ox_outputs.specs.declared.stretch.Stretch.{Stretch}
+use Rattle.ox_outputs.specs.Located.{AreRuns}
+use Rattle.ox_outputs.specs.Locator.{live_at}
+use Rattle.ox_outputs.specs.Slots.{rows_of, put_slot}
+use Rattle.ox_outputs.specs.Stretches.{stretch_at, stretches_of, is_among, firsts_of}
+use Rattle.ox_outputs.proofs.SlotLemmas.{get-put_slot, get-put_slot_same, row_known}
+use Rattle.ox_outputs.proofs.RowLemmas.{fresh_runs, arrive_rows, leave_rows, the_row, gets_again, elsewhere_is, may_alike, may_less, stays_none}
+use Rattle.ox_outputs.proofs.changes.displace_at.Goals as goal
+
+pub displace_copied-requires : goal.displace_copied-requires
+displace_copied-requires c =
+    let at = c.args.at in
+    let before = put_slot (rows_of c.args.slots.now) at (Some c.args.other) in
+    let outs = put_slot before at None in
+    let goes : ℕ → Bool = is_among (firsts_of (runs_of c.args.other.sats)) in
+    let live : ℕ → Option Stretch = λ q. cond (goes q) None (live_at c.args.locator.now q) in
+    let left : AreRuns live outs = leave_rows (live_at c.args.locator.now) live before outs at c.args.other c.requires.runs (get-put_slot_same (rows_of c.args.slots.now) at (Some c.args.other)) (λ q. refl) (get-put_slot before at None) in
+    let may = may_less at c.args.sats.now before outs c.requires.may (get-put_slot before at None) in record {
+      fresh = λ q among stays. stays_none (goes q) (live_at c.args.locator.now q) (fresh_runs live outs at c.args.sats.now q left (get-put_slot_same before at None) may among) stays;
+    }
+
+pub exchange-requires : goal.exchange-requires
+exchange-requires c =
+    let row = the_row (map.get (rows_of c.args.slots.now) c.args.at) c.args.sats.now c.requires.stands in
+    row_known c.args.slots.now c.args.at row.0 (sym row.1)
+
+pub returns-in-Ok-clause-runs : goal.returns-in-Ok-clause-runs
+returns-in-Ok-clause-runs c =
+    let at = c.args.at in
+    let rows = rows_of c.args.slots.now in
+    let before = put_slot rows at (Some c.args.other) in
+    let outs = put_slot before at None in
+    let goes : ℕ → Bool = is_among (firsts_of (runs_of c.args.other.sats)) in
+    let live : ℕ → Option Stretch = λ q. cond (goes q) None (live_at c.args.locator.now q) in
+    let left : AreRuns live outs = leave_rows (live_at c.args.locator.now) live before outs at c.args.other c.requires.runs (get-put_slot_same rows at (Some c.args.other)) (λ q. refl) (get-put_slot before at None) in
+    let may = may_less at c.args.sats.now before outs c.requires.may (get-put_slot before at None) in
+    let row = the_row (map.get rows at) c.args.sats.now c.requires.stands in
+    arrive_rows live (live_at c.displace_copied.new.locator) outs rows at row.0 left (get-put_slot_same before at None)
+    (may_alike at c.args.sats.now row.0.sats outs outs may row.2 refl)
+    (λ q. c.in-Ok.ensures.ok q ∙ ap (λ (l : List ℕ). option_or (stretch_at (stretches_of at 0 (runs_of l)) q) (live q)) (sym row.2))
+    (gets_again rows outs at row.0 row.1 (λ q other. get-put_slot before at None q ∙ elsewhere_is _ None (map.get before q) other ∙ get-put_slot rows at (Some c.args.other) q ∙ elsewhere_is _ (Some c.args.other) (map.get rows q) other))

@@ -1,0 +1,23 @@
+use Rattle.std.proofs.Common.{◌≡◌, ◌∙◌, ap, sym, arith, length, refl}
+use Rattle.std.specs.FinMap as map
+use Rattle.ox_rules.specs.Outputs.{Outputs}
+use Rattle.ox_outputs.specs.Locator.{live_at, kept_at}
+use Rattle.ox_outputs.specs.Slots.{SlotList, rows_of, undone}
+use Rattle.ox_outputs.proofs.OutputsLemmas.{none_once, none_runs, none_apart, known_none, undone_none}
+use Rattle.ox_outputs.proofs.outputs.Outputs.new.Goals as goal
+
+pub invariant_of-result : goal.invariant_of-result
+invariant_of-result c =
+    let changed = c.new-2.result.items in
+    let before = c.new-3.result.items in
+    let rows : rows_of c.new.result ≡ map.empty = ap rows_of c.new.ensures in
+    let none = c.new-2.ensures.items in record {
+      known = known_none changed c.new.result none;
+      paired = omega (arith, ap length none, ap length c.new-3.ensures.items);
+      unmarked = λ is. none;
+      once = none_once (rows_of c.new.result) rows;
+      once_before = none_once (undone before changed (rows_of c.new.result)) (undone_none before changed (rows_of c.new.result) none ∙ rows);
+      runs = none_runs (live_at c.new-4.result) (rows_of c.new.result) c.new-4.ensures.live rows;
+      runs_before = λ is. absurd (cc is);
+      apart = none_apart (kept_at c.new-4.result) c.new-4.ensures.kept;
+    }

@@ -1,0 +1,13 @@
+//! Where a run of satoshis is.
+
+use ox_block::OutPoint;
+
+/// Where a run of satoshis is: in an output, from a place of it on.
+#[derive(Clone, Copy)]
+pub(crate) struct Stretch {
+    pub(crate) count: u64,
+    pub(crate) outpoint: OutPoint,
+    pub(crate) place: u64,
+    /// The run went since the mark.
+    pub(crate) gone: bool,
+}
