@@ -2,6 +2,4 @@
 #![tactic(auto)]
 
 #[cfg(test)]
-mod locating;
-#[cfg(test)]
 mod tests;
