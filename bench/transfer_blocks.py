@@ -1,13 +1,14 @@
 #!/usr/bin/env python3
-"""Times the table of outputs: blocks of 500 transactions moved over it.
+"""Times the table of outputs: blocks of 500 transactions moved over it, and satoshis looked for in it.
 
     python3 bench/transfer_blocks.py [OUTPUTS..]
 
 fills a table with as many outputs as each number says (20,000, 300,000, 1,000,000 and 3,000,000 without a word) in blocks
 of 10,000, and then connects 1,000 blocks of 500 transactions, each of which spends an output chosen at random into two.
-`ox_transfer_speed` and a plain Rust program with a hash map run in turn, three times, over the first part and over the
-whole. It prints, of the runs that took least, blocks a second of processor time, and the memory that an output takes.
-Nothing here is proved. Build both programs first, as bench/README.md says.
+`ox_transfer_speed` and a plain Rust program with a hash map run in turn, three times, over the first part, over the
+whole, and over the first part with 1,000,000 satoshis looked for (the plain program in an ordered map of runs). It prints,
+of the runs that took least, blocks and satoshis a second of processor time, and the memory that an output takes. The
+plain program's map is made where a satoshi is looked for, and isn't timed. Nothing here is proved. Build both programs first, as bench/README.md says.
 """
 
 import concurrent.futures
@@ -30,6 +31,7 @@ BLOCKS = 1_000
 SPENDS = 500
 SUBSIDY = 5_000_000_000
 FILL = 10_000
+SATOSHIS = 1_000_000
 
 
 def twice(message):
@@ -84,10 +86,10 @@ def write_blocks(path, outputs):
     return filled
 
 
-def run(program, feed):
+def run(program, feed, satoshis):
     """Processor seconds, the most memory in bytes, and what was shown."""
     with open(feed, "rb") as given:
-        child = subprocess.Popen([program], stdin=given, stdout=subprocess.PIPE)
+        child = subprocess.Popen([program, str(satoshis)], stdin=given, stdout=subprocess.PIPE)
         shown = child.stdout.read()
         _, status, usage = os.wait4(child.pid, 0)
         child.returncode = os.waitstatus_to_exitcode(status)
@@ -96,29 +98,29 @@ def run(program, feed):
     return usage.ru_utime + usage.ru_stime, usage.ru_maxrss * 1024, shown
 
 
-def measure(feed):
+def measure(feed, satoshis):
     """The least seconds and memory of each program."""
     took, answers = {name: [] for name in PROGRAMS}, set()
     for _ in range(RUNS):
         for name, program in PROGRAMS.items():
-            seconds, memory, shown = run(program, feed)
+            seconds, memory, shown = run(program, feed, satoshis)
             took[name].append((seconds, memory))
-            # how many blocks were connected
-            answers.add(shown.split()[0])
+            answers.add(shown)
     if len(answers) != 1:
         sys.exit(f"the answers differ: {answers}")
     return {name: min(taken) for name, taken in took.items()}
 
 
-def tell(outputs, filled, fill, both):
+def tell(outputs, filled, fill, both, one, looked):
     rates = {}
     for name in PROGRAMS:
-        rates[name] = BLOCKS / (both[name][0] - fill[name][0])
+        rates[name] = BLOCKS / (both[name][0] - fill[name][0]), SATOSHIS / (looked[name][0] - one[name][0])
         print(
-            f"{outputs:9,} outputs, {name:5}: {rates[name]:7.0f} blocks a second,"
+            f"{outputs:9,} outputs, {name:5}: {rates[name][0]:7.0f} blocks and {rates[name][1]:11,.0f} satoshis a second,"
             f" at most {(fill[name][1] - filled) / outputs:4.0f} bytes an output"
         )
-    print(f"           ox to plain: {rates['ox'] / rates['plain']:.2f}", flush=True)
+    blocks, satoshis = (ours / plain for ours, plain in zip(rates["ox"], rates["plain"]))
+    print(f"           ox to plain: {blocks:.2f} for blocks, {satoshis:.2f} for satoshis", flush=True)
 
 
 def main():
@@ -129,7 +131,8 @@ def main():
             with concurrent.futures.ProcessPoolExecutor(1) as other:
                 filled = other.submit(write_blocks, whole, outputs).result()
             subprocess.run(["head", "-c", str(filled), whole], stdout=open(first, "wb"), check=True)
-            tell(outputs, filled, measure(first), measure(whole))
+            fill, both = measure(first, 0), measure(whole, 0)
+            tell(outputs, filled, fill, both, measure(first, 1), measure(first, SATOSHIS + 1))
 
 
 if __name__ == "__main__":
