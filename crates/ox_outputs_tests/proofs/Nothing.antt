@@ -30,8 +30,8 @@ remove_holds outs new at is h q r found =
 no_times : (sats : List ℕ) (sat : ℕ) → sats ≡ [] → times sat sats ≡ 0
 no_times sats sat none = ap (times sat) none
 
-pub nothing_may_stand : (outs : Outputs) (at : OutPoint) (sats : List ℕ) → sats ≡ [] → HoldNothing outs → MayStand at sats outs
-nothing_may_stand outs at sats none h = record {
+pub may_stand : (outs : Outputs) (at : OutPoint) (sats : List ℕ) → sats ≡ [] → HoldNothing outs → MayStand at sats outs
+may_stand outs at sats none h = record {
   once = λ sat. omega (arith, no_times sats sat none);
   apart = λ other row sat differs found. omega (arith, no_times sats sat none, no_times row.sats sat (h other row found));
 }

@@ -42,7 +42,7 @@ fn row_of(rt: &impl Abort, alloc: Global, length: usize, height: u32) -> OutRow
 }
 
 /// Places a row at this outpoint.
-#[tactic(auto, using(crate::proofs::Nothing::insert_holds, crate::proofs::Nothing::nothing_may_stand))]
+#[tactic(auto, using(crate::proofs::Nothing::insert_holds, crate::proofs::Nothing::may_stand))]
 fn put<O: OutTable>(rt: &impl Abort, alloc: Global, table: &mut O, number: u32, height: u32)
     requires { HoldNothing (O.contents table.old) }
     ensures rows { HoldNothing (O.contents table.new) }
