@@ -28,6 +28,7 @@ use Rattle.ox_etching.specs.declared.row.RuneRow.{RuneRow}
 use Rattle.ox_ledger.specs.Balanced.{AreKnown, Balanced}
 use Rattle.ox_ledger.specs.Runes.{BalanceMap, Placement, Runes, artifact_at, by_id, etching_by, is_taken, mint_at, mint_by, mint_of, name_of as name_in, stone_in}
 use Rattle.ox_ledger.specs.Turn.{IsFree, NoneHas}
+use Rattle.ox_ledger.proofs.ByIds.{found_row}
 use Rattle.ox_ledger.proofs.Held.{amount_held-cons, amount_of, amount_held_in, total_is}
 use Rattle.ox_ledger.proofs.Brought.{AllRise}
 use Rattle.ox_ledger.proofs.Gains.{amount_placed}
@@ -92,7 +93,7 @@ none_held bal id none =
 
 none_known : (runes : List RuneRow) (balances : List Balance) (id : RuneId) → AreKnown runes balances → NoneHas id runes → amount_in balances id ≡ 0
 none_known runes balances id known none = zero_from_not (amount_in balances id) (λ some.
-    let row = known.known id some in All-contains (λ (row : RuneRow). row.id ≢ id) runes row.0 none row.1 row.2)
+    let row = found_row runes id (known.known id some) in All-contains (λ (row : RuneRow). row.id ≢ id) runes row.0 none row.1 row.2)
 
 none_held_of : (state : Runes) (id : RuneId) → Balanced state → NoneHas id state.runes → amount_held_in state.bal id ≡ 0
 none_held_of state id balanced none = none_held state.bal id (λ at balances there. none_known state.runes balances id (balanced.held at balances there).1 none)

@@ -20,6 +20,7 @@ use Rattle.ox_etching.specs.declared.row.RuneRow.{RuneRow}
 use Rattle.ox_ledger.specs.Balanced.{AreKnown}
 use Rattle.ox_ledger.specs.Runes.{BalanceMap, Brought, Placement, Runes, balances_at, brought_by, brought_of, joined_with, place, place_all, placements, with_balances}
 use Rattle.ox_ledger.proofs.Brought.{AllRise, Rise, amount-joined_with, at_rises, was_there}
+use Rattle.ox_ledger.proofs.ByIds.{found_from, found_row}
 use Rattle.ox_ledger.proofs.Distinct.{get_mapped}
 use Rattle.ox_ledger.proofs.Fresh.{some_mapped}
 
@@ -51,7 +52,7 @@ pub knows_from : (runes : List RuneRow) (balances : List Balance) → AreKnown r
 knows_from runes balances are = record {
   proper = are.proper;
   known = λ id some.
-      let row = are.known id some in
+      let row = found_row runes id (are.known id some) in
       let there : slice_get runes row.1.0 ≡ Some row.0 = slice_get-get_or runes row.1.0 row.0 row.1.1 ∙ ap Some row.1.2 in
       (row.1.0, get_mapped (λ (r : RuneRow). r.id) runes row.1.0 ∙ ap (option_map (λ (r : RuneRow). r.id)) there ∙ ap Some row.2);
 }
@@ -62,7 +63,7 @@ knows_to runes balances knows = record {
   known = λ id some.
       let member = knows.known id some in
       let row = some_mapped (λ (r : RuneRow). r.id) (slice_get runes member.0) id (sym (get_mapped (λ (r : RuneRow). r.id) runes member.0) ∙ member.1) in
-      (row.0, (member.0, slice_get_within runes member.0 row.0 row.1, get_or_from_slice_get runes member.0 row.0 row.0 row.1), row.2);
+      found_from runes row.0 id (member.0, slice_get_within runes member.0 row.0 row.1, get_or_from_slice_get runes member.0 row.0 row.0 row.1) row.2;
 }
 
 -- ---- gathering

@@ -1,6 +1,8 @@
 pub mod Brought
+pub mod ByIds
 pub mod HolderLemmas
 pub mod ListLemmas
+pub mod ListChanges
 pub mod TableLemmas
 pub mod BurnLemmas
 pub mod StepLemmas
@@ -21,3 +23,14 @@ pub mod Known
 pub mod StaysBalanced
 pub mod BlockStays
 pub mod StartBalanced
+pub mod GoOnLemmas
+pub mod ArtifactLemmas
+pub mod DropLemmas
+pub mod TablesLemmas
+pub mod LedgerLemmas
+pub mod TurnSteps
+pub mod MoveLemmas
+pub mod PartMoves
+pub mod EqualLemmas
+pub mod CountLemmas
+pub mod GoneLemmas

@@ -16,7 +16,7 @@ use Rattle.ox_ledger.specs.Part.{Counts, CountChange, RunePart, balances_of, cou
 
 -- ---- balances are told apart
 
-balance_eq : Balance → Balance → Bool
+pub balance_eq : Balance → Balance → Bool
 balance_eq a b = (a.0.block == b.0.block) && ((a.0.tx == b.0.tx) && (a.1 == b.1))
 
 balance_eq-Decides : (a b : Balance) → Decides (balance_eq a b) (a ≡ b)
@@ -28,10 +28,10 @@ balance_eq-Decides a b =
     (Decides-and (a.0.block == b.0.block) _ (Decides-eqb a.0.block b.0.block)
     (Decides-and (a.0.tx == b.0.tx) _ (Decides-eqb a.0.tx b.0.tx) (Decides-eqb a.1 b.1)))
 
-abbrev same_balances : List Balance → List Balance → Bool
+abbrev pub same_balances : List Balance → List Balance → Bool
 same_balances a b = pointwise balance_eq a b
 
-same_balances-Decides : (a b : List Balance) → Decides (same_balances a b) (a ≡ b)
+pub same_balances-Decides : (a b : List Balance) → Decides (same_balances a b) (a ≡ b)
 same_balances-Decides a b = slice_eq-Decides balance_eq-Decides a b (same_balances a b) refl
 
 -- ---- the runes of two states
@@ -51,7 +51,7 @@ not_above q p below = by_test (q == p) refl where
   by_test true is = let e : q ≡ p = (Decides-eqb q p).0 is in absurd (omega arith)
   by_test false is = refl
 
-abbrev change_of : ℕ → RuneRow → RuneRow → CountChange
+abbrev pub change_of : ℕ → RuneRow → RuneRow → CountChange
 change_of p old new = record { place = p; before = counts_of old; after = counts_of new }
 
 -- the changes behind a place have none there
@@ -69,7 +69,7 @@ same_cons : {A : Type 0} (x y : A) (xs ys : List A) → x ≡ y → xs ≡ ys �
 same_cons x y xs ys first rest = λ i. first i ∷ rest i
 
 -- a change before the runes' places changes none of them
-skips : (side : CountChange → Counts) (change : CountChange) (changes : List CountChange) (p : ℕ) → change.place < p
+pub skips : (side : CountChange → Counts) (change : CountChange) (changes : List CountChange) (p : ℕ) → change.place < p
     → (rows : List RuneRow) → rows_at_end side (change ∷ changes) p rows ≡ rows_at_end side changes p rows
 unfolding rows_at_end
 skips side change changes p below [] = refl
@@ -134,13 +134,13 @@ rows_forth p (old ∷ before) (new ∷ after) go_on = by_test (rows_forth (p + 1
       (skips later (change_of p old new) (changes_from (p + 1) before after) (p + 1) (omega arith) before)
       ∙ rest)
 
-goes_on_longer : (before after : List RuneRow) → Continues before after → length before ≤ length after
+pub goes_on_longer : (before after : List RuneRow) → Continues before after → length before ≤ length after
 goes_on_longer [] after go_on = omega arith
 goes_on_longer (old ∷ before) [] go_on = absurd go_on
 goes_on_longer (old ∷ before) (new ∷ after) go_on = let h = goes_on_longer before after go_on.1 in omega arith
 
 -- how many runes there were
-count_before : (before after : List RuneRow) → Continues before after → length after - length (drop (length before) after) ≡ length before
+pub count_before : (before after : List RuneRow) → Continues before after → length after - length (drop (length before) after) ≡ length before
 count_before before after go_on = let h = goes_on_longer before after go_on in omega (arith, length-drop (length before) after)
 
 -- ---- the law

@@ -14,10 +14,10 @@ use Rattle.ox_ledger.specs.Runes.{BalanceMap, Placement, Runes}
 use Rattle.ox_ledger.proofs.Fresh.{none_held}
 use Rattle.ox_ledger.proofs.Held.{amount_held_in}
 
-abbrev no_balances : BalanceMap
+abbrev pub no_balances : BalanceMap
 no_balances = empty
 
-abbrev start : List RuneRow → Runes
+abbrev pub start : List RuneRow → Runes
 start runes = record { bal = no_balances; runes = runes; due = [] }
 
 none_there : {P : Type 0} (at : OutPoint) (balances : List Balance) → get no_balances at ≡ Some balances → P
@@ -63,6 +63,10 @@ start_by false = record {
   due = none_due [];
   settled = All-from_recursion (IsSettled (start [])) [] tt;
 }
+
+-- no runes at all
+pub nothing_balanced : Balanced (start [])
+nothing_balanced = start_by false
 
 pub start_balanced : (p : Profile) → Balanced (no_runes p)
 start_balanced p = start_by p.first_rune

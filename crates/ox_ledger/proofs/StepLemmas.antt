@@ -36,6 +36,7 @@ use Rattle.ox_ledger.specs.Steps.{CanBurn, CanMint, CanPlace, CanPlaceAll, CanSe
 use Rattle.ox_ledger.specs.Turn.{IsFree, NoneHas, mints_in}
 use Rattle.ox_ledger.proofs.Bounded.{new_bounded}
 use Rattle.ox_ledger.proofs.Brought.{brought-of, was_there}
+use Rattle.ox_ledger.proofs.ByIds.{found_row}
 use Rattle.ox_ledger.proofs.BurnLemmas.{at_place}
 use Rattle.ox_ledger.proofs.Distinct.{NoneLike}
 use Rattle.ox_ledger.proofs.Fresh.{IsFreeFor, IsRow, all_fresh, all_rise, etching_row, free_for, none_held, some_mapped, some_then}
@@ -88,7 +89,7 @@ either_there false new found there are later is = later is
 
 with_proper : (bal : BalanceMap) (at : OutPoint) (balances : List Balance) → AreProper bal → AreBalances balances → AreProper (with_balances bal at balances)
 with_proper bal at [] proper are = remove_proper bal at proper
-with_proper bal at (one ∷ balances) proper are q found is =
+with_proper bal at (one ∷ balances) proper are = λ q found is.
     either_there (eq_by_cmp outpoint_cmp q at) (one ∷ balances) found (get bal q) are (proper q found) (sym (get-insert outpoints_total bal at (one ∷ balances) q) ∙ is)
 
 brought_proper : (inputs : List TxIn) (bal : BalanceMap) (pool : List Balance) → AreProper bal → AreProper (brought_by inputs bal pool).bal
@@ -102,7 +103,7 @@ brought_of_proper at tx bal proper = by_test (at == 0) where
   by_test true = proper
   by_test false = brought_proper tx.inputs bal [] proper
 
-abbrev AllProper : List Placement → Type 0
+abbrev pub AllProper : List Placement → Type 0
 AllProper new = AllByRecursion (λ (one : Placement). AreBalances one.1) new
 
 placements_proper : (txid : Txid) (index : ℕ) (given : List (List Balance)) → AllByRecursion AreBalances given → AllProper (placements txid index given)
@@ -126,6 +127,7 @@ can_settle : (at : Spot) (hand : InHand) (due : List Placement) (dealt : Allocat
 can_settle at hand due dealt proper given burned = by_place (at.tx == 0) refl where
   mid : Runes
   mid = record { bal = hand.bal; runes = burn dealt.burned hand.runes; due = due }
+
   by_place : (b : Bool) → (at.tx == 0) ≡ b → let after : Runes =
       if b then record { bal = hand.bal; runes = burn dealt.burned hand.runes; due = due ++ placements at.txid 0 dealt.given }
       else place_all (record { bal = hand.bal; runes = burn dealt.burned hand.runes; due = due }) (placements at.txid 0 dealt.given) in
@@ -160,13 +162,14 @@ all_small state balanced k d less =
     let there = there_fits state row (balanced.bounded k d less) (balanced.settled k d less) in
     omega (arith, there)
 
-not_by_id : (runes : List RuneRow) (id : RuneId) → by_id runes id ≡ None → AllByRecursion (λ (row : RuneRow). row.id ≢ id) runes
+pub not_by_id : (runes : List RuneRow) (id : RuneId) → by_id runes id ≡ None → AllByRecursion (λ (row : RuneRow). row.id ≢ id) runes
 unfolding by_id
 not_by_id [] id none = tt
-not_by_id (row ∷ runes) id = by_test (is_same row.id id) refl where
-  by_test : (b : Bool) → is_same row.id id ≡ b → (if b then Some row else by_id runes id) ≡ None → AllByRecursion (λ (r : RuneRow). r.id ≢ id) (row ∷ runes)
-  by_test true is none = let some : Some row ≡ None = none in absurd (cc some)
-  by_test false is none = ((λ same. true≢false (sym (ap (λ (q : RuneId). is_same row.id q) (sym same) ∙ same_itself row.id) ∙ is)), not_by_id runes id none)
+not_by_id (row ∷ runes) id none = by_test (not_by_id runes id) (is_same row.id id) refl none where
+  by_test : (by_id runes id ≡ None → AllByRecursion (λ (r : RuneRow). r.id ≢ id) runes) → (b : Bool) → is_same row.id id ≡ b → (if b then Some row else by_id runes id) ≡ None
+      → AllByRecursion (λ (r : RuneRow). r.id ≢ id) (row ∷ runes)
+  by_test rest true is none = let some : Some row ≡ None = none in absurd (cc some)
+  by_test rest false is none = ((λ same. true≢false (sym (ap (λ (q : RuneId). is_same row.id q) (sym same) ∙ same_itself row.id) ∙ is)), rest none)
 
 zero_where : (n : ℕ) → (n ≢ 0 → ⊥) → n ≡ 0
 zero_where zero none = refl
@@ -178,7 +181,7 @@ amounts_fit state balanced id = by_found (by_id state.runes id) refl where
   by_found None is =
       let others = All-from_recursion (λ (row : RuneRow). row.id ≢ id) state.runes (not_by_id state.runes id is) in
       let none = none_held state.bal id (λ at balances there. zero_where (amount_in balances id) (λ some.
-      let row = (balanced.held at balances there).1.known id some in
+      let row = found_row state.runes id ((balanced.held at balances there).1.known id some) in
       others row.1.0 row.0 row.1.1 (ap (λ (r : RuneRow). r.id) row.1.2 ∙ row.2))) in
       omega (arith, none)
   by_found (Some row) is =

@@ -28,7 +28,7 @@ same_or_other P zero (suc k) first second = second (λ e. absurd (omega (arith, 
 same_or_other P (suc i) zero first second = second (λ e. absurd (omega (arith, e)))
 same_or_other P (suc i) (suc k) first second = same_or_other P i k (λ e. first (ap suc e)) (λ other. second (λ e. other (omega (arith, e))))
 
-value_in : {A : Type 0} (x y : A) → Some x ≡ Some y → x ≡ y
+pub value_in : {A : Type 0} (x y : A) → Some x ≡ Some y → x ≡ y
 value_in x y is = cc is
 
 module _ {A : Type 0} (of : RuneRow → A) where
@@ -191,23 +191,23 @@ indexed_new rows ids names is = subst (λ (r : Rows). AreAllIndexed r ids names)
   mark = tt;
 })
 
-pub indexed_ids : (rows : Rows) (ids new : Ids) (names : Names) (id : RuneId) (place : ℕ) → ((q : RuneId) → content_in id_cmp new q ≡ cond (is_eq (id_cmp id q)) (Some place) (content_in id_cmp ids q))
+pub indexed_ids : (rows : Rows) (ids new : Ids) (names : Names) (id : RuneId) (place : Option ℕ) → ((q : RuneId) → content_in id_cmp new q ≡ cond (is_eq (id_cmp id q)) place (content_in id_cmp ids q))
     → mark_in id_cmp new ≡ mark_in id_cmp ids → IsAbsent (λ row. row.id) rows.now id → AreAllIndexed rows ids names → AreAllIndexed rows new names
 indexed_ids rows ids new names id place put mark absent are = record {
   now = record {
-    ids = finds_beside (λ row. row.id) rows.now (ids_of ids) (ids_of new) (λ q. is_eq (id_cmp id q)) id (Some place) (λ q is. same_id id q is) put absent are.now.ids;
+    ids = finds_beside (λ row. row.id) rows.now (ids_of ids) (ids_of new) (λ q. is_eq (id_cmp id q)) id place (λ q is. same_id id q is) put absent are.now.ids;
     names = are.now.names;
   };
   mark = subst (λ (m : Option (RuneId → Option ℕ)). MarkIndexed rows.mark m (mark_in nat_cmp names)) (sym mark) are.mark;
 }
 
-pub indexed_names : (rows : Rows) (ids : Ids) (names new : Names) (name place : ℕ) → ((q : ℕ) → content_in nat_cmp new q ≡ cond (is_eq (nat_cmp name q)) (Some place) (content_in nat_cmp names q))
+pub indexed_names : (rows : Rows) (ids : Ids) (names new : Names) (name : ℕ) (place : Option ℕ) → ((q : ℕ) → content_in nat_cmp new q ≡ cond (is_eq (nat_cmp name q)) place (content_in nat_cmp names q))
     → mark_in nat_cmp new ≡ mark_in nat_cmp names → IsAbsent (λ row. row.name) rows.now name → AreAllIndexed rows ids names → AreAllIndexed rows ids new
 indexed_names rows ids names new name place put mark absent are = record {
   now = record {
     ids = are.now.ids;
     names =
-        finds_beside (λ row. row.name) rows.now (names_of names) (names_of new) (λ q. is_eq (nat_cmp name q)) name (Some place) (λ q is. nat_cmp-IsAntisymmetric name q (equal (nat_cmp name q) is)) put
+        finds_beside (λ row. row.name) rows.now (names_of names) (names_of new) (λ q. is_eq (nat_cmp name q)) name place (λ q is. nat_cmp-IsAntisymmetric name q (equal (nat_cmp name q) is)) put
         absent are.now.names;
   };
   mark = subst (λ (m : Option (ℕ → Option ℕ)). MarkIndexed rows.mark (mark_in id_cmp ids) m) (sym mark) are.mark;

@@ -1,6 +1,6 @@
 -- What holds of the runes of a chain, and in the midst of a block with what is due to its
 -- coinbase's outputs.
-use Rattle.std.specs.Prelude.{◌≡◌, ◌≢◌, ℕ, ◌+◌, ◌*◌, ◌^◌, ◌<◌, ◌≤◌, List, [], All, Contains, map}
+use Rattle.std.specs.Prelude.{◌≡◌, ◌≢◌, ℕ, ◌+◌, ◌*◌, ◌^◌, ◌<◌, ◌≤◌, List, [], All, IsSome, map}
 use Rattle.std.specs.Prelude.{Option, Some, sum_by}
 use Rattle.std.specs.Prelude.{slice_get, unwrap_or}
 use Rattle.std.specs.FinMap.{get, values}
@@ -11,7 +11,7 @@ use Rattle.ox_runestone.specs.declared.stone.RuneId.{RuneId}
 use Rattle.ox_runestone.specs.declared.stone.Terms.{Terms}
 use Rattle.ox_allocation.specs.Balances.{AreBalances, Balance, amount_in}
 use Rattle.ox_etching.specs.declared.row.RuneRow.{RuneRow}
-use Rattle.ox_ledger.specs.Runes.{Placement, Runes}
+use Rattle.ox_ledger.specs.Runes.{Placement, Runes, by_id}
 
 -- how much of a rune some outputs hold together
 abbrev pub amount_held : List (List Balance) → RuneId → ℕ
@@ -51,8 +51,7 @@ IsSettled state row = amount_there state row ≡ made_of row
 -- these are balances of runes that are there
 pub record AreKnown (runes : List RuneRow) (balances : List Balance) : Type 0 where
   pub proper : AreBalances balances
-  pub known : (id : RuneId) → amount_in balances id ≢ 0
-      → (row : RuneRow) × Contains runes row × (row.id ≡ id)
+  pub known : (id : RuneId) → amount_in balances id ≢ 0 → IsSome (by_id runes id)
 
 -- no two runes have one of these
 abbrev pub AreDistinct : {A : Type 0} → (RuneRow → A) → List RuneRow → Type 0

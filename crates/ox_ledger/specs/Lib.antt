@@ -1,5 +1,6 @@
 pub mod Balanced
 pub mod Block
+pub mod GoOn
 pub mod Indexed
 pub mod Ledger
 pub mod Marks

@@ -1,6 +1,7 @@
 -- What of a change between two states is about runes, and how it leads from either state to the
 -- other.
-use Rattle.std.specs.Prelude.{◌≡◌, ℕ, ◌+◌, ◌-◌, Bool, ◌&&◌, ◌==◌, List, [], ◌∷◌, ◌++◌, length, take}
+use Rattle.std.specs.Prelude.{◌≡◌, ℕ, ◌+◌, ◌-◌, Bool, true, false, ◌&&◌}
+use Rattle.std.specs.Prelude.{◌==◌, List, [], ◌∷◌, ◌++◌, length, take}
 use Rattle.std.specs.Prelude.{drop, find, Option, Some, None, if◌then◌else◌}
 use Rattle.ox_block.specs.declared.block.OutPoint.{OutPoint}
 use Rattle.ox_rules.specs.Differences.{Difference, Differ, other_end, reverse_of}
@@ -31,6 +32,13 @@ Continues (old ∷ before) (new ∷ after) =
 abbrev pub counts_alike : RuneRow → RuneRow → Bool
 counts_alike old new = (old.mints == new.mints) && (old.burned == new.burned)
 
+-- the changed counts of one rune that is at a place, if it is there before and after
+abbrev pub change_in : ℕ → Option RuneRow → Option RuneRow → List CountChange
+change_in place (Some old) (Some new) =
+    if counts_alike old new then []
+    else (record { place = place; before = counts_of old; after = counts_of new } ∷ [])
+change_in place _ _ = []
+
 -- the changed counts of runes, the first of them at this place
 unfoldable pub changes_from : ℕ → List RuneRow → List RuneRow → List CountChange
 changes_from place (old ∷ before) (new ∷ after) =
@@ -48,6 +56,11 @@ pub record IsPart (before after : Runes) (part : RunePart) : Type 0 where
 -- the change at a place, if there is one
 abbrev pub change_at : List CountChange → ℕ → Option CountChange
 change_at changes place = find (λ change. change.place == place) changes
+
+-- what is counted before a change, or after it
+abbrev pub counts_at : Bool → CountChange → Counts
+counts_at true change = change.before
+counts_at false change = change.after
 
 abbrev pub row_at_end : (CountChange → Counts) → Option CountChange → RuneRow → RuneRow
 row_at_end side None row = row

@@ -1,10 +1,11 @@
 -- What the steps of a turn ask for, so that no sum overflows.
-use Rattle.std.specs.Prelude.{◌≡◌, ◌≢◌, ℕ, ◌+◌, ◌^◌, ◌<◌, List, [], ◌∷◌, All}
-use Rattle.std.specs.Prelude.{Option, Some}
+use Rattle.std.specs.Prelude.{◌≡◌, ◌≢◌, ℕ, ◌+◌, ◌^◌, ◌<◌, List, [], ◌∷◌, ◌++◌, ◌==◌, All}
+use Rattle.std.specs.Prelude.{Option, Some, if◌then◌else◌}
 use Rattle.std.specs.Option.{ForSome}
 use Rattle.std.specs.FinMap.{get, values}
 use Rattle.ox_block.specs.declared.block.OutPoint.{OutPoint}
 use Rattle.ox_block.specs.declared.block.Tx.{Tx}
+use Rattle.ox_block.specs.declared.block.Txid.{Txid}
 use Rattle.ox_runestone.specs.declared.stone.RuneId.{RuneId}
 use Rattle.ox_rules.specs.declared.rows.OutRow.{OutRow}
 use Rattle.ox_allocation.specs.Allocation.{Allocation}
@@ -14,7 +15,7 @@ use Rattle.ox_etching.specs.declared.row.RuneRow.{RuneRow}
 use Rattle.ox_ledger.specs.Balanced.{amount_held, cap_in}
 use Rattle.ox_ledger.specs.Runes.{BalanceMap, InHand, Placement, Runes, artifact_at, balances_at}
 use Rattle.ox_ledger.specs.Runes.{brought_of, burn, dealt_by, etching_by, gathered_by}
-use Rattle.ox_ledger.specs.Runes.{mint_by, place, placements, pool_with}
+use Rattle.ox_ledger.specs.Runes.{mint_by, place, place_all, placements, pool_with}
 use Rattle.ox_ledger.specs.Shown.{IsAbsent}
 
 -- outputs hold balances, and of no rune more together than an amount can be
@@ -62,6 +63,15 @@ pub record CanSettle (at : Spot) (hand : InHand) (due : List Placement) (dealt :
   pub displaced : at.tx ≢ 0 → CanPlaceAll
       (record { bal = hand.bal; runes = burn dealt.burned hand.runes; due = due })
       (placements at.txid 0 dealt.given)
+
+-- A pool that is dealt: what is burned of it is counted, and the outputs get the rest, those of a
+-- coinbase when the block is done.
+abbrev pub given_out : ℕ → Txid → Runes → List (List Balance) → List Balance → Runes
+given_out tx txid state given burned =
+    let runes = burn burned state.runes in
+    let new = placements txid 0 given in
+    if tx == 0 then record { bal = state.bal; runes = runes; due = state.due ++ new }
+    else place_all (record { bal = state.bal; runes = runes; due = state.due }) new
 
 -- all steps of a turn can be done
 pub record CanTurn (at : Spot) (tx : Tx) (spent : List OutRow) (state : Runes) : Type 0 where

@@ -1,6 +1,6 @@
 //! What a transaction says about runes.
 
-ghost use Rattle.std.specs.Prelude.{◌≡◌, ℕ, false, true, length, IfOk, Some};
+ghost use Rattle.std.specs.Prelude.{◌≡◌, ◌^◌, ◌<◌, ℕ, false, true, length, IfOk, Some};
 ghost use Rattle.std.specs.Option.{option_copied, option_map, option_map_or, ForSome, IfSome};
 ghost use Rattle.ox_block.specs.declared.block.Txid.{Txid};
 ghost use Rattle.ox_runestone.specs.Artifact.{artifact_of};
@@ -34,7 +34,8 @@ fn stone_in(outputs: &[TxOut]) -> Option<&[u8]>
 
 /// How many outputs there are. `Memory` for 2^32 and more, which no memory holds.
 pub(crate) fn count_of(outputs: &[TxOut]) -> Result<u32, Memory>
-    ensures { IfOk result (λ count. count ≡ length outputs.now) }
+    ensures count { IfOk result (λ count. count ≡ length outputs.now) }
+    ensures fits { IfOk result (λ count. length outputs.now < 2 ^ 32) }
 {
     let count = outputs.len();
     if count > u32::MAX as usize {

@@ -1,6 +1,7 @@
 //! What outputs hold, with a mark.
 
-ghost use Rattle.std.specs.Prelude.{◌≡◌, ◌+◌, ◌^◌, ◌<◌, ◌↔◌, ◌++◌, ℕ, [], IsTrue, IsSome, None, OnOk, OnErr, IfOk};
+ghost use Rattle.std.specs.Prelude.{◌≡◌, ◌≢◌, ◌+◌, ◌^◌, ◌<◌, ◌↔◌, ◌++◌, ℕ};
+ghost use Rattle.std.specs.Prelude.{[], IsTrue, IsSome, None, OnOk, OnErr, IfOk};
 ghost use Rattle.std.specs.FinMap as map;
 ghost use Rattle.std.specs.Option.{option_copied, option_map, IfSome};
 ghost use Rattle.ox_rules.specs.Differences.{Differ};
@@ -90,8 +91,8 @@ pub(crate) fn join(pool: &mut Pool, balances: &[(RuneId, u128)]) -> Result<(), M
 fn bring(holders: &mut Holders, at: &OutPoint, pool: &mut Pool) -> Result<(), Memory>
     requires fits { (id : RuneId) → amount_in pool.old id
         + amount_in (balances_at (held_in holders.old) at.now) id < 2 ^ 128 }
-    requires proper {
-        IsStrictlySortedBy id_cmp (ids_of (balances_at (held_in holders.old) at.now)) }
+    requires proper { IsStrictlySortedBy id_cmp
+        (ids_of (balances_at (held_in holders.old) at.now)) }
     ensures pool { OnOk result
         (pool.new ≡ joined_with pool.old (balances_at (held_in holders.old) at.now)) }
     ensures left { OnOk result (held_in holders.new ≡ map.remove (held_in holders.old) at.now) }
@@ -102,11 +103,7 @@ fn bring(holders: &mut Holders, at: &OutPoint, pool: &mut Pool) -> Result<(), Me
 }
 
 /// Takes what the inputs' outputs hold into a pool.
-pub(crate) fn gather(
-    alloc: Global,
-    holders: &mut Holders,
-    inputs: &[TxIn],
-) -> Result<Pool, Memory>
+pub(crate) fn gather(alloc: Global, holders: &mut Holders, inputs: &[TxIn]) -> Result<Pool, Memory>
     requires fits { HoldAmounts (held_in holders.old) }
     ensures ok { IfOk result (λ pool. record { pool = pool; bal = held_in holders.new }
         ≡ brought_by inputs.now (held_in holders.old) []) }
@@ -144,7 +141,7 @@ pub(crate) struct Exchange {
 
 /// Whether two outputs hold the same.
 fn is_same(one: Option<&Balances>, other: Option<&Balances>) -> bool
-    ensures { IsTrue result ↔ (option_copied one ≡ option_copied other) }
+    ensures { IsTrue result ↔ (option_copied one.entry ≡ option_copied other.entry) }
 {
     match (one, other) {
         (Some(one), Some(other)) => one.as_slice() == other.as_slice(),
@@ -161,12 +158,32 @@ fn push_copy(
     balances: Option<&Balances>,
 ) -> Result<(), Memory>
     ensures { OnOk result (list.new ≡ list.old
-        ++ as_list (option_map (λ b. (at, b)) (option_copied balances))) }
+        ++ as_list (option_map (λ b. (at, b)) (option_copied balances.entry))) }
 {
     if let Some(balances) = balances {
         list.push((at, balances.copy(alloc)?))?;
     }
     Ok(())
+}
+
+/// Appends what an output holds, if another state has not the same there.
+fn push_gone(
+    alloc: Global,
+    list: &mut List<Placement>,
+    at: OutPoint,
+    balances: Option<&Balances>,
+    other: Option<&Balances>,
+) -> Result<(), Memory>
+    ensures differs { option_copied balances.entry ≢ option_copied other.entry
+        → OnOk result (list.new ≡ list.old
+        ++ as_list (option_map (λ b. (at, b)) (option_copied balances.entry))) }
+    ensures same { option_copied balances.entry ≡ option_copied other.entry
+        → OnOk result (list.new ≡ list.old) }
+{
+    if is_same(balances, other) {
+        return Ok(());
+    }
+    push_copy(alloc, list, at, balances)
 }
 
 /// What differs between what outputs held at the mark and what they hold, by rising outpoint.
@@ -178,13 +195,12 @@ pub(crate) fn changed(alloc: Global, holders: &Holders) -> Result<Exchange, Memo
 {
     let mut gone = List::new(alloc);
     let mut came = List::new(alloc);
-    for at in holders.changed()? {
-        let then = holders.at_mark(&at);
-        let now = holders.get(&at);
-        if !is_same(then, now) {
-            push_copy(alloc, &mut gone, at, then)?;
-            push_copy(alloc, &mut came, at, now)?;
-        }
+    let keys = holders.changed()?;
+    for at in &keys {
+        let then = holders.at_mark(at);
+        let now = holders.get(at);
+        push_gone(alloc, &mut gone, *at, then, now)?;
+        push_gone(alloc, &mut came, *at, now, then)?;
     }
     Ok(Exchange { gone, came })
 }

@@ -1,6 +1,7 @@
 //! What holds of blocks and runes, whatever the block.
 
 ghost use Rattle.ox_ledger.specs.Block.{StaysBalanced};
+ghost use Rattle.ox_ledger.specs.GoOn.{RunesGoOn};
 ghost use Rattle.ox_ledger.specs.Part.{LeadsBothWays};
 ghost use Rattle.ox_ledger.specs.Turn.{TurnsAdd};
 
@@ -26,4 +27,10 @@ pub fn turns_add_mint_and_premine()
 /// the block's height. A block leaves nothing due.
 pub fn runes_stay_balanced()
     ensures { StaysBalanced }
+{}
+
+/// Runes go on over a transaction, over the end of a block and over whole blocks: those that there
+/// were stay in their places, as they were but for mints and what is burned.
+pub fn runes_go_on()
+    ensures { RunesGoOn }
 {}

@@ -1,7 +1,8 @@
 //! The ledger of runes.
 
 ghost use Rattle.std.specs.Prelude.{◌≡◌, ◌↔◌, ◌^◌, ◌<◌, is_some};
-ghost use Rattle.std.specs.Option.{IfSome};
+ghost use Rattle.std.proofs.Props.{props};
+ghost use Rattle.std.specs.Option.{ForSome, IfSome};
 ghost use Rattle.ox_ledger.specs.Balanced.{Balanced, made_of};
 ghost use Rattle.ox_ledger.specs.Tables.{mark_of, runes_of};
 
@@ -59,8 +60,8 @@ pub struct Ledger {
     profile: Profile,
     tables: Tables,
     marked: bool,
-    ghost balanced: { Balanced (runes_of tables) },
-    ghost balanced_then: { IfSome (mark_of tables) Balanced },
+    ghost balanced: { Balanced (runes_of tables) } by { Prim.hlevel props },
+    ghost balanced_then: { ForSome (mark_of tables) Balanced } by { Prim.hlevel props },
     ghost known: { marked ≡ is_some (mark_of tables) },
 }
 
@@ -209,9 +210,9 @@ impl Ledger {
     pub fn changed(&self) -> Result<RunePart, Memory>
         requires mark { IsSome (mark_in self.now) }
         requires continues { IfSome (mark_in self.now)
-            (λ then. Continues then.runes (runes_in self.now).runes) }
+            (λ before. Continues before.runes (runes_in self.now).runes) }
         ensures { IfOk result (λ part. IfSome (mark_in self.now)
-            (λ then. IsPart then (runes_in self.now) part)) }
+            (λ before. IsPart before (runes_in self.now) part)) }
     {
         self.tables.changed(self.alloc)
     }
@@ -228,12 +229,7 @@ impl Ledger {
         ensures mark { mark_in self.new ≡ mark_in self.old }
         ensures profile { self.new.profile ≡ self.old.profile }
     {
-        let done = if back {
-            self.tables.back(self.alloc, part)
-        } else {
-            self.tables.forth(self.alloc, part)
-        };
-        match done {
+        match self.tables.put(self.alloc, part, back) {
             Ok(()) => Ok(()),
             Err(e) => {
                 self.tables.fall_back(self.alloc, self.marked);

@@ -10,11 +10,10 @@ mod part;
 mod table;
 mod tables;
 
-pub use laws::{parts_lead_both_ways, runes_stay_balanced, turns_add_mint_and_premine};
-pub use ledger::Ledger;
 pub use holders::Placement;
+pub use laws::{
+    parts_lead_both_ways, runes_go_on, runes_stay_balanced, turns_add_mint_and_premine,
+};
+pub use ledger::Ledger;
 pub use ox_bytes::Memory;
 pub use part::{CountChange, Counts, RunePart};
-
-#[cfg(test)]
-mod tests;

@@ -1,7 +1,7 @@
 //! What of a change is about runes.
 
 ghost use Rattle.std.specs.Prelude.{◌≡◌};
-ghost use Rattle.ox_ledger.specs.Part.{counts_of, with_counts};
+ghost use Rattle.ox_ledger.specs.Part.{counts_at, counts_of, with_counts};
 
 use crate::holders::Placement;
 use ox_bytes::List;
@@ -48,6 +48,13 @@ pub(crate) fn counts_of(row: &RuneRow) -> Counts
         mints: row.mints,
         burned: row.burned,
     }
+}
+
+/// What is counted before a change, or after it.
+pub(crate) fn counts_at(change: &CountChange, before: bool) -> Counts
+    ensures { result ≡ counts_at before change.now }
+{
+    if before { change.before } else { change.after }
 }
 
 /// A rune with other counts.

@@ -1,20 +1,21 @@
 //! The runes of a chain in the order of their etchings, found by id and by name, with a mark.
 
-ghost use Rattle.std.specs.Prelude.{◌≡◌, ◌↔◌, ◌+◌, ◌<◌, ◌++◌, ◌∷◌, ◌-◌, [], length, map, ℕ};
+ghost use Rattle.std.specs.Prelude.{◌≡◌, ◌↔◌, ◌+◌, ◌<◌, ◌≤◌, ◌++◌, ◌∷◌, ◌-◌, [], length, map, ℕ};
 ghost use Rattle.std.specs.Prelude.{drop, take, IfOk};
 ghost use Rattle.std.specs.Prelude.{slice_get, slice_set, All, IsSome, IfNone, Some, None};
 ghost use Rattle.std.specs.Prelude.{OnOk, OnErr};
 ghost use Rattle.std.specs.Option.{option_copied, IfSome};
 ghost use Rattle.std.specs.List.Sorted.{IsStrictlySortedBy};
 ghost use Rattle.ox_allocation.specs.Balances.{id_cmp, ids_of};
-ghost use Rattle.ox_ledger.specs.Balanced.{cap_in};
-ghost use Rattle.ox_ledger.specs.Part.{changes_from, with_counts};
+ghost use Rattle.ox_ledger.specs.Balanced.{AreDistinct, cap_in};
+ghost use Rattle.ox_ledger.specs.Part.{change_in, changes_from, counts_at, rows_at_end};
+ghost use Rattle.ox_ledger.specs.Part.{with_counts};
 ghost use Rattle.ox_ledger.specs.Runes.{burn, mint_more};
 ghost use Rattle.ox_ledger.specs.Shown.{HasAt, IsAbsent, IsOnly};
 ghost use Rattle.ox_ledger.specs.Steps.{CanBurn, CanMint};
 
 use crate::list::MarkedList;
-use crate::part::{CountChange, Counts, counts_of, with_counts};
+use crate::part::{CountChange, Counts, counts_at, counts_of, with_counts};
 use ox_bytes::{List, Memory};
 use ox_etching::RuneRow;
 use ox_marked::Marked;
@@ -113,7 +114,11 @@ impl RuneTable {
     {
         let place = *self.ids.get(&id)?;
         let row = *self.row_at(place)?;
-        if row.id == id { Some((place, row)) } else { None }
+        if row.id == id {
+            Some((place, row))
+        } else {
+            None
+        }
     }
 
     /// The rune with this name, and its place.
@@ -219,6 +224,28 @@ impl RuneTable {
         Ok(())
     }
 
+    /// Appends the change of the counts of the rune at a place, if there were other counts of it at
+    /// the mark.
+    fn push_change(&self, counts: &mut List<CountChange>, place: u32) -> Result<(), Memory>
+        requires { IsSome self.now.mark }
+        ensures { OnOk result (IfSome self.now.mark (λ then. counts.new ≡ counts.old
+            ++ change_in place (slice_get then place) (slice_get self.now.now place))) }
+    {
+        if place >= self.rows.len_then() || place >= self.rows.len() {
+            return Ok(());
+        }
+        let before = counts_of(self.rows.get_then(place));
+        let after = counts_of(self.rows.get(place));
+        if before != after {
+            counts.push(CountChange {
+                place,
+                before,
+                after,
+            })?;
+        }
+        Ok(())
+    }
+
     /// The changed counts of the runes that there were at the mark, by rising places.
     pub(crate) fn counts_changed(&self, alloc: Global) -> Result<List<CountChange>, Memory>
         requires { IsSome self.now.mark }
@@ -226,18 +253,9 @@ impl RuneTable {
             (λ then. counts ≡ changes_from 0 then self.now.now)) }
     {
         let mut counts = List::new(alloc);
-        for place in self.rows.changed()? {
-            if place < self.rows.len_then() && place < self.rows.len() {
-                let before = counts_of(self.rows.get_then(place));
-                let after = counts_of(self.rows.get(place));
-                if before != after {
-                    counts.push(CountChange {
-                        place,
-                        before,
-                        after,
-                    })?;
-                }
-            }
+        let places = self.rows.changed()?;
+        for place in &places {
+            self.push_change(&mut counts, *place)?;
         }
         Ok(counts)
     }
@@ -256,22 +274,68 @@ impl RuneTable {
     }
 
     /// Puts other counts of the rune at a place.
-    pub(crate) fn recount(&mut self, place: u32, counts: Counts) -> Result<(), Memory>
+    fn recount(&mut self, place: u32, counts: Counts) -> Result<(), Memory>
         requires { place < length self.old.now }
         ensures ok { OnOk result (IfSome (slice_get self.old.now place) (λ row.
             self.new ≡ record self.old {
-                now = slice_set self.old.now place (with_counts row counts) })) }
+              now = slice_set self.old.now place (with_counts row counts);
+            })) }
         ensures mark { self.new.mark ≡ self.old.mark }
     {
         let row = with_counts(self.rows.get(place), counts);
         self.set(place, row)
     }
 
+    /// Puts what is counted before these changes, or after them. After `Memory` a part of that may
+    /// be done.
+    pub(crate) fn recount_all(
+        &mut self,
+        changes: &[CountChange],
+        before: bool,
+    ) -> Result<(), Memory>
+        requires { All (λ change. change.place < length self.old.now) changes.now }
+        ensures ok { OnOk result (self.new ≡ record self.old {
+          now = rows_at_end (counts_at before) changes.now 0 self.old.now;
+        }) }
+        ensures mark { self.new.mark ≡ self.old.mark }
+    {
+        for change in changes.iter().rev() {
+            self.recount(change.place, counts_at(change, before))?;
+        }
+        Ok(())
+    }
+
+    /// Appends runes. After `Memory` a part of that may be done.
+    pub(crate) fn push_all(&mut self, rows: &[RuneRow]) -> Result<(), Memory>
+        requires ids { AreDistinct (λ row. row.id) (self.old.now ++ rows.now) }
+        requires names { AreDistinct (λ row. row.name) (self.old.now ++ rows.now) }
+        ensures ok { OnOk result (self.new ≡ record self.old { now = self.old.now ++ rows.now }) }
+        ensures mark { self.new.mark ≡ self.old.mark }
+    {
+        for row in rows {
+            self.push(*row)?;
+        }
+        Ok(())
+    }
+
+    /// Takes the runes behind the first so many away. After `Memory` a part of that may be done.
+    pub(crate) fn keep_first(&mut self, count: u32) -> Result<(), Memory>
+        requires { count ≤ length self.old.now }
+        ensures ok { OnOk result (self.new ≡ record self.old { now = take count self.old.now }) }
+        ensures mark { self.new.mark ≡ self.old.mark }
+    {
+        while self.rows.len() > count {
+            self.drop_last()?;
+        }
+        Ok(())
+    }
+
     /// Takes the last rune away. After `Memory` a part of that may be done.
-    pub(crate) fn drop_last(&mut self) -> Result<(), Memory>
+    fn drop_last(&mut self) -> Result<(), Memory>
         requires { 0 < length self.old.now }
         ensures ok { OnOk result (self.new ≡ record self.old {
-            now = take (length self.old.now - 1) self.old.now }) }
+          now = take (length self.old.now - 1) self.old.now;
+        }) }
         ensures mark { self.new.mark ≡ self.old.mark }
     {
         let place = self.rows.len() - 1;

@@ -7,16 +7,20 @@ ghost use Rattle.ox_runestone.specs.Spelling.{StoneCanCome};
 ghost use Rattle.ox_rules.specs.Differences.{with_rows, without_rows};
 ghost use Rattle.ox_rules.specs.Transfer.{as_list};
 ghost use Rattle.ox_ledger.specs.Balanced.{amount_held};
-ghost use Rattle.ox_ledger.specs.Moves.{Begins, Ends};
+ghost use Rattle.ox_ledger.specs.Moves.{Begins, Ends, LeadsTo, Touches};
 ghost use Rattle.ox_ledger.specs.Part.{Continues, IsPart, earlier_end, later_end};
-ghost use Rattle.ox_ledger.specs.Runes.{balances_at, brought_of, dealt_by, end, pool_with, place};
-ghost use Rattle.ox_ledger.specs.Runes.{place_all};
+ghost use Rattle.ox_ledger.specs.Runes.{balances_at, brought_of, burn, dealt_by};
+ghost use Rattle.ox_ledger.specs.Runes.{end, pool_with, place};
+ghost use Rattle.ox_ledger.specs.Runes.{Runes, place_all};
 ghost use Rattle.ox_ledger.specs.Runes.{placements, premine_of, turn, with_mint};
-ghost use Rattle.ox_ledger.specs.Steps.{CanPlace, CanPlaceAll, CanTakeUp, CanTurn, HoldAmounts};
+ghost use Rattle.ox_ledger.specs.Steps.{CanBurn, CanPlace, CanPlaceAll, CanTakeUp, CanTurn};
+ghost use Rattle.ox_ledger.specs.Steps.{HoldAmounts, given_out};
 ghost use Rattle.ox_ledger.specs.Tables.{mark_of, nothing, runes_of};
 
 use crate::artifact::{artifact_at, count_of, etching_by, mint_by};
-use crate::holders::{Placement, changed, empty, Holders, amount_in, balances_at, fill, gather, are_free};
+use crate::holders::{
+    Holders, Placement, amount_in, are_free, balances_at, changed, empty, fill, gather,
+};
 use crate::list::MarkedList;
 use crate::part::RunePart;
 use crate::table::RuneTable;
@@ -155,7 +159,7 @@ impl Tables {
 
     /// Makes the outputs of a transaction, those of a coinbase when its block ends.
     fn settle(&mut self, tx: u32, new: Vec<Placement>) -> Result<(), Memory>
-        requires { CanPlaceAll (runes_of self.old) new.items }
+        requires { tx ≢ 0 → CanPlaceAll (runes_of self.old) new.items }
         ensures ok { OnOk result (runes_of self.new
             ≡ (if tx == 0
             then record (runes_of self.old) { due = (runes_of self.old).due ++ new.items }
@@ -179,7 +183,8 @@ impl Tables {
     ) -> Result<(), Memory>
         requires { CanTakeUp (runes_of self.old).runes pool.old mint etching }
         ensures runes { OnOk result (runes_of self.new ≡ record (runes_of self.old) {
-            runes = with_mint (runes_of self.old).runes mint ++ as_list etching }) }
+          runes = with_mint (runes_of self.old).runes mint ++ as_list etching;
+        }) }
         ensures pool { OnOk result (pool.new
             ≡ pool_with (pool_with pool.old mint) (option_map premine_of etching)) }
         ensures mark { mark_of self.new ≡ mark_of self.old }
@@ -201,13 +206,31 @@ impl Tables {
         ensures pool { IfOk result (λ pool.
             pool ≡ (brought_of tx body.now (runes_of self.old).bal).pool) }
         ensures left { OnOk result (runes_of self.new ≡ record (runes_of self.old) {
-            bal = (brought_of tx body.now (runes_of self.old).bal).bal }) }
+          bal = (brought_of tx body.now (runes_of self.old).bal).bal;
+        }) }
         ensures mark { mark_of self.new ≡ mark_of self.old }
     {
         if tx == 0 {
             return Ok(Pool::new(alloc));
         }
         gather(alloc, &mut self.holders, body.inputs.as_slice())
+    }
+
+    /// Counts what is burned of a pool that is dealt, and gives the outputs the rest, those of a
+    /// coinbase when its block ends.
+    fn give(&mut self, alloc: Global, tx: u32, id: Txid, dealt: Allocated) -> Result<(), Memory>
+        requires count { length dealt.given < 2 ^ 32 }
+        requires burned { All (CanBurn dealt.burned) (runes_of self.old).runes }
+        requires displaced { tx ≢ 0 → CanPlaceAll
+            (record (runes_of self.old) { runes = burn dealt.burned (runes_of self.old).runes })
+            (placements id 0 dealt.given) }
+        ensures ok { OnOk result
+            (runes_of self.new ≡ given_out tx id (runes_of self.old) dealt.given dealt.burned) }
+        ensures mark { mark_of self.new ≡ mark_of self.old }
+    {
+        self.runes.burn(dealt.burned.as_slice())?;
+        let new = placements(alloc, id, dealt.given)?;
+        self.settle(tx, new)
     }
 
     /// One transaction, with its id, in a block of this height, which spends these rows. After
@@ -239,18 +262,18 @@ impl Tables {
         if pool.is_empty() && tx != 0 && are_free(&self.holders, id, count) {
             return Ok(());
         }
-        let dealt = deal(alloc, artifact, pool, etching.map(|row| row.id), outputs)?;
-        self.runes.burn(dealt.burned.as_slice())?;
-        self.settle(tx, placements(alloc, id, dealt.given)?)
+        let etched = id_of(&etching);
+        let dealt = deal(alloc, artifact, pool, etched, outputs)?;
+        self.give(alloc, tx, id, dealt)
     }
 
     /// What of the change since the mark is about runes.
     pub(crate) fn changed(&self, alloc: Global) -> Result<RunePart, Memory>
         requires mark { IsSome (mark_of self.now) }
         requires continues { IfSome (mark_of self.now)
-            (λ then. Continues then.runes (runes_of self.now).runes) }
+            (λ before. Continues before.runes (runes_of self.now).runes) }
         ensures { IfOk result (λ part. IfSome (mark_of self.now)
-            (λ then. IsPart then (runes_of self.now) part)) }
+            (λ before. IsPart before (runes_of self.now) part)) }
     {
         let exchange = changed(alloc, &self.holders)?;
         Ok(RunePart {
@@ -270,50 +293,56 @@ impl Tables {
     ) -> Result<(), Memory>
         requires { All (λ new. new.1 ≢ []) came.now }
         ensures ok { OnOk result (runes_of self.new ≡ record (runes_of self.old) {
-            bal = with_rows (without_rows (runes_of self.old).bal gone.now) came.now }) }
+          bal = with_rows (without_rows (runes_of self.old).bal gone.now) came.now;
+        }) }
         ensures mark { mark_of self.new ≡ mark_of self.old }
     {
-        for (at, _) in gone {
+        for (at, _) in gone.iter().rev() {
             empty(&mut self.holders, at)?;
         }
-        for (at, balances) in came {
+        for (at, balances) in came.iter().rev() {
             fill(&mut self.holders, *at, balances.copy(alloc)?)?;
         }
         Ok(())
     }
 
+    /// Goes to the other end of a part: where `back` is true, to the state before it.
+    pub(crate) fn put(&mut self, alloc: Global, part: &RunePart, back: bool) -> Result<(), Memory>
+        requires { Touches back part.now (runes_of self.old) }
+        ensures ok { OnOk result ((other : Runes) → LeadsTo back (runes_of self.old) part.now other
+            → runes_of self.new ≡ other) }
+        ensures mark { mark_of self.new ≡ mark_of self.old }
+    {
+        if back {
+            self.back(alloc, part)
+        } else {
+            self.forth(alloc, part)
+        }
+    }
+
     /// Goes to the state before a part, from the one after it.
-    pub(crate) fn back(&mut self, alloc: Global, part: &RunePart) -> Result<(), Memory>
+    fn back(&mut self, alloc: Global, part: &RunePart) -> Result<(), Memory>
         requires { Ends part.now (runes_of self.old) }
         ensures ok { OnOk result (runes_of self.new ≡ earlier_end (runes_of self.old) part.now) }
         ensures mark { mark_of self.new ≡ mark_of self.old }
     {
         self.due.cut(0);
         self.exchange(alloc, part.after.as_slice(), part.before.as_slice())?;
-        for _ in part.appended.as_slice() {
-            self.runes.drop_last()?;
-        }
-        for change in part.counts.as_slice() {
-            self.runes.recount(change.place, change.before)?;
-        }
-        Ok(())
+        let count = self.runes.len() - part.appended.len() as u32;
+        self.runes.keep_first(count)?;
+        self.runes.recount_all(part.counts.as_slice(), true)
     }
 
     /// Goes to the state after a part, from the one before it.
-    pub(crate) fn forth(&mut self, alloc: Global, part: &RunePart) -> Result<(), Memory>
+    fn forth(&mut self, alloc: Global, part: &RunePart) -> Result<(), Memory>
         requires { Begins part.now (runes_of self.old) }
         ensures ok { OnOk result (runes_of self.new ≡ later_end (runes_of self.old) part.now) }
         ensures mark { mark_of self.new ≡ mark_of self.old }
     {
         self.due.cut(0);
         self.exchange(alloc, part.before.as_slice(), part.after.as_slice())?;
-        for change in part.counts.as_slice() {
-            self.runes.recount(change.place, change.after)?;
-        }
-        for row in part.appended.as_slice() {
-            self.runes.push(*row)?;
-        }
-        Ok(())
+        self.runes.recount_all(part.counts.as_slice(), false)?;
+        self.runes.push_all(part.appended.as_slice())
     }
 
     /// The end of a block: what is due to its coinbase's outputs is placed. After `Memory` a part
@@ -339,6 +368,16 @@ fn copies(alloc: Global, list: &MarkedList<Placement>) -> Result<Vec<Placement>,
         copies.push((*at, balances.copy(alloc)?))?;
     }
     Ok(copies)
+}
+
+/// The id of a rune that is etched.
+fn id_of(etching: &Option<RuneRow>) -> Option<RuneId>
+    ensures { result ≡ option_map (λ row. row.id) etching.now }
+{
+    match etching {
+        Some(row) => Some(row.id),
+        None => None,
+    }
 }
 
 /// The outputs of a transaction with what each is given.

@@ -6,9 +6,10 @@ use Rattle.ox_ledger.proofs.list.MarkedList.cut.Goals as goal
 
 pub invariant_of-self : goal.invariant_of-self
 invariant_of-self g c =
-    let at = content_in nat_cmp c.self.inside.items in
-    (full_below at c.self.inside.len c.args.len (within at c.self.inside.len c.args.len c.args.self.now.now c.self.invariant.0 (ap (λ v. v.now) c.self.view_is) c.requires) c.self.invariant.0,
-    c.self.invariant.1)
+    let at = content_in nat_cmp c.self.inside.items in (
+      full_below at c.self.inside.len c.args.len (within at c.self.inside.len c.args.len c.args.self.now.now c.self.invariant.0 (ap (λ v. v.now) c.self.view_is) c.requires) c.self.invariant.0,
+      c.self.invariant.1,
+    )
 
 pub returns : goal.returns
 returns g c =

@@ -15,7 +15,7 @@ invariant_of-self-in_err-put-2 c =
     let shown = ap (λ v. v.now) c.self.view_is in
     let absent = subst (λ (l : List RuneRow). IsAbsent (λ row. row.id) l c.args.row.id) (sym shown) c.requires.id in
     subst (λ (n : Names). AreAllIndexed c.self.inside.rows c.put.new.self n) (sym c.in_err-put-2.ensures.err)
-    (indexed_ids c.self.inside.rows c.self.inside.ids c.put.new.self c.self.inside.names c.args.row.id c.len-place.result c.in_ok-put.ensures.content c.put.ensures.mark absent c.self.invariant)
+    (indexed_ids c.self.inside.rows c.self.inside.ids c.put.new.self c.self.inside.names c.args.row.id (Some c.len-place.result) c.in_ok-put.ensures.content c.put.ensures.mark absent c.self.invariant)
 
 pub invariant_of-self-2 : goal.invariant_of-self-2
 invariant_of-self-2 c =
@@ -23,9 +23,9 @@ invariant_of-self-2 c =
     let no_id = subst (λ (l : List RuneRow). IsAbsent (λ row. row.id) l c.args.row.id) (sym shown) c.requires.id in
     let no_name = subst (λ (l : List RuneRow). IsAbsent (λ row. row.name) l c.args.row.name) (sym shown) c.requires.name in
     let first =
-    indexed_ids c.self.inside.rows c.self.inside.ids c.put.new.self c.self.inside.names c.args.row.id c.len-place.result c.in_ok-put.ensures.content c.put.ensures.mark no_id c.self.invariant in
+    indexed_ids c.self.inside.rows c.self.inside.ids c.put.new.self c.self.inside.names c.args.row.id (Some c.len-place.result) c.in_ok-put.ensures.content c.put.ensures.mark no_id c.self.invariant in
     let second =
-    indexed_names c.self.inside.rows c.put.new.self c.self.inside.names c.put-2.new.self c.args.row.name c.len-place.result c.in_ok-put-2.ensures.content c.put-2.ensures.mark no_name first in
+    indexed_names c.self.inside.rows c.put.new.self c.self.inside.names c.put-2.new.self c.args.row.name (Some c.len-place.result) c.in_ok-put-2.ensures.content c.put-2.ensures.mark no_name first in
     let id_at =
     c.in_ok-put.ensures.content c.args.row.id
     ∙ ap (λ (b : Bool). cond b (Some c.len-place.result) (content_in id_cmp c.self.inside.ids c.args.row.id)) (same_itself c.args.row.id) ∙ ap Some c.len-place.ensures in
