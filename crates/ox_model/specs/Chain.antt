@@ -15,4 +15,4 @@ abbrev pub after_block : Profile → Index → List ℕ → Index
 after_block p index bytes = kept_index index (step p index bytes)
 
 abbrev pub index_of : Profile → List (List ℕ) → Index
-index_of p blocks = fold (after_block p) no_blocks blocks
+index_of p blocks = fold (after_block p) (no_blocks p) blocks

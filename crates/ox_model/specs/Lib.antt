@@ -5,6 +5,8 @@ pub mod Chain
 pub mod Sound
 pub mod Change
 pub mod Ends
+pub mod Found
+pub mod Audit
 pub mod Stack
 pub mod Machine
 pub mod Replies

@@ -14,9 +14,11 @@ use Rattle.ox_sat.specs.declared.profiles.Profile.{Profile}
 use Rattle.ox_rules.specs.declared.refusal.Refusal.{Refusal}
 use Rattle.ox_rules.specs.declared.refusal.Refusal.TheVariants.{Malformed, ChainEnd, Unlinked}
 use Rattle.ox_rules.specs.declared.refusal.Refusal.TheVariants.{BadRoot, Coinbase}
-use Rattle.ox_model.specs.Index.{Index}
 use Rattle.ox_rules.specs.Newest.{zero_hash, newest_of}
 use Rattle.ox_rules.specs.Transfer.{Transferred, transfer_of}
+use Rattle.ox_inscribe.specs.Reveal.{reveal_of}
+use Rattle.ox_ledger.specs.Block.{runes_after}
+use Rattle.ox_model.specs.Index.{Index, runes_of}
 
 -- where a test fails it is this refusal
 abbrev pub refuse_if : Bool → Refusal → Result (Unit {0}) Refusal
@@ -63,20 +65,28 @@ admission p hashes block = do
       (BadRoot block.header.root (block_root block))
   refuse_misplaced (misplaced_coinbase block.txs)
 
--- the index with a block whose satoshis have moved
-abbrev pub grown_index : Index → Block → Transferred → Index
-grown_index index block after = record {
-  hashes = index.hashes ++ block_hash block.header ∷ [];
-  outs = after.outs;
-  lost = index.lost ++ after.moved.lost;
-}
+-- the index with a block whose satoshis have moved: what it reveals comes behind the inscriptions,
+-- and its runes move by what its transactions spent
+abbrev pub grown_index : Profile → Index → Block → Transferred → Index
+grown_index p index block after =
+    let height = length index.hashes in
+    let moved = after.moved.txs in
+    let runes = runes_after p height block.txs moved (runes_of index) in record {
+      hashes = index.hashes ++ block_hash block.header ∷ [];
+      outs = after.outs;
+      lost = index.lost ++ after.moved.lost;
+      inscriptions =
+          index.inscriptions ++ reveal_of index.inscriptions height block.txs moved;
+      bal = runes.bal;
+      runes = runes.runes;
+    }
 
 -- the index after a block
 abbrev pub index_after : Profile → Index → Block → Result Index Refusal
 index_after p index block = do
   admitted ← admission p index.hashes block
   after ← transfer_of p (length index.hashes) block.txs index.outs
-  Ok (grown_index index block after)
+  Ok (grown_index p index block after)
 
 -- the index after the block that these bytes spell
 unfoldable pub step : Profile → Index → List ℕ → Result Index Refusal

@@ -1,5 +1,8 @@
 //! What one block changes.
 
+use ox_bytes::List;
+use ox_inscribe::InsRow;
+use ox_ledger::RunePart;
 use ox_range::Ranges;
 use ox_rules::TableRows;
 
@@ -15,4 +18,8 @@ pub struct Change {
     pub came: TableRows,
     /// The satoshis that it lost, in the order in which they were.
     pub lost: Ranges,
+    /// The inscriptions that it revealed, by number.
+    pub inscriptions: List<InsRow>,
+    /// What it changed of runes and balances.
+    pub runes: RunePart,
 }

@@ -2,37 +2,80 @@
 #![tactic(auto)]
 
 mod about;
+mod audit;
 mod change;
 mod view;
 
 ghost use Rattle.std.specs.Prelude.{◌≡◌, ℕ, ◌+◌, ◌-◌, ◌<◌, List, [], ◌∷◌, ◌++◌, length, take};
 ghost use Rattle.std.specs.Prelude.{slice_get, All, Some, Ok};
+ghost use Rattle.ox_outside.specs.Files.{Files};
+ghost use Rattle.ox_feed.specs.Feed.{FeedLine};
+ghost use Rattle.ox_sat.specs.Profiles.{IsProfile};
 ghost use Rattle.ox_sat.specs.declared.profiles.Profile.{Profile};
+ghost use Rattle.ox_inscribe.specs.declared.row.InsRow.{InsRow};
+ghost use Rattle.ox_ledger.specs.Part.{Continues};
+ghost use Rattle.ox_model.specs.Audit.{audit_of};
 ghost use Rattle.ox_model.specs.Chain.{index_of};
 ghost use Rattle.ox_model.specs.Change.{IsChange, redone, undone};
 ghost use Rattle.ox_model.specs.Index.{Index};
-ghost use Rattle.ox_model.specs.declared.change.Change.{Change as IndexChange};
 ghost use Rattle.ox_model.specs.Machine.{Machine, stack_of};
 ghost use Rattle.ox_model.specs.Replies.{after, after_on, replies, replies_on};
-ghost use Rattle.ox_model.specs.Sound.{IsSound};
-ghost use Rattle.ox_model.specs.Stack.{Stack};
 ghost use Rattle.ox_model.specs.Runs.{LastOf, Run, RunInTurn};
+ghost use Rattle.ox_model.specs.Sound.{IsSound, SoundHeights, SoundInscriptions, SoundOutputs};
+ghost use Rattle.ox_model.specs.Sound.{SoundSats};
+ghost use Rattle.ox_model.specs.Stack.{Stack};
 ghost use Rattle.ox_model.specs.Stands.{stands};
-ghost use Rattle.ox_outside.specs.Files.{Files};
-ghost use Rattle.ox_feed.specs.Feed.{FeedLine};
+ghost use Rattle.ox_model.specs.declared.audit.RuneAudit.{RuneAudit};
+ghost use Rattle.ox_model.specs.declared.change.Change.{Change as IndexChange};
 
 pub use about::About;
+pub use audit::{Audit, RuneAudit};
 pub use change::Change;
+pub use ox_envelope::InsId;
+pub use ox_etching::RuneRow;
+pub use ox_inscribe::InsRow;
+pub use ox_ledger::RunePart;
 pub use ox_rules::{
     Memory, Moved, MovedTx, MovedTxs, OutRow, OutTable, Place, Refusal, SpentRows, TableRows,
     Unplaced, hash_text, outpoint_text,
 };
+pub use ox_runestone::RuneId;
 pub use view::View;
 
-/// The law of satoshis: the index of every chain holds each satoshi that its blocks could claim
-/// once, in an output or among the lost ones, and no other (BIP draft "Ordinal Numbers").
+/// The index of every chain is sound. By any profile, each satoshi that its blocks could claim is
+/// in one place, in an output or among the lost ones, and no other is (BIP draft "Ordinal Numbers");
+/// outputs and inscriptions come from its blocks, and inscriptions are on satoshis that these could
+/// claim. By a profile of the table what outputs hold and what was burned of each rune is its
+/// premine and what its mints gave, too.
 pub fn chains_are_sound()
-    ensures { (p : Profile) (blocks : List (List ℕ)) → IsSound p (index_of p blocks) }
+    ensures heights { (p : Profile) (blocks : List (List ℕ)) → SoundHeights p (index_of p blocks) }
+    ensures outputs { (p : Profile) (blocks : List (List ℕ)) → SoundOutputs (index_of p blocks) }
+    ensures satoshis { (p : Profile) (blocks : List (List ℕ)) → SoundSats p (index_of p blocks) }
+    ensures inscriptions { (p : Profile) (blocks : List (List ℕ))
+        → SoundInscriptions p (index_of p blocks) }
+    ensures whole { (p : Profile) (blocks : List (List ℕ)) → IsProfile p
+        → IsSound p (index_of p blocks) }
+{}
+
+/// What is numbered stays. Every inscription of a chain has its number in each longer chain that
+/// begins with it, and so has every rune, of which no more changes than its mints and what was
+/// burned.
+pub fn numbers_stay()
+    ensures inscriptions { (p : Profile) (blocks more : List (List ℕ)) (number : ℕ) (row : InsRow)
+        → slice_get (index_of p blocks).inscriptions number ≡ Some row
+        → slice_get (index_of p (blocks ++ more)).inscriptions number ≡ Some row }
+    ensures runes { (p : Profile) (blocks more : List (List ℕ))
+        → Continues (index_of p blocks).runes (index_of p (blocks ++ more)).runes }
+{}
+
+/// An audit balances: of a sound index, what is lost and what outputs hold is what could be
+/// claimed, and of each rune what is held and what was burned is its premine and what was minted.
+pub fn audits_balance()
+    ensures satoshis { (p : Profile) (index : Index) → IsSound p index
+        → (audit_of p index).claimable ≡ (audit_of p index).lost + (audit_of p index).outputs }
+    ensures runes { (p : Profile) (index : Index) → IsSound p index
+        → All (λ (rune : RuneAudit). rune.held + rune.burned ≡ rune.premine + rune.minted)
+        (audit_of p index).runes }
 {}
 
 /// A machine's answers to lines, each by fresh indexing of its blocks then, are those of its stack,
@@ -54,11 +97,14 @@ pub fn older_indexes_are_of_fewer_blocks()
         ≡ Some (index_of machine.profile (take (length machine.blocks - (j + 1)) machine.blocks)) }
 {}
 
-/// Two indexes of which the second has one block more, and lost satoshis behind those of the first,
-/// have one change. With either of them it gives the other.
+/// Two indexes of which the second has one block more, lost satoshis and inscriptions behind those
+/// of the first, and runes that begin with those of the first but for mints and burned, have one
+/// change. With either of them it gives the other.
 pub fn changes_lead_both_ways()
-    ensures some { (before after : Index) (hash lost : List ℕ)
+    ensures some { (before after : Index) (hash lost : List ℕ) (inscriptions : List InsRow)
         → after.hashes ≡ before.hashes ++ hash ∷ [] → after.lost ≡ before.lost ++ lost
+        → after.inscriptions ≡ before.inscriptions ++ inscriptions
+        → Continues before.runes after.runes
         → (change : IndexChange) × IsChange before after change }
     ensures one { (before after : Index) (c d : IndexChange)
         → IsChange before after c → IsChange before after d → c ≡ d }

@@ -1,19 +1,29 @@
 //! An index as its readers see it.
 
-ghost use Rattle.std.specs.Prelude.{◌≡◌, length, slice_get, option_copied};
+ghost use Rattle.std.specs.Prelude.{◌≡◌, ◌<◌, Some, length, slice_get, option_copied, option_map};
+ghost use Rattle.std.specs.Prelude.{IfOk};
 ghost use Rattle.std.specs.FinMap as map;
 ghost use Rattle.ox_sat.specs.Profiles.{IsProfile};
 ghost use Rattle.ox_sat.specs.declared.profiles.Profile.{Profile};
+ghost use Rattle.ox_inscribe.specs.Inscriptions.{children, find, next_on, on};
+ghost use Rattle.ox_ledger.specs.Runes.{balances_at};
+ghost use Rattle.ox_model.specs.Audit.{audit_of};
+ghost use Rattle.ox_model.specs.Found.{by_id, by_name, held_of};
 ghost use Rattle.ox_model.specs.Index.{Index};
 ghost use Rattle.ox_model.specs.Where.{where_is};
 ghost use Rattle.ox_model.specs.Sound.{IsSound};
 
+use crate::audit::Audit;
 use ox_block::OutPoint;
-use ox_rules::{OutRow, Place};
+use ox_envelope::InsId;
+use ox_etching::RuneRow;
+use ox_inscribe::InsRow;
+use ox_rules::{Memory, OutRow, Place};
+use ox_runestone::RuneId;
 use ox_sat::Profile;
 
-/// An index that is sound for its profile, which is one of the table, to be read. Nothing here
-/// takes memory.
+/// An index that is sound for its profile, which is one of the table, to be read. Nothing here but
+/// `audit` takes memory.
 pub trait View {
     /// The profile by which the chain counts.
     ghost chain: { Self → Profile };
@@ -46,6 +56,67 @@ pub trait View {
     /// ones; `None` exactly where it is nowhere.
     fn locate(&self, sat: u64) -> Option<Place>
         ensures { result ≡ where_is (index self.now) sat };
+
+    /// How many inscriptions there are.
+    fn inscriptions(&self) -> u32
+        ensures { result ≡ length (index self.now).inscriptions };
+
+    /// The inscription with a number.
+    fn inscription(&self, n: u32) -> &InsRow
+        requires { n < length (index self.now).inscriptions }
+        ensures { slice_get (index self.now).inscriptions n ≡ Some result.now };
+
+    /// The number of the first inscription with an id; `None` exactly where there is none.
+    fn find(&self, id: &InsId) -> Option<u32>
+        ensures { result ≡ find (index self.now).inscriptions id.now };
+
+    /// The numbers of the inscriptions on a satoshi, rising.
+    fn on(&self, sat: u64) -> &[u32]
+        ensures { result.now ≡ on (index self.now).inscriptions sat };
+
+    /// The least satoshi from a number up that bears an inscription, and the numbers of those on
+    /// it, rising; `None` exactly where there is none.
+    fn next_on(&self, sat: u64) -> Option<(u64, &[u32])>
+        ensures { option_map (λ found. (found.0, found.1.now)) result
+            ≡ next_on (index self.now).inscriptions sat };
+
+    /// The numbers of the inscriptions among whose parents the id of the one with a number stands,
+    /// rising.
+    fn children(&self, of: u32) -> &[u32]
+        requires { of < length (index self.now).inscriptions }
+        ensures { result.now ≡ children (index self.now).inscriptions of };
+
+    /// The runes of an output, ids rising; none where there is no such output.
+    fn balance(&self, at: &OutPoint) -> &[(RuneId, u128)]
+        ensures { result.now ≡ balances_at (index self.now).bal at.now };
+
+    /// How many runes there are.
+    fn runes(&self) -> u32
+        ensures { result ≡ length (index self.now).runes };
+
+    /// The rune with a number, by etching.
+    fn rune(&self, n: u32) -> &RuneRow
+        requires { n < length (index self.now).runes }
+        ensures { slice_get (index self.now).runes n ≡ Some result.now };
+
+    /// The number of the rune with a name; `None` exactly where there is none.
+    fn by_name(&self, name: u128) -> Option<u32>
+        ensures { result ≡ by_name (index self.now).runes name };
+
+    /// The number of the rune with an id; `None` exactly where there is none.
+    fn by_id(&self, id: RuneId) -> Option<u32>
+        ensures { result ≡ by_id (index self.now).runes id };
+
+    /// How much all outputs together hold of the rune with a number.
+    fn held(&self, n: u32) -> u128
+        requires { n < length (index self.now).runes }
+        ensures { option_map (held_of (index self.now)) (slice_get (index self.now).runes n)
+            ≡ Some result };
+
+    /// Where all satoshis and runes are. `Memory` where there is none for the runes.
+    fn audit(&self) -> Result<Audit, Memory>
+        ensures { IfOk result
+            (λ audit. audit ≡ audit_of (chain self.now) (index self.now)) };
 
     /// The profile is one of the table.
     ghost known: { (view : Self) → IsProfile (chain view) };
