@@ -70,7 +70,7 @@ connects : (m : Machine) (bytes : List ℕ) (r : Result Index Refusal) → step 
     → on_stack (chosen_if (chosen m (Some (Connect bytes))) (with_index (stack_of m) r)) ≡ with_index (stack_of m) r
 connects m bytes (Ok index) is =
     let newest : index_of m.profile (m.blocks ++ bytes ∷ []) ≡ index =
-    fold_push (after_block m.profile) no_blocks m.blocks bytes ∙ ap (kept_index (chain_index m)) is in
+    fold_push (after_block m.profile) (no_blocks m.profile) m.blocks bytes ∙ ap (kept_index (chain_index m)) is in
     let older : older_of m.profile (min (suc m.kept) m.depth) (m.blocks ++ bytes ∷ []) ≡ take m.depth (chain_index m ∷ older_of m.profile m.kept m.blocks) =
     older_pushed m.profile m.depth m.kept m.blocks bytes in
     λ i. Ok (record { profile = m.profile; depth = m.depth; index = newest i; older = older i })

@@ -1,5 +1,5 @@
 -- What files stand for once a record is appended, and of which chain that is.
-use Rattle.std.proofs.Common.{◌≡◌, ◌∙◌, ℕ, zero, suc, List, [], ◌∷◌, ◌++◌, ap, refl, subst}
+use Rattle.std.proofs.Common.{◌≡◌, ◌∙◌, ℕ, zero, suc, List, [], ◌∷◌, ◌++◌, ap, refl, subst, sym}
 use Rattle.std.specs.Prelude.{All, Option, Some, None, Result, Ok, Err}
 use Rattle.std.specs.Result.{result_ok}
 use Rattle.std.proofs.lemmas.List.Elements.{All-nil, All-cons}
@@ -9,16 +9,19 @@ use Rattle.ox_outside.specs.declared.site.Which.{Which}
 use Rattle.ox_gated.specs.Reading.{Found, Fault, IntactPart, with_payload, reading}
 use Rattle.ox_gated.specs.declared.head.Head.{Head}
 use Rattle.ox_gated.specs.declared.records.Record.{Record}
-use Rattle.ox_sat.specs.Profiles.{name_at, profile_named}
+use Rattle.ox_sat.specs.Profiles.{IsProfile, name_at, profile_named}
 use Rattle.ox_feed.specs.declared.command.Command.{Command}
 use Rattle.ox_feed.specs.declared.command.Command.TheVariants.{Connect, Disconnect}
 use Rattle.ox_sat.specs.declared.profiles.Profile.{Profile}
 use Rattle.ox_model.specs.Machine.{Machine, all_but_last, chain_index, chosen, chosen_if, empty_machine, older_of, stack_of}
 use Rattle.ox_model.specs.Chain.{index_of}
 use Rattle.ox_model.specs.Sound.{IsSound}
-use Rattle.ox_model.specs.Stack.{Stack, stack_after}
+use Rattle.ox_model.specs.Index.{Index}
+use Rattle.ox_model.specs.Stack.{Stack, back_to, stack_after, with_index}
+use Rattle.ox_model.specs.Step.{step}
 use Rattle.ox_model.specs.Stands.{empty_stack_at, command_in, recorded, stack_accepting, or_place, stack_after_records, stack_in_file, in_file, place_of_cut, stack_in, stands}
 use Rattle.ox_rules.specs.declared.refusal.Refusal.{Refusal}
+use Rattle.ox_rules.proofs.Conservation.{bind_ok, ok_same}
 use Rattle.ox_model.proofs.Soundness.{sound_chain}
 use Rattle.ox_model.proofs.AnswersOfStacks.{on_stack, obeys_alike}
 
@@ -129,15 +132,54 @@ chain_in (Err fault) stack is = absurd (no_stack fault.file fault.at fault.befor
 pub stands_for_chain : (files : Files) (stack : Stack) → stands files ≡ Ok stack → IsOfChain stack
 stands_for_chain files stack is = chain_in (reading 1 files) stack is
 
-sound_older : (p : Profile) (kept : ℕ) (blocks : List (List ℕ)) → All (IsSound p) (older_of p kept blocks)
-sound_older p zero blocks = All-nil (IsSound p)
-sound_older p (suc kept) blocks =
-    All-cons (IsSound p) (index_of p (all_but_last blocks)) (older_of p kept (all_but_last blocks))
-    (sound_chain p (all_but_last blocks)) (sound_older p kept (all_but_last blocks))
+-- ---- whose profile it is
 
-pub chain_sound : (stack : Stack) → IsOfChain stack → All (IsSound stack.profile) (stack.index ∷ stack.older)
-chain_sound stack of =
+kept_with : (stack : Stack) (r : Result Index Refusal) (new : Stack) → with_index stack r ≡ Ok new → new.profile ≡ stack.profile
+kept_with stack (Ok index) new is = sym (ap (λ (s : Stack). s.profile) (ok_same {F = Refusal} _ _ is))
+kept_with stack (Err refusal) new is = absurd (cc is)
+
+kept_back : (stack : Stack) (older : List Index) (new : Stack) → back_to stack older ≡ Ok new → new.profile ≡ stack.profile
+kept_back stack [] new is = absurd (cc is)
+kept_back stack (index ∷ older) new is = sym (ap (λ (s : Stack). s.profile) (ok_same {F = Refusal} _ _ is))
+
+kept_after : (stack : Stack) (command : Command) (new : Stack) → stack_after stack command ≡ Ok new → new.profile ≡ stack.profile
+kept_after stack (Connect bytes) new is = kept_with stack (step stack.profile stack.index bytes) new is
+kept_after stack Disconnect new is = kept_back stack stack.older new is
+
+kept_more : (stack : Stack) (place : ℕ) (command : Option Command) (new : Stack) → or_place place (stack_accepting stack command) ≡ Ok new → new.profile ≡ stack.profile
+kept_more stack place (Some command) new is = kept_after stack command new (taken place (stack_after stack command) new is)
+kept_more stack place None new is = absurd (cc is)
+
+kept_replayed : (first : Stack) (records : List Record) (stack : Stack) → stack_after_records first records ≡ Ok stack → stack.profile ≡ first.profile
+unfolding stack_after_records
+kept_replayed first [] stack is = sym (ap (λ (s : Stack). s.profile) (ok_same {F = ℕ} _ _ is))
+kept_replayed first (one ∷ records) stack is =
+    let next = bind_ok (one_more first one) (λ next. stack_after_records next records) stack is in
+    kept_replayed next.0 records stack next.2 ∙ kept_more first one.place (command_in one.payload) next.0 next.1
+
+known_judged : (head : Head) (body : List ℕ) (records : List Record) (stack : Stack) → stack_in_file head body records ≡ Ok stack → IsProfile stack.profile
+known_judged head [] records stack is = record { name = name_at head.profile; is = kept_replayed (empty_stack_at head) records stack is }
+known_judged head (b ∷ body) records stack is = absurd (cc is)
+
+known_in : (found : Result Found Fault) (stack : Stack) → stack_in found ≡ Ok stack → IsProfile stack.profile
+known_in (Ok found) stack is = known_judged found.head found.body found.records stack (in_file_ok found.file (stack_in_file found.head found.body found.records) stack is)
+known_in (Err fault) stack is = absurd (no_stack fault.file fault.at fault.before stack is)
+
+-- files stand for a stack of a profile of the table
+pub stands_for_known : (files : Files) (stack : Stack) → stands files ≡ Ok stack → IsProfile stack.profile
+stands_for_known files stack is = known_in (reading 1 files) stack is
+
+sound_older : (p : Profile) (kept : ℕ) (blocks : List (List ℕ)) → IsProfile p → All (IsSound p) (older_of p kept blocks)
+sound_older p zero blocks known = All-nil (IsSound p)
+sound_older p (suc kept) blocks known =
+    All-cons (IsSound p) (index_of p (all_but_last blocks)) (older_of p kept (all_but_last blocks))
+    (sound_chain p (all_but_last blocks) known) (sound_older p kept (all_but_last blocks) known)
+
+-- each index of a chain's stack is sound, where its profile is one of the table
+pub chain_sound : (stack : Stack) → IsProfile stack.profile → IsOfChain stack → All (IsSound stack.profile) (stack.index ∷ stack.older)
+chain_sound stack known of =
     let machine = of.0 in
+    let named : IsProfile machine.profile = subst (λ (s : Stack). IsProfile s.profile) (sym of.1) known in
     subst (λ (s : Stack). All (IsSound s.profile) (s.index ∷ s.older)) of.1
     (All-cons (IsSound machine.profile) (chain_index machine) (older_of machine.profile machine.kept machine.blocks)
-    (sound_chain machine.profile machine.blocks) (sound_older machine.profile machine.kept machine.blocks))
+    (sound_chain machine.profile machine.blocks named) (sound_older machine.profile machine.kept machine.blocks named))

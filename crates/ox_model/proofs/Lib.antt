@@ -1,3 +1,6 @@
+pub mod FewTransactions
+pub mod Inscribed
+pub mod RunesOfChains
 pub mod Soundness
 pub mod CountedMoments
 pub mod FilesOfChains
