@@ -200,9 +200,16 @@ tx_takes bytes x is =
     let inputs = bind_ok (maybe_witnesses_at marked.0.0 (length version.0.1) bare.0.0 outputs.0.1) _ x outputs.2 in
     let lock = bind_ok (number_at w32 inputs.0.1) _ x inputs.2 in
     let rest : lock.0.1 ≡ x.1 = ap (λ (w : Tx × List ℕ). w.1) (ok_is {F = ℕ} _ x lock.2) in
-    omega (arith, number_takes bytes version.0 version.1, marker_shrinks version.0.1 marked.0 marked.1, inputs_shrink marked.0.1 bare.0 bare.1,
-    all_outputs_shrink bare.0.1 outputs.0 outputs.1, witnesses_shrink marked.0.0 (length version.0.1) bare.0.0 outputs.0.1 inputs.0 inputs.1,
-    number_shrinks w32 inputs.0.1 lock.0 lock.1, ap (λ (l : List ℕ). length l) rest)
+    omega (
+      arith,
+      number_takes bytes version.0 version.1,
+      marker_shrinks version.0.1 marked.0 marked.1,
+      inputs_shrink marked.0.1 bare.0 bare.1,
+      all_outputs_shrink bare.0.1 outputs.0 outputs.1,
+      witnesses_shrink marked.0.0 (length version.0.1) bare.0.0 outputs.0.1 inputs.0 inputs.1,
+      number_shrinks w32 inputs.0.1 lock.0 lock.1,
+      ap (λ (l : List ℕ). length l) rest,
+    )
 
 -- so many take as many bytes
 times_take : (n : ℕ) (bytes : List ℕ) (x : List Tx × List ℕ) → times tx_at n bytes ≡ Ok x → length x.0 + length x.1 ≤ length bytes
@@ -226,8 +233,16 @@ header_shrinks bytes x is =
     let bits = bind_ok (number_at w32 time.0.1) _ x time.2 in
     let nonce = bind_ok (number_at w32 bits.0.1) _ x bits.2 in
     let rest : nonce.0.1 ≡ x.1 = ap (λ (w : _ × List ℕ). w.1) (ok_is {F = ℕ} _ x nonce.2) in
-    omega (arith, number_shrinks w32 bytes version.0 version.1, run_shrinks 32 version.0.1 previous.0 previous.1, run_shrinks 32 previous.0.1 root.0 root.1,
-    number_shrinks w32 root.0.1 time.0 time.1, number_shrinks w32 time.0.1 bits.0 bits.1, number_shrinks w32 bits.0.1 nonce.0 nonce.1, ap (λ (l : List ℕ). length l) rest)
+    omega (
+      arith,
+      number_shrinks w32 bytes version.0 version.1,
+      run_shrinks 32 version.0.1 previous.0 previous.1,
+      run_shrinks 32 previous.0.1 root.0 root.1,
+      number_shrinks w32 root.0.1 time.0 time.1,
+      number_shrinks w32 time.0.1 bits.0 bits.1,
+      number_shrinks w32 bits.0.1 nonce.0 nonce.1,
+      ap (λ (l : List ℕ). length l) rest,
+    )
 
 block_takes : (bytes : List ℕ) (x : Block × List ℕ) → block_at bytes ≡ Ok x → length x.0.txs ≤ length bytes
 unfolding block_at
@@ -238,8 +253,14 @@ block_takes bytes x is =
     let count = bind_ok (count_at header.0.1) (λ n. times tx_at n.0 n.1) txs.0 txs.1 in
     let made : ((header.0.0, txs.0.0), txs.0.1) ≡ parts.0 = ok_is {F = ℕ} ((header.0.0, txs.0.0), txs.0.1) parts.0 txs.2 in
     let block : (record { header = parts.0.0.0; txs = parts.0.0.1 }, parts.0.1) ≡ x = ok_is {F = ℕ} (record { header = parts.0.0.0; txs = parts.0.0.1 }, parts.0.1) x parts.2 in
-    omega (arith, header_shrinks bytes header.0 header.1, count_shrinks header.0.1 count.0 count.1, times_take count.0.0 count.0.1 txs.0 count.2,
-    ap (λ (p : (Header × List Tx) × List ℕ). length p.0.1) made, ap (λ (b : Block × List ℕ). length b.0.txs) block)
+    omega (
+      arith,
+      header_shrinks bytes header.0 header.1,
+      count_shrinks header.0.1 count.0 count.1,
+      times_take count.0.0 count.0.1 txs.0 count.2,
+      ap (λ (p : (Header × List Tx) × List ℕ). length p.0.1) made,
+      ap (λ (b : Block × List ℕ). length b.0.txs) block,
+    )
 
 whole_takes : (bytes : List ℕ) (block : Block) → whole_of bytes ≡ Ok block → length block.txs ≤ length bytes
 unfolding whole_of

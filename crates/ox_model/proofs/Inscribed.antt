@@ -98,10 +98,10 @@ new_rows p index coinbase txs after sound is =
     let Found : Origin → InsRow → Type 0 = λ origin row. (row.height ≡ height) × IsPlaced origin row in
     All-weaker (λ (row : InsRow). (origin : Origin) × ComesFrom all moved origin row × Found origin row) (IsRevealed height (first_at p height))
     (λ row from.
-        let was : WasThere index.outs from.0.did = at_place (WasThere index.outs) (drop 1 moved) from.0.place from.0.did there from.1.did in record {
-          at = from.2.0;
-          minted = some_weaker row.sat _ (λ sat. sat < first_at p height) (λ sat held. claimed_so_far p index sat sound (was sat held)) from.2.1.held;
-        })
+    let was : WasThere index.outs from.0.did = at_place (WasThere index.outs) (drop 1 moved) from.0.place from.0.did there from.1.did in record {
+      at = from.2.0;
+      minted = some_weaker row.sat _ (λ sat. sat < first_at p height) (λ sat held. claimed_so_far p index sat sound (was sat held)) from.2.1.held;
+    })
     (reveal_of index.inscriptions height all moved)
     (all_new Found index.inscriptions height all moved (transfer_moves p height all index.outs after is)
     (λ origin row new. (ap (λ (r : InsRow). r.height) new.is, is_placed index.inscriptions height all moved origin row new)))

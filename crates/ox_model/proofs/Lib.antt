@@ -8,3 +8,5 @@ pub mod AnswersOfStacks
 pub mod RunsInTurn
 pub mod Changes
 pub mod Ended
+pub mod Numbers
+pub mod Audits

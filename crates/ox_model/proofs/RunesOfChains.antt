@@ -65,6 +65,7 @@ ids_mint P runes (Some mint) all = ids_mapped P (mint_more mint.0) same runes al
   by_test : (row : RuneRow) (b : Bool) → let new : RuneRow = if b then record row { mints = row.mints + 1 } else row in new.id ≡ row.id
   by_test row true = refl
   by_test row false = refl
+
   same : (row : RuneRow) → (mint_more mint.0 row).id ≡ row.id
   same row = by_test row (is_same row.id mint.0)
 
@@ -165,30 +166,30 @@ Within bal outs = (at : OutPoint) (balances : List Balance) → get bal at ≡ S
 within_removed : (bal : BalanceMap) (outs : Outputs) (at : OutPoint) → Within bal outs → Within (remove bal at) (remove outs at)
 within_removed bal outs at within q balances is =
     subst (λ (o : Option OutRow). IsSome o) (sym (get-remove outpoints_total outs at q)) (by_test (eq_by_cmp outpoint_cmp q at) (sym (get-remove outpoints_total bal at q) ∙ is)) where
-  by_test : (b : Bool) → cond b None (get bal q) ≡ Some balances → IsSome (cond b None (get outs q))
-  by_test true none = absurd (cc none)
-  by_test false there = within q balances there
+      by_test : (b : Bool) → cond b None (get bal q) ≡ Some balances → IsSome (cond b None (get outs q))
+      by_test true none = absurd (cc none)
+      by_test false there = within q balances there
 
 within_more : (bal : BalanceMap) (outs : Outputs) (at : OutPoint) (row : OutRow) → Within bal outs → Within bal (insert outs at row)
 within_more bal outs at row within q balances is =
     subst (λ (o : Option OutRow). IsSome o) (sym (get-insert outpoints_total outs at row q)) (by_test (eq_by_cmp outpoint_cmp q at)) where
-  by_test : (b : Bool) → IsSome (cond b (Some row) (get outs q))
-  by_test true = refl
-  by_test false = within q balances is
+      by_test : (b : Bool) → IsSome (cond b (Some row) (get outs q))
+      by_test true = refl
+      by_test false = within q balances is
 
 within_inserted : (bal : BalanceMap) (outs : Outputs) (at : OutPoint) (new : List Balance) (row : OutRow) → Within bal outs → Within (insert bal at new) (insert outs at row)
 within_inserted bal outs at new row within q balances is =
     subst (λ (o : Option OutRow). IsSome o) (sym (get-insert outpoints_total outs at row q)) (by_test (eq_by_cmp outpoint_cmp q at) (sym (get-insert outpoints_total bal at new q) ∙ is)) where
-  by_test : (b : Bool) → cond b (Some new) (get bal q) ≡ Some balances → IsSome (cond b (Some row) (get outs q))
-  by_test true here = refl
-  by_test false there = within q balances there
+      by_test : (b : Bool) → cond b (Some new) (get bal q) ≡ Some balances → IsSome (cond b (Some row) (get outs q))
+      by_test true here = refl
+      by_test false there = within q balances there
 
 within_dropped : (bal : BalanceMap) (outs : Outputs) (at : OutPoint) (row : OutRow) → Within bal outs → Within (remove bal at) (insert outs at row)
 within_dropped bal outs at row within q balances is =
     subst (λ (o : Option OutRow). IsSome o) (sym (get-insert outpoints_total outs at row q)) (by_test (eq_by_cmp outpoint_cmp q at) (sym (get-remove outpoints_total bal at q) ∙ is)) where
-  by_test : (b : Bool) → cond b None (get bal q) ≡ Some balances → IsSome (cond b (Some row) (get outs q))
-  by_test true here = refl
-  by_test false there = within q balances there
+      by_test : (b : Bool) → cond b None (get bal q) ≡ Some balances → IsSome (cond b (Some row) (get outs q))
+      by_test true here = refl
+      by_test false there = within q balances there
 
 within_one : (bal : BalanceMap) (outs : Outputs) (at : OutPoint) (new : List Balance) (row : OutRow) → Within bal outs → Within (with_balances bal at new) (insert outs at row)
 within_one bal outs at [] row within = within_dropped bal outs at row within
@@ -315,13 +316,13 @@ all_turn p height place (tx ∷ txs) outs spent state behind is within =
     let next = turn_at p height place tx one.moved state in
     let more = all_turn p height (place + 1) txs first.0.outs rest.0 next (omega arith) rest.1 one.within in
     let whole : TurnAll p height place (tx ∷ txs) state
-        (record { moved = one.moved ∷ rest.0.moved; lost = first.0.lost ++ rest.0.lost; fees = first.0.fees ++ rest.0.fees; outs = rest.0.outs })
-        = record { within = more.within; due = more.due ∙ one.due } in
+    (record { moved = one.moved ∷ rest.0.moved; lost = first.0.lost ++ rest.0.lost; fees = first.0.fees ++ rest.0.fees; outs = rest.0.outs })
+    = record { within = more.within; due = more.due ∙ one.due } in
     subst (TurnAll p height place (tx ∷ txs) state) (ok_same {F = Refusal} _ _ rest.2)
     (subst
-        (λ (front : List MovedTx). TurnAll p height place (tx ∷ txs) state
-            (record { moved = front ++ rest.0.moved; lost = first.0.lost ++ rest.0.lost; fees = first.0.fees ++ rest.0.fees; outs = rest.0.outs }))
-        (sym one.alone) whole)
+    (λ (front : List MovedTx). TurnAll p height place (tx ∷ txs) state
+    (record { moved = front ++ rest.0.moved; lost = first.0.lost ++ rest.0.lost; fees = first.0.fees ++ rest.0.fees; outs = rest.0.outs }))
+    (sym one.alone) whole)
 
 pub stay_within : (p : Profile) (height : ℕ) (coinbase : Tx) (txs : List Tx) (outs : Outputs) (after : Transferred) (bal : BalanceMap) (runes : List RuneRow)
     → transfer_of p height (coinbase ∷ txs) outs ≡ Ok after → Within bal outs

@@ -204,7 +204,7 @@ pub sound_first : (p : Profile) → IsSound p (no_blocks p)
 sound_first p = with_sound_runes p (no_blocks p) (plain_first p) (runes_first p (no_blocks p) refl refl refl)
 
 -- what each block keeps holds of every chain
-kept_by : (p : Profile) (P : Index → Type 0) → ((index : Index) (bytes : List ℕ) (new : Index) → P index → step p index bytes ≡ Ok new → P new)
+pub kept_by : (p : Profile) (P : Index → Type 0) → ((index : Index) (bytes : List ℕ) (new : Index) → P index → step p index bytes ≡ Ok new → P new)
     → (index : Index) (blocks : List (List ℕ)) → P index → P (fold (after_block p) index blocks)
 kept_by p P keeps index [] holds = holds
 kept_by p P keeps index (bytes ∷ blocks) holds = kept_by p P keeps (after_block p index bytes) blocks (by_result (step p index bytes) refl) where

@@ -32,7 +32,8 @@ pub record SoundSats (p : Profile) (index : Index) : Type 0 where
 -- claimed so far
 pub record SoundInscriptions (p : Profile) (index : Index) : Type 0 where
   pub below : All (λ (row : InsRow). row.height < length index.hashes) index.inscriptions
-  pub minted : All (λ (row : InsRow). IfSome row.sat (λ sat. sat < first_at p (length index.hashes)))
+  pub minted : All
+      (λ (row : InsRow). IfSome row.sat (λ sat. sat < first_at p (length index.hashes)))
       index.inscriptions
 
 -- this is the rune that is there from the start

@@ -42,11 +42,11 @@ pub use ox_rules::{
 pub use ox_runestone::RuneId;
 pub use view::View;
 
-/// The index of every chain is sound. By any profile, each satoshi that its blocks could claim is
-/// in one place, in an output or among the lost ones, and no other is (BIP draft "Ordinal Numbers");
+/// The index of every chain is sound. By any profile each satoshi that its blocks could claim is in
+/// one place, an output or the lost ones, and no other satoshi is (BIP draft "Ordinal Numbers");
 /// outputs and inscriptions come from its blocks, and inscriptions are on satoshis that these could
-/// claim. By a profile of the table what outputs hold and what was burned of each rune is its
-/// premine and what its mints gave, too.
+/// claim. By a profile of the table it is sound as a whole: of each rune, too, what outputs hold
+/// and what was burned is its premine and what its mints gave.
 pub fn chains_are_sound()
     ensures heights { (p : Profile) (blocks : List (List ℕ)) → SoundHeights p (index_of p blocks) }
     ensures outputs { (p : Profile) (blocks : List (List ℕ)) → SoundOutputs (index_of p blocks) }
