@@ -1,6 +1,7 @@
 pub mod FewTransactions
 pub mod Inscribed
 pub mod RunesOfChains
+pub mod FreePlaces
 pub mod Soundness
 pub mod CountedMoments
 pub mod FilesOfChains

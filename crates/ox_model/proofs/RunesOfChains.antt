@@ -49,7 +49,7 @@ use Rattle.ox_model.specs.Sound.{IsFirst, SoundRunes}
 -- ---- where runes come from
 
 -- this holds of each rune's id
-abbrev OfIds : (RuneId → Type 0) → List RuneRow → Type 0
+abbrev pub OfIds : (RuneId → Type 0) → List RuneRow → Type 0
 OfIds P runes = AllByRecursion (λ (row : RuneRow). P row.id) runes
 
 ids_mapped : (P : RuneId → Type 0) (f : RuneRow → RuneRow) → ((row : RuneRow) → (f row).id ≡ row.id) → (runes : List RuneRow) → OfIds P runes → OfIds P (map f runes)
@@ -83,7 +83,7 @@ ids_settled : (P : RuneId → Type 0) (b : Bool) (mid : Runes) (due new : List P
 ids_settled P true mid due new all = all
 ids_settled P false mid due new all = ids_placed P mid new all
 
-ids_turn : (P : RuneId → Type 0) (at : Spot) (tx : Tx) (spent : List OutRow) (state : Runes) → P (id_of at) → OfIds P state.runes → OfIds P (turn at tx spent state).runes
+pub ids_turn : (P : RuneId → Type 0) (at : Spot) (tx : Tx) (spent : List OutRow) (state : Runes) → P (id_of at) → OfIds P state.runes → OfIds P (turn at tx spent state).runes
 ids_turn P at tx spent state here all =
     let artifact = artifact_at at tx in
     let etching = etching_by at tx spent state.runes artifact in
@@ -139,7 +139,7 @@ first_apart p known first = by_name known.name (ap (λ (q : Profile). q.first_ru
   by_name Regtest is start = absurd (cc is)
   by_name Lab is start = absurd (cc is)
 
-other_height : (p : Profile) (height : ℕ) (row : RuneRow) → IsProfile p → p.rune_start ≤ height → ComesBelow p height row → row.id.block ≢ height
+pub other_height : (p : Profile) (height : ℕ) (row : RuneRow) → IsProfile p → p.rune_start ≤ height → ComesBelow p height row → row.id.block ≢ height
 other_height p height row known start (inl low) same = absurd (omega (arith, low, same))
 other_height p height row known start (inr first) same =
     let one : row.id.block ≡ 1 = ap (λ (id : RuneId). id.block) first.1 in
