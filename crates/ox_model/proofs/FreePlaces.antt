@@ -1,7 +1,7 @@
 -- Where a transaction etches, no rune was etched before it, so a ledger may take its turn.
 use Rattle.std.proofs.Common.{◌≡◌, ◌≢◌, ℕ, ◌+◌, ◌<◌, ◌≤◌, List, [], ◌∷◌, length, ap, arith}
 use Rattle.std.specs.List.{AllByRecursion}
-use Rattle.std.proofs.lemmas.List.Elements.{All-from_recursion, recursion_from_All}
+use Rattle.std.proofs.lemmas.List.Elements.{All-from_recursion, All-weaker, recursion_from_All}
 use Rattle.ox_block.specs.declared.block.Tx.{Tx}
 use Rattle.ox_block.specs.declared.block.Txid.{Txid}
 use Rattle.ox_runestone.specs.declared.stone.RuneId.{RuneId}
@@ -15,7 +15,7 @@ use Rattle.ox_ledger.specs.Runes.{Runes}
 use Rattle.ox_ledger.specs.Turn.{IsFree}
 use Rattle.ox_model.specs.Index.{Index}
 use Rattle.ox_model.specs.Sound.{SoundRunes}
-use Rattle.ox_model.proofs.RunesOfChains.{ComesBelow, ids_turn, other_height}
+use Rattle.ox_model.proofs.RunesOfChains.{ComesBelow, IsOfChain, comes_from, ids_turn, other_height}
 
 -- from the height on at which runes start, those of a block's height were etched before this place
 abbrev IsBefore : ℕ → ℕ → RuneId → Type 0
@@ -32,7 +32,8 @@ none_here p height (row ∷ runes) known start below = ((λ same. absurd (other_
 -- so it is before a block
 pub open_first : (p : Profile) (index : Index) → IsProfile p → SoundRunes p index → IsOpen p (length index.hashes) 0 index.runes
 open_first p index known sound start =
-    none_here p (length index.hashes) index.runes known start (recursion_from_All (ComesBelow p (length index.hashes)) index.runes sound.below)
+    none_here p (length index.hashes) index.runes known start (recursion_from_All (ComesBelow p (length index.hashes)) index.runes
+    (All-weaker (IsOfChain p (length index.hashes)) (ComesBelow p (length index.hashes)) (comes_from p (length index.hashes)) index.runes sound.below))
 
 later : (height place : ℕ) (runes : List RuneRow) → AllByRecursion (λ (row : RuneRow). IsBefore height place row.id) runes
     → AllByRecursion (λ (row : RuneRow). IsBefore height (place + 1) row.id) runes

@@ -1,9 +1,10 @@
 -- The runes of a block's transactions come from its height, and stand at outputs that are there.
-use Rattle.std.proofs.Common.{◌≡◌, ◌≢◌, ◌∙◌, ◌<◌, ◌≤◌, ◌⊎◌, ℕ, zero, suc, ◌+◌, ◌^◌, Bool, true, false, cond, List, [], ◌∷◌, ◌++◌, length, map, refl, sym, ap, subst, arith, inl, inr, Option, Some, None, Ok}
-use Rattle.std.specs.Prelude.{◌==◌, All, IsSome, if◌then◌else◌}
+use Rattle.std.proofs.Common.{◌≡◌, ◌≢◌, ◌∙◌, ◌<◌, ◌≤◌, ◌⊎◌, ℕ, zero, suc, ◌+◌, ◌^◌, Bool, true, false, cond, List, [], ◌∷◌, ◌++◌, length, map, refl, sym, ap, subst, arith, inl, inr, Option, Some, None, Ok, nat_lt}
+use Rattle.std.specs.Prelude.{◌==◌, ◌&&◌, ◌||◌, All, IsSome, IsTrue, if◌then◌else◌}
 use Rattle.std.specs.List.{AllByRecursion}
 use Rattle.std.specs.Ordering.{eq_by_cmp}
 use Rattle.std.specs.FinMap.{get, insert, remove, get-insert, get-remove, get-empty, empty}
+use Rattle.std.proofs.lemmas.Bool.{and_parts, lt-ltb, ltb-true}
 use Rattle.std.proofs.lemmas.Bool.Decides.{Decides-eqb}
 use Rattle.std.proofs.lemmas.List.{length-map}
 use Rattle.std.proofs.lemmas.List.Elements.{All-from_recursion, All-weaker, recursion_from_All}
@@ -32,6 +33,7 @@ use Rattle.ox_allocation.specs.Allocation.{balances_from}
 use Rattle.ox_allocation.specs.Balances.{Balance, ids_of, is_same}
 use Rattle.ox_allocation.specs.Gifts.{Gift}
 use Rattle.ox_allocation.specs.Allocation.{gifts_from}
+use Rattle.ox_allocation.proofs.Ids.{same_id, same_itself}
 use Rattle.ox_allocation.proofs.LawLemmas.{lost_or_made}
 use Rattle.ox_etching.specs.Etched.{Spot, id_of}
 use Rattle.ox_etching.specs.declared.row.RuneRow.{RuneRow}
@@ -44,7 +46,7 @@ use Rattle.ox_ledger.proofs.Known.{place_all_due}
 use Rattle.ox_ledger.proofs.Settled.{all_append}
 use Rattle.ox_ledger.proofs.StartBalanced.{start_balanced}
 use Rattle.ox_model.specs.Index.{Index, runes_of}
-use Rattle.ox_model.specs.Sound.{IsFirst, SoundRunes}
+use Rattle.ox_model.specs.Sound.{SoundRunes, is_first, is_of_chain}
 
 -- ---- where runes come from
 
@@ -113,23 +115,44 @@ ids_after P p height txs moved state here all =
     ids_placed P (record { bal = last.bal; runes = last.runes; due = [] }) last.due (ids_turns P p height 0 txs moved state here all)
 
 -- a rune comes from below a height, or is there from the start
-abbrev pub ComesBelow : Profile → ℕ → RuneRow → Type 0
-ComesBelow p height row = (row.id.block < height) ⊎ IsFirst p row
-
 abbrev IsIdBelow : Profile → ℕ → RuneId → Type 0
 IsIdBelow p height id = (id.block < height) ⊎ ((p.first_rune ≡ true) × (id ≡ first_rune.id))
+
+abbrev pub ComesBelow : Profile → ℕ → RuneRow → Type 0
+ComesBelow p height row = IsIdBelow p height row.id
+
+abbrev pub IsOfChain : Profile → ℕ → RuneRow → Type 0
+IsOfChain p height row = IsTrue (is_of_chain p height row)
+
+pub comes_from : (p : Profile) (height : ℕ) (row : RuneRow) → IsOfChain p height row → ComesBelow p height row
+comes_from p height row of = by_tests (nat_lt row.id.block height) (is_first p row) refl refl of where
+  by_tests : (a b : Bool) → nat_lt row.id.block height ≡ a → is_first p row ≡ b → IsTrue (a || b) → ComesBelow p height row
+  by_tests true b low first is = inl (ltb-true _ _ low)
+  by_tests false true low first is = let both = and_parts p.first_rune (is_same row.id first_rune.id) first in inr (both.0, same_id row.id first_rune.id both.1)
+  by_tests false false low first none = absurd (cc none)
+
+comes_to : (p : Profile) (height : ℕ) (row : RuneRow) → ComesBelow p height row → IsOfChain p height row
+comes_to p height row (inl low) = ap (λ (b : Bool). b || is_first p row) (lt-ltb _ _ low)
+comes_to p height row (inr first) =
+    let same : is_same row.id first_rune.id ≡ true = ap (λ (id : RuneId). is_same id first_rune.id) first.1 ∙ same_itself first_rune.id in
+    let is : is_first p row ≡ true = ap (λ (b : Bool). b && is_same row.id first_rune.id) first.0 ∙ same in
+    ap (λ (b : Bool). nat_lt row.id.block height || b) is ∙ or_true (nat_lt row.id.block height) where
+      or_true : (b : Bool) → (b || true) ≡ true
+      or_true true = refl
+      or_true false = refl
 
 id_higher : (p : Profile) (height : ℕ) (id : RuneId) → IsIdBelow p height id → IsIdBelow p (height + 1) id
 id_higher p height id (inl low) = inl (omega arith)
 id_higher p height id (inr first) = inr first
 
-pub come_below : (p : Profile) (height : ℕ) (txs : List Tx) (moved : List MovedTx) (state : Runes) → All (ComesBelow p height) state.runes
-    → All (ComesBelow p (height + 1)) (runes_after p height txs moved state).runes
+pub come_below : (p : Profile) (height : ℕ) (txs : List Tx) (moved : List MovedTx) (state : Runes) → All (IsOfChain p height) state.runes
+    → All (IsOfChain p (height + 1)) (runes_after p height txs moved state).runes
 come_below p height txs moved state all =
-    All-from_recursion (ComesBelow p (height + 1)) (runes_after p height txs moved state).runes
+    All-weaker (ComesBelow p (height + 1)) (IsOfChain p (height + 1)) (comes_to p (height + 1)) (runes_after p height txs moved state).runes
+    (All-from_recursion (ComesBelow p (height + 1)) (runes_after p height txs moved state).runes
     (ids_after (IsIdBelow p (height + 1)) p height txs moved state (λ tx. inl (omega arith))
     (recursion_from_All (ComesBelow p (height + 1)) state.runes
-    (All-weaker (ComesBelow p height) (ComesBelow p (height + 1)) (λ row. id_higher p height row.id) state.runes all)))
+    (All-weaker (IsOfChain p height) (ComesBelow p (height + 1)) (λ row of. id_higher p height row.id (comes_from p height row of)) state.runes all))))
 
 -- where there is a rune from the start, its block is below those in which runes are etched
 first_apart : (p : Profile) → IsProfile p → p.first_rune ≡ true → 1 < p.rune_start
@@ -148,14 +171,14 @@ other_height p height row known start (inr first) same =
 abbrev undue : Runes → Runes
 undue state = record { bal = state.bal; runes = state.runes; due = [] }
 
-pub stay_balanced : (p : Profile) (height : ℕ) (txs : List Tx) (moved : List MovedTx) (state : Runes) → IsProfile p → length txs ≤ 2 ^ 32 → All (ComesBelow p height) state.runes → Balanced state
+pub stay_balanced : (p : Profile) (height : ℕ) (txs : List Tx) (moved : List MovedTx) (state : Runes) → IsProfile p → length txs ≤ 2 ^ 32 → All (IsOfChain p height) state.runes → Balanced state
     → Balanced (undue (runes_after p height txs moved state))
 stay_balanced p height txs moved state known few below balanced =
     let after = runes_after p height txs moved state in
     let due : after.due ≡ [] = nothing_due p height txs moved state in
     subst (λ (due : List Placement). Balanced (record { bal = after.bal; runes = after.runes; due = due })) due
     (block_balanced lost_or_made p height txs moved state few balanced
-    (λ start. All-weaker (ComesBelow p height) (λ (row : RuneRow). row.id.block ≢ height) (λ row. other_height p height row known start) state.runes below))
+    (λ start. All-weaker (IsOfChain p height) (λ (row : RuneRow). row.id.block ≢ height) (λ row of. other_height p height row known start (comes_from p height row of)) state.runes below))
 
 -- ---- where balances are
 
@@ -351,13 +374,13 @@ stay_within p height coinbase txs outs after bal runes is within =
 
 -- ---- the start
 
-first_below : (p : Profile) (b : Bool) → p.first_rune ≡ b → AllByRecursion (ComesBelow p 0) (if b then first_rune ∷ [] else [])
-first_below p true is = (inr (is, refl), tt)
+first_below : (p : Profile) (b : Bool) → p.first_rune ≡ b → AllByRecursion (IsOfChain p 0) (if b then first_rune ∷ [] else [])
+first_below p true is = (comes_to p 0 first_rune (inr (is, refl)), tt)
 first_below p false is = tt
 
 pub runes_first : (p : Profile) (index : Index) → index.hashes ≡ [] → index.bal ≡ (no_runes p).bal → index.runes ≡ (no_runes p).runes → SoundRunes p index
 runes_first p index none no_balances first = record {
   balanced = subst Balanced (λ i. record { bal = sym no_balances i; runes = sym first i; due = [] }) (start_balanced p);
-  below = rw (none, first) (All-from_recursion (ComesBelow p 0) (no_runes p).runes (first_below p p.first_rune refl));
+  below = rw (none, first) (All-from_recursion (IsOfChain p 0) (no_runes p).runes (first_below p p.first_rune refl));
   placed = λ at balances is. absurd (cc (sym (get-empty outpoint_cmp at) ∙ ap (λ (bal : BalanceMap). get bal at) (sym no_balances) ∙ is));
 }

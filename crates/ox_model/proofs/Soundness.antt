@@ -28,7 +28,7 @@ use Rattle.ox_model.specs.Chain.{kept_index, after_block, index_of}
 use Rattle.ox_model.specs.Sound.{IsSound, SoundHeights, SoundInscriptions, SoundOutputs, SoundRunes, SoundSats}
 use Rattle.ox_model.proofs.FewTransactions.{few_transactions}
 use Rattle.ox_model.proofs.Inscribed.{AreOf, more_rows, new_rows}
-use Rattle.ox_model.proofs.RunesOfChains.{ComesBelow, Within, come_below, runes_first, stay_balanced, stay_within}
+use Rattle.ox_model.proofs.RunesOfChains.{IsOfChain, Within, come_below, runes_first, stay_balanced, stay_within}
 
 -- what holds by every profile
 pub record IsPlain (p : Profile) (index : Index) : Type 0 where
@@ -123,7 +123,7 @@ runes_grown p index block after coinbase others txs known few sound is =
     let new = grown_index p index block after in
     let higher : length (index.hashes ++ block_hash block.header ∷ []) ≡ height + 1 = length-append index.hashes _ in record {
       balanced = stay_balanced p height block.txs after.moved.txs (runes_of index) known few sound.below sound.balanced;
-      below = subst (λ (h : ℕ). All (ComesBelow p h) new.runes) (sym higher) (come_below p height block.txs after.moved.txs (runes_of index) sound.below);
+      below = subst (λ (h : ℕ). All (IsOfChain p h) new.runes) (sym higher) (come_below p height block.txs after.moved.txs (runes_of index) sound.below);
       placed = subst (λ (all : List Tx). Within (runes_after p height all after.moved.txs (runes_of index)).bal after.outs) (sym txs)
           (stay_within p height coinbase others index.outs after index.bal index.runes is sound.placed);
     }
