@@ -40,7 +40,7 @@ in_no_output sat (e ∷ outs) none =
 
 pub nowhere : (p : Profile) (index : Index) (sat : ℕ) → IsSound p index → first_at p (length index.hashes) ≤ sat → where_is index sat ≡ None
 nowhere p index sat sound late =
-    let none : times sat (sats_held index.outs ++ index.lost) ≡ 0 = sound.once sat ∙ ap (λ b. cond b 1 0) (le-ltb sat (first_at p (length index.hashes)) late) in
+    let none : times sat (sats_held index.outs ++ index.lost) ≡ 0 = sound.sats.once sat ∙ ap (λ b. cond b 1 0) (le-ltb sat (first_at p (length index.hashes)) late) in
     let parts : times sat (sats_held index.outs) + times sat index.lost ≡ 0 = sym (times-append sat (sats_held index.outs) index.lost) ∙ none in
     ap (λ place. option_map_or (λ place. Some place) place (option_map Lost (place_in index.lost sat))) (in_no_output sat (entries index.outs) (omega (arith, parts)))
     ∙ ap (option_map Lost) (in_no_place sat index.lost (omega (arith, parts)))

@@ -1,4 +1,11 @@
 pub mod Ask
+pub mod Audits
+pub mod Content
+pub mod Inscriptions
+pub mod Named
 pub mod Objects
+pub mod Pages
+pub mod Runes
 pub mod Texts
 pub mod Trees
+pub mod Values

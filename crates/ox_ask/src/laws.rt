@@ -12,6 +12,7 @@ ghost use Rattle.ox_sat.specs.Heights.{first_at};
 ghost use Rattle.ox_ask.specs.Trees.{Asked};
 ghost use Rattle.ox_rules.specs.Text.{outpoint_text};
 ghost use Rattle.ox_ask.specs.Ask.{reply_of};
+ghost use Rattle.ox_ask.specs.Content.{FitsHead};
 ghost use Rattle.ox_ask.specs.Texts.{number_in, outpoint_in};
 
 /// A number of 64 bits is read from its decimal digits and from nothing else.
@@ -35,6 +36,12 @@ pub fn outpoints_are_read()
 pub fn replies_close_as_asked()
     ensures { (asked : Asked) (request : Request)
         → (reply_of asked request).close ≡ request.close }
+{}
+
+/// Every reply fits its head: its kind and its encoding are one printable ASCII text each, whatever
+/// an inscription says, so that neither ends the line that it stands on (RFC 9110, section 5.5).
+pub fn replies_fit_their_heads()
+    ensures { (asked : Asked) (request : Request) → FitsHead (reply_of asked request) }
 {}
 
 /// A satoshi that no block of a sound index mints is nowhere, so that its place is told as null.

@@ -6,7 +6,8 @@ mod laws;
 
 pub use fields::Fields;
 pub use laws::{
-    numbers_are_read, outpoints_are_read, replies_close_as_asked, unminted_satoshis_are_nowhere,
+    numbers_are_read, outpoints_are_read, replies_close_as_asked, replies_fit_their_heads,
+    unminted_satoshis_are_nowhere,
 };
 pub use ox_bytes::Memory;
 

@@ -1,0 +1,20 @@
+-- Pages of a list: a hundred entries each, counted from 0.
+use Rattle.std.specs.Prelude.{ℕ, ◌+◌, ◌*◌, Bool, nat_lt, List, length, take, drop, map, codes}
+use Rattle.serde_json.specs.Data.{Data, array, boolean, object, no_members, member}
+use Rattle.serde_json.specs.View.{items_of}
+use Rattle.ox_ask.specs.Values.{count}
+
+-- the entries of a page; past the end there are none
+abbrev pub entries_of : {A : Type 0} → ℕ → List A → List A
+entries_of page rows = take 100 (drop (100 * page) rows)
+
+-- whether entries follow those of a page
+abbrev pub has_more : {A : Type 0} → ℕ → List A → Bool
+has_more page rows = nat_lt (100 * page + 100) (length rows)
+
+-- a page, which tells of each entry its id
+abbrev pub page_tree : {A : Type 0} → (A → Data) → List A → ℕ → Data
+page_tree id rows page = object (
+    member (codes "ids") (array (items_of (map id (entries_of page rows)))) (
+    member (codes "more") (boolean (has_more page rows)) (
+    member (codes "page") (count page) no_members)))
