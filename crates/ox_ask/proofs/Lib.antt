@@ -1,4 +1,12 @@
+pub mod Balances
+pub mod Escapes
+pub mod Floats
+pub mod Inscriptions
 pub mod Nowhere
 pub mod Objects
+pub mod Pages
 pub mod Read
+pub mod RuneIds
+pub mod Runes
 pub mod Told
+pub mod Walks

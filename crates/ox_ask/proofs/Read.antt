@@ -17,7 +17,7 @@ use Rattle.ox_ask.specs.Texts.{number_in, outpoint_in}
 use Rattle.ox_ask.proofs.Objects.{first_half, second_half}
 
 -- what is test_told where a test passes
-test_told : {A : Type 0} (test : Bool) (a b : A) → cond test (Some a) None ≡ Some b → (test ≡ true) × (a ≡ b)
+pub test_told : {A : Type 0} (test : Bool) (a b : A) → cond test (Some a) None ≡ Some b → (test ≡ true) × (a ≡ b)
 test_told true a b e = (refl, ap (λ o. unwrap_or o a) e)
 test_told false a b e = absurd (true≢false (sym (ap is_some e)))
 

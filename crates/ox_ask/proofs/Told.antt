@@ -11,7 +11,7 @@ use Rattle.ox_routes.specs.declared.route.Route.TheVariants.{Audit, BlockHash, C
 use Rattle.ox_routes.specs.Table.{row_of, route_and_part}
 use Rattle.ox_ask.specs.Ask.{tree_at, tree_reply, error_reply, same_method, named_reply, path_reply, reply_of}
 use Rattle.ox_ask.specs.Content.{FitsHead, body_reply, content_at, header_text, is_header_text, shown_reply}
-use Rattle.ox_ask.specs.Trees.{Asked}
+use Rattle.ox_ask.specs.Trees.{Asked, error_tree}
 
 -- the reply closes the link where that is so, and fits a head
 abbrev pub IsTold : Bool → Reply → Type 0
@@ -64,7 +64,7 @@ named_told asked Sat part close = trees_told close (tree_at asked Sat part)
 named_told asked Status part close = trees_told close (tree_at asked Status part)
 
 or_told : (reply : Option Reply) (close : Bool) → IfSome reply (IsTold close) → IsTold close (unwrap_or reply (error_reply 404 close))
-or_told None close h = tree_told 404 _ close
+or_told None close h = tree_told 404 (error_tree 404) close
 or_told (Some reply) close h = h
 
 either_told : (test : Bool) (close : Bool) (a b : Reply) → IsTold close a → IsTold close b → IsTold close (cond test a b)
@@ -72,10 +72,10 @@ either_told true close a b h k = h
 either_told false close a b h k = k
 
 taken_told : (asked : Asked) (request : Request) (at : Option (Route × List ℕ)) → IsTold request.close (path_reply asked request at)
-taken_told asked request None = tree_told 404 _ request.close
+taken_told asked request None = tree_told 404 (error_tree 404) request.close
 taken_told asked request (Some at) =
-    either_told (not (same_method request.method (row_of at.0).method)) request.close _ _ (tree_told 405 _ request.close)
-    (either_told (same_method request.method Post) request.close _ _ (tree_told 403 _ request.close) (or_told (named_reply asked at.0 at.1 request.close) request.close (named_told asked at.0 at.1 request.close)))
+    either_told (not (same_method request.method (row_of at.0).method)) request.close _ _ (tree_told 405 (error_tree 405) request.close)
+    (either_told (same_method request.method Post) request.close _ _ (tree_told 403 (error_tree 403) request.close) (or_told (named_reply asked at.0 at.1 request.close) request.close (named_told asked at.0 at.1 request.close)))
 
 pub reply_told : (asked : Asked) (request : Request) → IsTold request.close (reply_of asked request)
 unfolding reply_of

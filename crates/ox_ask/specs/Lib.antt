@@ -9,3 +9,4 @@ pub mod Runes
 pub mod Texts
 pub mod Trees
 pub mod Values
+pub mod Walk

@@ -1,5 +1,6 @@
 -- Pages of a list: a hundred entries each, counted from 0.
-use Rattle.std.specs.Prelude.{ℕ, ◌+◌, ◌*◌, Bool, nat_lt, List, length, take, drop, map, codes}
+use Rattle.std.specs.Prelude.{◌≡◌, ◌↔◌, ℕ, ◌+◌, ◌*◌, ◌/◌, ◌%◌, ◌<◌, ◌≤◌, Bool, IsTrue, nat_lt}
+use Rattle.std.specs.Prelude.{List, length, take, drop, map, codes, slice_get}
 use Rattle.serde_json.specs.Data.{Data, array, boolean, object, no_members, member}
 use Rattle.serde_json.specs.View.{items_of}
 use Rattle.ox_ask.specs.Values.{count}
@@ -18,3 +19,11 @@ page_tree id rows page = object (
     member (codes "ids") (array (items_of (map id (entries_of page rows)))) (
     member (codes "more") (boolean (has_more page rows)) (
     member (codes "page") (count page) no_members)))
+
+-- Each entry stands on one page. A page has at most a hundred, and more follow exactly where the
+-- next page has one.
+pub record ArePages {A : Type 0} (rows : List A) : Type 0 where
+  pub held : (n : ℕ) → slice_get (entries_of (n / 100) rows) (n % 100) ≡ slice_get rows n
+  pub few : (page : ℕ) → length (entries_of page rows) ≤ 100
+  pub more : (page : ℕ)
+      → IsTrue (has_more page rows) ↔ (0 < length (entries_of (page + 1) rows))
