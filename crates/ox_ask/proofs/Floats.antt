@@ -1,14 +1,12 @@
 -- No tree of a reply has a float, so that its text is the compact one.
-use Rattle.std.proofs.Common.{◌≡◌, ℕ, Bool, true, false, cond, ◌||◌, List, [], ◌∷◌, length, map, Option, Some, None, IfSome, option_map, option_and_then, slice_get, refl, ap, ap₂, ◌∙◌, sym, subst}
-use Rattle.std.specs.Prelude.{is_some}
+use Rattle.std.proofs.Common.{◌≡◌, ℕ, Bool, true, false, cond, ◌||◌, List, [], ◌∷◌, length, map, Option, Some, None, IfSome, option_map, option_and_then, slice_get, refl, ap, ap₂, subst}
 use Rattle.std.specs.FinMap as maps
 use Rattle.std.specs.List.{cons_option, filter_map, flat_map}
 use Rattle.std.specs.Str.{is_utf8}
 use Rattle.hex.specs.Hex.{encode_lower}
-use Rattle.serde_json.specs.Data.{Data, Members, null, boolean, string, array, object, item, no_items, member, no_members}
+use Rattle.serde_json.specs.Data.{Data, Members, null, boolean, string, array, object, member, no_members}
 use Rattle.serde_json.specs.View.{items_of}
 use Rattle.serde_json.specs.Written.{has_float, members_have_float}
-use Rattle.ox_name.specs.Amount.{amount_text}
 use Rattle.ox_block.specs.declared.block.OutPoint.{OutPoint}
 use Rattle.ox_sat.specs.Spellings.{sat_in}
 use Rattle.ox_sat.specs.declared.profiles.Profile.{Profile}
@@ -30,17 +28,16 @@ use Rattle.ox_model.specs.Found.{by_id}
 use Rattle.ox_model.specs.Index.{Index}
 use Rattle.ox_model.specs.Where.{where_is}
 use Rattle.ox_model.specs.declared.audit.Audit.{Audit as IndexAudit}
-use Rattle.ox_model.specs.declared.audit.RuneAudit.{RuneAudit}
 use Rattle.ox_routes.specs.declared.route.Route.{Route}
 use Rattle.ox_routes.specs.declared.route.Route.TheVariants.{Audit, BlockHash, Connect, Content, Disconnect, Inscription, Inscriptions, Output, Rune, Runes, Sat, Status}
 use Rattle.ox_ask.specs.Ask.{inscription_at, rune_at, tree_at}
 use Rattle.ox_ask.specs.Audits.{audit_tree, rune_audit_tree}
-use Rattle.ox_ask.specs.Inscriptions.{id_tree, ids_on_all, ids_tree, inscription_id, inscription_tree}
+use Rattle.ox_ask.specs.Inscriptions.{id_tree, ids_tree, inscription_id, inscription_tree}
 use Rattle.ox_ask.specs.Named.{inscription_named, rune_named}
 use Rattle.ox_ask.specs.Pages.{entries_of, page_tree}
 use Rattle.ox_ask.specs.Runes.{balance_among, balance_tree, balances_tree, character, rune_id, rune_tree, span_tree}
 use Rattle.ox_ask.specs.Texts.{number_in, outpoint_in}
-use Rattle.ox_ask.specs.Trees.{Asked, block_tree, output_tree, run_items, run_tree, sat_tree, status_tree, tip}
+use Rattle.ox_ask.specs.Trees.{Asked, block_tree, output_tree, run_items, sat_tree, status_tree, tip}
 use Rattle.ox_ask.specs.Values.{amount, count, hash_or_null, hex, or_null, place_tree, text_or_null}
 
 pub record IsPlain (tree : Data) : Type 0 where

@@ -1,5 +1,5 @@
 -- An inscription is found by its id's text.
-use Rattle.std.proofs.Common.{◌≡◌, ℕ, ◌<◌, ◌^◌, List, length, reverse, refl, ap, ◌∙◌}
+use Rattle.std.proofs.Common.{◌≡◌, ◌<◌, ◌^◌, List, length, reverse, refl, ap, ◌∙◌}
 use Rattle.std.specs.Option.{option_and_then}
 use Rattle.std.proofs.lemmas.List.{length-reverse}
 use Rattle.hex.specs.Hex.{IsBytes, encode_lower}

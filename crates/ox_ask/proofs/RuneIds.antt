@@ -1,5 +1,5 @@
 -- A rune's id is read from its text.
-use Rattle.std.proofs.Common.{◌≡◌, ℕ, zero, suc, ◌+◌, ◌<◌, ◌^◌, ◌==◌, Bool, true, false, cond, ◌&&◌, ltb, lt-ltb, eq-eqb, eqb-true, ltb-true, List, [], ◌∷◌, ◌++◌, length, get_or, take, drop, length-append, append_assoc, Some, None, decimal, bytes_eq, refl, sym, ap, ap₂, ◌∙◌, subst, arith, true≢false}
+use Rattle.std.proofs.Common.{◌≡◌, ℕ, zero, suc, ◌+◌, ◌<◌, ◌^◌, ◌==◌, Bool, true, false, cond, ◌&&◌, ltb, lt-ltb, eq-eqb, eqb-true, ltb-true, List, [], ◌∷◌, ◌++◌, length, get_or, take, drop, length-append, append_assoc, Some, None, decimal, bytes_eq, refl, sym, ap, ap₂, ◌∙◌, subst, arith}
 use Rattle.std.specs.List.{before_first, after_first, position_or_len}
 use Rattle.std.specs.Str.Parse.{AllDigits, digits_value}
 use Rattle.std.proofs.lemmas.List.{get_or_append_left, get_or_at, take_at, drop_at, drop-drop}

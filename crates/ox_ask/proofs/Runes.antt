@@ -1,5 +1,5 @@
 -- A rune is found by its id and by its name.
-use Rattle.std.proofs.Common.{◌≡◌, ℕ, ◌+◌, ◌<◌, ◌≤◌, ◌^◌, ◌==◌, Bool, true, false, cond, ltb, lt-ltb, eq-eqb, eqb-true, List, [], ◌∷◌, ◌++◌, length, get_or, Option, Some, None, decimal, refl, sym, ap, ◌∙◌, subst, arith, true≢false}
+use Rattle.std.proofs.Common.{◌≡◌, ℕ, ◌<◌, ◌^◌, ◌==◌, Bool, true, false, cond, ltb, lt-ltb, eq-eqb, eqb-true, List, length, get_or, Option, Some, None, decimal, refl, ap, ◌∙◌, subst, arith}
 use Rattle.std.specs.Prelude.{position, slice_get}
 use Rattle.std.specs.List.{position_or_len}
 use Rattle.std.specs.Option.{option_and_then, option_or}

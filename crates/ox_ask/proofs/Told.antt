@@ -10,7 +10,7 @@ use Rattle.ox_routes.specs.declared.route.Route.{Route}
 use Rattle.ox_routes.specs.declared.route.Route.TheVariants.{Audit, BlockHash, Connect, Content, Disconnect, Inscription, Inscriptions, Output, Rune, Runes, Sat, Status}
 use Rattle.ox_routes.specs.Table.{row_of, route_and_part}
 use Rattle.ox_ask.specs.Ask.{tree_at, tree_reply, error_reply, same_method, named_reply, path_reply, reply_of}
-use Rattle.ox_ask.specs.Content.{FitsHead, body_reply, content_at, header_text, is_header_text, shown_reply}
+use Rattle.ox_ask.specs.Content.{FitsHead, body_reply, header_text, is_header_text, shown_reply}
 use Rattle.ox_ask.specs.Trees.{Asked, error_tree}
 
 -- the reply closes the link where that is so, and fits a head

@@ -1,5 +1,5 @@
 -- The trees of inscriptions, and the lists of inscriptions in other trees.
-use Rattle.std.specs.Prelude.{ℕ, List, length, map, codes, Option, slice_get}
+use Rattle.std.specs.Prelude.{ℕ, List, length, map, codes, slice_get}
 use Rattle.std.specs.List.{filter_map, flat_map}
 use Rattle.std.specs.Option.{option_and_then}
 use Rattle.serde_json.specs.Data.{Data, string, array, object, no_members, member}
