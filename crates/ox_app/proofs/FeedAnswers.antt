@@ -131,6 +131,16 @@ module _ (first : Stack) where
     said = ap (λ (l : List (List ℕ)). concat l) (sym (replies_none turn_on index_on first));
   })
 
+  -- a run that hears nothing, since there is no memory for a chain
+  pub grows_unheard : (log : Option (List Event)) → Grows (RunsFeed (replies_on first) (status_of (Err Memory))) log log
+  grows_unheard log = grows_none (RunsFeed (replies_on first) (status_of (Err Memory))) log (record {
+    only = All-nil Own;
+    shown = (concat (replies_on first (lines_in [])), refl);
+    whole = λ done. absurd (cc done);
+    within = omega arith;
+    too_much = λ much. absurd (cc much);
+  })
+
   -- a line is heard and carried out, and its answer is owed
   pub owes_answer : (lines lines' : Feed) (stack stack' : Stack) (answer : List ℕ) (x y : List Event)
       → HasAnswered first lines stack x → Hears lines lines' y → NextLine lines stack answer (heard_bytes 0 y) lines' stack' → OwesAnswer first answer lines' stack' (x ++ y)

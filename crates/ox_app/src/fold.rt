@@ -61,7 +61,7 @@ pub fn fold<S: Site>(alloc: Global, p: &Profile, site: &mut S) -> Result<(), Sto
     ensures talks { OnlyTalks S.Site Anything site.old site.new }
 {
     let mut lines = Lines::new(alloc);
-    let mut chain = Chain::new(alloc, p, DEPTH);
+    let mut chain = Chain::new(alloc, p, DEPTH)?;
     while let Some(answer) = next_answer(alloc, &mut lines, &mut chain, site)? {
         show_all(site, answer.as_slice())?;
     }

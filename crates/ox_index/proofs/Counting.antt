@@ -23,7 +23,8 @@ use Rattle.ox_model.specs.Index.{Index}
 use Rattle.ox_model.specs.Sound.{IsSound}
 use Rattle.ox_model.specs.declared.change.Change.{Change}
 use Rattle.ox_model.proofs.Changes.{outputs_differ}
-use Rattle.ox_index.specs.Lengths.{AreWithin, IsMark, index_to}
+use Rattle.ox_index.specs.Lengths.{AreWithin, index_of_parts, index_to}
+use Rattle.ox_index.specs.Held.{Held}
 use Rattle.ox_index.specs.declared.lengths.Lengths.{Lengths}
 
 pub whole_list : {X : Type 0} (xs : List X) (n : ℕ) → length xs ≡ n → take n xs ≡ xs
@@ -35,22 +36,22 @@ pushed : {X : Type 0} (xs ys : List X) (n m : ℕ) → length xs ≡ n → lengt
 pushed xs ys n m many more =
     whole_list (xs ++ ys) (n + m) (omega (arith, many, more, length-append xs ys)) ∙ ap (λ l. l ++ ys) (sym (whole_list xs n many))
 
-pub grown_to : (items : List (List ℕ)) (lost : List ℕ) (lengths : Lengths) (hash : List ℕ) (new : List ℕ) (outs : Outputs)
+pub grown_to : (items : List (List ℕ)) (lost : List ℕ) (lengths : Lengths) (hash : List ℕ) (new : List ℕ) (held : Held)
     → length items ≡ lengths.blocks → length lost ≡ lengths.lost
-    → index_to (items ++ hash ∷ []) outs (lost ++ new) (record { blocks = lengths.blocks + 1; lost = lengths.lost + length new })
-    ≡ record { hashes = take lengths.blocks items ++ hash ∷ []; outs = outs; lost = take lengths.lost lost ++ new }
-grown_to items lost lengths hash new outs many few =
+    → index_to (items ++ hash ∷ []) held (lost ++ new) (record { blocks = lengths.blocks + 1; lost = lengths.lost + length new })
+    ≡ index_of_parts (take lengths.blocks items ++ hash ∷ []) held (take lengths.lost lost ++ new)
+grown_to items lost lengths hash new held many few =
     let hashes = pushed items (hash ∷ []) lengths.blocks 1 many refl in
     let losts = pushed lost new lengths.lost (length new) few refl in
-    λ i. record { hashes = hashes i; outs = outs; lost = losts i }
+    λ i. index_of_parts (hashes i) held (losts i)
 
 -- what counted before is as before
-pub kept_to : (items more : List (List ℕ)) (lost new : List ℕ) (lengths : Lengths) (outs : Outputs)
-    → AreWithin items lost lengths → index_to (items ++ more) outs (lost ++ new) lengths ≡ index_to items outs lost lengths
-kept_to items more lost new lengths outs within =
+pub kept_to : (items more : List (List ℕ)) (lost new : List ℕ) (lengths : Lengths) (held : Held)
+    → AreWithin items lost lengths → index_to (items ++ more) held (lost ++ new) lengths ≡ index_to items held lost lengths
+kept_to items more lost new lengths held within =
     let hashes = take-append-le lengths.blocks items more within.hashes_there in
     let losts = take-append-le lengths.lost lost new within.lost_there in
-    λ i. record { hashes = hashes i; outs = outs; lost = losts i }
+    λ i. index_of_parts (hashes i) held (losts i)
 
 pub within_more : (items more : List (List ℕ)) (lost new : List ℕ) (lengths : Lengths) → AreWithin items lost lengths → AreWithin (items ++ more) (lost ++ new) lengths
 within_more items more lost new lengths within = record {
@@ -65,24 +66,21 @@ shortened xs n m le =
     let many : length (take n xs) ≡ n = length-take-le n xs le in
     rw many (sym (take-take (n - m) n xs (omega arith)))
 
-pub shrunk_to : (items : List (List ℕ)) (lost new : List ℕ) (lengths : Lengths) (outs : Outputs) → AreWithin items lost lengths
-    → index_to items outs lost (record { blocks = lengths.blocks - 1; lost = lengths.lost - length new })
-    ≡ record {
-      hashes = take (length (take lengths.blocks items) - 1) (take lengths.blocks items);
-      outs = outs;
-      lost = take (length (take lengths.lost lost) - length new) (take lengths.lost lost);
-    }
-shrunk_to items lost new lengths outs within =
+pub shrunk_to : (items : List (List ℕ)) (lost new : List ℕ) (lengths : Lengths) (held : Held) → AreWithin items lost lengths
+    → index_to items held lost (record { blocks = lengths.blocks - 1; lost = lengths.lost - length new })
+    ≡ index_of_parts (take (length (take lengths.blocks items) - 1) (take lengths.blocks items)) held
+    (take (length (take lengths.lost lost) - length new) (take lengths.lost lost))
+shrunk_to items lost new lengths held within =
     let hashes = shortened items lengths.blocks 1 within.hashes_there in
     let losts = shortened lost lengths.lost (length new) within.lost_there in
-    λ i. record { hashes = hashes i; outs = outs; lost = losts i }
+    λ i. index_of_parts (hashes i) held (losts i)
 
 -- ---- the ends of a change
 
 held_once : (p : Profile) (index : Index) → IsSound p index → (sat : ℕ) → times sat (sats_held index.outs) ≤ 1
 held_once p index sound sat =
     let all : times sat (sats_held index.outs) + times sat index.lost ≡ (if nat_lt sat (first_at p (length index.hashes)) then 1 else 0) =
-    sym (times-append sat (sats_held index.outs) index.lost) ∙ sound.once sat in
+    sym (times-append sat (sats_held index.outs) index.lost) ∙ sound.sats.once sat in
     by_test (nat_lt sat (first_at p (length index.hashes))) all where
       by_test : (b : Bool) → times sat (sats_held index.outs) + times sat index.lost ≡ (if b then 1 else 0) → times sat (sats_held index.outs) ≤ 1
       by_test true is = omega (arith, is)
@@ -108,7 +106,7 @@ begins_at p index change rows begins is =
 pub lost_few : (p : Profile) (index : Index) → IsProfile p → IsSound p index → length index.lost ≤ 2 ^ 63
 lost_few p index known sound =
     let few : length index.lost ≤ first_at p (length index.hashes) =
-    fits (first_at p (length index.hashes)) index.lost (λ sat. omega (arith, sound.once sat, times-append sat (sats_held index.outs) index.lost)) in
+    fits (first_at p (length index.hashes)) index.lost (λ sat. omega (arith, sound.sats.once sat, times-append sat (sats_held index.outs) index.lost)) in
     omega (arith, few, first_few p (length index.hashes) known)
 
 -- ---- the place of a satoshi in a list of which a part counts

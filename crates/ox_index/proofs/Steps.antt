@@ -41,7 +41,7 @@ pub step_unadmitted : (p : Profile) (index : Index) (bytes : List ℕ) (block : 
 unfolding step
 step_unadmitted p index bytes block (Refused refusal) read refuses =
     ap (λ (r : Result Block ℕ). or_malformed r >>= index_after p index) read
-    ∙ ap (λ (r : Result (Unit {0}) Refusal). r >>= λ begun. transfer_of p (length index.hashes) block.txs index.outs >>= λ after. Ok (grown_index index block after)) refuses
+    ∙ ap (λ (r : Result (Unit {0}) Refusal). r >>= λ begun. transfer_of p (length index.hashes) block.txs index.outs >>= λ after. Ok (grown_index p index block after)) refuses
 step_unadmitted p index bytes block Memory read refuses = tt
 
 -- the step of bytes that spell a block
@@ -50,32 +50,37 @@ unfolding step
 step_read p index bytes block read = ap (λ (r : Result Block ℕ). or_malformed r >>= index_after p index) read
 
 -- what is made of a block that is admitted
-admitted_after : (p : Profile) (index : Index) (block : Block) → admission p index.hashes block ≡ Ok tt → index_after p index block ≡ (transfer_of p (length index.hashes) block.txs index.outs >>= λ after. Ok (grown_index index block after))
+admitted_after : (p : Profile) (index : Index) (block : Block) → admission p index.hashes block ≡ Ok tt → index_after p index block ≡ (transfer_of p (length index.hashes) block.txs index.outs >>= λ after. Ok (grown_index p index block after))
 admitted_after p index block begun =
-    ap (λ (r : Result (Unit {0}) Refusal). r >>= λ begun. transfer_of p (length index.hashes) block.txs index.outs >>= λ after. Ok (grown_index index block after)) begun
+    ap (λ (r : Result (Unit {0}) Refusal). r >>= λ begun. transfer_of p (length index.hashes) block.txs index.outs >>= λ after. Ok (grown_index p index block after)) begun
+
+-- satoshis that can't be moved
+pub unmoved : (fault : TransferFault) (e : ConnectFault) (wanted : Result Transferred Refusal) → transfers.Refuses fault wanted → e ≡ of_transfer fault → Refuses e wanted
+unmoved (BadTransfer refusal) e wanted refuses is = rw is refuses
+unmoved NoRoom e wanted refuses is = rw is tt
 
 -- a block whose satoshis can't be moved
-pub after_unmoved : (p : Profile) (index : Index) (block : Block) (fault : TransferFault) (e : ConnectFault) → admission p index.hashes block ≡ Ok tt → transfers.Refuses fault (transfer_of p (length index.hashes) block.txs index.outs) → e ≡ of_transfer fault → Refuses e (index_after p index block)
-after_unmoved p index block (BadTransfer refusal) e begun refuses is =
-    rw is (admitted_after p index block begun ∙ ap (λ (r : Result Transferred Refusal). r >>= λ after. Ok (grown_index index block after)) refuses)
-after_unmoved p index block NoRoom e begun refuses is = rw is tt
+pub after_unmoved : (p : Profile) (index : Index) (block : Block) (e : ConnectFault) → admission p index.hashes block ≡ Ok tt → Refuses e (transfer_of p (length index.hashes) block.txs index.outs) → Refuses e (index_after p index block)
+after_unmoved p index block (Refused refusal) begun refuses =
+    admitted_after p index block begun ∙ ap (λ (r : Result Transferred Refusal). r >>= λ after. Ok (grown_index p index block after)) refuses
+after_unmoved p index block Memory begun refuses = tt
 
 -- a block that is taken in
-pub after_taken : (p : Profile) (index : Index) (block : Block) (after : Transferred) → admission p index.hashes block ≡ Ok tt → transfer_of p (length index.hashes) block.txs index.outs ≡ Ok after → index_after p index block ≡ Ok (grown_index index block after)
+pub after_taken : (p : Profile) (index : Index) (block : Block) (after : Transferred) → admission p index.hashes block ≡ Ok tt → transfer_of p (length index.hashes) block.txs index.outs ≡ Ok after → index_after p index block ≡ Ok (grown_index p index block after)
 after_taken p index block after begun moved =
-    admitted_after p index block begun ∙ ap (λ (r : Result Transferred Refusal). r >>= λ after. Ok (grown_index index block after)) moved
+    admitted_after p index block begun ∙ ap (λ (r : Result Transferred Refusal). r >>= λ after. Ok (grown_index p index block after)) moved
 
 -- a sound index holds no satoshi twice, and none that the next height mints
 pub holds_once : (p : Profile) (index : Index) → IsSound p index → HoldsOnce (first_at p (length index.hashes)) index.outs
-holds_once p index sound = record { once = λ sat. omega (arith, sound.once sat, times-append sat (sats_held index.outs) index.lost) }
+holds_once p index sound = record { once = λ sat. omega (arith, sound.sats.once sat, times-append sat (sats_held index.outs) index.lost) }
 
 -- what is lost can be counted
-pub lost_fits : (p : Profile) (index : Index) (block : Block) (after : Transferred) → IsProfile p → IsSound p index → admission p index.hashes block ≡ Ok tt → transfer_of p (length index.hashes) block.txs index.outs ≡ Ok after → length index.lost + length after.moved.lost < 2 ^ 64
-lost_fits p index block after known sound begun moved =
+pub lost_fits : (p : Profile) (index : Index) (block : Block) (after : Transferred) → IsProfile p → length block.txs ≤ 2 ^ 32 → IsSound p index → admission p index.hashes block ≡ Ok tt → transfer_of p (length index.hashes) block.txs index.outs ≡ Ok after → length index.lost + length after.moved.lost < 2 ^ 64
+lost_fits p index block after known few sound begun moved =
     let height : ℕ = length index.hashes in
-    let new : Index = grown_index index block after in
-    let again : IsSound p new = grown_sound p index block after sound (admitted_right p index block tt begun) moved in
+    let new : Index = grown_index p index block after in
+    let again : IsSound p new = grown_sound p index block after known few sound (admitted_right p index block tt begun) moved in
     let higher : length new.hashes ≡ height + 1 = length-append index.hashes (block_hash block.header ∷ []) in
-    let few : length (index.lost ++ after.moved.lost) ≤ first_at p (length new.hashes) = fits (first_at p (length new.hashes)) (index.lost ++ after.moved.lost) (λ sat. omega (arith, again.once sat, times-append sat (sats_held after.outs) (index.lost ++ after.moved.lost))) in
+    let less : length (index.lost ++ after.moved.lost) ≤ first_at p (length new.hashes) = fits (first_at p (length new.hashes)) (index.lost ++ after.moved.lost) (λ sat. omega (arith, again.sats.once sat, times-append sat (sats_held after.outs) (index.lost ++ after.moved.lost))) in
     let top : first_at p (length new.hashes) ≡ first_at p height + subsidy_at p height = ap (first_at p) higher ∙ first_next p height in
-    omega (arith, few, top, minted_few p height known, length-append index.lost after.moved.lost)
+    omega (arith, less, top, minted_few p height known, length-append index.lost after.moved.lost)

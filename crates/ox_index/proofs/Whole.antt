@@ -2,38 +2,47 @@
 use Rattle.std.proofs.Common.{◌≡◌, ◌∙◌, ◌≤◌, ◌<◌, ◌+◌, ◌-◌, ◌^◌, ℕ, List, [], ◌∷◌, ◌++◌, length, take, refl, sym, ap, subst, arith, lit≤, length-append, Some, Option}
 use Rattle.std.specs.Prelude.{IsSome}
 use Rattle.std.specs.Option.{option_map}
-use Rattle.ox_block.specs.Hashes.{block_hash}
 use Rattle.ox_block.specs.declared.block.Block.{Block}
 use Rattle.ox_sat.specs.Profiles.{IsProfile, profile_named}
 use Rattle.ox_sat.specs.declared.profiles.Profile.{Profile}
 use Rattle.ox_sat.specs.declared.profiles.ProfileName.{ProfileName}
 use Rattle.ox_sat.specs.declared.profiles.ProfileName.TheVariants.{Mainnet, Regtest, Lab}
-use Rattle.ox_rules.specs.Differences.{Differ}
-use Rattle.ox_rules.specs.Outputs.{Outputs}
-use Rattle.ox_rules.specs.Transfer.{Transferred}
-use Rattle.ox_model.specs.Change.{IsChange, outputs_changed}
-use Rattle.ox_model.specs.Index.{Index}
+use Rattle.ox_inscribe.specs.declared.row.InsRow.{InsRow}
+use Rattle.ox_ledger.specs.Moves.{Begins, Ends}
+use Rattle.ox_model.specs.Change.{IsChange, redone, undone}
+use Rattle.ox_model.specs.Ends.{BeginsIn, EndsIn}
+use Rattle.ox_model.specs.Index.{Index, runes_of}
 use Rattle.ox_model.specs.Sound.{IsSound}
 use Rattle.ox_model.specs.Step.{grown_index}
 use Rattle.ox_model.specs.declared.change.Change.{Change}
-use Rattle.ox_index.specs.Lengths.{AreWithin, IsMark, index_to}
+use Rattle.ox_index.specs.Lengths.{AreWithin, IsMark, index_of_parts, index_to}
+use Rattle.ox_index.specs.Held.{Held, IsBack, IsOn, IsTaken}
 use Rattle.ox_index.specs.declared.lengths.Lengths.{Lengths}
 use Rattle.ox_index.proofs.Counting.{grown_to, kept_to, shrunk_to, whole_list, within_more}
 
-pub record Whole (index : Index) (items : List (List ℕ)) (outs : Outputs) (sats : List ℕ) (lengths : Lengths) : Type 0 where
-  pub index_is : index_to items outs sats lengths ≡ index
+-- what the parts of an index hold
+abbrev pub held_of : Index → Held
+held_of index = record { outs = index.outs; inscriptions = index.inscriptions; runes = runes_of index }
+
+pub record Whole (index : Index) (items : List (List ℕ)) (held : Held) (sats : List ℕ) (lengths : Lengths) : Type 0 where
+  pub index_is : index_to items held sats lengths ≡ index
+  pub undue : held.runes.due ≡ []
   pub many : length items ≡ lengths.blocks
   pub few : length sats ≡ lengths.lost
 
-module _ (index : Index) (items : List (List ℕ)) (outs : Outputs) (sats : List ℕ) (lengths : Lengths) (whole : Whole index items outs sats lengths) where
+module _ (index : Index) (items : List (List ℕ)) (held : Held) (sats : List ℕ) (lengths : Lengths) (whole : Whole index items held sats lengths) where
   pub hashes_are : items ≡ index.hashes
   hashes_are = sym (whole_list items lengths.blocks whole.many) ∙ ap (λ (i : Index). i.hashes) whole.index_is
 
   pub lost_are : sats ≡ index.lost
   lost_are = sym (whole_list sats lengths.lost whole.few) ∙ ap (λ (i : Index). i.lost) whole.index_is
 
-  pub rows_are : outs ≡ index.outs
-  rows_are = ap (λ (i : Index). i.outs) whole.index_is
+  pub held_are : held ≡ held_of index
+  held_are = λ i. record {
+    outs = (whole.index_is i).outs;
+    inscriptions = (whole.index_is i).inscriptions;
+    runes = record { bal = (whole.index_is i).bal; runes = (whole.index_is i).runes; due = whole.undue i };
+  }
 
   pub blocks_are : lengths.blocks ≡ length index.hashes
   blocks_are = sym whole.many ∙ ap (λ (l : List (List ℕ)). length l) hashes_are
@@ -45,47 +54,37 @@ module _ (index : Index) (items : List (List ℕ)) (outs : Outputs) (sats : List
   all_within = record { hashes_there = omega (arith, whole.many); lost_there = omega (arith, whole.few) }
 
   -- with one block more
-  pub with_block : (hash new : List ℕ) (rows : Outputs)
-      → index_to (items ++ hash ∷ []) rows (sats ++ new) (record { blocks = lengths.blocks + 1; lost = lengths.lost + length new })
-      ≡ record { hashes = index.hashes ++ hash ∷ []; outs = rows; lost = index.lost ++ new }
-  with_block hash new rows =
-      grown_to items sats lengths hash new rows whole.many whole.few
-      ∙ ap (λ (i : Index). record { hashes = i.hashes ++ hash ∷ []; outs = rows; lost = i.lost ++ new }) whole.index_is
+  pub with_block : (hash new : List ℕ) (next : Held)
+      → index_to (items ++ hash ∷ []) next (sats ++ new) (record { blocks = lengths.blocks + 1; lost = lengths.lost + length new })
+      ≡ index_of_parts (index.hashes ++ hash ∷ []) next (index.lost ++ new)
+  with_block hash new next =
+      grown_to items sats lengths hash new next whole.many whole.few
+      ∙ ap (λ (i : Index). index_of_parts (i.hashes ++ hash ∷ []) next (i.lost ++ new)) whole.index_is
 
-  pub mark_stays : (more : List (List ℕ)) (new : List ℕ) → index_to (items ++ more) outs (sats ++ new) lengths ≡ index
-  mark_stays more new = kept_to items more sats new lengths outs all_within ∙ whole.index_is
+  pub mark_stays : (more : List (List ℕ)) (new : List ℕ) → index_to (items ++ more) held (sats ++ new) lengths ≡ index
+  mark_stays more new = kept_to items more sats new lengths held all_within ∙ whole.index_is
 
   -- with one block less
-  pub without_block : (new : List ℕ) (rows : Outputs)
-      → index_to items rows sats (record { blocks = lengths.blocks - 1; lost = lengths.lost - length new })
-      ≡ record {
-        hashes = take (length index.hashes - 1) index.hashes;
-        outs = rows;
-        lost = take (length index.lost - length new) index.lost;
-      }
-  without_block new rows =
-      shrunk_to items sats new lengths rows all_within
-      ∙ ap
-      (λ (i : Index). record {
-        hashes = take (length i.hashes - 1) i.hashes;
-        outs = rows;
-        lost = take (length i.lost - length new) i.lost;
-      })
-      whole.index_is
+  pub without_block : (new : List ℕ) (next : Held)
+      → index_to items next sats (record { blocks = lengths.blocks - 1; lost = lengths.lost - length new })
+      ≡ index_of_parts (take (length index.hashes - 1) index.hashes) next (take (length index.lost - length new) index.lost)
+  without_block new next =
+      shrunk_to items sats new lengths next all_within
+      ∙ ap (λ (i : Index). index_of_parts (take (length i.hashes - 1) i.hashes) next (take (length i.lost - length new) i.lost)) whole.index_is
 
 -- ---- the mark
 
 pub some_same : {X : Type 0} (x y : X) → Some x ≡ Some y → x ≡ y
 some_same x y is = cc
 
-module _ (index : Index) (items : List (List ℕ)) (outs : Outputs) (sats : List ℕ) (lengths : Lengths) (marked : Option Outputs) (there : marked ≡ Some outs) (is : index_to items outs sats lengths ≡ index) where
+module _ (index : Index) (items : List (List ℕ)) (held : Held) (sats : List ℕ) (lengths : Lengths) (marked : Option Held) (there : marked ≡ Some held) (is : index_to items held sats lengths ≡ index) where
   pub mark_right : (p : Profile) → AreWithin items sats lengths → IsSound p index → IsMark p items marked sats lengths
   mark_right p within sound = record {
     within = within;
-    there = subst (λ (m : Option Outputs). IsSome m) (sym there) refl;
+    there = subst (λ (m : Option Held). IsSome m) (sym there) refl;
     sound = λ o this.
-        let same : outs ≡ o = some_same outs o (sym there ∙ this) in
-        subst (λ (q : Outputs). IsSound p (index_to items q sats lengths)) same (subst (IsSound p) (sym is) sound);
+        let same : held ≡ o = some_same held o (sym there ∙ this) in
+        subst (λ (q : Held). IsSound p (index_to items q sats lengths)) same (subst (IsSound p) (sym is) sound);
   }
 
   pub mark_shown : option_map (λ o. index_to items o sats lengths) marked ≡ Some index
@@ -104,40 +103,97 @@ blocks_few p n known le =
     let low : p.last ≤ 2 ^ 62 = subst (λ (q : Profile). q.last ≤ 2 ^ 62) (sym known.is) (named_low known.name) in
     omega (arith, le, low)
 
-pub grown_is : (index : Index) (block : Block) (after : Transferred) (hash new : List ℕ) → hash ≡ block_hash block.header → new ≡ after.moved.lost
-    → record { hashes = index.hashes ++ hash ∷ []; outs = after.outs; lost = index.lost ++ new } ≡ grown_index index block after
-grown_is index block after hash new is these = λ i. record { hashes = index.hashes ++ is i ∷ []; outs = after.outs; lost = index.lost ++ these i }
+-- what a block that is taken in leaves
+pub taken_of : (p : Profile) (index : Index) (block : Block) (height : ℕ) (held next : Held) (change : Change) → height ≡ length index.hashes → held ≡ held_of index
+    → IsTaken p height block held next change → IsTaken p (length index.hashes) block (held_of index) next change
+taken_of p index block height held next change at are taken =
+    subst (λ (h : Held). IsTaken p (length index.hashes) block h next change) are (subst (λ (n : ℕ). IsTaken p n block held next change) at taken)
 
--- the lists of an index that has taken in a block
-pub taken_to : (index : Index) (items : List (List ℕ)) (outs : Outputs) (sats : List ℕ) (lengths : Lengths) → Whole index items outs sats lengths
-    → (block : Block) (after : Transferred) (hash : List ℕ) (items' : List (List ℕ)) (sats' : List ℕ) (lengths' : Lengths)
-    → items' ≡ items ++ hash ∷ [] → sats' ≡ sats ++ after.moved.lost → lengths' ≡ record { blocks = lengths.blocks + 1; lost = lengths.lost + length after.moved.lost }
-    → hash ≡ block_hash block.header → index_to items' after.outs sats' lengths' ≡ grown_index index block after
-taken_to index items outs sats lengths whole block after hash items' sats' lengths' items_are sats_are lengths_are is =
-    let parts : index_to items' after.outs sats' lengths' ≡ index_to (items ++ hash ∷ []) after.outs (sats ++ after.moved.lost) (record { blocks = lengths.blocks + 1; lost = lengths.lost + length after.moved.lost }) =
-    λ i. index_to (items_are i) after.outs (sats_are i) (lengths_are i) in
-    parts ∙ with_block index items outs sats lengths whole hash after.moved.lost after.outs ∙ grown_is index block after hash after.moved.lost is refl
+module _ (p : Profile) (index : Index) (block : Block) (next : Held) (change : Change) (taken : IsTaken p (length index.hashes) block (held_of index) next change) where
+  abbrev pub next_index : Index
+  next_index = index_of_parts (index.hashes ++ change.hash ∷ []) next (index.lost ++ change.lost)
+
+  pub is_grown : next_index ≡ grown_index p index block taken.moved
+  is_grown = λ i. index_of_parts (index.hashes ++ taken.hash i ∷ []) (taken.holds i) (index.lost ++ taken.lost i)
+
+  pub change_right : IsChange index next_index change
+  change_right = record {
+    hash = refl;
+    gone = taken.tells.outputs.gone;
+    came = taken.tells.outputs.came;
+    lost = refl;
+    inscriptions = taken.tells.inscriptions;
+    continues = taken.tells.continues;
+    runes = record { balances = taken.tells.runes.balances; counts = taken.tells.runes.counts; appended = taken.tells.runes.appended };
+  }
+
+-- the lists of an index that has one block more
+pub more_to : (index : Index) (items : List (List ℕ)) (held : Held) (sats : List ℕ) (lengths : Lengths) → Whole index items held sats lengths
+    → (next : Held) (hash new : List ℕ) (items' : List (List ℕ)) (sats' : List ℕ) (lengths' : Lengths)
+    → items' ≡ items ++ hash ∷ [] → sats' ≡ sats ++ new → lengths' ≡ record { blocks = lengths.blocks + 1; lost = lengths.lost + length new }
+    → index_to items' next sats' lengths' ≡ index_of_parts (index.hashes ++ hash ∷ []) next (index.lost ++ new)
+more_to index items held sats lengths whole next hash new items' sats' lengths' items_are sats_are lengths_are =
+    let parts : index_to items' next sats' lengths' ≡ index_to (items ++ hash ∷ []) next (sats ++ new) (record { blocks = lengths.blocks + 1; lost = lengths.lost + length new }) =
+    λ i. index_to (items_are i) next (sats_are i) (lengths_are i) in
+    parts ∙ with_block index items held sats lengths whole hash new next
 
 -- and what is marked in them
-pub marked_to : (index : Index) (items : List (List ℕ)) (outs : Outputs) (sats : List ℕ) (lengths : Lengths) → Whole index items outs sats lengths
+pub marked_to : (index : Index) (items : List (List ℕ)) (held : Held) (sats : List ℕ) (lengths : Lengths) → Whole index items held sats lengths
     → (more : List (List ℕ)) (new : List ℕ) (items' : List (List ℕ)) (sats' : List ℕ) → items' ≡ items ++ more → sats' ≡ sats ++ new
-    → index_to items' outs sats' lengths ≡ index
-marked_to index items outs sats lengths whole more new items' sats' items_are sats_are =
-    let parts : index_to items' outs sats' lengths ≡ index_to (items ++ more) outs (sats ++ new) lengths = λ i. index_to (items_are i) outs (sats_are i) lengths in
-    parts ∙ mark_stays index items outs sats lengths whole more new
+    → index_to items' held sats' lengths ≡ index
+marked_to index items held sats lengths whole more new items' sats' items_are sats_are =
+    let parts : index_to items' held sats' lengths ≡ index_to (items ++ more) held (sats ++ new) lengths = λ i. index_to (items_are i) held (sats_are i) lengths in
+    parts ∙ mark_stays index items held sats lengths whole more new
 
-pub within_to : (index : Index) (items : List (List ℕ)) (outs : Outputs) (sats : List ℕ) (lengths : Lengths) → Whole index items outs sats lengths
+pub within_to : (index : Index) (items : List (List ℕ)) (held : Held) (sats : List ℕ) (lengths : Lengths) → Whole index items held sats lengths
     → (more : List (List ℕ)) (new : List ℕ) (items' : List (List ℕ)) (sats' : List ℕ) → items' ≡ items ++ more → sats' ≡ sats ++ new
     → AreWithin items' sats' lengths
-within_to index items outs sats lengths whole more new items' sats' items_are sats_are =
-    rw (items_are, sats_are) (within_more items more sats new lengths (all_within index items outs sats lengths whole))
+within_to index items held sats lengths whole more new items' sats' items_are sats_are =
+    rw (items_are, sats_are) (within_more items more sats new lengths (all_within index items held sats lengths whole))
 
-pub change_right : (before after : Index) (change : Change) (hash new : List ℕ) (rows : Outputs) → after ≡ record { hashes = before.hashes ++ hash ∷ []; outs = rows; lost = before.lost ++ new }
-    → change.hash ≡ hash → change.lost ≡ new → Differ before.outs rows (outputs_changed change) → IsChange before after change
-change_right before after change hash new rows is hash_is lost_is differ =
-    subst (λ (i : Index). IsChange before i change) (sym is) (record {
-      hash = ap (λ (h : List ℕ). before.hashes ++ h ∷ []) (sym hash_is);
-      gone = differ.gone;
-      came = differ.came;
-      lost = ap (λ (l : List ℕ). before.lost ++ l) (sym lost_is);
-    })
+-- ---- back and on
+
+-- a change ends in what an index holds of runes
+pub runes_end : (p : Profile) (index : Index) (change : Change) → EndsIn p index change → Ends change.runes (runes_of index)
+runes_end p index change ends = record {
+  before = runes_of (undone index change);
+  leads = record { continues = ends.leads.continues; undue_before = refl; undue_after = refl; is = ends.leads.runes };
+  balanced = ends.sound.runes.balanced;
+}
+
+pub runes_begin : (p : Profile) (index : Index) (change : Change) → BeginsIn p index change → Begins change.runes (runes_of index)
+runes_begin p index change begins = record {
+  after = runes_of (redone index change);
+  leads = record { continues = begins.leads.continues; undue_before = refl; undue_after = refl; is = begins.leads.runes };
+  balanced = begins.sound.runes.balanced;
+}
+
+pub few_inscriptions : (p : Profile) (index : Index) (change : Change) → EndsIn p index change → length change.inscriptions ≤ length index.inscriptions
+few_inscriptions p index change ends =
+    omega (arith, ap (λ (l : List InsRow). length l) ends.leads.inscriptions, length-append (undone index change).inscriptions change.inscriptions)
+
+pub back_is : (p : Profile) (index : Index) (change : Change) (next : Held) → EndsIn p index change → IsBack (held_of index) next change
+    → index_of_parts (take (length index.hashes - 1) index.hashes) next (take (length index.lost - length change.lost) index.lost) ≡ undone index change
+back_is p index change next ends back =
+    let runes : next.runes ≡ runes_of (undone index change) = back.runes (runes_of (undone index change)) (runes_end p index change ends).leads in
+    λ i. record {
+      hashes = take (length index.hashes - 1) index.hashes;
+      outs = back.outputs i;
+      lost = take (length index.lost - length change.lost) index.lost;
+      inscriptions = back.inscriptions i;
+      bal = (runes i).bal;
+      runes = (runes i).runes;
+    }
+
+pub on_is : (p : Profile) (index : Index) (change : Change) (next : Held) → BeginsIn p index change → IsOn (held_of index) next change
+    → index_of_parts (index.hashes ++ change.hash ∷ []) next (index.lost ++ change.lost) ≡ redone index change
+on_is p index change next begins on =
+    let runes : next.runes ≡ runes_of (redone index change) = on.runes (runes_of (redone index change)) (runes_begin p index change begins).leads in
+    λ i. record {
+      hashes = index.hashes ++ change.hash ∷ [];
+      outs = on.outputs i;
+      lost = index.lost ++ change.lost;
+      inscriptions = on.inscriptions i;
+      bal = (runes i).bal;
+      runes = (runes i).runes;
+    }

@@ -1,5 +1,8 @@
+pub mod Audited
 pub mod Chain
 pub mod Fault
+pub mod Held
 pub mod Lengths
 pub mod Live
+pub mod Parts
 pub mod Reply

@@ -8,6 +8,7 @@ ghost use Rattle.ox_index.specs.Live.{index_in as index_there, profile_in as pro
 use crate::changes::Changes;
 use crate::fault::ConnectFault;
 use crate::live::Live;
+use ox_bytes::Memory;
 use ox_model::{About, Change, Refusal};
 use ox_sat::Profile;
 use std::alloc::Global;
@@ -37,17 +38,18 @@ impl Chain {
     ghost use Rattle.ox_index.specs.Live.{index_in, profile_in};
 
     /// A chain without a block that counts by this profile, and of whose blocks at most `depth` are
-    /// kept, from 1 to 1,000. It takes no memory until a block is connected.
-    pub fn new(alloc: Global, p: &Profile, depth: u16) -> Chain
+    /// kept, from 1 to 1,000. `Memory` where there is none for the rune that is there from the
+    /// start, which mainnet has alone; else it takes none.
+    pub fn new(alloc: Global, p: &Profile, depth: u16) -> Result<Chain, Memory>
         requires known { IsProfile p.now }
         requires depth { (1 ≤ depth) × (depth ≤ 1000) }
-        ensures { stack_in result ≡ stack_of (empty_machine p.now depth) }
+        ensures { IfOk result (λ chain. stack_in chain ≡ stack_of (empty_machine p.now depth)) }
     {
-        Chain {
-            live: Live::new(alloc, p),
+        Ok(Chain {
+            live: Live::new(alloc, p)?,
             depth,
             changes: Changes::new(alloc),
-        }
+        })
     }
 
     /// The index.

@@ -2,11 +2,13 @@
 #![tactic(auto)]
 
 mod admit;
+mod audit;
 mod chain;
 mod changes;
 mod fault;
 mod lengths;
 mod live;
+mod parts;
 mod reply;
 
 pub use chain::Chain;
@@ -14,6 +16,3 @@ pub use changes::Changes;
 pub use fault::ConnectFault;
 pub use live::Live;
 pub use reply::{LONGEST_OK, empty_line, ok_line_in};
-
-#[cfg(test)]
-mod tests;

@@ -1,52 +1,48 @@
 //! The index in memory.
 
 ghost use Rattle.std.specs.Prelude.{◌≡◌, Some, None, Ok, IsSome, IfOk, IfErr, OnOk, OnErr};
-ghost use Rattle.std.specs.Prelude.{◌+◌, ◌<◌, ◌^◌, ◌++◌, length, map};
+ghost use Rattle.std.specs.Prelude.{◌^◌, length, map};
 ghost use Rattle.std.specs.Option.{ForSome};
-ghost use Rattle.ox_sat.specs.Profiles.{IsProfile};
-ghost use Rattle.ox_sat.proofs.Known.{IsProfile-prop};
+ghost use Rattle.std.proofs.Props.{props};
 ghost use Rattle.ox_model.specs.Sound.{IsSound};
-ghost use Rattle.ox_outputs.specs.Table.{rows_in, marked_in as marked_rows};
-ghost use Rattle.ox_outputs.specs.Table.{EndsIn as EndsAt};
-ghost use Rattle.ox_rules.specs.Differences.{Differ, other_end, reverse_of};
-ghost use Rattle.ox_rules.specs.Outputs.{Outputs as Rows};
-ghost use Rattle.ox_model.specs.Change.{outputs_changed};
 ghost use Rattle.ox_index.specs.Lengths.{index_to, AreWithin, IsMark};
+ghost use Rattle.ox_index.specs.Parts.{held_in, mark_of};
 
 use crate::admit::admit;
+use crate::audit::audits_of;
 use crate::fault::ConnectFault;
 use crate::lengths::Lengths;
+use crate::parts::Parts;
 use crate::reply::{LONGEST_OK, ok_line_in};
-use ox_block::{Block, OutPoint, Txids, hash, read_block};
+use ox_block::{Block, OutPoint, Txids, read_block};
 use ox_bytes::{Bytes, Memory, Room};
-use ox_model::{Change, OutRow, OutTable, Place, View};
-use ox_outputs::Outputs;
+use ox_model::{Audit, Change, InsId, InsRow, OutRow, OutTable, Place, RuneId, RuneRow, View};
 use ox_range::Ranges;
-use ox_sat::Profile;
-use ox_transfer::transfer;
+use ox_sat::{Profile, first};
 use std::alloc::Global;
 
-/// The index of a chain: the hashes of its blocks, its unspent outputs, and the satoshis that no
-/// output holds any more. After a command it can go back to the index before it.
+/// The index of a chain: the hashes of its blocks, its unspent outputs, the satoshis that no output
+/// holds any more, the inscriptions and the runes. After a command it can go back to the index
+/// before it.
 #[derive(Drop)]
 pub struct Live {
     alloc: Global,
-    profile: Profile,
     hashes: Vec<[u8; 32]>,
-    outputs: Outputs,
+    parts: Parts,
     lost: Ranges,
     /// So much of the lists counts.
     shown: Lengths,
     /// And so much did before the last command, where it can be gone back to.
     marked: Option<Lengths>,
-    ghost known: { IsProfile profile } by { IsProfile-prop profile },
     ghost within: { AreWithin hashes.items lost shown },
-    ghost sound: { IsSound profile (index_to hashes.items (rows_in outputs) lost shown) },
-    ghost mark: { ForSome marked
-        (λ lengths. IsMark profile hashes.items (marked_rows outputs) lost lengths) },
+    ghost sound: { IsSound parts.profile
+        (index_to hashes.items (held_in parts) lost shown) } by { Prim.hlevel props },
+    ghost mark: { ForSome marked (λ lengths.
+        IsMark parts.profile hashes.items (mark_of parts) lost lengths) } by { Prim.hlevel props },
 }
 
 impl Live {
+    ghost use Rattle.ox_sat.specs.Profiles.{IsProfile};
     ghost use Rattle.ox_model.specs.Change.{IsChange, redone, undone};
     ghost use Rattle.ox_model.specs.Index.{no_blocks};
     ghost use Rattle.ox_block.specs.Hashes.{txid};
@@ -59,22 +55,22 @@ impl Live {
     ghost use Rattle.ox_index.specs.Fault.{Refuses};
     ghost use Rattle.ox_index.specs.Reply.{tip_line};
 
-    /// The index of an empty chain that counts by this profile. It takes no memory until a block is
-    /// connected.
-    pub fn new(alloc: Global, p: &Profile) -> Live
+    /// The index of a chain without a block that counts by this profile. `Memory` where there is
+    /// none for the rune that is there from the start, which mainnet has alone; else it takes none.
+    pub fn new(alloc: Global, p: &Profile) -> Result<Live, Memory>
         requires { IsProfile p.now }
-        ensures profile { profile_in result ≡ p.now }
-        ensures index { index_in result ≡ no_blocks }
+        ensures profile { IfOk result (λ live. profile_in live ≡ p.now) }
+        ensures index { IfOk result (λ live. index_in live ≡ no_blocks p.now) }
     {
-        Live {
+        let parts = Parts::new(alloc, p)?;
+        Ok(Live {
             alloc,
-            profile: *p,
             hashes: Vec::new(alloc),
-            outputs: Outputs::new(alloc),
+            parts,
             lost: Ranges::empty(alloc),
             shown: Lengths { blocks: 0, lost: 0 },
             marked: None,
-        }
+        })
     }
 
     /// Takes in the block that has these bytes, at the height after the newest, and answers what it
@@ -93,7 +89,7 @@ impl Live {
         ensures profile { profile_in self.new ≡ profile_in self.old }
     {
         let block = read_block(self.alloc, bytes)?;
-        let ids = admit(self.alloc, &self.profile, self.hashes(), &block)?;
+        let ids = admit(self.alloc, &self.parts.profile, self.hashes(), &block)?;
         self.take_in(&block, &ids)
     }
 
@@ -116,24 +112,16 @@ impl Live {
         self.forget();
         self.hashes.reserve(1)?;
         let before = self.shown;
-        let moved = transfer(
-            self.alloc,
-            &mut self.outputs,
-            &self.profile,
-            block,
-            ids,
-            before.blocks as u32,
-        )?;
-        let hash = hash(&block.header);
-        match change_of(&self.outputs, &mut self.lost, hash, moved.lost) {
-            Ok(change) => {
-                self.hashes.push_reserved(hash);
+        let change = self.parts.take_in(block, ids, before.blocks as u32)?;
+        match self.lost.join(&change.lost) {
+            Ok(()) => {
+                self.hashes.push_reserved(change.hash);
                 self.shown = before.with_block(&change);
                 self.marked = Some(before);
                 Ok(change)
             }
             Err(_) => {
-                self.outputs.cancel();
+                self.parts.cancel();
                 Err(ConnectFault::Memory)
             }
         }
@@ -149,23 +137,16 @@ impl Live {
         ensures profile { profile_in self.new ≡ profile_in self.old }
     {
         self.forget();
-        self.outputs.begin()?;
-        match self.outputs.put(&change.gone, &change.came) {
-            Ok(()) => {
-                let before = self.shown;
-                self.shown = before.without_block(change);
-                self.marked = Some(before);
-                Ok(())
-            }
-            Err(e) => {
-                self.outputs.cancel();
-                Err(e)
-            }
-        }
+        self.parts.back(change)?;
+        let before = self.shown;
+        self.shown = before.without_block(change);
+        self.marked = Some(before);
+        Ok(())
     }
 
     /// Goes on to the index after a change that begins here; the one after has to be sound.
-    /// `Memory` where there is none: the index is as before. After Ok it goes back by `cancel`.
+    /// `Memory` where there is none, or where there would be 2^32 inscriptions: the index is as
+    /// before. After Ok it goes back by `cancel`.
     pub fn again(&mut self, change: &Change) -> Result<(), Memory>
         requires { BeginsIn (profile_in self.old) (index_in self.old) change.now }
         ensures ok { OnOk result (index_in self.new ≡ redone (index_in self.old) change.now) }
@@ -175,8 +156,8 @@ impl Live {
     {
         self.forget();
         self.hashes.reserve(1)?;
-        self.outputs.begin()?;
-        match put_again(&mut self.outputs, &mut self.lost, change) {
+        self.parts.again(change)?;
+        match self.lost.join(&change.lost) {
             Ok(()) => {
                 let before = self.shown;
                 self.hashes.push_reserved(change.hash);
@@ -185,7 +166,7 @@ impl Live {
                 Ok(())
             }
             Err(e) => {
-                self.outputs.cancel();
+                self.parts.cancel();
                 Err(e)
             }
         }
@@ -200,7 +181,7 @@ impl Live {
         ensures profile { profile_in self.new ≡ profile_in self.old }
     {
         if let Some(before) = self.marked {
-            self.outputs.cancel();
+            self.parts.cancel();
             self.shown = before;
             self.marked = None;
         }
@@ -264,7 +245,7 @@ impl View for Live {
     ghost index = { shown };
 
     fn profile(&self) -> &Profile {
-        &self.profile
+        &self.parts.profile
     }
 
     fn blocks(&self) -> u32 {
@@ -276,7 +257,7 @@ impl View for Live {
     }
 
     fn output(&self, at: &OutPoint) -> Option<&OutRow> {
-        self.outputs.get(at)
+        self.parts.outputs.get(at)
     }
 
     fn lost(&self) -> u64 {
@@ -284,56 +265,71 @@ impl View for Live {
     }
 
     fn locate(&self, sat: u64) -> Option<Place> {
-        match self.outputs.locate(sat) {
+        match self.parts.outputs.locate(sat) {
             Some(place) => Some(place),
             None => self.lost_at(sat).map(|offset| Place::Lost { offset }),
         }
     }
 
-    ghost known = { λ live. live.known };
+    fn inscriptions(&self) -> u32 {
+        self.parts.shelf.len()
+    }
+
+    fn inscription(&self, n: u32) -> &InsRow {
+        self.parts.shelf.row(n)
+    }
+
+    fn find(&self, id: &InsId) -> Option<u32> {
+        self.parts.shelf.find(id)
+    }
+
+    fn on(&self, sat: u64) -> &[u32] {
+        self.parts.shelf.on(sat)
+    }
+
+    fn next_on(&self, sat: u64) -> Option<(u64, &[u32])> {
+        self.parts.shelf.next_on(sat)
+    }
+
+    fn children(&self, of: u32) -> &[u32] {
+        self.parts.shelf.children(of)
+    }
+
+    fn balance(&self, at: &OutPoint) -> &[(RuneId, u128)] {
+        self.parts.ledger.balance(at)
+    }
+
+    fn runes(&self) -> u32 {
+        self.parts.ledger.len()
+    }
+
+    fn rune(&self, n: u32) -> &RuneRow {
+        self.parts.ledger.rune(n)
+    }
+
+    fn by_name(&self, name: u128) -> Option<u32> {
+        self.parts.ledger.by_name(name)
+    }
+
+    fn by_id(&self, id: RuneId) -> Option<u32> {
+        self.parts.ledger.by_id(id)
+    }
+
+    fn held(&self, n: u32) -> u128 {
+        self.parts.ledger.held(n)
+    }
+
+    fn audit(&self) -> Result<Audit, Memory> {
+        let claimable = first(&self.parts.profile, self.shown.blocks as u64);
+        Ok(Audit {
+            claimable,
+            lost: self.shown.lost,
+            outputs: claimable - self.shown.lost,
+            runes: audits_of(self.alloc, &self.parts.ledger)?,
+        })
+    }
+
+    ghost known = { λ live. live.parts.known };
 
     ghost sound = { λ live. live.sound };
-}
-
-// What a block changed whose rows have moved since the table's mark: its lost satoshis are put
-// behind the others. `Memory` where there is none: nothing has changed then.
-fn change_of(
-    outputs: &Outputs,
-    lost: &mut Ranges,
-    hash: [u8; 32],
-    new: Ranges,
-) -> Result<Change, Memory>
-    requires marked { IsSome (marked_rows outputs.now) }
-    requires fits { length lost.old + length new < 2 ^ 64 }
-    ensures hash { IfOk result (λ change. change.hash ≡ hash) }
-    ensures rows { IfOk result (λ change. (before : Rows) → marked_rows outputs.now ≡ Some before
-        → Differ before (rows_in outputs.now) (outputs_changed change)) }
-    ensures new { IfOk result (λ change. change.lost ≡ new) }
-    ensures lost { OnOk result (lost.new ≡ lost.old ++ new) }
-    ensures err { OnErr result (lost.new ≡ lost.old) }
-{
-    let (gone, came) = outputs.changed()?;
-    lost.join(&new)?;
-    Ok(Change {
-        hash,
-        gone,
-        came,
-        lost: new,
-    })
-}
-
-// Puts what a change brings into the table, which has a mark, and behind the lost satoshis. After
-// `Memory` the table goes back by its `cancel`.
-fn put_again(outputs: &mut Outputs, lost: &mut Ranges, change: &Change) -> Result<(), Memory>
-    requires marked { IsSome (marked_rows outputs.old) }
-    requires ends { EndsAt (rows_in outputs.old) (reverse_of (outputs_changed change.now)) }
-    requires fits { length lost.old + length change.now.lost < 2 ^ 64 }
-    ensures rows { OnOk result (rows_in outputs.new
-        ≡ other_end (rows_in outputs.old) (reverse_of (outputs_changed change.now))) }
-    ensures lost { OnOk result (lost.new ≡ lost.old ++ change.now.lost) }
-    ensures err { OnErr result (lost.new ≡ lost.old) }
-    ensures mark { marked_rows outputs.new ≡ marked_rows outputs.old }
-{
-    outputs.put(&change.came, &change.gone)?;
-    lost.join(&change.lost)
 }

@@ -88,7 +88,9 @@ fn main(rt: HostRuntime) -> anyhow::Result<()> {
     let shows = matches!(env::args(&rt)?.nth(1), Some(word) if word.as_str() == "show");
     let mut feed = Vec::new(alloc);
     rt.stdin().read_to_end(&mut feed)?;
-    let mut live = Live::new(alloc, &profile_of(ProfileName::Regtest));
+    let Ok(mut live) = Live::new(alloc, &profile_of(ProfileName::Regtest)) else {
+        return Ok(());
+    };
     let paths = connect_all(&mut live, &feed);
     let Ok(routes) = Routes::new(alloc) else {
         return Ok(());

@@ -100,13 +100,13 @@ fn missing(rt: &impl Abort, alloc: Global, live: &Live, path: &[u8]) -> bool {
     fails(rt, alloc, live, Method::Get, path, 404, b"{\"error\":404}")
 }
 
-fn empty(alloc: Global, name: ProfileName) -> Live {
-    Live::new(alloc, &profile_of(name))
+fn empty(rt: &impl Abort, alloc: Global, name: ProfileName) -> Live {
+    Live::new(alloc, &profile_of(name)).expect(rt, "memory")
 }
 
 /// Mainnet's chain of one block.
 fn first_block(rt: &impl Abort, alloc: Global) -> Live {
-    let mut live = empty(alloc, ProfileName::Mainnet);
+    let mut live = empty(rt, alloc, ProfileName::Mainnet);
     let block = hex::decode(alloc, GENESIS).expect(rt, "digits");
     live.connect(&block).expect(rt, "a block");
     live
@@ -114,14 +114,14 @@ fn first_block(rt: &impl Abort, alloc: Global) -> Live {
 
 #[test]
 fn an_empty_chain_has_its_status(rt: HostRuntime) {
-    let live = empty(rt.alloc(), ProfileName::Regtest);
+    let live = empty(&rt, rt.alloc(), ProfileName::Regtest);
     let body = b"{\"blocks\":0,\"depth\":100,\"kept\":3,\"profile\":\"regtest\",\"tip\":null}";
     assert!(rt; says(&rt, rt.alloc(), &live, b"/status", body));
 }
 
 #[test]
 fn a_satoshi_that_is_not_minted_is_nowhere(rt: HostRuntime) {
-    let live = empty(rt.alloc(), ProfileName::Regtest);
+    let live = empty(&rt, rt.alloc(), ProfileName::Regtest);
     let body = "{\"decimal\":\"3891094.16797\",\"degree\":\"3°111094′214″16797‴\",\
         \"inscriptions\":[],\"name\":\"satoshi\",\"number\":2099994106992659,\"place\":null,\
         \"rarity\":\"common\"}";
@@ -148,7 +148,7 @@ fn a_satoshi_that_is_not_minted_is_nowhere(rt: HostRuntime) {
 
 #[test]
 fn the_last_satoshi_is_below_the_supply(rt: HostRuntime) {
-    let live = empty(rt.alloc(), ProfileName::Mainnet);
+    let live = empty(&rt, rt.alloc(), ProfileName::Mainnet);
     let body = "{\"decimal\":\"6929999.0\",\"degree\":\"5°209999′1007″0‴\",\"inscriptions\":[],\
         \"name\":\"a\",\"number\":2099999997689999,\"place\":null,\"rarity\":\"uncommon\"}";
     assert!(rt;
@@ -189,7 +189,7 @@ fn an_output_and_its_block_are_told(rt: HostRuntime) {
 
 /// The regtest chain of the first two blocks and this one.
 fn chain_with(rt: &impl Abort, alloc: Global, third: &str) -> Live {
-    let mut live = empty(alloc, ProfileName::Regtest);
+    let mut live = empty(rt, alloc, ProfileName::Regtest);
     for digits in [FIRST, SECOND, third] {
         let block = hex::decode(alloc, digits).expect(rt, "digits");
         live.connect(&block).expect(rt, "a block");
@@ -255,7 +255,7 @@ fn is_refused(rt: &impl Abort, alloc: Global, live: &Live, method: Method, path:
 
 #[test]
 fn a_method_that_a_route_has_not_is_refused(rt: HostRuntime) {
-    let live = empty(rt.alloc(), ProfileName::Regtest);
+    let live = empty(&rt, rt.alloc(), ProfileName::Regtest);
     let asked: [&[u8]; 10] = [
         b"/status",
         b"/audit",
@@ -278,7 +278,7 @@ fn a_method_that_a_route_has_not_is_refused(rt: HostRuntime) {
 
 #[test]
 fn commands_are_forbidden_and_other_paths_missing(rt: HostRuntime) {
-    let live = empty(rt.alloc(), ProfileName::Regtest);
+    let live = empty(&rt, rt.alloc(), ProfileName::Regtest);
     let forbidden = b"{\"error\":403}";
     assert!(rt;
         fails(
@@ -353,7 +353,7 @@ fn lent_says(rt: &impl Abort, alloc: Global, live: &Live, routes: &Routes) -> bo
 
 #[test]
 fn routes_may_be_lent(rt: HostRuntime) {
-    let live = empty(rt.alloc(), ProfileName::Lab);
+    let live = empty(&rt, rt.alloc(), ProfileName::Lab);
     let routes = Routes::new(rt.alloc()).expect(&rt, "memory");
     assert!(rt; lent_says(&rt, rt.alloc(), &live, &routes));
 }

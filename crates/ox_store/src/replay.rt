@@ -15,7 +15,7 @@ ghost use Rattle.ox_sat.specs.Profiles.{name_at as name_there};
 ghost use Rattle.ox_store.specs.Replay.{IsUnjudged, command_of, stack_after_record, fault_in};
 
 use crate::fault::OpenFault;
-use ox_bytes::Bytes;
+use ox_bytes::{Bytes, Memory};
 use ox_gated::{Before, Head, Record, Records};
 use ox_index::{Chain, ConnectFault};
 use ox_outside::Which;
@@ -56,7 +56,9 @@ pub fn judge(alloc: Global, head: &Head, body: &Bytes, records: &Records) -> Res
     if !body.is_empty() {
         return Err(Unjudged::At(26));
     }
-    let mut chain = begin(alloc, head);
+    let Ok(mut chain) = begin(alloc, head) else {
+        return Err(Unjudged::Memory);
+    };
     for record in records.as_slice() {
         redo(&mut chain, record)?;
     }
@@ -89,10 +91,10 @@ fn name_at(byte: u8) -> ProfileName
     }
 }
 
-// The chain of a file with this head and no record.
-fn begin(alloc: Global, head: &Head) -> Chain
+// The chain of a file with this head and no record. `Memory` where there is none for it.
+fn begin(alloc: Global, head: &Head) -> Result<Chain, Memory>
     requires { IsTrue (is_lawful head.now) }
-    ensures { stack_in result ≡ empty_stack_at head.now }
+    ensures { IfOk result (λ chain. stack_in chain ≡ empty_stack_at head.now) }
 {
     Chain::new(alloc, &profile_of(name_at(head.profile)), head.depth)
 }

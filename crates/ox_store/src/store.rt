@@ -111,6 +111,7 @@ impl Store {
             return Err(MakeFault::NotEmpty);
         }
         let profile = profile_of(name);
+        let chain = Chain::new(alloc, &profile, depth)?;
         let head = Head {
             version: 1,
             profile: profile.byte,
@@ -121,7 +122,7 @@ impl Store {
         let tail = Tail::make(site, &checkpoint)?;
         Ok(Store {
             alloc,
-            chain: Chain::new(alloc, &profile, depth),
+            chain,
             tail,
             commands: 0,
         })

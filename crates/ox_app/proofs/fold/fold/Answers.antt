@@ -7,7 +7,7 @@ use Rattle.ox_model.specs.Machine.{empty_machine, stack_of}
 use Rattle.ox_model.specs.Stack.{Stack}
 use Rattle.ox_index.specs.Chain.{stack_in}
 use Rattle.ox_app.specs.Fold.{Anything, fold_depth}
-use Rattle.ox_app.proofs.FeedAnswers.{carried_none, grows_broken, grows_carried, grows_owing, grows_stopped, grows_whole}
+use Rattle.ox_app.proofs.FeedAnswers.{carried_none, grows_broken, grows_carried, grows_owing, grows_stopped, grows_unheard, grows_whole}
 use Rattle.ox_app.proofs.TalksOn.{talks_on}
 use Rattle.ox_app.proofs.FeedState.{HasAnswered}
 use Rattle.ox_outside.proofs.OnlyTalks.{talks_none}
@@ -17,10 +17,15 @@ pub loop-chain-init : goal.loop-chain-init
 loop-chain-init g c =
     let first = stack_of (empty_machine c.args.p.now fold_depth) in
     let log = g.S.Site.log c.args.site.now in (
-      subst (λ (l : Feed). Grows (HasAnswered first l (stack_in c.new-chain.result)) log log) (sym c.new-lines.ensures)
-          (subst (λ (s : Stack). Grows (HasAnswered first new_feed s) log log) (sym c.new-chain.ensures) (carried_none first log)),
+      subst (λ (l : Feed). Grows (HasAnswered first l (stack_in c.in_ok-chain.chain)) log log) (sym c.new-lines.ensures)
+          (subst (λ (s : Stack). Grows (HasAnswered first new_feed s) log log) (sym c.in_ok-chain.ensures) (carried_none first log)),
       talks_none g.S.Site g.met.S.Site.only_now g.met.S.Site.logs_now Anything c.args.site.now tt,
     )
+
+pub returns-in_err-chain-clause-told : goal.returns-in_err-chain-clause-told
+returns-in_err-chain-clause-told g c =
+    let p = err_from_is_err_and c.from_residual-in_err-chain.result c.from_residual-in_err-chain.ensures.1 in
+    rw (p.1, p.2) (grows_unheard (stack_of (empty_machine c.args.p.now fold_depth)) (g.S.Site.log c.args.site.now))
 
 pub returns-in_err-answer-clause-told : goal.returns-in_err-answer-clause-told
 returns-in_err-answer-clause-told g c =

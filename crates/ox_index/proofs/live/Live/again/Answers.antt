@@ -1,33 +1,122 @@
-use Rattle.std.proofs.Common.{◌≡◌, ◌∙◌, ◌≤◌, ◌<◌, ◌+◌, ◌^◌, ℕ, length, sym, ap, subst, arith, length-append, ◌∷◌, []}
-use Rattle.ox_model.specs.Change.{redone}
+use Rattle.std.proofs.Common.{◌≡◌, ◌∙◌, ◌≤◌, ◌<◌, ◌+◌, ◌-◌, ◌^◌, ℕ, List, [], ◌∷◌, ◌++◌, length, refl, sym, ap, subst, arith, length-append}
+use Rattle.ox_ledger.specs.Moves.{Begins, Ends}
+use Rattle.ox_model.specs.Change.{redone, undone}
+use Rattle.ox_model.specs.Ends.{BeginsIn, EndsIn}
 use Rattle.ox_model.specs.Index.{Index}
-use Rattle.ox_outputs.specs.Table.{rows_in}
+use Rattle.ox_model.specs.Sound.{IsSound}
+use Rattle.ox_sat.specs.declared.profiles.Profile.{Profile}
+use Rattle.ox_index.specs.Lengths.{IsMark, index_to}
 use Rattle.ox_index.specs.Live.{index_in}
-use Rattle.ox_index.proofs.Counting.{begins_at, lost_few}
-use Rattle.ox_index.proofs.Whole.{Whole, blocks_are, blocks_few, sats_are}
+use Rattle.ox_index.specs.Held.{Held, IsBack, IsOn}
+use Rattle.ox_index.specs.Parts.{held_in, mark_of}
+use Rattle.ox_index.specs.declared.lengths.Lengths.{Lengths}
+use Rattle.ox_index.proofs.Counting.{begins_at, ends_at, lost_few}
+use Rattle.ox_index.proofs.Whole.{Whole, all_within, back_is, blocks_are, blocks_few, few_inscriptions, held_are, held_of, mark_right, marked_to, more_to, on_is, runes_begin, runes_end, sats_are, some_same, within_to, without_block}
 use Rattle.ox_index.proofs.live.Live.again.Goals as goal
 
-pub put_again-requires-clause-ends : goal.put_again-requires-clause-ends
-put_again-requires-clause-ends c =
-    let index : Index = index_in c.args.self.now in
-    let rows : rows_in c.begin.new.self ≡ index.outs = c.begin.ensures.rows ∙ ap (λ (i : Index). i.outs) c.forget.ensures.index in
-    begins_at c.args.self.now.profile index c.args.change.now (rows_in c.begin.new.self) c.requires rows
-
-pub put_again-requires-clause-fits : goal.put_again-requires-clause-fits
-put_again-requires-clause-fits c =
+pub again-requires-clause-rows : goal.again-requires-clause-rows
+again-requires-clause-rows c =
     let live = c.forget.new.self in
+    let p = live.parts.profile in
+    let change = c.args.change.now in
     let index : Index = index_in c.args.self.now in
-    let whole : Whole index live.hashes.items (rows_in live.outputs) live.lost live.shown = record { index_is = c.forget.ensures.index; many = c.forget.ensures.blocks; few = c.forget.ensures.lost } in
-    let few : length (redone index c.args.change.now).lost ≤ 2 ^ 63 = lost_few c.args.self.now.profile (redone index c.args.change.now) c.args.self.now.known c.requires.sound in
-    omega (arith, few, length-append index.lost c.args.change.now.lost, sats_are index live.hashes.items (rows_in live.outputs) live.lost live.shown whole, whole.few)
+    let whole : Whole index live.hashes.items (held_in live.parts) live.lost live.shown = record { index_is = c.forget.ensures.index; undue = live.parts.undue; many = c.forget.ensures.blocks; few = c.forget.ensures.lost } in
+    let sound : IsSound p index = subst (IsSound p) whole.index_is live.sound in
+    let are : held_in live.parts ≡ held_of index = held_are index live.hashes.items (held_in live.parts) live.lost live.shown whole in
+    let begins : BeginsIn p index change = subst (λ (q : Profile). BeginsIn q index change) (sym c.forget.ensures.profile) c.requires in
+    begins_at p index change (held_in live.parts).outs begins (ap (λ (h : Held). h.outs) are)
+
+pub again-requires-clause-runes : goal.again-requires-clause-runes
+again-requires-clause-runes c =
+    let live = c.forget.new.self in
+    let p = live.parts.profile in
+    let change = c.args.change.now in
+    let index : Index = index_in c.args.self.now in
+    let whole : Whole index live.hashes.items (held_in live.parts) live.lost live.shown = record { index_is = c.forget.ensures.index; undue = live.parts.undue; many = c.forget.ensures.blocks; few = c.forget.ensures.lost } in
+    let sound : IsSound p index = subst (IsSound p) whole.index_is live.sound in
+    let are : held_in live.parts ≡ held_of index = held_are index live.hashes.items (held_in live.parts) live.lost live.shown whole in
+    let begins : BeginsIn p index change = subst (λ (q : Profile). BeginsIn q index change) (sym c.forget.ensures.profile) c.requires in
+    subst (λ (h : Held). Begins change.runes h.runes) (sym are) (runes_begin p index change begins)
+
+pub join-requires : goal.join-requires
+join-requires c =
+    let live = c.forget.new.self in
+    let p = live.parts.profile in
+    let change = c.args.change.now in
+    let index : Index = index_in c.args.self.now in
+    let whole : Whole index live.hashes.items (held_in live.parts) live.lost live.shown = record { index_is = c.forget.ensures.index; undue = live.parts.undue; many = c.forget.ensures.blocks; few = c.forget.ensures.lost } in
+    let sound : IsSound p index = subst (IsSound p) whole.index_is live.sound in
+    let are : held_in live.parts ≡ held_of index = held_are index live.hashes.items (held_in live.parts) live.lost live.shown whole in
+    let begins : BeginsIn p index change = subst (λ (q : Profile). BeginsIn q index change) (sym c.forget.ensures.profile) c.requires in
+    let few : length (redone index change).lost ≤ 2 ^ 63 = lost_few p (redone index change) live.parts.known begins.sound in
+    omega (arith, few, length-append index.lost change.lost, sats_are index live.hashes.items (held_in live.parts) live.lost live.shown whole, whole.few)
 
 pub with_block-self-requires : goal.with_block-self-requires
 with_block-self-requires c =
     let live = c.forget.new.self in
+    let p = live.parts.profile in
+    let change = c.args.change.now in
     let index : Index = index_in c.args.self.now in
-    let whole : Whole index live.hashes.items (rows_in live.outputs) live.lost live.shown = record { index_is = c.forget.ensures.index; many = c.forget.ensures.blocks; few = c.forget.ensures.lost } in
-    let few : length (redone index c.args.change.now).lost ≤ 2 ^ 63 = lost_few c.args.self.now.profile (redone index c.args.change.now) c.args.self.now.known c.requires.sound in
-    let blocks : length index.hashes ≤ 2 ^ 63 = blocks_few c.args.self.now.profile (length index.hashes) c.args.self.now.known c.args.self.now.sound.heights in (
-      omega (arith, blocks, blocks_are index live.hashes.items (rows_in live.outputs) live.lost live.shown whole),
-      omega (arith, few, length-append index.lost c.args.change.now.lost, sats_are index live.hashes.items (rows_in live.outputs) live.lost live.shown whole),
+    let whole : Whole index live.hashes.items (held_in live.parts) live.lost live.shown = record { index_is = c.forget.ensures.index; undue = live.parts.undue; many = c.forget.ensures.blocks; few = c.forget.ensures.lost } in
+    let sound : IsSound p index = subst (IsSound p) whole.index_is live.sound in
+    let are : held_in live.parts ≡ held_of index = held_are index live.hashes.items (held_in live.parts) live.lost live.shown whole in
+    let begins : BeginsIn p index change = subst (λ (q : Profile). BeginsIn q index change) (sym c.forget.ensures.profile) c.requires in
+    let few : length (redone index change).lost ≤ 2 ^ 63 = lost_few p (redone index change) live.parts.known begins.sound in
+    let blocks : length index.hashes ≤ 2 ^ 63 = blocks_few p (length index.hashes) live.parts.known sound.heights.last in (
+      omega (arith, blocks, blocks_are index live.hashes.items (held_in live.parts) live.lost live.shown whole),
+      omega (arith, few, length-append index.lost change.lost, sats_are index live.hashes.items (held_in live.parts) live.lost live.shown whole),
     )
+
+pub invariant_of-self-in-Ok-clause-sound : goal.invariant_of-self-in-Ok-clause-sound
+invariant_of-self-in-Ok-clause-sound c =
+    let live = c.forget.new.self in
+    let p = live.parts.profile in
+    let change = c.args.change.now in
+    let index : Index = index_in c.args.self.now in
+    let whole : Whole index live.hashes.items (held_in live.parts) live.lost live.shown = record { index_is = c.forget.ensures.index; undue = live.parts.undue; many = c.forget.ensures.blocks; few = c.forget.ensures.lost } in
+    let sound : IsSound p index = subst (IsSound p) whole.index_is live.sound in
+    let are : held_in live.parts ≡ held_of index = held_are index live.hashes.items (held_in live.parts) live.lost live.shown whole in
+    let begins : BeginsIn p index change = subst (λ (q : Profile). BeginsIn q index change) (sym c.forget.ensures.profile) c.requires in
+    let next = held_in c.again.new.self in
+    let on : IsOn (held_of index) next change = subst (λ (h : Held). IsOn h next change) are c.in_ok-again.ensures.ok in
+    let items : c.push_reserved.new.self.items ≡ live.hashes.items ++ change.hash ∷ [] = c.push_reserved.ensures.items ∙ ap (λ (l : List (List ℕ)). l ++ change.hash ∷ []) c.reserve.ensures.items in
+    let to : index_to c.push_reserved.new.self.items next c.join.new.self c.with_block-self.result ≡ redone index change =
+    more_to index live.hashes.items (held_in live.parts) live.lost live.shown whole next change.hash change.lost c.push_reserved.new.self.items c.join.new.self c.with_block-self.result items c.in-Ok.ensures.ok c.with_block-self.ensures
+    ∙ on_is p index change next begins on in
+    subst (λ (q : Profile). IsSound q (index_to c.push_reserved.new.self.items next c.join.new.self c.with_block-self.result)) (sym c.again.ensures.profile) (subst (IsSound p) (sym to) begins.sound)
+
+pub invariant_of-self-in-Ok-clause-mark : goal.invariant_of-self-in-Ok-clause-mark
+invariant_of-self-in-Ok-clause-mark c =
+    let live = c.forget.new.self in
+    let p = live.parts.profile in
+    let change = c.args.change.now in
+    let index : Index = index_in c.args.self.now in
+    let whole : Whole index live.hashes.items (held_in live.parts) live.lost live.shown = record { index_is = c.forget.ensures.index; undue = live.parts.undue; many = c.forget.ensures.blocks; few = c.forget.ensures.lost } in
+    let sound : IsSound p index = subst (IsSound p) whole.index_is live.sound in
+    let are : held_in live.parts ≡ held_of index = held_are index live.hashes.items (held_in live.parts) live.lost live.shown whole in
+    let begins : BeginsIn p index change = subst (λ (q : Profile). BeginsIn q index change) (sym c.forget.ensures.profile) c.requires in
+    let items : c.push_reserved.new.self.items ≡ live.hashes.items ++ change.hash ∷ [] = c.push_reserved.ensures.items ∙ ap (λ (l : List (List ℕ)). l ++ change.hash ∷ []) c.reserve.ensures.items in
+    let to = marked_to index live.hashes.items (held_in live.parts) live.lost live.shown whole (change.hash ∷ []) change.lost c.push_reserved.new.self.items c.join.new.self items c.in-Ok.ensures.ok in
+    let within = within_to index live.hashes.items (held_in live.parts) live.lost live.shown whole (change.hash ∷ []) change.lost c.push_reserved.new.self.items c.join.new.self items c.in-Ok.ensures.ok in
+    let mark : IsMark c.again.new.self.profile c.push_reserved.new.self.items (mark_of c.again.new.self) c.join.new.self live.shown =
+    subst (λ (q : Profile). IsMark q c.push_reserved.new.self.items (mark_of c.again.new.self) c.join.new.self live.shown) (sym c.again.ensures.profile)
+    (mark_right index c.push_reserved.new.self.items (held_in live.parts) c.join.new.self live.shown (mark_of c.again.new.self) c.in_ok-again.ensures.mark to p within sound) in
+    λ x is. subst (λ (l : Lengths). IsMark c.again.new.self.profile c.push_reserved.new.self.items (mark_of c.again.new.self) c.join.new.self l) (some_same live.shown x is) mark
+
+pub returns-in-Ok-clause-ok : goal.returns-in-Ok-clause-ok
+returns-in-Ok-clause-ok c =
+    let live = c.forget.new.self in
+    let p = live.parts.profile in
+    let change = c.args.change.now in
+    let index : Index = index_in c.args.self.now in
+    let whole : Whole index live.hashes.items (held_in live.parts) live.lost live.shown = record { index_is = c.forget.ensures.index; undue = live.parts.undue; many = c.forget.ensures.blocks; few = c.forget.ensures.lost } in
+    let sound : IsSound p index = subst (IsSound p) whole.index_is live.sound in
+    let are : held_in live.parts ≡ held_of index = held_are index live.hashes.items (held_in live.parts) live.lost live.shown whole in
+    let begins : BeginsIn p index change = subst (λ (q : Profile). BeginsIn q index change) (sym c.forget.ensures.profile) c.requires in
+    let next = held_in c.again.new.self in
+    let on : IsOn (held_of index) next change = subst (λ (h : Held). IsOn h next change) are c.in_ok-again.ensures.ok in
+    let items : c.push_reserved.new.self.items ≡ live.hashes.items ++ change.hash ∷ [] = c.push_reserved.ensures.items ∙ ap (λ (l : List (List ℕ)). l ++ change.hash ∷ []) c.reserve.ensures.items in
+    let to : index_to c.push_reserved.new.self.items next c.join.new.self c.with_block-self.result ≡ redone index change =
+    more_to index live.hashes.items (held_in live.parts) live.lost live.shown whole next change.hash change.lost c.push_reserved.new.self.items c.join.new.self c.with_block-self.result items c.in-Ok.ensures.ok c.with_block-self.ensures
+    ∙ on_is p index change next begins on in
+    to

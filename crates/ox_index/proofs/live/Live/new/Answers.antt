@@ -1,12 +1,18 @@
-use Rattle.std.proofs.Common.{◌≡◌, ◌++◌, [], sym, subst, arith}
-use Rattle.ox_model.specs.Index.{no_blocks}
+use Rattle.std.proofs.Common.{◌≡◌, [], sym, subst}
+use Rattle.ox_model.specs.Index.{Index, no_blocks}
 use Rattle.ox_model.specs.Sound.{IsSound}
 use Rattle.ox_model.proofs.Soundness.{sound_first}
-use Rattle.ox_outputs.specs.Table.{rows_in}
-use Rattle.ox_index.specs.Lengths.{index_to}
+use Rattle.ox_sat.specs.declared.profiles.Profile.{Profile}
+use Rattle.ox_index.specs.Lengths.{index_of_parts, index_to}
+use Rattle.ox_index.specs.Parts.{held_in}
 use Rattle.ox_index.proofs.live.Live.new.Goals as goal
 
 pub invariant_of-result-clause-sound : goal.invariant_of-result-clause-sound
 invariant_of-result-clause-sound c =
-    let is : index_to c.new.result.items (rows_in c.new-2.result) c.empty.result (record { blocks = 0; lost = 0 }) ≡ no_blocks = λ i. record { hashes = []; outs = c.new-2.ensures i; lost = [] } in
-    subst (IsSound c.args.p.now) (sym is) (sound_first c.args.p.now)
+    let p = c.args.p.now in
+    let index : Index = index_to c.new.result.items (held_in c.in_ok-parts.parts) c.empty.result (record { blocks = 0; lost = 0 }) in
+    let is : index ≡ no_blocks p = λ i. index_of_parts [] (c.in_ok-parts.ensures.held i) [] in
+    subst (λ (q : Profile). IsSound q index) (sym c.in_ok-parts.ensures.profile) (subst (IsSound p) (sym is) (sound_first p))
+
+pub returns-in_ok-parts-clause-index : goal.returns-in_ok-parts-clause-index
+returns-in_ok-parts-clause-index c = λ i. index_of_parts [] (c.in_ok-parts.ensures.held i) []

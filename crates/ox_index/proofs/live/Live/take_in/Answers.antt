@@ -1,95 +1,143 @@
 use Rattle.std.proofs.Common.{◌≡◌, ◌∙◌, ◌≤◌, ◌<◌, ◌+◌, ◌^◌, ℕ, List, [], ◌∷◌, ◌++◌, length, sym, ap, subst, arith}
 use Rattle.std.specs.Prelude.{Ok}
-use Rattle.ox_block.specs.Hashes.{block_hash}
-use Rattle.ox_model.specs.Change.{outputs_changed}
+use Rattle.ox_model.specs.Change.{IsChange}
 use Rattle.ox_model.specs.Index.{Index}
 use Rattle.ox_model.specs.Sound.{IsSound}
 use Rattle.ox_model.specs.Step.{admission}
 use Rattle.ox_model.proofs.Soundness.{admitted_right, grown_sound}
-use Rattle.ox_rules.specs.Differences.{Differ}
-use Rattle.ox_rules.specs.Outputs.{Outputs}
-use Rattle.ox_rules.specs.Transfer.{Transferred, transfer_of}
 use Rattle.ox_sat.specs.declared.profiles.Profile.{Profile}
-use Rattle.ox_outputs.specs.Table.{marked_in, rows_in}
-use Rattle.ox_transfer.specs.Parts.{transferred_of}
-use Rattle.ox_index.specs.Lengths.{IsMark}
+use Rattle.ox_transfer.proofs.Sizes.{few_txs}
+use Rattle.ox_index.specs.Lengths.{IsMark, index_to}
 use Rattle.ox_index.specs.Live.{index_in}
+use Rattle.ox_index.specs.Held.{IsTaken}
+use Rattle.ox_index.specs.Parts.{held_in, mark_of}
 use Rattle.ox_index.specs.declared.lengths.Lengths.{Lengths}
-use Rattle.ox_index.proofs.Steps.{lost_fits}
-use Rattle.ox_index.proofs.Whole.{Whole, blocks_are, blocks_few, change_right, mark_right, marked_to, rows_are, sats_are, some_same, taken_to, within_to}
+use Rattle.ox_index.proofs.Begun.{none_here, once_here}
+use Rattle.ox_index.proofs.Steps.{after_taken, lost_fits}
+use Rattle.ox_index.proofs.Whole.{Whole, blocks_are, blocks_few, change_right, held_are, held_of, is_grown, mark_right, marked_to, more_to, next_index, sats_are, some_same, taken_of, within_to}
 use Rattle.ox_index.proofs.live.Live.take_in.Goals as goal
 
-pub change_of-requires-clause-fits : goal.change_of-requires-clause-fits
-change_of-requires-clause-fits c =
+pub take_in-requires-clause-once : goal.take_in-requires-clause-once
+take_in-requires-clause-once c =
     let live = c.forget.new.self in
+    let p = live.parts.profile in
     let index : Index = index_in c.args.self.now in
-    let whole : Whole index live.hashes.items (rows_in live.outputs) live.lost live.shown = record { index_is = c.forget.ensures.index; many = c.forget.ensures.blocks; few = c.forget.ensures.lost } in
-    let sound : IsSound live.profile index = subst (IsSound live.profile) whole.index_is live.sound in
-    let begun : admission live.profile index.hashes c.args.block.now ≡ Ok tt = subst (λ (p : Profile). admission p index.hashes c.args.block.now ≡ Ok tt) (sym c.forget.ensures.profile) c.requires.admitted in
-    let after : Transferred = transferred_of c.in_ok-moved.moved (rows_in c.transfer.new.table) in
-    let height = blocks_are index live.hashes.items (rows_in live.outputs) live.lost live.shown whole in
-    let rows = rows_are index live.hashes.items (rows_in live.outputs) live.lost live.shown whole in
-    let same : transfer_of live.profile live.shown.blocks c.args.block.now.txs (rows_in live.outputs) ≡ transfer_of live.profile (length index.hashes) c.args.block.now.txs index.outs = λ i. transfer_of live.profile (height i) c.args.block.now.txs (rows i) in
-    let moved : transfer_of live.profile (length index.hashes) c.args.block.now.txs index.outs ≡ Ok after = sym same ∙ c.in_ok-moved.ensures.moved in
-    omega (arith, lost_fits live.profile index c.args.block.now after live.known sound begun moved, sats_are index live.hashes.items (rows_in live.outputs) live.lost live.shown whole, whole.few)
+    let whole : Whole index live.hashes.items (held_in live.parts) live.lost live.shown = record { index_is = c.forget.ensures.index; undue = live.parts.undue; many = c.forget.ensures.blocks; few = c.forget.ensures.lost } in
+    let sound : IsSound p index = subst (IsSound p) whole.index_is live.sound in
+    once_here p index live.hashes.items (held_in live.parts) live.lost live.shown whole live.parts.known sound
+
+pub take_in-requires-clause-none : goal.take_in-requires-clause-none
+take_in-requires-clause-none c =
+    let live = c.forget.new.self in
+    let p = live.parts.profile in
+    let index : Index = index_in c.args.self.now in
+    let whole : Whole index live.hashes.items (held_in live.parts) live.lost live.shown = record { index_is = c.forget.ensures.index; undue = live.parts.undue; many = c.forget.ensures.blocks; few = c.forget.ensures.lost } in
+    let sound : IsSound p index = subst (IsSound p) whole.index_is live.sound in
+    none_here p index live.hashes.items (held_in live.parts) live.lost live.shown whole live.parts.known sound
+
+pub join-requires : goal.join-requires
+join-requires c =
+    let live = c.forget.new.self in
+    let p = live.parts.profile in
+    let index : Index = index_in c.args.self.now in
+    let whole : Whole index live.hashes.items (held_in live.parts) live.lost live.shown = record { index_is = c.forget.ensures.index; undue = live.parts.undue; many = c.forget.ensures.blocks; few = c.forget.ensures.lost } in
+    let sound : IsSound p index = subst (IsSound p) whole.index_is live.sound in
+    let begun : admission p index.hashes c.args.block.now ≡ Ok tt = subst (λ (q : Profile). admission q index.hashes c.args.block.now ≡ Ok tt) (sym c.forget.ensures.profile) c.requires.admitted in
+    let few : length c.args.block.now.txs ≤ 2 ^ 32 = omega (arith, few_txs c.args.block.now c.requires.lawful) in
+    let next = held_in c.take_in.new.self in
+    let change = c.in_ok-change.change in
+    let taken : IsTaken p (length index.hashes) c.args.block.now (held_of index) next change =
+    taken_of p index c.args.block.now live.shown.blocks (held_in live.parts) next change (blocks_are index live.hashes.items (held_in live.parts) live.lost live.shown whole) (held_are index live.hashes.items (held_in live.parts) live.lost live.shown whole) c.in_ok-change.ensures.ok in
+    omega (arith, lost_fits p index c.args.block.now taken.moved live.parts.known few sound begun taken.moves, sats_are index live.hashes.items (held_in live.parts) live.lost live.shown whole, whole.few, ap (λ (l : List ℕ). length l) taken.lost)
 
 pub with_block-self-requires : goal.with_block-self-requires
 with_block-self-requires c =
     let live = c.forget.new.self in
+    let p = live.parts.profile in
     let index : Index = index_in c.args.self.now in
-    let whole : Whole index live.hashes.items (rows_in live.outputs) live.lost live.shown = record { index_is = c.forget.ensures.index; many = c.forget.ensures.blocks; few = c.forget.ensures.lost } in
-    let sound : IsSound live.profile index = subst (IsSound live.profile) whole.index_is live.sound in
-    let begun : admission live.profile index.hashes c.args.block.now ≡ Ok tt = subst (λ (p : Profile). admission p index.hashes c.args.block.now ≡ Ok tt) (sym c.forget.ensures.profile) c.requires.admitted in
-    let after : Transferred = transferred_of c.in_ok-moved.moved (rows_in c.transfer.new.table) in
-    let height = blocks_are index live.hashes.items (rows_in live.outputs) live.lost live.shown whole in
-    let rows = rows_are index live.hashes.items (rows_in live.outputs) live.lost live.shown whole in
-    let same : transfer_of live.profile live.shown.blocks c.args.block.now.txs (rows_in live.outputs) ≡ transfer_of live.profile (length index.hashes) c.args.block.now.txs index.outs = λ i. transfer_of live.profile (height i) c.args.block.now.txs (rows i) in
-    let moved : transfer_of live.profile (length index.hashes) c.args.block.now.txs index.outs ≡ Ok after = sym same ∙ c.in_ok-moved.ensures.moved in
-    let blocks : length index.hashes ≤ 2 ^ 63 = blocks_few live.profile (length index.hashes) live.known sound.heights in (
-      omega (arith, blocks, height),
-      omega (arith, lost_fits live.profile index c.args.block.now after live.known sound begun moved, sats_are index live.hashes.items (rows_in live.outputs) live.lost live.shown whole, ap (λ (l : List ℕ). length l) c.in-Ok.ensures.new),
+    let whole : Whole index live.hashes.items (held_in live.parts) live.lost live.shown = record { index_is = c.forget.ensures.index; undue = live.parts.undue; many = c.forget.ensures.blocks; few = c.forget.ensures.lost } in
+    let sound : IsSound p index = subst (IsSound p) whole.index_is live.sound in
+    let begun : admission p index.hashes c.args.block.now ≡ Ok tt = subst (λ (q : Profile). admission q index.hashes c.args.block.now ≡ Ok tt) (sym c.forget.ensures.profile) c.requires.admitted in
+    let few : length c.args.block.now.txs ≤ 2 ^ 32 = omega (arith, few_txs c.args.block.now c.requires.lawful) in
+    let next = held_in c.take_in.new.self in
+    let change = c.in_ok-change.change in
+    let taken : IsTaken p (length index.hashes) c.args.block.now (held_of index) next change =
+    taken_of p index c.args.block.now live.shown.blocks (held_in live.parts) next change (blocks_are index live.hashes.items (held_in live.parts) live.lost live.shown whole) (held_are index live.hashes.items (held_in live.parts) live.lost live.shown whole) c.in_ok-change.ensures.ok in
+    let blocks : length index.hashes ≤ 2 ^ 63 = blocks_few p (length index.hashes) live.parts.known sound.heights.last in (
+      omega (arith, blocks, blocks_are index live.hashes.items (held_in live.parts) live.lost live.shown whole),
+      omega (arith, lost_fits p index c.args.block.now taken.moved live.parts.known few sound begun taken.moves, sats_are index live.hashes.items (held_in live.parts) live.lost live.shown whole, ap (λ (l : List ℕ). length l) taken.lost),
     )
 
 pub invariant_of-self-in-Ok-clause-sound : goal.invariant_of-self-in-Ok-clause-sound
 invariant_of-self-in-Ok-clause-sound c =
     let live = c.forget.new.self in
+    let p = live.parts.profile in
     let index : Index = index_in c.args.self.now in
-    let whole : Whole index live.hashes.items (rows_in live.outputs) live.lost live.shown = record { index_is = c.forget.ensures.index; many = c.forget.ensures.blocks; few = c.forget.ensures.lost } in
-    let sound : IsSound live.profile index = subst (IsSound live.profile) whole.index_is live.sound in
-    let begun : admission live.profile index.hashes c.args.block.now ≡ Ok tt = subst (λ (p : Profile). admission p index.hashes c.args.block.now ≡ Ok tt) (sym c.forget.ensures.profile) c.requires.admitted in
-    let after : Transferred = transferred_of c.in_ok-moved.moved (rows_in c.transfer.new.table) in
-    let height = blocks_are index live.hashes.items (rows_in live.outputs) live.lost live.shown whole in
-    let rows = rows_are index live.hashes.items (rows_in live.outputs) live.lost live.shown whole in
-    let same : transfer_of live.profile live.shown.blocks c.args.block.now.txs (rows_in live.outputs) ≡ transfer_of live.profile (length index.hashes) c.args.block.now.txs index.outs = λ i. transfer_of live.profile (height i) c.args.block.now.txs (rows i) in
-    let moved : transfer_of live.profile (length index.hashes) c.args.block.now.txs index.outs ≡ Ok after = sym same ∙ c.in_ok-moved.ensures.moved in
-    let items : c.push_reserved.new.self.items ≡ live.hashes.items ++ c.hash-hash.result ∷ [] = c.push_reserved.ensures.items ∙ ap (λ (l : List (List ℕ)). l ++ c.hash-hash.result ∷ []) c.reserve.ensures.items in
-    let lengths : c.with_block-self.result ≡ record { blocks = live.shown.blocks + 1; lost = live.shown.lost + length after.moved.lost } =
-    c.with_block-self.ensures ∙ ap (λ (l : List ℕ). record { blocks = live.shown.blocks + 1; lost = live.shown.lost + length l }) c.in-Ok.ensures.new in
-    let taken = taken_to index live.hashes.items (rows_in live.outputs) live.lost live.shown whole c.args.block.now after c.hash-hash.result c.push_reserved.new.self.items c.change_of.new.lost c.with_block-self.result items c.in-Ok.ensures.lost lengths c.hash-hash.ensures in
-    subst (IsSound live.profile) (sym taken) (grown_sound live.profile index c.args.block.now after sound (admitted_right live.profile index c.args.block.now tt begun) moved)
+    let whole : Whole index live.hashes.items (held_in live.parts) live.lost live.shown = record { index_is = c.forget.ensures.index; undue = live.parts.undue; many = c.forget.ensures.blocks; few = c.forget.ensures.lost } in
+    let sound : IsSound p index = subst (IsSound p) whole.index_is live.sound in
+    let begun : admission p index.hashes c.args.block.now ≡ Ok tt = subst (λ (q : Profile). admission q index.hashes c.args.block.now ≡ Ok tt) (sym c.forget.ensures.profile) c.requires.admitted in
+    let few : length c.args.block.now.txs ≤ 2 ^ 32 = omega (arith, few_txs c.args.block.now c.requires.lawful) in
+    let next = held_in c.take_in.new.self in
+    let change = c.in_ok-change.change in
+    let taken : IsTaken p (length index.hashes) c.args.block.now (held_of index) next change =
+    taken_of p index c.args.block.now live.shown.blocks (held_in live.parts) next change (blocks_are index live.hashes.items (held_in live.parts) live.lost live.shown whole) (held_are index live.hashes.items (held_in live.parts) live.lost live.shown whole) c.in_ok-change.ensures.ok in
+    let items : c.push_reserved.new.self.items ≡ live.hashes.items ++ change.hash ∷ [] = c.push_reserved.ensures.items ∙ ap (λ (l : List (List ℕ)). l ++ change.hash ∷ []) c.reserve.ensures.items in
+    let to : index_to c.push_reserved.new.self.items next c.join.new.self c.with_block-self.result ≡ next_index p index c.args.block.now next change taken =
+    more_to index live.hashes.items (held_in live.parts) live.lost live.shown whole next change.hash change.lost c.push_reserved.new.self.items c.join.new.self c.with_block-self.result items c.in-Ok.ensures.ok c.with_block-self.ensures in
+    let grown = to ∙ is_grown p index c.args.block.now next change taken in
+    let right : IsSound p (index_to c.push_reserved.new.self.items next c.join.new.self c.with_block-self.result) =
+    subst (IsSound p) (sym grown) (grown_sound p index c.args.block.now taken.moved live.parts.known few sound (admitted_right p index c.args.block.now tt begun) taken.moves) in
+    subst (λ (q : Profile). IsSound q (index_to c.push_reserved.new.self.items next c.join.new.self c.with_block-self.result)) (sym c.take_in.ensures.profile) right
 
 pub invariant_of-self-in-Ok-clause-mark : goal.invariant_of-self-in-Ok-clause-mark
 invariant_of-self-in-Ok-clause-mark c =
     let live = c.forget.new.self in
+    let p = live.parts.profile in
     let index : Index = index_in c.args.self.now in
-    let whole : Whole index live.hashes.items (rows_in live.outputs) live.lost live.shown = record { index_is = c.forget.ensures.index; many = c.forget.ensures.blocks; few = c.forget.ensures.lost } in
-    let sound : IsSound live.profile index = subst (IsSound live.profile) whole.index_is live.sound in
-    let items : c.push_reserved.new.self.items ≡ live.hashes.items ++ c.hash-hash.result ∷ [] = c.push_reserved.ensures.items ∙ ap (λ (l : List (List ℕ)). l ++ c.hash-hash.result ∷ []) c.reserve.ensures.items in
-    let to = marked_to index live.hashes.items (rows_in live.outputs) live.lost live.shown whole (c.hash-hash.result ∷ []) c.in_ok-moved.moved.lost c.push_reserved.new.self.items c.change_of.new.lost items c.in-Ok.ensures.lost in
-    let within = within_to index live.hashes.items (rows_in live.outputs) live.lost live.shown whole (c.hash-hash.result ∷ []) c.in_ok-moved.moved.lost c.push_reserved.new.self.items c.change_of.new.lost items c.in-Ok.ensures.lost in
-    let mark = mark_right index c.push_reserved.new.self.items (rows_in live.outputs) c.change_of.new.lost live.shown (marked_in c.transfer.new.table) c.in_ok-moved.ensures.mark to live.profile within sound in
-    λ x is. subst (λ (l : Lengths). IsMark live.profile c.push_reserved.new.self.items (marked_in c.transfer.new.table) c.change_of.new.lost l) (some_same live.shown x is) mark
+    let whole : Whole index live.hashes.items (held_in live.parts) live.lost live.shown = record { index_is = c.forget.ensures.index; undue = live.parts.undue; many = c.forget.ensures.blocks; few = c.forget.ensures.lost } in
+    let sound : IsSound p index = subst (IsSound p) whole.index_is live.sound in
+    let change = c.in_ok-change.change in
+    let items : c.push_reserved.new.self.items ≡ live.hashes.items ++ change.hash ∷ [] = c.push_reserved.ensures.items ∙ ap (λ (l : List (List ℕ)). l ++ change.hash ∷ []) c.reserve.ensures.items in
+    let to = marked_to index live.hashes.items (held_in live.parts) live.lost live.shown whole (change.hash ∷ []) change.lost c.push_reserved.new.self.items c.join.new.self items c.in-Ok.ensures.ok in
+    let within = within_to index live.hashes.items (held_in live.parts) live.lost live.shown whole (change.hash ∷ []) change.lost c.push_reserved.new.self.items c.join.new.self items c.in-Ok.ensures.ok in
+    let mark : IsMark c.take_in.new.self.profile c.push_reserved.new.self.items (mark_of c.take_in.new.self) c.join.new.self live.shown =
+    subst (λ (q : Profile). IsMark q c.push_reserved.new.self.items (mark_of c.take_in.new.self) c.join.new.self live.shown) (sym c.take_in.ensures.profile)
+    (mark_right index c.push_reserved.new.self.items (held_in live.parts) c.join.new.self live.shown (mark_of c.take_in.new.self) c.in_ok-change.ensures.mark to p within sound) in
+    λ x is. subst (λ (l : Lengths). IsMark c.take_in.new.self.profile c.push_reserved.new.self.items (mark_of c.take_in.new.self) c.join.new.self l) (some_same live.shown x is) mark
+
+pub returns-in-Ok-clause-ok : goal.returns-in-Ok-clause-ok
+returns-in-Ok-clause-ok c =
+    let live = c.forget.new.self in
+    let p = live.parts.profile in
+    let index : Index = index_in c.args.self.now in
+    let whole : Whole index live.hashes.items (held_in live.parts) live.lost live.shown = record { index_is = c.forget.ensures.index; undue = live.parts.undue; many = c.forget.ensures.blocks; few = c.forget.ensures.lost } in
+    let sound : IsSound p index = subst (IsSound p) whole.index_is live.sound in
+    let begun : admission p index.hashes c.args.block.now ≡ Ok tt = subst (λ (q : Profile). admission q index.hashes c.args.block.now ≡ Ok tt) (sym c.forget.ensures.profile) c.requires.admitted in
+    let few : length c.args.block.now.txs ≤ 2 ^ 32 = omega (arith, few_txs c.args.block.now c.requires.lawful) in
+    let next = held_in c.take_in.new.self in
+    let change = c.in_ok-change.change in
+    let taken : IsTaken p (length index.hashes) c.args.block.now (held_of index) next change =
+    taken_of p index c.args.block.now live.shown.blocks (held_in live.parts) next change (blocks_are index live.hashes.items (held_in live.parts) live.lost live.shown whole) (held_are index live.hashes.items (held_in live.parts) live.lost live.shown whole) c.in_ok-change.ensures.ok in
+    let items : c.push_reserved.new.self.items ≡ live.hashes.items ++ change.hash ∷ [] = c.push_reserved.ensures.items ∙ ap (λ (l : List (List ℕ)). l ++ change.hash ∷ []) c.reserve.ensures.items in
+    let to : index_to c.push_reserved.new.self.items next c.join.new.self c.with_block-self.result ≡ next_index p index c.args.block.now next change taken =
+    more_to index live.hashes.items (held_in live.parts) live.lost live.shown whole next change.hash change.lost c.push_reserved.new.self.items c.join.new.self c.with_block-self.result items c.in-Ok.ensures.ok c.with_block-self.ensures in
+    let grown = to ∙ is_grown p index c.args.block.now next change taken in
+    after_taken p index c.args.block.now taken.moved begun taken.moves ∙ ap Ok (sym grown)
 
 pub returns-in-Ok-clause-change : goal.returns-in-Ok-clause-change
 returns-in-Ok-clause-change c =
     let live = c.forget.new.self in
+    let p = live.parts.profile in
     let index : Index = index_in c.args.self.now in
-    let whole : Whole index live.hashes.items (rows_in live.outputs) live.lost live.shown = record { index_is = c.forget.ensures.index; many = c.forget.ensures.blocks; few = c.forget.ensures.lost } in
-    let after : Transferred = transferred_of c.in_ok-moved.moved (rows_in c.transfer.new.table) in
-    let items : c.push_reserved.new.self.items ≡ live.hashes.items ++ c.hash-hash.result ∷ [] = c.push_reserved.ensures.items ∙ ap (λ (l : List (List ℕ)). l ++ c.hash-hash.result ∷ []) c.reserve.ensures.items in
-    let lengths : c.with_block-self.result ≡ record { blocks = live.shown.blocks + 1; lost = live.shown.lost + length after.moved.lost } =
-    c.with_block-self.ensures ∙ ap (λ (l : List ℕ). record { blocks = live.shown.blocks + 1; lost = live.shown.lost + length l }) c.in-Ok.ensures.new in
-    let taken = taken_to index live.hashes.items (rows_in live.outputs) live.lost live.shown whole c.args.block.now after c.hash-hash.result c.push_reserved.new.self.items c.change_of.new.lost c.with_block-self.result items c.in-Ok.ensures.lost lengths c.hash-hash.ensures in
-    let rows = rows_are index live.hashes.items (rows_in live.outputs) live.lost live.shown whole in
-    let differ : Differ index.outs after.outs (outputs_changed c.in-Ok.change) = subst (λ (o : Outputs). Differ o after.outs (outputs_changed c.in-Ok.change)) rows (c.in-Ok.ensures.rows (rows_in live.outputs) c.in_ok-moved.ensures.mark) in
-    change_right index _ c.in-Ok.change (block_hash c.args.block.now.header) after.moved.lost after.outs taken (c.in-Ok.ensures.hash ∙ c.hash-hash.ensures) c.in-Ok.ensures.new differ
+    let whole : Whole index live.hashes.items (held_in live.parts) live.lost live.shown = record { index_is = c.forget.ensures.index; undue = live.parts.undue; many = c.forget.ensures.blocks; few = c.forget.ensures.lost } in
+    let sound : IsSound p index = subst (IsSound p) whole.index_is live.sound in
+    let begun : admission p index.hashes c.args.block.now ≡ Ok tt = subst (λ (q : Profile). admission q index.hashes c.args.block.now ≡ Ok tt) (sym c.forget.ensures.profile) c.requires.admitted in
+    let few : length c.args.block.now.txs ≤ 2 ^ 32 = omega (arith, few_txs c.args.block.now c.requires.lawful) in
+    let next = held_in c.take_in.new.self in
+    let change = c.in_ok-change.change in
+    let taken : IsTaken p (length index.hashes) c.args.block.now (held_of index) next change =
+    taken_of p index c.args.block.now live.shown.blocks (held_in live.parts) next change (blocks_are index live.hashes.items (held_in live.parts) live.lost live.shown whole) (held_are index live.hashes.items (held_in live.parts) live.lost live.shown whole) c.in_ok-change.ensures.ok in
+    let items : c.push_reserved.new.self.items ≡ live.hashes.items ++ change.hash ∷ [] = c.push_reserved.ensures.items ∙ ap (λ (l : List (List ℕ)). l ++ change.hash ∷ []) c.reserve.ensures.items in
+    let to : index_to c.push_reserved.new.self.items next c.join.new.self c.with_block-self.result ≡ next_index p index c.args.block.now next change taken =
+    more_to index live.hashes.items (held_in live.parts) live.lost live.shown whole next change.hash change.lost c.push_reserved.new.self.items c.join.new.self c.with_block-self.result items c.in-Ok.ensures.ok c.with_block-self.ensures in
+    subst (λ (i : Index). IsChange index i change) (sym to) (change_right p index c.args.block.now next change taken)

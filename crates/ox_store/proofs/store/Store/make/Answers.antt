@@ -13,7 +13,7 @@ returns-clause-stands g c told =
     let made = c.in_ok-checkpoint.checkpoint in
     let whole = c.in_ok-checkpoint.ensures ∙ ap (λ (p : Profile). record { head = record { version = 1; profile = p.byte; depth = c.args.depth; generation = 1 }; body = [] }) named in
     stands_first c.args.name c.args.depth (g.S.Site.seen c.make.new.site) made whole (c.in_ok-tail.ensures.stands (c.are_empty.ensures.looks.calls.as_told ∙ told))
-    ∙ ap (λ (s : Stack). Ok s) (sym (c.new.ensures ∙ ap (λ (p : Profile). stack_of (empty_machine p c.args.depth)) named))
+    ∙ ap (λ (s : Stack). Ok s) (sym (c.in_ok-chain.ensures ∙ ap (λ (p : Profile). stack_of (empty_machine p c.args.depth)) named))
 
 pub returns-clause-log_stays : goal.returns-clause-log_stays
 returns-clause-log_stays g c =
