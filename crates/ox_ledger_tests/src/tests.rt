@@ -27,10 +27,22 @@ const MINTS: &[u8] = b"\x6a\x5d\x04\x14\x03\x14\x01";
 /// A runestone that etches with a premine of 10.
 const TEN: &[u8] = b"\x6a\x5d\x04\x02\x01\x06\x0a";
 
+/// A runestone that etches with a premine of 1,000.
+const THOUSAND: &[u8] = b"\x6a\x5d\x05\x02\x01\x06\xe8\x07";
+
+/// A runestone whose edict splits all of 3:1 evenly, in a transaction of 1,001 outputs.
+const SPLITS: &[u8] = b"\x6a\x5d\x06\x00\x03\x01\x00\xe9\x07";
+
+/// A runestone that mints 3:1, and whose edict gives four of it to output 1.
+const MINTS_AND_GIVES: &[u8] = b"\x6a\x5d\x09\x14\x03\x14\x01\x00\x03\x01\x04\x01";
+
 /// A script that can hold runes.
 const PLAIN: &[u8] = b"\x51";
 
 const RUNE: RuneId = RuneId { block: 3, tx: 1 };
+
+/// The name that is reserved for 3:1: Runes specification, "Etching", "Name".
+const RESERVED: u128 = 6_402_364_363_415_443_603_228_541_272_821_113_815;
 
 fn txid(number: u8) -> Txid {
     Txid([number; 32])
@@ -90,10 +102,25 @@ fn tx(rt: &impl Abort, alloc: Global, from: &[OutPoint], scripts: &[&[u8]]) -> T
     }
 }
 
+/// A transaction that spends this output into a thousand and a runestone.
+fn many(rt: &impl Abort, alloc: Global, from: OutPoint) -> Tx {
+    let mut body = tx(rt, alloc, &[from], &[]);
+    for _ in 0..1_000 {
+        body.outputs
+            .push(output(rt, alloc, PLAIN))
+            .expect(rt, "memory");
+    }
+    body.outputs
+        .push(output(rt, alloc, SPLITS))
+        .expect(rt, "memory");
+    body
+}
+
 /// The turn of a transaction at this height and place, whose id is all this byte.
 fn turn(rt: &impl Abort, ledger: &mut Ledger, alloc: Global, spot: (u32, u32, u8), body: &Tx)
-    ensures { spot.1 ≢ 0 → Came (mark_in ledger.old) (runes_in ledger.old)
+    ensures came { spot.1 ≢ 0 → Came (mark_in ledger.old) (runes_in ledger.old)
         → Came (mark_in ledger.new) (runes_in ledger.new) }
+    ensures mark { mark_in ledger.new ≡ mark_in ledger.old }
 {
     let spent = SpentRows::new(alloc);
     let (height, place, number) = spot;
@@ -138,7 +165,7 @@ fn redo(rt: &impl Abort, ledger: &mut Ledger, part: &RunePart)
     ledger.put(part, false).expect(rt, "memory");
 }
 
-/// How much of the rune an output holds, where it is the only one.
+/// How much of 3:1 an output holds, where it is the only one.
 fn amount_at(ledger: &Ledger, at: OutPoint) -> u128 {
     match ledger.balance(&at) {
         [(id, amount)] if *id == RUNE => *amount,
@@ -154,6 +181,63 @@ fn counts(ledger: &Ledger, mints: u128, burned: u128, held: u128) -> bool {
     }
     let row = ledger.rune(0);
     row.mints == mints && row.burned == burned && ledger.held(0) == held
+}
+
+/// What is shown of a ledger, as far as these tests ask.
+#[derive(Clone, Copy, PartialEq, Eq)]
+struct State {
+    runes: u32,
+    by_id: Option<u32>,
+    by_name: Option<u32>,
+    mints: u128,
+    burned: u128,
+    held: u128,
+    amounts: [u128; 3],
+}
+
+fn state_of(ledger: &Ledger) -> State {
+    let mut state = State {
+        runes: ledger.len(),
+        by_id: ledger.by_id(RUNE),
+        by_name: ledger.by_name(RESERVED),
+        mints: 0,
+        burned: 0,
+        held: 0,
+        amounts: [
+            amount_at(ledger, at(1, 0)),
+            amount_at(ledger, at(2, 0)),
+            amount_at(ledger, at(2, 1)),
+        ],
+    };
+    if ledger.len() > 0 {
+        let row = ledger.rune(0);
+        state.mints = row.mints;
+        state.burned = row.burned;
+        state.held = ledger.held(0);
+    }
+    state
+}
+
+/// The turn of a transaction that spends these outputs into outputs with these scripts, then back
+/// to a mark that was set before it, and the turn again: whether the first changed what is shown,
+/// the mark brought that back, and the second changed it in the same way.
+fn comes_back(
+    rt: &impl Abort,
+    ledger: &mut Ledger,
+    alloc: Global,
+    spot: (u32, u32, u8),
+    from: &[OutPoint],
+    scripts: &[&[u8]],
+) -> bool {
+    let body = tx(rt, alloc, from, scripts);
+    ledger.begin().expect(rt, "memory");
+    let before = state_of(ledger);
+    turn(rt, ledger, alloc, spot, &body);
+    let after = state_of(ledger);
+    ledger.cancel();
+    let back = state_of(ledger);
+    turn(rt, ledger, alloc, spot, &body);
+    before != after && back == before && state_of(ledger) == after
 }
 
 /// A cenotaph's mint counts, and burns with what its inputs bring.
@@ -233,6 +317,71 @@ fn a_coinbase_holds_when_its_block_ends(rt: HostRuntime) {
     assert!(rt; counts(&ledger, 1, 0, 5) && ledger.balance(&at(1, 0)).is_empty());
     ledger.end().expect(&rt, "memory");
     assert!(rt; counts(&ledger, 1, 0, 12) && !ledger.balance(&at(1, 0)).is_empty());
+    ledger.cancel();
+    assert!(rt; ledger.len() == 0 && ledger.balance(&at(1, 0)).is_empty());
+}
+
+/// An etching goes with its id and its name; a mint and what edicts give go; so does a coinbase's
+/// mint, of which nothing is held yet.
+#[test]
+fn what_comes_can_be_cancelled(rt: HostRuntime) {
+    let alloc = rt.alloc();
+    let mut ledger = lab(&rt, alloc);
+    let etches: [&[u8]; 2] = [PLAIN, ETCHES];
+    assert!(rt; comes_back(&rt, &mut ledger, alloc, (3, 1, 1), &[], &etches));
+    assert!(rt; ledger.by_name(RESERVED) == Some(0) && counts(&ledger, 0, 0, 7));
+    let gives: [&[u8]; 3] = [PLAIN, PLAIN, MINTS_AND_GIVES];
+    assert!(rt; comes_back(&rt, &mut ledger, alloc, (4, 1, 2), &[at(1, 0)], &gives));
+    assert!(rt; counts(&ledger, 1, 0, 12) && amount_at(&ledger, at(2, 1)) == 4);
+    assert!(rt;
+        comes_back(
+            &rt,
+            &mut ledger,
+            alloc,
+            (5, 0, 3),
+            &[at(0, 0)],
+            &[PLAIN, MINTS]
+        )
+    );
+    assert!(rt; counts(&ledger, 2, 0, 12));
+}
+
+/// What burns comes back: where an output is made again, where no output can hold it, and by a
+/// cenotaph.
+#[test]
+fn what_burns_can_be_cancelled(rt: HostRuntime) {
+    let alloc = rt.alloc();
+    let mut ledger = etched(&rt, alloc, ETCHES);
+    assert!(rt; comes_back(&rt, &mut ledger, alloc, (4, 1, 1), &[], &[PLAIN, MINTS]));
+    assert!(rt; counts(&ledger, 1, 7, 5));
+    assert!(rt; comes_back(&rt, &mut ledger, alloc, (4, 2, 2), &[at(1, 0)], &[b"\x6a"]));
+    assert!(rt; counts(&ledger, 1, 12, 0));
+    assert!(rt;
+        comes_back(
+            &rt,
+            &mut ledger,
+            alloc,
+            (4, 3, 3),
+            &[],
+            &[PLAIN, MINTS_AND_BURNS]
+        )
+    );
+    assert!(rt; counts(&ledger, 2, 17, 0));
+}
+
+/// A part takes all that a thousand outputs hold away, and brings it again.
+#[test]
+fn a_thousand_outputs_hold_runes(rt: HostRuntime) {
+    let alloc = rt.alloc();
+    let mut ledger = etched(&rt, alloc, THOUSAND);
+    let body = many(&rt, alloc, at(1, 0));
+    turn(&rt, &mut ledger, alloc, (4, 1, 2), &body);
+    assert!(rt; counts(&ledger, 0, 0, 1_000) && amount_at(&ledger, at(2, 999)) == 1);
+    let part = undo(&rt, &mut ledger);
+    assert!(rt; part.before.len() == 1 && part.after.len() == 1_000);
+    assert!(rt; amount_at(&ledger, at(1, 0)) == 1_000 && amount_at(&ledger, at(2, 999)) == 0);
+    redo(&rt, &mut ledger, &part);
+    assert!(rt; amount_at(&ledger, at(1, 0)) == 0 && amount_at(&ledger, at(2, 999)) == 1);
 }
 
 /// A rune can't be minted where it is etched; below the start of runes nothing is read.
@@ -302,6 +451,14 @@ fn a_part_leads_both_ways(rt: HostRuntime) {
     assert!(rt; counts(&ledger, 1, 12, 0) && amount_at(&ledger, at(1, 0)) == 0);
 }
 
+/// Whether both lists of a part have this output, and no other.
+fn is_in_both(part: &RunePart, at: OutPoint) -> bool {
+    match (part.before.as_slice(), part.after.as_slice()) {
+        ([(gone, _)], [(came, _)]) => *gone == at && *came == at,
+        _ => false,
+    }
+}
+
 /// An output that is spent and made again with other runes is in both lists.
 #[test]
 fn an_output_made_again_is_in_both_lists(rt: HostRuntime) {
@@ -311,7 +468,7 @@ fn an_output_made_again_is_in_both_lists(rt: HostRuntime) {
     turn(&rt, &mut ledger, alloc, (4, 1, 1), &body);
     assert!(rt; amount_at(&ledger, at(1, 0)) == 12);
     let part = undo(&rt, &mut ledger);
-    assert!(rt; part.before.len() == 1 && part.after.len() == 1);
+    assert!(rt; is_in_both(&part, at(1, 0)));
     assert!(rt; counts(&ledger, 0, 0, 7) && amount_at(&ledger, at(1, 0)) == 7);
 }
 

@@ -6,6 +6,6 @@ use Rattle.ox_ledger_tests.proofs.tests.etched.Goals as goal
 
 pub returns : goal.returns
 returns g c =
-    let came : Came (mark_in c.turn.new.ledger) (runes_in c.turn.new.ledger) = c.turn.ensures (λ e. absurd (omega (arith, e))) c.lab-ledger.ensures in
+    let came : Came (mark_in c.turn.new.ledger) (runes_in c.turn.new.ledger) = c.turn.ensures.came (λ e. absurd (omega (arith, e))) c.lab-ledger.ensures in
     begun (runes_in c.turn.new.ledger) (runes_in c.begin.new.self) (mark_in c.begin.new.self) came.undue c.begin.ensures.runes
     (on_value c.begin.result c.expect.result c.expect.ensures c.begin.ensures.ok)
