@@ -32,7 +32,7 @@ EACH = 10_000
 IN_A_BLOCK = 10
 LEAST_BLOCKS = 8
 SPENDS = 2_000
-KINDS = {"runestones": 20, "cenotaphs": 20, "neither": 20, "no runes": 20, "a long tapscript": 3}
+KINDS = {"runestones": 200, "cenotaphs": 200, "neither": 200, "no runes": 1_000, "a long tapscript": 20}
 # 13 letters: above the least name of any height
 NAME = sum(26**power for power in range(1, 13)) + 12_345
 
