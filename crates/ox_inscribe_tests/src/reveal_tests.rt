@@ -7,6 +7,7 @@ ghost use Rattle.ox_outputs.specs.Table.{rows_in};
 ghost use Rattle.ox_transfer.specs.Apart.{HoldsOnce};
 
 use ox_block::{Block, OutPoint, Txid, read_block, txids_of};
+use ox_bytes::{Bytes, put_compact};
 use ox_envelope::InsId;
 use ox_inscribe::{Shelf, transfers_tell_of_transactions};
 use ox_outputs::Outputs;
@@ -60,19 +61,23 @@ fn nothing() -> OutPoint {
     }
 }
 
-fn put(rt: &impl Abort, bytes: &mut Vec<u8>, more: &[u8]) {
-    bytes.extend_from_slice(more).expect(rt, "memory")
+fn put(rt: &impl Abort, bytes: &mut Bytes, more: &[u8]) {
+    bytes.append(more).expect(rt, "memory")
+}
+
+/// Writes how many of something follow.
+fn put_count(rt: &impl Abort, bytes: &mut Bytes, count: usize) {
+    put_compact(bytes, count as u64).expect(rt, "memory")
 }
 
 /// Writes the witnesses of so many inputs, of which the last has the tapscript, a control block and
 /// perhaps an annex.
-fn put_witnesses(rt: &impl Abort, bytes: &mut Vec<u8>, plan: &Plan) {
+fn put_witnesses(rt: &impl Abort, bytes: &mut Bytes, plan: &Plan) {
     for _ in 1..plan.spends.len() {
         put(rt, bytes, &[0]);
     }
-    assert!(rt; plan.script.len() < 253);
-    let items = if plan.annex { 3 } else { 2 };
-    put(rt, bytes, &[items, plan.script.len() as u8]);
+    put(rt, bytes, &[if plan.annex { 3 } else { 2 }]);
+    put_count(rt, bytes, plan.script.len());
     put(rt, bytes, plan.script);
     put(rt, bytes, &[1, 0xc0]);
     if plan.annex {
@@ -80,20 +85,19 @@ fn put_witnesses(rt: &impl Abort, bytes: &mut Vec<u8>, plan: &Plan) {
     }
 }
 
-/// Writes a transaction, whose scripts are short.
-fn put_plan(rt: &impl Abort, bytes: &mut Vec<u8>, plan: &Plan) {
-    assert!(rt; plan.spends.len() < 253 && plan.values.len() < 253);
+/// Writes a transaction, whose outputs have short scripts.
+fn put_plan(rt: &impl Abort, bytes: &mut Bytes, plan: &Plan) {
     put(rt, bytes, &1u32.to_le_bytes());
     if !plan.script.is_empty() {
         put(rt, bytes, &[0, 1]);
     }
-    put(rt, bytes, &[plan.spends.len() as u8]);
+    put_count(rt, bytes, plan.spends.len());
     for at in plan.spends {
         put(rt, bytes, &at.txid.0);
         put(rt, bytes, &at.index.to_le_bytes());
         put(rt, bytes, &[0, 0xff, 0xff, 0xff, 0xff]);
     }
-    put(rt, bytes, &[plan.values.len() as u8]);
+    put_count(rt, bytes, plan.values.len());
     for value in plan.values {
         put(rt, bytes, &value.to_le_bytes());
         put(rt, bytes, &[1, 0x51]);
@@ -108,10 +112,9 @@ fn put_plan(rt: &impl Abort, bytes: &mut Vec<u8>, plan: &Plan) {
 fn block_of(rt: &impl Abort, alloc: Global, plans: &[Plan]) -> Block
     ensures { Lawful result }
 {
-    let mut bytes = Vec::new(alloc);
+    let mut bytes = Bytes::empty(alloc);
     put(rt, &mut bytes, &[0; 80]);
-    assert!(rt; plans.len() < 253);
-    put(rt, &mut bytes, &[plans.len() as u8]);
+    put_count(rt, &mut bytes, plans.len());
     for plan in plans {
         put_plan(rt, &mut bytes, plan);
     }
@@ -135,7 +138,29 @@ fn fresh(alloc: Global) -> Outputs
     Outputs::new(alloc)
 }
 
-/// Moves the satoshis of a block of a regression-test chain, and reveals its inscriptions.
+/// Moves the satoshis of a block of a regression-test chain, and reveals its inscriptions. Answers
+/// whether there was memory for them.
+fn try_block(
+    rt: &impl Abort,
+    alloc: Global,
+    table: &mut Outputs,
+    shelf: &mut Shelf,
+    plans: &[Plan],
+    height: u32,
+) -> bool
+    requires { HoldsOnce (first_at (profile_named Regtest) height) (rows_in table.old) }
+    ensures once { HoldsOnce (first_at (profile_named Regtest) (height + 1)) (rows_in table.new) }
+    ensures mark { shelf.new.mark ≡ shelf.old.mark }
+{
+    let p = profile_of(ProfileName::Regtest);
+    let block = block_of(rt, alloc, plans);
+    let ids = txids_of(alloc, &block).expect(rt, "memory");
+    let moved = transfer(alloc, table, &p, &block, &ids, height).expect(rt, "an accepted block");
+    transfers_tell_of_transactions();
+    shelf.reveal(&moved, &block, height).is_ok()
+}
+
+/// Connects a block, for whose inscriptions there is memory.
 fn connect(
     rt: &impl Abort,
     alloc: Global,
@@ -148,12 +173,8 @@ fn connect(
     ensures once { HoldsOnce (first_at (profile_named Regtest) (height + 1)) (rows_in table.new) }
     ensures mark { shelf.new.mark ≡ shelf.old.mark }
 {
-    let p = profile_of(ProfileName::Regtest);
-    let block = block_of(rt, alloc, plans);
-    let ids = txids_of(alloc, &block).expect(rt, "memory");
-    let moved = transfer(alloc, table, &p, &block, &ids, height).expect(rt, "an accepted block");
-    transfers_tell_of_transactions();
-    shelf.reveal(&moved, &block, height).expect(rt, "memory");
+    let revealed = try_block(rt, alloc, table, shelf, plans, height);
+    assert!(rt; revealed);
 }
 
 /// Connects a block with a coinbase alone; its output.
@@ -217,7 +238,7 @@ fn has_parents(shelf: &Shelf, number: u32, parents: &[InsId]) -> bool {
 }
 
 /// Writes an envelope that names these as its parents.
-fn put_child(rt: &impl Abort, script: &mut Vec<u8>, parents: &[InsId]) {
+fn put_child(rt: &impl Abort, script: &mut Bytes, parents: &[InsId]) {
     put(rt, script, &[0, 0x63, 3, b'o', b'r', b'd']);
     for id in parents {
         put(rt, script, &[1, 3, 36]);
@@ -225,6 +246,15 @@ fn put_child(rt: &impl Abort, script: &mut Vec<u8>, parents: &[InsId]) {
         put(rt, script, &id.index.to_le_bytes());
     }
     put(rt, script, &[0x68]);
+}
+
+/// Whether the row with this number has this body.
+fn has_body(shelf: &Shelf, number: u32, expected: &[u8]) -> bool {
+    number < shelf.len()
+        && match &shelf.row(number).body {
+            Some(body) => body.as_slice() == expected,
+            None => false,
+        }
 }
 
 /// Four envelopes with the pointers 2,999, 3,000, 2^64 and, in nine bytes, 1,000.
@@ -289,6 +319,7 @@ fn an_unknown_even_tag_unbinds(rt: HostRuntime) {
     connect_one(&rt, rt.alloc(), &mut table, &mut shelf, plan, 1);
     assert!(rt; shelf.len() == 1);
     assert!(rt; is_row(&shelf, 0, None, 1));
+    assert!(rt; has_body(&shelf, 0, b"hi"));
 }
 
 #[test]
@@ -408,7 +439,7 @@ fn parents_stood_on_the_inputs_before(rt: HostRuntime) {
         txid: txid_of(&rt, rt.alloc(), &spending(&between, &[])).0,
         index: 0,
     };
-    let mut script = Vec::new(rt.alloc());
+    let mut script = Bytes::empty(rt.alloc());
     put_child(&rt, &mut script, &[parent]);
     put_child(&rt, &mut script, &[child]);
     let plans = [
@@ -443,7 +474,7 @@ fn a_parent_has_a_satoshi_and_is_named_once(rt: HostRuntime) {
         txid: txid.0,
         index: 1,
     };
-    let mut script = Vec::new(rt.alloc());
+    let mut script = Bytes::empty(rt.alloc());
     put_child(&rt, &mut script, &[bound, unbound, bound]);
     let plan = spending(&between, script.as_slice());
     connect_one(&rt, rt.alloc(), &mut table, &mut shelf, plan, 2);
@@ -539,7 +570,7 @@ fn revealed_rows_go_again_at_the_mark(rt: HostRuntime) {
         txid: txid_of(&rt, rt.alloc(), &spending(&between, &[])).0,
         index: 0,
     };
-    let mut script = Vec::new(rt.alloc());
+    let mut script = Bytes::empty(rt.alloc());
     let parent = InsId {
         txid: txid.0,
         index: 0,
@@ -552,4 +583,101 @@ fn revealed_rows_go_again_at_the_mark(rt: HostRuntime) {
     assert!(rt; shows_two(&rt, &shelf, &child));
     shelf.cancel();
     assert!(rt; shows_one(&rt, &shelf, &child));
+}
+
+/// Connects a block with a coinbase alone while a row is hidden, which there is no memory for then.
+/// Answers whether it was so.
+fn is_closed(
+    rt: &impl Abort,
+    alloc: Global,
+    table: &mut Outputs,
+    shelf: &mut Shelf,
+    height: u32,
+) -> bool
+    requires { HoldsOnce (first_at (profile_named Regtest) height) (rows_in table.old) }
+    ensures once { HoldsOnce (first_at (profile_named Regtest) (height + 1)) (rows_in table.new) }
+    ensures mark { shelf.new.mark ≡ shelf.old.mark }
+{
+    let none = [nothing()];
+    !try_block(rt, alloc, table, shelf, &[coinbase(&none, height)], height)
+}
+
+#[test]
+fn nothing_is_revealed_while_a_row_is_hidden(rt: HostRuntime) {
+    let mut table = fresh(rt.alloc());
+    let mut shelf = Shelf::new(rt.alloc());
+    let spent = [mine(&rt, rt.alloc(), &mut table, &mut shelf, 0)];
+    let plan = spending(&spent, PLAIN);
+    connect_one(&rt, rt.alloc(), &mut table, &mut shelf, plan, 1);
+    shelf.begin();
+    drop_one(&rt, &mut shelf);
+    assert!(rt; is_closed(&rt, rt.alloc(), &mut table, &mut shelf, 2));
+    assert!(rt; shelf.len() == 0 && shelf.on(0).is_empty());
+    shelf.cancel();
+    assert!(rt; shelf.len() == 1 && is_row(&shelf, 0, Some(0), 0));
+}
+
+#[test]
+fn a_mark_set_anew_lets_rows_be_revealed(rt: HostRuntime) {
+    let mut table = fresh(rt.alloc());
+    let mut shelf = Shelf::new(rt.alloc());
+    let first = [mine(&rt, rt.alloc(), &mut table, &mut shelf, 0)];
+    let second = [mine(&rt, rt.alloc(), &mut table, &mut shelf, 1)];
+    let plan = spending(&first, PLAIN);
+    connect_one(&rt, rt.alloc(), &mut table, &mut shelf, plan, 2);
+    shelf.begin();
+    drop_one(&rt, &mut shelf);
+    shelf.begin();
+    let plan = spending(&second, PLAIN);
+    connect_one(&rt, rt.alloc(), &mut table, &mut shelf, plan, 3);
+    assert!(rt; shelf.len() == 1 && is_row(&shelf, 0, Some(5_000_000_000), 0));
+    shelf.cancel();
+    assert!(rt; shelf.len() == 0);
+}
+
+/// The bytes of a push in a long body.
+fn chunk_of(rt: &impl Abort, alloc: Global, number: u32) -> Vec<u8> {
+    Vec::from_elem(alloc, (number % 251) as u8, 520).expect(rt, "memory")
+}
+
+/// A body of 390,000 bytes, 520 at a time. With the openings of pushes it is a script that pushes
+/// them.
+fn long_body(rt: &impl Abort, alloc: Global, opening: &[u8]) -> Bytes {
+    let mut body = Bytes::empty(alloc);
+    for number in 0..750u32 {
+        put(rt, &mut body, opening);
+        put(rt, &mut body, chunk_of(rt, alloc, number).as_slice());
+    }
+    body
+}
+
+/// An envelope with that body.
+fn long_script(rt: &impl Abort, alloc: Global) -> Bytes {
+    let mut script = Bytes::empty(alloc);
+    put(rt, &mut script, &[0, 0x63, 3, b'o', b'r', b'd', 0]);
+    put(
+        rt,
+        &mut script,
+        long_body(rt, alloc, &[0x4d, 8, 2]).as_slice(),
+    );
+    put(rt, &mut script, &[0x68]);
+    script
+}
+
+/// Whether the first row has that body.
+fn has_long_body(rt: &impl Abort, alloc: Global, shelf: &Shelf) -> bool {
+    let body = long_body(rt, alloc, &[]);
+    body.len() == 390_000 && has_body(shelf, 0, body.as_slice())
+}
+
+#[test]
+fn a_body_of_many_pushes_is_kept_whole(rt: HostRuntime) {
+    let mut table = fresh(rt.alloc());
+    let mut shelf = Shelf::new(rt.alloc());
+    let spent = [mine(&rt, rt.alloc(), &mut table, &mut shelf, 0)];
+    let script = long_script(&rt, rt.alloc());
+    let plan = spending(&spent, script.as_slice());
+    connect_one(&rt, rt.alloc(), &mut table, &mut shelf, plan, 1);
+    assert!(rt; shelf.len() == 1);
+    assert!(rt; has_long_body(&rt, rt.alloc(), &shelf));
 }

@@ -5,7 +5,7 @@ use Rattle.ox_rules.specs.Transfer.{transfer_of}
 use Rattle.ox_rules.specs.declared.moved.Moved.{Moved}
 use Rattle.ox_transfer.specs.Parts.{transferred_of}
 use Rattle.ox_inscribe_tests.proofs.Values.{value_of}
-use Rattle.ox_inscribe_tests.proofs.tests.connect.Goals as goal
+use Rattle.ox_inscribe_tests.proofs.reveal_tests.try_block.Goals as goal
 
 pub reveal-requires : goal.reveal-requires
 reveal-requires g c =
