@@ -1,143 +1,77 @@
-//! Keeps inscriptions, to be timed: see bench/inscriptions.py. The arguments are what is done
-//! (`look` or `mark`), how many rows there are, and how often it is done.
+//! Keeps inscriptions, and reveals what a block has of them, to be timed: see
+//! bench/inscriptions.py. The arguments are what is done (`look`, `check`, `mark`, `pointers` or
+//! `parents`), how many rows or inputs there are, and how often it is done.
 #![tactic(auto)]
 
-ghost use Rattle.std.specs.Prelude.{◌≡◌};
-
-use ox_bytes::Bytes;
-use ox_envelope::{Ids, InsId};
-use ox_inscribe::{InsRow, Memory, Shelf};
+use anyhow::bail;
+use ox_inscribe::{Memory, Shelf};
 use std::alloc::Global;
 use std::env;
 
-/// So many rows are appended at a time.
-const BATCH: u32 = 1_000;
+mod blocks;
+mod reveals;
+mod rows;
 
-/// The id of the row with a number, in a scattered order.
-fn id_of(number: u32) -> InsId {
-    let [a, b, c, d] = number.wrapping_mul(0x9e37_79b1).to_be_bytes();
-    let mut txid = [0; 32];
-    txid[0] = a;
-    txid[1] = b;
-    txid[2] = c;
-    txid[3] = d;
-    InsId { txid, index: 0 }
+/// What is done.
+#[derive(Clone, Copy, PartialEq, Eq)]
+enum Task {
+    Look,
+    Check,
+    Mark,
+    Reveal(blocks::Load),
 }
 
-/// The row with a number, on the satoshi of twice the number, whose parent is the one before.
-fn row_of(alloc: Global, number: u32) -> Result<InsRow, Memory> {
-    let mut parents = Ids::new(alloc);
-    if number > 0 {
-        parents.push(id_of(number - 1))?;
-    }
-    Ok(InsRow {
-        id: id_of(number),
-        height: number,
-        content_type: Some(Bytes::copy(alloc, &[b't'; 24])?),
-        body: Some(Bytes::copy(alloc, &[b'b'; 60])?),
-        metadata: None,
-        metaprotocol: None,
-        encoding: None,
-        pointer: None,
-        delegate: None,
-        parents,
-        marks: 0,
-        sat: Some(u64::from(number) * 2),
-    })
-}
-
-/// The rows of a batch that begins with this number.
-fn rows_from(alloc: Global, first: u32) -> Result<Vec<InsRow>, Memory> {
-    let mut rows = Vec::new(alloc);
-    for place in 0..BATCH {
-        rows.push(row_of(alloc, first.wrapping_add(place))?)?;
-    }
-    Ok(rows)
-}
-
-/// Appends a batch of rows.
-fn append_next(alloc: Global, shelf: &mut Shelf) -> Result<(), Memory>
-    ensures { shelf.new.mark ≡ shelf.old.mark }
-{
-    let rows = rows_from(alloc, shelf.len())?;
-    if shelf.len() as usize + rows.len() > u32::MAX as usize {
-        return Err(Memory);
-    }
-    shelf.append(&rows)
-}
-
-/// A shelf of so many rows.
-fn shelf_of(alloc: Global, count: u32) -> Result<Shelf, Memory> {
-    let mut shelf = Shelf::new(alloc);
-    for _ in 0..count / BATCH {
-        append_next(alloc, &mut shelf)?;
-    }
-    Ok(shelf)
-}
-
-/// The first of some numbers.
-fn first_of(numbers: &[u32]) -> u64 {
-    match numbers.first() {
-        Some(number) => u64::from(*number),
-        None => 0,
+/// The task of a name.
+fn task_of(name: &str) -> Option<Task> {
+    match name {
+        "look" => Some(Task::Look),
+        "check" => Some(Task::Check),
+        "mark" => Some(Task::Mark),
+        "pointers" => Some(Task::Reveal(blocks::Load::Pointers)),
+        "parents" => Some(Task::Reveal(blocks::Load::Parents)),
+        _ => None,
     }
 }
 
-/// The satoshi and the first number of what is next.
-fn next_of(next: Option<(u64, &[u32])>) -> u64 {
-    match next {
-        Some((sat, numbers)) => sat.wrapping_add(first_of(numbers)),
-        None => 0,
+/// Does a task of rows once.
+fn turn(alloc: Global, task: Task, shelf: &mut Shelf) -> Result<u64, Memory> {
+    match task {
+        Task::Mark => rows::go_back(alloc, shelf),
+        Task::Check => Ok(rows::check(shelf)),
+        _ => Ok(rows::look(shelf)),
     }
-}
-
-/// The sum of the numbers that each row is found to have in four ways.
-fn look(shelf: &Shelf) -> u64 {
-    let mut sum: u64 = 0;
-    for number in 0..shelf.len() {
-        let sat = u64::from(number) * 2;
-        sum = sum
-            .wrapping_add(u64::from(shelf.find(&id_of(number)).unwrap_or(0)))
-            .wrapping_add(first_of(shelf.on(sat)))
-            .wrapping_add(next_of(shelf.next_on(sat + 1)))
-            .wrapping_add(first_of(shelf.children(number)));
-    }
-    sum
-}
-
-/// Sets the mark, appends a batch, and goes back.
-fn go_back(alloc: Global, shelf: &mut Shelf) -> Result<u64, Memory> {
-    shelf.begin();
-    append_next(alloc, shelf)?;
-    shelf.cancel();
-    Ok(u64::from(shelf.len()))
 }
 
 /// How many rows there are, and what was answered last.
-fn work(alloc: Global, marks: bool, count: u32, times: u32) -> Result<(u32, u64), Memory> {
-    let mut shelf = shelf_of(alloc, count)?;
+fn work(alloc: Global, task: Task, count: u32, times: u32) -> Result<(u32, u64), Memory> {
+    if let Task::Reveal(load) = task {
+        return reveals::work(alloc, load, count, times);
+    }
+    let mut shelf = rows::shelf_of(alloc, count)?;
     let mut answer = 0;
     for _ in 0..times {
-        answer = if marks {
-            go_back(alloc, &mut shelf)?
-        } else {
-            look(&shelf)
-        };
+        answer = turn(alloc, task, &mut shelf)?;
     }
     Ok((shelf.len(), answer))
 }
 
 fn main(rt: HostRuntime) -> anyhow::Result<()> {
     let mut words = env::args(&rt)?.skip(1);
-    let marks = matches!(words.next(), Some(word) if word.as_str() == "mark");
+    let task = match words.next() {
+        Some(word) => task_of(word.as_str()),
+        None => None,
+    };
+    let Some(task) = task else {
+        bail!("look, check, mark, pointers or parents");
+    };
     let mut numbers = [0, 0];
     for (number, word) in numbers.iter_mut().zip(words) {
         *number = word.as_str().parse::<u32>()?;
     }
     let [count, times] = numbers;
-    match work(rt.alloc(), marks, count, times) {
+    match work(rt.alloc(), task, count, times) {
         Ok((rows, answer)) => println!(rt; "{rows} rows, {answer}")?,
-        Err(_) => println!(rt; "no memory")?,
+        Err(_) => bail!("no memory"),
     }
     Ok(())
 }

@@ -1,12 +1,16 @@
-//! A shelf of inscriptions in plain Rust, as bench/inscriptions.py times it. The arguments are what is done (`look` or
-//! `mark`), how many rows there are, and how often it is done.
+//! A shelf of inscriptions in plain Rust, as bench/inscriptions.py times it. The arguments are what is done (`look`,
+//! `mark`, `pointers` or `parents`; `ordered` is `mark` with ordered maps by id and by parent), how many rows or inputs
+//! there are, and how often it is done.
 use std::collections::hash_map::{Entry, HashMap};
 use std::collections::{btree_map, BTreeMap};
 use std::{env, hash};
 
+mod ordered;
+mod reveal;
+
 const BATCH: u32 = 1_000;
 
-#[derive(Clone, Copy, PartialEq, Eq, Hash)]
+#[derive(Clone, Copy, PartialEq, Eq, PartialOrd, Ord, Hash)]
 struct Id {
     txid: [u8; 32],
     index: u32,
@@ -89,18 +93,39 @@ fn pop_hashed<K: Eq + hash::Hash>(map: &mut HashMap<K, Numbers>, key: K, number:
 }
 
 impl Shelf {
+    fn push(&mut self, row: Row) {
+        let number = self.rows.len() as u32;
+        self.ids.entry(row.id).or_insert(number);
+        if let Some(sat) = row.sat {
+            self.sats.entry(sat).and_modify(|held| held.push(number)).or_insert(Numbers::One(number));
+        }
+        for parent in &row.parents {
+            self.parents.entry(*parent).and_modify(|held| held.push(number)).or_insert(Numbers::One(number));
+        }
+        self.rows.push(row);
+    }
+
     fn append(&mut self, rows: &[Row]) {
         self.rows.reserve(rows.len());
         for row in rows {
-            let number = self.rows.len() as u32;
-            self.ids.entry(row.id).or_insert(number);
-            if let Some(sat) = row.sat {
-                self.sats.entry(sat).and_modify(|held| held.push(number)).or_insert(Numbers::One(number));
+            self.push(row.clone());
+        }
+    }
+
+    /// Takes the last row away.
+    fn pop(&mut self) {
+        let row = self.rows.pop().unwrap();
+        let number = self.rows.len() as u32;
+        if self.ids.get(&row.id) == Some(&number) {
+            self.ids.remove(&row.id);
+        }
+        if let Some(btree_map::Entry::Occupied(mut held)) = row.sat.map(|sat| self.sats.entry(sat)) {
+            if held.get_mut().pop(number) {
+                held.remove();
             }
-            for parent in &row.parents {
-                self.parents.entry(*parent).and_modify(|held| held.push(number)).or_insert(Numbers::One(number));
-            }
-            self.rows.push(row.clone());
+        }
+        for parent in row.parents {
+            pop_hashed(&mut self.parents, parent, number);
         }
     }
 
@@ -110,19 +135,7 @@ impl Shelf {
 
     fn cancel(&mut self) {
         while self.rows.len() > self.mark {
-            let row = self.rows.pop().unwrap();
-            let number = self.rows.len() as u32;
-            if self.ids.get(&row.id) == Some(&number) {
-                self.ids.remove(&row.id);
-            }
-            if let Some(btree_map::Entry::Occupied(mut held)) = row.sat.map(|sat| self.sats.entry(sat)) {
-                if held.get_mut().pop(number) {
-                    held.remove();
-                }
-            }
-            for parent in row.parents {
-                pop_hashed(&mut self.parents, parent, number);
-            }
+            self.pop();
         }
     }
 
@@ -191,6 +204,15 @@ fn main() {
     let words: Vec<String> = env::args().skip(1).collect();
     let [kind, count, times] = words.as_slice() else { panic!("KIND COUNT TIMES") };
     let (count, times): (u32, u32) = (count.parse().unwrap(), times.parse().unwrap());
+    if kind == "pointers" || kind == "parents" {
+        let (rows, sum) = reveal::work(kind == "pointers", count, times);
+        println!("{rows} rows, {sum}");
+        return;
+    }
+    if kind == "ordered" {
+        println!("{}", ordered::work(count, times));
+        return;
+    }
     let mut shelf = Shelf::default();
     for batch in 0..count / BATCH {
         append_from(&mut shelf, batch * BATCH);
