@@ -4,6 +4,8 @@
 #[cfg(test)]
 mod blocks;
 #[cfg(test)]
+mod both_ways;
+#[cfg(test)]
 mod chains;
 #[cfg(test)]
 mod inscriptions;
