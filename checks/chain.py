@@ -1,4 +1,4 @@
-"""Chains of regtest blocks, the lines that connect them and take them back, and the files of a store that heard them."""
+"""Chains of blocks, the lines that connect them and take them back, and the files of a store that heard them."""
 
 import hashlib
 
@@ -45,6 +45,29 @@ def chain(count, script_at=lambda height: SHORT):
         blocks.append(block)
         tips.append(previous[::-1].hex())
     return blocks, tips
+
+
+def envelope(kind, body):
+    """A tapscript with an inscription of this content type and body, each of at most 75 bytes."""
+    pushes = [b"ord", b"\1", kind, b"", body]
+    return b"\0\x63" + b"".join(bytes([len(push)]) + push for push in pushes) + b"\x68"
+
+
+def revealing(spent, tapscript, outputs):
+    """A transaction that spends the first output of another one by a tapscript into these values and scripts: the bytes
+    without its witness and with it."""
+    inputs = b"\1" + spent + bytes(4) + b"\0" + bytes(4)
+    targets = b"".join(value.to_bytes(8, "little") + compact(len(script)) + script for value, script in outputs)
+    body, version, lock = inputs + bytes([len(outputs)]) + targets, (2).to_bytes(4, "little"), bytes(4)
+    witness = b"\2" + compact(len(tapscript)) + tapscript + b"\1\xc0"
+    return version + body + lock, version + b"\0\1" + body + witness + lock
+
+
+def block_with(previous, height, tx):
+    """The bytes of a block of a plain coinbase and such a transaction, and its hash."""
+    first = coinbase(height, SHORT)
+    header = (1).to_bytes(4, "little") + previous + twice(twice(first) + twice(tx[0])) + bytes(12)
+    return header + b"\2" + first + tx[1], twice(header)
 
 
 def line(block):

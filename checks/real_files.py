@@ -11,6 +11,7 @@ PROGRAM is crates/ox_main/out/ox_main without a word, which `rt ci` and `rt run`
 """
 
 import collections
+import json
 import os
 import pathlib
 import random
@@ -22,7 +23,8 @@ import sys
 import tempfile
 import traceback
 
-from chain import DISCONNECT, chain, file_a, file_of, line, payload_of, record
+from chain import DISCONNECT, SHORT, SUBSIDY, block_with, chain, coinbase, envelope, file_a, file_of, line, payload_of, record
+from chain import revealing, twice
 from kills import Failed, demand, kill_often
 
 HERE = pathlib.Path(__file__).resolve().parent
@@ -87,6 +89,11 @@ class Ox:
 
     def has_blocks(self, blocks):
         self.has(file_a(blocks), EMPTY_B)
+
+    def says(self, path, tree):
+        """The reply to a query has to be this tree, compact and with sorted keys; bytes are the body itself."""
+        body = tree if isinstance(tree, bytes) else json.dumps(tree, ensure_ascii=False, sort_keys=True, separators=(",", ":")).encode()
+        self.wants((0, body), "query", path)
 
     def status_is(self, count, tip, kept=None):
         """The reply to a query has to be this. As many blocks are kept as may be, where it isn't said."""
@@ -242,6 +249,55 @@ def replaced(ox):
     ox.wants((0, got), "fold", "regtest", feed=lines)
     ox.has(file_of([*map(payload_of, old), *[DISCONNECT] * 3, *map(payload_of, new)]), EMPTY_B)
     ox.status_is(4, tips[3])
+
+
+# The least reserved name, by the Runes specification.
+RESERVED = 6_402_364_363_415_443_603_228_541_259_936_211_926
+
+
+def name_of(number):
+    """The letters of a rune's name."""
+    letters = ""
+    while number >= 0:
+        letters = chr(ord("A") + number % 26) + letters
+        number = number // 26 - 1
+    return letters
+
+
+@check("inscriptions and runes are told of a store that is opened again, and taken back with their block")
+def inscriptions_and_runes(ox):
+    blocks, _ = chain(3)
+    spent = twice(coinbase(0, SHORT))
+    previous = twice(blocks[2][:80])
+    # an etching with premine 7, cap 10 and amount 5, at the height at which the lab's runes start
+    stone = bytes.fromhex("6a5d0802030607080a0a05")
+    tx = revealing(spent, envelope(b"text/plain", b"hi"), [(SUBSIDY, SHORT), (0, stone)])
+    block, tip = block_with(previous, 3, tx)
+    txid = twice(tx[0])[::-1].hex()
+    id, at, name = f"{txid}i0", f"{txid}:0", name_of(RESERVED + (3 << 32) + 1)
+    ox.wants((0, b"ok empty\n"), "init", "lab", "100")
+    ox.run("apply", feed=b"".join(map(line, blocks)))
+    ox.wants((0, f"ok 3 {tip[::-1].hex()}\n".encode()), "apply", feed=line(block))
+    ox.says("/inscriptions/0", {"ids": [id], "more": False, "page": 0})
+    ox.says(f"/content/{id}", b"hi")
+    inscription = {"content_length": 2, "content_type": "text/plain", "delegate": None, "encoding": None, "height": 3, "id": id}
+    inscription |= {"metadata": None, "metaprotocol": None, "number": 0, "parents": [], "place": {"offset": 0, "outpoint": at}, "sat": 0}
+    ox.says(f"/inscription/{id}", inscription)
+    rune = {"amount": "5", "burned": "0", "cap": "10", "divisibility": 0, "etching": txid, "height": [None, None], "held": "7"}
+    rune |= {"id": "3:1", "mintable": True, "mints": "0", "name": name, "number": 0, "offset": [None, None], "premine": "7", "symbol": None}
+    for part in ("3:1", name, name[:5] + "%E2%80%A2" + name[5:]):
+        ox.says(f"/rune/{part}", rune)
+    balance = {"amount": "7", "id": "3:1", "name": name, "shown": "7"}
+    output = {"height": 3, "inscriptions": [id], "ranges": [[0, SUBSIDY]], "runes": [balance], "script": SHORT.hex(), "value": SUBSIDY}
+    ox.says(f"/output/{at}", output)
+    audited = {"burned": "0", "held": "7", "id": "3:1", "minted": "0", "premine": "7"}
+    ox.says("/audit", {"claimable": 4 * SUBSIDY, "lost": 0, "outputs": 4 * SUBSIDY, "runes": [audited]})
+    ox.run("apply", feed=b"disconnect\n")
+    ox.says("/audit", {"claimable": 3 * SUBSIDY, "lost": 0, "outputs": 3 * SUBSIDY, "runes": []})
+    ox.says("/inscriptions/0", {"ids": [], "more": False, "page": 0})
+    ox.says("/runes/0", {"ids": [], "more": False, "page": 0})
+    for path in (f"/inscription/{id}", f"/content/{id}", "/rune/3:1", f"/output/{at}"):
+        ox.says(path, {"error": 404})
 
 
 @check("`fold` and `query` change no byte of the files")
