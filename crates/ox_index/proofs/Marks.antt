@@ -1,6 +1,6 @@
 -- A mark of all parts is a mark of each.
 use Rattle.std.proofs.Common.{◌≡◌, ◌∙◌, List, [], refl, sym, ap, subst, Option, Some, None}
-use Rattle.std.specs.Prelude.{IsSome, unwrap_or}
+use Rattle.std.specs.Prelude.{IsSome, unwrap_or, OnErr, OnOk, Result, Ok, Err}
 use Rattle.ox_rules.specs.Outputs.{Outputs}
 use Rattle.ox_inscribe.specs.declared.row.InsRow.{InsRow}
 use Rattle.std.specs.Option.{IfSome}
@@ -65,6 +65,12 @@ undue_none mark none x at = absurd (cc (sym none ∙ at))
 pub undue_fallen : (mark : Option Runes) (now : Runes) → ((x : Runes) → mark ≡ Some x → x.due ≡ []) → now ≡ unwrap_or mark nothing → now.due ≡ []
 undue_fallen None now undue is = ap (λ (r : Runes). r.due) is
 undue_fallen (Some state) now undue is = ap (λ (r : Runes). r.due) is ∙ undue state refl
+
+-- after a call that leaves either this, or what was at the mark
+pub undue_either : {A E : Type 0} (r : Result A E) (mark : Option Runes) (after now : Runes) → OnOk r (now ≡ after) → OnErr r (now ≡ unwrap_or mark nothing) → after.due ≡ []
+    → ((x : Runes) → mark ≡ Some x → x.due ≡ []) → now.due ≡ []
+undue_either (Ok x) mark after now ok err none undue = ap (λ (r : Runes). r.due) ok ∙ none
+undue_either (Err e) mark after now ok err none undue = undue_fallen mark now undue err
 
 pub marked_some : (mark : Option Held) (held : Held) → mark ≡ Some held → IsSome mark
 marked_some mark held is = subst (λ (m : Option Held). IsSome m) (sym is) refl

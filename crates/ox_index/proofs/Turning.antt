@@ -1,11 +1,11 @@
 -- A block's transactions take their turns, one after the other.
-use Rattle.std.proofs.Common.{◌≡◌, ◌≢◌, ◌∙◌, ◌≤◌, ◌<◌, ℕ, ◌+◌, List, [], ◌∷◌, length, drop, get_or, refl, sym, ap, subst, arith, inl, inr, ◌⊎◌}
-use Rattle.std.specs.Prelude.{All}
+use Rattle.std.proofs.Common.{◌≡◌, ◌≢◌, ◌∙◌, ◌≤◌, ◌<◌, ℕ, ◌+◌, List, [], ◌∷◌, length, drop, get_or, refl, sym, ap, arith, inl, inr, ◌⊎◌, Bool, true, false, nat_lt}
+use Rattle.std.specs.Prelude.{min}
 use Rattle.std.specs.List.{AllByRecursion}
+use Rattle.std.proofs.lemmas.Bool.{ltb-false, ltb-true}
 use Rattle.std.proofs.lemmas.List.{drop_more, drop_all}
 use Rattle.std.proofs.lemmas.List.Elements.{recursion_from_All}
 use Rattle.ox_block.specs.declared.block.Tx.{Tx}
-use Rattle.ox_runestone.specs.declared.stone.RuneId.{RuneId}
 use Rattle.ox_sat.specs.declared.profiles.Profile.{Profile}
 use Rattle.ox_rules.specs.declared.moved.MovedTx.{MovedTx}
 use Rattle.ox_etching.specs.declared.row.RuneRow.{RuneRow}
@@ -34,10 +34,18 @@ no_txs p height place (tx ∷ txs) [] state none = refl
 no_txs p height place (tx ∷ txs) (did ∷ moved) state (inl none) = absurd (cc none)
 no_txs p height place (tx ∷ txs) (did ∷ moved) state (inr none) = absurd (cc none)
 
-pub turn_done : (p : Profile) (height place : ℕ) (txs : List Tx) (moved : List MovedTx) (state : Runes) → (length txs ≤ place) ⊎ (length moved ≤ place)
+done_by : (p : Profile) (height place : ℕ) (txs : List Tx) (moved : List MovedTx) (state : Runes) → (length txs ≤ place) ⊎ (length moved ≤ place)
     → turns_from p height place txs moved state ≡ state
-turn_done p height place txs moved state (inl le) = no_txs p height place (drop place txs) (drop place moved) state (inl (drop_all place txs le))
-turn_done p height place txs moved state (inr le) = no_txs p height place (drop place txs) (drop place moved) state (inr (drop_all place moved le))
+done_by p height place txs moved state (inl le) = no_txs p height place (drop place txs) (drop place moved) state (inl (drop_all place txs le))
+done_by p height place txs moved state (inr le) = no_txs p height place (drop place txs) (drop place moved) state (inr (drop_all place moved le))
+
+-- none is left where one of the lists ends
+pub turn_done : (p : Profile) (height place : ℕ) (txs : List Tx) (moved : List MovedTx) (state : Runes) → min (length txs) (length moved) ≤ place
+    → turns_from p height place txs moved state ≡ state
+turn_done p height place txs moved state le = by_test (nat_lt place (length txs)) refl where
+  by_test : (b : Bool) → nat_lt place (length txs) ≡ b → turns_from p height place txs moved state ≡ state
+  by_test true more = done_by p height place txs moved state (inr (omega (arith, le, ltb-true _ _ more)))
+  by_test false enough = done_by p height place txs moved state (inl (ltb-false _ _ enough))
 
 -- where no rune is of the height, none was etched at a place of it
 none_open : (height : ℕ) (runes : List RuneRow) → AllByRecursion (λ (row : RuneRow). row.id.block ≢ height) runes

@@ -185,7 +185,8 @@ impl Parts {
     {
         self.outputs.put(&change.gone, &change.came)?;
         self.ledger.put(&change.runes, true)?;
-        self.shelf.drop_last(change.inscriptions.len() as u32);
+        let last = change.inscriptions.len().min(self.shelf.len() as usize);
+        self.shelf.drop_last(last as u32);
         Ok(())
     }
 

@@ -1,5 +1,4 @@
-use Rattle.std.proofs.Common.{◌≡◌, ◌∙◌, ◌≤◌, ℕ, List, ◌++◌, length, sym, ap, subst, arith, length-append, drop, refl, Option, Some}
-use Rattle.ox_etching.specs.declared.row.RuneRow.{RuneRow}
+use Rattle.std.proofs.Common.{◌≡◌, ◌∙◌, List, length, sym, ap, subst, arith, length-append, Option}
 use Rattle.ox_inscribe.proofs.MoveLaws.{transfer_moves}
 use Rattle.ox_inscribe.specs.declared.row.InsRow.{InsRow}
 use Rattle.ox_ledger.proofs.BlockStays.{nothing_due}
@@ -16,7 +15,7 @@ use Rattle.std.proofs.lemmas.Result.{IfOk-weaker}
 use Rattle.ox_inscribe.specs.Reveal.{reveal_of}
 use Rattle.ox_ledger.specs.Block.{runes_after}
 use Rattle.ox_outputs.specs.Table.{marked_in}
-use Rattle.ox_index.proofs.Marks.{marked_some, same_held, undue_fallen}
+use Rattle.ox_index.proofs.Marks.{marked_some, same_held, undue_either}
 use Rattle.ox_index.proofs.Told.{taken_by}
 use Rattle.ox_index.proofs.parts.Parts.follow.Goals as goal
 
@@ -30,21 +29,17 @@ move_runes-requires-clause-none c =
     let self = c.args.self.now in
     subst (λ (p : Profile). NoneOf p c.args.height (runes_in self.ledger).runes) (sym self.counted) c.requires.none
 
-pub invariant_of-self-in_err-move_runes : goal.invariant_of-self-in_err-move_runes
-invariant_of-self-in_err-move_runes c =
-    let self = c.args.self.now in record {
+pub invariant_of-self-2 : goal.invariant_of-self-2
+invariant_of-self-2 c =
+    let self = c.args.self.now in
+    let p = self.ledger.profile in
+    let txs = c.args.block.now.txs in
+    let moved = c.args.moved.txs in
+    let old = runes_in self.ledger in record {
       known = self.known;
       counted = c.move_runes.ensures.profile ∙ self.counted;
-      undue = undue_fallen (mark_in self.ledger) (runes_in c.move_runes.new.ledger) self.undue_then c.in_err-move_runes.ensures.err;
-      undue_then = λ x is. self.undue_then x (sym c.move_runes.ensures.mark ∙ is);
-    }
-
-pub invariant_of-self : goal.invariant_of-self
-invariant_of-self c =
-    let self = c.args.self.now in record {
-      known = self.known;
-      counted = c.move_runes.ensures.profile ∙ self.counted;
-      undue = ap (λ (r : Runes). r.due) c.in_ok-move_runes.ensures.ok ∙ nothing_due self.ledger.profile c.args.height c.args.block.now.txs c.args.moved.txs (runes_in self.ledger);
+      undue = undue_either c.move_runes.result (mark_in self.ledger) (runes_after p c.args.height txs moved old) (runes_in c.move_runes.new.ledger)
+          c.move_runes.ensures.ok c.move_runes.ensures.err (nothing_due p c.args.height txs moved old) self.undue_then;
       undue_then = λ x is. self.undue_then x (sym c.move_runes.ensures.mark ∙ is);
     }
 
@@ -69,12 +64,13 @@ changed-requires-clause-continues c =
 pub returns-clause-ok : goal.returns-clause-ok
 returns-clause-ok c =
     let self = c.args.self.now in
-    let same_mark = λ i. held_then (marked_in self.outputs) (c.reveal.ensures.mark i) (c.move_runes.ensures.mark i) in
+    let same_mark : held_then (marked_in self.outputs) c.reveal.new.self.mark (mark_in c.move_runes.new.ledger) ≡ mark_of self = λ i. held_then (marked_in self.outputs) (c.reveal.ensures.mark i) (c.move_runes.ensures.mark i) in
+    let now : Held = record { outs = rows_in self.outputs; inscriptions = c.reveal.new.self.rows; runes = runes_in c.move_runes.new.ledger } in
     IfOk-weaker c.changed.result _ _
     (λ change told before is.
     taken_by self.profile c.args.height c.args.block.now c.args.moved (mark_of self) (held_in self) before c.reveal.new.self.rows (runes_in c.move_runes.new.ledger) c.len-before.result change
     c.requires.moved is c.in_ok-reveal.ensures.rows
     (subst (λ (p : Profile). runes_in c.move_runes.new.ledger ≡ runes_after p c.args.height c.args.block.now.txs c.args.moved.txs (runes_in self.ledger)) self.counted c.in_ok-move_runes.ensures.ok)
     c.len-before.ensures c.hash.ensures
-    (subst (λ (m : Option Held). IsTold m _ _ _ _ change) same_mark told))
+    (subst (λ (m : Option Held). IsTold m now c.hash.result c.args.moved.lost c.len-before.result change) same_mark told))
     c.changed.ensures

@@ -1,4 +1,4 @@
-use Rattle.std.proofs.Common.{◌≡◌, [], ap}
+use Rattle.std.proofs.Common.{ap}
 use Rattle.ox_ledger.specs.Ledger.{mark_in}
 use Rattle.ox_ledger.specs.Runes.{Runes}
 use Rattle.ox_index.proofs.Marks.{undue_none}
