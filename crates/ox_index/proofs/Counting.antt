@@ -1,8 +1,7 @@
 -- Lists of which a part counts, with one block more or one less.
-use Rattle.std.proofs.Common.{◌≡◌, ◌∙◌, ◌≤◌, ◌<◌, ◌+◌, ◌-◌, ◌^◌, ℕ, List, [], ◌∷◌, ◌++◌, length, take, get_or, refl, sym, ap, subst, arith, length-append, Bool, true, false, Some, None, Option}
+use Rattle.std.proofs.Common.{◌≡◌, ◌∙◌, ◌≤◌, ◌<◌, ◌+◌, ◌-◌, ◌^◌, ℕ, List, [], ◌∷◌, ◌++◌, length, take, refl, sym, ap, subst, arith, length-append, Bool, true, false, Some, None}
 use Rattle.std.specs.Prelude.{cond, position, nat_lt, if◌then◌else◌}
 use Rattle.std.proofs.lemmas.Bool.{lt-ltb, le-ltb, ltb-false}
-use Rattle.std.proofs.lemmas.Bool.Decides.{nat_tests}
 use Rattle.std.proofs.lemmas.List.{take_all, take-take, take-append-le, length-take-le, get_or-take}
 use Rattle.std.proofs.lemmas.List.Sums.{position_or_len_is, fails_before_first}
 use Rattle.std.proofs.lemmas.List.Quantifiers.{position-Some}
@@ -17,7 +16,7 @@ use Rattle.ox_rules.proofs.DifferenceLemmas.{from_the_other}
 use Rattle.ox_outputs.specs.Table.{EndsIn as EndsAt}
 use Rattle.ox_transfer.proofs.Claims.{first_few}
 use Rattle.ox_transfer.proofs.Once.{fits}
-use Rattle.ox_model.specs.Change.{IsChange, outputs_changed, redone, undone}
+use Rattle.ox_model.specs.Change.{outputs_changed, redone, undone}
 use Rattle.ox_model.specs.Ends.{BeginsIn, EndsIn}
 use Rattle.ox_model.specs.Index.{Index}
 use Rattle.ox_model.specs.Sound.{IsSound}

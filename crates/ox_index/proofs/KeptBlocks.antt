@@ -1,5 +1,5 @@
 -- The changes of kept blocks, as the stack turns.
-use Rattle.std.proofs.Common.{◌≡◌, ◌∙◌, ◌≤◌, ℕ, zero, suc, List, [], ◌∷◌, length, drop, take, refl, sym, ap, subst, arith}
+use Rattle.std.proofs.Common.{◌≡◌, ◌∙◌, ℕ, zero, suc, List, [], ◌∷◌, length, drop, take, refl, sym, ap, subst}
 use Rattle.std.specs.Prelude.{slice_get, Some, None, Result, Ok, Err}
 use Rattle.ox_rules.specs.declared.refusal.Refusal.TheVariants.{Depth}
 use Rattle.ox_rules.specs.declared.refusal.Refusal.{Refusal}

@@ -1,5 +1,5 @@
 -- An index whose lists have nothing behind what counts, and the one that it was marked at.
-use Rattle.std.proofs.Common.{◌≡◌, ◌∙◌, ◌≤◌, ◌<◌, ◌+◌, ◌-◌, ◌^◌, ℕ, List, [], ◌∷◌, ◌++◌, length, take, refl, sym, ap, subst, arith, lit≤, length-append, Some, Option}
+use Rattle.std.proofs.Common.{◌≡◌, ◌∙◌, ◌≤◌, ◌+◌, ◌-◌, ◌^◌, ℕ, List, [], ◌∷◌, ◌++◌, length, take, refl, sym, ap, subst, arith, lit≤, length-append, Some, Option}
 use Rattle.std.specs.Prelude.{IsSome}
 use Rattle.std.specs.Option.{option_map}
 use Rattle.ox_block.specs.declared.block.Block.{Block}
@@ -8,7 +8,7 @@ use Rattle.ox_sat.specs.declared.profiles.Profile.{Profile}
 use Rattle.ox_sat.specs.declared.profiles.ProfileName.{ProfileName}
 use Rattle.ox_sat.specs.declared.profiles.ProfileName.TheVariants.{Mainnet, Regtest, Lab}
 use Rattle.ox_inscribe.specs.declared.row.InsRow.{InsRow}
-use Rattle.ox_ledger.specs.Moves.{Begins, Ends}
+use Rattle.ox_ledger.specs.Moves.{Begins, Ends, Leads}
 use Rattle.ox_model.specs.Change.{IsChange, redone, undone}
 use Rattle.ox_model.specs.Ends.{BeginsIn, EndsIn}
 use Rattle.ox_model.specs.Index.{Index, runes_of}
@@ -154,17 +154,23 @@ within_to index items held sats lengths whole more new items' sats' items_are sa
 -- ---- back and on
 
 -- a change ends in what an index holds of runes
+led_back : (p : Profile) (index : Index) (change : Change) → EndsIn p index change → Leads (runes_of (undone index change)) (runes_of index) change.runes
+led_back p index change ends = record { continues = ends.leads.continues; undue_before = refl; undue_after = refl; is = ends.leads.runes }
+
 pub runes_end : (p : Profile) (index : Index) (change : Change) → EndsIn p index change → Ends change.runes (runes_of index)
 runes_end p index change ends = record {
   before = runes_of (undone index change);
-  leads = record { continues = ends.leads.continues; undue_before = refl; undue_after = refl; is = ends.leads.runes };
+  leads = led_back p index change ends;
   balanced = ends.sound.runes.balanced;
 }
+
+led_on : (p : Profile) (index : Index) (change : Change) → BeginsIn p index change → Leads (runes_of index) (runes_of (redone index change)) change.runes
+led_on p index change begins = record { continues = begins.leads.continues; undue_before = refl; undue_after = refl; is = begins.leads.runes }
 
 pub runes_begin : (p : Profile) (index : Index) (change : Change) → BeginsIn p index change → Begins change.runes (runes_of index)
 runes_begin p index change begins = record {
   after = runes_of (redone index change);
-  leads = record { continues = begins.leads.continues; undue_before = refl; undue_after = refl; is = begins.leads.runes };
+  leads = led_on p index change begins;
   balanced = begins.sound.runes.balanced;
 }
 
@@ -175,7 +181,7 @@ few_inscriptions p index change ends =
 pub back_is : (p : Profile) (index : Index) (change : Change) (next : Held) → EndsIn p index change → IsBack (held_of index) next change
     → index_of_parts (take (length index.hashes - 1) index.hashes) next (take (length index.lost - length change.lost) index.lost) ≡ undone index change
 back_is p index change next ends back =
-    let runes : next.runes ≡ runes_of (undone index change) = back.runes (runes_of (undone index change)) (runes_end p index change ends).leads in
+    let runes : next.runes ≡ runes_of (undone index change) = back.runes (runes_of (undone index change)) (led_back p index change ends) in
     λ i. record {
       hashes = take (length index.hashes - 1) index.hashes;
       outs = back.outputs i;
@@ -188,7 +194,7 @@ back_is p index change next ends back =
 pub on_is : (p : Profile) (index : Index) (change : Change) (next : Held) → BeginsIn p index change → IsOn (held_of index) next change
     → index_of_parts (index.hashes ++ change.hash ∷ []) next (index.lost ++ change.lost) ≡ redone index change
 on_is p index change next begins on =
-    let runes : next.runes ≡ runes_of (redone index change) = on.runes (runes_of (redone index change)) (runes_begin p index change begins).leads in
+    let runes : next.runes ≡ runes_of (redone index change) = on.runes (runes_of (redone index change)) (led_on p index change begins) in
     λ i. record {
       hashes = index.hashes ++ change.hash ∷ [];
       outs = on.outputs i;

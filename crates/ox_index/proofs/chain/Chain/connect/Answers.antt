@@ -1,13 +1,9 @@
-use Rattle.std.proofs.Common.{◌≡◌, ◌∙◌, ◌≤◌, ◌∷◌, List, length, take, sym, ap, subst, arith}
-use Rattle.std.specs.Prelude.{Ok, Result}
-use Rattle.ox_rules.specs.declared.refusal.Refusal.{Refusal}
+use Rattle.std.proofs.Common.{◌≡◌, ◌∙◌, ◌∷◌, take, sym, ap, subst}
+use Rattle.std.specs.Prelude.{Ok}
 use Rattle.ox_model.specs.Ends.{AllEnd, older_by}
 use Rattle.ox_model.specs.Index.{Index}
-use Rattle.ox_model.specs.Stack.{Stack, with_index}
 use Rattle.ox_model.specs.Step.{step}
-use Rattle.ox_model.specs.declared.change.Change.{Change}
 use Rattle.ox_sat.specs.declared.profiles.Profile.{Profile}
-use Rattle.ox_index.specs.Chain.{stack_in}
 use Rattle.ox_index.specs.Live.{index_in, profile_in}
 use Rattle.ox_index.proofs.KeptBlocks.{AllEnd-push, AllEnd-take, puts_on}
 use Rattle.ox_index.proofs.chain.Chain.connect.Goals as goal

@@ -1,4 +1,3 @@
-use Rattle.std.proofs.Common.{◌≡◌, ◌∙◌, sym, ap}
 use Rattle.ox_index.specs.Chain.{stack_in}
 use Rattle.ox_index.specs.Live.{index_in, profile_in}
 use Rattle.ox_index.proofs.KeptBlocks.{newest_ends, none_kept}

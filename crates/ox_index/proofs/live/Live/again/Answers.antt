@@ -1,17 +1,17 @@
-use Rattle.std.proofs.Common.{◌≡◌, ◌∙◌, ◌≤◌, ◌<◌, ◌+◌, ◌-◌, ◌^◌, ℕ, List, [], ◌∷◌, ◌++◌, length, refl, sym, ap, subst, arith, length-append}
-use Rattle.ox_ledger.specs.Moves.{Begins, Ends}
-use Rattle.ox_model.specs.Change.{redone, undone}
-use Rattle.ox_model.specs.Ends.{BeginsIn, EndsIn}
+use Rattle.std.proofs.Common.{◌≡◌, ◌∙◌, ◌≤◌, ◌^◌, ℕ, List, [], ◌∷◌, ◌++◌, length, sym, ap, subst, arith, length-append}
+use Rattle.ox_ledger.specs.Moves.{Begins}
+use Rattle.ox_model.specs.Change.{redone}
+use Rattle.ox_model.specs.Ends.{BeginsIn}
 use Rattle.ox_model.specs.Index.{Index}
 use Rattle.ox_model.specs.Sound.{IsSound}
 use Rattle.ox_sat.specs.declared.profiles.Profile.{Profile}
 use Rattle.ox_index.specs.Lengths.{IsMark, index_to}
 use Rattle.ox_index.specs.Live.{index_in}
-use Rattle.ox_index.specs.Held.{Held, IsBack, IsOn}
+use Rattle.ox_index.specs.Held.{Held, IsOn}
 use Rattle.ox_index.specs.Parts.{held_in, mark_of}
 use Rattle.ox_index.specs.declared.lengths.Lengths.{Lengths}
-use Rattle.ox_index.proofs.Counting.{begins_at, ends_at, lost_few}
-use Rattle.ox_index.proofs.Whole.{Whole, all_within, back_is, blocks_are, blocks_few, few_inscriptions, held_are, held_of, mark_right, marked_to, more_to, on_is, runes_begin, runes_end, sats_are, some_same, within_to, without_block}
+use Rattle.ox_index.proofs.Counting.{begins_at, lost_few}
+use Rattle.ox_index.proofs.Whole.{Whole, blocks_are, blocks_few, held_are, held_of, mark_right, marked_to, more_to, on_is, runes_begin, sats_are, some_same, within_to}
 use Rattle.ox_index.proofs.live.Live.again.Goals as goal
 
 pub again-requires-clause-rows : goal.again-requires-clause-rows

@@ -1,17 +1,17 @@
-use Rattle.std.proofs.Common.{◌≡◌, ◌∙◌, ◌≤◌, ◌<◌, ◌+◌, ◌-◌, ◌^◌, ℕ, List, [], ◌∷◌, ◌++◌, length, refl, sym, ap, subst, arith, length-append}
-use Rattle.ox_ledger.specs.Moves.{Begins, Ends}
-use Rattle.ox_model.specs.Change.{redone, undone}
-use Rattle.ox_model.specs.Ends.{BeginsIn, EndsIn}
+use Rattle.std.proofs.Common.{◌≡◌, ◌∙◌, ◌≤◌, ℕ, List, [], ◌∷◌, length, sym, ap, subst, arith, length-append}
+use Rattle.ox_ledger.specs.Moves.{Ends}
+use Rattle.ox_model.specs.Change.{undone}
+use Rattle.ox_model.specs.Ends.{EndsIn}
 use Rattle.ox_model.specs.Index.{Index}
 use Rattle.ox_model.specs.Sound.{IsSound}
 use Rattle.ox_sat.specs.declared.profiles.Profile.{Profile}
 use Rattle.ox_index.specs.Lengths.{IsMark, index_to}
 use Rattle.ox_index.specs.Live.{index_in}
-use Rattle.ox_index.specs.Held.{Held, IsBack, IsOn}
+use Rattle.ox_index.specs.Held.{Held, IsBack}
 use Rattle.ox_index.specs.Parts.{held_in, mark_of}
 use Rattle.ox_index.specs.declared.lengths.Lengths.{Lengths}
-use Rattle.ox_index.proofs.Counting.{begins_at, ends_at, lost_few}
-use Rattle.ox_index.proofs.Whole.{Whole, all_within, back_is, blocks_are, blocks_few, few_inscriptions, held_are, held_of, mark_right, marked_to, more_to, on_is, runes_begin, runes_end, sats_are, some_same, within_to, without_block}
+use Rattle.ox_index.proofs.Counting.{ends_at}
+use Rattle.ox_index.proofs.Whole.{Whole, all_within, back_is, blocks_are, few_inscriptions, held_are, held_of, mark_right, runes_end, sats_are, some_same, without_block}
 use Rattle.ox_index.proofs.live.Live.back.Goals as goal
 
 pub back-requires-clause-rows : goal.back-requires-clause-rows
@@ -64,8 +64,8 @@ without_block-self-requires c =
       omega (arith, ap (λ (l : List ℕ). length l) ends.leads.lost, length-append (undone index change).lost change.lost, sats_are index live.hashes.items (held_in live.parts) live.lost live.shown whole),
     )
 
-pub invariant_of-self-clause-sound : goal.invariant_of-self-clause-sound
-invariant_of-self-clause-sound c =
+pub invariant_of-self-2-clause-sound : goal.invariant_of-self-2-clause-sound
+invariant_of-self-2-clause-sound c =
     let live = c.forget.new.self in
     let p = live.parts.profile in
     let change = c.args.change.now in
@@ -80,8 +80,8 @@ invariant_of-self-clause-sound c =
     ap (index_to live.hashes.items next live.lost) c.without_block-self.ensures ∙ (without_block index live.hashes.items (held_in live.parts) live.lost live.shown whole change.lost next ∙ back_is p index change next ends back) in
     subst (λ (q : Profile). IsSound q (index_to live.hashes.items next live.lost c.without_block-self.result)) (sym c.back.ensures.profile) (subst (IsSound p) (sym to) ends.sound)
 
-pub invariant_of-self-clause-mark : goal.invariant_of-self-clause-mark
-invariant_of-self-clause-mark c =
+pub invariant_of-self-2-clause-mark : goal.invariant_of-self-2-clause-mark
+invariant_of-self-2-clause-mark c =
     let live = c.forget.new.self in
     let p = live.parts.profile in
     let change = c.args.change.now in

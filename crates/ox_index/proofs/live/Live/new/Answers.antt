@@ -10,9 +10,9 @@ use Rattle.ox_index.proofs.live.Live.new.Goals as goal
 pub invariant_of-result-clause-sound : goal.invariant_of-result-clause-sound
 invariant_of-result-clause-sound c =
     let p = c.args.p.now in
-    let index : Index = index_to c.new.result.items (held_in c.in_ok-parts.parts) c.empty.result (record { blocks = 0; lost = 0 }) in
+    let index : Index = index_to c.new-2.result.items (held_in c.in_ok-parts.parts) c.empty.result (record { blocks = 0; lost = 0 }) in
     let is : index ≡ no_blocks p = λ i. index_of_parts [] (c.in_ok-parts.ensures.held i) [] in
     subst (λ (q : Profile). IsSound q index) (sym c.in_ok-parts.ensures.profile) (subst (IsSound p) (sym is) (sound_first p))
 
-pub returns-in_ok-parts-clause-index : goal.returns-in_ok-parts-clause-index
-returns-in_ok-parts-clause-index c = λ i. index_of_parts [] (c.in_ok-parts.ensures.held i) []
+pub returns-clause-index : goal.returns-clause-index
+returns-clause-index c = λ i. index_of_parts [] (c.in_ok-parts.ensures.held i) []

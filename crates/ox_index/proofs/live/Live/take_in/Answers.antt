@@ -1,9 +1,10 @@
-use Rattle.std.proofs.Common.{◌≡◌, ◌∙◌, ◌≤◌, ◌<◌, ◌+◌, ◌^◌, ℕ, List, [], ◌∷◌, ◌++◌, length, sym, ap, subst, arith}
-use Rattle.std.specs.Prelude.{Ok}
+use Rattle.std.proofs.Common.{◌≡◌, ◌∙◌, ◌≤◌, ◌^◌, ℕ, List, [], ◌∷◌, ◌++◌, length, sym, ap, subst, arith}
+use Rattle.std.specs.Prelude.{Ok, Result}
 use Rattle.ox_model.specs.Change.{IsChange}
 use Rattle.ox_model.specs.Index.{Index}
 use Rattle.ox_model.specs.Sound.{IsSound}
-use Rattle.ox_model.specs.Step.{admission}
+use Rattle.ox_model.specs.Step.{admission, index_after}
+use Rattle.ox_rules.specs.declared.refusal.Refusal.{Refusal}
 use Rattle.ox_model.proofs.Soundness.{admitted_right, grown_sound}
 use Rattle.ox_sat.specs.declared.profiles.Profile.{Profile}
 use Rattle.ox_transfer.proofs.Sizes.{few_txs}
@@ -122,7 +123,8 @@ returns-in-Ok-clause-ok c =
     let to : index_to c.push_reserved.new.self.items next c.join.new.self c.with_block-self.result ≡ next_index p index c.args.block.now next change taken =
     more_to index live.hashes.items (held_in live.parts) live.lost live.shown whole next change.hash change.lost c.push_reserved.new.self.items c.join.new.self c.with_block-self.result items c.in-Ok.ensures.ok c.with_block-self.ensures in
     let grown = to ∙ is_grown p index c.args.block.now next change taken in
-    after_taken p index c.args.block.now taken.moved begun taken.moves ∙ ap Ok (sym grown)
+    let after : Result Index Refusal = Ok (index_to c.push_reserved.new.self.items next c.join.new.self c.with_block-self.result) in
+    subst (λ (q : Profile). index_after q index c.args.block.now ≡ after) c.forget.ensures.profile (after_taken p index c.args.block.now taken.moved begun taken.moves ∙ ap Ok (sym grown))
 
 pub returns-in-Ok-clause-change : goal.returns-in-Ok-clause-change
 returns-in-Ok-clause-change c =

@@ -1,6 +1,5 @@
-use Rattle.std.proofs.Common.{rules, ◌≡◌, ◌-◌, ◌≤◌, List, ℕ, length, Some, arith}
+use Rattle.std.proofs.Common.{rules, ◌≡◌, ◌-◌, List, ℕ, length, Some}
 use Rattle.std.specs.Prelude.{slice_get}
-use Rattle.std.proofs.lemmas.List.{length-take-le}
 use Rattle.ox_index.specs.Live.{index_in}
 use Rattle.ox_index.proofs.Tips.{newest_says}
 use Rattle.ox_index.proofs.live.Live.tip.Goals as goal
