@@ -12,7 +12,6 @@ use Rattle.ox_ledger.specs.Block.{first_rune}
 use Rattle.ox_model.specs.Audit.{audit_of, rune_audit}
 use Rattle.ox_model.specs.Index.{Index}
 use Rattle.ox_model.specs.Sound.{IsSound}
-use Rattle.ox_model.specs.declared.audit.Audit.{Audit}
 use Rattle.ox_model.specs.declared.audit.RuneAudit.{RuneAudit}
 use Rattle.ox_model.proofs.Audits.{satoshis_balance}
 

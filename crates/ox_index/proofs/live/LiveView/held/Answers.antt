@@ -1,7 +1,4 @@
-use Rattle.std.proofs.Common.{◌≡◌, ap, Option, Some, None}
 use Rattle.std.specs.FinMap.{values}
-use Rattle.std.specs.Option.{IfSome}
-use Rattle.std.specs.Prelude.{ℕ, option_map, slice_get}
 use Rattle.ox_etching.specs.declared.row.RuneRow.{RuneRow}
 use Rattle.ox_ledger.specs.Balanced.{amount_held}
 use Rattle.ox_ledger.specs.Ledger.{runes_in}
