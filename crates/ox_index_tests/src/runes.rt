@@ -4,7 +4,7 @@ use crate::blocks::{
     PLAIN, SUBSIDY, add, block_on, coinbase_of, coinbase_to, extend, extend_by, fresh, is_refused,
     lab, mine, out_of, plain_at, plain_blocks, tx_of,
 };
-use ox_block::{OutPoint, Tx};
+use ox_block::{Block, OutPoint, Tx, write_block};
 use ox_index::Live;
 use ox_model::{Refusal, RuneId, View};
 use ox_sat::{ProfileName, profile_of};
@@ -80,7 +80,7 @@ fn audits(rt: &impl Abort, live: &Live, number: u32, held: u128, burned: u128) -
     rune.held == held
         && rune.burned == burned
         && audit.lost == live.lost()
-        && audit.claimable == SUBSIDY * live.blocks() as u64
+        && SUBSIDY.checked_mul(live.blocks() as u64) == Some(audit.claimable)
 }
 
 /// How much an output holds of the rune with this id, where it is the only one.
@@ -210,23 +210,27 @@ fn a_coinbase_etches_what_its_block_mints(rt: HostRuntime) {
     assert!(rt; stands(&rt, &live, 0, (3, 0), 12, 0) && amount_at(&live, at, (3, 0)) == 5);
 }
 
+/// A block that reveals, etches and moves runes, and whose coinbase claims this much.
+fn full_block(rt: &impl Abort, alloc: Global, tip: [u8; 32], at: OutPoint, claimed: u64) -> Block {
+    let mut txs = Vec::new(alloc);
+    add(rt, &mut txs, coinbase_of(rt, alloc, 4, claimed));
+    add(rt, &mut txs, all_at_once(rt, alloc, at));
+    block_on(rt, alloc, tip, txs)
+}
+
 // The block reveals, etches and moves runes, and then its coinbase claims a satoshi too many.
 #[test]
 fn nothing_stays_of_a_refused_block(rt: HostRuntime) {
     let alloc = rt.alloc();
     let mut live = lab(&rt, alloc);
     let (tip, at) = etched(&rt, alloc, &mut live, TEN);
-    let mut txs = Vec::new(alloc);
-    add(&rt, &mut txs, coinbase_of(&rt, alloc, 4, SUBSIDY + 1));
-    add(&rt, &mut txs, all_at_once(&rt, alloc, at));
-    let block = block_on(&rt, alloc, tip, txs);
+    let block = full_block(&rt, alloc, tip, at, SUBSIDY + 1);
     let refusal = Refusal::Overclaim {
         claimable: SUBSIDY,
         claimed: SUBSIDY + 1,
     };
     assert!(rt; is_refused(&rt, alloc, &mut live, &block, refusal));
-    assert!(rt; live.inscriptions() == 0 && live.runes() == 1 && live.blocks() == 4);
-    assert!(rt; stands(&rt, &live, 0, (3, 1), 10, 0) && amount_at(&live, at, (3, 1)) == 10);
+    assert!(rt; is_before(&rt, &live, at));
 }
 
 /// A transaction that spends an output by an envelope, moves its rune and etches one.
@@ -234,4 +238,38 @@ fn all_at_once(rt: &impl Abort, alloc: Global, at: OutPoint) -> Tx {
     let stone: &[u8] = b"\x6a\x5d\x09\x02\x01\x06\x05\x00\x03\x01\x04\x00";
     let to: [(u64, &[u8]); 2] = [(SUBSIDY, PLAIN), (0, stone)];
     tx_of(rt, alloc, &[(at, b"\x00\x63\x03ord\x68")], &to)
+}
+
+/// Whether an index is as before such a block.
+fn is_before(rt: &impl Abort, live: &Live, at: OutPoint) -> bool {
+    live.blocks() == 4
+        && live.inscriptions() == 0
+        && live.runes() == 1
+        && stands(rt, live, 0, (3, 1), 10, 0)
+        && amount_at(live, at, (3, 1)) == 10
+}
+
+/// Whether it is as behind one.
+fn is_behind(rt: &impl Abort, live: &Live, at: OutPoint) -> bool {
+    live.blocks() == 5
+        && live.inscriptions() == 1
+        && live.runes() == 2
+        && stands(rt, live, 0, (3, 1), 10, 0)
+        && stands(rt, live, 1, (4, 1), 5, 0)
+        && amount_at(live, at, (3, 1)) == 0
+}
+
+// Where an allocation fails at the block, all is as before, and then the block is taken in.
+#[test]
+fn a_block_that_found_no_memory_is_taken_in_later(rt: HostRuntime) {
+    let alloc = rt.alloc();
+    let mut live = lab(&rt, alloc);
+    let (tip, at) = etched(&rt, alloc, &mut live, TEN);
+    let block = full_block(&rt, alloc, tip, at, SUBSIDY);
+    let bytes = write_block(alloc, &block).expect(&rt, "memory");
+    if live.connect(bytes.as_slice()).is_err() {
+        assert!(rt; is_before(&rt, &live, at));
+        assert!(rt; live.connect(bytes.as_slice()).is_ok());
+    }
+    assert!(rt; is_behind(&rt, &live, at));
 }
