@@ -1,4 +1,5 @@
 pub mod DifferingRows
+pub mod LocatorLemmas
 pub mod OutputsLemmas
 pub mod PlaceLemmas
 pub mod RowLemmas

@@ -87,7 +87,7 @@ number_itself : (a : ℕ) → is_at (nat_cmp a) a ≡ true
 number_itself a = (eq_by_cmp_equiv nat_cmp_total).refl a
 
 -- a number of a stretch is one of the runs'
-hit_first : (b : Bool) (at : OutPoint) (place x f : ℕ) (run : Run) (runs : List Run) (s : Stretch) (rest : Option Stretch) → is_at (nat_cmp f) run.first ≡ b → (rest ≡ Some s → 1 ≤ times x (numbers_of runs)) → cond b (Some (record { count = run.count; outpoint = at; place = place; gone = false })) rest ≡ Some s → f ≤ x → x < f + s.count → 1 ≤ times x (numbers_of (run ∷ runs))
+hit_first : (b : Bool) (at : OutPoint) (place x f : ℕ) (run : Run) (runs : List Run) (s : Stretch) (rest : Option Stretch) → is_at (nat_cmp f) run.first ≡ b → (rest ≡ Some s → 1 ≤ times x (numbers_of runs)) → cond b (Some (record { count = run.count; outpoint = at; place = place })) rest ≡ Some s → f ≤ x → x < f + s.count → 1 ≤ times x (numbers_of (run ∷ runs))
 hit_first true at place x f run runs s rest same more is low high =
     let first = same_number f run.first same in
     let count = ap (λ (y : Stretch). y.count) (some_same _ s is) in
@@ -99,7 +99,7 @@ pub hit : (at : OutPoint) (place x f : ℕ) (runs : List Run) (s : Stretch) → 
 hit at place x f [] s is low high = absurd (cc is)
 hit at place x f (run ∷ runs) s is low high = hit_first (is_at (nat_cmp f) run.first) at place x f run runs s (stretch_at (stretches_of at (place + run.count) runs) f) refl (λ more. hit at (place + run.count) x f runs s more low high) is low high
 
-made_first : (b : Bool) (at : OutPoint) (place : ℕ) (run : Run) (s : Stretch) (rest : Option Stretch) → 0 < run.count → (rest ≡ Some s → 0 < s.count) → cond b (Some (record { count = run.count; outpoint = at; place = place; gone = false })) rest ≡ Some s → 0 < s.count
+made_first : (b : Bool) (at : OutPoint) (place : ℕ) (run : Run) (s : Stretch) (rest : Option Stretch) → 0 < run.count → (rest ≡ Some s → 0 < s.count) → cond b (Some (record { count = run.count; outpoint = at; place = place })) rest ≡ Some s → 0 < s.count
 made_first true at place run s rest some more is = let count = ap (λ (y : Stretch). y.count) (some_same _ s is) in omega (arith, count, some)
 made_first false at place run s rest some more is = more is
 
@@ -108,7 +108,7 @@ made_some at place f [] s some is = absurd (cc is)
 made_some at place f (run ∷ runs) s some is = made_first (is_at (nat_cmp f) run.first) at place run s (stretch_at (stretches_of at (place + run.count) runs) f) some.0 (made_some at (place + run.count) f runs s some.1) is
 
 -- two stretches that both have a number have it twice
-two_first : (b d : Bool) (at bt : OutPoint) (place qlace x f g : ℕ) (run : Run) (runs : List Run) (s t : Stretch) (rest sest : Option Stretch) → is_at (nat_cmp f) run.first ≡ b → is_at (nat_cmp g) run.first ≡ d → f ≢ g → (rest ≡ Some s → sest ≡ Some t → 2 ≤ times x (numbers_of runs)) → (rest ≡ Some s → 1 ≤ times x (numbers_of runs)) → (sest ≡ Some t → 1 ≤ times x (numbers_of runs)) → cond b (Some (record { count = run.count; outpoint = at; place = place; gone = false })) rest ≡ Some s → cond d (Some (record { count = run.count; outpoint = bt; place = qlace; gone = false })) sest ≡ Some t → f ≤ x → x < f + s.count → g ≤ x → x < g + t.count → 2 ≤ times x (numbers_of (run ∷ runs))
+two_first : (b d : Bool) (at bt : OutPoint) (place qlace x f g : ℕ) (run : Run) (runs : List Run) (s t : Stretch) (rest sest : Option Stretch) → is_at (nat_cmp f) run.first ≡ b → is_at (nat_cmp g) run.first ≡ d → f ≢ g → (rest ≡ Some s → sest ≡ Some t → 2 ≤ times x (numbers_of runs)) → (rest ≡ Some s → 1 ≤ times x (numbers_of runs)) → (sest ≡ Some t → 1 ≤ times x (numbers_of runs)) → cond b (Some (record { count = run.count; outpoint = at; place = place })) rest ≡ Some s → cond d (Some (record { count = run.count; outpoint = bt; place = qlace })) sest ≡ Some t → f ≤ x → x < f + s.count → g ≤ x → x < g + t.count → 2 ≤ times x (numbers_of (run ∷ runs))
 two_first true true at bt place qlace x f g run runs s t rest sest same too other both one two is js fl fh gl gh = absurd (other (same_number f run.first same ∙ sym (same_number g run.first too)))
 two_first true false at bt place qlace x f g run runs s t rest sest same too other both one two is js fl fh gl gh =
     let first = same_number f run.first same in
@@ -154,7 +154,7 @@ place_behind first (suc count) x rest out =
     let more : position_or_len (λ n. n == x) (numbers_from (first + 1) count ++ rest) ≡ count + position_or_len (λ n. n == x) rest = place_behind (first + 1) count x rest (⊎_elim (λ below. inl (omega (arith, below))) (λ above. inr (omega (arith, above))) out) in
     rw other (omega (arith, more))
 
-placed_first : (b : Bool) (at : OutPoint) (place x f : ℕ) (run : Run) (runs : List Run) (s : Stretch) (rest : Option Stretch) → is_at (nat_cmp f) run.first ≡ b → (rest ≡ Some s → position_or_len (λ n. n == x) (numbers_of runs) + (place + run.count) ≡ s.place + (x - f)) → (rest ≡ Some s → 1 ≤ times x (numbers_of runs)) → cond b (Some (record { count = run.count; outpoint = at; place = place; gone = false })) rest ≡ Some s → f ≤ x → x < f + s.count → times x (numbers_of (run ∷ runs)) ≤ 1 → position_or_len (λ n. n == x) (numbers_of (run ∷ runs)) + place ≡ s.place + (x - f)
+placed_first : (b : Bool) (at : OutPoint) (place x f : ℕ) (run : Run) (runs : List Run) (s : Stretch) (rest : Option Stretch) → is_at (nat_cmp f) run.first ≡ b → (rest ≡ Some s → position_or_len (λ n. n == x) (numbers_of runs) + (place + run.count) ≡ s.place + (x - f)) → (rest ≡ Some s → 1 ≤ times x (numbers_of runs)) → cond b (Some (record { count = run.count; outpoint = at; place = place })) rest ≡ Some s → f ≤ x → x < f + s.count → times x (numbers_of (run ∷ runs)) ≤ 1 → position_or_len (λ n. n == x) (numbers_of (run ∷ runs)) + place ≡ s.place + (x - f)
 placed_first true at place x f run runs s rest same more some is low high once =
     let first = same_number f run.first same in
     let one = some_same _ s is in
@@ -223,8 +223,8 @@ pub record Met (at : OutPoint) (place x : ℕ) (runs : List Run) : Type 0 where
 met_here : (at : OutPoint) (place x : ℕ) (run : Run) (runs : List Run) → run.first ≤ x → x < run.first + run.count → Met at place x (run ∷ runs)
 met_here at place x run runs low high = record {
   first = run.first;
-  stretch = record { count = run.count; outpoint = at; place = place; gone = false };
-  is = ap (λ (b : Bool). cond b (Some (record { count = run.count; outpoint = at; place = place; gone = false })) (stretch_at (stretches_of at (place + run.count) runs) run.first)) (number_itself run.first);
+  stretch = record { count = run.count; outpoint = at; place = place };
+  is = ap (λ (b : Bool). cond b (Some (record { count = run.count; outpoint = at; place = place })) (stretch_at (stretches_of at (place + run.count) runs) run.first)) (number_itself run.first);
   low = low;
   high = high;
 }
@@ -240,7 +240,7 @@ met_behind true at place x run runs some once m same = absurd (
 met_behind false at place x run runs some once m other = record {
   first = m.first;
   stretch = m.stretch;
-  is = ap (λ (b : Bool). cond b (Some (record { count = run.count; outpoint = at; place = place; gone = false })) (stretch_at (stretches_of at (place + run.count) runs) m.first)) other ∙ m.is;
+  is = ap (λ (b : Bool). cond b (Some (record { count = run.count; outpoint = at; place = place })) (stretch_at (stretches_of at (place + run.count) runs) m.first)) other ∙ m.is;
   low = m.low;
   high = m.high;
 }

@@ -1,5 +1,5 @@
 -- Stretches by their first numbers: what changes of them leave.
-use Rattle.std.proofs.Common.{◌≡◌, ◌∙◌, ℕ, ◌+◌, ◌-◌, ◌<◌, ◌≤◌, Bool, true, false, cond, List, [], ◌∷◌, length, length-append, drop, zero, suc, ◌^◌, Result, Ok, Err, refl, sym, ap, arith, Option, Some, None, true≢false, inl, inr, ⊎_elim, Ordering}
+use Rattle.std.proofs.Common.{◌≡◌, ◌∙◌, ℕ, ◌+◌, ◌-◌, ◌<◌, ◌≤◌, Bool, true, false, cond, List, [], ◌∷◌, length, length-append, drop, zero, suc, ◌^◌, Result, Ok, Err, refl, sym, ap, ap₂, subst, arith, Option, Some, None, true≢false, inl, inr, ⊎_elim, Ordering}
 use Rattle.std.specs.Prelude.{is_some, ◌||◌, ◌⊎◌, OnOk, OnErr}
 use Rattle.std.specs.Result.{is_err}
 use Rattle.std.specs.Ordering.{nat_cmp, is_eq, is_gt, is_lt, MatchOrdering}
@@ -18,7 +18,7 @@ use Rattle.ox_range.specs.Runs.{numbers_of}
 use Rattle.ox_range.proofs.RunLemmas.{numbers-cons, length-numbers_from}
 use Rattle.ox_rules.specs.declared.place.Place.{Place}
 use Rattle.ox_outputs.specs.Finding.{Finds}
-use Rattle.ox_outputs.specs.Stretches.{StretchList, stretch_at, stretches_of, is_among, firsts_of, turned, standing, live_in, kept_in, AreApart, AreKept, Holds}
+use Rattle.ox_outputs.specs.Stretches.{StretchList, stretch_at, stretches_of, is_among, firsts_of, live_in, kept_in, Agree, AreApart, AreShort, AreKept, Holds}
 
 -- which number it is, seen from either
 pub same_first : (a b : ℕ) → is_at (nat_cmp a) b ≡ is_at (nat_cmp b) a
@@ -72,17 +72,6 @@ some_same x y is = cc
 
 -- ---- where a satoshi is
 
-pub standing_is : (o : Option Stretch) (s : Stretch) → standing o ≡ Some s → (o ≡ Some s) × (s.gone ≡ false)
-standing_is None s is = absurd (cc is)
-standing_is (Some x) s is = by_test x.gone refl is where
-  by_test : (b : Bool) → x.gone ≡ b → cond b None (Some x) ≡ Some s → (Some x ≡ Some s) × (s.gone ≡ false)
-  by_test true gone is = absurd (cc is)
-  by_test false gone is = (is, ap (λ (y : Stretch). y.gone) (sym (some_same x s is)) ∙ gone)
-
-pub turned_is : (o : Option Stretch) (s : Stretch) → option_map (turned false) o ≡ Some s → (x : Stretch) × (o ≡ Some x) × (turned false x ≡ s)
-turned_is None s is = absurd (cc is)
-turned_is (Some x) s is = (x, refl, some_same (turned false x) s is)
-
 pub either_is : (c o : Option Stretch) (s : Stretch) → option_or c o ≡ Some s → (c ≡ Some s) ⊎ (o ≡ Some s)
 either_is None o s is = inr is
 either_is (Some x) o s is = inl is
@@ -112,35 +101,45 @@ pub not_below : (a b : ℕ) → is_lt (nat_cmp a b) ≡ false → b ≤ a
 not_below a b is = lt_low a b (nat_cmp a b) (ranked a b (nat_cmp a b) refl) is
 
 -- the last stretch that begins with a satoshi or before is the only one that may have it
-pub none_here : (at : ℕ → Option Stretch) (first sat f : ℕ) (last s : Stretch) (place : Place) → AreApart (λ q. option_map (turned false) (at q)) → at first ≡ Some last → standing (at f) ≡ Some s → Holds f s sat place → f ≤ first → first ≤ sat → (last.gone ≡ true) ⊎ (last.count ≤ sat - first) → ⊥
-none_here at first sat f last s place apart there is holds low within out =
-    let stands = standing_is (at f) s is in ⊎_elim
-    (λ below. let ends : f + s.count ≤ first = apart.before f first (turned false s) (turned false last) (ap (option_map (turned false)) stands.0) (ap (option_map (turned false)) there) below in
+pub none_here : (at : ℕ → Option Stretch) (first sat f : ℕ) (last s : Stretch) (place : Place) → AreApart at → at first ≡ Some last → at f ≡ Some s → Holds f s sat place → f ≤ first → first ≤ sat → last.count ≤ sat - first → ⊥
+none_here at first sat f last s place apart there is holds low within short = ⊎_elim
+    (λ below. let ends : f + s.count ≤ first = apart.before f first s last is there below in
     omega (arith, ends, holds.high, within))
     (λ above. let same : f ≡ first = omega (arith, low, above) in
-    let one : s ≡ last = some_same s last (sym stands.0 ∙ ap at same ∙ there) in ⊎_elim
-    (λ gone. true≢false (sym gone ∙ ap (λ (x : Stretch). x.gone) (sym one) ∙ stands.1))
-    (λ short. let count : s.count ≡ last.count = ap (λ (x : Stretch). x.count) one in omega (arith, short, count, holds.high, same, within))
-    out)
+    let one : s ≡ last = some_same s last (sym is ∙ ap at same ∙ there) in
+    let count : s.count ≡ last.count = ap (λ (x : Stretch). x.count) one in omega (arith, short, count, holds.high, same, within))
     (cases_lt f first)
 
-pub came_apart : (stood came : StretchList) → AreApart (live_in stood came) → AreApart (kept_in came)
-came_apart stood came apart = record {
-  before = λ f g s t is js low.
-      let a = turned_is (stretch_at came f) s is in
-      let b = turned_is (stretch_at came g) t js in
-      let ends : f + a.0.count ≤ g = apart.before f g a.0 b.0 (ap (λ (o : Option Stretch). option_or o (standing (stretch_at stood f))) a.1) (ap (λ (o : Option Stretch). option_or o (standing (stretch_at stood g))) b.1) low in
-      let count : a.0.count ≡ s.count = ap (λ (x : Stretch). x.count) a.2 in
-      omega (arith, ends, count);
+-- stretches that are among others are apart where those are
+pub among_apart : (some all : ℕ → Option Stretch) → ((q : ℕ) (s : Stretch) → some q ≡ Some s → all q ≡ Some s) → AreApart all → AreApart some
+among_apart some all are apart = record {
+  before = λ f g s t is js low. apart.before f g s t (are f s is) (are g t js) low;
 }
 
-pub finds_both : (stood came : StretchList) (sat : ℕ) (r : Option Place) → ((f : ℕ) → standing (stretch_at came f) ≡ stretch_at came f) → Finds (λ f. standing (stretch_at stood f)) sat None → Finds (λ f. standing (stretch_at came f)) sat r → Finds (live_in stood came) sat r
-finds_both stood came sat None stand none found = λ f s place is holds. ⊎_elim
-    (λ here. found f s place (stand f ∙ here) holds)
-    (λ there. none f s place there holds)
-    (either_is (stretch_at came f) (standing (stretch_at stood f)) s is)
-finds_both stood came sat (Some place) stand none found =
-    (found.0, found.1, ap (λ (o : Option Stretch). option_or o (standing (stretch_at stood found.0))) (sym (stand found.0) ∙ found.2), found.3)
+late_live : (late run : Option Stretch) (s : Stretch) → late ≡ Some s → option_or late run ≡ Some s
+late_live late run s is = ap (λ (o : Option Stretch). option_or o run) is
+
+pub run_live : (late run : Option Stretch) (s : Stretch) → Agree late run → run ≡ Some s → option_or late run ≡ Some s
+run_live late run s agree is = agree ∙ ap (λ (o : Option Stretch). option_or o late) is
+
+module _ {runs late away : StretchList} {came : List ℕ} (kept : AreKept runs late away came) where
+  pub runs_apart : AreApart (live_in runs late) → AreApart (stretch_at runs)
+  runs_apart = among_apart (stretch_at runs) (live_in runs late) (λ q s is. run_live (stretch_at late q) (stretch_at runs q) s (kept.late_agrees q) is)
+
+  pub late_apart : AreApart (live_in runs late) → AreApart (stretch_at late)
+  late_apart = among_apart (stretch_at late) (live_in runs late) (λ q s is. late_live (stretch_at late q) (stretch_at runs q) s is)
+
+  pub finds_both : (sat : ℕ) (r : Option Place) → Finds (stretch_at runs) sat None → Finds (stretch_at late) sat r → Finds (live_in runs late) sat r
+  finds_both sat None none found = λ f s place is holds. ⊎_elim
+      (λ here. found f s place here holds)
+      (λ there. none f s place there holds)
+      (either_is (stretch_at late f) (stretch_at runs f) s is)
+  finds_both sat (Some place) none found =
+      (found.0, found.1, late_live (stretch_at late found.0) (stretch_at runs found.0) found.1 found.2, found.3)
+
+  pub finds_first : (sat : ℕ) (place : Place) → Finds (stretch_at runs) sat (Some place) → Finds (live_in runs late) sat (Some place)
+  finds_first sat place found =
+      (found.0, found.1, run_live (stretch_at late found.0) (stretch_at runs found.0) found.1 (kept.late_agrees found.0) found.2, found.3)
 
 -- ---- the places of stretches
 
@@ -150,22 +149,19 @@ length_run run runs = ap length (numbers-cons run runs) ∙ length-append (numbe
 -- a stretch of an output's runs
 pub record IsMade (at : OutPoint) (place end : ℕ) (s : Stretch) : Type 0 where
   pub outpoint : s.outpoint ≡ at
-  pub stands : s.gone ≡ false
   pub low : place ≤ s.place
   pub high : s.place + s.count ≤ end
 
-first_made : (b : Bool) (at : OutPoint) (place : ℕ) (run : Run) (runs : List Run) (s : Stretch) (rest : Option Stretch) → (rest ≡ Some s → IsMade at (place + run.count) (place + run.count + length (numbers_of runs)) s) → cond b (Some (record { count = run.count; outpoint = at; place = place; gone = false })) rest ≡ Some s → IsMade at place (place + length (numbers_of (run ∷ runs))) s
+first_made : (b : Bool) (at : OutPoint) (place : ℕ) (run : Run) (runs : List Run) (s : Stretch) (rest : Option Stretch) → (rest ≡ Some s → IsMade at (place + run.count) (place + run.count + length (numbers_of runs)) s) → cond b (Some (record { count = run.count; outpoint = at; place = place })) rest ≡ Some s → IsMade at place (place + length (numbers_of (run ∷ runs))) s
 first_made true at place run runs s rest more is =
     let one = some_same _ s is in record {
       outpoint = sym (ap (λ (x : Stretch). x.outpoint) one);
-      stands = sym (ap (λ (x : Stretch). x.gone) one);
       low = omega (arith, ap (λ (x : Stretch). x.place) one);
       high = omega (arith, ap (λ (x : Stretch). x.place) one, ap (λ (x : Stretch). x.count) one, length_run run runs);
     }
 first_made false at place run runs s rest more is =
     let made = more is in record {
       outpoint = made.outpoint;
-      stands = made.stands;
       low = omega (arith, made.low);
       high = omega (arith, made.high, length_run run runs);
     }
@@ -208,137 +204,143 @@ pub either_way : {A E P Q R : Type 0} (r : Result A E) → OnOk r P → OnErr r 
 either_way (Ok x) p q f g = f p
 either_way (Err e) p q f g = g q
 
--- ---- a locator's stretches
+pub ok_then : {A E P Q : Type 0} (r : Result A E) → OnOk r P → (P → Q) → OnOk r Q
+ok_then (Ok x) p f = f p
+ok_then (Err e) p f = p
 
-neither : (c o : Option Stretch) → option_or c o ≡ None → o ≡ None
-neither None o is = is
-neither (Some x) o is = absurd (cc is)
-
-pub nothing_live : (stood came : StretchList) (q : ℕ) → live_in stood came q ≡ None → standing (stretch_at stood q) ≡ None
-nothing_live stood came q is = neither (stretch_at came q) (standing (stretch_at stood q)) is
-
-stands_so : (s : Stretch) → s.gone ≡ false → standing (Some s) ≡ Some s
-stands_so s is = ap (λ (b : Bool). cond b None (Some s)) is
-
-stands_or : (n c : Option Stretch) → ((s : Stretch) → n ≡ Some s → s.gone ≡ false) → standing c ≡ c → standing (option_or n c) ≡ option_or n c
-stands_or None c stand is = is
-stands_or (Some x) c stand is = stands_so x (stand x refl)
-
--- stretches come
-pub kept_arrive : (stood came came' : StretchList) (gone : List ℕ) (news : ℕ → Option Stretch) → AreKept stood came gone → ((q : ℕ) → stretch_at came' q ≡ option_or (news q) (stretch_at came q)) → ((q : ℕ) (s : Stretch) → news q ≡ Some s → (s.gone ≡ false) × (s.place + s.count < 2 ^ 64)) → ((q : ℕ) (s : Stretch) → news q ≡ Some s → standing (stretch_at stood q) ≡ None) → AreKept stood came' gone
-kept_arrive stood came came' gone news kept is made fresh = record {
-  came_stand = λ q. ap standing (is q) ∙ stands_or (news q) (stretch_at came q) (λ s new. (made q s new).0) (kept.came_stand q) ∙ sym (is q);
-  no_both = λ q s there. ⊎_elim (λ new. fresh q s new) (λ old. kept.no_both q s old) (either_is (news q) (stretch_at came q) s (sym (is q) ∙ there));
-  noted = kept.noted;
-  stood_short = kept.stood_short;
-  came_short = record { fits = λ q s there. ⊎_elim (λ new. (made q s new).1) (λ old. kept.came_short.fits q s old) (either_is (news q) (stretch_at came q) s (sym (is q) ∙ there)) };
-  none_else = kept.none_else;
-}
-
--- nothing comes
-pub kept_still : (stood came came' : StretchList) (gone : List ℕ) → AreKept stood came gone → ((q : ℕ) → stretch_at came' q ≡ stretch_at came q) → AreKept stood came' gone
-kept_still stood came came' gone kept is = kept_arrive stood came came' gone (λ q. None) kept is (λ q s none. absurd (cc none)) (λ q s none. absurd (cc none))
-
--- the stretches of an output's runs come
-pub kept_runs : (stood came came' : StretchList) (gone : List ℕ) (at : OutPoint) (runs : List Run) → AreKept stood came gone → length (numbers_of runs) < 2 ^ 64 → ((q : ℕ) → stretch_at came' q ≡ option_or (stretch_at (stretches_of at 0 runs) q) (stretch_at came q)) → ((q : ℕ) → is_among (firsts_of runs) q ≡ true → standing (stretch_at stood q) ≡ None) → AreKept stood came' gone
-kept_runs stood came came' gone at runs kept short is fresh = kept_arrive stood came came' gone (stretch_at (stretches_of at 0 runs)) kept is
-    (λ q s new. let made = made_of at 0 q runs s new in (made.stands, omega (arith, made.high, short)))
-    (λ q s new. fresh q (begins_some at 0 q runs s new))
-
-pub turned_none : (o : Option Stretch) → standing (option_map (turned true) o) ≡ None
-turned_none None = refl
-turned_none (Some s) = refl
-
-none_or : (b : Bool) (o : Option Stretch) → standing (cond b (option_map (turned true) o) o) ≡ cond b None (standing o)
-none_or true o = turned_none o
-none_or false o = refl
-
-stands_less : (b : Bool) (c : Option Stretch) → standing c ≡ c → standing (cond b None c) ≡ cond b None c
-stands_less true c is = refl
-stands_less false c is = is
-
-less_some : (b : Bool) (c : Option Stretch) (s : Stretch) → cond b None c ≡ Some s → c ≡ Some s
-less_some true c s is = absurd (cc is)
-less_some false c s is = is
-
-less_none : (b : Bool) (o : Option Stretch) → o ≡ None → cond b None o ≡ None
-less_none true o is = refl
-less_none false o is = is
-
-turned_some : (b : Bool) (o : Option Stretch) (s : Stretch) → cond b (option_map (turned true) o) o ≡ Some s → (x : Stretch) × (o ≡ Some x) × (s.place ≡ x.place) × (s.count ≡ x.count) × ((b ≡ true) ⊎ (s.gone ≡ x.gone))
-turned_some true None s is = absurd (cc is)
-turned_some true (Some x) s is = let one = some_same (turned true x) s is in (x, refl, sym (ap (λ (y : Stretch). y.place) one), sym (ap (λ (y : Stretch). y.count) one), inl refl)
-turned_some false None s is = absurd (cc is)
-turned_some false (Some x) s is = let one = some_same x s is in (x, refl, sym (ap (λ (y : Stretch). y.place) one), sym (ap (λ (y : Stretch). y.count) one), inr (sym (ap (λ (y : Stretch). y.gone) one)))
-
-either_true : (a b : Bool) → (a || b) ≡ true → (a ≡ true) ⊎ (b ≡ true)
+pub either_true : (a b : Bool) → (a || b) ≡ true → (a ≡ true) ⊎ (b ≡ true)
 either_true true b is = inl refl
 either_true false b is = inr is
 
-or_left : (a b : Bool) → a ≡ true → (a || b) ≡ true
-or_left true b is = refl
-or_left false b is = absurd (true≢false (sym is))
+-- ---- what is noted
 
-gone_none : (b : Bool) (o : Option Stretch) → (b ≡ true) ⊎ (o ≡ None) → cond b None o ≡ None
-gone_none true o either = refl
-gone_none false o either = ⊎_elim (λ is. absurd (true≢false (sym is))) (λ is. is) either
-
--- stretches go
-pub kept_leave : (stood stood' came came' : StretchList) (gone gone' : List ℕ) (goes : ℕ → Bool) → AreKept stood came gone → ((q : ℕ) → stretch_at came' q ≡ cond (goes q) None (stretch_at came q)) → ((q : ℕ) → stretch_at stood' q ≡ cond (goes q) (option_map (turned true) (stretch_at stood q)) (stretch_at stood q)) → ((q : ℕ) → is_among gone' q ≡ (goes q || is_among gone q)) → AreKept stood' came' gone'
-kept_leave stood stood' came came' gone gone' goes kept less turns notes =
-    let stands : (q : ℕ) → standing (stretch_at stood' q) ≡ cond (goes q) None (standing (stretch_at stood q)) = λ q. ap standing (turns q) ∙ none_or (goes q) (stretch_at stood q) in record {
-      came_stand = λ q. ap standing (less q) ∙ stands_less (goes q) (stretch_at came q) (kept.came_stand q) ∙ sym (less q);
-      no_both = λ q s there. stands q ∙ less_none (goes q) _ (kept.no_both q s (less_some (goes q) (stretch_at came q) s (sym (less q) ∙ there)));
-      noted = λ q s there is. let x = turned_some (goes q) (stretch_at stood q) s (sym (turns q) ∙ there) in notes q ∙ ⊎_elim
-          (λ went. or_left (goes q) (is_among gone q) went)
-          (λ same. or_true (goes q) (is_among gone q) (kept.noted q x.0 x.1 (sym same ∙ is)))
-          x.4;
-      stood_short = record { fits = λ q s there. let x = turned_some (goes q) (stretch_at stood q) s (sym (turns q) ∙ there) in let fits = kept.stood_short.fits q x.0 x.1 in omega (arith, fits, x.2, x.3) };
-      came_short = record { fits = λ q s there. kept.came_short.fits q s (less_some (goes q) (stretch_at came q) s (sym (less q) ∙ there)) };
-      none_else = λ q is. stands q ∙ gone_none (goes q) _ (⊎_elim (λ went. inl went) (λ was. inr (kept.none_else q was)) (either_true (goes q) (is_among gone q) (sym (notes q) ∙ is)));
-    }
-
-live_then : (b : Bool) (n c o : Option Stretch) → option_or (option_or n (cond b None c)) (cond b None o) ≡ option_or n (cond b None (option_or c o))
-live_then true None c o = refl
-live_then true (Some x) c o = refl
-live_then false None c o = refl
-live_then false (Some x) c o = refl
-
--- what is live where stretches go and others come
-pub live_displaced : (stood stood' came came' : StretchList) (goes : ℕ → Bool) (news : ℕ → Option Stretch) (q : ℕ) → stretch_at came' q ≡ option_or (news q) (cond (goes q) None (stretch_at came q)) → stretch_at stood' q ≡ cond (goes q) (option_map (turned true) (stretch_at stood q)) (stretch_at stood q) → live_in stood' came' q ≡ option_or (news q) (cond (goes q) None (live_in stood came q))
-live_displaced stood stood' came came' goes news q comes turns =
-    ap (λ (c : Option Stretch). option_or c (standing (stretch_at stood' q))) comes
-    ∙ ap (λ (o : Option Stretch). option_or (option_or (news q) (cond (goes q) None (stretch_at came q))) o) (ap standing turns ∙ none_or (goes q) (stretch_at stood q))
-    ∙ live_then (goes q) (news q) (stretch_at came q) (standing (stretch_at stood q))
-
--- nothing stands where it went, or where nothing was live
-pub leaves_none : (stood stood' came : StretchList) (goes : ℕ → Bool) (q : ℕ) → stretch_at stood' q ≡ cond (goes q) (option_map (turned true) (stretch_at stood q)) (stretch_at stood q) → (goes q ≡ false → live_in stood came q ≡ None) → standing (stretch_at stood' q) ≡ None
-leaves_none stood stood' came goes q turns free = ap standing turns ∙ none_or (goes q) (stretch_at stood q) ∙ by_test (goes q) refl where
-  by_test : (b : Bool) → goes q ≡ b → cond b None (standing (stretch_at stood q)) ≡ None
-  by_test true goes = refl
-  by_test false stays = nothing_live stood came q (free stays)
-
--- ---- no stretch begins as runs do
-
-pub none_first_at : (stretches : StretchList) (first : ℕ) → is_some (stretch_at stretches first) ≡ false → stretch_at stretches first ≡ None
-none_first_at stretches first is = by_stretch (stretch_at stretches first) is where
-  by_stretch : (o : Option Stretch) → is_some o ≡ false → o ≡ None
-  by_stretch None is = refl
-  by_stretch (Some s) is = absurd (true≢false is)
-
-same_as : (a b : ℕ) → is_at (nat_cmp a) b ≡ true → a ≡ b
+pub same_as : (a b : ℕ) → is_at (nat_cmp a) b ≡ true → a ≡ b
 same_as a b is = nat_cmp-IsAntisymmetric a b (is_equal (nat_cmp a b) is) where
   is_equal : (r : Ordering) → is_eq r ≡ true → r ≡ Equal
   is_equal Less is = absurd (true≢false (sym is))
   is_equal Equal is = refl
   is_equal Greater is = absurd (true≢false (sym is))
 
-pub none_more : (stretches : StretchList) (q : ℕ) (run : Run) (runs : List Run) → stretch_at stretches run.first ≡ None → (is_among (firsts_of runs) q ≡ true → stretch_at stretches q ≡ None) → is_among (firsts_of (run ∷ runs)) q ≡ true → stretch_at stretches q ≡ None
-none_more stretches q run runs absent rest is = ⊎_elim
-    (λ here. ap (stretch_at stretches) (same_as q run.first here) ∙ absent)
-    rest
-    (either_true (is_at (nat_cmp q) run.first) (is_among (firsts_of runs) q) is)
+pub number_itself : (n : ℕ) → is_at (nat_cmp n) n ≡ true
+number_itself n = (eq_by_cmp_equiv nat_cmp_total).refl n
 
-pub less_same : (b : Bool) (o : Option Stretch) → (b ≡ true → o ≡ None) → o ≡ cond b None o
-less_same true o none = none refl
-less_same false o none = refl
+-- a stretch is noted, where it isn't one that came
+abbrev pub noted_one : (came : Bool) → Option Stretch → Option Stretch → Option Stretch
+noted_one came away there = cond came away (option_or there away)
+
+pub kept_one : (came : Bool) (away there : Option Stretch) → (came ≡ false → Agree away there) → option_or (noted_one came away there) (cond came None there) ≡ option_or away (cond came None there)
+kept_one true away there agree = refl
+kept_one false away None agree = refl
+kept_one false None (Some x) agree = refl
+kept_one false (Some y) (Some x) agree = sym (agree refl)
+
+pub agree_one : (away there : Option Stretch) → Agree away there → Agree (noted_one false away there) there
+agree_one away None agree = agree
+agree_one away (Some x) agree = refl
+
+pub or_none : (o : Option Stretch) → o ≡ option_or o None
+or_none None = refl
+or_none (Some x) = refl
+
+pub is_one : (came : Bool) (away there : Option Stretch) → (came ≡ false → Agree away there) → noted_one came away there ≡ option_or away (cond came None there)
+is_one true away there agree = or_none away
+is_one false away there agree = sym (agree refl)
+
+pub which_one : (came : Bool) (away there : Option Stretch) (s : Stretch) → noted_one came away there ≡ Some s → (away ≡ Some s) ⊎ (there ≡ Some s)
+which_one true away there s is = inl is
+which_one false away None s is = inl is
+which_one false away (Some x) s is = inr is
+
+-- what is noted of the number at which the code notes, seen from any number
+pub noted_at : (first q : ℕ) (came : List ℕ) (there away : StretchList) (n : Option Stretch) → n ≡ cond (is_at (nat_cmp first) q) (noted_one (is_among came first) (stretch_at away first) (stretch_at there first)) (stretch_at away q) → n ≡ cond (is_at (nat_cmp first) q) (noted_one (is_among came q) (stretch_at away q) (stretch_at there q)) (stretch_at away q)
+noted_at first q came there away n is = is ∙ by_test (is_at (nat_cmp first) q) refl where
+  one : ℕ → Option Stretch
+  one f = noted_one (is_among came f) (stretch_at away f) (stretch_at there f)
+  by_test : (b : Bool) → is_at (nat_cmp first) q ≡ b → cond b (one first) (stretch_at away q) ≡ cond b (one q) (stretch_at away q)
+  by_test true at = ap one (same_as first q at)
+  by_test false at = refl
+
+-- nothing is to be noted
+pub noted_not : (first q : ℕ) (came : List ℕ) (there away : StretchList) → noted_one (is_among came first) (stretch_at away first) (stretch_at there first) ≡ stretch_at away first → stretch_at away q ≡ cond (is_at (nat_cmp first) q) (noted_one (is_among came q) (stretch_at away q) (stretch_at there q)) (stretch_at away q)
+noted_not first q came there away none = noted_at first q came there away (stretch_at away q) (by_test (is_at (nat_cmp first) q) refl) where
+  one : Option Stretch
+  one = noted_one (is_among came first) (stretch_at away first) (stretch_at there first)
+  by_test : (b : Bool) → is_at (nat_cmp first) q ≡ b → stretch_at away q ≡ cond b one (stretch_at away q)
+  by_test true at = ap (stretch_at away) (sym (same_as first q at)) ∙ sym none
+  by_test false at = refl
+
+pub noted_came : (came : Bool) (away there : Option Stretch) → came ≡ true → noted_one came away there ≡ away
+noted_came true away there is = refl
+noted_came false away there is = absurd (true≢false (sym is))
+
+pub noted_none : (came : Bool) (away there : Option Stretch) → there ≡ None → noted_one came away there ≡ away
+noted_none true away there is = refl
+noted_none false away there is = ap (λ (o : Option Stretch). option_or o away) is
+
+pub noted_some : (came : Bool) (away there : Option Stretch) (s : Stretch) → came ≡ false → there ≡ Some s → Some s ≡ noted_one came away there
+noted_some true away there s out is = absurd (true≢false out)
+noted_some false away there s out is = sym (ap (λ (o : Option Stretch). option_or o away) is)
+
+-- one more is noted
+pub agree_next : (b came : Bool) (away there n : Option Stretch) → n ≡ cond b (noted_one came away there) away → (came ≡ false → Agree away there) → came ≡ false → Agree n there
+agree_next b true away there n is agree out = absurd (true≢false out)
+agree_next true false away there n is agree out = subst (λ (o : Option Stretch). Agree o there) (sym is) (agree_one away there (agree refl))
+agree_next false false away there n is agree out = subst (λ (o : Option Stretch). Agree o there) (sym is) (agree refl)
+
+pub kept_next : (b came : Bool) (away there n : Option Stretch) → n ≡ cond b (noted_one came away there) away → (came ≡ false → Agree away there) → option_or n (cond came None there) ≡ option_or away (cond came None there)
+kept_next true came away there n is agree = ap (λ (o : Option Stretch). option_or o (cond came None there)) is ∙ kept_one came away there agree
+kept_next false came away there n is agree = ap (λ (o : Option Stretch). option_or o (cond came None there)) is
+
+pub which_next : (b came : Bool) (away there n : Option Stretch) (s : Stretch) → n ≡ cond b (noted_one came away there) away → n ≡ Some s → (away ≡ Some s) ⊎ (there ≡ Some s)
+which_next true came away there n s is some = which_one came away there s (sym is ∙ some)
+which_next false came away there n s is some = inl (sym is ∙ some)
+
+pub noted_next : (b came : Bool) (away there n k : Option Stretch) {Rest : Type 0} → n ≡ cond b (noted_one came away there) away → (came ≡ false → Agree away there) → option_or away (cond came None there) ≡ k → ((b ≡ true) ⊎ Rest) ⊎ (away ≡ k) → Rest ⊎ (n ≡ k)
+noted_next true came away there n k is agree same how = inr (is ∙ is_one came away there agree ∙ same)
+noted_next false came away there n k is agree same how = ⊎_elim
+    (λ ahead. ⊎_elim (λ here. absurd (true≢false (sym here))) (λ rest. inl rest) ahead)
+    (λ done. inr (is ∙ done))
+    how
+
+-- a run that is among those from a place on is the first of them or behind it
+pub first_or_rest : (q : ℕ) (run : Run) (runs all : List Run) → all ≡ run ∷ runs → is_among (firsts_of all) q ≡ true → (is_at (nat_cmp run.first) q ≡ true) ⊎ (is_among (firsts_of runs) q ≡ true)
+first_or_rest q run runs all split some = ⊎_elim
+    (λ here. inl (same_first run.first q ∙ here))
+    (λ rest. inr rest)
+    (either_true (is_at (nat_cmp q) run.first) (is_among (firsts_of runs) q) (sym (ap (λ (rs : List Run). is_among (firsts_of rs) q) split) ∙ some))
+
+-- one more first number is noted
+pub came_next : (b came n : Bool) {Rest : Type 0} → n ≡ cond b true came → ((b ≡ true) ⊎ Rest) ⊎ (came ≡ true) → Rest ⊎ (n ≡ true)
+came_next true came n is how = inr is
+came_next false came n is how = ⊎_elim
+    (λ ahead. ⊎_elim (λ here. absurd (true≢false (sym here))) (λ rest. inl rest) ahead)
+    (λ done. inr (is ∙ done))
+    how
+
+pub came_which : (b came was n among : Bool) → n ≡ cond b true came → (b ≡ true → among ≡ true) → (came ≡ was) ⊎ ((came ≡ true) × (among ≡ true)) → (n ≡ was) ⊎ ((n ≡ true) × (among ≡ true))
+came_which true came was n among is here how = inr (is, here refl)
+came_which false came was n among is here how = ⊎_elim (λ same. inl (is ∙ same)) (λ new. inr (is ∙ new.0, new.1)) how
+
+-- a run at a place is one of the runs
+pub among_at : (q i : ℕ) (run : Run) (runs rest : List Run) → drop i runs ≡ run ∷ rest → is_at (nat_cmp run.first) q ≡ true → is_among (firsts_of runs) q ≡ true
+among_at q i run runs rest split here = among_drop q i runs (ap (λ (rs : List Run). is_among (firsts_of rs) q) split ∙ ap (λ (b : Bool). b || is_among (firsts_of rest) q) (same_first q run.first ∙ here))
+
+-- a noted number's stretch is taken away
+pub removed_noted : (q first : ℕ) (came rest : List ℕ) (n o : Option Stretch) → came ≡ first ∷ rest → n ≡ cond (is_at (nat_cmp first) q) None o → cond (is_among rest q) None n ≡ cond (is_among came q) None o
+removed_noted q first came rest n o split is = none_twice (is_at (nat_cmp q) first) (is_among rest q) n o (is ∙ ap (λ (b : Bool). cond b None o) (same_first first q)) ∙ ap (λ (l : List ℕ). cond (is_among l q) None o) (sym split)
+
+-- ---- one is put in
+
+pub agree_put : (b : Bool) (late run late' run' : Option Stretch) (s : Stretch) → late' ≡ cond b None late → run' ≡ cond b (Some s) run → Agree late run → Agree late' run'
+agree_put true late run late' run' s gone put agree = ap₂ option_or gone put ∙ sym (ap₂ option_or put gone)
+agree_put false late run late' run' s gone put agree = ap₂ option_or gone put ∙ agree ∙ sym (ap₂ option_or put gone)
+
+pub live_put : (first q : ℕ) (late : StretchList) (run late' run' : Option Stretch) (s : Stretch) → stretch_at late first ≡ Some s → late' ≡ cond (is_at (nat_cmp first) q) None (stretch_at late q) → run' ≡ cond (is_at (nat_cmp first) q) (Some s) run → option_or late' run' ≡ option_or (stretch_at late q) run
+live_put first q late run late' run' s is gone put = ap₂ option_or gone put ∙ by_test (is_at (nat_cmp first) q) refl where
+  by_test : (b : Bool) → is_at (nat_cmp first) q ≡ b → option_or (cond b None (stretch_at late q)) (cond b (Some s) run) ≡ option_or (stretch_at late q) run
+  by_test true at = sym (ap (λ (f : ℕ). option_or (stretch_at late f) run) (sym (same_as first q at)) ∙ ap (λ (o : Option Stretch). option_or o run) is)
+  by_test false at = refl
+
+pub late_less : (b : Bool) (late late' : Option Stretch) (s : Stretch) → late' ≡ cond b None late → late' ≡ Some s → late ≡ Some s
+late_less true late late' s gone is = absurd (cc (gone, is))
+late_less false late late' s gone is = sym gone ∙ is

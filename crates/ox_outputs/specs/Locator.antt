@@ -6,8 +6,8 @@ use Rattle.ox_outputs.specs.Stretches.{live_in, kept_in}
 
 -- the stretch that begins with this number
 abbrev pub live_at : Locator → ℕ → Option Stretch
-live_at locator first = live_in locator.stood.entries locator.came.entries first
+live_at locator = live_in locator.runs.entries locator.late.entries
 
 -- the stretch that began with this number at the mark
 abbrev pub kept_at : Locator → ℕ → Option Stretch
-kept_at locator first = kept_in locator.stood.entries first
+kept_at locator = kept_in (live_at locator) locator.away.entries locator.came.keys

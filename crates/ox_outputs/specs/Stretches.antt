@@ -2,7 +2,7 @@
 use Rattle.std.specs.Prelude.{◌≡◌, ℕ, ◌+◌, ◌-◌, ◌^◌, ◌<◌, ◌≤◌, Bool, true, false, List, [], ◌∷◌}
 use Rattle.std.specs.Prelude.{map, Option, Some, None, if◌then◌else◌}
 use Rattle.std.specs.List.{list_any}
-use Rattle.std.specs.Option.{option_map, option_or}
+use Rattle.std.specs.Option.{option_or}
 use Rattle.std.specs.Ordering.{nat_cmp}
 use Rattle.std.specs.Map.{lookup}
 use Rattle.std.specs.BTreeMap.{is_at}
@@ -23,7 +23,7 @@ stretch_at stretches first = lookup (is_at (nat_cmp first)) stretches
 abbrev pub stretches_of : OutPoint → ℕ → List Run → StretchList
 stretches_of outpoint place [] = []
 stretches_of outpoint place (run ∷ runs) =
-    (run.first, record { count = run.count; outpoint = outpoint; place = place; gone = false })
+    (run.first, record { count = run.count; outpoint = outpoint; place = place })
     ∷ stretches_of outpoint (place + run.count) runs
 
 -- whether a number is among these
@@ -34,22 +34,19 @@ is_among firsts number = list_any (is_at (nat_cmp number)) firsts
 abbrev pub firsts_of : List Run → List ℕ
 firsts_of runs = map (λ run. run.first) runs
 
--- the same stretch, gone or there again
-abbrev pub turned : Bool → Stretch → Stretch
-turned gone stretch = record stretch { gone = gone }
-
--- a stretch that isn't gone
-abbrev pub standing : Option Stretch → Option Stretch
-standing None = None
-standing (Some stretch) = if stretch.gone then None else Some stretch
-
--- The stretches with those that came: of two that begin with one number, the one that came.
+-- The stretches: those that are yet to be put in, and the others.
 abbrev pub live_in : StretchList → StretchList → ℕ → Option Stretch
-live_in stood came first = option_or (stretch_at came first) (standing (stretch_at stood first))
+live_in runs late first = option_or (stretch_at late first) (stretch_at runs first)
 
--- the stretches as they were when none had gone
-abbrev pub kept_in : StretchList → ℕ → Option Stretch
-kept_in stood first = option_map (turned false) (stretch_at stood first)
+-- The stretches at the mark: those that went since, and of those that are there the ones that
+-- haven't come since.
+abbrev pub kept_in : (ℕ → Option Stretch) → StretchList → List ℕ → ℕ → Option Stretch
+kept_in live away came first =
+    option_or (stretch_at away first) (if is_among came first then None else live first)
+
+-- two stretches, where there are two, are the same
+abbrev pub Agree : Option Stretch → Option Stretch → Type 0
+Agree one other = option_or one other ≡ option_or other one
 
 -- No stretch reaches to where the next begins.
 pub record AreApart (stretches : ℕ → Option Stretch) : Type 0 where
@@ -66,13 +63,14 @@ pub record Holds (first : ℕ) (s : Stretch) (sat : ℕ) (found : Place) : Type 
   pub high : sat < first + s.count
   pub place : found ≡ Out s.outpoint (s.place + (sat - first))
 
--- Stretches with the numbers at which some are gone.
-pub record AreKept (stood came : StretchList) (gone : List ℕ) : Type 0 where
-  pub came_stand : (f : ℕ) → standing (stretch_at came f) ≡ stretch_at came f
-  pub no_both : (f : ℕ) (s : Stretch) → stretch_at came f ≡ Some s
-      → standing (stretch_at stood f) ≡ None
-  pub noted : (f : ℕ) (s : Stretch) → stretch_at stood f ≡ Some s → s.gone ≡ true
-      → is_among gone f ≡ true
-  pub stood_short : AreShort (stretch_at stood)
-  pub came_short : AreShort (stretch_at came)
-  pub none_else : (f : ℕ) → is_among gone f ≡ true → standing (stretch_at stood f) ≡ None
+-- Stretches, those that are yet to be put in, those that went since the mark, and the first numbers
+-- of those that came.
+pub record AreKept (runs late away : StretchList) (came : List ℕ) : Type 0 where
+  pub late_agrees : (f : ℕ) → Agree (stretch_at late f) (stretch_at runs f)
+  pub away_agrees : (f : ℕ) → is_among came f ≡ false
+      → Agree (stretch_at away f) (live_in runs late f)
+  pub late_came : (f g : ℕ) (s : Stretch) → stretch_at late f ≡ Some s → is_among came f ≡ false
+      → stretch_at away g ≡ None
+  pub runs_short : AreShort (stretch_at runs)
+  pub late_short : AreShort (stretch_at late)
+  pub away_short : AreShort (stretch_at away)

@@ -10,25 +10,31 @@ ghost use Rattle.ox_outputs.specs.Stretches.{AreKept, AreApart};
 ghost use Rattle.ox_outputs.specs.Finding.{Finds};
 
 use crate::stretches::{
-    Stretches, find, insert_runs, none_begin, remove_noted, remove_runs, settle, turn_back,
-    turn_runs,
+    Stretches, find, insert_runs, note_away, note_came, remove_noted, remove_runs, settle,
 };
 use ox_block::OutPoint;
 use ox_range::Ranges;
 use ox_rules::{Memory, Place};
 use std::alloc::Global;
-use std::collections::BTreeMap;
+use std::collections::{BTreeMap, BTreeSet};
+use std::mem;
 
 /// Where each satoshi of some outputs is: an entry for each run of satoshis that stand side by side
-/// in an output, by its first number. It has a mark to which it can go back without memory, so the
-/// runs that went since are kept, and those that came are kept apart until the next mark.
+/// in an output, by its first number. It has a mark to which it can go back without memory: what
+/// went since is kept, and what came is noted. To go back takes away what came, and what went is
+/// put in again by the next change, which may lack memory for it; until then it is looked up where
+/// it is kept.
 #[derive(Drop)]
 pub(crate) struct Locator {
-    stood: Stretches,
-    came: Stretches,
-    /// The first numbers of the runs that went.
-    gone: Vec<u64>,
-    ghost kept: { AreKept stood.entries came.entries gone.items },
+    runs: Stretches,
+    /// The runs that are yet to be put in: those that a cancelled change had taken away, or that
+    /// came in place of others.
+    late: Stretches,
+    /// The runs that stood at the mark and went since.
+    away: Stretches,
+    /// The first numbers of the runs that came since the mark.
+    came: BTreeSet<u64>,
+    ghost kept: { AreKept runs.entries late.entries away.entries came.keys },
 }
 
 impl Locator {
@@ -40,22 +46,31 @@ impl Locator {
         ensures kept { (q : ℕ) → kept_at result q ≡ None }
     {
         Locator {
-            stood: BTreeMap::new(alloc),
-            came: BTreeMap::new(alloc),
-            gone: Vec::new(alloc),
+            runs: BTreeMap::new(alloc),
+            late: BTreeMap::new(alloc),
+            away: BTreeMap::new(alloc),
+            came: BTreeSet::new(alloc),
         }
     }
 
     /// Where a satoshi is.
     pub(crate) fn find(&self, sat: u64) -> Option<Place>
         requires live { AreApart (live_at self.now) }
-        requires kept { AreApart (kept_at self.now) }
         ensures { Finds (live_at self.now) sat result }
     {
-        match find(&self.stood, sat) {
+        match find(&self.runs, sat) {
             Some(place) => Some(place),
-            None => find(&self.came, sat),
+            None => find(&self.late, sat),
         }
+    }
+
+    // Puts the runs in that are yet to be put in. Where there is no memory, some of them stay.
+    fn settle(&mut self) -> Result<(), Memory>
+        ensures live { (q : ℕ) → live_at self.new q ≡ live_at self.old q }
+        ensures kept { (q : ℕ) → kept_at self.new q ≡ kept_at self.old q }
+        ensures none { OnOk result ((q : ℕ) → stretch_at self.new.late.entries q ≡ None) }
+    {
+        settle(&mut self.runs, &mut self.late)
     }
 
     /// The runs of these satoshis go. `Memory` where there is none: all is as before.
@@ -65,10 +80,10 @@ impl Locator {
         ensures err { OnErr result ((q : ℕ) → live_at self.new q ≡ live_at self.old q) }
         ensures kept { (q : ℕ) → kept_at self.new q ≡ kept_at self.old q }
     {
+        self.settle()?;
         let runs = sats.runs();
-        self.gone.reserve(runs.len())?;
-        remove_runs(&mut self.came, runs);
-        turn_runs(&mut self.stood, &mut self.gone, runs);
+        note_away(&self.runs, &self.came, &mut self.away, runs)?;
+        remove_runs(&mut self.runs, runs);
         Ok(())
     }
 
@@ -82,7 +97,10 @@ impl Locator {
         ensures err { OnErr result ((q : ℕ) → live_at self.new q ≡ live_at self.old q) }
         ensures kept { (q : ℕ) → kept_at self.new q ≡ kept_at self.old q }
     {
-        insert_runs(&mut self.came, outpoint, sats.runs(), sats.len())
+        self.settle()?;
+        let runs = sats.runs();
+        note_came(&mut self.came, runs)?;
+        insert_runs(&mut self.runs, outpoint, runs, sats.len())
     }
 
     /// The runs of an output's satoshis come in place of those of other ones, which were there.
@@ -101,58 +119,13 @@ impl Locator {
         ensures err { OnErr result ((q : ℕ) → live_at self.new q ≡ live_at self.old q) }
         ensures kept { (q : ℕ) → kept_at self.new q ≡ kept_at self.old q }
     {
-        if none_begin(&self.came, others.runs()) {
-            self.displace_stood(others, outpoint, sats)
-        } else {
-            self.displace_came(others, outpoint, sats)
-        }
-    }
-
-    // The same where the others stood at the mark.
-    fn displace_stood(
-        &mut self,
-        others: &Ranges,
-        outpoint: &OutPoint,
-        sats: &Ranges,
-    ) -> Result<(), Memory>
-        requires stood { (q : ℕ) → is_among (firsts_of (runs_of others.now)) q ≡ true
-            → stretch_at self.old.came.entries q ≡ None }
-        requires fresh { (q : ℕ) → is_among (firsts_of (runs_of sats.now)) q ≡ true
-            → is_among (firsts_of (runs_of others.now)) q ≡ false → live_at self.old q ≡ None }
-        ensures ok { OnOk result ((q : ℕ) → live_at self.new q
-            ≡ option_or (stretch_at (stretches_of outpoint.now 0 (runs_of sats.now)) q)
-            (if is_among (firsts_of (runs_of others.now)) q then None else live_at self.old q)) }
-        ensures err { OnErr result ((q : ℕ) → live_at self.new q ≡ live_at self.old q) }
-        ensures kept { (q : ℕ) → kept_at self.new q ≡ kept_at self.old q }
-    {
-        self.gone.reserve(others.runs().len())?;
-        insert_runs(&mut self.came, outpoint, sats.runs(), sats.len())?;
-        turn_runs(&mut self.stood, &mut self.gone, others.runs());
-        Ok(())
-    }
-
-    // The same where they came since. What came is copied, so that all can fail before anything
-    // has changed: no block displaces an output of its own.
-    fn displace_came(
-        &mut self,
-        others: &Ranges,
-        outpoint: &OutPoint,
-        sats: &Ranges,
-    ) -> Result<(), Memory>
-        requires fresh { (q : ℕ) → is_among (firsts_of (runs_of sats.now)) q ≡ true
-            → is_among (firsts_of (runs_of others.now)) q ≡ false → live_at self.old q ≡ None }
-        ensures ok { OnOk result ((q : ℕ) → live_at self.new q
-            ≡ option_or (stretch_at (stretches_of outpoint.now 0 (runs_of sats.now)) q)
-            (if is_among (firsts_of (runs_of others.now)) q then None else live_at self.old q)) }
-        ensures err { OnErr result ((q : ℕ) → live_at self.new q ≡ live_at self.old q) }
-        ensures kept { (q : ℕ) → kept_at self.new q ≡ kept_at self.old q }
-    {
-        let mut came = self.came.clone()?;
-        remove_runs(&mut came, others.runs());
-        insert_runs(&mut came, outpoint, sats.runs(), sats.len())?;
-        self.gone.reserve(others.runs().len())?;
-        turn_runs(&mut self.stood, &mut self.gone, others.runs());
-        self.came = came;
+        self.settle()?;
+        let gone = others.runs();
+        let runs = sats.runs();
+        note_away(&self.runs, &self.came, &mut self.away, gone)?;
+        note_came(&mut self.came, runs)?;
+        insert_runs(&mut self.late, outpoint, runs, sats.len())?;
+        remove_runs(&mut self.runs, gone);
         Ok(())
     }
 
@@ -163,8 +136,9 @@ impl Locator {
         ensures among { (q : ℕ) (s : Stretch) → kept_at self.new q ≡ Some s
             → live_at self.old q ≡ Some s }
     {
-        remove_noted(&mut self.stood, &mut self.gone);
-        settle(&mut self.stood, &mut self.came)
+        self.away.clear();
+        self.came.clear();
+        self.settle()
     }
 
     /// Goes back to the runs at the mark. It takes no memory.
@@ -172,7 +146,9 @@ impl Locator {
         ensures live { (q : ℕ) → live_at self.new q ≡ kept_at self.old q }
         ensures kept { (q : ℕ) → kept_at self.new q ≡ kept_at self.old q }
     {
-        self.came.clear();
-        turn_back(&mut self.stood, &mut self.gone);
+        remove_noted(&mut self.runs, &mut self.late, &mut self.came);
+        if self.late.is_empty() {
+            mem::swap(&mut self.late, &mut self.away);
+        }
     }
 }

@@ -8,6 +8,4 @@ pub(crate) struct Stretch {
     pub(crate) count: u64,
     pub(crate) outpoint: OutPoint,
     pub(crate) place: u64,
-    /// The run went since the mark.
-    pub(crate) gone: bool,
 }

@@ -50,7 +50,7 @@ loop-index-preserved c =
     let short = drop_short (index - 1) runs in
     let place = c.loop-index.invariant.place in
     let low : run.count ≤ c.loop-index.place = omega (arith, long, short, place) in
-    let here : Stretch = record { count = run.count; outpoint = at; place = c.loop-index.place - run.count; gone = false } in
+    let here : Stretch = record { count = run.count; outpoint = at; place = c.loop-index.place - run.count } in
     let on : c.loop-index.place - run.count + run.count ≡ c.loop-index.place = omega (arith, low) in
     let updates = on_ok c.insert.result (sym c.is_err.ensures.value ∙ c.if-is_err.false) c.insert.ensures.updates in record {
       within = omega (arith, c.loop-index.invariant.within);

@@ -1,16 +1,17 @@
-use Rattle.std.proofs.Common.{◌≡◌, ℕ, None}
-use Rattle.std.specs.Prelude.{IsSome}
-use Rattle.std.specs.Option.{option_or}
+use Rattle.std.proofs.Common.{◌≡◌, ℕ, Some}
 use Rattle.std.specs.BTreeMap.{btree_map_len}
-use Rattle.ox_outputs.specs.Stretches.{stretch_at}
+use Rattle.ox_outputs.specs.declared.stretch.Stretch.{Stretch}
+use Rattle.ox_outputs.specs.Stretches.{stretch_at, live_in, Agree}
 use Rattle.ox_outputs.proofs.stretches.settle.Given as goal
 
 abbrev pub invariant-loop-first : goal.invariant-loop-first
 invariant-loop-first l = record {
-  all : (q : ℕ) → option_or (stretch_at l.came.entries q) (stretch_at l.stood.entries q)
-      ≡ option_or (stretch_at l.fn.came.entries q) (stretch_at l.fn.stood.entries q);
-  apart : (q : ℕ) → IsSome (stretch_at l.came.entries q) → stretch_at l.stood.entries q ≡ None;
+  agree : (q : ℕ) → Agree (stretch_at l.late.entries q) (stretch_at l.stretches.entries q);
+  all : (q : ℕ) → live_in l.stretches.entries l.late.entries q
+      ≡ live_in l.fn.stretches.entries l.fn.late.entries q;
+  which : (q : ℕ) (s : Stretch) → stretch_at l.late.entries q ≡ Some s
+      → stretch_at l.fn.late.entries q ≡ Some s;
 }
 
 abbrev pub decreases-loop-first : goal.decreases-loop-first
-decreases-loop-first l = btree_map_len l.came
+decreases-loop-first l = btree_map_len l.late

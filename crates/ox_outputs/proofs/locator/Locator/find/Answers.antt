@@ -1,8 +1,11 @@
-use Rattle.ox_outputs.proofs.StretchLemmas.{came_apart, finds_both}
+use Rattle.ox_outputs.proofs.StretchLemmas.{runs_apart, late_apart, finds_both, finds_first}
 use Rattle.ox_outputs.proofs.locator.Locator.find.Goals as goal
 
+pub find-requires-clause-apart : goal.find-requires-clause-apart
+find-requires-clause-apart c = runs_apart c.args.self.now.kept c.requires.live
+
 pub find-requires-in-None-clause-apart : goal.find-requires-in-None-clause-apart
-find-requires-in-None-clause-apart c = came_apart c.args.self.now.stood.entries c.args.self.now.came.entries c.requires.live
+find-requires-in-None-clause-apart c = late_apart c.args.self.now.kept c.requires.live
 
 pub returns-in-None : goal.returns-in-None
-returns-in-None c = finds_both c.args.self.now.stood.entries c.args.self.now.came.entries c.args.sat c.find-in-None.result c.args.self.now.kept.came_stand c.in-None.ensures c.find-in-None.ensures
+returns-in-None c = finds_both c.args.self.now.kept c.args.sat c.find-in-None.result c.in-None.ensures c.find-in-None.ensures

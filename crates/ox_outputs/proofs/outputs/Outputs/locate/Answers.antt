@@ -3,8 +3,10 @@ use Rattle.ox_outputs.specs.Slots.{rows_of}
 use Rattle.ox_outputs.proofs.RowLemmas.{apart_runs, found_exact}
 use Rattle.ox_outputs.proofs.outputs.Outputs.locate.Goals as goal
 
-pub find-requires-clause-live : goal.find-requires-clause-live
-find-requires-clause-live c = apart_runs (live_at c.args.self.now.locator) (rows_of c.args.self.now.slots) c.args.self.now.runs c.args.self.now.once
+pub find-requires : goal.find-requires
+find-requires c = record {
+  live = apart_runs (live_at c.args.self.now.locator) (rows_of c.args.self.now.slots) c.args.self.now.runs c.args.self.now.once;
+}
 
 pub returns : goal.returns
 returns c = found_exact (live_at c.args.self.now.locator) (rows_of c.args.self.now.slots) c.args.sat c.find.result c.args.self.now.runs c.args.self.now.once c.find.ensures
