@@ -18,5 +18,3 @@ mod row;
 mod scene;
 mod shelf;
 mod sightings;
-#[cfg(test)]
-mod tests;
