@@ -13,6 +13,3 @@ pub use ox_index::Changes;
 pub use ox_model::About;
 pub use ready::{Moving, Ready};
 pub use store::Store;
-
-#[cfg(test)]
-mod tests;

@@ -2,7 +2,6 @@
 //! what stands after some stops. The first block is Bitcoin's; the bytes and places of files are
 //! counted by hand.
 
-use crate::{About, Kept, MakeFault, Moving, OpenFault, Ready, Store, Why};
 use ox_block::{hash, read_block, root, write_block};
 use ox_bytes::{Bytes, put_compact, put_u32le};
 use ox_feed::{Command, command_of};
@@ -10,6 +9,7 @@ use ox_memsite::{Choice, MemSite};
 use ox_model::{Place, Refusal, View};
 use ox_outside::{Site, Which};
 use ox_sat::ProfileName;
+use ox_store::{About, Kept, MakeFault, Moving, OpenFault, Ready, Store, Why};
 use std::alloc::Global;
 use std::process::Abort;
 
