@@ -4,8 +4,10 @@
     python3 bench/inscriptions.py
 
 has crates/ox_inscribe_speed append 100,000 and 1,000,000 rows, look each up by its id, its satoshi, the next one and its
-children, and, over as many rows, set a mark, append 1,000 rows and go back. It prints the processor time of the runs
-that took least of three, and the memory that a row takes. Build both programs first, as bench/README.md says.
+children, and, over as many rows, set a mark, append 1,000 rows and go back; the plain program does the last with ordered
+maps too. Then it has a block reveal what one transaction of 2,000 and of 20,000 inputs has: nine envelopes with pointers
+for each two inputs, or five parents for each two. It prints the processor time of the runs that took least of three,
+and the memory that a row takes. Build both programs first, as bench/README.md says.
 """
 import os
 import pathlib
@@ -19,6 +21,7 @@ PROGRAMS = {
 RUNS = 3
 LOOKS = 1
 MARKS = 500
+REVEALS = 10
 
 
 def run(program, kind, count, times):
@@ -31,11 +34,11 @@ def run(program, kind, count, times):
     return usage.ru_utime + usage.ru_stime, usage.ru_maxrss * 1024, answer
 
 
-def least(kind, count, times):
+def least(kind, count, times, programs=PROGRAMS):
     """The seconds and the memory of each program."""
-    taken, answers = {name: [] for name in PROGRAMS}, set()
+    taken, answers = {name: [] for name in programs}, set()
     for _ in range(RUNS):
-        for name, program in PROGRAMS.items():
+        for name, program in programs.items():
             seconds, memory, answer = run(program, kind, count, times)
             taken[name].append((seconds, memory))
             answers.add(answer)
@@ -45,6 +48,20 @@ def least(kind, count, times):
 
 def tell(what, unit, proved, plain):
     print(f"{what}: {proved:.2f} {unit}, plain Rust {plain:.2f} {unit}, {proved / plain:.2f} times", flush=True)
+
+
+def ordered(count):
+    """The milliseconds of a mark, 1,000 rows more and back in plain Rust with ordered maps."""
+    plain = {"plain": PROGRAMS["plain"]}
+    filled, marked = (least("ordered", count, times, plain)["plain"][0] for times in (0, MARKS))
+    return (marked - filled) / MARKS * 1e3
+
+
+def reveals(kind, what, each):
+    for inputs in (2_000, 20_000):
+        made, revealed = least(kind, inputs, 0), least(kind, inputs, REVEALS)
+        tell(f"{inputs:,} inputs, {inputs // 2 * each:,} {what}", "milliseconds",
+             *((revealed[name][0] - made[name][0]) / REVEALS * 1e3 for name in PROGRAMS))
 
 
 def main():
@@ -58,7 +75,10 @@ def main():
              *((it[1][0] - it[0][0]) / LOOKS / count * 1e6 for it in (proved, plain)))
         tell(f"{count:,} rows, a mark, 1,000 more and back", "milliseconds",
              *((it[2][0] - it[0][0]) / MARKS * 1e3 for it in (proved, plain)))
+        print(f"the same in plain Rust with ordered maps: {ordered(count):.2f} milliseconds", flush=True)
         tell(f"{count:,} rows, the most memory a row", "bytes", *(it[0][1] / count for it in (proved, plain)))
+    reveals("pointers", "pointers", 9)
+    reveals("parents", "parents", 5)
 
 
 main()
