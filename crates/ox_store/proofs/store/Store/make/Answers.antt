@@ -1,4 +1,5 @@
-use Rattle.std.proofs.Common.{◌∙◌, [], sym, ap}
+use Rattle.std.proofs.Common.{◌∙◌, [], sym, ap, ⊎_elim}
+use Rattle.std.proofs.lemmas.Result.{err_from_is_err_and}
 use Rattle.std.specs.Prelude.{Ok}
 use Rattle.ox_outside.proofs.Calls.{leaves_then, leaves_weaker}
 use Rattle.ox_model.specs.Machine.{empty_machine, stack_of}
@@ -22,3 +23,16 @@ returns-clause-log_stays g c =
     leaves_then g.S.Site site c.are_empty.new.site c.make.new.site _
     (leaves_weaker g.S.Site site c.are_empty.new.site _ _ (λ r left. g.met.S.Site.logs_now site r left) looks.moments)
     (leaves_weaker g.S.Site c.are_empty.new.site c.make.new.site _ _ (λ r is. sym looks.nothing.as_logged ∙ is) c.make.ensures.log_stays)
+
+pub returns-in_err-tail-clause-log_stays : goal.returns-in_err-tail-clause-log_stays
+returns-in_err-tail-clause-log_stays g c =
+    let looks = c.are_empty.ensures.looks in
+    let site = c.args.site.now in
+    leaves_then g.S.Site site c.are_empty.new.site c.make.new.site _
+    (leaves_weaker g.S.Site site c.are_empty.new.site _ _ (λ r left. g.met.S.Site.logs_now site r left) looks.moments)
+    (leaves_weaker g.S.Site c.are_empty.new.site c.make.new.site _ _ (λ r is. sym looks.nothing.as_logged ∙ is) c.make.ensures.log_stays)
+
+pub returns-in_err-tail-clause-wrote_nothing : goal.returns-in_err-tail-clause-wrote_nothing
+returns-in_err-tail-clause-wrote_nothing g c =
+    let p = err_from_is_err_and c.from_residual-in_err-tail.result c.from_residual-in_err-tail.ensures.1 in
+    ⊎_elim (λ one. absurd (cc (p.1, p.2, one))) (λ other. absurd (cc (p.1, p.2, other)))
