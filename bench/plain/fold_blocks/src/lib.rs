@@ -1,7 +1,11 @@
 //! The work of an index in plain Rust, written for speed: blocks, read, hashed, linked, and their satoshis moved, over a
-//! hash map whose rows hold short scripts and single runs themselves. It stops at the first block that `ox` would refuse.
+//! hash map whose rows hold short scripts and single runs themselves. Where it is asked to, it keeps an ordered map of
+//! runs beside, by which a satoshi is found, and what the newest blocks changed, so that they can be taken back. It stops
+//! at the first block that `ox` would refuse.
 use sha2::{Digest, Sha256};
-use std::collections::HashMap;
+use std::collections::hash_map::Entry;
+use std::collections::{BTreeMap, HashMap, VecDeque};
+use std::mem;
 use std::ops::Range;
 
 pub type Hash = [u8; 32];
@@ -11,6 +15,7 @@ pub const SUBSIDY: u64 = 5_000_000_000;
 /// As many bytes as an output's script mostly has at most.
 const SHORT: usize = 36;
 
+#[derive(Clone)]
 pub enum Script {
     Short(u8, [u8; SHORT]),
     Long(Box<[u8]>),
@@ -35,6 +40,7 @@ impl Script {
 }
 
 /// Runs of satoshis, each its first number and how many.
+#[derive(Clone)]
 pub enum Runs {
     One(Run),
     Many(Box<[Run]>),
@@ -56,6 +62,7 @@ impl Runs {
     }
 }
 
+#[derive(Clone)]
 pub struct Row {
     pub script: Script,
     pub height: u32,
@@ -87,11 +94,54 @@ pub struct Block<'a> {
     outputs: Vec<Output<'a>>,
 }
 
+/// Runs of satoshis by their first number: how many each has, the output that holds it, and its place there.
+#[derive(Default)]
+pub struct Locator(BTreeMap<u64, (u64, OutPoint, u64)>);
+
+impl Locator {
+    pub fn add(&mut self, at: OutPoint, row: &Row) {
+        let mut place = 0;
+        for &(first, count) in row.sats.as_slice() {
+            self.0.insert(first, (count, at, place));
+            place += count;
+        }
+    }
+
+    fn remove(&mut self, row: &Row) {
+        for (first, _) in row.sats.as_slice() {
+            self.0.remove(first);
+        }
+    }
+
+    /// The output that holds a satoshi, and its place there.
+    pub fn find(&self, sat: u64) -> Option<(OutPoint, u64)> {
+        let (first, (count, at, place)) = self.0.range(..=sat).next_back()?;
+        (sat - first < *count).then_some((*at, place + (sat - first)))
+    }
+}
+
+/// What a block changed: the rows that are gone and those that came, and the satoshis that it lost.
+#[derive(Default)]
+struct Change {
+    gone: Vec<(OutPoint, Row)>,
+    came: Vec<(OutPoint, Row)>,
+    lost: Vec<Run>,
+}
+
 #[derive(Default)]
 pub struct Index {
     pub hashes: Vec<Hash>,
     pub outputs: HashMap<OutPoint, Row>,
     lost: Vec<Run>,
+    pub locator: Option<Locator>,
+    /// So many changes are kept at most.
+    depth: usize,
+    /// The newest first.
+    changes: VecDeque<Change>,
+    /// What the block now taken in has made, and what it took or displaced, and lost.
+    made: Vec<OutPoint>,
+    taken: Vec<(OutPoint, Row)>,
+    new_lost: Vec<Run>,
 }
 
 fn twice(bytes: &[u8]) -> Hash {
@@ -190,6 +240,37 @@ fn join(runs: &mut Vec<Run>, more: &[Run]) {
 }
 
 impl Index {
+    /// No blocks, with or without a locator, and of which so many can be taken back.
+    pub fn new(has_locator: bool, depth: usize) -> Index {
+        Index { locator: has_locator.then(Locator::default), depth, ..Index::default() }
+    }
+
+    fn take(&mut self, at: &OutPoint) -> Option<Row> {
+        let row = self.outputs.remove(at)?;
+        if let Some(locator) = &mut self.locator {
+            locator.remove(&row);
+        }
+        Some(row)
+    }
+
+    fn put(&mut self, at: OutPoint, row: Row) -> Option<Row> {
+        let Some(locator) = &mut self.locator else {
+            return self.outputs.insert(at, row);
+        };
+        match self.outputs.entry(at) {
+            Entry::Vacant(place) => {
+                locator.add(at, &row);
+                place.insert(row);
+                None
+            }
+            Entry::Occupied(mut place) => {
+                locator.remove(place.get());
+                locator.add(at, &row);
+                Some(place.insert(row))
+            }
+        }
+    }
+
     /// Deals satoshis to the outputs of a transaction, each as many as its value says, and leaves what is left over.
     fn deal(&mut self, sats: &mut Vec<Run>, part: &mut Vec<Run>, id: Hash, outputs: &[Output]) -> Option<()> {
         let height = self.hashes.len() as u32;
@@ -207,12 +288,26 @@ impl Index {
                 at += (*count == 0) as usize;
             }
             let row = Row { script: Script::new(output.script), height, sats: Runs::new(part) };
-            if let Some(displaced) = self.outputs.insert(OutPoint { txid: id, index: index as u32 }, row) {
-                join(&mut self.lost, displaced.sats.as_slice());
+            let point = OutPoint { txid: id, index: index as u32 };
+            let displaced = self.put(point, row);
+            if self.depth > 0 {
+                self.made.push(point);
+            }
+            if let Some(displaced) = displaced {
+                join(&mut self.new_lost, displaced.sats.as_slice());
+                self.note(point, displaced);
             }
         }
         sats.drain(..at);
         Some(())
+    }
+
+    /// Keeps a row that the block took or displaced, if blocks can be taken back.
+    fn note(&mut self, at: OutPoint, row: Row) {
+        // a row of this height wasn't there before the block
+        if self.depth > 0 && (row.height as usize) < self.hashes.len() {
+            self.taken.push((at, row));
+        }
     }
 
     /// Moves a block's satoshis.
@@ -221,7 +316,9 @@ impl Index {
         for tx in &block.txs[1..] {
             sats.clear();
             for input in &block.inputs[tx.inputs.clone()] {
-                join(&mut sats, self.outputs.remove(input)?.sats.as_slice());
+                let row = self.take(input)?;
+                join(&mut sats, row.sats.as_slice());
+                self.note(*input, row);
             }
             self.deal(&mut sats, &mut part, tx.id, &block.outputs[tx.outputs.clone()])?;
             join(&mut fees, &sats);
@@ -232,7 +329,46 @@ impl Index {
         join(&mut sats, &fees);
         let coinbase = &block.txs[0];
         self.deal(&mut sats, &mut part, coinbase.id, &block.outputs[coinbase.outputs.clone()])?;
-        join(&mut self.lost, &sats);
+        join(&mut self.new_lost, &sats);
+        self.keep();
+        Some(())
+    }
+
+    /// Notes the lost satoshis of a block, and keeps what it changed.
+    fn keep(&mut self) {
+        join(&mut self.lost, &self.new_lost);
+        if self.depth == 0 {
+            self.new_lost.clear();
+            return;
+        }
+        let height = self.hashes.len() as u32;
+        let (made, outputs) = (self.made.drain(..), &self.outputs);
+        let came = made.filter_map(|at| Some((at, outputs.get(&at).filter(|row| row.height == height)?.clone())));
+        let came = came.collect();
+        self.changes.truncate(self.depth - 1);
+        self.changes.push_front(Change { gone: mem::take(&mut self.taken), came, lost: mem::take(&mut self.new_lost) });
+    }
+
+    /// Takes back the newest block.
+    pub fn disconnect(&mut self) -> Option<()> {
+        let Change { gone, came, lost } = self.changes.pop_front()?;
+        for (at, _) in &came {
+            self.take(at);
+        }
+        for (at, row) in gone {
+            self.put(at, row);
+        }
+        let mut left: u64 = lost.iter().map(|(_, count)| count).sum();
+        while left > 0 {
+            let (_, count) = self.lost.last_mut()?;
+            let taken = left.min(*count);
+            *count -= taken;
+            left -= taken;
+            if *count == 0 {
+                self.lost.pop();
+            }
+        }
+        self.hashes.pop();
         Some(())
     }
 

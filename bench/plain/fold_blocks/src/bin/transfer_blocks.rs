@@ -1,33 +1,21 @@
 //! Moves the satoshis of blocks that stand on standard input, each with its length before it, and then looks for as many
 //! satoshis as the argument says, in an ordered map of runs that is made at the end, if there are any.
-use fold_blocks::{Block, Hash, Index, OutPoint, SUBSIDY};
-use std::collections::BTreeMap;
+use fold_blocks::{Block, Hash, Index, Locator, SUBSIDY};
 use std::io::Read;
 
-type Locator = BTreeMap<u64, (u64, OutPoint, u64)>;
-
 fn locator_of(index: &Index) -> Locator {
-    let mut locator = Locator::new();
+    let mut locator = Locator::default();
     for (at, row) in &index.outputs {
-        let mut place = 0;
-        for &(first, count) in row.sats.as_slice() {
-            locator.insert(first, (count, *at, place));
-            place += count;
-        }
+        locator.add(*at, row);
     }
     locator
-}
-
-fn locate(locator: &Locator, sat: u64) -> Option<(OutPoint, u64)> {
-    let (first, (count, at, place)) = locator.range(..=sat).next_back()?;
-    (sat - first < *count).then_some((*at, place + (sat - first)))
 }
 
 /// The sum of the places of so many satoshis, in a scattered order.
 fn look(locator: &Locator, height: u64, count: u64) -> u64 {
     let mined = height * SUBSIDY;
     let sat = |turn: u64| turn.wrapping_mul(0x9e37_79b9_7f4a_7c15) % mined;
-    let found = (0..count).filter_map(|turn| locate(locator, sat(turn)));
+    let found = (0..count).filter_map(|turn| locator.find(sat(turn)));
     found.fold(0, |sum, (at, offset)| sum.wrapping_add(offset + u64::from(at.index)))
 }
 
