@@ -7,8 +7,10 @@ makes a chain of as many blocks as the greatest number says (600, 2,000 and 6,00
 1,000,000 and 3,000,000 outputs) in a temporary folder: each block but the first two spends 500 outputs, chosen at
 random, into two each. It runs the programs in turn, each three times, over the first so many blocks of it and prints,
 of the run that took least, blocks and megabytes of blocks a second of processor time, and the memory that an output
-takes at the end; and how many blocks a second the last tenth of the greatest number was connected in. Nothing here is
-proved. Build both programs first, as bench/README.md says.
+takes at the end; and how many blocks a second the last tenth of the greatest number was connected in. The plain program
+runs with outputs alone, and once more as one that keeps what ours does: an ordered map of runs, by which satoshis are
+found, and what the newest 1,000 blocks changed. Nothing here is proved. Build both programs first, as bench/README.md
+says.
 """
 
 import concurrent.futures
@@ -26,6 +28,7 @@ PROGRAMS = {
     "ox": TOP / "crates" / "ox_main" / "out" / "ox_main",
     "plain": TOP / "bench" / "plain" / "fold_blocks" / "target" / "release" / "fold_blocks",
 }
+PLAIN_WORDS = {"plain": [], "same": ["locator", "1000"]}
 RUNS = 3
 SPENDS = 500
 SUBSIDY = 5_000_000_000
@@ -81,25 +84,30 @@ def write_chain(path, count):
     return ends
 
 
-def run(program, folder, feed):
+def commands(folder):
+    """The words that each program is run by."""
+    ours = {"ox": [PROGRAMS["ox"], folder, "fold", "regtest"]}
+    return ours | {name: [PROGRAMS["plain"], *words] for name, words in PLAIN_WORDS.items()}
+
+
+def run(command, folder, feed):
     """Processor seconds, the most memory in bytes, and what was shown."""
-    command = [program, folder, "fold", "regtest"] if program == PROGRAMS["ox"] else [program]
     shown = pathlib.Path(folder) / "shown"
     with open(feed, "rb") as given, open(shown, "wb") as taken:
         child = subprocess.Popen(command, stdin=given, stdout=taken, stderr=subprocess.DEVNULL)
         _, status, usage = os.wait4(child.pid, 0)
         child.returncode = os.waitstatus_to_exitcode(status)
     if child.returncode:
-        sys.exit(f"{program} ended with {child.returncode}")
+        sys.exit(f"{command[0]} ended with {child.returncode}")
     return usage.ru_utime + usage.ru_stime, usage.ru_maxrss * 1024, shown.read_bytes()
 
 
 def measure(feed, count, folder):
     """The least of the runs of each program over a feed of so many blocks."""
-    runs = {name: [] for name in PROGRAMS}
+    runs = {name: [] for name in commands(folder)}
     for _ in range(RUNS):
-        for name, program in PROGRAMS.items():
-            runs[name].append(run(program, folder, feed))
+        for name, command in commands(folder).items():
+            runs[name].append(run(command, folder, feed))
     answers = {shown for taken in runs.values() for _, _, shown in taken}
     if len(answers) != 1 or answers.pop().count(b"\n") != count:
         sys.exit("the answers differ")
@@ -121,7 +129,12 @@ def tell(count, end, least):
             f"{count:6} blocks, {outputs:9,} outputs, {name:5}: {count / seconds:8.0f} blocks a second,"
             f" {end / 2e6 / seconds:6.1f} MB a second, at most {memory / outputs:6.0f} bytes an output"
         )
-    print(f"       ox to plain: {least['plain'][0] / least['ox'][0]:.2f}", flush=True)
+    tell_ratios({name: seconds for name, (seconds, _) in least.items()})
+
+
+def tell_ratios(seconds):
+    ratios = (f"to {name} {seconds[name] / seconds['ox']:.2f}" for name in PLAIN_WORDS)
+    print(f"       ox {', '.join(ratios)}", flush=True)
 
 
 def main():
@@ -140,10 +153,10 @@ def main():
             times |= {(name, count): seconds for name, (seconds, _) in least.items()}
             if count in counts:
                 tell(count, ends[count - 1], least)
-        last = {name: times[name, most] - times[name, most - tenth] for name in PROGRAMS}
-        for name in PROGRAMS:
-            print(f"{name:5}: the last {tenth} blocks at {tenth / last[name]:.0f} blocks a second")
-        print(f"       ox to plain: {last['plain'] / last['ox']:.2f}")
+        last = {name: times[name, most] - times[name, most - tenth] for name in commands(folder)}
+        for name, seconds in last.items():
+            print(f"{name:5}: the last {tenth} blocks at {tenth / seconds:.0f} blocks a second")
+        tell_ratios(last)
 
 
 if __name__ == "__main__":
