@@ -76,22 +76,25 @@ pub struct OutPoint {
 }
 
 pub struct Output<'a> {
-    value: u64,
-    script: &'a [u8],
+    pub value: u64,
+    pub script: &'a [u8],
 }
 
 /// A transaction's id, and where its inputs and outputs stand among those of its block.
 pub struct Tx {
-    id: Hash,
-    inputs: Range<usize>,
-    outputs: Range<usize>,
+    pub id: Hash,
+    pub inputs: Range<usize>,
+    pub outputs: Range<usize>,
 }
 
 #[derive(Default)]
 pub struct Block<'a> {
-    txs: Vec<Tx>,
-    inputs: Vec<OutPoint>,
-    outputs: Vec<Output<'a>>,
+    pub txs: Vec<Tx>,
+    pub inputs: Vec<OutPoint>,
+    pub outputs: Vec<Output<'a>>,
+    /// The items of all witnesses, and where those of each input stand among them.
+    pub items: Vec<&'a [u8]>,
+    pub stacks: Vec<Range<usize>>,
 }
 
 /// Runs of satoshis by their first number: how many each has, the output that holds it, and its place there.
@@ -183,11 +186,15 @@ impl<'a> Reader<'a> {
         self.take(n)
     }
 
-    // A transaction without a marker.
     fn tx(&mut self, block: &mut Block<'a>) -> Option<()> {
         let start = self.at;
         let (inputs, outputs) = (block.inputs.len(), block.outputs.len());
         self.u32()?;
+        let is_marked = self.bytes.get(self.at) == Some(&0);
+        if is_marked {
+            self.take(2)?;
+        }
+        let body = self.at;
         for _ in 0..self.size()? {
             block.inputs.push(OutPoint { txid: self.take(32)?.try_into().ok()?, index: self.u32()? });
             self.string()?;
@@ -196,9 +203,25 @@ impl<'a> Reader<'a> {
         for _ in 0..self.size()? {
             block.outputs.push(Output { value: self.u64()?, script: self.string()? });
         }
+        let end = self.at;
+        for _ in inputs..block.inputs.len() {
+            let first = block.items.len();
+            for _ in 0..if is_marked { self.size()? } else { 0 } {
+                block.items.push(self.string()?);
+            }
+            block.stacks.push(first..block.items.len());
+        }
         self.u32()?;
+        let id = if is_marked {
+            let mut hasher = Sha256::new_with_prefix(&self.bytes[start..start + 4]);
+            hasher.update(&self.bytes[body..end]);
+            hasher.update(&self.bytes[self.at - 4..self.at]);
+            Sha256::digest(hasher.finalize()).into()
+        } else {
+            twice(&self.bytes[start..self.at])
+        };
         block.txs.push(Tx {
-            id: twice(&self.bytes[start..self.at]),
+            id,
             inputs: inputs..block.inputs.len(),
             outputs: outputs..block.outputs.len(),
         });
@@ -230,6 +253,7 @@ fn root(mut row: Vec<Hash>) -> Hash {
     row[0]
 }
 
+/// Puts runs behind others.
 fn join(runs: &mut Vec<Run>, more: &[Run]) {
     for &(first, count) in more {
         match runs.last_mut() {
@@ -312,14 +336,24 @@ impl Index {
 
     /// Moves a block's satoshis.
     pub fn transfer(&mut self, block: &Block) -> Option<()> {
+        self.transfer_seen(block, |_, _, _| ())
+    }
+
+    /// Moves a block's satoshis, and shows of each transaction but the first its place, how many each of its inputs
+    /// brings, and these, before they are dealt to its outputs.
+    pub fn transfer_seen(&mut self, block: &Block, mut see: impl FnMut(usize, &[u64], &[Run])) -> Option<()> {
         let (mut fees, mut sats, mut part) = (Vec::new(), Vec::new(), Vec::new());
-        for tx in &block.txs[1..] {
+        let mut brought = Vec::new();
+        for (place, tx) in block.txs.iter().enumerate().skip(1) {
             sats.clear();
+            brought.clear();
             for input in &block.inputs[tx.inputs.clone()] {
                 let row = self.take(input)?;
                 join(&mut sats, row.sats.as_slice());
+                brought.push(row.sats.as_slice().iter().map(|(_, count)| count).sum());
                 self.note(*input, row);
             }
+            see(place, &brought, &sats);
             self.deal(&mut sats, &mut part, tx.id, &block.outputs[tx.outputs.clone()])?;
             join(&mut fees, &sats);
         }
@@ -374,14 +408,23 @@ impl Index {
 
     /// Takes in the next block, and answers its hash.
     pub fn connect(&mut self, bytes: &[u8]) -> Option<Hash> {
+        self.connect_seen(bytes, |_, _, _, _| ())?;
+        self.hashes.last().copied()
+    }
+
+    /// The same, and shows of each transaction but the first what `transfer_seen` does. Answers the block.
+    pub fn connect_seen<'b>(
+        &mut self,
+        bytes: &'b [u8],
+        mut see: impl FnMut(&Block, usize, &[u64], &[Run]),
+    ) -> Option<Block<'b>> {
         let block = Block::read(bytes)?;
         let tip = self.hashes.last().copied().unwrap_or_default();
         if bytes[4..36] != tip || bytes[36..68] != root(block.txs.iter().map(|tx| tx.id).collect()) {
             return None;
         }
-        self.transfer(&block)?;
-        let hash = twice(&bytes[..80]);
-        self.hashes.push(hash);
-        Some(hash)
+        self.transfer_seen(&block, |place, brought, sats| see(&block, place, brought, sats))?;
+        self.hashes.push(twice(&bytes[..80]));
+        Some(block)
     }
 }

@@ -1,0 +1,196 @@
+#!/usr/bin/env python3
+"""Times `fold regtest` over blocks that reveal inscriptions and move runes, beside a plain Rust program of these rules.
+
+    python3 bench/index_blocks.py [BLOCKS]
+
+makes a chain of as many blocks as the number says (4,000 without a word), each of which but the first two has 100
+transactions that reveal an inscription of 60 bytes and 100 that spend an output with a balance into two, by a runestone
+with an edict. The programs run in turn, three times, over the first tenth of it, over all but the last tenth, and over
+all; it prints, of the runs that took least, blocks a second of processor time, those of the last tenth beside those of
+the first, and the memory that an inscription and a balance take: a chain of half as many blocks is folded with and
+without envelopes, and with and without runestones. Nothing here is proved. Build both programs first, as bench/README.md
+says.
+"""
+
+import concurrent.futures
+import pathlib
+import random
+import struct
+import sys
+import tempfile
+
+from fold_blocks import PROGRAMS, TOP, root, run, size, twice, write_part
+
+PLAIN = TOP / "bench" / "plain" / "index" / "target" / "release" / "index"
+RUNS = 3
+EACH = 100
+SUBSIDY = 5_000_000_000
+TYPE = b"text/plain;charset=utf-8"
+
+
+def varint(n):
+    out = b""
+    while n > 127:
+        out += bytes([n & 127 | 128])
+        n >>= 7
+    return out + bytes([n])
+
+
+def runestone(*integers):
+    payload = b"".join(varint(n) for n in integers)
+    return b"\x6a\x5d" + bytes([len(payload)]) + payload
+
+
+def key(chance):
+    return b"\0\x14" + chance.randbytes(20)
+
+
+def bodies(inputs, outputs):
+    """Inputs and outputs as they are spelled."""
+    spelled = size(len(inputs)) + b"".join(txid + struct.pack("<I", at) + b"\0" + b"\xff" * 4 for txid, at in inputs)
+    return spelled + size(len(outputs)) + b"".join(struct.pack("<Q", value) + size(len(s)) + s for value, s in outputs)
+
+
+def bare(inputs, outputs):
+    """A transaction without a witness, and its id."""
+    tx = b"\2\0\0\0" + bodies(inputs, outputs) + bytes(4)
+    return tx, twice(tx)
+
+
+def coinbase(chance, height, values):
+    outputs = b"".join(struct.pack("<Q", value) + b"\x16" + key(chance) for value in values)
+    tx = b"\1\0\0\0\1" + bytes(32) + b"\xff" * 4 + b"\4" + struct.pack("<I", height) + b"\xff" * 4
+    tx += size(len(values)) + outputs + bytes(4)
+    return tx, twice(tx)
+
+
+def revealing(chance, origin, value, has_envelope):
+    """A transaction whose witness has a script, with an envelope or with as many bytes in a push, and a control block."""
+    inner = b"\1\1" + bytes([len(TYPE)]) + TYPE + b"\0" + bytes([60]) + chance.randbytes(60)
+    script = b"\0\x63\3ord" + inner + b"\x68" if has_envelope else b"\x4c" + bytes([len(inner) + 6]) + bytes(len(inner) + 6)
+    body = bodies([origin], [(value, key(chance))])
+    witness = b"\2" + size(len(script)) + script + b"\x21\xc0" + bytes(32)
+    return b"\2\0\0\0\0\1" + body + witness + bytes(4), twice(b"\2\0\0\0" + body + bytes(4))
+
+
+class Chain:
+    """Makes blocks."""
+
+    def __init__(self, reveals, runes):
+        self.reveals, self.runes = reveals, runes
+        self.chance = random.Random(13)
+        # outputs to reveal at, and those with a balance: an outpoint, its value and how much of the rune it has
+        self.fresh, self.held = [], []
+
+    def etch(self):
+        """All outputs that are to have a balance, spent into as many, with a part of a new rune each."""
+        each = 10**30 // EACH
+        outputs = [(value, key(self.chance)) for _, value, _ in self.held]
+        stone = runestone(2, 1, 6, 10**30, 0, 0, 0, 0, EACH + 1) if self.runes else b"\x6a"
+        tx, txid = bare([origin for origin, _, _ in self.held], [*outputs, (0, stone)])
+        self.held = [((txid, at), value, each) for at, (value, _) in enumerate(outputs)]
+        return tx, txid
+
+    def split(self, new):
+        """One output with a balance, spent into two."""
+        held, chance = self.held, self.chance
+        at = chance.randrange(len(held))
+        origin, value, amount = held[at]
+        held[at] = held[-1]
+        held.pop()
+        # the rune of block 1, transaction 1
+        stone = runestone(0, 1, 1, amount // 2, 1) if self.runes else b"\x6a"
+        tx, txid = bare([origin], [(value - value // 2, key(chance)), (value // 2, key(chance)), (0, stone)])
+        new += [((txid, 0), value - value // 2, amount - amount // 2), ((txid, 1), value // 2, amount // 2)]
+        return tx, txid
+
+    def block(self, height):
+        """The transactions of the block at this height, with their ids."""
+        count = 2 * EACH if height == 0 else EACH
+        values = [SUBSIDY // count] * count
+        txs, new = [coinbase(self.chance, height, values)], []
+        if height == 1:
+            txs.append(self.etch())
+        elif height > 1:
+            txs += [self.split(new) for _ in range(EACH)]
+        txs += [revealing(self.chance, origin, value, self.reveals) for origin, value in self.fresh]
+        points = [((txs[0][1], at), value) for at, value in enumerate(values)]
+        self.fresh = points[:EACH]
+        self.held += new + [(origin, value, 0) for origin, value in points[EACH:]]
+        return txs
+
+
+def write_chain(path, count, reveals=True, runes=True):
+    """The chain's feed. Answers the end of each line in it."""
+    chain, previous, ends = Chain(reveals, runes), bytes(32), []
+    with open(path, "wb") as feed:
+        for height in range(count):
+            txs = chain.block(height)
+            header = b"\1\0\0\0" + previous + root([txid for _, txid in txs]) + struct.pack("<III", height, 0, 0)
+            previous = twice(header)
+            block = header + size(len(txs)) + b"".join(tx for tx, _ in txs)
+            feed.write(b"connect " + block.hex().encode() + b"\n")
+            ends.append(feed.tell())
+    return ends
+
+
+def commands(folder):
+    return {"ox": [PROGRAMS["ox"], folder, "fold", "regtest"], "plain": [PLAIN]}
+
+
+def measure(feed, count, folder, runs=RUNS):
+    """The least of the runs of each program over a feed of so many blocks: processor seconds, and the most memory."""
+    taken = {name: [] for name in commands(folder)}
+    for _ in range(runs):
+        for name, command in commands(folder).items():
+            taken[name].append(run(command, folder, feed))
+    answers = {shown for rows in taken.values() for _, _, shown in rows}
+    if len(answers) != 1 or answers.pop().count(b"\n") != count:
+        sys.exit("the answers differ")
+    return {name: min(rows)[:2] for name, rows in taken.items()}
+
+
+def in_another_process(call, *given):
+    """Answers what a call answers in a process of its own, since a child's greatest memory is never below that of its
+    parent."""
+    with concurrent.futures.ProcessPoolExecutor(1) as other:
+        return other.submit(call, *given).result()
+
+
+def tell_memory(folder, count):
+    """What an inscription takes, and a balance."""
+    most = {}
+    for kind in ((True, True), (False, True), (True, False)):
+        feed = folder / "feed"
+        in_another_process(write_chain, feed, count, *kind)
+        most[kind] = {name: memory for name, (_, memory) in measure(feed, count, folder, 1).items()}
+    for name in commands(folder):
+        whole = most[True, True][name]
+        inscription = (whole - most[False, True][name]) / (EACH * (count - 1))
+        balance = (whole - most[True, False][name]) / (EACH * (count - 1))
+        print(f"{name:5}: {inscription:.0f} bytes an inscription, {balance:.0f} a balance", flush=True)
+
+
+def main():
+    most = int(sys.argv[1]) if len(sys.argv) > 1 else 4000
+    tenth = most // 10
+    with tempfile.TemporaryDirectory() as folder:
+        folder = pathlib.Path(folder)
+        whole, part = folder / "whole", folder / "part"
+        ends = in_another_process(write_chain, whole, most)
+        seconds = {}
+        for count in (tenth, most - tenth, most):
+            write_part(whole, part, ends[count - 1])
+            seconds[count] = {name: it for name, (it, _) in measure(part, count, folder).items()}
+        for count in (tenth, most):
+            for name, it in seconds[count].items():
+                print(f"{count:6} blocks, {name:5}: {count / it:8.0f} blocks a second")
+            print(f"       ox to plain: {seconds[count]['plain'] / seconds[count]['ox']:.2f}", flush=True)
+        for name in commands(folder):
+            last = seconds[most][name] - seconds[most - tenth][name]
+            print(f"{name:5}: the last {tenth} blocks take {last / seconds[tenth][name]:.2f} of the time of the first {tenth}")
+        tell_memory(folder, most // 2)
+
+
+if __name__ == "__main__":
+    main()
