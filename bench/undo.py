@@ -53,9 +53,12 @@ class Child:
                 self.child.stdin.write(line)
             self.child.stdin.flush()
 
-        writer = threading.Thread(target=write)
+        writer = threading.Thread(target=write, daemon=True)
         writer.start()
-        self.shown += [self.child.stdout.readline() for _ in range(count)]
+        for _ in range(count):
+            self.shown.append(self.child.stdout.readline())
+            if not self.shown[-1]:
+                sys.exit(f"{self.child.args[0]} ended early")
         writer.join()
         return self.seconds() - before
 
