@@ -3,6 +3,7 @@
 
 mod block;
 mod output;
+mod pages;
 mod parts;
 mod replies;
 mod sat;
