@@ -11,6 +11,7 @@ use serde_json::Value;
 use std::alloc::Global;
 
 /// Which rows a page has.
+#[derive(Clone, Copy, Debug, PartialEq, Eq)]
 pub(crate) struct PageRows {
     /// The first of them.
     pub first: u32,

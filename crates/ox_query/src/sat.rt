@@ -2,7 +2,8 @@
 
 ghost use Rattle.std.specs.Prelude.{◌≡◌, ◌<◌, IfOk};
 ghost use Rattle.serde_json.specs.View.{view};
-ghost use Rattle.ox_ask.specs.Trees.{place_tree, sat_tree};
+ghost use Rattle.ox_ask.specs.Trees.{sat_tree};
+ghost use Rattle.ox_ask.specs.Values.{place_tree};
 
 use crate::texts::{decimal_text, degree_text, name_text, rarity_word};
 use crate::values::text_value;

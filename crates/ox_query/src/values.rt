@@ -3,7 +3,7 @@
 ghost use Rattle.std.specs.Prelude.{◌≡◌, IfOk, option_copied};
 ghost use Rattle.serde_json.specs.View.{view};
 ghost use Rattle.serde_json.specs.Data.{string};
-ghost use Rattle.ox_ask.specs.Trees.{hash_or_null as hash_said};
+ghost use Rattle.ox_ask.specs.Values.{hash_or_null as hash_said};
 ghost use Rattle.ox_rules.specs.Text.{hash_text as printed};
 
 use ox_bytes::Memory;
