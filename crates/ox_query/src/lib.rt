@@ -1,11 +1,17 @@
 //! Replies to queries over any view of an index.
 #![tactic(auto)]
 
+mod audit;
+mod balances;
 mod block;
 mod output;
 mod pages;
 mod parts;
 mod replies;
+mod rune;
+mod rune_named;
+mod rune_page;
+mod rune_values;
 mod sat;
 mod status;
 mod texts;

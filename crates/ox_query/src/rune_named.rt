@@ -1,0 +1,70 @@
+//! Which rune a part of a path names.
+
+ghost use Rattle.std.specs.Prelude.{◌≡◌, ◌<◌, ◌++◌, [], length, IfOk, IfSome, MatchOption};
+ghost use Rattle.ox_ask.specs.Named.{rune_id_in, rune_named as rune_said, unescaped as text_said};
+
+use ox_bytes::Memory;
+use ox_model::{RuneId, View};
+use ox_name::read_name;
+use ox_sat::read_number;
+use std::alloc::Global;
+
+// The id that a part spells, if any.
+fn rune_id(part: &[u8]) -> Option<RuneId>
+    ensures { result ≡ rune_id_in part.now }
+{
+    let Ok(text) = str::from_utf8(part) else {
+        return None;
+    };
+    let (block, tx) = text.split_once(':')?;
+    let block = read_number(block)?;
+    let tx = u32::try_from(read_number(tx)?).ok()?;
+    Some(RuneId { block, tx })
+}
+
+// What the front of a text says, and the text behind it: U+2022 where the front is `%E2%80%A2`, and
+// else a byte.
+fn front_of(text: &[u8]) -> Option<(&[u8], &[u8])>
+    ensures { MatchOption result (text.now ≡ []) (λ x.
+        (text_said text.now ≡ x.0.now ++ text_said x.1.now)
+        × (length x.1.now < length text.now)) }
+{
+    match text.strip_prefix(b"%E2%80%A2") {
+        Some(rest) => Some((b"\xe2\x80\xa2", rest)),
+        None => text.split_at_checked(1),
+    }
+}
+
+// A text with U+2022 for each `%E2%80%A2`. `Memory` where there is none for it.
+fn unescaped(alloc: Global, text: &[u8]) -> Result<Vec<u8>, Memory>
+    ensures { IfOk result (λ read. read.items ≡ text_said text.now) }
+{
+    let mut read = Vec::new(alloc);
+    let mut rest = text;
+    while let Some((front, behind)) = front_of(rest) {
+        read.extend_from_slice(front)?;
+        rest = behind;
+    }
+    Ok(read)
+}
+
+/// The number of the rune with the id or the name that a part spells, if there is one. `Memory`
+/// where there is none to read it.
+pub(crate) fn rune_named<V: View>(
+    alloc: Global,
+    live: &V,
+    part: &[u8],
+) -> Result<Option<u32>, Memory>
+    ensures { IfOk result (λ found. found ≡ rune_said (V.index live.now).runes part.now) }
+{
+    if let Some(id) = rune_id(part)
+        && let Some(n) = live.by_id(id)
+    {
+        return Ok(Some(n));
+    }
+    let text = unescaped(alloc, part)?;
+    match read_name(&text) {
+        Ok(named) => Ok(live.by_name(named.name)),
+        Err(_) => Ok(None),
+    }
+}
