@@ -1,5 +1,7 @@
 pub mod Spelled
-pub mod Runs
-pub mod Floats
+pub mod Told
+pub mod Ids
 pub mod Outpoints
 pub mod Pages
+pub mod Runs
+pub mod Routes

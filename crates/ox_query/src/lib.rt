@@ -4,6 +4,9 @@
 mod audit;
 mod balances;
 mod block;
+mod content;
+mod ids;
+mod inscription;
 mod output;
 mod pages;
 mod parts;

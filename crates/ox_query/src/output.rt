@@ -7,6 +7,8 @@ ghost use Rattle.serde_json.specs.View.{view};
 ghost use Rattle.ox_ask.specs.Trees.{output_tree, run_items, run_tree};
 ghost use Rattle.ox_range.specs.Runs.{AreMaximal};
 
+use crate::balances::balances_value;
+use crate::ids::ids_on_runs;
 use ox_ask::Fields;
 use ox_block::OutPoint;
 use ox_bytes::Memory;
@@ -38,16 +40,24 @@ fn runs_value(alloc: Global, runs: &[Run]) -> Result<Value, Memory>
 }
 
 // An unspent output.
-fn output_value(alloc: Global, row: &OutRow) -> Result<Value, Memory>
-    ensures { IfOk result (λ value. view value ≡ output_tree row.now) }
+fn output_value<V: View>(
+    alloc: Global,
+    live: &V,
+    at: &OutPoint,
+    row: &OutRow,
+) -> Result<Value, Memory>
+    ensures { IfOk result
+        (λ value. view value ≡ output_tree (V.index live.now) at.now row.now) }
 {
+    let inscriptions = ids_on_runs(alloc, live, row.sats.runs())?;
     let ranges = runs_value(alloc, row.sats.runs())?;
+    let runes = balances_value(alloc, live, at)?;
     let script = hex::encode(alloc, row.script.as_slice())?;
     let mut fields = Fields::new(alloc);
     fields.add("height", Value::from(row.height))?;
-    fields.add("inscriptions", Value::Array(Vec::new(alloc)))?;
+    fields.add("inscriptions", inscriptions)?;
     fields.add("ranges", ranges)?;
-    fields.add("runes", Value::Array(Vec::new(alloc)))?;
+    fields.add("runes", runes)?;
     fields.add("script", Value::String(script))?;
     fields.add("value", Value::from(row.sats.len()))?;
     Ok(fields.into_value())
@@ -60,10 +70,11 @@ pub(crate) fn output_at<V: View>(
     at: &OutPoint,
 ) -> Result<Option<Value>, Memory>
     ensures { IfOk result (λ found. option_map view found
-        ≡ option_map output_tree (map.get (V.index live.now).outs at.now)) }
+        ≡ option_map (output_tree (V.index live.now) at.now)
+        (map.get (V.index live.now).outs at.now)) }
 {
     match live.output(at) {
-        Some(row) => Ok(Some(output_value(alloc, row)?)),
+        Some(row) => Ok(Some(output_value(alloc, live, at, row)?)),
         None => Ok(None),
     }
 }

@@ -1,16 +1,22 @@
 //! The reply to each request.
 
-ghost use Rattle.std.specs.Prelude.{◌≡◌, false, IfOk, option_map};
+ghost use Rattle.std.specs.Prelude.{◌≡◌, ◌≢◌, false, IfOk, option_map, unwrap_or};
 ghost use Rattle.serde_json.specs.View.{view};
 ghost use Rattle.serde_json.specs.Written.{has_float};
 ghost use Rattle.ox_ask.specs.Ask.{error_reply as error_said, reply_of, route_reply as route_said};
-ghost use Rattle.ox_ask.specs.Ask.{same_method as is_same, tree_at, tree_reply as tree_said};
+ghost use Rattle.ox_ask.specs.Ask.{named_reply as named_said, same_method as is_same, tree_at};
+ghost use Rattle.ox_ask.specs.Ask.{tree_reply as tree_said};
 ghost use Rattle.ox_ask.specs.Trees.{error_tree};
 ghost use Rattle.ox_query.specs.Asked.{asked_of};
 
+use crate::audit::audit_value;
 use crate::block::block_at;
+use crate::content::content_at;
+use crate::inscription::{inscription_page_value, inscription_value};
 use crate::output::output_at;
 use crate::parts::{number, outpoint, satoshi};
+use crate::rune::rune_value;
+use crate::rune_page::rune_page_value;
 use crate::sat::sat_value;
 use crate::status::status_value;
 use ox_ask::Fields;
@@ -53,7 +59,7 @@ fn error_reply(alloc: Global, status: u16, close: bool) -> Result<Reply, Memory>
     tree_reply(alloc, status, &tree, close)
 }
 
-// What a route says of its part, if the part names something.
+// The tree that a route has for its part, if the part names something; a content isn't a tree.
 fn value_at<V: View>(
     alloc: Global,
     live: &V,
@@ -66,19 +72,64 @@ fn value_at<V: View>(
 {
     match found.route {
         Route::Status => Ok(Some(status_value(alloc, live, about)?)),
+        Route::Audit => Ok(Some(audit_value(alloc, live)?)),
         Route::BlockHash => match number(found.part) {
             Some(height) => block_at(alloc, live, height),
             None => Ok(None),
         },
+        Route::Inscription => inscription_value(alloc, live, found.part),
+        Route::Inscriptions => inscription_page_value(alloc, live, found.part),
         Route::Output => match outpoint(found.part) {
             Some(at) => output_at(alloc, live, &at),
             None => Ok(None),
         },
+        Route::Rune => rune_value(alloc, live, found.part),
+        Route::Runes => rune_page_value(alloc, live, found.part),
         Route::Sat => match satoshi(live.profile(), found.part) {
             Some(sat) => Ok(Some(sat_value(alloc, live, sat)?)),
             None => Ok(None),
         },
         _ => Ok(None),
+    }
+}
+
+// The reply of 200 with the tree that a route has for its part, or 404 where it names nothing.
+fn found_tree<V: View>(
+    alloc: Global,
+    live: &V,
+    about: &About,
+    found: &Found,
+    close: bool,
+) -> Result<Reply, Memory>
+    ensures { IfOk result (λ reply. reply ≡ unwrap_or (option_map (λ tree. tree_said 200 tree close)
+        (tree_at (asked_of (V.chain live.now) (V.index live.now) about.now)
+        found.now.route found.now.part.now)) (error_said 404 close)) }
+{
+    match value_at(alloc, live, about, found)? {
+        Some(tree) => tree_reply(alloc, 200, &tree, close),
+        None => error_reply(alloc, 404, close),
+    }
+}
+
+// The reply of 200 to what a part names, a content as it is and all else as a tree, or 404 where it
+// names nothing.
+fn found_reply<V: View>(
+    alloc: Global,
+    live: &V,
+    about: &About,
+    found: &Found,
+    close: bool,
+) -> Result<Reply, Memory>
+    ensures { IfOk result (λ reply. reply ≡ unwrap_or
+        (named_said (asked_of (V.chain live.now) (V.index live.now) about.now)
+        found.now.route found.now.part.now close) (error_said 404 close)) }
+{
+    let Route::Content = found.route else {
+        return found_tree(alloc, live, about, found, close);
+    };
+    match content_at(alloc, live, found.part, close)? {
+        Some(reply) => Ok(reply),
+        None => error_reply(alloc, 404, close),
     }
 }
 
@@ -107,16 +158,13 @@ fn route_reply<V: View>(
     if same_method(request.method, Method::Post) {
         return error_reply(alloc, 403, request.close);
     }
-    match value_at(alloc, live, about, found)? {
-        Some(tree) => tree_reply(alloc, 200, &tree, request.close),
-        None => error_reply(alloc, 404, request.close),
-    }
+    found_reply(alloc, live, about, found, request.close)
 }
 
 /// The reply to a request of a link that isn't the operator's, by the index as it stands: 404 where
 /// the path takes no route, 405 where the method isn't the route's, 403 for a command, 404 where
 /// the part of the path names nothing, and else 200. `Memory` where there is none for it, the
-/// routes' included. Status codes are those of RFC 9110, bodies JSON (RFC 8259).
+/// routes' included. Status codes are those of RFC 9110, bodies but a content JSON (RFC 8259).
 pub fn answer<V: View>(
     alloc: Global,
     live: &V,

@@ -5,6 +5,7 @@ ghost use Rattle.serde_json.specs.View.{view};
 ghost use Rattle.ox_ask.specs.Trees.{sat_tree};
 ghost use Rattle.ox_ask.specs.Values.{place_tree};
 
+use crate::ids::ids_on;
 use crate::texts::{decimal_text, degree_text, name_text, rarity_word};
 use crate::values::text_value;
 use ox_ask::Fields;
@@ -14,8 +15,8 @@ use ox_sat::{degree_of, rarity_of};
 use serde_json::Value;
 use std::alloc::Global;
 
-// Where a satoshi is, or null where it is nowhere.
-fn place_value(alloc: Global, place: Option<Place>) -> Result<Value, Memory>
+/// Where a satoshi is, or null where it is nowhere. `Memory` where there is none for it.
+pub(crate) fn place_value(alloc: Global, place: Option<Place>) -> Result<Value, Memory>
     ensures { IfOk result (λ value. view value ≡ place_tree place) }
 {
     let Some(place) = place else {
@@ -32,7 +33,8 @@ fn place_value(alloc: Global, place: Option<Place>) -> Result<Value, Memory>
     Ok(fields.into_value())
 }
 
-/// A satoshi: its names, its rarity and where it is. `Memory` where there is none for it.
+/// A satoshi: its names, its rarity, where it is and what is on it. `Memory` where there is none
+/// for it.
 pub(crate) fn sat_value<V: View>(alloc: Global, live: &V, sat: u64) -> Result<Value, Memory>
     requires { sat < (V.chain live.now).supply }
     ensures { IfOk result (λ value. view value
@@ -40,11 +42,12 @@ pub(crate) fn sat_value<V: View>(alloc: Global, live: &V, sat: u64) -> Result<Va
 {
     let p = live.profile();
     let degree = degree_of(p, sat);
+    let inscriptions = ids_on(alloc, live, sat)?;
     let place = place_value(alloc, live.locate(sat))?;
     let mut fields = Fields::new(alloc);
     fields.add("decimal", Value::String(decimal_text(alloc, p, sat)?))?;
     fields.add("degree", Value::String(degree_text(alloc, &degree)?))?;
-    fields.add("inscriptions", Value::Array(Vec::new(alloc)))?;
+    fields.add("inscriptions", inscriptions)?;
     fields.add("name", Value::String(name_text(alloc, p, sat)?))?;
     fields.add("number", Value::from(sat))?;
     fields.add("place", place)?;

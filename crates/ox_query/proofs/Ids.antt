@@ -1,0 +1,140 @@
+-- Lists of ids, inscription by inscription and satoshi by satoshi.
+use Rattle.std.proofs.Common.{◌≡◌, true≢false, ℕ, zero, suc, ◌+◌, ◌-◌, ◌<◌, ◌≤◌, ◌^◌, Bool, true, false, cond, ltb, lt-ltb, ltb-true, IsUtf8, List, [], ◌∷◌, ◌++◌, length, get_or, take, reverse, map, append_assoc, Option, Some, None, decimal, refl, sym, ap, ap₂, ◌∙◌, subst, arith}
+use Rattle.std.specs.Prelude.{All, slice_get}
+use Rattle.std.specs.List.{cons_option, filter_map, flat_map}
+use Rattle.std.proofs.lemmas.Bool.{cases_lt}
+use Rattle.std.proofs.lemmas.Fmt.{IsAscii-decimal}
+use Rattle.std.proofs.lemmas.Grind.{flat_map-append}
+use Rattle.std.proofs.lemmas.List.{map-append, take_all, take_more}
+use Rattle.std.proofs.lemmas.List.Elements.{All-cons, All-nil, All-weaker, filter_map-append}
+use Rattle.std.proofs.lemmas.Option.{cond_some}
+use Rattle.std.proofs.lemmas.Str.{IsUtf8-from_ascii, IsAscii-append}
+use Rattle.std.proofs.lemmas.Str.Ascii.{IsAscii-cons}
+use Rattle.serde_json.specs.Data.{Data}
+use Rattle.serde_json.specs.View.{view}
+use Rattle.serde_json.specs.declared.value.Value.{Value}
+use Rattle.hex.specs.Hex.{encode_lower, lower_digits}
+use Rattle.hex.proofs.HexLemmas.{IsAscii-encode_with}
+use Rattle.ox_range.specs.declared.runs.Run.{Run}
+use Rattle.ox_range.specs.Numbers.{numbers_from}
+use Rattle.ox_range.specs.Runs.{end_of, numbers_of}
+use Rattle.ox_range.proofs.RunLemmas.{numbers-append, numbers_of_one}
+use Rattle.ox_envelope.specs.Id.{id_text}
+use Rattle.ox_envelope.specs.declared.id.InsId.{InsId}
+use Rattle.ox_inscribe.specs.Inscriptions.{find, next_on, numbers_where, is_same_id, is_on, on}
+use Rattle.ox_inscribe.specs.Numbers.{IsFirstOn, IsNextOn}
+use Rattle.ox_inscribe.specs.declared.row.InsRow.{InsRow}
+use Rattle.ox_inscribe.proofs.NextLaws.{next_shown}
+use Rattle.ox_ask.specs.Inscriptions.{inscription_id}
+use Rattle.ox_ask.specs.Walk.{on_between, walked}
+use Rattle.ox_ask.proofs.Walks.{all_walked}
+use Rattle.ox_query.specs.Listed.{ids_of}
+
+pub id_is_text : (id : InsId) → id.index < 2 ^ 32 → IsUtf8 (id_text id)
+id_is_text id small =
+    IsUtf8-from_ascii (id_text id)
+    (IsAscii-append (encode_lower (reverse id.txid)) (105 ∷ decimal id.index) (IsAscii-encode_with lower_digits (reverse id.txid) refl)
+    (IsAscii-cons 105 (decimal id.index) (omega arith) (IsAscii-decimal id.index (omega (arith, small)))))
+
+-- numbers that pass a test are those of rows
+below : (passes : InsRow → Bool) (from : ℕ) (rows : List InsRow) → All (λ n. n < from + length rows) (numbers_where passes from rows)
+unfolding numbers_where
+below passes from [] = All-nil (λ n. n < from + 0)
+below passes from (row ∷ rows) = by (passes row)
+  where
+    later : All (λ n. n < from + suc (length rows)) (numbers_where passes (from + 1) rows)
+    later =
+        All-weaker (λ n. n < from + 1 + length rows) (λ n. n < from + suc (length rows)) (λ n less. omega (arith, less))
+        (numbers_where passes (from + 1) rows) (below passes (from + 1) rows)
+
+    by : (passed : Bool) → All (λ n. n < from + suc (length rows)) (cond passed (from ∷ numbers_where passes (from + 1) rows) (numbers_where passes (from + 1) rows))
+    by true = All-cons (λ n. n < from + suc (length rows)) from (numbers_where passes (from + 1) rows) (omega arith) later
+    by false = later
+
+module _ (rows : List InsRow) where
+  pub on_below : (sat : ℕ) → All (λ n. n < length rows) (on rows sat)
+  on_below sat =
+      All-weaker (λ n. n < 0 + length rows) (λ n. n < length rows) (λ n less. omega (arith, less)) (on rows sat) (below (is_on sat) 0 rows)
+
+  pub found_below : (id : InsId) (n : ℕ) → find rows id ≡ Some n → n < length rows
+  found_below id n e =
+      let is = cond_some _ _ n e in omega (arith, ltb-true _ (length rows) is.0, is.1)
+
+  ids_of-append : (a b : List ℕ) → ids_of rows (a ++ b) ≡ ids_of rows a ++ ids_of rows b
+  ids_of-append a b =
+      ap (map inscription_id) (filter_map-append (slice_get rows) a b)
+      ∙ map-append inscription_id (filter_map (slice_get rows) a) (filter_map (slice_get rows) b)
+
+  one_id : (n : ℕ) (row : InsRow) → slice_get rows n ≡ Some row → ids_of rows (n ∷ []) ≡ inscription_id row ∷ []
+  one_id n row there = ap (λ (found : Option InsRow). map inscription_id (cons_option found [])) there
+
+  -- one more id
+  pub one_id_more : (before : List Data) (values : List Value) (value : Value) (numbers : List ℕ) (i : ℕ) (row : InsRow)
+      → i < length numbers → slice_get rows (get_or numbers i 0) ≡ Some row
+      → map view values ≡ before ++ ids_of rows (take i numbers) → view value ≡ inscription_id row
+      → map view (values ++ value ∷ []) ≡ before ++ ids_of rows (take (i + 1) numbers)
+  one_id_more before values value numbers i row within there so_far here =
+      map-append view values (value ∷ [])
+      ∙ ap₂ (λ (vs : List Data) (v : Data). vs ++ v ∷ []) so_far here
+      ∙ append_assoc before (ids_of rows (take i numbers)) (inscription_id row ∷ [])
+      ∙ ap (λ (ids : List Data). before ++ ids) (
+      ap (λ (id : List Data). ids_of rows (take i numbers) ++ id) (sym (one_id (get_or numbers i 0) row there))
+      ∙ sym (ids_of-append (take i numbers) (get_or numbers i 0 ∷ []))
+      ∙ ap (ids_of rows) (sym (take_more numbers i 0 within))
+      )
+
+  -- ---- a walk along a run
+
+  module _ (first end sat : ℕ) (numbers : List ℕ) (e : Some (sat, numbers) ≡ next_on rows first) where
+    is_first : IsFirstOn rows first (sat, numbers)
+    is_first = subst (IsNextOn rows first) (sym e) (next_shown rows first)
+
+    pub walk_from : first ≤ sat
+    walk_from = is_first.from
+
+    pub walk_below : All (λ n. n < length rows) numbers
+    walk_below = subst (All (λ n. n < length rows)) (sym is_first.numbers) (on_below sat)
+
+    pub walk_on : sat < end → on_between rows first end ≡ numbers ++ on_between rows (sat + 1) end
+    walk_on less =
+        all_walked rows first end ∙ ap (walked rows end) (sym e)
+        ∙ ap (λ (test : Bool). cond test (numbers ++ on_between rows (sat + 1) end) []) (lt-ltb sat end less)
+
+    pub walk_past : end ≤ sat → on_between rows first end ≡ []
+    walk_past past =
+        all_walked rows first end ∙ ap (walked rows end) (sym e)
+        ∙ ap (λ (test : Bool). cond test (numbers ++ on_between rows (sat + 1) end) []) (not_less (ltb sat end) refl)
+      where
+        not_less : (test : Bool) → ltb sat end ≡ test → ltb sat end ≡ false
+        not_less true is = let less : sat < end = ltb-true sat end is in absurd (omega (arith, less, past))
+        not_less false is = is
+
+  pub walk_none : (first end : ℕ) → None ≡ next_on rows first → on_between rows first end ≡ []
+  walk_none first end e = all_walked rows first end ∙ ap (walked rows end) (sym e)
+
+  pub walked_one : (all before values new : List Data) (numbers rest : List ℕ) (between : List ℕ) → between ≡ numbers ++ rest
+      → values ++ ids_of rows between ≡ all → new ≡ values ++ ids_of rows numbers → new ++ ids_of rows rest ≡ all
+  walked_one all before values new numbers rest between is so_far here =
+      ap (λ (ids : List Data). ids ++ ids_of rows rest) here
+      ∙ append_assoc values (ids_of rows numbers) (ids_of rows rest)
+      ∙ ap (λ (ids : List Data). values ++ ids) (sym (ids_of-append numbers rest) ∙ ap (ids_of rows) (sym is)) ∙ so_far
+
+  -- ---- run by run
+
+  on_run : (run : Run) → flat_map (on rows) (numbers_of (run ∷ [])) ≡ on_between rows run.first (end_of run)
+  on_run run =
+      let many : run.count ≡ end_of run - run.first = omega arith in
+      ap (flat_map (on rows)) (numbers_of_one run.first run.count ∙ ap (numbers_from run.first) many)
+
+  pub one_run_more : (runs : List Run) (i : ℕ) (d : Run) (before new : List Data) → i < length runs
+      → before ≡ ids_of rows (flat_map (on rows) (numbers_of (take i runs)))
+      → new ≡ before ++ ids_of rows (on_between rows (get_or runs i d).first (end_of (get_or runs i d)))
+      → new ≡ ids_of rows (flat_map (on rows) (numbers_of (take (i + 1) runs)))
+  one_run_more runs i d before new within so_far here =
+      let run = get_or runs i d in
+      here ∙ ap₂ (λ (a b : List Data). a ++ b) so_far (ap (ids_of rows) (sym (on_run run)))
+      ∙ sym (ids_of-append (flat_map (on rows) (numbers_of (take i runs))) (flat_map (on rows) (numbers_of (run ∷ []))))
+      ∙ ap (ids_of rows) (
+      sym (flat_map-append (on rows) (numbers_of (take i runs)) (numbers_of (run ∷ [])))
+      ∙ ap (flat_map (on rows)) (sym (numbers-append (take i runs) (run ∷ [])) ∙ ap numbers_of (sym (take_more runs i d within)))
+      )

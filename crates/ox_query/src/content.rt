@@ -1,0 +1,113 @@
+//! What `/content/{id}` says.
+
+ghost use Rattle.std.specs.Prelude.{◌≡◌, IfOk, codes, option_copied, slice_get, unwrap_or};
+ghost use Rattle.std.specs.Option.{option_and_then};
+ghost use Rattle.ox_ask.specs.Content.{body_reply as body_said, content_at as content_said};
+ghost use Rattle.ox_ask.specs.Content.{header_text as header_said, is_header_text as is_headers};
+ghost use Rattle.ox_ask.specs.Content.{row_with as row_said, shown_for as shown_said};
+ghost use Rattle.ox_ask.specs.Named.{inscription_named};
+
+use crate::inscription::number_named;
+use ox_bytes::{Bytes, Memory};
+use ox_http::Reply;
+use ox_model::{InsId, InsRow, View};
+use std::alloc::Global;
+
+// The inscription that a part names, if there is one.
+fn row_named<'a, V: View>(live: &'a V, part: &[u8]) -> Option<&'a InsRow>
+    ensures { option_copied result ≡ option_and_then (slice_get (V.index live.now).inscriptions)
+        (inscription_named (V.index live.now).inscriptions part.now) }
+{
+    match number_named(live, part) {
+        Some(n) => Some(live.inscription(n)),
+        None => None,
+    }
+}
+
+// The inscription with an id, if it is there.
+fn row_with<'a, V: View>(live: &'a V, id: &InsId) -> Option<&'a InsRow>
+    ensures { option_copied result ≡ row_said (V.index live.now).inscriptions id.now }
+{
+    match live.find(id) {
+        Some(n) => Some(live.inscription(n)),
+        None => None,
+    }
+}
+
+// The inscription whose content is shown for this one, if it is there: the one that it delegates
+// to, whatever that delegates to, or itself.
+fn shown_for<'a, V: View>(live: &'a V, row: &'a InsRow) -> Option<&'a InsRow>
+    ensures { option_copied result ≡ shown_said (V.index live.now).inscriptions row.now }
+{
+    match &row.delegate {
+        Some(id) => row_with(live, id),
+        None => Some(row),
+    }
+}
+
+// Whether a header of a reply can carry these bytes: one or more, all of them printable ASCII.
+fn is_header_text(bytes: &[u8]) -> bool
+    ensures { result ≡ is_headers bytes.now }
+{
+    !bytes.is_empty() && bytes.iter().all(|b| 32 <= *b && *b <= 126)
+}
+
+// The bytes once more, if there are any that a header of a reply can carry.
+fn header_text(alloc: Global, bytes: &Option<Bytes>) -> Result<Option<Bytes>, Memory>
+    ensures { IfOk result (λ text. text ≡ header_said bytes.now) }
+{
+    let Some(bytes) = bytes else {
+        return Ok(None);
+    };
+    if !is_header_text(bytes.as_slice()) {
+        return Ok(None);
+    }
+    Ok(Some(Bytes::copy(alloc, bytes.as_slice())?))
+}
+
+// The kind of a reply that has this content type.
+fn kind_of(alloc: Global, content_type: &Option<Bytes>) -> Result<Bytes, Memory>
+    ensures { IfOk result (λ kind. kind
+        ≡ unwrap_or (header_said content_type.now) (codes "application/octet-stream")) }
+{
+    match header_text(alloc, content_type)? {
+        Some(kind) => Ok(kind),
+        None => Ok(Bytes::copy(alloc, b"application/octet-stream")?),
+    }
+}
+
+// A body, with the kind and the encoding that its inscription says.
+fn body_reply(alloc: Global, close: bool, row: &InsRow, body: &Bytes) -> Result<Reply, Memory>
+    ensures { IfOk result (λ reply. reply ≡ body_said close row.now body.now) }
+{
+    Ok(Reply {
+        status: 200,
+        kind: kind_of(alloc, &row.content_type)?,
+        encoding: header_text(alloc, &row.encoding)?,
+        body: Bytes::copy(alloc, body.as_slice())?,
+        close,
+    })
+}
+
+/// The content of the inscription that a part names, if it has one: its own, or that of the
+/// inscription that it delegates to. `Memory` where there is none for it.
+pub(crate) fn content_at<V: View>(
+    alloc: Global,
+    live: &V,
+    part: &[u8],
+    close: bool,
+) -> Result<Option<Reply>, Memory>
+    ensures { IfOk result (λ reply. reply
+        ≡ content_said (V.index live.now).inscriptions part.now close) }
+{
+    let Some(row) = row_named(live, part) else {
+        return Ok(None);
+    };
+    let Some(shown) = shown_for(live, row) else {
+        return Ok(None);
+    };
+    match &shown.body {
+        Some(body) => Ok(Some(body_reply(alloc, close, shown, body)?)),
+        None => Ok(None),
+    }
+}
