@@ -1,7 +1,8 @@
 -- Lists of ids, inscription by inscription and satoshi by satoshi.
 use Rattle.std.proofs.Common.{◌≡◌, true≢false, ℕ, zero, suc, ◌+◌, ◌-◌, ◌<◌, ◌≤◌, ◌^◌, Bool, true, false, cond, ltb, lt-ltb, ltb-true, IsUtf8, List, [], ◌∷◌, ◌++◌, length, get_or, take, reverse, map, append_assoc, Option, Some, None, decimal, refl, sym, ap, ap₂, ◌∙◌, subst, arith}
 use Rattle.std.specs.Prelude.{All, slice_get}
-use Rattle.std.specs.List.{cons_option, filter_map, flat_map}
+use Rattle.std.specs.List.{cons_option, filter_map, flat_map, list_all, position_or_len}
+use Rattle.std.specs.Str.{IsAscii}
 use Rattle.std.proofs.lemmas.Bool.{cases_lt}
 use Rattle.std.proofs.lemmas.Fmt.{IsAscii-decimal}
 use Rattle.std.proofs.lemmas.Grind.{flat_map-append}
@@ -9,7 +10,7 @@ use Rattle.std.proofs.lemmas.List.{map-append, take_all, take_more}
 use Rattle.std.proofs.lemmas.List.Elements.{All-cons, All-nil, All-weaker, filter_map-append}
 use Rattle.std.proofs.lemmas.Option.{cond_some}
 use Rattle.std.proofs.lemmas.Str.{IsUtf8-from_ascii, IsAscii-append}
-use Rattle.std.proofs.lemmas.Str.Ascii.{IsAscii-cons}
+use Rattle.std.proofs.lemmas.Str.Ascii.{IsAscii-cons, IsAscii-nil}
 use Rattle.serde_json.specs.Data.{Data}
 use Rattle.serde_json.specs.View.{view}
 use Rattle.serde_json.specs.declared.value.Value.{Value}
@@ -27,14 +28,25 @@ use Rattle.ox_inscribe.specs.declared.row.InsRow.{InsRow}
 use Rattle.ox_inscribe.proofs.NextLaws.{next_shown}
 use Rattle.ox_ask.specs.Inscriptions.{inscription_id}
 use Rattle.ox_ask.specs.Walk.{on_between, walked}
+use Rattle.ox_ask.proofs.Objects.{first_half, second_half}
 use Rattle.ox_ask.proofs.Walks.{all_walked}
 use Rattle.ox_query.specs.Listed.{ids_of}
 
+-- bytes that all pass the test are ASCII
+all_small : (bytes : List ℕ) → list_all (λ b. ltb b 128) bytes ≡ true → IsAscii bytes
+all_small [] h = IsAscii-nil
+all_small (b ∷ bytes) h =
+    let rest = list_all (λ b. ltb b 128) bytes in
+    IsAscii-cons b bytes (ltb-true b 128 (first_half (ltb b 128) rest h)) (all_small bytes (second_half (ltb b 128) rest h))
+
 pub id_is_text : (id : InsId) → id.index < 2 ^ 32 → IsUtf8 (id_text id)
 id_is_text id small =
-    IsUtf8-from_ascii (id_text id)
-    (IsAscii-append (encode_lower (reverse id.txid)) (105 ∷ decimal id.index) (IsAscii-encode_with lower_digits (reverse id.txid) refl)
-    (IsAscii-cons 105 (decimal id.index) (omega arith) (IsAscii-decimal id.index (omega (arith, small)))))
+    let digits : IsAscii lower_digits = all_small lower_digits refl in
+    let txid : IsAscii (encode_lower (reverse id.txid)) = IsAscii-encode_with lower_digits (reverse id.txid) digits in
+    let index : IsAscii (decimal id.index) = IsAscii-decimal id.index (omega (arith, small)) in
+    let behind : IsAscii (105 ∷ decimal id.index) = IsAscii-cons 105 (decimal id.index) (omega arith) index in
+    let whole : IsAscii (encode_lower (reverse id.txid) ++ 105 ∷ decimal id.index) = IsAscii-append (encode_lower (reverse id.txid)) (105 ∷ decimal id.index) txid behind in
+    subst IsUtf8 (sym (append_assoc (encode_lower (reverse id.txid)) (105 ∷ []) (decimal id.index))) (IsUtf8-from_ascii (encode_lower (reverse id.txid) ++ 105 ∷ decimal id.index) whole)
 
 -- numbers that pass a test are those of rows
 below : (passes : InsRow → Bool) (from : ℕ) (rows : List InsRow) → All (λ n. n < from + length rows) (numbers_where passes from rows)
@@ -58,7 +70,9 @@ module _ (rows : List InsRow) where
 
   pub found_below : (id : InsId) (n : ℕ) → find rows id ≡ Some n → n < length rows
   found_below id n e =
-      let is = cond_some _ _ n e in omega (arith, ltb-true _ (length rows) is.0, is.1)
+      let place = position_or_len (λ (row : InsRow). is_same_id row.id id) rows in
+      let is : (ltb place (length rows) ≡ true) × (place ≡ n) = cond_some (ltb place (length rows)) place n e in
+      subst (λ (k : ℕ). k < length rows) is.1 (ltb-true place (length rows) is.0)
 
   ids_of-append : (a b : List ℕ) → ids_of rows (a ++ b) ≡ ids_of rows a ++ ids_of rows b
   ids_of-append a b =
@@ -112,9 +126,9 @@ module _ (rows : List InsRow) where
   pub walk_none : (first end : ℕ) → None ≡ next_on rows first → on_between rows first end ≡ []
   walk_none first end e = all_walked rows first end ∙ ap (walked rows end) (sym e)
 
-  pub walked_one : (all before values new : List Data) (numbers rest : List ℕ) (between : List ℕ) → between ≡ numbers ++ rest
+  pub walked_one : (all values new : List Data) (numbers rest : List ℕ) (between : List ℕ) → between ≡ numbers ++ rest
       → values ++ ids_of rows between ≡ all → new ≡ values ++ ids_of rows numbers → new ++ ids_of rows rest ≡ all
-  walked_one all before values new numbers rest between is so_far here =
+  walked_one all values new numbers rest between is so_far here =
       ap (λ (ids : List Data). ids ++ ids_of rows rest) here
       ∙ append_assoc values (ids_of rows numbers) (ids_of rows rest)
       ∙ ap (λ (ids : List Data). values ++ ids) (sym (ids_of-append numbers rest) ∙ ap (ids_of rows) (sym is)) ∙ so_far

@@ -2,4 +2,8 @@
 #![tactic(auto)]
 
 #[cfg(test)]
+mod blocks;
+#[cfg(test)]
+mod inscriptions;
+#[cfg(test)]
 mod tests;

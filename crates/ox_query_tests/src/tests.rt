@@ -54,7 +54,7 @@ const ABOUT: About = About {
     kept: 3,
 };
 
-fn bytes_of(rt: &impl Abort, alloc: Global, bytes: &[u8]) -> Bytes {
+pub fn bytes_of(rt: &impl Abort, alloc: Global, bytes: &[u8]) -> Bytes {
     Bytes::copy(alloc, bytes).expect(rt, "memory")
 }
 
@@ -67,13 +67,13 @@ fn request_of(rt: &impl Abort, alloc: Global, method: Method, path: &[u8]) -> Re
     }
 }
 
-fn reply_to(rt: &impl Abort, alloc: Global, live: &Live, method: Method, path: &[u8]) -> Reply {
+pub fn reply_to(rt: &impl Abort, alloc: Global, live: &Live, method: Method, path: &[u8]) -> Reply {
     let request = request_of(rt, alloc, method, path);
     answer(alloc, live, &ABOUT, &request).expect(rt, "memory")
 }
 
 /// Whether a GET of a path is replied 200 with this body.
-fn says(rt: &impl Abort, alloc: Global, live: &Live, path: &[u8], body: &[u8]) -> bool {
+pub fn says(rt: &impl Abort, alloc: Global, live: &Live, path: &[u8], body: &[u8]) -> bool {
     let reply = reply_to(rt, alloc, live, Method::Get, path);
     reply.status == 200
         && reply.kind.as_slice() == b"application/json".as_slice()
@@ -96,11 +96,11 @@ fn fails(
     reply.status == status && reply.body.as_slice() == body
 }
 
-fn missing(rt: &impl Abort, alloc: Global, live: &Live, path: &[u8]) -> bool {
+pub fn missing(rt: &impl Abort, alloc: Global, live: &Live, path: &[u8]) -> bool {
     fails(rt, alloc, live, Method::Get, path, 404, b"{\"error\":404}")
 }
 
-fn empty(rt: &impl Abort, alloc: Global, name: ProfileName) -> Live {
+pub fn empty(rt: &impl Abort, alloc: Global, name: ProfileName) -> Live {
     Live::new(alloc, &profile_of(name)).expect(rt, "memory")
 }
 
@@ -328,15 +328,12 @@ fn commands_are_forbidden_and_other_paths_missing(rt: HostRuntime) {
 }
 
 #[test]
-fn routes_of_what_is_not_indexed_name_nothing(rt: HostRuntime) {
+fn what_is_not_indexed_is_missing(rt: HostRuntime) {
     let live = first_block(&rt, rt.alloc());
-    let paths: [&[u8]; 6] = [
-        b"/audit",
+    let paths: [&[u8]; 3] = [
         b"/inscription/4a5e1e4baab89f3a32518a88c31bc87f618f76673e2cc77ab2127b7afdeda33bi0",
         b"/content/4a5e1e4baab89f3a32518a88c31bc87f618f76673e2cc77ab2127b7afdeda33bi0",
-        b"/inscriptions/0",
-        b"/rune/1:0",
-        b"/runes/0",
+        b"/rune/2:0",
     ];
     for path in paths {
         assert!(rt; missing(&rt, rt.alloc(), &live, path));
