@@ -1,8 +1,10 @@
 -- Lists of ids, inscription by inscription and satoshi by satoshi.
-use Rattle.std.proofs.Common.{◌≡◌, true≢false, ℕ, zero, suc, ◌+◌, ◌-◌, ◌<◌, ◌≤◌, ◌^◌, Bool, true, false, cond, ltb, lt-ltb, ltb-true, IsUtf8, List, [], ◌∷◌, ◌++◌, length, get_or, take, reverse, map, append_assoc, Option, Some, None, decimal, refl, sym, ap, ap₂, ◌∙◌, subst, arith}
-use Rattle.std.specs.Prelude.{All, slice_get}
+use Rattle.std.proofs.Common.{◌≡◌, true≢false, Vec, Global, ℕ, zero, suc, ◌+◌, ◌-◌, ◌<◌, ◌≤◌, ◌^◌, Bool, true, false, cond, ltb, lt-ltb, ltb-true, IsUtf8, ◌&&◌, List, [], ◌∷◌, ◌++◌, length, get_or, take, drop, reverse, map, append_assoc, bytes_eq, Option, Some, None, Result, Ok, Err, decimal, refl, sym, ap, ap₂, ◌∙◌, subst, arith}
+use Rattle.std.specs.Prelude.{All, IfSome, slice_get}
 use Rattle.std.specs.List.{cons_option, filter_map, flat_map, list_all, position_or_len}
+use Rattle.std.specs.Char.{is_ascii_digit}
 use Rattle.std.specs.Str.{IsAscii}
+use Rattle.std.specs.Str.Parse.{digits_value}
 use Rattle.std.proofs.lemmas.Bool.{cases_lt}
 use Rattle.std.proofs.lemmas.Fmt.{IsAscii-decimal}
 use Rattle.std.proofs.lemmas.Grind.{flat_map-append}
@@ -11,22 +13,24 @@ use Rattle.std.proofs.lemmas.List.Elements.{All-cons, All-nil, All-weaker, filte
 use Rattle.std.proofs.lemmas.Option.{cond_some}
 use Rattle.std.proofs.lemmas.Str.{IsUtf8-from_ascii, IsAscii-append}
 use Rattle.std.proofs.lemmas.Str.Ascii.{IsAscii-cons, IsAscii-nil}
-use Rattle.serde_json.specs.Data.{Data}
-use Rattle.serde_json.specs.View.{view}
-use Rattle.serde_json.specs.declared.value.Value.{Value}
-use Rattle.hex.specs.Hex.{encode_lower, lower_digits}
+use Rattle.serde_json.specs.Data.{Data, array}
+use Rattle.serde_json.specs.View.{items_of, view}
+use Rattle.serde_json.specs.declared.value.Value.{Value, Array}
+use Rattle.serde_json.proofs.Views.{view-Array}
+use Rattle.hex.specs.Hex.{decode_sized, encode_lower, lower_digits}
+use Rattle.hex.specs.declared.error.FromHexError.{FromHexError}
 use Rattle.hex.proofs.HexLemmas.{IsAscii-encode_with}
 use Rattle.ox_range.specs.declared.runs.Run.{Run}
 use Rattle.ox_range.specs.Numbers.{numbers_from}
 use Rattle.ox_range.specs.Runs.{end_of, numbers_of}
-use Rattle.ox_range.proofs.RunLemmas.{numbers-append, numbers_of_one}
-use Rattle.ox_envelope.specs.Id.{id_text}
+use Rattle.ox_range.proofs.RunLemmas.{numbers-append, numbers-none, numbers_of_one}
+use Rattle.ox_envelope.specs.Id.{id_from_digits, id_of_text, id_text, is_number}
 use Rattle.ox_envelope.specs.declared.id.InsId.{InsId}
 use Rattle.ox_inscribe.specs.Inscriptions.{find, next_on, numbers_where, is_same_id, is_on, on}
 use Rattle.ox_inscribe.specs.Numbers.{IsFirstOn, IsNextOn}
 use Rattle.ox_inscribe.specs.declared.row.InsRow.{InsRow}
 use Rattle.ox_inscribe.proofs.NextLaws.{next_shown}
-use Rattle.ox_ask.specs.Inscriptions.{inscription_id}
+use Rattle.ox_ask.specs.Inscriptions.{ids_on_all, ids_tree, inscription_id}
 use Rattle.ox_ask.specs.Walk.{on_between, walked}
 use Rattle.ox_ask.proofs.Objects.{first_half, second_half}
 use Rattle.ox_ask.proofs.Walks.{all_walked}
@@ -39,8 +43,31 @@ all_small (b ∷ bytes) h =
     let rest = list_all (λ b. ltb b 128) bytes in
     IsAscii-cons b bytes (ltb-true b 128 (first_half (ltb b 128) rest h)) (all_small bytes (second_half (ltb b 128) rest h))
 
-pub id_is_text : (id : InsId) → id.index < 2 ^ 32 → IsUtf8 (id_text id)
-id_is_text id small =
+-- the index of what reads as an id is small
+small_index : (text : List ℕ) (id : InsId) → id_of_text text ≡ Some id → id.index < 2 ^ 32
+small_index text id = by (is_number number) refl
+  where
+    number : List ℕ
+    number = drop 65 text
+
+    read : (decoded : Result (List ℕ) FromHexError) → digits_value 10 number < 2 ^ 32 → id_from_digits decoded (digits_value 10 number) text ≡ Some id → id.index < 2 ^ 32
+    read (Err e) small is = let no : None ≡ Some id = is in absurd cc
+    read (Ok bytes) small is =
+        let spelled : InsId = record { txid = reverse bytes; index = digits_value 10 number } in
+        let told : (bytes_eq (id_text spelled) text ≡ true) × (spelled ≡ id) = cond_some (bytes_eq (id_text spelled) text) spelled id is in
+        subst (λ (x : InsId). x.index < 2 ^ 32) told.1 small
+
+    by : (test : Bool) → is_number number ≡ test
+        → cond test (id_from_digits (decode_sized (take 64 text) 32) (digits_value 10 number) text) None ≡ Some id → id.index < 2 ^ 32
+    by true is e =
+        let within : ltb (digits_value 10 number) (2 ^ 32) ≡ true =
+        second_half (list_all is_ascii_digit number) (ltb (digits_value 10 number) (2 ^ 32)) (second_half (ltb 0 (length number)) (list_all is_ascii_digit number && ltb (digits_value 10 number) (2 ^ 32)) is) in
+        read (decode_sized (take 64 text) 32) (ltb-true (digits_value 10 number) (2 ^ 32) within) e
+    by false is e = let no : None ≡ Some id = e in absurd cc
+
+pub id_is_text : (id : InsId) → id_of_text (id_text id) ≡ Some id → IsUtf8 (id_text id)
+id_is_text id again =
+    let small : id.index < 2 ^ 32 = small_index (id_text id) id again in
     let digits : IsAscii lower_digits = all_small lower_digits refl in
     let txid : IsAscii (encode_lower (reverse id.txid)) = IsAscii-encode_with lower_digits (reverse id.txid) digits in
     let index : IsAscii (decimal id.index) = IsAscii-decimal id.index (omega (arith, small)) in
@@ -73,6 +100,10 @@ module _ (rows : List InsRow) where
       let place = position_or_len (λ (row : InsRow). is_same_id row.id id) rows in
       let is : (ltb place (length rows) ≡ true) × (place ≡ n) = cond_some (ltb place (length rows)) place n e in
       subst (λ (k : ℕ). k < length rows) is.1 (ltb-true place (length rows) is.0)
+
+  pub found_there : (id : InsId) (found : Option ℕ) → found ≡ find rows id → IfSome found (λ n. n < length rows)
+  found_there id None e = tt
+  found_there id (Some n) e = found_below id n (sym e)
 
   ids_of-append : (a b : List ℕ) → ids_of rows (a ++ b) ≡ ids_of rows a ++ ids_of rows b
   ids_of-append a b =
@@ -152,3 +183,20 @@ module _ (rows : List InsRow) where
       sym (flat_map-append (on rows) (numbers_of (take i runs)) (numbers_of (run ∷ [])))
       ∙ ap (flat_map (on rows)) (sym (numbers-append (take i runs) (run ∷ [])) ∙ ap numbers_of (sym (take_more runs i d within)))
       )
+
+  pub no_run : [] ≡ ids_of rows (flat_map (on rows) (numbers_of []))
+  no_run = ap (λ (numbers : List ℕ). ids_of rows (flat_map (on rows) numbers)) (sym numbers-none)
+
+  pub all_runs_told : (ids : Vec Value Global) (runs : List Run) (i : ℕ) → length runs ≤ i
+      → map view ids.items ≡ ids_of rows (flat_map (on rows) (numbers_of (take i runs)))
+      → view (Array ids) ≡ ids_on_all rows (numbers_of runs)
+  all_runs_told ids runs i past so_far =
+      view-Array ids
+      ∙ ap (λ (told : List Data). array (items_of told)) (so_far ∙ ap (λ (rs : List Run). ids_of rows (flat_map (on rows) (numbers_of rs))) (take_all i runs past))
+
+  pub on_told : (ids : Vec Value Global) (before : List Value) (numbers : List ℕ) (sat : ℕ) → before ≡ []
+      → map view ids.items ≡ map view before ++ ids_of rows numbers → numbers ≡ on rows sat → view (Array ids) ≡ ids_tree rows (on rows sat)
+  on_told ids before numbers sat none told are =
+      view-Array ids
+      ∙ ap (λ (told : List Data). array (items_of told))
+      (told ∙ ap₂ (λ (vs : List Value) (ns : List ℕ). map view vs ++ ids_of rows ns) none are)

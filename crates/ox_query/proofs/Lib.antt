@@ -1,5 +1,7 @@
+pub mod Contents
 pub mod Spelled
 pub mod Told
+pub mod Texts
 pub mod Ids
 pub mod Outpoints
 pub mod Pages

@@ -1,12 +1,13 @@
 -- The rows of a page, one by one.
-use Rattle.std.proofs.Common.{◌≡◌, ℕ, suc, ◌+◌, ◌-◌, ◌*◌, ◌<◌, ◌≤◌, min, List, [], ◌∷◌, ◌++◌, length, get_or, take, drop, map, Some, refl, sym, ap, ap₂, ◌∙◌, arith}
-use Rattle.std.specs.Prelude.{slice_get}
+use Rattle.std.proofs.Common.{◌≡◌, ℕ, Bool, suc, ◌+◌, ◌-◌, ◌*◌, ◌<◌, ◌≤◌, min, List, [], ◌∷◌, ◌++◌, length, get_or, take, drop, map, Some, refl, sym, ap, ap₂, ◌∙◌, arith}
+use Rattle.std.specs.Prelude.{codes, nat_lt, slice_get}
 use Rattle.std.proofs.lemmas.List.{drop_min, length-drop, map-append, take_all, take_more, get_or-drop, take_min}
 use Rattle.std.proofs.lemmas.Option.{get_or_from_slice_get, slice_get_within}
-use Rattle.serde_json.specs.Data.{Data}
-use Rattle.serde_json.specs.View.{view}
+use Rattle.serde_json.specs.Data.{Data, array, boolean, member, no_members, object}
+use Rattle.serde_json.specs.View.{items_of, view}
 use Rattle.serde_json.specs.declared.value.Value.{Value}
-use Rattle.ox_ask.specs.Pages.{entries_of}
+use Rattle.ox_ask.specs.Pages.{entries_of, page_tree}
+use Rattle.ox_ask.specs.Values.{count}
 
 module _ {A : Type 0} where
   -- the rows from one up to another, without that
@@ -45,3 +46,16 @@ module _ {A : Type 0} where
       let many : end - first ≡ min 100 (length (drop first rows)) = omega (arith, length-drop first rows, begins, ends) in
       ap (λ n. take n (drop first rows)) many ∙ take_min 100 (drop first rows)
       ∙ ap (λ n. take 100 (drop n rows)) begins ∙ ap (take 100) (drop_min (100 * page) rows)
+
+  -- a page's ids, whether more follow, and its number are its tree
+  pub page_told : (told : A → Data) (rows : List A) (ids : List Data) (page first end n len : ℕ) (more : Bool) → len ≡ length rows
+      → first ≡ min (100 * page) len → end ≡ min (100 * page + 100) len → more ≡ nat_lt (100 * page + 100) len → first ≤ n → n ≤ end → end ≤ n
+      → ids ≡ map told (rows_between rows first n)
+      → object (member (codes "ids") (array (items_of ids)) (member (codes "more") (boolean more) (member (codes "page") (count page) no_members)))
+      ≡ page_tree told rows page
+  page_told told rows ids page first end n len more long begins ends follow from within past all =
+      let last : n ≡ end = omega arith in
+      let low : first ≡ min (100 * page) (length rows) = omega arith in
+      let high : n ≡ min (100 * page + 100) (length rows) = omega arith in
+      ap₂ (λ (ids : List Data) (more : Bool). object (member (codes "ids") (array (items_of ids)) (member (codes "more") (boolean more) (member (codes "page") (count page) no_members))))
+      (all ∙ ap (map told) (entries_are page first n rows low high)) (follow ∙ ap (nat_lt (100 * page + 100)) long)

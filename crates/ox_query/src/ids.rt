@@ -73,7 +73,7 @@ fn add_ids_on_run<V: View>(
     let mut from = run.first;
     while let Some((sat, numbers)) = live.next_on(from) {
         if sat >= end {
-            break;
+            return Ok(());
         }
         add_ids(alloc, live, numbers, ids)?;
         from = sat + 1;

@@ -138,7 +138,10 @@ pub(crate) fn number_named<V: View>(live: &V, part: &[u8]) -> Option<u32>
     ensures named { result ≡ inscription_named (V.index live.now).inscriptions part.now }
     ensures there { IfSome result (λ n. n < length (V.index live.now).inscriptions) }
 {
-    live.find(&read_id_text(part)?)
+    match read_id_text(part) {
+        Some(id) => live.find(&id),
+        None => None,
+    }
 }
 
 /// The inscription that a part names, if there is one. `Memory` where there is none for it.

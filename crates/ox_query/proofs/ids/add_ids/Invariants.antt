@@ -6,4 +6,4 @@ use Rattle.ox_query.proofs.ids.add_ids.Given as goal
 abbrev pub invariant-loop-n : goal.invariant-loop-n
 invariant-loop-n g l =
     map view l.ids.items
-    ≡ map view l.initial.ids.items ++ ids_of (g.V.View.index l.live).inscriptions (take l.n-index l.numbers)
+    ≡ map view l.fn.ids.items ++ ids_of (g.V.View.index l.live).inscriptions (take l.n-index l.numbers)

@@ -8,7 +8,7 @@ abbrev pub invariant-loop-sat : goal.invariant-loop-sat
 invariant-loop-sat g l =
     let rows = (g.V.View.index l.live).inscriptions in
     map view l.ids.items ++ ids_of rows (on_between rows l.from l.end)
-    ≡ map view l.initial.ids.items ++ ids_of rows (on_between rows l.initial.from l.end)
+    ≡ map view l.fn.ids.items ++ ids_of rows (on_between rows l.fn.run.first l.end)
 
 abbrev pub decreases-loop-sat : goal.decreases-loop-sat
 decreases-loop-sat g l = l.end - l.from
