@@ -1,6 +1,7 @@
 //! The runes of an output.
 
-ghost use Rattle.std.specs.Prelude.{◌≡◌, ◌≤◌, IfOk, option_map};
+ghost use Rattle.std.specs.Prelude.{◌≡◌, ◌≤◌, [], ◌∷◌, ◌++◌, IfOk, OnOk, map};
+ghost use Rattle.std.specs.List.{filter_map};
 ghost use Rattle.serde_json.specs.View.{view};
 ghost use Rattle.ox_ask.specs.Runes.{balance_among, balance_tree, balances_tree};
 ghost use Rattle.ox_ledger.specs.Runes.{balances_at};
@@ -26,19 +27,23 @@ fn balance_value(alloc: Global, amount: u128, row: &RuneRow) -> Result<Value, Me
     Ok(fields.into_value())
 }
 
-// So much of the rune with an id, if that is there.
-fn balance_at<V: View>(
+// Adds a balance, if its rune is there.
+fn add_balance<V: View>(
     alloc: Global,
     live: &V,
-    id: RuneId,
-    amount: u128,
-) -> Result<Option<Value>, Memory>
-    ensures { IfOk result (λ value. option_map view value
-        ≡ balance_among (V.index live.now).runes (id, amount)) }
+    balance: &(RuneId, u128),
+    values: &mut Vec<Value>,
+) -> Result<(), Memory>
+    ensures { OnOk result (map view values.new.items ≡ map view values.old.items
+        ++ filter_map (balance_among (V.index live.now).runes) (balance.now ∷ [])) }
 {
+    let (id, amount) = *balance;
     match live.by_id(id) {
-        Some(n) => Ok(Some(balance_value(alloc, amount, live.rune(n))?)),
-        None => Ok(None),
+        Some(n) => {
+            values.push(balance_value(alloc, amount, live.rune(n))?)?;
+            Ok(())
+        }
+        None => Ok(()),
     }
 }
 
@@ -52,10 +57,8 @@ pub(crate) fn balances_value<V: View>(
         (balances_at (V.index live.now).bal at.now)) }
 {
     let mut values = Vec::new(alloc);
-    for (id, amount) in live.balance(at) {
-        if let Some(value) = balance_at(alloc, live, *id, *amount)? {
-            values.push(value)?;
-        }
+    for balance in live.balance(at) {
+        add_balance(alloc, live, balance, &mut values)?;
     }
     Ok(Value::Array(values))
 }

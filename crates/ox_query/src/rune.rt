@@ -1,10 +1,13 @@
 //! What `/rune/{rune}` says.
 
-ghost use Rattle.std.specs.Prelude.{◌≡◌, IfOk, Some, option_and_then, option_map, slice_get};
+ghost use Rattle.std.specs.Prelude.{◌≡◌, IfOk, Some, is_some, length, option_and_then, option_map};
+ghost use Rattle.std.specs.Prelude.{slice_get};
 ghost use Rattle.serde_json.specs.View.{view};
 ghost use Rattle.ox_ask.specs.Ask.{rune_at};
 ghost use Rattle.ox_ask.specs.Named.{rune_named as rune_said};
 ghost use Rattle.ox_ask.specs.Runes.{character, rune_tree, span_tree};
+ghost use Rattle.ox_etching.specs.Minted.{minted as minted_at};
+ghost use Rattle.ox_model.specs.Found.{held_of};
 ghost use Rattle.ox_ask.specs.Values.{amount as amount_said, count, or_null};
 
 use crate::rune_named::rune_named;
@@ -92,6 +95,22 @@ fn symbol_value(alloc: Global, symbol: Option<char>) -> Result<Value, Memory>
     }
 }
 
+// How much of a rune outputs hold.
+fn held_value<V: View>(alloc: Global, live: &V, n: u32, row: &RuneRow) -> Result<Value, Memory>
+    requires { slice_get (V.index live.now).runes n ≡ Some row.now }
+    ensures { IfOk result (λ value. view value
+        ≡ amount_said (held_of (V.index live.now) row.now)) }
+{
+    amount_value(alloc, live.held(n))
+}
+
+// Whether a rune's mint is open for the next block.
+fn is_mintable<V: View>(live: &V, row: &RuneRow) -> bool
+    ensures { result ≡ is_some (minted_at row.now (length (V.index live.now).hashes)) }
+{
+    minted(row, live.blocks()).is_some()
+}
+
 // A rune with its number.
 fn rune_tree_value<V: View>(alloc: Global, live: &V, n: u32, row: &RuneRow) -> Result<Value, Memory>
     requires { slice_get (V.index live.now).runes n ≡ Some row.now }
@@ -104,10 +123,9 @@ fn rune_tree_value<V: View>(alloc: Global, live: &V, n: u32, row: &RuneRow) -> R
     fields.add("divisibility", Value::from(row.divisibility))?;
     fields.add("etching", hash_value(alloc, &row.etching.0)?)?;
     fields.add("height", heights_value(alloc, row.terms)?)?;
-    fields.add("held", amount_value(alloc, live.held(n))?)?;
+    fields.add("held", held_value(alloc, live, n, row)?)?;
     fields.add("id", rune_id_value(alloc, &row.id)?)?;
-    let mintable = minted(row, live.blocks()).is_some();
-    fields.add("mintable", Value::Bool(mintable))?;
+    fields.add("mintable", Value::Bool(is_mintable(live, row)))?;
     fields.add("mints", amount_value(alloc, row.mints)?)?;
     fields.add("name", name_value(alloc, row)?)?;
     fields.add("number", Value::from(n))?;

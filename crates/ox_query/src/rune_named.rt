@@ -1,9 +1,11 @@
 //! Which rune a part of a path names.
 
-ghost use Rattle.std.specs.Prelude.{◌≡◌, ◌<◌, ◌++◌, [], length, IfOk, IfSome, MatchOption};
+ghost use Rattle.std.specs.Prelude.{◌≡◌, ◌<◌, ◌++◌, [], length, IfOk, MatchOption, option_and_then};
 ghost use Rattle.ox_ask.specs.Named.{rune_id_in, rune_named as rune_said, unescaped as text_said};
+ghost use Rattle.ox_model.specs.Found.{by_id, by_name};
+ghost use Rattle.ox_name.specs.Spaced.{name_in};
 
-use ox_bytes::Memory;
+use ox_bytes::{Bytes, Memory};
 use ox_model::{RuneId, View};
 use ox_name::read_name;
 use ox_sat::read_number;
@@ -16,10 +18,18 @@ fn rune_id(part: &[u8]) -> Option<RuneId>
     let Ok(text) = str::from_utf8(part) else {
         return None;
     };
-    let (block, tx) = text.split_once(':')?;
-    let block = read_number(block)?;
-    let tx = u32::try_from(read_number(tx)?).ok()?;
+    let (height, place) = text.split_once(':')?;
+    let block = read_number(height)?;
+    let tx = u32::try_from(read_number(place)?).ok()?;
     Some(RuneId { block, tx })
+}
+
+// The number of the rune with the id that a part spells, if there is one.
+fn with_id<V: View>(live: &V, part: &[u8]) -> Option<u32>
+    ensures { result
+        ≡ option_and_then (by_id (V.index live.now).runes) (rune_id_in part.now) }
+{
+    live.by_id(rune_id(part)?)
 }
 
 // What the front of a text says, and the text behind it: U+2022 where the front is `%E2%80%A2`, and
@@ -36,16 +46,30 @@ fn front_of(text: &[u8]) -> Option<(&[u8], &[u8])>
 }
 
 // A text with U+2022 for each `%E2%80%A2`. `Memory` where there is none for it.
-fn unescaped(alloc: Global, text: &[u8]) -> Result<Vec<u8>, Memory>
-    ensures { IfOk result (λ read. read.items ≡ text_said text.now) }
+fn unescaped(alloc: Global, text: &[u8]) -> Result<Bytes, Memory>
+    ensures { IfOk result (λ read. read ≡ text_said text.now) }
 {
-    let mut read = Vec::new(alloc);
+    let mut read = Bytes::empty(alloc);
     let mut rest = text;
     while let Some((front, behind)) = front_of(rest) {
-        read.extend_from_slice(front)?;
+        read.append(front)?;
         rest = behind;
     }
     Ok(read)
+}
+
+// The number of the rune with the name that a part spells, if there is one. `Memory` where there is
+// none to read it.
+fn with_name<V: View>(alloc: Global, live: &V, part: &[u8]) -> Result<Option<u32>, Memory>
+    ensures { IfOk result (λ found. found ≡ option_and_then
+        (λ named. by_name (V.index live.now).runes named.name)
+        (name_in (text_said part.now))) }
+{
+    let text = unescaped(alloc, part)?;
+    match read_name(text.as_slice()) {
+        Ok(named) => Ok(live.by_name(named.name)),
+        Err(_) => Ok(None),
+    }
 }
 
 /// The number of the rune with the id or the name that a part spells, if there is one. `Memory`
@@ -57,14 +81,8 @@ pub(crate) fn rune_named<V: View>(
 ) -> Result<Option<u32>, Memory>
     ensures { IfOk result (λ found. found ≡ rune_said (V.index live.now).runes part.now) }
 {
-    if let Some(id) = rune_id(part)
-        && let Some(n) = live.by_id(id)
-    {
-        return Ok(Some(n));
-    }
-    let text = unescaped(alloc, part)?;
-    match read_name(&text) {
-        Ok(named) => Ok(live.by_name(named.name)),
-        Err(_) => Ok(None),
+    match with_id(live, part) {
+        Some(n) => Ok(Some(n)),
+        None => with_name(alloc, live, part),
     }
 }

@@ -1,6 +1,6 @@
 //! What `/runes/{page}` says.
 
-ghost use Rattle.std.specs.Prelude.{◌≡◌, ◌-◌, ◌≤◌, IfOk, drop, length, map, option_map, take};
+ghost use Rattle.std.specs.Prelude.{◌≡◌, IfOk, option_map};
 ghost use Rattle.serde_json.specs.View.{view};
 ghost use Rattle.ox_ask.specs.Pages.{page_tree};
 ghost use Rattle.ox_ask.specs.Runes.{rune_id};
@@ -14,26 +14,16 @@ use ox_model::View;
 use serde_json::Value;
 use std::alloc::Global;
 
-// The ids of the runes from a number up to another.
-fn rune_ids<V: View>(alloc: Global, live: &V, first: u32, end: u32) -> Result<Vec<Value>, Memory>
-    requires { end ≤ length (V.index live.now).runes }
-    ensures { IfOk result (λ ids. map view ids.items
-        ≡ map rune_id (take (end - first) (drop first (V.index live.now).runes))) }
-{
-    let mut ids = Vec::new(alloc);
-    for n in first..end {
-        let id = rune_id_value(alloc, &live.rune(n).id)?;
-        ids.push(id)?;
-    }
-    Ok(ids)
-}
-
 // A page of runes.
-fn page_at<V: View>(alloc: Global, live: &V, page: u64) -> Result<Value, Memory>
+fn page_of_runes<V: View>(alloc: Global, live: &V, page: u64) -> Result<Value, Memory>
     ensures { IfOk result (λ value. view value ≡ page_tree rune_id (V.index live.now).runes page) }
 {
     let rows = page_of(page, live.runes());
-    let ids = rune_ids(alloc, live, rows.first, rows.end)?;
+    let mut ids = Vec::new(alloc);
+    for n in rows.first..rows.end {
+        let id = rune_id_value(alloc, &live.rune(n).id)?;
+        ids.push(id)?;
+    }
     page_value(alloc, ids, rows.more, page)
 }
 
@@ -48,7 +38,7 @@ pub(crate) fn rune_page_value<V: View>(
         ≡ option_map (page_tree rune_id (V.index live.now).runes) (number_in part.now)) }
 {
     match number(part) {
-        Some(page) => Ok(Some(page_at(alloc, live, page)?)),
+        Some(page) => Ok(Some(page_of_runes(alloc, live, page)?)),
         None => Ok(None),
     }
 }
