@@ -7,3 +7,6 @@ pub mod Outpoints
 pub mod Pages
 pub mod Runs
 pub mod Routes
+pub mod RuneLists
+pub mod RuneParts
+pub mod RuneTexts
