@@ -6,4 +6,6 @@ mod blocks;
 #[cfg(test)]
 mod inscriptions;
 #[cfg(test)]
+mod runes;
+#[cfg(test)]
 mod tests;
