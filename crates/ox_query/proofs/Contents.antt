@@ -1,10 +1,11 @@
 -- The content that is shown, by what each look-up gave.
-use Rattle.std.proofs.Common.{◌≡◌, Bool, List, ℕ, Option, Some, None, sym, ap, ◌∙◌}
-use Rattle.std.specs.Prelude.{slice_get}
+use Rattle.std.proofs.Common.{◌≡◌, ◌==◌, ◌&&◌, true≢false, Bool, true, false, List, [], ◌∷◌, ℕ, suc, length, lt-ltb, Option, Some, None, sym, ap, ◌∙◌, arith}
+use Rattle.std.specs.Prelude.{nat_le, nat_lt, slice_get}
+use Rattle.std.specs.List.{list_all}
 use Rattle.std.specs.Option.{option_and_then, option_map}
 use Rattle.ox_http.specs.declared.Reply.{Reply}
 use Rattle.ox_inscribe.specs.declared.row.InsRow.{InsRow}
-use Rattle.ox_ask.specs.Content.{body_reply, content_at, shown_for, shown_reply}
+use Rattle.ox_ask.specs.Content.{body_reply, content_at, is_header_text, shown_for, shown_reply}
 use Rattle.ox_ask.specs.Named.{inscription_named}
 
 module _ (rows : List InsRow) (text : List ℕ) (close : Bool) where
@@ -27,3 +28,13 @@ module _ (rows : List InsRow) (text : List ℕ) (close : Bool) where
 
   pub without_body : (row other : InsRow) → Some row ≡ named → Some other ≡ shown_for rows row → other.body ≡ None → None ≡ content_at rows text close
   without_body row other e is has = ap (option_map (body_reply close other)) (sym has) ∙ shown row other e is
+
+some_first : (bytes : List ℕ) → (length bytes == 0) ≡ false → nat_lt 0 (length bytes) ≡ true
+some_first [] e = absurd (true≢false e)
+some_first (b ∷ bytes) e = lt-ltb 0 (suc (length bytes)) (omega arith)
+
+-- bytes that are some, and all printable
+pub headers_are : (bytes : List ℕ) (empty printable : Bool) → empty ≡ (length bytes == 0) → empty ≡ false
+    → printable ≡ list_all (λ b. nat_le 32 b && nat_le b 126) bytes → printable ≡ is_header_text bytes
+headers_are bytes empty printable is none all =
+    all ∙ ap (λ (v : Bool). v && list_all (λ b. nat_le 32 b && nat_le b 126) bytes) (sym (some_first bytes (sym is ∙ none)))

@@ -1,10 +1,10 @@
 pub mod Contents
 pub mod Spelled
 pub mod Told
-pub mod Texts
-pub mod Ids
+pub mod Bytes
+pub mod IdLists
 pub mod Outpoints
-pub mod Pages
+pub mod PageRows
 pub mod Runs
 pub mod Routes
 pub mod RuneLists

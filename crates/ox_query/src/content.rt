@@ -1,6 +1,8 @@
 //! What `/content/{id}` says.
 
-ghost use Rattle.std.specs.Prelude.{◌≡◌, IfOk, codes, option_copied, slice_get, unwrap_or};
+ghost use Rattle.std.specs.Prelude.{◌≡◌, ◌&&◌, IfOk, codes, nat_le, option_copied, slice_get};
+ghost use Rattle.std.specs.Prelude.{unwrap_or};
+ghost use Rattle.std.specs.List.{list_all};
 ghost use Rattle.std.specs.Option.{option_and_then};
 ghost use Rattle.ox_ask.specs.Content.{body_reply as body_said, content_at as content_said};
 ghost use Rattle.ox_ask.specs.Content.{header_text as header_said, is_header_text as is_headers};
@@ -45,11 +47,28 @@ fn shown_for<'a, V: View>(live: &'a V, row: &'a InsRow) -> Option<&'a InsRow>
     }
 }
 
+// Whether a byte is printable ASCII.
+fn is_printable(byte: u8) -> bool
+    ensures { result ≡ (nat_le 32 byte && nat_le byte 126) }
+{
+    32 <= byte && byte <= 126
+}
+
+// Whether all bytes are printable ASCII.
+fn are_printable(bytes: &[u8]) -> bool
+    ensures { result ≡ list_all (λ b. nat_le 32 b && nat_le b 126) bytes.now }
+{
+    bytes.iter().all(|byte| is_printable(*byte))
+}
+
 // Whether a header of a reply can carry these bytes: one or more, all of them printable ASCII.
 fn is_header_text(bytes: &[u8]) -> bool
     ensures { result ≡ is_headers bytes.now }
 {
-    !bytes.is_empty() && bytes.iter().all(|b| 32 <= *b && *b <= 126)
+    if bytes.is_empty() {
+        return false;
+    }
+    are_printable(bytes)
 }
 
 // The bytes once more, if there are any that a header of a reply can carry.

@@ -12,7 +12,7 @@ use crate::values::text_value;
 use ox_bytes::Memory;
 use ox_envelope::write_id;
 use ox_model::{InsId, View};
-use ox_range::Run;
+use ox_range::{Ranges, Run};
 use serde_json::Value;
 use std::alloc::Global;
 
@@ -81,9 +81,8 @@ fn add_ids_on_run<V: View>(
     Ok(())
 }
 
-/// The ids of the inscriptions on the satoshis of these runs: satoshi by satoshi, and on each by
-/// number. `Memory` where there is none for them.
-pub(crate) fn ids_on_runs<V: View>(alloc: Global, live: &V, runs: &[Run]) -> Result<Value, Memory>
+// The ids of the inscriptions on the satoshis of these runs.
+fn ids_on_runs<V: View>(alloc: Global, live: &V, runs: &[Run]) -> Result<Value, Memory>
     requires { AreMaximal runs.now }
     ensures { IfOk result (λ value. view value
         ≡ ids_on_all (V.index live.now).inscriptions (numbers_of runs.now)) }
@@ -93,4 +92,13 @@ pub(crate) fn ids_on_runs<V: View>(alloc: Global, live: &V, runs: &[Run]) -> Res
         add_ids_on_run(alloc, live, run, &mut ids)?;
     }
     Ok(Value::Array(ids))
+}
+
+/// The ids of the inscriptions on these satoshis: satoshi by satoshi, and on each by number.
+/// `Memory` where there is none for them.
+pub(crate) fn ids_in<V: View>(alloc: Global, live: &V, sats: &Ranges) -> Result<Value, Memory>
+    ensures { IfOk result (λ value. view value
+        ≡ ids_on_all (V.index live.now).inscriptions sats.now) }
+{
+    ids_on_runs(alloc, live, sats.runs())
 }

@@ -8,7 +8,7 @@ ghost use Rattle.ox_ask.specs.Trees.{output_tree, run_items, run_tree};
 ghost use Rattle.ox_range.specs.Runs.{AreMaximal};
 
 use crate::balances::balances_value;
-use crate::ids::ids_on_runs;
+use crate::ids::ids_in;
 use ox_ask::Fields;
 use ox_block::OutPoint;
 use ox_bytes::Memory;
@@ -49,7 +49,7 @@ fn output_value<V: View>(
     ensures { IfOk result
         (λ value. view value ≡ output_tree (V.index live.now) at.now row.now) }
 {
-    let inscriptions = ids_on_runs(alloc, live, row.sats.runs())?;
+    let inscriptions = ids_in(alloc, live, &row.sats)?;
     let ranges = runs_value(alloc, row.sats.runs())?;
     let runes = balances_value(alloc, live, at)?;
     let script = hex::encode(alloc, row.script.as_slice())?;

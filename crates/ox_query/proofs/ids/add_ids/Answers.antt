@@ -1,6 +1,6 @@
 use Rattle.std.proofs.Common.{ap, ◌∙◌, map}
 use Rattle.serde_json.specs.View.{view}
-use Rattle.ox_query.proofs.Ids.{one_id_more}
+use Rattle.ox_query.proofs.IdLists.{one_id_more}
 use Rattle.ox_query.proofs.ids.add_ids.Goals as goal
 
 pub loop-n-preserved : goal.loop-n-preserved

@@ -1,5 +1,5 @@
 use Rattle.std.proofs.Common.{IsUtf8, sym, subst}
-use Rattle.ox_query.proofs.Ids.{id_is_text}
+use Rattle.ox_query.proofs.IdLists.{id_is_text}
 use Rattle.ox_query.proofs.ids.id_value.Goals as goal
 
 pub unreachable-requires : goal.unreachable-requires

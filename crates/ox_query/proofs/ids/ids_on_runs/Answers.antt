@@ -1,14 +1,14 @@
 use Rattle.std.proofs.Common.{ap, ◌∙◌, map}
 use Rattle.serde_json.specs.View.{view}
 use Rattle.ox_range.proofs.RunLemmas.{maximal-at, zero_run}
-use Rattle.ox_query.proofs.Ids.{all_runs_told, no_run, one_run_more}
+use Rattle.ox_query.proofs.IdLists.{all_runs_told, no_run, one_run_more}
 use Rattle.ox_query.proofs.ids.ids_on_runs.Goals as goal
 
 pub add_ids_on_run-requires : goal.add_ids_on_run-requires
 add_ids_on_run-requires g c = (maximal-at c.args.runs.now c.loop-run.run-index zero_run c.requires c.loop-run-test.true).1
 
 pub loop-run-init : goal.loop-run-init
-loop-run-init g c = ap (map view) c.new-ids.ensures ∙ no_run (g.V.View.index c.args.live.now).inscriptions
+loop-run-init g c = ap (map view) c.new-ids.ensures.items ∙ no_run (g.V.View.index c.args.live.now).inscriptions
 
 pub loop-run-preserved : goal.loop-run-preserved
 loop-run-preserved g c =

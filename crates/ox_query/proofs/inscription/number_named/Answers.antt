@@ -1,4 +1,4 @@
-use Rattle.ox_query.proofs.Ids.{found_there}
+use Rattle.ox_query.proofs.IdLists.{found_there}
 use Rattle.ox_query.proofs.inscription.number_named.Goals as goal
 
 pub returns-in-Some-clause-there : goal.returns-in-Some-clause-there

@@ -1,7 +1,7 @@
 use Rattle.std.proofs.Common.{◌≡◌, map}
 use Rattle.serde_json.specs.View.{view}
 use Rattle.ox_ask.specs.Inscriptions.{inscription_id}
-use Rattle.ox_query.proofs.Pages.{rows_between}
+use Rattle.ox_query.proofs.PageRows.{rows_between}
 use Rattle.ox_query.proofs.inscription.page_of_ids.Given as goal
 
 abbrev pub invariant-loop-n : goal.invariant-loop-n

@@ -1,7 +1,7 @@
 -- The rows of a page, one by one.
-use Rattle.std.proofs.Common.{◌≡◌, ℕ, Bool, suc, ◌+◌, ◌-◌, ◌*◌, ◌<◌, ◌≤◌, min, List, [], ◌∷◌, ◌++◌, length, get_or, take, drop, map, Some, refl, sym, ap, ap₂, ◌∙◌, arith}
+use Rattle.std.proofs.Common.{◌≡◌, ℕ, Bool, ◌+◌, ◌-◌, ◌*◌, ◌<◌, ◌≤◌, min, List, [], ◌∷◌, ◌++◌, length, get_or, take, drop, map, Some, sym, ap, ap₂, ◌∙◌, arith}
 use Rattle.std.specs.Prelude.{codes, nat_lt, slice_get}
-use Rattle.std.proofs.lemmas.List.{drop_min, length-drop, map-append, take_all, take_more, get_or-drop, take_min}
+use Rattle.std.proofs.lemmas.List.{drop_min, length-drop, map-append, take_more, get_or-drop, take_min}
 use Rattle.std.proofs.lemmas.Option.{get_or_from_slice_get, slice_get_within}
 use Rattle.serde_json.specs.Data.{Data, array, boolean, member, no_members, object}
 use Rattle.serde_json.specs.View.{items_of, view}

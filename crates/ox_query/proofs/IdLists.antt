@@ -1,14 +1,13 @@
 -- Lists of ids, inscription by inscription and satoshi by satoshi.
-use Rattle.std.proofs.Common.{◌≡◌, true≢false, Vec, Global, ℕ, zero, suc, ◌+◌, ◌-◌, ◌<◌, ◌≤◌, ◌^◌, Bool, true, false, cond, ltb, lt-ltb, ltb-true, IsUtf8, ◌&&◌, List, [], ◌∷◌, ◌++◌, length, get_or, take, drop, reverse, map, append_assoc, bytes_eq, Option, Some, None, Result, Ok, Err, decimal, refl, sym, ap, ap₂, ◌∙◌, subst, arith}
+use Rattle.std.proofs.Common.{◌≡◌, Vec, Global, ℕ, suc, ◌+◌, ◌-◌, ◌<◌, ◌≤◌, ◌^◌, Bool, true, false, cond, ltb, lt-ltb, ltb-true, IsUtf8, ◌&&◌, List, [], ◌∷◌, ◌++◌, length, get_or, take, drop, reverse, map, append_assoc, bytes_eq, Option, Some, None, Result, Ok, Err, decimal, refl, sym, ap, ap₂, ◌∙◌, subst, arith}
 use Rattle.std.specs.Prelude.{All, IfSome, slice_get}
 use Rattle.std.specs.List.{cons_option, filter_map, flat_map, list_all, position_or_len}
 use Rattle.std.specs.Char.{is_ascii_digit}
 use Rattle.std.specs.Str.{IsAscii}
 use Rattle.std.specs.Str.Parse.{digits_value}
-use Rattle.std.proofs.lemmas.Bool.{cases_lt}
 use Rattle.std.proofs.lemmas.Fmt.{IsAscii-decimal}
 use Rattle.std.proofs.lemmas.Grind.{flat_map-append}
-use Rattle.std.proofs.lemmas.List.{map-append, take_all, take_more}
+use Rattle.std.proofs.lemmas.List.{append-nil, map-append, take_all, take_more}
 use Rattle.std.proofs.lemmas.List.Elements.{All-cons, All-nil, All-weaker, filter_map-append}
 use Rattle.std.proofs.lemmas.Option.{cond_some}
 use Rattle.std.proofs.lemmas.Str.{IsUtf8-from_ascii, IsAscii-append}
@@ -79,16 +78,15 @@ id_is_text id again =
 below : (passes : InsRow → Bool) (from : ℕ) (rows : List InsRow) → All (λ n. n < from + length rows) (numbers_where passes from rows)
 unfolding numbers_where
 below passes from [] = All-nil (λ n. n < from + 0)
-below passes from (row ∷ rows) = by (passes row)
+below passes from (row ∷ rows) = by (passes row) (below passes (from + 1) rows)
   where
-    later : All (λ n. n < from + suc (length rows)) (numbers_where passes (from + 1) rows)
-    later =
-        All-weaker (λ n. n < from + 1 + length rows) (λ n. n < from + suc (length rows)) (λ n less. omega (arith, less))
-        (numbers_where passes (from + 1) rows) (below passes (from + 1) rows)
-
-    by : (passed : Bool) → All (λ n. n < from + suc (length rows)) (cond passed (from ∷ numbers_where passes (from + 1) rows) (numbers_where passes (from + 1) rows))
-    by true = All-cons (λ n. n < from + suc (length rows)) from (numbers_where passes (from + 1) rows) (omega arith) later
-    by false = later
+    by : (passed : Bool) → All (λ n. n < from + 1 + length rows) (numbers_where passes (from + 1) rows)
+        → All (λ n. n < from + suc (length rows)) (cond passed (from ∷ numbers_where passes (from + 1) rows) (numbers_where passes (from + 1) rows))
+    by true later =
+        All-cons (λ n. n < from + suc (length rows)) from (numbers_where passes (from + 1) rows) (omega arith)
+        (All-weaker (λ n. n < from + 1 + length rows) (λ n. n < from + suc (length rows)) (λ n less. omega (arith, less)) (numbers_where passes (from + 1) rows) later)
+    by false later =
+        All-weaker (λ n. n < from + 1 + length rows) (λ n. n < from + suc (length rows)) (λ n less. omega (arith, less)) (numbers_where passes (from + 1) rows) later
 
 module _ (rows : List InsRow) where
   pub on_below : (sat : ℕ) → All (λ n. n < length rows) (on rows sat)
@@ -163,6 +161,10 @@ module _ (rows : List InsRow) where
       ap (λ (ids : List Data). ids ++ ids_of rows rest) here
       ∙ append_assoc values (ids_of rows numbers) (ids_of rows rest)
       ∙ ap (λ (ids : List Data). values ++ ids) (sym (ids_of-append numbers rest) ∙ ap (ids_of rows) (sym is)) ∙ so_far
+
+  pub walked_all : (all values : List Data) (between : List ℕ) → between ≡ [] → values ++ ids_of rows between ≡ all → values ≡ all
+  walked_all all values between none so_far =
+      sym (append-nil values) ∙ ap (λ (numbers : List ℕ). values ++ ids_of rows numbers) (sym none) ∙ so_far
 
   -- ---- run by run
 
