@@ -174,8 +174,10 @@ module _ {runs late away : StretchList} {came : List ℕ} (kept : AreKept runs l
     } where
       late_is : (f : ℕ) → stretch_at late' f ≡ stretch_at (stretches_of at 0 list) f
       late_is f = is f ∙ ap (option_or (stretch_at (stretches_of at 0 list) f)) (none f) ∙ sym (or_none (stretch_at (stretches_of at 0 list) f))
+
       not_late : (f : ℕ) → is_among (firsts_of list) f ≡ false → stretch_at late' f ≡ None
       not_late f out = late_is f ∙ none_begins at 0 f list out
+
       by_test : (f : ℕ) (b : Bool) → is_among (firsts_of list) f ≡ b → Agree (stretch_at late' f) (stretch_at runs' f)
       by_test f true among = subst (Agree (stretch_at late' f)) (sym (less f ∙ goes_none (goes f) (stretch_at runs f) (fresh f among))) (agree_none (stretch_at late' f))
       by_test f false out = subst (λ (o : Option Stretch). Agree o (stretch_at runs' f)) (sym (not_late f out)) (none_agree (stretch_at runs' f))
@@ -268,12 +270,13 @@ kept_step goes gone among came true old away run news live' removed noted same w
     (λ w. ap (λ (b : Bool). option_or away (cond b None run)) w ∙ same)
     (λ new. by_goes goes refl new.1)
     which where
-  by_goes : (b : Bool) → goes ≡ b → among ≡ true → option_or away None ≡ option_or old (cond came None run)
-  by_goes true is among = sym (or_none away) ∙ noted is
-  by_goes false is among = ap (option_or away) (sym (none_less came) ∙ ap (λ (o : Option Stretch). cond came None o) (sym (fresh among is))) ∙ same
+      by_goes : (b : Bool) → goes ≡ b → among ≡ true → option_or away None ≡ option_or old (cond came None run)
+      by_goes true is among = sym (or_none away) ∙ noted is
+      by_goes false is among = ap (option_or away) (sym (none_less came) ∙ ap (λ (o : Option Stretch). cond came None o) (sym (fresh among is))) ∙ same
 kept_step goes gone among came false old away run news live' removed noted same which fresh come is = ap (option_or away) (is ∙ ap (λ (o : Option Stretch). option_or o (cond gone None run)) (come refl)) ∙ by_gone gone refl where
   was : false ≡ came
   was = ⊎_elim (λ w. w) (λ new. absurd (true≢false (sym new.0))) which
+
   by_gone : (b : Bool) → gone ≡ b → option_or away (cond b None run) ≡ option_or old (cond came None run)
   by_gone true is = sym (or_none away) ∙ noted (removed is)
   by_gone false is = ap (λ (b : Bool). option_or away (cond b None run)) was ∙ same

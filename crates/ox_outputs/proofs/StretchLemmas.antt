@@ -256,6 +256,7 @@ pub noted_at : (first q : ℕ) (came : List ℕ) (there away : StretchList) (n :
 noted_at first q came there away n is = is ∙ by_test (is_at (nat_cmp first) q) refl where
   one : ℕ → Option Stretch
   one f = noted_one (is_among came f) (stretch_at away f) (stretch_at there f)
+
   by_test : (b : Bool) → is_at (nat_cmp first) q ≡ b → cond b (one first) (stretch_at away q) ≡ cond b (one q) (stretch_at away q)
   by_test true at = ap one (same_as first q at)
   by_test false at = refl
@@ -265,6 +266,7 @@ pub noted_not : (first q : ℕ) (came : List ℕ) (there away : StretchList) →
 noted_not first q came there away none = noted_at first q came there away (stretch_at away q) (by_test (is_at (nat_cmp first) q) refl) where
   one : Option Stretch
   one = noted_one (is_among came first) (stretch_at away first) (stretch_at there first)
+
   by_test : (b : Bool) → is_at (nat_cmp first) q ≡ b → stretch_at away q ≡ cond b one (stretch_at away q)
   by_test true at = ap (stretch_at away) (sym (same_as first q at)) ∙ sym none
   by_test false at = refl

@@ -379,7 +379,15 @@ fn reveal_more(
 fn delegating(rt: &impl Abort, alloc: Global) -> (Live, [OutPoint; 6]) {
     let mut live = lab(rt, alloc);
     let tip = plain_blocks(rt, alloc, &mut live, 2);
-    let (tip, own) = reveal_more(rt, alloc, &mut live, tip, 2, plain_at(rt, alloc, 0), UNBOUND);
+    let (tip, own) = reveal_more(
+        rt,
+        alloc,
+        &mut live,
+        tip,
+        2,
+        plain_at(rt, alloc, 0),
+        UNBOUND,
+    );
     let script = naming(rt, alloc, 11, own, b"\x68");
     let (tip, one) = reveal_more(rt, alloc, &mut live, tip, 3, own, script.as_slice());
     let script = naming(rt, alloc, 11, one, b"\x68");
