@@ -136,20 +136,50 @@ fn next_block(feed: &[u8]) -> Option<(&[u8], &[u8])> {
     behind.split_at_checked(u32::from_le_bytes(*head) as usize)
 }
 
-/// Does all blocks, the last so often and once more. Answers the transactions of the others. `None`
-/// where one is none, or there is no memory.
-fn work(alloc: Global, ledger: &mut Ledger, feed: &[u8], times: u32) -> Option<Vec<Outputs>> {
-    let mut made = Vec::new(alloc);
+/// Does a block that others follow, and puts its transactions behind those of others. `None` where
+/// it is none, or there is no memory.
+fn fill(
+    alloc: Global,
+    ledger: &mut Ledger,
+    height: u32,
+    bytes: &[u8],
+    made: &mut Vec<Outputs>,
+) -> Option<()> {
+    let given = given_of(alloc, bytes)?;
+    match connect(ledger, height, &given) {
+        Ok(()) => note(made, &given),
+        Err(_) => None,
+    }
+}
+
+/// Does the last block so often and once more. `None` where it is none, or there is no memory.
+fn finish(
+    alloc: Global,
+    ledger: &mut Ledger,
+    height: u32,
+    bytes: &[u8],
+    times: u32,
+) -> Option<()> {
+    let given = given_of(alloc, bytes)?;
+    repeat(ledger, height, &given, times).ok()
+}
+
+/// Does all blocks, the last so often and once more, and notes the transactions of the others.
+/// `None` where one is none, or there is no memory.
+fn work(
+    alloc: Global,
+    ledger: &mut Ledger,
+    feed: &[u8],
+    times: u32,
+    made: &mut Vec<Outputs>,
+) -> Option<()> {
     let mut rest = feed;
     for height in 0..u32::MAX {
         let (block, behind) = next_block(rest)?;
-        let given = given_of(alloc, block)?;
         if behind.is_empty() {
-            repeat(ledger, height, &given, times).ok()?;
-            return Some(made);
+            return finish(alloc, ledger, height, block, times);
         }
-        connect(ledger, height, &given).ok()?;
-        note(&mut made, &given)?;
+        fill(alloc, ledger, height, block, made)?;
         rest = behind;
     }
     None
@@ -185,6 +215,34 @@ fn burned(ledger: &Ledger) -> u128 {
     sum
 }
 
+/// What stands in the ledger at the end.
+#[derive(Clone, Copy)]
+struct Totals {
+    runes: u32,
+    burned: u128,
+    found: Found,
+}
+
+/// Does all blocks, and looks up the balances so often. `None` where there is no block, or no
+/// memory.
+fn measure(alloc: Global, feed: &[u8], times: u32, looks: u32) -> Option<Totals> {
+    let mut ledger = Ledger::new(alloc, &profile_of(ProfileName::Regtest)).ok()?;
+    let mut made = Vec::new(alloc);
+    work(alloc, &mut ledger, feed, times, &mut made)?;
+    let mut found = Found {
+        outputs: 0,
+        amount: 0,
+    };
+    for _ in 0..looks {
+        found = look(&ledger, &made);
+    }
+    Some(Totals {
+        runes: ledger.len(),
+        burned: burned(&ledger),
+        found,
+    })
+}
+
 fn main(rt: HostRuntime) -> anyhow::Result<()> {
     let alloc = rt.alloc();
     let mut numbers = [0, 0];
@@ -194,22 +252,15 @@ fn main(rt: HostRuntime) -> anyhow::Result<()> {
     let [times, looks] = numbers;
     let mut feed = Vec::new(alloc);
     rt.stdin().read_to_end(&mut feed)?;
-    let Ok(mut ledger) = Ledger::new(alloc, &profile_of(ProfileName::Regtest)) else {
-        return Ok(());
-    };
-    let Some(made) = work(alloc, &mut ledger, &feed, times) else {
+    let Some(totals) = measure(alloc, &feed, times, looks) else {
         println!(rt; "no block, or no memory")?;
         return Ok(());
     };
-    let mut found = Found {
-        outputs: 0,
-        amount: 0,
-    };
-    for _ in 0..looks {
-        found = look(&ledger, &made);
-    }
-    let (runes, burned) = (ledger.len(), burned(&ledger));
-    let Found { outputs, amount } = found;
+    let Totals {
+        runes,
+        burned,
+        found: Found { outputs, amount },
+    } = totals;
     println!(rt; "{runes} runes, {burned} burned, {outputs} outputs hold {amount}")?;
     Ok(())
 }
