@@ -33,7 +33,7 @@ pub(crate) enum Load {
 
 /// How many parents the transaction of so many inputs names.
 pub(crate) fn parents_for(count: u32) -> u32 {
-    count / 2 * 5
+    (count / 2).wrapping_mul(5)
 }
 
 /// A number below an end in a scattered order.
