@@ -153,13 +153,7 @@ fn fill(
 }
 
 /// Does the last block so often and once more. `None` where it is none, or there is no memory.
-fn finish(
-    alloc: Global,
-    ledger: &mut Ledger,
-    height: u32,
-    bytes: &[u8],
-    times: u32,
-) -> Option<()> {
+fn finish(alloc: Global, ledger: &mut Ledger, height: u32, bytes: &[u8], times: u32) -> Option<()> {
     let given = given_of(alloc, bytes)?;
     repeat(ledger, height, &given, times).ok()
 }
