@@ -24,12 +24,12 @@ loop-chain-init g c =
 
 pub returns-in_err-chain-clause-told : goal.returns-in_err-chain-clause-told
 returns-in_err-chain-clause-told g c =
-    let p = err_from_is_err_and c.from_residual-in_err-chain.result c.from_residual-in_err-chain.ensures.1 in
+    let p = err_from_is_err_and c.from_residual.result c.from_residual.ensures.1 in
     rw (p.1, p.2) (grows_unheard (stack_of (empty_machine c.args.p.now fold_depth)) (g.S.Site.log c.args.site.now))
 
 pub returns-in_err-answer-clause-told : goal.returns-in_err-answer-clause-told
 returns-in_err-answer-clause-told g c =
-    let p = err_from_is_err_and c.from_residual.result c.from_residual.ensures.1 in
+    let p = err_from_is_err_and c.from_residual-in_err-answer.result c.from_residual-in_err-answer.ensures.1 in
     rw (p.1, p.2)
     (grows_stopped (stack_of (empty_machine c.args.p.now fold_depth)) c.loop-chain.lines c.next_answer.new.lines (stack_in c.loop-chain.chain) (stack_in c.next_answer.new.chain) c.in_err-answer.field-0.0
     (g.S.Site.log c.args.site.now) (g.S.Site.log c.loop-chain.site) (g.S.Site.log c.next_answer.new.site)
