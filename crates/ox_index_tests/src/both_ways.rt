@@ -24,6 +24,7 @@ fn block_of(rt: &impl Abort, alloc: Global, tip: [u8; 32], txs: Vec<Tx>) -> (Byt
 /// and runes there are.
 #[derive(Clone, Copy)]
 struct Seen {
+    blocks: u32,
     height: u32,
     tip: [u8; 32],
     at: OutPoint,
@@ -36,9 +37,9 @@ struct Seen {
 
 /// Whether there are just the blocks up to this one.
 fn ends_with(live: &Live, seen: &Seen) -> bool {
-    live.blocks() == seen.height + 1
+    live.blocks() == seen.blocks
         && live.hash_of(seen.height) == Some(&seen.tip)
-        && live.hash_of(seen.height + 1).is_none()
+        && live.hash_of(seen.blocks).is_none()
 }
 
 /// Whether the output holds a subsidy from this satoshi on, and so many satoshis are lost.
@@ -97,6 +98,7 @@ fn an_equal_coinbase_is_taken_back_and_in_again(rt: HostRuntime) {
     let mut live = fresh(&rt, alloc);
     let (tip, at) = mine(&rt, alloc, &mut live, [0; 32], 7, SUBSIDY);
     let before = Seen {
+        blocks: 1,
         height: 0,
         tip,
         at,
@@ -110,6 +112,7 @@ fn an_equal_coinbase_is_taken_back_and_in_again(rt: HostRuntime) {
     add(&rt, &mut txs, coinbase_of(&rt, alloc, 7, SUBSIDY));
     let (bytes, next) = block_of(&rt, alloc, tip, txs);
     let after = Seen {
+        blocks: 2,
         height: 1,
         tip: next,
         first: SUBSIDY,
@@ -137,6 +140,7 @@ fn inscriptions_and_runes_are_taken_back_and_in_again(rt: HostRuntime) {
     let mut live = lab(&rt, alloc);
     let tip = plain_blocks(&rt, alloc, &mut live, 3);
     let before = Seen {
+        blocks: 3,
         height: 2,
         tip,
         at: plain_at(&rt, alloc, 2),
@@ -153,6 +157,7 @@ fn inscriptions_and_runes_are_taken_back_and_in_again(rt: HostRuntime) {
     add(&rt, &mut txs, tx);
     let (bytes, next) = block_of(&rt, alloc, tip, txs);
     let after = Seen {
+        blocks: 4,
         height: 3,
         tip: next,
         at,
