@@ -47,10 +47,15 @@ def chain(count, script_at=lambda height: SHORT):
     return blocks, tips
 
 
-def envelope(kind, body):
-    """A tapscript with an inscription of this content type and body, each of at most 75 bytes."""
-    pushes = [b"ord", b"\1", kind, b"", body]
+def envelope(fields, body):
+    """A part of a tapscript with an inscription of these tags and values and this body, each of 1 to 75 bytes."""
+    pushes = [b"ord"] + [push for tag, value in fields for push in (bytes([tag]), value)] + [b"", body]
     return b"\0\x63" + b"".join(bytes([len(push)]) + push for push in pushes) + b"\x68"
+
+
+def id_value(txid, index):
+    """An inscription's id as a field has it."""
+    return txid + bytes([index] if index else [])
 
 
 def revealing(spent, tapscript, outputs):

@@ -23,8 +23,8 @@ import sys
 import tempfile
 import traceback
 
-from chain import DISCONNECT, SHORT, SUBSIDY, block_with, chain, coinbase, envelope, file_a, file_of, line, payload_of, record
-from chain import revealing, twice
+from chain import DISCONNECT, SHORT, SUBSIDY, block_with, chain, coinbase, envelope, file_a, file_of, id_value, line
+from chain import payload_of, record, revealing, twice
 from kills import Failed, demand, kill_often
 
 HERE = pathlib.Path(__file__).resolve().parent
@@ -269,26 +269,36 @@ def inscriptions_and_runes(ox):
     blocks, _ = chain(3)
     spent = twice(coinbase(0, SHORT))
     previous = twice(blocks[2][:80])
-    # an etching with premine 7, cap 10 and amount 5, at the height at which the lab's runes start
+    # an etching with premine 7, cap 10 and amount 5
     stone = bytes.fromhex("6a5d0802030607080a0a05")
-    tx = revealing(spent, envelope(b"text/plain", b"hi"), [(SUBSIDY, SHORT), (0, stone)])
-    block, tip = block_with(previous, 3, tx)
-    txid = twice(tx[0])[::-1].hex()
-    id, at, name = f"{txid}i0", f"{txid}:0", name_of(RESERVED + (3 << 32) + 1)
+    outputs = [(SUBSIDY, SHORT), (0, stone)]
+    hash = twice(revealing(spent, b"", outputs)[0])
+    txid, at, name = hash[::-1].hex(), f"{hash[::-1].hex()}:0", name_of(RESERVED + (3 << 32) + 1)
+    ids = [f"{txid}i{index}" for index in range(3)]
+    # the first has a content, the second delegates to it, and the third to the second, which has a body of its own
+    script = envelope([(1, b"text/plain"), (5, b"\0\xff"), (7, b"m"), (9, b"br")], b"hi")
+    script += envelope([(11, id_value(hash, 0))], b"two") + envelope([(11, id_value(hash, 1))], b"three")
+    block, tip = block_with(previous, 3, revealing(spent, script, outputs))
     ox.wants((0, b"ok empty\n"), "init", "lab", "100")
     ox.run("apply", feed=b"".join(map(line, blocks)))
     ox.wants((0, f"ok 3 {tip[::-1].hex()}\n".encode()), "apply", feed=line(block))
-    ox.says("/inscriptions/0", {"ids": [id], "more": False, "page": 0})
-    ox.says(f"/content/{id}", b"hi")
-    inscription = {"content_length": 2, "content_type": "text/plain", "delegate": None, "encoding": None, "height": 3, "id": id}
-    inscription |= {"metadata": None, "metaprotocol": None, "number": 0, "parents": [], "place": {"offset": 0, "outpoint": at}, "sat": 0}
-    ox.says(f"/inscription/{id}", inscription)
+    ox.says("/inscriptions/0", {"ids": ids, "more": False, "page": 0})
+    for id, content in zip(ids, (b"hi", b"hi", b"two")):
+        ox.says(f"/content/{id}", content)
+    place = {"offset": 0, "outpoint": at}
+    inscription = {"content_length": 2, "content_type": "text/plain", "delegate": None, "encoding": "br", "height": 3, "id": ids[0]}
+    inscription |= {"metadata": "00ff", "metaprotocol": "m", "number": 0, "parents": [], "place": place, "sat": 0}
+    ox.says(f"/inscription/{ids[0]}", inscription)
+    third = {"content_length": 5, "content_type": None, "delegate": ids[1], "encoding": None, "id": ids[2], "metadata": None}
+    ox.says(f"/inscription/{ids[2]}", inscription | third | {"metaprotocol": None, "number": 2})
+    satoshi = {"decimal": "0.0", "degree": "0°0′0″0‴", "inscriptions": ids, "name": "lkrmvqwx", "number": 0, "place": place}
+    ox.says("/sat/0", satoshi | {"rarity": "mythic"})
     rune = {"amount": "5", "burned": "0", "cap": "10", "divisibility": 0, "etching": txid, "height": [None, None], "held": "7"}
     rune |= {"id": "3:1", "mintable": True, "mints": "0", "name": name, "number": 0, "offset": [None, None], "premine": "7", "symbol": None}
     for part in ("3:1", name, name[:5] + "%E2%80%A2" + name[5:]):
         ox.says(f"/rune/{part}", rune)
     balance = {"amount": "7", "id": "3:1", "name": name, "shown": "7"}
-    output = {"height": 3, "inscriptions": [id], "ranges": [[0, SUBSIDY]], "runes": [balance], "script": SHORT.hex(), "value": SUBSIDY}
+    output = {"height": 3, "inscriptions": ids, "ranges": [[0, SUBSIDY]], "runes": [balance], "script": SHORT.hex(), "value": SUBSIDY}
     ox.says(f"/output/{at}", output)
     audited = {"burned": "0", "held": "7", "id": "3:1", "minted": "0", "premine": "7"}
     ox.says("/audit", {"claimable": 4 * SUBSIDY, "lost": 0, "outputs": 4 * SUBSIDY, "runes": [audited]})
@@ -296,7 +306,7 @@ def inscriptions_and_runes(ox):
     ox.says("/audit", {"claimable": 3 * SUBSIDY, "lost": 0, "outputs": 3 * SUBSIDY, "runes": []})
     ox.says("/inscriptions/0", {"ids": [], "more": False, "page": 0})
     ox.says("/runes/0", {"ids": [], "more": False, "page": 0})
-    for path in (f"/inscription/{id}", f"/content/{id}", "/rune/3:1", f"/output/{at}"):
+    for path in (f"/inscription/{ids[0]}", f"/content/{ids[0]}", "/rune/3:1", f"/output/{at}"):
         ox.says(path, {"error": 404})
 
 
