@@ -407,43 +407,6 @@ fn blocks_that_were_replaced_leave_nothing_behind(rt: HostRuntime) {
     assert!(rt; is_replaced(&rt, alloc, &mut site));
 }
 
-// Lets a command go that isn't to be committed.
-fn give_up(ready: Ready) {
-    let Ready {
-        alloc: _,
-        chain: _chain,
-        taken_back: _taken_back,
-        tail: _tail,
-        commands: _,
-        framed: _framed,
-    } = ready;
-}
-
-// Prepares the first command of a store.
-fn preparation_of(rt: &impl Abort, store: Store, command: &Command) -> Result<Ready, Kept> {
-    assert!(rt; store.commands() == 0);
-    store.prepare(command)
-}
-
-// The store that a command hands back that is refused for this.
-fn store_after_refusal(
-    rt: &impl Abort,
-    store: Store,
-    command: &Command,
-    refusal: Refusal,
-) -> Store {
-    match preparation_of(rt, store, command) {
-        Ok(ready) => {
-            give_up(ready);
-            panic!(rt; "prepared");
-        }
-        Err(Kept { store, why }) => {
-            assert!(rt; why == Why::Refused(refusal));
-            store
-        }
-    }
-}
-
 // Whether a command that is prepared connects the block with this hash, which makes one output.
 fn moves_on(ready: &Ready, hash: &[u8; 32]) -> bool {
     match ready.moving() {
@@ -454,28 +417,32 @@ fn moves_on(ready: &Ready, hash: &[u8; 32]) -> bool {
     }
 }
 
-// Whether the first block is prepared, and is the tip then.
-fn is_prepared(rt: &impl Abort, alloc: Global, store: Store) -> bool {
-    match preparation_of(rt, store, &first_block(rt, alloc)) {
-        Ok(ready) => {
-            let own = moves_on(&ready, &GENESIS_HASH);
-            let height = ready.tip().map(|(height, _)| height);
-            give_up(ready);
-            own && height == Some(0)
-        }
-        Err(_) => false,
-    }
+// Makes a store, and prepares two commands that are refused and then the first block: whether each
+// refusal has its cause and the block is the tip then.
+fn refuses_and_prepares(rt: &impl Abort, alloc: Global, site: &mut MemSite) -> bool {
+    let Ok(store) = Store::make(alloc, site, ProfileName::Regtest, 100) else {
+        panic!(rt; "not made");
+    };
+    let Err(Kept { store, why }) = store.prepare(&Command::Disconnect) else {
+        panic!(rt; "prepared");
+    };
+    let is_deepest = why == Why::Refused(Refusal::Depth);
+    let Err(Kept { store, why }) = store.prepare(&Command::Connect(Bytes::empty(alloc))) else {
+        panic!(rt; "prepared");
+    };
+    let is_malformed = why == Why::Refused(Refusal::Malformed { at: 0 });
+    let Ok(ready) = store.prepare(&first_block(rt, alloc)) else {
+        panic!(rt; "not prepared");
+    };
+    let is_tip = ready.tip().map(|(height, _)| height) == Some(0);
+    let own = moves_on(&ready, &GENESIS_HASH);
+    let is_committed = ready.commit(site).is_ok();
+    is_deepest && is_malformed && is_tip && own && is_committed
 }
 
 #[test]
 fn a_refusal_hands_the_store_back(rt: HostRuntime) {
     let alloc = rt.alloc();
     let mut site = empty_site(&rt, alloc);
-    let Ok(store) = Store::make(alloc, &mut site, ProfileName::Regtest, 100) else {
-        panic!(rt; "not made");
-    };
-    let store = store_after_refusal(&rt, store, &Command::Disconnect, Refusal::Depth);
-    let empty = Command::Connect(Bytes::empty(alloc));
-    let store = store_after_refusal(&rt, store, &empty, Refusal::Malformed { at: 0 });
-    assert!(rt; is_prepared(&rt, alloc, store));
+    assert!(rt; refuses_and_prepares(&rt, alloc, &mut site));
 }
