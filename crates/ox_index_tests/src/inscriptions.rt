@@ -63,10 +63,13 @@ fn pointers_choose_satoshis(rt: HostRuntime) {
         &[(spent, POINTERS)],
         &[(1_000, PLAIN), (2_000, PLAIN)],
     );
+    let (low, high) = (out_of(&tx, 0), out_of(&tx, 1));
     extend_by(&rt, alloc, &mut live, tip, 6, tx);
     assert!(rt; live.inscriptions() == 4);
     assert!(rt; is_on(&live, 0, 2_999) && is_on(&live, 1, 0));
     assert!(rt; is_on(&live, 2, 0) && is_on(&live, 3, 1_000));
+    assert!(rt; is_in(&live, 2_999, high, 1_999) && is_in(&live, 0, low, 0));
+    assert!(rt; is_in(&live, 1_000, high, 0));
     assert!(rt; live.next_on(1).is_some_and(|found| found.0 == 1_000));
 }
 
@@ -109,8 +112,9 @@ fn naming(rt: &impl Abort, alloc: Global, before: &[u8], parent: OutPoint) -> Ve
     script
 }
 
-/// Block 7: P on the first satoshi of height 1, then Q, which names P, and one that names Q.
-fn with_parents(rt: &impl Abort, alloc: Global, live: &mut Live, tip: [u8; 32]) {
+/// Block 7: P on the first satoshi of height 1, then Q, which names P, and one that names Q. The
+/// output on which they are.
+fn with_parents(rt: &impl Abort, alloc: Global, live: &mut Live, tip: [u8; 32]) -> OutPoint {
     let p = reveals(rt, alloc, plain_at(rt, alloc, 1), BARE);
     let p_out = out_of(&p, 0);
     let q_out = out_of(&reveals(rt, alloc, p_out, &[]), 0);
@@ -121,6 +125,7 @@ fn with_parents(rt: &impl Abort, alloc: Global, live: &mut Live, tip: [u8; 32]) 
     add(rt, &mut txs, p);
     add(rt, &mut txs, reveals(rt, alloc, p_out, both.as_slice()));
     extend(rt, alloc, live, tip, txs);
+    q_out
 }
 
 /// How many parents the inscription with a number has.
@@ -139,8 +144,8 @@ fn a_parent_stood_on_the_inputs_before(rt: HostRuntime) {
     let tip = plain_blocks(&rt, alloc, &mut live, 6);
     let tx = reveals(&rt, alloc, plain_at(&rt, alloc, 0), UNBOUND);
     let tip = extend_by(&rt, alloc, &mut live, tip, 6, tx);
-    with_parents(&rt, alloc, &mut live, tip);
-    assert!(rt; live.on(SUBSIDY) == [1, 2, 3].as_slice());
+    let at = with_parents(&rt, alloc, &mut live, tip);
+    assert!(rt; live.on(SUBSIDY) == [1, 2, 3].as_slice() && is_in(&live, SUBSIDY, at, 0));
     assert!(rt; parents(&live, 2) == 1 && parents(&live, 3) == 0);
     assert!(rt; live.inscriptions() == 4 && live.children(1) == [2].as_slice());
 }
@@ -191,6 +196,21 @@ fn envelopes_are_marked(rt: HostRuntime) {
     assert!(rt; marks(&live, 2) == 1 && marks(&live, 3) == 0 && marks(&live, 4) == 0x90);
 }
 
+/// Connects a block of which a transaction moves this output's satoshis on; the new tip, and where
+/// they are then.
+fn move_on(
+    rt: &impl Abort,
+    alloc: Global,
+    live: &mut Live,
+    tip: [u8; 32],
+    mark: u8,
+    from: OutPoint,
+) -> ([u8; 32], OutPoint) {
+    let tx = reveals(rt, alloc, from, &[]);
+    let at = out_of(&tx, 0);
+    (extend_by(rt, alloc, live, tip, mark, tx), at)
+}
+
 // The satoshi is found at each step: revealed, moved twice, and lost.
 #[test]
 fn an_inscription_moves_with_its_satoshi(rt: HostRuntime) {
@@ -201,19 +221,34 @@ fn an_inscription_moves_with_its_satoshi(rt: HostRuntime) {
     let at = out_of(&tx, 0);
     let tip = extend_by(&rt, alloc, &mut live, tip, 2, tx);
     assert!(rt; is_on(&live, 0, SUBSIDY) && is_in(&live, SUBSIDY, at, 0));
-    let tx = reveals(&rt, alloc, at, &[]);
-    let at = out_of(&tx, 0);
-    let tip = extend_by(&rt, alloc, &mut live, tip, 3, tx);
+    let (tip, at) = move_on(&rt, alloc, &mut live, tip, 3, at);
+    assert!(rt; is_in(&live, SUBSIDY, at, 0));
+    let (tip, at) = move_on(&rt, alloc, &mut live, tip, 4, at);
     assert!(rt; is_in(&live, SUBSIDY, at, 0));
     let tx = tx_of(&rt, alloc, &[(at, &[])], &[(0, PLAIN)]);
-    extend_by(&rt, alloc, &mut live, tip, 4, tx);
+    extend_by(&rt, alloc, &mut live, tip, 5, tx);
     assert!(rt; is_on(&live, 0, SUBSIDY) && live.lost() == SUBSIDY);
     assert!(rt; live.locate(SUBSIDY) == Some(Place::Lost { offset: 0 }));
 }
 
-// Inscriptions of one id stand one behind the other; the first is found.
+// An equal coinbase lets a transaction repeat with another witness. Both inscriptions have its id.
 #[test]
-fn the_first_of_an_id_is_found(rt: HostRuntime) {
+fn the_first_of_a_shared_id_is_found(rt: HostRuntime) {
+    let alloc = rt.alloc();
+    let mut live = lab(&rt, alloc);
+    let (tip, at) = mine(&rt, alloc, &mut live, [0; 32], 0, SUBSIDY);
+    let tx = reveals(&rt, alloc, at, BARE);
+    let txid = out_of(&tx, 0).txid.0;
+    let tip = extend_by(&rt, alloc, &mut live, tip, 1, tx);
+    let (tip, at) = mine(&rt, alloc, &mut live, tip, 0, SUBSIDY);
+    let tx = reveals(&rt, alloc, at, UNBOUND);
+    extend_by(&rt, alloc, &mut live, tip, 3, tx);
+    assert!(rt; live.inscriptions() == 2 && live.inscription(1).id.txid == txid);
+    assert!(rt; live.find(&InsId { txid, index: 0 }) == Some(0));
+}
+
+#[test]
+fn each_inscription_of_a_transaction_is_found(rt: HostRuntime) {
     let alloc = rt.alloc();
     let mut live = lab(&rt, alloc);
     let tip = plain_blocks(&rt, alloc, &mut live, 6);

@@ -137,7 +137,13 @@ fn has(
         }
 }
 
-// Block 3 reveals and etches, block 4 reveals, moves and mints, and both are taken back.
+/// Whether so much of the first rune is burned, and outputs hold so much.
+fn burns(live: &Live, burned: u128, held: u128) -> bool {
+    live.runes() > 0 && live.rune(0).burned == burned && live.held(0) == held
+}
+
+// Block 3 reveals and etches, block 4 reveals and burns what it spends and mints, by a cenotaph, and
+// both are taken back.
 #[test]
 fn a_disconnect_takes_inscriptions_and_runes_back(rt: HostRuntime) {
     let alloc = rt.alloc();
@@ -150,10 +156,12 @@ fn a_disconnect_takes_inscriptions_and_runes_back(rt: HostRuntime) {
     let tx = reveals_with(&rt, alloc, plain_at(&rt, alloc, 0), etches);
     let (etched, at) = reveal_on(&rt, alloc, &mut chain, tip, 3, tx);
     assert!(rt; has(chain.live(), 1, 1, 0, at, 7));
-    let tx = reveals_with(&rt, alloc, at, b"\x6a\x5d\x04\x14\x03\x14\x01");
+    let tx = reveals_with(&rt, alloc, at, b"\x6a\x5d\x06\x14\x03\x14\x01\x7e\x00");
     let next = reveal_on(&rt, alloc, &mut chain, etched, 4, tx).1;
-    assert!(rt; has(chain.live(), 2, 1, 1, next, 12) && has(chain.live(), 2, 1, 1, at, 0));
+    assert!(rt; has(chain.live(), 2, 1, 1, next, 0) && has(chain.live(), 2, 1, 1, at, 0));
+    assert!(rt; burns(chain.live(), 12, 0));
     assert!(rt; chain.disconnect().is_ok() && has(chain.live(), 1, 1, 0, at, 7));
+    assert!(rt; burns(chain.live(), 0, 7));
     assert!(rt; chain.live().on(0) == [0].as_slice() && chain.live().balance(&next).is_empty());
     assert!(rt; chain.disconnect().is_ok() && has(chain.live(), 0, 0, 0, at, 0));
     assert!(rt; chain.live().next_on(0).is_none() && has_kept(&chain, 3, 3));

@@ -243,6 +243,9 @@ fn all_at_once(rt: &impl Abort, alloc: Global, at: OutPoint) -> Tx {
 /// Whether an index is as before such a block.
 fn is_before(rt: &impl Abort, live: &Live, at: OutPoint) -> bool {
     live.blocks() == 4
+        && live.hash_of(4).is_none()
+        && live.lost() == 0
+        && live.output(&at).is_some()
         && live.inscriptions() == 0
         && live.runes() == 1
         && stands(rt, live, 0, (3, 1), 10, 0)
