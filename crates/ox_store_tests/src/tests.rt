@@ -423,12 +423,20 @@ fn refuses_and_prepares(rt: &impl Abort, alloc: Global, site: &mut MemSite) -> b
     let Ok(store) = Store::make(alloc, site, ProfileName::Regtest, 100) else {
         panic!(rt; "not made");
     };
-    let Err(Kept { store, why }) = store.prepare(&Command::Disconnect) else {
-        panic!(rt; "prepared");
+    let Kept { store, why } = match store.prepare(&Command::Disconnect) {
+        Err(kept) => kept,
+        Ok(ready) => {
+            let _ended = ready.commit(site);
+            panic!(rt; "prepared");
+        }
     };
     let is_deepest = why == Why::Refused(Refusal::Depth);
-    let Err(Kept { store, why }) = store.prepare(&Command::Connect(Bytes::empty(alloc))) else {
-        panic!(rt; "prepared");
+    let Kept { store, why } = match store.prepare(&Command::Connect(Bytes::empty(alloc))) {
+        Err(kept) => kept,
+        Ok(ready) => {
+            let _ended = ready.commit(site);
+            panic!(rt; "prepared");
+        }
     };
     let is_malformed = why == Why::Refused(Refusal::Malformed { at: 0 });
     let Ok(ready) = store.prepare(&first_block(rt, alloc)) else {
