@@ -419,6 +419,12 @@ fn marks_tell_of_the_place_and_of_earlier_inscriptions(rt: HostRuntime) {
     assert!(rt; is_row(&shelf, 4, Some(10_000_000_000), 16 + 128));
 }
 
+/// The id of the inscription of this number in a transaction.
+fn id_of(txid: Txid, index: u32) -> InsId {
+    let txid = txid.0;
+    InsId { txid, index }
+}
+
 /// Of a transaction's two envelopes the first names an inscription of its input, the second the
 /// first.
 #[test]
@@ -431,14 +437,8 @@ fn parents_stood_on_the_inputs_before(rt: HostRuntime) {
     let reveals = spending(&spent, PLAIN);
     let txid = txid_of(&rt, rt.alloc(), &reveals);
     let between = [OutPoint { txid, index: 0 }];
-    let parent = InsId {
-        txid: txid.0,
-        index: 0,
-    };
-    let child = InsId {
-        txid: txid_of(&rt, rt.alloc(), &spending(&between, &[])).0,
-        index: 0,
-    };
+    let parent = id_of(txid, 0);
+    let child = id_of(txid_of(&rt, rt.alloc(), &spending(&between, &[])), 0);
     let mut script = Bytes::empty(rt.alloc());
     put_child(&rt, &mut script, &[parent]);
     put_child(&rt, &mut script, &[child]);
@@ -466,14 +466,8 @@ fn a_parent_has_a_satoshi_and_is_named_once(rt: HostRuntime) {
     connect_one(&rt, rt.alloc(), &mut table, &mut shelf, reveals, 1);
     let txid = txid_of(&rt, rt.alloc(), &reveals);
     let between = [OutPoint { txid, index: 0 }];
-    let bound = InsId {
-        txid: txid.0,
-        index: 0,
-    };
-    let unbound = InsId {
-        txid: txid.0,
-        index: 1,
-    };
+    let bound = id_of(txid, 0);
+    let unbound = id_of(txid, 1);
     let mut script = Bytes::empty(rt.alloc());
     put_child(&rt, &mut script, &[bound, unbound, bound]);
     let plan = spending(&between, script.as_slice());
@@ -517,10 +511,7 @@ fn rows_of_a_repeated_transaction_go_one_at_a_time(rt: HostRuntime) {
         spending(&spent, NEXT),
         3,
     );
-    let id = InsId {
-        txid: txid_of(&rt, rt.alloc(), &plan).0,
-        index: 0,
-    };
+    let id = id_of(txid_of(&rt, rt.alloc(), &plan), 0);
     assert!(rt; shelf.len() == 2);
     assert!(rt; has_id(&shelf, 0, id) && is_row(&shelf, 0, Some(0), 0));
     assert!(rt; has_id(&shelf, 1, id) && is_row(&shelf, 1, Some(10_000_000_001), 32));
@@ -566,15 +557,9 @@ fn revealed_rows_go_again_at_the_mark(rt: HostRuntime) {
     connect_one(&rt, rt.alloc(), &mut table, &mut shelf, reveals, 1);
     let txid = txid_of(&rt, rt.alloc(), &reveals);
     let between = [OutPoint { txid, index: 0 }];
-    let child = InsId {
-        txid: txid_of(&rt, rt.alloc(), &spending(&between, &[])).0,
-        index: 0,
-    };
+    let child = id_of(txid_of(&rt, rt.alloc(), &spending(&between, &[])), 0);
     let mut script = Bytes::empty(rt.alloc());
-    let parent = InsId {
-        txid: txid.0,
-        index: 0,
-    };
+    let parent = id_of(txid, 0);
     put_child(&rt, &mut script, &[parent]);
     let plan = spending(&between, script.as_slice());
     assert!(rt; shows_one(&rt, &shelf, &child));
