@@ -30,7 +30,7 @@ use Rattle.ox_app.specs.Status.{status_of}
 use Rattle.ox_app.specs.declared.status.Status.{Status}
 use Rattle.ox_app.specs.declared.stop.Stop.{Stop}
 use Rattle.ox_app.specs.declared.stop.Stop.TheVariants as stops
-use Rattle.ox_app.specs.declared.status.Status.TheVariants.{Done, Memory, NotStore}
+use Rattle.ox_app.specs.declared.status.Status.TheVariants.{Done, Memory, NotStore, ShowFault}
 use Rattle.ox_app.specs.Unopened.{LogsUnopened, UnopenedAs}
 
 -- ---- statuses that differ
@@ -43,6 +43,12 @@ memory_opens e = cc
 
 pub memory_undone : Memory ≡ Done → ⊥
 memory_undone e = cc
+
+pub show_opens : ShowFault ≡ NotStore → ⊥
+show_opens e = cc
+
+pub show_undone : ShowFault ≡ Done → ⊥
+show_undone e = cc
 
 -- a feed that ends for want of memory
 pub stopped_by_memory : (result : Result (Unit {0}) Stop) → status_of result ≡ Memory → IsErrOf result stops.Memory
