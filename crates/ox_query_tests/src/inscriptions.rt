@@ -224,7 +224,7 @@ fn has_page(
     page: u32,
     last: &str,
 ) -> bool {
-    let id = id_of(rt, alloc, at, 100 * page);
+    let id = id_of(rt, alloc, at, page.wrapping_mul(100));
     let path = format!(in alloc; "/inscriptions/{page}").expect(rt, "memory");
     let first = format!(in alloc; "{}{id}\"", "{\"ids\":[\"").expect(rt, "memory");
     spans(rt, alloc, live, path.as_str(), first.as_str(), last)
@@ -273,13 +273,13 @@ fn shows_all(
     at: OutPoint,
     rows: &[(&[u8], &[u8], &[u8])],
 ) -> bool {
-    let mut index = 0;
+    let mut index: u32 = 0;
     for (body, kind, encoding) in rows {
         let id = id_of(rt, alloc, at, index);
         if !shows(rt, alloc, live, id.as_str(), body, kind, encoding) {
             return false;
         }
-        index += 1;
+        index = index.wrapping_add(1);
     }
     true
 }

@@ -211,7 +211,7 @@ fn holds(
     amount: &str,
 ) -> bool {
     let path = format!(in alloc; "/output/{txid}:{index}").expect(rt, "memory");
-    let end = index + 1;
+    let end = index.wrapping_add(1);
     let body = format!(in alloc;
         "{}{index},{end}{}{amount}{}{amount}{}",
         "{\"height\":4,\"inscriptions\":[],\"ranges\":[[",
