@@ -9,7 +9,8 @@ call of one number.
 
 - `apply` of PROGRAM (crates/ox_main/out/ox_main without a word) over a lab chain whose blocks reveal inscriptions, etch,
   mint and burn runes, and are taken back: one run for each allocation, which fails. The run has to end with status 8, or
-  0 where nothing was lacking, and to have shown whole lines in front of those of an undisturbed run. The lines behind
+  0 where nothing was lacking, or 4 where the folder couldn't be opened for it and nothing was shown, and to have shown
+  whole lines in front of those of an undisturbed run. The lines behind
   them are then applied with all memory, and have to be answered by the others and to leave the files as they should be.
 - Tests that take want of memory into account (`TESTS` below): one run of the test for each
   allocation, which fails. It has to pass, or to end at an `expect` of its own on memory.
@@ -108,9 +109,9 @@ def apply_in_turn(program, memory, top):
         folder = store(program, top, fails)
         ran, _ = memory.run([program, folder, "apply"], fails, b"".join(lines))
         shown = ran.stdout.splitlines(keepends=True)
-        demand(ran.returncode in (0, 8), f"allocation {fails}: status {ran.returncode}")
+        demand(ran.returncode in (0, 8) or (ran.returncode, shown) == (4, []), f"allocation {fails}: status {ran.returncode}")
         demand(shown == answers[: len(shown)], f"allocation {fails}: {ran.stdout} was shown")
-        demand(ran.returncode == 8 or shown == answers, f"allocation {fails}: status 0 and {ran.stdout}")
+        demand(ran.returncode != 0 or shown == answers, f"allocation {fails}: status 0 and {ran.stdout}")
         rest = subprocess.run([program, folder, "apply"], input=b"".join(lines[len(shown) :]), stdout=subprocess.PIPE)
         demand(rest.returncode == 0, f"after allocation {fails}: status {rest.returncode}")
         demand(rest.stdout == b"".join(answers[len(shown) :]), f"after allocation {fails}: {rest.stdout} was shown")
