@@ -26,21 +26,13 @@ import sys
 import tempfile
 
 from chain import SHORT, SUBSIDY, block_with, chain, coinbase, envelope, line, revealing, twice
+from kills import Failed, demand
 
 HERE = pathlib.Path(__file__).resolve().parent
 CRATES = HERE.parent / "crates"
 PROGRAM = CRATES / "ox_main" / "out" / "ox_main"
 TESTS = [("ox_index_tests", "runes::a_block_that_found_no_memory_is_taken_in_later")]
 COUNT_TO = 3
-
-
-class Failed(Exception):
-    pass
-
-
-def demand(holds, what):
-    if not holds:
-        raise Failed(what)
 
 
 def shim(folder):
