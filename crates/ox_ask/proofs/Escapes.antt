@@ -5,16 +5,16 @@ use Rattle.std.specs.List.{starts_with}
 use Rattle.std.proofs.lemmas.List.Elements.{All-head, All-tail}
 use Rattle.ox_name.specs.Name.{IsLetter}
 use Rattle.ox_name.specs.Spaced.{bullet, gap, spaced_name}
-use Rattle.ox_ask.specs.Named.{unescaped, unescaped_past}
+use Rattle.ox_ask.specs.Named.{without_escapes, unescaped_past}
 
-pub past_dropped : (n : ℕ) (text : List ℕ) → unescaped_past n text ≡ unescaped (drop n text)
+pub past_dropped : (n : ℕ) (text : List ℕ) → unescaped_past n text ≡ without_escapes (drop n text)
 unfolding unescaped_past
 past_dropped zero text = refl
 past_dropped (suc n) [] = refl
 past_dropped (suc n) (c ∷ cs) = past_dropped n cs
 
 -- an escape is a spacer
-pub escape_read : (text : List ℕ) → unescaped (codes "%E2%80%A2" ++ text) ≡ bullet ++ unescaped text
+pub escape_read : (text : List ℕ) → without_escapes (codes "%E2%80%A2" ++ text) ≡ bullet ++ without_escapes text
 unfolding unescaped_past
 escape_read text = refl
 
@@ -26,9 +26,9 @@ begins_none c cs other = by (nat_eq 37 c) refl
     by true e = absurd (other (sym (eqb-true 37 c e)))
     by false e = ap (λ v. v && starts_with nat_eq cs (codes "E2%80%A2")) e
 
-pub other_read : (c : ℕ) (text : List ℕ) → c ≢ 37 → unescaped (c ∷ text) ≡ c ∷ unescaped text
+pub other_read : (c : ℕ) (text : List ℕ) → c ≢ 37 → without_escapes (c ∷ text) ≡ c ∷ without_escapes text
 unfolding unescaped_past
-other_read c text other = ap (λ v. cond v (bullet ++ unescaped_past 8 text) (c ∷ unescaped text)) (begins_none c text other)
+other_read c text other = ap (λ v. cond v (bullet ++ unescaped_past 8 text) (c ∷ without_escapes text)) (begins_none c text other)
 
 -- all bytes are above the signs that separate
 abbrev pub IsHigh : List ℕ → Type 0
@@ -58,7 +58,7 @@ high_spaced spacers [] h = tt
 high_spaced spacers (c ∷ []) h = h
 high_spaced spacers (c ∷ d ∷ cs) h = (h.0, high-append (gap spacers) (spaced_name (spacers / 2) (d ∷ cs)) (high_gap spacers) (high_spaced (spacers / 2) (d ∷ cs) h.1))
 
-pub high_read : (text : List ℕ) → IsHigh text → unescaped text ≡ text
+pub high_read : (text : List ℕ) → IsHigh text → without_escapes text ≡ text
 unfolding unescaped_past
 high_read [] h = refl
 high_read (c ∷ cs) h = other_read c cs (λ e. let high : 60 < c = h.0 in omega (arith, e, high)) ∙ ap (λ t. c ∷ t) (high_read cs h.1)

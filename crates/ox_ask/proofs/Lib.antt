@@ -1,9 +1,9 @@
 pub mod Balances
 pub mod Escapes
 pub mod Floats
+pub mod Halves
 pub mod Inscriptions
 pub mod Nowhere
-pub mod Objects
 pub mod Pages
 pub mod Read
 pub mod RuneIds

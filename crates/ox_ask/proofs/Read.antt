@@ -14,7 +14,7 @@ use Rattle.hex.proofs.HexLemmas.{decode_of-encode_lower, decode_of-ok}
 use Rattle.ox_block.specs.declared.block.OutPoint.{OutPoint}
 use Rattle.ox_rules.specs.Text.{outpoint_text, hash_text}
 use Rattle.ox_ask.specs.Texts.{number_in, outpoint_in}
-use Rattle.ox_ask.proofs.Objects.{first_half, second_half}
+use Rattle.ox_ask.proofs.Halves.{first_half, second_half}
 
 -- what is test_told where a test passes
 pub test_told : {A : Type 0} (test : Bool) (a b : A) → cond test (Some a) None ≡ Some b → (test ≡ true) × (a ≡ b)

@@ -9,7 +9,7 @@ use Rattle.std.proofs.lemmas.Str.Parse.{digit_from_value}
 use Rattle.std.proofs.lemmas.Fmt.{decimal_is_IsNumeral}
 use Rattle.ox_runestone.specs.declared.stone.RuneId.{RuneId}
 use Rattle.ox_ask.specs.Named.{rune_id_in, rune_id_text}
-use Rattle.ox_ask.proofs.Objects.{first_half, second_half}
+use Rattle.ox_ask.proofs.Halves.{first_half, second_half}
 use Rattle.ox_ask.proofs.Read.{test_told}
 
 -- a digit is no colon

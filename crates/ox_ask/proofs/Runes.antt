@@ -16,7 +16,7 @@ use Rattle.ox_allocation.proofs.Ids.{same_id, same_itself}
 use Rattle.ox_etching.specs.declared.row.RuneRow.{RuneRow}
 use Rattle.ox_ledger.specs.Balanced.{AreDistinct}
 use Rattle.ox_model.specs.Found.{by_id, by_name}
-use Rattle.ox_ask.specs.Named.{rune_id_in, rune_id_text, rune_named, unescaped}
+use Rattle.ox_ask.specs.Named.{rune_id_in, rune_id_text, rune_named, without_escapes}
 use Rattle.ox_ask.proofs.Escapes.{IsHigh, high_letters, high_read, high_spaced, no_colon_in}
 use Rattle.ox_ask.proofs.RuneIds.{parts, rune_id_read, rune_id_written}
 
@@ -55,7 +55,7 @@ name_found runes n row distinct there =
 pub id_named : (runes : List RuneRow) (n : ℕ) (row : RuneRow) → AreDistinct (λ r. r.id) runes → slice_get runes n ≡ Some row → row.id.block < 2 ^ 64 → row.id.tx < 2 ^ 32
     → rune_named runes (rune_id_text row.id) ≡ Some n
 id_named runes n row distinct there block tx =
-    let other = option_and_then (λ (named : Named). by_name runes named.name) (name_in (unescaped (rune_id_text row.id))) in
+    let other = option_and_then (λ (named : Named). by_name runes named.name) (name_in (without_escapes (rune_id_text row.id))) in
     ap (λ id. option_or (option_and_then (by_id runes) id) other) (rune_id_written row.id block tx)
     ∙ ap (λ found. option_or found other) (id_found runes n row distinct there)
 
@@ -73,7 +73,7 @@ name_named runes n row spacers distinct there small =
     let text = spaced_name spacers (name_of row.name) in
     let named : IsName (name_of row.name) = name_of-is row.name small in
     let high : IsHigh text = high_spaced spacers (name_of row.name) (high_letters (name_of row.name) named.1) in
-    let name = option_and_then (λ (x : Named). by_name runes x.name) (name_in (unescaped text)) in
+    let name = option_and_then (λ (x : Named). by_name runes x.name) (name_in (without_escapes text)) in
     ap (λ id. option_or (option_and_then (by_id runes) id) name) (no_id text high)
     ∙ ap (λ t. option_and_then (λ (x : Named). by_name runes x.name) (name_in t)) (high_read text high)
     ∙ ap (option_and_then (λ (x : Named). by_name runes x.name)) (all_read_back row.name spacers small)

@@ -9,7 +9,7 @@ use Rattle.ox_inscribe.specs.Inscriptions.{next_on, on}
 use Rattle.ox_inscribe.specs.Numbers.{IsFirstOn, IsNextOn}
 use Rattle.ox_inscribe.specs.declared.row.InsRow.{InsRow}
 use Rattle.ox_inscribe.proofs.NextLaws.{next_shown}
-use Rattle.ox_ask.specs.Walk.{on_between, walked}
+use Rattle.ox_ask.specs.Walk.{on_between, walk_of}
 
 module _ (rows : List InsRow) where
   none_on : (first count : ℕ) → ((sat : ℕ) → first ≤ sat → sat < first + count → on rows sat ≡ []) → flat_map (on rows) (numbers_from first count) ≡ []
@@ -43,9 +43,9 @@ module _ (rows : List InsRow) where
       past sat from to (inl less) = absurd (true≢false (sym (lt-ltb next.0 end less) ∙ e))
       past sat from to (inr le) = omega (arith, from, to, le)
 
-  pub all_walked : (first end : ℕ) → on_between rows first end ≡ walked rows end (next_on rows first)
+  pub all_walked : (first end : ℕ) → on_between rows first end ≡ walk_of rows end (next_on rows first)
   all_walked first end = by (next_on rows first) (next_shown rows first)
     where
-      by : (next : Option (ℕ × List ℕ)) → IsNextOn rows first next → on_between rows first end ≡ walked rows end next
+      by : (next : Option (ℕ × List ℕ)) → IsNextOn rows first next → on_between rows first end ≡ walk_of rows end next
       by None none = none_on first (end - first) (λ sat from to. none sat from)
       by (Some next) is = within first end next is (ltb next.0 end) refl

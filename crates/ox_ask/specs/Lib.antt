@@ -3,7 +3,6 @@ pub mod Audits
 pub mod Content
 pub mod Inscriptions
 pub mod Named
-pub mod Objects
 pub mod Pages
 pub mod Runes
 pub mod Texts

@@ -39,12 +39,12 @@ unescaped_past zero (c ∷ cs) =
     else c ∷ unescaped_past 0 cs
 
 -- the text with U+2022 for each `%E2%80%A2`
-abbrev pub unescaped : List ℕ → List ℕ
-unescaped text = unescaped_past 0 text
+abbrev pub without_escapes : List ℕ → List ℕ
+without_escapes text = unescaped_past 0 text
 
 -- the number of the rune with the id or the name that a text spells, if there is one; the spacers
 -- of the text aren't compared
 abbrev pub rune_named : List RuneRow → List ℕ → Option ℕ
 rune_named runes text =
     option_or (option_and_then (by_id runes) (rune_id_in text))
-    (option_and_then (λ named. by_name runes named.name) (name_in (unescaped text)))
+    (option_and_then (λ named. by_name runes named.name) (name_in (without_escapes text)))

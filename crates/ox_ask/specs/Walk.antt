@@ -12,7 +12,7 @@ abbrev pub on_between : List InsRow → ℕ → ℕ → List ℕ
 on_between rows first end = flat_map (on rows) (numbers_from first (end - first))
 
 -- the same from the next satoshi on that bears some
-abbrev pub walked : List InsRow → ℕ → Option (ℕ × List ℕ) → List ℕ
-walked rows end None = []
-walked rows end (Some next) =
+abbrev pub walk_of : List InsRow → ℕ → Option (ℕ × List ℕ) → List ℕ
+walk_of rows end None = []
+walk_of rows end (Some next) =
     if nat_lt next.0 end then next.1 ++ on_between rows (next.0 + 1) end else []

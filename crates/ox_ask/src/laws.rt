@@ -28,11 +28,11 @@ ghost use Rattle.ox_rules.specs.Text.{outpoint_text};
 ghost use Rattle.ox_ask.specs.Ask.{reply_of, tree_at};
 ghost use Rattle.ox_ask.specs.Content.{FitsHead};
 ghost use Rattle.ox_ask.specs.Named.{inscription_named, rune_id_in, rune_id_text, rune_named};
-ghost use Rattle.ox_ask.specs.Named.{unescaped};
+ghost use Rattle.ox_ask.specs.Named.{without_escapes};
 ghost use Rattle.ox_ask.specs.Pages.{ArePages};
 ghost use Rattle.ox_ask.specs.Runes.{balance_among};
 ghost use Rattle.ox_ask.specs.Texts.{number_in, outpoint_in};
-ghost use Rattle.ox_ask.specs.Walk.{on_between, walked};
+ghost use Rattle.ox_ask.specs.Walk.{on_between, walk_of};
 
 /// A number of 64 bits is read from its decimal digits and from nothing else.
 pub fn numbers_are_read()
@@ -61,7 +61,7 @@ pub fn inscriptions_are_named()
 /// satoshis behind it: a walk over them passes by all others.
 pub fn inscriptions_are_walked()
     ensures { (rows : List InsRow) (first end : ℕ)
-        → on_between rows first end ≡ walked rows end (next_on rows first) }
+        → on_between rows first end ≡ walk_of rows end (next_on rows first) }
 {}
 
 /// A rune's id is read from its text and from nothing else.
@@ -87,9 +87,9 @@ pub fn runes_are_named()
 /// In a rune's name `%E2%80%A2` is U+2022, and no byte but `%` begins an escape.
 pub fn escapes_are_spacers()
     ensures escape { (text : List ℕ)
-        → unescaped (codes "%E2%80%A2" ++ text) ≡ bullet ++ unescaped text }
+        → without_escapes (codes "%E2%80%A2" ++ text) ≡ bullet ++ without_escapes text }
     ensures other { (c : ℕ) (text : List ℕ) → c ≢ 37
-        → unescaped (c ∷ text) ≡ c ∷ unescaped text }
+        → without_escapes (c ∷ text) ≡ c ∷ without_escapes text }
 {}
 
 /// No balance of a sound index is left out of its output's list: each is of a rune that is there.

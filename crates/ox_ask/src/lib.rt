@@ -1,17 +1,11 @@
-//! What each request is replied, and how an object is built.
+//! What each request is replied.
 #![tactic(auto)]
 
-mod fields;
 mod laws;
 
-pub use fields::Fields;
 pub use laws::{
     balances_are_told, escapes_are_spacers, inscriptions_are_named, inscriptions_are_walked,
     numbers_are_read, outpoints_are_read, pages_hold_all, replies_close_as_asked,
     replies_fit_their_heads, rune_ids_are_read, runes_are_named, trees_have_no_floats,
     unminted_satoshis_are_nowhere,
 };
-pub use ox_bytes::Memory;
-
-#[cfg(test)]
-mod tests;

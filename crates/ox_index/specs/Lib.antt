@@ -1,4 +1,4 @@
-pub mod Audited
+pub mod Audits
 pub mod Chain
 pub mod Fault
 pub mod Held

@@ -40,14 +40,6 @@ impl From<TransferFault> for ConnectFault {
     }
 }
 
-impl From<Refusal> for ConnectFault {
-    ghost from_gives = { λ refusal e. e ≡ faults.Refused refusal };
-
-    fn from(refusal: Refusal) -> ConnectFault {
-        ConnectFault::Refused(refusal)
-    }
-}
-
 impl From<ox_bytes::Memory> for ConnectFault {
     ghost from_gives = { λ _ e. e ≡ faults.Memory };
 

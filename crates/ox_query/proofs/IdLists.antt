@@ -30,8 +30,8 @@ use Rattle.ox_inscribe.specs.Numbers.{IsFirstOn, IsNextOn}
 use Rattle.ox_inscribe.specs.declared.row.InsRow.{InsRow}
 use Rattle.ox_inscribe.proofs.NextLaws.{next_shown}
 use Rattle.ox_ask.specs.Inscriptions.{ids_on_all, ids_tree, inscription_id}
-use Rattle.ox_ask.specs.Walk.{on_between, walked}
-use Rattle.ox_ask.proofs.Objects.{first_half, second_half}
+use Rattle.ox_ask.specs.Walk.{on_between, walk_of}
+use Rattle.ox_ask.proofs.Halves.{first_half, second_half}
 use Rattle.ox_ask.proofs.Walks.{all_walked}
 use Rattle.ox_query.specs.Listed.{ids_of}
 
@@ -140,12 +140,12 @@ module _ (rows : List InsRow) where
 
     pub walk_on : sat < end → on_between rows first end ≡ numbers ++ on_between rows (sat + 1) end
     walk_on less =
-        all_walked rows first end ∙ ap (walked rows end) (sym e)
+        all_walked rows first end ∙ ap (walk_of rows end) (sym e)
         ∙ ap (λ (test : Bool). cond test (numbers ++ on_between rows (sat + 1) end) []) (lt-ltb sat end less)
 
     pub walk_past : end ≤ sat → on_between rows first end ≡ []
     walk_past past =
-        all_walked rows first end ∙ ap (walked rows end) (sym e)
+        all_walked rows first end ∙ ap (walk_of rows end) (sym e)
         ∙ ap (λ (test : Bool). cond test (numbers ++ on_between rows (sat + 1) end) []) (not_less (ltb sat end) refl)
       where
         not_less : (test : Bool) → ltb sat end ≡ test → ltb sat end ≡ false
@@ -153,7 +153,7 @@ module _ (rows : List InsRow) where
         not_less false is = is
 
   pub walk_none : (first end : ℕ) → None ≡ next_on rows first → on_between rows first end ≡ []
-  walk_none first end e = all_walked rows first end ∙ ap (walked rows end) (sym e)
+  walk_none first end e = all_walked rows first end ∙ ap (walk_of rows end) (sym e)
 
   pub walked_one : (all values new : List Data) (numbers rest : List ℕ) (between : List ℕ) → between ≡ numbers ++ rest
       → values ++ ids_of rows between ≡ all → new ≡ values ++ ids_of rows numbers → new ++ ids_of rows rest ≡ all

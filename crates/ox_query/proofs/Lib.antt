@@ -1,6 +1,7 @@
 pub mod Contents
 pub mod Spelled
 pub mod Told
+pub mod Arrays
 pub mod Bytes
 pub mod IdLists
 pub mod Outpoints

@@ -21,7 +21,7 @@ use Rattle.ox_model.specs.Index.{Index}
 use Rattle.ox_model.specs.Sound.{IsSound}
 use Rattle.ox_model.specs.declared.audit.RuneAudit.{RuneAudit}
 use Rattle.ox_sat.specs.declared.profiles.Profile.{Profile}
-use Rattle.ox_ask.specs.Named.{rune_id_in, rune_named, unescaped}
+use Rattle.ox_ask.specs.Named.{rune_id_in, rune_named, without_escapes}
 use Rattle.ox_query.proofs.Spelled.{test_passed}
 
 abbrev pub no_audit : RuneAudit
@@ -92,7 +92,7 @@ module _ (runes : List RuneRow) where
       some_within (rune_named runes text) n
       (either_within _ _
       (chosen_within (by_id runes) (rune_id_in text) (λ id. found_within (by_id runes id) (by_id_within runes id)))
-      (chosen_within (λ (named : Named). by_name runes named.name) (name_in (unescaped text))
+      (chosen_within (λ (named : Named). by_name runes named.name) (name_in (without_escapes text))
       (λ named. found_within (by_name runes named.name) (position_within _ runes)))) e
 
 -- the decimals of each rune of a sound index are few enough

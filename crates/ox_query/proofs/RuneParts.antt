@@ -10,7 +10,7 @@ use Rattle.std.proofs.lemmas.Str.Parse.{digit_at}
 use Rattle.std.proofs.lemmas.Str.Pattern.{IsSplitOnceResult, split_after, split_parts}
 use Rattle.ox_name.specs.Spaced.{bullet}
 use Rattle.ox_runestone.specs.declared.stone.RuneId.{RuneId}
-use Rattle.ox_ask.specs.Named.{rune_id_in, unescaped, unescaped_past}
+use Rattle.ox_ask.specs.Named.{rune_id_in, without_escapes, unescaped_past}
 use Rattle.ox_ask.proofs.Escapes.{escape_read}
 use Rattle.ox_ask.proofs.RuneIds.{parts, rune_id_read, rune_id_within, rune_id_written}
 
@@ -68,7 +68,7 @@ module _ (text : List ℕ) where
 
 -- ---- escapes
 
-pub nothing_read : unescaped [] ≡ []
+pub nothing_read : without_escapes [] ≡ []
 unfolding unescaped_past
 nothing_read = refl
 
@@ -80,28 +80,28 @@ no_escape text none = by (starts_with nat_eq text (codes "%E2%80%A2")) refl
     by false e = e
 
 -- an escape is a spacer
-pub spacer_read : (text rest : List ℕ) → text ≡ codes "%E2%80%A2" ++ rest → (unescaped text ≡ bullet ++ unescaped rest) × (length rest < length text)
+pub spacer_read : (text rest : List ℕ) → text ≡ codes "%E2%80%A2" ++ rest → (without_escapes text ≡ bullet ++ without_escapes rest) × (length rest < length text)
 spacer_read text rest e = (
-  ap unescaped e ∙ escape_read rest,
+  ap without_escapes e ∙ escape_read rest,
   let long : length text ≡ 9 + length rest = ap length e ∙ length-append (codes "%E2%80%A2") rest in omega (arith, long),
 )
 
 -- a byte that begins no escape stands for itself
 pub byte_read : (text : List ℕ) → 1 ≤ length text → ((rest : List ℕ) → text ≢ codes "%E2%80%A2" ++ rest)
-    → unescaped text ≡ take 1 text ++ unescaped (drop 1 text)
+    → without_escapes text ≡ take 1 text ++ without_escapes (drop 1 text)
 unfolding unescaped_past
 byte_read [] some none = absurd (omega (arith, some))
-byte_read (c ∷ cs) some none = ap (λ v. cond v (bullet ++ unescaped_past 8 cs) (c ∷ unescaped cs)) (no_escape (c ∷ cs) none)
+byte_read (c ∷ cs) some none = ap (λ v. cond v (bullet ++ unescaped_past 8 cs) (c ∷ without_escapes cs)) (no_escape (c ∷ cs) none)
 
 -- what is in front of a text, if there is something
 pub front_read : (text : List ℕ) (r : Option (Bor (List ℕ) × Bor (List ℕ))) → ((rest : List ℕ) → text ≢ codes "%E2%80%A2" ++ rest)
     → MatchOption r (length text < 1) (λ x. IsSplitAt text 1 x.0.now x.1.now)
-    → MatchOption r (text ≡ []) (λ x. (unescaped text ≡ x.0.now ++ unescaped x.1.now) × (length x.1.now < length text))
+    → MatchOption r (text ≡ []) (λ x. (without_escapes text ≡ x.0.now ++ without_escapes x.1.now) × (length x.1.now < length text))
 front_read [] None none short = refl
 front_read (c ∷ cs) None none short = absurd (omega (arith, short))
 front_read text (Some x) none split =
     let there : 1 ≤ length text = split.0 in
     let long : length x.1.now + 1 ≡ length text = split.4 in (
-      byte_read text there none ∙ ap₂ (λ (a b : List ℕ). a ++ unescaped b) (sym split.1) (sym split.2),
+      byte_read text there none ∙ ap₂ (λ (a b : List ℕ). a ++ without_escapes b) (sym split.1) (sym split.2),
       omega (arith, long),
     )

@@ -1,3 +1,4 @@
 pub mod Asked
 pub mod Listed
 pub mod Sides
+pub mod Written

@@ -4,6 +4,7 @@
 mod audit;
 mod balances;
 mod block;
+mod bodies;
 mod content;
 mod ids;
 mod inscription;

@@ -1,7 +1,7 @@
 //! Which rune a part of a path names.
 
 ghost use Rattle.std.specs.Prelude.{◌≡◌, ◌<◌, ◌++◌, [], length, IfOk, MatchOption, option_and_then};
-ghost use Rattle.ox_ask.specs.Named.{rune_id_in, rune_named as rune_said, unescaped as text_said};
+ghost use Rattle.ox_ask.specs.Named.{rune_id_in, rune_named as rune_said, without_escapes as text_said};
 ghost use Rattle.ox_model.specs.Found.{by_id, by_name};
 ghost use Rattle.ox_name.specs.Spaced.{name_in};
 
@@ -46,7 +46,7 @@ fn front_of(text: &[u8]) -> Option<(&[u8], &[u8])>
 }
 
 // A text with U+2022 for each `%E2%80%A2`. `Memory` where there is none for it.
-fn unescaped(alloc: Global, text: &[u8]) -> Result<Bytes, Memory>
+fn without_escapes(alloc: Global, text: &[u8]) -> Result<Bytes, Memory>
     ensures { IfOk result (λ read. read ≡ text_said text.now) }
 {
     let mut read = Bytes::empty(alloc);
@@ -65,7 +65,7 @@ fn with_name<V: View>(alloc: Global, live: &V, part: &[u8]) -> Result<Option<u32
         (λ named. by_name (V.index live.now).runes named.name)
         (name_in (text_said part.now))) }
 {
-    let text = unescaped(alloc, part)?;
+    let text = without_escapes(alloc, part)?;
     match read_name(text.as_slice()) {
         Ok(named) => Ok(live.by_name(named.name)),
         Err(_) => Ok(None),

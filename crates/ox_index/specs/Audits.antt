@@ -6,8 +6,8 @@ use Rattle.ox_ledger.specs.Balanced.{amount_held, amount_per_mint}
 use Rattle.ox_ledger.specs.Runes.{BalanceMap}
 use Rattle.ox_model.specs.declared.audit.RuneAudit.{RuneAudit}
 
-abbrev pub audited : BalanceMap → RuneRow → RuneAudit
-audited bal row = record {
+abbrev pub audit_of_rune : BalanceMap → RuneRow → RuneAudit
+audit_of_rune bal row = record {
   id = row.id;
   premine = row.premine;
   minted = row.mints * amount_per_mint row.terms;

@@ -1,6 +1,0 @@
-use Rattle.ox_ledger.specs.Ledger.{runes_in}
-use Rattle.ox_ledger.proofs.LedgerLemmas.{made_within}
-use Rattle.ox_index.proofs.audit.audit_of.Goals as goal
-
-pub minted-requires : goal.minted-requires
-minted-requires c = made_within (runes_in c.args.ledger.now) c.args.n c.rune-row.result.now c.args.ledger.now.balanced c.rune-row.ensures
