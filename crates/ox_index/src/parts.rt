@@ -280,8 +280,7 @@ fn rows_from(alloc: Global, shelf: &Shelf, from: u32) -> Result<List<InsRow>, Me
     Ok(rows)
 }
 
-// Puts inscriptions behind the others. `Memory` where there is none, or where there would be 2^32:
-// they are as before.
+// Puts inscriptions behind the others. `Memory` where there is none, or where there would be 2^32.
 fn append(shelf: &mut Shelf, rows: &[InsRow]) -> Result<(), Memory>
     ensures ok { OnOk result (shelf.new.rows ≡ shelf.old.rows ++ rows.now) }
     ensures mark { shelf.new.mark ≡ shelf.old.mark }
