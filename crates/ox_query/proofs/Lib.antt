@@ -1,3 +1,4 @@
+pub mod Digits
 pub mod Contents
 pub mod Spelled
 pub mod Told

@@ -1,73 +1,57 @@
 //! Ids of inscriptions, and lists of them.
 
-ghost use Rattle.std.specs.Prelude.{◌≡◌, ◌+◌, ◌^◌, ◌<◌, ◌++◌, All, IfOk, OnOk, length, map};
-ghost use Rattle.serde_json.specs.View.{view};
+ghost use Rattle.std.specs.Prelude.{◌≡◌, ◌+◌, ◌^◌, ◌<◌, All, length};
 ghost use Rattle.ox_ask.specs.Inscriptions.{id_tree, ids_on_all, ids_tree};
 ghost use Rattle.ox_ask.specs.Walk.{on_between};
 ghost use Rattle.ox_inscribe.specs.Inscriptions.{on};
 ghost use Rattle.ox_query.specs.Listed.{ids_of};
+ghost use Rattle.ox_query.specs.Written.{Adds, tokens_of, tokens_of_all};
 ghost use Rattle.ox_range.specs.Runs.{AreMaximal, end_of, numbers_of};
 
-use crate::values::text_value;
+use crate::values::text_of;
+use json::Writer;
 use ox_bytes::Memory;
-use ox_envelope::write_id;
 use ox_model::{InsId, View};
 use ox_range::{Ranges, Run};
-use serde_json::Value;
-use std::alloc::Global;
 
-/// An inscription's id as it is printed. `Memory` where there is none for it.
-pub(crate) fn id_value(alloc: Global, id: &InsId) -> Result<Value, Memory>
-    ensures { IfOk result (λ value. view value ≡ id_tree id.now) }
+/// Writes an inscription's id as it is printed. `Memory` where there is none for it.
+pub(crate) fn write_id(out: &mut Writer, id: &InsId) -> Result<(), Memory>
+    ensures { Adds result out.old out.new (tokens_of (id_tree id.now)) }
 {
     let mut letters = [0; 75];
-    let len = write_id(id, &mut letters);
-    match str::from_utf8(&letters[..len]) {
-        Ok(text) => text_value(alloc, text),
-        Err(_) => unreachable!(),
-    }
+    let len = ox_envelope::write_id(id, &mut letters);
+    Ok(out.string(text_of(&letters[..len]))?)
 }
 
-// Adds the ids of the inscriptions with these numbers.
-fn add_ids<V: View>(
-    alloc: Global,
-    live: &V,
-    numbers: &[u32],
-    ids: &mut Vec<Value>,
-) -> Result<(), Memory>
+// Writes the ids of the inscriptions with these numbers, one behind the other.
+fn write_ids<V: View>(out: &mut Writer, live: &V, numbers: &[u32]) -> Result<(), Memory>
     requires { All (λ n. n < length (V.index live.now).inscriptions) numbers.now }
-    ensures { OnOk result (map view ids.new.items
-        ≡ map view ids.old.items ++ ids_of (V.index live.now).inscriptions numbers.now) }
+    ensures { Adds result out.old out.new
+        (tokens_of_all (ids_of (V.index live.now).inscriptions numbers.now)) }
 {
     for n in numbers {
-        let id = id_value(alloc, &live.inscription(*n).id)?;
-        ids.push(id)?;
+        write_id(out, &live.inscription(*n).id)?;
     }
     Ok(())
 }
 
-/// The ids of the inscriptions on a satoshi, by number. `Memory` where there is none for them.
-pub(crate) fn ids_on<V: View>(alloc: Global, live: &V, sat: u64) -> Result<Value, Memory>
-    ensures { IfOk result (λ value. view value
-        ≡ ids_tree (V.index live.now).inscriptions (on (V.index live.now).inscriptions sat)) }
+/// Writes the ids of the inscriptions on a satoshi, by number. `Memory` where there is none for
+/// them.
+pub(crate) fn write_ids_on<V: View>(out: &mut Writer, live: &V, sat: u64) -> Result<(), Memory>
+    ensures { Adds result out.old out.new (tokens_of
+        (ids_tree (V.index live.now).inscriptions (on (V.index live.now).inscriptions sat))) }
 {
-    let mut ids = Vec::new(alloc);
-    add_ids(alloc, live, live.on(sat), &mut ids)?;
-    Ok(Value::Array(ids))
+    out.begin_array()?;
+    write_ids(out, live, live.on(sat))?;
+    Ok(out.end_array()?)
 }
 
-// Adds the ids of the inscriptions on a run of satoshis, from one satoshi that bears some to the
+// Writes the ids of the inscriptions on a run of satoshis, from one satoshi that bears some to the
 // next.
-fn add_ids_on_run<V: View>(
-    alloc: Global,
-    live: &V,
-    run: &Run,
-    ids: &mut Vec<Value>,
-) -> Result<(), Memory>
+fn write_ids_on_run<V: View>(out: &mut Writer, live: &V, run: &Run) -> Result<(), Memory>
     requires { run.now.first + run.now.count < 2 ^ 64 }
-    ensures { OnOk result (map view ids.new.items
-        ≡ map view ids.old.items ++ ids_of (V.index live.now).inscriptions
-        (on_between (V.index live.now).inscriptions run.now.first (end_of run.now))) }
+    ensures { Adds result out.old out.new (tokens_of_all (ids_of (V.index live.now).inscriptions
+        (on_between (V.index live.now).inscriptions run.now.first (end_of run.now)))) }
 {
     let end = run.first + run.count;
     let mut from = run.first;
@@ -75,30 +59,30 @@ fn add_ids_on_run<V: View>(
         if sat >= end {
             return Ok(());
         }
-        add_ids(alloc, live, numbers, ids)?;
+        write_ids(out, live, numbers)?;
         from = sat + 1;
     }
     Ok(())
 }
 
-// The ids of the inscriptions on the satoshis of these runs.
-fn ids_on_runs<V: View>(alloc: Global, live: &V, runs: &[Run]) -> Result<Value, Memory>
+// Writes the ids of the inscriptions on the satoshis of these runs.
+fn write_ids_on_runs<V: View>(out: &mut Writer, live: &V, runs: &[Run]) -> Result<(), Memory>
     requires { AreMaximal runs.now }
-    ensures { IfOk result (λ value. view value
-        ≡ ids_on_all (V.index live.now).inscriptions (numbers_of runs.now)) }
+    ensures { Adds result out.old out.new
+        (tokens_of (ids_on_all (V.index live.now).inscriptions (numbers_of runs.now))) }
 {
-    let mut ids = Vec::new(alloc);
+    out.begin_array()?;
     for run in runs {
-        add_ids_on_run(alloc, live, run, &mut ids)?;
+        write_ids_on_run(out, live, run)?;
     }
-    Ok(Value::Array(ids))
+    Ok(out.end_array()?)
 }
 
-/// The ids of the inscriptions on these satoshis: satoshi by satoshi, and on each by number.
+/// Writes the ids of the inscriptions on these satoshis: satoshi by satoshi, and on each by number.
 /// `Memory` where there is none for them.
-pub(crate) fn ids_in<V: View>(alloc: Global, live: &V, sats: &Ranges) -> Result<Value, Memory>
-    ensures { IfOk result (λ value. view value
-        ≡ ids_on_all (V.index live.now).inscriptions sats.now) }
+pub(crate) fn write_ids_in<V: View>(out: &mut Writer, live: &V, sats: &Ranges) -> Result<(), Memory>
+    ensures { Adds result out.old out.new
+        (tokens_of (ids_on_all (V.index live.now).inscriptions sats.now)) }
 {
-    ids_on_runs(alloc, live, sats.runs())
+    write_ids_on_runs(out, live, sats.runs())
 }

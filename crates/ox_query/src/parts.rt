@@ -34,8 +34,8 @@ pub(crate) fn satoshi(p: &Profile, part: &[u8]) -> Option<u64>
     read_sat(p, text).ok()
 }
 
-// A hash's bytes as digits.
-fn digits_of(bytes: &[u8; 32]) -> [u8; 64]
+/// A hash's bytes as digits.
+pub(crate) fn digits_of(bytes: &[u8; 32]) -> [u8; 64]
     ensures { result ≡ encode_lower bytes.now }
 {
     let mut digits = [0; 64];

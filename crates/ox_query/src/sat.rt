@@ -1,59 +1,79 @@
 //! What `/sat/{sat}` says.
 
-ghost use Rattle.std.specs.Prelude.{◌≡◌, ◌<◌, IfOk};
-ghost use Rattle.serde_json.specs.View.{view};
+ghost use Rattle.std.specs.Prelude.{◌≡◌, ◌<◌, IfOk, OnOk};
+ghost use Rattle.serde_json.specs.Data.{string};
+ghost use Rattle.serde_json.specs.Written.{compact_text};
 ghost use Rattle.ox_ask.specs.Trees.{sat_tree};
 ghost use Rattle.ox_ask.specs.Values.{place_tree};
+ghost use Rattle.ox_query.specs.Written.{Adds, tokens_of};
 
-use crate::ids::ids_on;
-use crate::texts::{decimal_text, degree_text, name_text, rarity_word};
-use crate::values::text_value;
-use ox_ask::Fields;
-use ox_bytes::Memory;
-use ox_model::{Place, View, outpoint_text};
+use crate::bodies::{body_of, new_body};
+use crate::ids::write_ids_on;
+use crate::outpoints::write_outpoint;
+use crate::texts::{decimal_text, degree_text, rarity_word, write_name};
+use json::Writer;
+use ox_bytes::{Bytes, Memory};
+use ox_model::{Place, View};
 use ox_sat::{degree_of, rarity_of};
-use serde_json::Value;
 use std::alloc::Global;
 
-/// Where a satoshi is, or null where it is nowhere. `Memory` where there is none for it.
-pub(crate) fn place_value(alloc: Global, place: Option<Place>) -> Result<Value, Memory>
-    ensures { IfOk result (λ value. view value ≡ place_tree place) }
+/// Writes where a satoshi is, or null where it is nowhere. `Memory` where there is none for it.
+pub(crate) fn write_place(out: &mut Writer, place: Option<Place>) -> Result<(), Memory>
+    ensures { Adds result out.old out.new (tokens_of (place_tree place)) }
 {
     let Some(place) = place else {
-        return Ok(Value::Null);
+        return Ok(out.null()?);
     };
-    let mut fields = Fields::new(alloc);
+    out.begin_object()?;
     match place {
         Place::Out { outpoint, offset } => {
-            fields.add("offset", Value::from(offset))?;
-            fields.add("outpoint", Value::String(outpoint_text(alloc, &outpoint)?))?;
+            out.key("offset")?;
+            out.u64(offset)?;
+            out.key("outpoint")?;
+            write_outpoint(out, &outpoint)?;
         }
-        Place::Lost { offset } => fields.add("lost", Value::from(offset))?,
+        Place::Lost { offset } => {
+            out.key("lost")?;
+            out.u64(offset)?;
+        }
     }
-    Ok(fields.into_value())
+    Ok(out.end_object()?)
+}
+
+// Writes a satoshi.
+fn write_sat<V: View>(alloc: Global, out: &mut Writer, live: &V, sat: u64) -> Result<(), Memory>
+    requires { sat < (V.chain live.now).supply }
+    ensures { Adds result out.old out.new
+        (tokens_of (sat_tree (V.chain live.now) (V.index live.now) sat)) }
+{
+    let p = live.profile();
+    let degree = degree_of(p, sat);
+    out.begin_object()?;
+    out.key("decimal")?;
+    out.string(&decimal_text(alloc, p, sat)?)?;
+    out.key("degree")?;
+    out.string(&degree_text(alloc, &degree)?)?;
+    out.key("inscriptions")?;
+    write_ids_on(out, live, sat)?;
+    out.key("name")?;
+    write_name(out, p, sat)?;
+    out.key("number")?;
+    out.u64(sat)?;
+    out.key("place")?;
+    write_place(out, live.locate(sat))?;
+    out.key("rarity")?;
+    out.string(rarity_word(rarity_of(&degree)))?;
+    Ok(out.end_object()?)
 }
 
 /// A satoshi: its names, its rarity, where it is and what is on it. `Memory` where there is none
 /// for it.
-pub(crate) fn sat_value<V: View>(alloc: Global, live: &V, sat: u64) -> Result<Value, Memory>
+pub(crate) fn sat_body<V: View>(alloc: Global, live: &V, sat: u64) -> Result<Bytes, Memory>
     requires { sat < (V.chain live.now).supply }
-    ensures { IfOk result (λ value. view value
-        ≡ sat_tree (V.chain live.now) (V.index live.now) sat) }
+    ensures { IfOk result
+        (λ body. body ≡ compact_text (sat_tree (V.chain live.now) (V.index live.now) sat)) }
 {
-    let p = live.profile();
-    let degree = degree_of(p, sat);
-    let inscriptions = ids_on(alloc, live, sat)?;
-    let place = place_value(alloc, live.locate(sat))?;
-    let mut fields = Fields::new(alloc);
-    fields.add("decimal", Value::String(decimal_text(alloc, p, sat)?))?;
-    fields.add("degree", Value::String(degree_text(alloc, &degree)?))?;
-    fields.add("inscriptions", inscriptions)?;
-    fields.add("name", Value::String(name_text(alloc, p, sat)?))?;
-    fields.add("number", Value::from(sat))?;
-    fields.add("place", place)?;
-    fields.add(
-        "rarity",
-        text_value(alloc, rarity_word(rarity_of(&degree)))?,
-    )?;
-    Ok(fields.into_value())
+    let mut out = new_body(alloc)?;
+    write_sat(alloc, &mut out, live, sat)?;
+    Ok(body_of(out))
 }

@@ -1,36 +1,63 @@
 //! Small values of replies.
 
-ghost use Rattle.std.specs.Prelude.{◌≡◌, IfOk, option_copied};
-ghost use Rattle.serde_json.specs.View.{view};
+ghost use Rattle.std.specs.Prelude.{◌≡◌, option_copied};
+ghost use Rattle.std.specs.Str.{IsUtf8};
 ghost use Rattle.serde_json.specs.Data.{string};
-ghost use Rattle.ox_ask.specs.Values.{hash_or_null as hash_said};
-ghost use Rattle.ox_rules.specs.Text.{hash_text as printed};
+ghost use Rattle.ox_ask.specs.Values.{count, hash_or_null as hash_said, or_null};
+ghost use Rattle.ox_query.specs.Written.{Adds, tokens_of};
+ghost use Rattle.ox_rules.specs.Text.{hash_text};
 
+use crate::parts::digits_of;
+use json::Writer;
 use ox_bytes::Memory;
-use ox_model::hash_text;
-use serde_json::Value;
-use std::alloc::Global;
 
-/// A text. `Memory` where there is none for it.
-pub(crate) fn text_value(alloc: Global, text: &str) -> Result<Value, Memory>
-    ensures { IfOk result (λ value. view value ≡ string text.now) }
+/// The text that some bytes are.
+pub(crate) fn text_of(bytes: &[u8]) -> &str
+    requires { IsUtf8 bytes.now }
+    ensures { result.now ≡ bytes.now }
 {
-    Ok(Value::try_from_str(alloc, text)?)
+    match str::from_utf8(bytes) {
+        Ok(text) => text,
+        Err(_) => unreachable!(),
+    }
 }
 
-/// A hash as it is printed. `Memory` where there is none for it.
-pub(crate) fn hash_value(alloc: Global, hash: &[u8; 32]) -> Result<Value, Memory>
-    ensures { IfOk result (λ value. view value ≡ string (printed hash.now)) }
+/// The digits by which a hash is printed.
+#[tactic(auto, unfolding(ox_rules::specs::Text::hash_text))]
+pub(crate) fn hash_digits(hash: &[u8; 32]) -> [u8; 64]
+    ensures { result ≡ hash_text hash.now }
 {
-    Ok(Value::String(hash_text(alloc, hash)?))
+    let mut reversed = *hash;
+    reversed.reverse();
+    digits_of(&reversed)
 }
 
-/// A hash as it is printed, or null without one. `Memory` where there is none for it.
-pub(crate) fn hash_or_null(alloc: Global, hash: Option<&[u8; 32]>) -> Result<Value, Memory>
-    ensures { IfOk result (λ value. view value ≡ hash_said (option_copied hash.entry)) }
+/// Writes a hash as it is printed. `Memory` where there is none for it.
+pub(crate) fn write_hash(out: &mut Writer, hash: &[u8; 32]) -> Result<(), Memory>
+    ensures { Adds result out.old out.new (tokens_of (string (hash_text hash.now))) }
+{
+    Ok(out.string(text_of(&hash_digits(hash)))?)
+}
+
+/// Writes a hash as it is printed, or null without one. `Memory` where there is none for it.
+pub(crate) fn write_hash_or_null(
+    out: &mut Writer,
+    hash: Option<&[u8; 32]>,
+) -> Result<(), Memory>
+    ensures { Adds result out.old out.new (tokens_of (hash_said (option_copied hash.entry))) }
 {
     match hash {
-        Some(hash) => hash_value(alloc, hash),
-        None => Ok(Value::Null),
+        Some(hash) => write_hash(out, hash),
+        None => Ok(out.null()?),
+    }
+}
+
+/// Writes a number, or null without one. `Memory` where there is none for it.
+pub(crate) fn write_count_or_null(out: &mut Writer, number: Option<u64>) -> Result<(), Memory>
+    ensures { Adds result out.old out.new (tokens_of (or_null count number)) }
+{
+    match number {
+        Some(number) => Ok(out.u64(number)?),
+        None => Ok(out.null()?),
     }
 }

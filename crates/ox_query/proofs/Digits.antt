@@ -1,0 +1,37 @@
+-- Hexadecimal digits are text, and so is what is printed with them.
+use Rattle.std.proofs.Common.{◌≡◌, ◌<◌, ◌^◌, ℕ, Bool, true, ltb, ltb-true, IsUtf8, List, [], ◌∷◌, ◌++◌, ◌&&◌, reverse, decimal, append_assoc, refl, sym, subst, arith}
+use Rattle.std.specs.List.{list_all}
+use Rattle.std.specs.Str.{IsAscii}
+use Rattle.std.proofs.lemmas.Fmt.{IsAscii-decimal}
+use Rattle.std.proofs.lemmas.Str.{IsUtf8-from_ascii, IsAscii-append}
+use Rattle.std.proofs.lemmas.Str.Ascii.{IsAscii-cons, IsAscii-nil}
+use Rattle.hex.specs.Hex.{encode_lower, lower_digits}
+use Rattle.hex.proofs.HexLemmas.{IsAscii-encode_with}
+use Rattle.ox_block.specs.declared.block.OutPoint.{OutPoint}
+use Rattle.ox_rules.specs.Text.{hash_text, outpoint_text}
+use Rattle.ox_ask.proofs.Halves.{first_half, second_half}
+
+-- bytes that all pass the test are ASCII
+all_small : (bytes : List ℕ) → list_all (λ b. ltb b 128) bytes ≡ true → IsAscii bytes
+all_small [] h = IsAscii-nil
+all_small (b ∷ bytes) h =
+    let rest = list_all (λ b. ltb b 128) bytes in
+    IsAscii-cons b bytes (ltb-true b 128 (first_half (ltb b 128) rest h)) (all_small bytes (second_half (ltb b 128) rest h))
+
+pub digits_small : (bytes : List ℕ) → IsAscii (encode_lower bytes)
+digits_small bytes = IsAscii-encode_with lower_digits bytes (all_small lower_digits refl)
+
+pub hash_small : (hash : List ℕ) → IsAscii (hash_text hash)
+unfolding hash_text
+hash_small hash = digits_small (reverse hash)
+
+pub hash_is_text : (hash : List ℕ) → IsUtf8 (hash_text hash)
+hash_is_text hash = IsUtf8-from_ascii (hash_text hash) (hash_small hash)
+
+pub outpoint_is_text : (at : OutPoint) → at.index < 2 ^ 32 → IsUtf8 (outpoint_text at)
+unfolding outpoint_text
+outpoint_is_text at small =
+    let index : IsAscii (decimal at.index) = IsAscii-decimal at.index (omega (arith, small)) in
+    let behind : IsAscii (58 ∷ decimal at.index) = IsAscii-cons 58 (decimal at.index) (omega arith) index in
+    let whole : IsAscii (hash_text at.txid.0 ++ 58 ∷ decimal at.index) = IsAscii-append (hash_text at.txid.0) (58 ∷ decimal at.index) (hash_small at.txid.0) behind in
+    subst IsUtf8 (sym (append_assoc (hash_text at.txid.0) (58 ∷ []) (decimal at.index))) (IsUtf8-from_ascii (hash_text at.txid.0 ++ 58 ∷ decimal at.index) whole)
