@@ -1,5 +1,5 @@
 -- Lists of ids, inscription by inscription and satoshi by satoshi.
-use Rattle.std.proofs.Common.{◌≡◌, Vec, Global, ℕ, suc, ◌+◌, ◌-◌, ◌<◌, ◌≤◌, ◌^◌, Bool, true, false, cond, ltb, lt-ltb, ltb-true, IsUtf8, ◌&&◌, List, [], ◌∷◌, ◌++◌, length, get_or, take, drop, reverse, map, append_assoc, bytes_eq, Option, Some, None, Result, Ok, Err, decimal, refl, sym, ap, ap₂, ◌∙◌, subst, arith}
+use Rattle.std.proofs.Common.{◌≡◌, ℕ, suc, ◌+◌, ◌-◌, ◌<◌, ◌≤◌, ◌^◌, Bool, true, false, cond, ltb, lt-ltb, ltb-true, IsUtf8, ◌&&◌, List, [], ◌∷◌, ◌++◌, length, get_or, take, drop, reverse, map, append_assoc, bytes_eq, Option, Some, None, Result, Ok, Err, decimal, refl, sym, ap, ap₂, ◌∙◌, subst, arith}
 use Rattle.std.specs.Prelude.{All, IfSome, slice_get}
 use Rattle.std.specs.List.{cons_option, filter_map, flat_map, list_all, position_or_len}
 use Rattle.std.specs.Char.{is_ascii_digit}
@@ -11,14 +11,11 @@ use Rattle.std.proofs.lemmas.List.{append-nil, map-append, take_all, take_more}
 use Rattle.std.proofs.lemmas.List.Elements.{All-cons, All-nil, All-weaker, filter_map-append}
 use Rattle.std.proofs.lemmas.Option.{cond_some}
 use Rattle.std.proofs.lemmas.Str.{IsUtf8-from_ascii, IsAscii-append}
-use Rattle.std.proofs.lemmas.Str.Ascii.{IsAscii-cons, IsAscii-nil}
-use Rattle.serde_json.specs.Data.{Data, array}
-use Rattle.serde_json.specs.View.{items_of, view}
-use Rattle.serde_json.specs.declared.value.Value.{Value, Array}
-use Rattle.serde_json.proofs.Views.{view-Array}
-use Rattle.hex.specs.Hex.{decode_sized, encode_lower, lower_digits}
+use Rattle.std.proofs.lemmas.Str.Ascii.{IsAscii-cons}
+use Rattle.json.specs.Token.{Token}
+use Rattle.serde_json.specs.Data.{Data}
+use Rattle.hex.specs.Hex.{decode_sized, encode_lower}
 use Rattle.hex.specs.declared.error.FromHexError.{FromHexError}
-use Rattle.hex.proofs.HexLemmas.{IsAscii-encode_with}
 use Rattle.ox_range.specs.declared.runs.Run.{Run}
 use Rattle.ox_range.specs.Numbers.{numbers_from}
 use Rattle.ox_range.specs.Runs.{end_of, numbers_of}
@@ -29,18 +26,13 @@ use Rattle.ox_inscribe.specs.Inscriptions.{find, next_on, numbers_where, is_same
 use Rattle.ox_inscribe.specs.Numbers.{IsFirstOn, IsNextOn}
 use Rattle.ox_inscribe.specs.declared.row.InsRow.{InsRow}
 use Rattle.ox_inscribe.proofs.NextLaws.{next_shown}
-use Rattle.ox_ask.specs.Inscriptions.{ids_on_all, ids_tree, inscription_id}
+use Rattle.ox_ask.specs.Inscriptions.{inscription_id}
 use Rattle.ox_ask.specs.Walk.{on_between, walk_of}
 use Rattle.ox_ask.proofs.Halves.{first_half, second_half}
 use Rattle.ox_ask.proofs.Walks.{all_walked}
 use Rattle.ox_query.specs.Listed.{ids_of}
-
--- bytes that all pass the test are ASCII
-all_small : (bytes : List ℕ) → list_all (λ b. ltb b 128) bytes ≡ true → IsAscii bytes
-all_small [] h = IsAscii-nil
-all_small (b ∷ bytes) h =
-    let rest = list_all (λ b. ltb b 128) bytes in
-    IsAscii-cons b bytes (ltb-true b 128 (first_half (ltb b 128) rest h)) (all_small bytes (second_half (ltb b 128) rest h))
+use Rattle.ox_query.specs.Written.{tokens_of, tokens_of_all}
+use Rattle.ox_query.proofs.Digits.{digits_small}
 
 -- the index of what reads as an id is small
 small_index : (text : List ℕ) (id : InsId) → id_of_text text ≡ Some id → id.index < 2 ^ 32
@@ -67,8 +59,7 @@ small_index text id = by (is_number number) refl
 pub id_is_text : (id : InsId) → id_of_text (id_text id) ≡ Some id → IsUtf8 (id_text id)
 id_is_text id again =
     let small : id.index < 2 ^ 32 = small_index (id_text id) id again in
-    let digits : IsAscii lower_digits = all_small lower_digits refl in
-    let txid : IsAscii (encode_lower (reverse id.txid)) = IsAscii-encode_with lower_digits (reverse id.txid) digits in
+    let txid : IsAscii (encode_lower (reverse id.txid)) = digits_small (reverse id.txid) in
     let index : IsAscii (decimal id.index) = IsAscii-decimal id.index (omega (arith, small)) in
     let behind : IsAscii (105 ∷ decimal id.index) = IsAscii-cons 105 (decimal id.index) (omega arith) index in
     let whole : IsAscii (encode_lower (reverse id.txid) ++ 105 ∷ decimal id.index) = IsAscii-append (encode_lower (reverse id.txid)) (105 ∷ decimal id.index) txid behind in
@@ -111,20 +102,54 @@ module _ (rows : List InsRow) where
   one_id : (n : ℕ) (row : InsRow) → slice_get rows n ≡ Some row → ids_of rows (n ∷ []) ≡ inscription_id row ∷ []
   one_id n row there = ap (λ (found : Option InsRow). map inscription_id (cons_option found [])) there
 
-  -- one more id
-  pub one_id_more : (before : List Data) (values : List Value) (value : Value) (numbers : List ℕ) (i : ℕ) (row : InsRow)
-      → i < length numbers → slice_get rows (get_or numbers i 0) ≡ Some row
-      → map view values ≡ before ++ ids_of rows (take i numbers) → view value ≡ inscription_id row
-      → map view (values ++ value ∷ []) ≡ before ++ ids_of rows (take (i + 1) numbers)
-  one_id_more before values value numbers i row within there so_far here =
-      map-append view values (value ∷ [])
-      ∙ ap₂ (λ (vs : List Data) (v : Data). vs ++ v ∷ []) so_far here
-      ∙ append_assoc before (ids_of rows (take i numbers)) (inscription_id row ∷ [])
-      ∙ ap (λ (ids : List Data). before ++ ids) (
-      ap (λ (id : List Data). ids_of rows (take i numbers) ++ id) (sym (one_id (get_or numbers i 0) row there))
-      ∙ sym (ids_of-append (take i numbers) (get_or numbers i 0 ∷ []))
-      ∙ ap (ids_of rows) (sym (take_more numbers i 0 within))
-      )
+  -- the tokens of the ids of the inscriptions with these numbers
+  abbrev pub told_of : List ℕ → List Token
+  told_of numbers = tokens_of_all (ids_of rows numbers)
+
+  told_of-append : (a b : List ℕ) → told_of (a ++ b) ≡ told_of a ++ told_of b
+  told_of-append a b = ap tokens_of_all (ids_of-append a b) ∙ flat_map-append tokens_of (ids_of rows a) (ids_of rows b)
+
+  told_of_one : (n : ℕ) (row : InsRow) → slice_get rows n ≡ Some row → told_of (n ∷ []) ≡ tokens_of (inscription_id row)
+  told_of_one n row there = ap tokens_of_all (one_id n row there) ∙ append-nil (tokens_of (inscription_id row))
+
+  on_run : (run : Run) → flat_map (on rows) (numbers_of (run ∷ [])) ≡ on_between rows run.first (end_of run)
+  on_run run =
+      let many : run.count ≡ end_of run - run.first = omega arith in
+      ap (flat_map (on rows)) (numbers_of_one run.first run.count ∙ ap (numbers_from run.first) many)
+
+  -- behind what stood there
+  module _ (before so_far new : List Token) where
+    -- one more id
+    pub one_id_more : (numbers : List ℕ) (i : ℕ) (row : InsRow)
+        → i < length numbers → slice_get rows (get_or numbers i 0) ≡ Some row
+        → so_far ≡ before ++ told_of (take i numbers) → new ≡ so_far ++ tokens_of (inscription_id row)
+        → new ≡ before ++ told_of (take (i + 1) numbers)
+    one_id_more numbers i row within there is here =
+        here ∙ ap (λ (ts : List Token). ts ++ tokens_of (inscription_id row)) is
+        ∙ append_assoc before (told_of (take i numbers)) (tokens_of (inscription_id row))
+        ∙ ap (λ (ts : List Token). before ++ ts) (
+        ap (λ (ts : List Token). told_of (take i numbers) ++ ts) (sym (told_of_one (get_or numbers i 0) row there))
+        ∙ sym (told_of-append (take i numbers) (get_or numbers i 0 ∷ []))
+        ∙ ap told_of (sym (take_more numbers i 0 within))
+        )
+
+    -- the ids on one more run
+    pub one_run_more : (runs : List Run) (i : ℕ) (d : Run) → i < length runs
+        → so_far ≡ before ++ told_of (flat_map (on rows) (numbers_of (take i runs)))
+        → new ≡ so_far ++ told_of (on_between rows (get_or runs i d).first (end_of (get_or runs i d)))
+        → new ≡ before ++ told_of (flat_map (on rows) (numbers_of (take (i + 1) runs)))
+    one_run_more runs i d within is here =
+        let run = get_or runs i d in
+        let these = flat_map (on rows) (numbers_of (take i runs)) in
+        let more = flat_map (on rows) (numbers_of (run ∷ [])) in
+        here ∙ ap₂ (λ (a b : List Token). a ++ b) is (ap told_of (sym (on_run run)))
+        ∙ append_assoc before (told_of these) (told_of more)
+        ∙ ap (λ (ts : List Token). before ++ ts) (
+        sym (told_of-append these more)
+        ∙ ap told_of (
+        sym (flat_map-append (on rows) (numbers_of (take i runs)) (numbers_of (run ∷ [])))
+        ∙ ap (flat_map (on rows)) (sym (numbers-append (take i runs) (run ∷ [])) ∙ ap numbers_of (sym (take_more runs i d within)))
+        ))
 
   -- ---- a walk along a run
 
@@ -155,50 +180,24 @@ module _ (rows : List InsRow) where
   pub walk_none : (first end : ℕ) → None ≡ next_on rows first → on_between rows first end ≡ []
   walk_none first end e = all_walked rows first end ∙ ap (walk_of rows end) (sym e)
 
-  pub walked_one : (all values new : List Data) (numbers rest : List ℕ) (between : List ℕ) → between ≡ numbers ++ rest
-      → values ++ ids_of rows between ≡ all → new ≡ values ++ ids_of rows numbers → new ++ ids_of rows rest ≡ all
-  walked_one all values new numbers rest between is so_far here =
-      ap (λ (ids : List Data). ids ++ ids_of rows rest) here
-      ∙ append_assoc values (ids_of rows numbers) (ids_of rows rest)
-      ∙ ap (λ (ids : List Data). values ++ ids) (sym (ids_of-append numbers rest) ∙ ap (ids_of rows) (sym is)) ∙ so_far
+  pub walked_one : (all so_far new : List Token) (numbers rest : List ℕ) (between : List ℕ) → between ≡ numbers ++ rest
+      → so_far ++ told_of between ≡ all → new ≡ so_far ++ told_of numbers → new ++ told_of rest ≡ all
+  walked_one all so_far new numbers rest between is told here =
+      ap (λ (ts : List Token). ts ++ told_of rest) here
+      ∙ append_assoc so_far (told_of numbers) (told_of rest)
+      ∙ ap (λ (ts : List Token). so_far ++ ts) (sym (told_of-append numbers rest) ∙ ap told_of (sym is)) ∙ told
 
-  pub walked_all : (all values : List Data) (between : List ℕ) → between ≡ [] → values ++ ids_of rows between ≡ all → values ≡ all
-  walked_all all values between none so_far =
-      sym (append-nil values) ∙ ap (λ (numbers : List ℕ). values ++ ids_of rows numbers) (sym none) ∙ so_far
+  pub walked_all : (all so_far : List Token) (between : List ℕ) → between ≡ [] → so_far ++ told_of between ≡ all → so_far ≡ all
+  walked_all all so_far between none told =
+      sym (append-nil so_far) ∙ ap (λ (numbers : List ℕ). so_far ++ told_of numbers) (sym none) ∙ told
 
   -- ---- run by run
 
-  on_run : (run : Run) → flat_map (on rows) (numbers_of (run ∷ [])) ≡ on_between rows run.first (end_of run)
-  on_run run =
-      let many : run.count ≡ end_of run - run.first = omega arith in
-      ap (flat_map (on rows)) (numbers_of_one run.first run.count ∙ ap (numbers_from run.first) many)
+  pub no_run : (before : List Token) → before ≡ before ++ told_of (flat_map (on rows) (numbers_of []))
+  no_run before = sym (append-nil before) ∙ ap (λ (numbers : List ℕ). before ++ told_of (flat_map (on rows) numbers)) (sym numbers-none)
 
-  pub one_run_more : (runs : List Run) (i : ℕ) (d : Run) (before new : List Data) → i < length runs
-      → before ≡ ids_of rows (flat_map (on rows) (numbers_of (take i runs)))
-      → new ≡ before ++ ids_of rows (on_between rows (get_or runs i d).first (end_of (get_or runs i d)))
-      → new ≡ ids_of rows (flat_map (on rows) (numbers_of (take (i + 1) runs)))
-  one_run_more runs i d before new within so_far here =
-      let run = get_or runs i d in
-      here ∙ ap₂ (λ (a b : List Data). a ++ b) so_far (ap (ids_of rows) (sym (on_run run)))
-      ∙ sym (ids_of-append (flat_map (on rows) (numbers_of (take i runs))) (flat_map (on rows) (numbers_of (run ∷ []))))
-      ∙ ap (ids_of rows) (
-      sym (flat_map-append (on rows) (numbers_of (take i runs)) (numbers_of (run ∷ [])))
-      ∙ ap (flat_map (on rows)) (sym (numbers-append (take i runs) (run ∷ [])) ∙ ap numbers_of (sym (take_more runs i d within)))
-      )
-
-  pub no_run : [] ≡ ids_of rows (flat_map (on rows) (numbers_of []))
-  no_run = ap (λ (numbers : List ℕ). ids_of rows (flat_map (on rows) numbers)) (sym numbers-none)
-
-  pub all_runs_told : (ids : Vec Value Global) (runs : List Run) (i : ℕ) → length runs ≤ i
-      → map view ids.items ≡ ids_of rows (flat_map (on rows) (numbers_of (take i runs)))
-      → view (Array ids) ≡ ids_on_all rows (numbers_of runs)
-  all_runs_told ids runs i past so_far =
-      view-Array ids
-      ∙ ap (λ (told : List Data). array (items_of told)) (so_far ∙ ap (λ (rs : List Run). ids_of rows (flat_map (on rows) (numbers_of rs))) (take_all i runs past))
-
-  pub on_told : (ids : Vec Value Global) (before : List Value) (numbers : List ℕ) (sat : ℕ) → before ≡ []
-      → map view ids.items ≡ map view before ++ ids_of rows numbers → numbers ≡ on rows sat → view (Array ids) ≡ ids_tree rows (on rows sat)
-  on_told ids before numbers sat none told are =
-      view-Array ids
-      ∙ ap (λ (told : List Data). array (items_of told))
-      (told ∙ ap₂ (λ (vs : List Value) (ns : List ℕ). map view vs ++ ids_of rows ns) none are)
+  pub all_runs_told : (before so_far : List Token) (runs : List Run) (i : ℕ) → length runs ≤ i
+      → so_far ≡ before ++ told_of (flat_map (on rows) (numbers_of (take i runs)))
+      → so_far ≡ before ++ told_of (flat_map (on rows) (numbers_of runs))
+  all_runs_told before so_far runs i past is =
+      is ∙ ap (λ (rs : List Run). before ++ told_of (flat_map (on rows) (numbers_of rs))) (take_all i runs past)

@@ -1,0 +1,8 @@
+use Rattle.std.proofs.Common.{◌≡◌, ◌++◌, take}
+use Rattle.ox_query.proofs.IdLists.{told_of}
+use Rattle.ox_query.proofs.ids.write_ids.Given as goal
+
+abbrev pub invariant-loop-n : goal.invariant-loop-n
+invariant-loop-n g l =
+    (l.out.before ≡ l.fn.out.before)
+    × (l.out.tokens ≡ l.fn.out.tokens ++ told_of (g.V.View.index l.live).inscriptions (take l.n-index l.numbers))
