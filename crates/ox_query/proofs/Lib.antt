@@ -1,4 +1,5 @@
 pub mod Digits
+pub mod Filtered
 pub mod Contents
 pub mod Spelled
 pub mod Told

@@ -1,64 +1,62 @@
 //! The runes of an output.
 
-ghost use Rattle.std.specs.Prelude.{◌≡◌, ◌≤◌, [], ◌∷◌, ◌++◌, IfOk, OnOk, map};
+ghost use Rattle.std.specs.Prelude.{◌≡◌, ◌≤◌, [], ◌∷◌};
 ghost use Rattle.std.specs.List.{filter_map};
-ghost use Rattle.serde_json.specs.View.{view};
 ghost use Rattle.ox_ask.specs.Runes.{balance_among, balance_tree, balances_tree};
 ghost use Rattle.ox_ledger.specs.Runes.{balances_at};
+ghost use Rattle.ox_query.specs.Written.{Adds, tokens_of, tokens_of_all};
 
-use crate::rune_values::{amount_value, name_value, rune_id_value, shown_value};
-use ox_ask::Fields;
+use crate::rune_values::{write_amount, write_name, write_rune_id, write_shown};
+use json::Writer;
 use ox_block::OutPoint;
 use ox_bytes::Memory;
 use ox_model::{RuneId, RuneRow, View};
-use serde_json::Value;
-use std::alloc::Global;
 
-// So much of a rune.
-fn balance_value(alloc: Global, amount: u128, row: &RuneRow) -> Result<Value, Memory>
+// Writes so much of a rune.
+fn write_held(out: &mut Writer, amount: u128, row: &RuneRow) -> Result<(), Memory>
     requires { row.now.divisibility ≤ 38 }
-    ensures { IfOk result (λ value. view value ≡ balance_tree amount row.now) }
+    ensures { Adds result out.old out.new (tokens_of (balance_tree amount row.now)) }
 {
-    let mut fields = Fields::new(alloc);
-    fields.add("amount", amount_value(alloc, amount)?)?;
-    fields.add("id", rune_id_value(alloc, &row.id)?)?;
-    fields.add("name", name_value(alloc, row)?)?;
-    fields.add("shown", shown_value(alloc, amount, row.divisibility)?)?;
-    Ok(fields.into_value())
+    out.begin_object()?;
+    out.key("amount")?;
+    write_amount(out, amount)?;
+    out.key("id")?;
+    write_rune_id(out, &row.id)?;
+    out.key("name")?;
+    write_name(out, row)?;
+    out.key("shown")?;
+    write_shown(out, amount, row.divisibility)?;
+    Ok(out.end_object()?)
 }
 
-// Adds a balance, if its rune is there.
-fn add_balance<V: View>(
-    alloc: Global,
+// Writes a balance, if its rune is there.
+fn write_balance<V: View>(
+    out: &mut Writer,
     live: &V,
     balance: &(RuneId, u128),
-    values: &mut Vec<Value>,
 ) -> Result<(), Memory>
-    ensures { OnOk result (map view values.new.items ≡ map view values.old.items
-        ++ filter_map (balance_among (V.index live.now).runes) (balance.now ∷ [])) }
+    ensures { Adds result out.old out.new (tokens_of_all
+        (filter_map (balance_among (V.index live.now).runes) (balance.now ∷ []))) }
 {
     let (id, amount) = *balance;
     match live.by_id(id) {
-        Some(n) => {
-            values.push(balance_value(alloc, amount, live.rune(n))?)?;
-            Ok(())
-        }
+        Some(n) => write_held(out, amount, live.rune(n)),
         None => Ok(()),
     }
 }
 
-/// The runes of an output, by their ids. `Memory` where there is none for them.
-pub(crate) fn balances_value<V: View>(
-    alloc: Global,
+/// Writes the runes of an output, by their ids. `Memory` where there is none for it.
+pub(crate) fn write_balances<V: View>(
+    out: &mut Writer,
     live: &V,
     at: &OutPoint,
-) -> Result<Value, Memory>
-    ensures { IfOk result (λ value. view value ≡ balances_tree (V.index live.now).runes
-        (balances_at (V.index live.now).bal at.now)) }
+) -> Result<(), Memory>
+    ensures { Adds result out.old out.new (tokens_of (balances_tree (V.index live.now).runes
+        (balances_at (V.index live.now).bal at.now))) }
 {
-    let mut values = Vec::new(alloc);
+    out.begin_array()?;
     for balance in live.balance(at) {
-        add_balance(alloc, live, balance, &mut values)?;
+        write_balance(out, live, balance)?;
     }
-    Ok(Value::Array(values))
+    Ok(out.end_array()?)
 }

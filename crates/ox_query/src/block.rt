@@ -1,24 +1,36 @@
 //! What `/blockhash/{height}` says.
 
 ghost use Rattle.std.specs.Prelude.{◌≡◌, IfOk, option_map, slice_get};
-ghost use Rattle.serde_json.specs.View.{view};
+ghost use Rattle.serde_json.specs.Written.{compact_text};
 ghost use Rattle.ox_ask.specs.Trees.{block_tree};
+ghost use Rattle.ox_query.specs.Written.{Adds, tokens_of};
 
-use crate::values::hash_value;
-use ox_ask::Fields;
-use ox_bytes::Memory;
+use crate::bodies::{body_of, new_body};
+use crate::values::write_hash;
+use json::Writer;
+use ox_bytes::{Bytes, Memory};
 use ox_model::View;
-use serde_json::Value;
 use std::alloc::Global;
 
-// The block of a height and its hash.
-fn block_value(alloc: Global, height: u64, hash: &[u8; 32]) -> Result<Value, Memory>
-    ensures { IfOk result (λ value. view value ≡ block_tree height hash.now) }
+// Writes the block of a height and its hash.
+fn write_block(out: &mut Writer, height: u64, hash: &[u8; 32]) -> Result<(), Memory>
+    ensures { Adds result out.old out.new (tokens_of (block_tree height hash.now)) }
 {
-    let mut fields = Fields::new(alloc);
-    fields.add("hash", hash_value(alloc, hash)?)?;
-    fields.add("height", Value::from(height))?;
-    Ok(fields.into_value())
+    out.begin_object()?;
+    out.key("hash")?;
+    write_hash(out, hash)?;
+    out.key("height")?;
+    out.u64(height)?;
+    Ok(out.end_object()?)
+}
+
+// The block of a height and its hash.
+fn block_body(alloc: Global, height: u64, hash: &[u8; 32]) -> Result<Bytes, Memory>
+    ensures { IfOk result (λ body. body ≡ compact_text (block_tree height hash.now)) }
+{
+    let mut out = new_body(alloc)?;
+    write_block(&mut out, height, hash)?;
+    Ok(body_of(out))
 }
 
 /// The block at a height, if there is one. `Memory` where there is none for it.
@@ -26,15 +38,15 @@ pub(crate) fn block_at<V: View>(
     alloc: Global,
     live: &V,
     height: u64,
-) -> Result<Option<Value>, Memory>
-    ensures { IfOk result (λ found. option_map view found
-        ≡ option_map (block_tree height) (slice_get (V.index live.now).hashes height)) }
+) -> Result<Option<Bytes>, Memory>
+    ensures { IfOk result (λ found. found ≡ option_map compact_text
+        (option_map (block_tree height) (slice_get (V.index live.now).hashes height))) }
 {
     if height >= u64::from(live.blocks()) {
         return Ok(None);
     }
     match live.hash_of(height as u32) {
-        Some(hash) => Ok(Some(block_value(alloc, height, hash)?)),
+        Some(hash) => Ok(Some(block_body(alloc, height, hash)?)),
         None => Ok(None),
     }
 }

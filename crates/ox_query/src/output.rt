@@ -3,64 +3,84 @@
 ghost use Rattle.std.specs.Prelude.{◌≡◌, ◌+◌, ◌^◌, ◌<◌, IfOk, option_map};
 ghost use Rattle.std.specs.FinMap as map;
 ghost use Rattle.serde_json.specs.Data.{array};
-ghost use Rattle.serde_json.specs.View.{view};
+ghost use Rattle.serde_json.specs.Written.{compact_text};
 ghost use Rattle.ox_ask.specs.Trees.{output_tree, run_items, run_tree};
+ghost use Rattle.ox_query.specs.Written.{Adds, tokens_of};
 ghost use Rattle.ox_range.specs.Runs.{AreMaximal};
 
-use crate::balances::balances_value;
-use crate::ids::ids_in;
-use ox_ask::Fields;
+use crate::balances::write_balances;
+use crate::bodies::{body_of, new_body};
+use crate::ids::write_ids_in;
+use json::Writer;
 use ox_block::OutPoint;
-use ox_bytes::Memory;
+use ox_bytes::{Bytes, Memory};
 use ox_model::{OutRow, View};
 use ox_range::Run;
-use serde_json::Value;
 use std::alloc::Global;
 
-// A run's first satoshi, and the one behind its last.
-fn run_value(alloc: Global, run: &Run) -> Result<Value, Memory>
+// Writes a run's first satoshi, and the one behind its last.
+fn write_run(out: &mut Writer, run: &Run) -> Result<(), Memory>
     requires { run.now.first + run.now.count < 2 ^ 64 }
-    ensures { IfOk result (λ value. view value ≡ run_tree run.now) }
+    ensures { Adds result out.old out.new (tokens_of (run_tree run.now)) }
 {
-    let ends = [Value::from(run.first), Value::from(run.first + run.count)];
-    Ok(Value::Array(Vec::from_array(alloc, ends)?))
+    out.begin_array()?;
+    out.u64(run.first)?;
+    out.u64(run.first + run.count)?;
+    Ok(out.end_array()?)
 }
 
-// Runs, in order.
-fn runs_value(alloc: Global, runs: &[Run]) -> Result<Value, Memory>
+// Writes runs, in order.
+fn write_runs(out: &mut Writer, runs: &[Run]) -> Result<(), Memory>
     requires { AreMaximal runs.now }
-    ensures { IfOk result (λ value. view value ≡ array (run_items runs.now)) }
+    ensures { Adds result out.old out.new (tokens_of (array (run_items runs.now))) }
 {
-    let mut values = Vec::new(alloc);
+    out.begin_array()?;
     for run in runs {
-        let value = run_value(alloc, run)?;
-        values.push(value)?;
+        write_run(out, run)?;
     }
-    Ok(Value::Array(values))
+    Ok(out.end_array()?)
+}
+
+// Writes an unspent output.
+fn write_output<V: View>(
+    alloc: Global,
+    out: &mut Writer,
+    live: &V,
+    at: &OutPoint,
+    row: &OutRow,
+) -> Result<(), Memory>
+    ensures { Adds result out.old out.new
+        (tokens_of (output_tree (V.index live.now) at.now row.now)) }
+{
+    out.begin_object()?;
+    out.key("height")?;
+    out.u64(u64::from(row.height))?;
+    out.key("inscriptions")?;
+    write_ids_in(out, live, &row.sats)?;
+    out.key("ranges")?;
+    write_runs(out, row.sats.runs())?;
+    out.key("runes")?;
+    write_balances(out, live, at)?;
+    out.key("script")?;
+    out.string(&hex::encode(alloc, row.script.as_slice())?)?;
+    out.key("value")?;
+    out.u64(row.sats.len())?;
+    Ok(out.end_object()?)
 }
 
 // An unspent output.
-fn output_value<V: View>(
+fn output_body<V: View>(
     alloc: Global,
     live: &V,
     at: &OutPoint,
     row: &OutRow,
-) -> Result<Value, Memory>
+) -> Result<Bytes, Memory>
     ensures { IfOk result
-        (λ value. view value ≡ output_tree (V.index live.now) at.now row.now) }
+        (λ body. body ≡ compact_text (output_tree (V.index live.now) at.now row.now)) }
 {
-    let inscriptions = ids_in(alloc, live, &row.sats)?;
-    let ranges = runs_value(alloc, row.sats.runs())?;
-    let runes = balances_value(alloc, live, at)?;
-    let script = hex::encode(alloc, row.script.as_slice())?;
-    let mut fields = Fields::new(alloc);
-    fields.add("height", Value::from(row.height))?;
-    fields.add("inscriptions", inscriptions)?;
-    fields.add("ranges", ranges)?;
-    fields.add("runes", runes)?;
-    fields.add("script", Value::String(script))?;
-    fields.add("value", Value::from(row.sats.len()))?;
-    Ok(fields.into_value())
+    let mut out = new_body(alloc)?;
+    write_output(alloc, &mut out, live, at, row)?;
+    Ok(body_of(out))
 }
 
 /// The unspent output at an outpoint, if there is one. `Memory` where there is none for it.
@@ -68,13 +88,13 @@ pub(crate) fn output_at<V: View>(
     alloc: Global,
     live: &V,
     at: &OutPoint,
-) -> Result<Option<Value>, Memory>
-    ensures { IfOk result (λ found. option_map view found
-        ≡ option_map (output_tree (V.index live.now) at.now)
-        (map.get (V.index live.now).outs at.now)) }
+) -> Result<Option<Bytes>, Memory>
+    ensures { IfOk result (λ found. found ≡ option_map compact_text
+        (option_map (output_tree (V.index live.now) at.now)
+        (map.get (V.index live.now).outs at.now))) }
 {
     match live.output(at) {
-        Some(row) => Ok(Some(output_value(alloc, live, at, row)?)),
+        Some(row) => Ok(Some(output_body(alloc, live, at, row)?)),
         None => Ok(None),
     }
 }

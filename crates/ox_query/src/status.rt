@@ -1,16 +1,17 @@
 //! What `/status` says.
 
 ghost use Rattle.std.specs.Prelude.{◌≡◌, IfOk, option_copied};
-ghost use Rattle.serde_json.specs.View.{view};
+ghost use Rattle.serde_json.specs.Written.{compact_text};
 ghost use Rattle.ox_ask.specs.Trees.{status_tree, tip};
 ghost use Rattle.ox_query.specs.Asked.{asked_of};
+ghost use Rattle.ox_query.specs.Written.{Adds, tokens_of};
 
-use crate::values::{hash_or_null, text_value};
-use ox_ask::Fields;
-use ox_bytes::Memory;
+use crate::bodies::{body_of, new_body};
+use crate::values::write_hash_or_null;
+use json::Writer;
+use ox_bytes::{Bytes, Memory};
 use ox_model::{About, View};
 use ox_sat::ProfileName;
-use serde_json::Value;
 use std::alloc::Global;
 
 // The newest block's hash.
@@ -20,19 +21,33 @@ fn newest<V: View>(live: &V) -> Option<&[u8; 32]>
     live.hash_of(live.blocks().checked_sub(1)?)
 }
 
-/// How many blocks there are, may be taken back and can be, the profile and the newest block's
-/// hash. `Memory` where there is none for it.
-pub(crate) fn status_value<V: View>(alloc: Global, live: &V, about: &About) -> Result<Value, Memory>
-    ensures { IfOk result (λ value. view value
-        ≡ status_tree (asked_of (V.chain live.now) (V.index live.now) about.now)) }
+// Writes what is asked of a chain's blocks.
+fn write_status<V: View>(out: &mut Writer, live: &V, about: &About) -> Result<(), Memory>
+    ensures { Adds result out.old out.new (tokens_of
+        (status_tree (asked_of (V.chain live.now) (V.index live.now) about.now))) }
 {
     let profile = ProfileName::of_byte(live.profile().byte);
-    let tip = hash_or_null(alloc, newest(live))?;
-    let mut fields = Fields::new(alloc);
-    fields.add("blocks", Value::from(live.blocks()))?;
-    fields.add("depth", Value::from(about.depth))?;
-    fields.add("kept", Value::from(about.kept))?;
-    fields.add("profile", text_value(alloc, profile.word())?)?;
-    fields.add("tip", tip)?;
-    Ok(fields.into_value())
+    out.begin_object()?;
+    out.key("blocks")?;
+    out.u64(u64::from(live.blocks()))?;
+    out.key("depth")?;
+    out.u64(u64::from(about.depth))?;
+    out.key("kept")?;
+    out.u64(u64::from(about.kept))?;
+    out.key("profile")?;
+    out.string(profile.word())?;
+    out.key("tip")?;
+    write_hash_or_null(out, newest(live))?;
+    Ok(out.end_object()?)
+}
+
+/// How many blocks there are, may be taken back and can be, the profile and the newest block's
+/// hash. `Memory` where there is none for it.
+pub(crate) fn status_body<V: View>(alloc: Global, live: &V, about: &About) -> Result<Bytes, Memory>
+    ensures { IfOk result (λ body. body ≡ compact_text
+        (status_tree (asked_of (V.chain live.now) (V.index live.now) about.now))) }
+{
+    let mut out = new_body(alloc)?;
+    write_status(&mut out, live, about)?;
+    Ok(body_of(out))
 }

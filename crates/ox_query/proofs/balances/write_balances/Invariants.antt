@@ -1,0 +1,11 @@
+use Rattle.std.proofs.Common.{◌≡◌, [], ◌∷◌, ◌++◌, take}
+use Rattle.json.specs.Token.{begin_array}
+use Rattle.ox_ask.specs.Runes.{balance_among}
+use Rattle.ox_query.proofs.Filtered.{told_of}
+use Rattle.ox_query.proofs.balances.write_balances.Given as goal
+
+abbrev pub invariant-loop-balance : goal.invariant-loop-balance
+invariant-loop-balance g l =
+    (l.out.before ≡ l.fn.out.before)
+    × (l.out.tokens ≡ (l.fn.out.tokens ++ begin_array ∷ [])
+    ++ told_of (balance_among (g.V.View.index l.live).runes) (take l.balance-index l.balance-items))

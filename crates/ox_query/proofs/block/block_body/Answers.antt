@@ -1,0 +1,8 @@
+use Rattle.ox_ask.specs.Trees.{block_tree}
+use Rattle.ox_query.proofs.Arrays.{first_tree}
+use Rattle.ox_query.proofs.block.block_body.Goals as goal
+
+pub returns : goal.returns
+returns c =
+    let tree = block_tree c.args.height c.args.hash.now in
+    c.body_of.ensures tree (first_tree c.in_ok-out.out c.write_block.new.out tree c.in_ok-out.ensures c.in_ok-write_block.ensures)

@@ -1,0 +1,8 @@
+use Rattle.ox_ask.specs.Trees.{output_tree}
+use Rattle.ox_query.proofs.Arrays.{first_tree}
+use Rattle.ox_query.proofs.output.output_body.Goals as goal
+
+pub returns : goal.returns
+returns g c =
+    let tree = output_tree (g.V.View.index c.args.live.now) c.args.at.now c.args.row.now in
+    c.body_of.ensures tree (first_tree c.in_ok-out.out c.write_output.new.out tree c.in_ok-out.ensures c.in_ok-write_output.ensures)

@@ -1,0 +1,8 @@
+use Rattle.ox_ask.specs.Trees.{sat_tree}
+use Rattle.ox_query.proofs.Arrays.{first_tree}
+use Rattle.ox_query.proofs.sat.sat_body.Goals as goal
+
+pub returns : goal.returns
+returns g c =
+    let tree = sat_tree (g.V.View.chain c.args.live.now) (g.V.View.index c.args.live.now) c.args.sat in
+    c.body_of.ensures tree (first_tree c.in_ok-out.out c.write_sat.new.out tree c.in_ok-out.ensures c.in_ok-write_sat.ensures)
