@@ -1,92 +1,103 @@
 //! The reply to each request.
 
-ghost use Rattle.std.specs.Prelude.{◌≡◌, ◌≢◌, false, IfOk, option_map, unwrap_or};
-ghost use Rattle.serde_json.specs.View.{view};
-ghost use Rattle.serde_json.specs.Written.{has_float};
+ghost use Rattle.std.specs.Prelude.{◌≡◌, IfOk, option_map, unwrap_or};
+ghost use Rattle.serde_json.specs.Data.{Data};
+ghost use Rattle.serde_json.specs.Written.{compact_text};
 ghost use Rattle.ox_ask.specs.Ask.{error_reply as error_said, reply_of, route_reply as route_said};
 ghost use Rattle.ox_ask.specs.Ask.{named_reply as named_said, same_method as is_same, tree_at};
 ghost use Rattle.ox_ask.specs.Ask.{tree_reply as tree_said};
 ghost use Rattle.ox_ask.specs.Trees.{error_tree};
 ghost use Rattle.ox_query.specs.Asked.{asked_of};
+ghost use Rattle.ox_query.specs.Written.{Adds, tokens_of};
 
-use crate::audit::audit_value;
+use crate::audit::audit_body;
 use crate::block::block_at;
+use crate::bodies::{body_of, new_body};
 use crate::content::content_at;
-use crate::inscription::{inscription_page_value, inscription_value};
+use crate::inscription::{inscription_body, inscription_page_body};
 use crate::output::output_at;
 use crate::parts::{number, outpoint, satoshi};
-use crate::rune::rune_value;
-use crate::rune_page::rune_page_value;
-use crate::sat::sat_value;
-use crate::status::status_value;
-use ox_ask::Fields;
+use crate::rune::rune_body;
+use crate::rune_page::rune_page_body;
+use crate::sat::sat_body;
+use crate::status::status_body;
+use json::Writer;
 use ox_bytes::{Bytes, Memory};
 use ox_http::{Method, Reply, Request};
 use ox_model::{About, View};
 use ox_routes::{Found, Route, Routes};
-use serde_json::Value;
 use std::alloc::Global;
 
-// A reply with a tree, as compact JSON.
-fn tree_reply(alloc: Global, status: u16, tree: &Value, close: bool) -> Result<Reply, Memory>
-    requires { has_float (view tree.now) ≡ false }
-    ensures { IfOk result (λ reply. reply ≡ tree_said status (view tree.now) close) }
+// A reply with a tree, of which the body is the compact JSON.
+fn tree_reply(alloc: Global, status: u16, body: Bytes, close: bool) -> Result<Reply, Memory>
+    ensures { (tree : Data) → body ≡ compact_text tree
+        → IfOk result (λ reply. reply ≡ tree_said status tree close) }
 {
-    let text = tree.to_string(alloc)?;
     Ok(Reply {
         status,
         kind: Bytes::copy(alloc, b"application/json")?,
         encoding: None,
-        body: Bytes::from_vec(text.into_bytes()),
+        body,
         close,
     })
 }
 
-// What a status that isn't 200 says.
-fn error_value(alloc: Global, status: u16) -> Result<Value, Memory>
-    ensures { IfOk result (λ value. view value ≡ error_tree status) }
+// Writes what a status that isn't 200 says.
+fn write_error(out: &mut Writer, status: u16) -> Result<(), Memory>
+    ensures { Adds result out.old out.new (tokens_of (error_tree status)) }
 {
-    let mut fields = Fields::new(alloc);
-    fields.add("error", Value::from(status))?;
-    Ok(fields.into_value())
+    out.begin_object()?;
+    out.key("error")?;
+    out.u64(u64::from(status))?;
+    Ok(out.end_object()?)
+}
+
+// What a status that isn't 200 says.
+fn error_body(alloc: Global, status: u16) -> Result<Bytes, Memory>
+    ensures { IfOk result (λ body. body ≡ compact_text (error_tree status)) }
+{
+    let mut out = new_body(alloc)?;
+    write_error(&mut out, status)?;
+    Ok(body_of(out))
 }
 
 // A status that isn't 200.
 fn error_reply(alloc: Global, status: u16, close: bool) -> Result<Reply, Memory>
     ensures { IfOk result (λ reply. reply ≡ error_said status close) }
 {
-    let tree = error_value(alloc, status)?;
-    tree_reply(alloc, status, &tree, close)
+    let body = error_body(alloc, status)?;
+    tree_reply(alloc, status, body, close)
 }
 
-// The tree that a route has for its part, if the part names something; a content isn't a tree.
-fn value_at<V: View>(
+// The body of the tree that a route has for its part, if the part names something; a content isn't
+// a tree.
+fn body_at<V: View>(
     alloc: Global,
     live: &V,
     about: &About,
     found: &Found,
-) -> Result<Option<Value>, Memory>
-    ensures { IfOk result (λ value. option_map view value
-        ≡ tree_at (asked_of (V.chain live.now) (V.index live.now) about.now)
-        found.now.route found.now.part.now) }
+) -> Result<Option<Bytes>, Memory>
+    ensures { IfOk result (λ body. body ≡ option_map compact_text
+        (tree_at (asked_of (V.chain live.now) (V.index live.now) about.now)
+        found.now.route found.now.part.now)) }
 {
     match found.route {
-        Route::Status => Ok(Some(status_value(alloc, live, about)?)),
-        Route::Audit => Ok(Some(audit_value(alloc, live)?)),
+        Route::Status => Ok(Some(status_body(alloc, live, about)?)),
+        Route::Audit => Ok(Some(audit_body(alloc, live)?)),
         Route::BlockHash => match number(found.part) {
             Some(height) => block_at(alloc, live, height),
             None => Ok(None),
         },
-        Route::Inscription => inscription_value(alloc, live, found.part),
-        Route::Inscriptions => inscription_page_value(alloc, live, found.part),
+        Route::Inscription => inscription_body(alloc, live, found.part),
+        Route::Inscriptions => inscription_page_body(alloc, live, found.part),
         Route::Output => match outpoint(found.part) {
             Some(at) => output_at(alloc, live, &at),
             None => Ok(None),
         },
-        Route::Rune => rune_value(alloc, live, found.part),
-        Route::Runes => rune_page_value(alloc, live, found.part),
+        Route::Rune => rune_body(alloc, live, found.part),
+        Route::Runes => rune_page_body(alloc, live, found.part),
         Route::Sat => match satoshi(live.profile(), found.part) {
-            Some(sat) => Ok(Some(sat_value(alloc, live, sat)?)),
+            Some(sat) => Ok(Some(sat_body(alloc, live, sat)?)),
             None => Ok(None),
         },
         _ => Ok(None),
@@ -105,8 +116,8 @@ fn found_tree<V: View>(
         (tree_at (asked_of (V.chain live.now) (V.index live.now) about.now)
         found.now.route found.now.part.now)) (error_said 404 close)) }
 {
-    match value_at(alloc, live, about, found)? {
-        Some(tree) => tree_reply(alloc, 200, &tree, close),
+    match body_at(alloc, live, about, found)? {
+        Some(body) => tree_reply(alloc, 200, body, close),
         None => error_reply(alloc, 404, close),
     }
 }

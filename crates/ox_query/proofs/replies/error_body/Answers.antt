@@ -1,0 +1,8 @@
+use Rattle.ox_ask.specs.Trees.{error_tree}
+use Rattle.ox_query.proofs.Arrays.{first_tree}
+use Rattle.ox_query.proofs.replies.error_body.Goals as goal
+
+pub returns : goal.returns
+returns c =
+    let tree = error_tree c.args.status in
+    c.body_of.ensures tree (first_tree c.in_ok-out.out c.write_error.new.out tree c.in_ok-out.ensures c.in_ok-write_error.ensures)
