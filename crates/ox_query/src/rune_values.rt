@@ -1,56 +1,62 @@
 //! Values that the replies on runes share.
 
-ghost use Rattle.std.specs.Prelude.{◌≡◌, ◌≤◌, IfOk};
+ghost use Rattle.std.specs.Prelude.{◌≡◌, ◌≤◌};
 ghost use Rattle.serde_json.specs.Data.{string};
-ghost use Rattle.serde_json.specs.View.{view};
+ghost use Rattle.ox_ask.specs.Named.{rune_id_text as rune_id_said};
 ghost use Rattle.ox_ask.specs.Runes.{name_tree, rune_id_tree};
 ghost use Rattle.ox_ask.specs.Values.{amount as amount_said};
 ghost use Rattle.ox_name.specs.Amount.{amount_text};
+ghost use Rattle.ox_query.specs.Written.{Adds, tokens_of};
 
-use crate::values::text_value;
+use crate::values::text_of;
+use arrayvec::ArrayString;
+use itoa::Buffer;
+use json::Writer;
 use ox_bytes::Memory;
 use ox_model::{RuneId, RuneRow};
-use ox_name::{write_amount, write_spaced};
-use serde_json::Value;
-use std::alloc::Global;
+use ox_name::write_spaced;
 
-/// An amount, as a text. `Memory` where there is none for it.
-pub(crate) fn amount_value(alloc: Global, amount: u128) -> Result<Value, Memory>
-    ensures { IfOk result (λ value. view value ≡ amount_said amount) }
+/// Writes an amount, as the text of its digits. `Memory` where there is none for it.
+pub(crate) fn write_amount(out: &mut Writer, amount: u128) -> Result<(), Memory>
+    ensures { Adds result out.old out.new (tokens_of (amount_said amount)) }
 {
-    Ok(Value::String(format!(in alloc; "{amount}")?))
+    Ok(out.string(Buffer::new().format(amount))?)
 }
 
-/// A rune's id: the height and the place of its etching, with a colon between. `Memory` where there
-/// is none for it.
-pub(crate) fn rune_id_value(alloc: Global, id: &RuneId) -> Result<Value, Memory>
-    ensures { IfOk result (λ value. view value ≡ rune_id_tree id.now) }
+// A rune's id: the height and the place of its etching, with a colon between.
+fn rune_id_text(id: &RuneId) -> ArrayString<31>
+    ensures { result.bytes ≡ rune_id_said id.now }
 {
-    let RuneId { block, tx } = *id;
-    Ok(Value::String(format!(in alloc; "{block}:{tx}")?))
+    let mut text = ArrayString::new();
+    text.push_str(Buffer::new().format(id.block));
+    text.push_str(":");
+    text.push_str(Buffer::new().format(id.tx));
+    text
 }
 
-/// A rune's name, with its spacers. `Memory` where there is none for it.
-pub(crate) fn name_value(alloc: Global, row: &RuneRow) -> Result<Value, Memory>
-    ensures { IfOk result (λ value. view value ≡ name_tree row.now) }
+/// Writes a rune's id, as text. `Memory` where there is none for it.
+pub(crate) fn write_rune_id(out: &mut Writer, id: &RuneId) -> Result<(), Memory>
+    ensures { Adds result out.old out.new (tokens_of (rune_id_tree id.now)) }
+{
+    Ok(out.string(rune_id_text(id).as_str())?)
+}
+
+/// Writes a rune's name, with its spacers. `Memory` where there is none for it.
+pub(crate) fn write_name(out: &mut Writer, row: &RuneRow) -> Result<(), Memory>
+    ensures { Adds result out.old out.new (tokens_of (name_tree row.now)) }
 {
     let mut name = [0; 112];
     let len = write_spaced(row.name, row.spacers, &mut name);
-    match str::from_utf8(&name[..len]) {
-        Ok(text) => text_value(alloc, text),
-        Err(_) => unreachable!(),
-    }
+    Ok(out.string(text_of(&name[..len]))?)
 }
 
-/// An amount with so many decimals, as a text. `Memory` where there is none for it.
-pub(crate) fn shown_value(alloc: Global, amount: u128, divisibility: u8) -> Result<Value, Memory>
+/// Writes an amount with so many decimals, as text. `Memory` where there is none for it.
+pub(crate) fn write_shown(out: &mut Writer, amount: u128, divisibility: u8) -> Result<(), Memory>
     requires { divisibility ≤ 38 }
-    ensures { IfOk result (λ value. view value ≡ string (amount_text amount divisibility)) }
+    ensures { Adds result out.old out.new
+        (tokens_of (string (amount_text amount divisibility))) }
 {
     let mut shown = [0; 41];
-    let len = write_amount(amount, divisibility, &mut shown);
-    match str::from_utf8(&shown[..len]) {
-        Ok(text) => text_value(alloc, text),
-        Err(_) => unreachable!(),
-    }
+    let len = ox_name::write_amount(amount, divisibility, &mut shown);
+    Ok(out.string(text_of(&shown[..len]))?)
 }
