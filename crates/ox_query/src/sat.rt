@@ -9,7 +9,7 @@ ghost use Rattle.ox_query.specs.Written.{Adds, tokens_of};
 
 use crate::bodies::{body_of, new_body};
 use crate::ids::write_ids_on;
-use crate::outpoints::write_outpoint;
+use crate::printed::write_outpoint;
 use crate::texts::{decimal_text, degree_text, rarity_word, write_name};
 use json::Writer;
 use ox_bytes::{Bytes, Memory};

@@ -40,10 +40,7 @@ pub(crate) fn write_hash(out: &mut Writer, hash: &[u8; 32]) -> Result<(), Memory
 }
 
 /// Writes a hash as it is printed, or null without one. `Memory` where there is none for it.
-pub(crate) fn write_hash_or_null(
-    out: &mut Writer,
-    hash: Option<&[u8; 32]>,
-) -> Result<(), Memory>
+pub(crate) fn write_hash_or_null(out: &mut Writer, hash: Option<&[u8; 32]>) -> Result<(), Memory>
     ensures { Adds result out.old out.new (tokens_of (hash_said (option_copied hash.entry))) }
 {
     match hash {

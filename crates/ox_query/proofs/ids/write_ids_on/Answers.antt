@@ -14,9 +14,10 @@ write_ids-requires g c =
 
 pub returns : goal.returns
 returns g c =
-    let rows = (g.V.View.index c.args.live.now).inscriptions in
-    (c.in_ok-end_array.ensures.room.0 ∙ c.in_ok-write_ids.ensures.0 ∙ c.in_ok-begin_array.ensures.room.0,
-    bracketed c.args.out.now.tokens c.write_ids.new.out.tokens c.end_array.new.self.tokens (ids_of rows (on rows c.args.sat))
-    (c.in_ok-write_ids.ensures.1 ∙ ap (λ ts. ts ++ told_of rows c.on.result.now) c.in_ok-begin_array.ensures.ok
-    ∙ ap (λ ns. (c.args.out.now.tokens ++ begin_array ∷ []) ++ told_of rows ns) c.on.ensures)
-    c.in_ok-end_array.ensures.ok)
+    let rows = (g.V.View.index c.args.live.now).inscriptions in (
+      c.in_ok-end_array.ensures.room.0 ∙ c.in_ok-write_ids.ensures.0 ∙ c.in_ok-begin_array.ensures.room.0,
+      bracketed c.args.out.now.tokens c.write_ids.new.out.tokens c.end_array.new.self.tokens (ids_of rows (on rows c.args.sat))
+          (c.in_ok-write_ids.ensures.1 ∙ ap (λ ts. ts ++ told_of rows c.on.result.now) c.in_ok-begin_array.ensures.ok
+          ∙ ap (λ ns. (c.args.out.now.tokens ++ begin_array ∷ []) ++ told_of rows ns) c.on.ensures)
+          c.in_ok-end_array.ensures.ok,
+    )

@@ -10,12 +10,13 @@ write_ids-requires g c =
 
 pub loop-sat-preserved : goal.loop-sat-preserved
 loop-sat-preserved g c =
-    let rows = (g.V.View.index c.args.live.now).inscriptions in
-    (c.in_ok-write_ids.ensures.0 ∙ c.loop-sat.invariant.0,
-    walked_one rows (c.args.out.now.tokens ++ told_of rows (on_between rows c.args.run.now.first (end_of c.args.run.now))) c.loop-sat.out.tokens c.write_ids.new.out.tokens
-    c.in-Some.numbers.now (on_between rows (c.in-Some.sat + 1) (end_of c.args.run.now)) (on_between rows c.loop-sat.from (end_of c.args.run.now))
-    (walk_on rows c.loop-sat.from (end_of c.args.run.now) c.in-Some.sat c.in-Some.numbers.now c.in-Some.ensures (omega (arith, c.if-sat-end.false)))
-    c.loop-sat.invariant.1 c.in_ok-write_ids.ensures.1)
+    let rows = (g.V.View.index c.args.live.now).inscriptions in (
+      c.in_ok-write_ids.ensures.0 ∙ c.loop-sat.invariant.0,
+      walked_one rows (c.args.out.now.tokens ++ told_of rows (on_between rows c.args.run.now.first (end_of c.args.run.now))) c.loop-sat.out.tokens c.write_ids.new.out.tokens
+          c.in-Some.numbers.now (on_between rows (c.in-Some.sat + 1) (end_of c.args.run.now)) (on_between rows c.loop-sat.from (end_of c.args.run.now))
+          (walk_on rows c.loop-sat.from (end_of c.args.run.now) c.in-Some.sat c.in-Some.numbers.now c.in-Some.ensures (omega (arith, c.if-sat-end.false)))
+          c.loop-sat.invariant.1 c.in_ok-write_ids.ensures.1,
+    )
 
 pub loop-sat-smaller : goal.loop-sat-smaller
 loop-sat-smaller g c =
@@ -27,17 +28,19 @@ loop-sat-smaller g c =
 
 pub returns-then-sat-end : goal.returns-then-sat-end
 returns-then-sat-end g c =
-    let rows = (g.V.View.index c.args.live.now).inscriptions in
-    (c.loop-sat.invariant.0,
-    walked_all rows (c.args.out.now.tokens ++ told_of rows (on_between rows c.args.run.now.first (end_of c.args.run.now))) c.loop-sat.out.tokens
-    (on_between rows c.loop-sat.from (end_of c.args.run.now))
-    (walk_past rows c.loop-sat.from (end_of c.args.run.now) c.in-Some.sat c.in-Some.numbers.now c.in-Some.ensures (omega (arith, c.if-sat-end.true)))
-    c.loop-sat.invariant.1)
+    let rows = (g.V.View.index c.args.live.now).inscriptions in (
+      c.loop-sat.invariant.0,
+      walked_all rows (c.args.out.now.tokens ++ told_of rows (on_between rows c.args.run.now.first (end_of c.args.run.now))) c.loop-sat.out.tokens
+          (on_between rows c.loop-sat.from (end_of c.args.run.now))
+          (walk_past rows c.loop-sat.from (end_of c.args.run.now) c.in-Some.sat c.in-Some.numbers.now c.in-Some.ensures (omega (arith, c.if-sat-end.true)))
+          c.loop-sat.invariant.1,
+    )
 
 pub returns : goal.returns
 returns g c =
-    let rows = (g.V.View.index c.args.live.now).inscriptions in
-    (c.loop-sat.invariant.0,
-    walked_all rows (c.args.out.now.tokens ++ told_of rows (on_between rows c.args.run.now.first (end_of c.args.run.now))) c.loop-sat.out.tokens
-    (on_between rows c.loop-sat.from (end_of c.args.run.now))
-    (walk_none rows c.loop-sat.from (end_of c.args.run.now) c.in_default.ensures) c.loop-sat.invariant.1)
+    let rows = (g.V.View.index c.args.live.now).inscriptions in (
+      c.loop-sat.invariant.0,
+      walked_all rows (c.args.out.now.tokens ++ told_of rows (on_between rows c.args.run.now.first (end_of c.args.run.now))) c.loop-sat.out.tokens
+          (on_between rows c.loop-sat.from (end_of c.args.run.now))
+          (walk_none rows c.loop-sat.from (end_of c.args.run.now) c.in_default.ensures) c.loop-sat.invariant.1,
+    )

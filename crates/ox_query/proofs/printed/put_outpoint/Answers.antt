@@ -1,6 +1,6 @@
 use Rattle.std.proofs.Common.{◌<◌, ◌^◌, arith}
 use Rattle.ox_query.proofs.Digits.{outpoint_is_text}
-use Rattle.ox_query.proofs.outpoints.put_outpoint.Goals as goal
+use Rattle.ox_query.proofs.printed.put_outpoint.Goals as goal
 
 pub returns-clause-utf8 : goal.returns-clause-utf8
 returns-clause-utf8 c =
