@@ -1,14 +1,9 @@
 -- Bytes that are text, and others.
-use Rattle.std.proofs.Common.{◌≡◌, Bool, true, false, cond, List, ℕ, IsUtf8, Option, Some, refl, sym, ap, ◌∙◌, subst, rules}
+use Rattle.std.proofs.Common.{◌≡◌, Bool, true, false, cond, List, ℕ, IsUtf8, Option, Some, refl, sym, ap, ◌∙◌, subst}
 use Rattle.std.specs.Str.{is_utf8}
 use Rattle.std.proofs.lemmas.Str.{IsUtf8-from_is_utf8, is_utf8-from_IsUtf8}
 use Rattle.serde_json.specs.Data.{null, string}
-use Rattle.serde_json.specs.View.{view}
-use Rattle.serde_json.specs.declared.value.Value.{Null, the_lemmas}
 use Rattle.ox_ask.specs.Values.{or_null, text_or_null}
-
-view-Null : view Null ≡ null
-view-Null = search (rules, the_lemmas)
 
 pub text_is : (field : Option (List ℕ)) (bytes read text : List ℕ) → field ≡ Some bytes → read ≡ bytes → text ≡ read → IsUtf8 read
     → string text ≡ or_null text_or_null field
@@ -17,8 +12,8 @@ text_is field bytes read text some same is utf8 =
     ∙ ap (λ (v : Bool). cond v (string bytes) null) (sym (is_utf8-from_IsUtf8 bytes (subst IsUtf8 same utf8)))
     ∙ ap (or_null text_or_null) (sym some)
 
-pub no_text : (field : Option (List ℕ)) (bytes read : List ℕ) → field ≡ Some bytes → read ≡ bytes → ¬ IsUtf8 read → view Null ≡ or_null text_or_null field
-no_text field bytes read some same none = view-Null ∙ by (is_utf8 bytes) refl ∙ ap (or_null text_or_null) (sym some)
+pub no_text : (field : Option (List ℕ)) (bytes read : List ℕ) → field ≡ Some bytes → read ≡ bytes → ¬ IsUtf8 read → null ≡ or_null text_or_null field
+no_text field bytes read some same none = by (is_utf8 bytes) refl ∙ ap (or_null text_or_null) (sym some)
   where
     by : (v : Bool) → is_utf8 bytes ≡ v → null ≡ cond v (string bytes) null
     by true e = absurd (none (subst IsUtf8 (sym same) (IsUtf8-from_is_utf8 bytes e)))

@@ -2,6 +2,7 @@ pub mod Digits
 pub mod Filtered
 pub mod Contents
 pub mod Spelled
+pub mod Steps
 pub mod Told
 pub mod Arrays
 pub mod Bytes

@@ -1,4 +1,5 @@
 pub mod Asked
 pub mod Listed
+pub mod Paged
 pub mod Sides
 pub mod Written

@@ -2,53 +2,72 @@
 
 ghost use Rattle.std.specs.Prelude.{◌≡◌, IfOk, map};
 ghost use Rattle.serde_json.specs.Data.{array};
-ghost use Rattle.serde_json.specs.View.{items_of, view};
+ghost use Rattle.serde_json.specs.View.{items_of};
+ghost use Rattle.serde_json.specs.Written.{compact_text};
 ghost use Rattle.ox_ask.specs.Audits.{audit_tree, rune_audit_tree};
 ghost use Rattle.ox_model.specs.Audit.{audit_of};
+ghost use Rattle.ox_query.specs.Written.{Adds, tokens_of};
 
-use crate::rune_values::{amount_value, rune_id_value};
-use ox_ask::Fields;
-use ox_bytes::Memory;
-use ox_model::{RuneAudit, View};
-use serde_json::Value;
+use crate::bodies::{body_of, new_body};
+use crate::rune_values::{write_amount, write_rune_id};
+use json::Writer;
+use ox_bytes::{Bytes, Memory};
+use ox_model::{Audit, RuneAudit, View};
 use std::alloc::Global;
 
-// Where a rune is and where it came from.
-fn rune_audit_value(alloc: Global, rune: &RuneAudit) -> Result<Value, Memory>
-    ensures { IfOk result (λ value. view value ≡ rune_audit_tree rune.now) }
+// Writes where a rune is and where it came from.
+fn write_rune_audit(out: &mut Writer, rune: &RuneAudit) -> Result<(), Memory>
+    ensures { Adds result out.old out.new (tokens_of (rune_audit_tree rune.now)) }
 {
-    let mut fields = Fields::new(alloc);
-    fields.add("burned", amount_value(alloc, rune.burned)?)?;
-    fields.add("held", amount_value(alloc, rune.held)?)?;
-    fields.add("id", rune_id_value(alloc, &rune.id)?)?;
-    fields.add("minted", amount_value(alloc, rune.minted)?)?;
-    fields.add("premine", amount_value(alloc, rune.premine)?)?;
-    Ok(fields.into_value())
+    out.begin_object()?;
+    out.key("burned")?;
+    write_amount(out, rune.burned)?;
+    out.key("held")?;
+    write_amount(out, rune.held)?;
+    out.key("id")?;
+    write_rune_id(out, &rune.id)?;
+    out.key("minted")?;
+    write_amount(out, rune.minted)?;
+    out.key("premine")?;
+    write_amount(out, rune.premine)?;
+    Ok(out.end_object()?)
 }
 
-// Runes, in order.
-fn runes_value(alloc: Global, runes: &[RuneAudit]) -> Result<Value, Memory>
-    ensures { IfOk result (λ value. view value ≡ array (items_of (map rune_audit_tree runes.now))) }
+// Writes runes, in order.
+fn write_runes(out: &mut Writer, runes: &[RuneAudit]) -> Result<(), Memory>
+    ensures { Adds result out.old out.new
+        (tokens_of (array (items_of (map rune_audit_tree runes.now)))) }
 {
-    let mut values = Vec::new(alloc);
+    out.begin_array()?;
     for rune in runes {
-        let value = rune_audit_value(alloc, rune)?;
-        values.push(value)?;
+        write_rune_audit(out, rune)?;
     }
-    Ok(Value::Array(values))
+    Ok(out.end_array()?)
+}
+
+// Writes where all satoshis and all runes are.
+fn write_audit(out: &mut Writer, audit: &Audit) -> Result<(), Memory>
+    ensures { Adds result out.old out.new (tokens_of (audit_tree audit.now)) }
+{
+    out.begin_object()?;
+    out.key("claimable")?;
+    out.u64(audit.claimable)?;
+    out.key("lost")?;
+    out.u64(audit.lost)?;
+    out.key("outputs")?;
+    out.u64(audit.outputs)?;
+    out.key("runes")?;
+    write_runes(out, audit.runes.as_slice())?;
+    Ok(out.end_object()?)
 }
 
 /// Where all satoshis and all runes are. `Memory` where there is none for it.
-pub(crate) fn audit_value<V: View>(alloc: Global, live: &V) -> Result<Value, Memory>
-    ensures { IfOk result (λ value. view value
-        ≡ audit_tree (audit_of (V.chain live.now) (V.index live.now))) }
+pub(crate) fn audit_body<V: View>(alloc: Global, live: &V) -> Result<Bytes, Memory>
+    ensures { IfOk result (λ body. body
+        ≡ compact_text (audit_tree (audit_of (V.chain live.now) (V.index live.now)))) }
 {
     let audit = live.audit()?;
-    let runes = runes_value(alloc, audit.runes.as_slice())?;
-    let mut fields = Fields::new(alloc);
-    fields.add("claimable", Value::from(audit.claimable))?;
-    fields.add("lost", Value::from(audit.lost))?;
-    fields.add("outputs", Value::from(audit.outputs))?;
-    fields.add("runes", runes)?;
-    Ok(fields.into_value())
+    let mut out = new_body(alloc)?;
+    write_audit(&mut out, &audit)?;
+    Ok(body_of(out))
 }

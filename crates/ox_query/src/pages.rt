@@ -1,14 +1,11 @@
 //! Pages of a list: a hundred entries each, counted from 0.
 
-ghost use Rattle.std.specs.Prelude.{◌≡◌, ◌+◌, ◌*◌, min, nat_lt, codes, IfOk};
-ghost use Rattle.serde_json.specs.Data.{array, boolean, member, no_members, object};
-ghost use Rattle.serde_json.specs.View.{items_view, view};
-ghost use Rattle.ox_ask.specs.Values.{count};
+ghost use Rattle.std.specs.Prelude.{◌≡◌, ◌+◌, ◌*◌, min, nat_lt};
+ghost use Rattle.ox_query.specs.Paged.{page_end};
+ghost use Rattle.ox_query.specs.Written.{Adds};
 
-use ox_ask::Fields;
+use json::Writer;
 use ox_bytes::Memory;
-use serde_json::Value;
-use std::alloc::Global;
 
 /// Which rows a page has.
 #[derive(Clone, Copy, Debug, PartialEq, Eq)]
@@ -37,21 +34,14 @@ pub(crate) fn page_of(page: u64, len: u32) -> PageRows
     }
 }
 
-/// A page: its ids, whether more follow, and its number. `Memory` where there is none for it.
-pub(crate) fn page_value(
-    alloc: Global,
-    ids: Vec<Value>,
-    more: bool,
-    page: u64,
-) -> Result<Value, Memory>
-    ensures { IfOk result (λ value. view value ≡ object (
-        member (codes "ids") (array (items_view ids.items)) (
-        member (codes "more") (boolean more) (
-        member (codes "page") (count page) no_members)))) }
+/// Writes what stands behind a page's ids: whether more follow, its number, and the end of the
+/// page. `Memory` where there is none for it.
+pub(crate) fn write_page_end(out: &mut Writer, more: bool, page: u64) -> Result<(), Memory>
+    ensures { Adds result out.old out.new (page_end more page) }
 {
-    let mut fields = Fields::new(alloc);
-    fields.add("ids", Value::Array(ids))?;
-    fields.add("more", Value::Bool(more))?;
-    fields.add("page", Value::from(page))?;
-    Ok(fields.into_value())
+    out.key("more")?;
+    out.boolean(more)?;
+    out.key("page")?;
+    out.u64(page)?;
+    Ok(out.end_object()?)
 }

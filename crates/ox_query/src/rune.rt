@@ -2,51 +2,44 @@
 
 ghost use Rattle.std.specs.Prelude.{◌≡◌, IfOk, Some, is_some, length, option_and_then, option_map};
 ghost use Rattle.std.specs.Prelude.{slice_get};
-ghost use Rattle.serde_json.specs.View.{view};
+ghost use Rattle.serde_json.specs.Written.{compact_text};
 ghost use Rattle.ox_ask.specs.Ask.{rune_at};
 ghost use Rattle.ox_ask.specs.Named.{rune_named as rune_said};
 ghost use Rattle.ox_ask.specs.Runes.{character, rune_tree, span_tree};
 ghost use Rattle.ox_etching.specs.Minted.{minted as minted_at};
 ghost use Rattle.ox_model.specs.Found.{held_of};
-ghost use Rattle.ox_ask.specs.Values.{amount as amount_said, count, or_null};
+ghost use Rattle.ox_ask.specs.Values.{amount as amount_said, or_null};
+ghost use Rattle.ox_query.specs.Written.{Adds, tokens_of};
 
+use crate::bodies::{body_of, new_body};
 use crate::rune_named::rune_named;
-use crate::rune_values::{amount_value, name_value, rune_id_value};
-use crate::values::hash_value;
-use ox_ask::Fields;
-use ox_bytes::Memory;
+use crate::rune_values::{write_amount, write_name, write_rune_id};
+use crate::values::{write_count_or_null, write_hash};
+use json::Writer;
+use ox_bytes::{Bytes, Memory};
 use ox_etching::minted;
 use ox_model::{RuneRow, View};
 use ox_runestone::Terms;
-use serde_json::Value;
 use std::alloc::Global;
 
-// An amount as a text, or null without one.
-fn amount_or_null(alloc: Global, amount: Option<u128>) -> Result<Value, Memory>
-    ensures { IfOk result (λ value. view value ≡ or_null amount_said amount) }
+// Writes an amount, or null without one.
+fn write_amount_or_null(out: &mut Writer, amount: Option<u128>) -> Result<(), Memory>
+    ensures { Adds result out.old out.new (tokens_of (or_null amount_said amount)) }
 {
     match amount {
-        Some(amount) => amount_value(alloc, amount),
-        None => Ok(Value::Null),
+        Some(amount) => write_amount(out, amount),
+        None => Ok(out.null()?),
     }
 }
 
-// A number, or null without one.
-fn number_or_null(number: Option<u64>) -> Value
-    ensures { view result ≡ or_null count number }
+// Writes a start and an end, each null where it is missing.
+fn write_span(out: &mut Writer, start: Option<u64>, end: Option<u64>) -> Result<(), Memory>
+    ensures { Adds result out.old out.new (tokens_of (span_tree start end)) }
 {
-    match number {
-        Some(number) => Value::from(number),
-        None => Value::Null,
-    }
-}
-
-// A start and an end, each null where it is missing.
-fn span_value(alloc: Global, start: Option<u64>, end: Option<u64>) -> Result<Value, Memory>
-    ensures { IfOk result (λ value. view value ≡ span_tree start end) }
-{
-    let ends = [number_or_null(start), number_or_null(end)];
-    Ok(Value::Array(Vec::from_array(alloc, ends)?))
+    out.begin_array()?;
+    write_count_or_null(out, start)?;
+    write_count_or_null(out, end)?;
+    Ok(out.end_array()?)
 }
 
 // What a mint gives, if the terms say it.
@@ -63,45 +56,45 @@ fn cap_of(terms: Option<Terms>) -> Option<u128>
     terms?.cap
 }
 
-// The first open and the first closed height, or null without terms.
-fn heights_value(alloc: Global, terms: Option<Terms>) -> Result<Value, Memory>
-    ensures { IfOk result (λ value. view value
-        ≡ or_null (λ t. span_tree t.height_start t.height_end) terms) }
+// Writes the first open and the first closed height, or null without terms.
+fn write_heights(out: &mut Writer, terms: Option<Terms>) -> Result<(), Memory>
+    ensures { Adds result out.old out.new
+        (tokens_of (or_null (λ t. span_tree t.height_start t.height_end) terms)) }
 {
     match terms {
-        Some(terms) => span_value(alloc, terms.height_start, terms.height_end),
-        None => Ok(Value::Null),
+        Some(terms) => write_span(out, terms.height_start, terms.height_end),
+        None => Ok(out.null()?),
     }
 }
 
-// The first open and the first closed height, counted from the etching's, or null without terms.
-fn offsets_value(alloc: Global, terms: Option<Terms>) -> Result<Value, Memory>
-    ensures { IfOk result (λ value. view value
-        ≡ or_null (λ t. span_tree t.offset_start t.offset_end) terms) }
+// Writes the first open and the first closed height, counted from the etching's, or null without
+// terms.
+fn write_offsets(out: &mut Writer, terms: Option<Terms>) -> Result<(), Memory>
+    ensures { Adds result out.old out.new
+        (tokens_of (or_null (λ t. span_tree t.offset_start t.offset_end) terms)) }
 {
     match terms {
-        Some(terms) => span_value(alloc, terms.offset_start, terms.offset_end),
-        None => Ok(Value::Null),
+        Some(terms) => write_span(out, terms.offset_start, terms.offset_end),
+        None => Ok(out.null()?),
     }
 }
 
-// A character, or null without one.
-fn symbol_value(alloc: Global, symbol: Option<char>) -> Result<Value, Memory>
-    ensures { IfOk result (λ value. view value ≡ or_null character symbol) }
+// Writes a character, or null without one.
+fn write_symbol(out: &mut Writer, symbol: Option<char>) -> Result<(), Memory>
+    ensures { Adds result out.old out.new (tokens_of (or_null character symbol)) }
 {
     match symbol {
-        Some(symbol) => Ok(Value::String(format!(in alloc; "{symbol}")?)),
-        None => Ok(Value::Null),
+        Some(symbol) => Ok(out.string(symbol.encode_utf8(&mut [0; 4]))?),
+        None => Ok(out.null()?),
     }
 }
 
 // How much of a rune outputs hold.
-fn held_value<V: View>(alloc: Global, live: &V, n: u32, row: &RuneRow) -> Result<Value, Memory>
+fn held<V: View>(live: &V, n: u32, row: &RuneRow) -> u128
     requires { slice_get (V.index live.now).runes n ≡ Some row.now }
-    ensures { IfOk result (λ value. view value
-        ≡ amount_said (held_of (V.index live.now) row.now)) }
+    ensures { result ≡ held_of (V.index live.now) row.now }
 {
-    amount_value(alloc, live.held(n))
+    live.held(n)
 }
 
 // Whether a rune's mint is open for the next block.
@@ -111,43 +104,75 @@ fn is_mintable<V: View>(live: &V, row: &RuneRow) -> bool
     minted(row, live.blocks()).is_some()
 }
 
-// A rune with its number.
-fn rune_tree_value<V: View>(alloc: Global, live: &V, n: u32, row: &RuneRow) -> Result<Value, Memory>
+// Writes a rune with its number.
+fn write_rune<V: View>(
+    out: &mut Writer,
+    live: &V,
+    n: u32,
+    row: &RuneRow,
+) -> Result<(), Memory>
     requires { slice_get (V.index live.now).runes n ≡ Some row.now }
-    ensures { IfOk result (λ value. view value ≡ rune_tree (V.index live.now) n row.now) }
+    ensures { Adds result out.old out.new
+        (tokens_of (rune_tree (V.index live.now) n row.now)) }
 {
-    let mut fields = Fields::new(alloc);
-    fields.add("amount", amount_or_null(alloc, amount_of(row.terms))?)?;
-    fields.add("burned", amount_value(alloc, row.burned)?)?;
-    fields.add("cap", amount_or_null(alloc, cap_of(row.terms))?)?;
-    fields.add("divisibility", Value::from(row.divisibility))?;
-    fields.add("etching", hash_value(alloc, &row.etching.0)?)?;
-    fields.add("height", heights_value(alloc, row.terms)?)?;
-    fields.add("held", held_value(alloc, live, n, row)?)?;
-    fields.add("id", rune_id_value(alloc, &row.id)?)?;
-    fields.add("mintable", Value::Bool(is_mintable(live, row)))?;
-    fields.add("mints", amount_value(alloc, row.mints)?)?;
-    fields.add("name", name_value(alloc, row)?)?;
-    fields.add("number", Value::from(n))?;
-    fields.add("offset", offsets_value(alloc, row.terms)?)?;
-    fields.add("premine", amount_value(alloc, row.premine)?)?;
-    fields.add("symbol", symbol_value(alloc, row.symbol)?)?;
-    Ok(fields.into_value())
+    out.begin_object()?;
+    out.key("amount")?;
+    write_amount_or_null(out, amount_of(row.terms))?;
+    out.key("burned")?;
+    write_amount(out, row.burned)?;
+    out.key("cap")?;
+    write_amount_or_null(out, cap_of(row.terms))?;
+    out.key("divisibility")?;
+    out.u64(u64::from(row.divisibility))?;
+    out.key("etching")?;
+    write_hash(out, &row.etching.0)?;
+    out.key("height")?;
+    write_heights(out, row.terms)?;
+    out.key("held")?;
+    write_amount(out, held(live, n, row))?;
+    out.key("id")?;
+    write_rune_id(out, &row.id)?;
+    out.key("mintable")?;
+    out.boolean(is_mintable(live, row))?;
+    out.key("mints")?;
+    write_amount(out, row.mints)?;
+    out.key("name")?;
+    write_name(out, row)?;
+    out.key("number")?;
+    out.u64(u64::from(n))?;
+    out.key("offset")?;
+    write_offsets(out, row.terms)?;
+    out.key("premine")?;
+    write_amount(out, row.premine)?;
+    out.key("symbol")?;
+    write_symbol(out, row.symbol)?;
+    Ok(out.end_object()?)
+}
+
+// The body of a rune with its number.
+fn body_with<V: View>(alloc: Global, live: &V, n: u32, row: &RuneRow) -> Result<Bytes, Memory>
+    requires { slice_get (V.index live.now).runes n ≡ Some row.now }
+    ensures { IfOk result
+        (λ body. body ≡ compact_text (rune_tree (V.index live.now) n row.now)) }
+{
+    let mut out = new_body(alloc)?;
+    write_rune(&mut out, live, n, row)?;
+    Ok(body_of(out))
 }
 
 /// The rune with the id or the name that a part spells, if there is one: its terms, how much of it
 /// there is, and whether its mint is open for the next block. `Memory` where there is none for it.
-pub(crate) fn rune_value<V: View>(
+pub(crate) fn rune_body<V: View>(
     alloc: Global,
     live: &V,
     part: &[u8],
-) -> Result<Option<Value>, Memory>
-    ensures { IfOk result (λ value. option_map view value
-        ≡ option_and_then (rune_at (V.index live.now))
-        (rune_said (V.index live.now).runes part.now)) }
+) -> Result<Option<Bytes>, Memory>
+    ensures { IfOk result (λ body. body ≡ option_map compact_text
+        (option_and_then (rune_at (V.index live.now))
+        (rune_said (V.index live.now).runes part.now))) }
 {
     match rune_named(alloc, live, part)? {
-        Some(n) => Ok(Some(rune_tree_value(alloc, live, n, live.rune(n))?)),
+        Some(n) => Ok(Some(body_with(alloc, live, n, live.rune(n))?)),
         None => Ok(None),
     }
 }

@@ -1,0 +1,11 @@
+use Rattle.ox_query.proofs.Steps.{all, token, value, ◌▸◌}
+use Rattle.ox_query.proofs.audit.write_audit.Goals as goal
+
+pub returns : goal.returns
+returns c =
+    all (token c.in_ok-begin_object.ensures
+    ▸ token c.in_ok-key.ensures ▸ token c.in_ok-u64.ensures
+    ▸ token c.in_ok-key-2.ensures ▸ token c.in_ok-u64-2.ensures
+    ▸ token c.in_ok-key-3.ensures ▸ token c.in_ok-u64-3.ensures
+    ▸ token c.in_ok-key-4.ensures ▸ value _ _ _ c.in_ok-write_runes.ensures
+    ▸ token c.in_ok-end_object.ensures)

@@ -1,0 +1,9 @@
+use Rattle.ox_ask.specs.Inscriptions.{inscription_id}
+use Rattle.ox_ask.specs.Pages.{page_tree}
+use Rattle.ox_query.proofs.Arrays.{first_tree}
+use Rattle.ox_query.proofs.inscription.page_body.Goals as goal
+
+pub returns : goal.returns
+returns g c =
+    let tree = page_tree inscription_id (g.V.View.index c.args.live.now).inscriptions c.args.page in
+    c.body_of.ensures tree (first_tree c.in_ok-out.out c.write_page.new.out tree c.in_ok-out.ensures c.in_ok-write_page.ensures)

@@ -1,0 +1,8 @@
+use Rattle.ox_ask.specs.Inscriptions.{inscription_tree}
+use Rattle.ox_query.proofs.Arrays.{first_tree}
+use Rattle.ox_query.proofs.inscription.row_body.Goals as goal
+
+pub returns : goal.returns
+returns g c =
+    let tree = inscription_tree (g.V.View.index c.args.live.now) c.args.n c.args.row.now in
+    c.body_of.ensures tree (first_tree c.in_ok-out.out c.write_inscription.new.out tree c.in_ok-out.ensures c.in_ok-write_inscription.ensures)

@@ -1,0 +1,19 @@
+use Rattle.ox_query.proofs.Steps.{all, token, value, ◌▸◌}
+use Rattle.ox_query.proofs.inscription.write_inscription.Goals as goal
+
+pub returns : goal.returns
+returns g c =
+    all (token c.in_ok-begin_object.ensures
+    ▸ token c.in_ok-key.ensures ▸ value _ _ _ c.in_ok-write_length_or_null.ensures
+    ▸ token c.in_ok-key-2.ensures ▸ value _ _ _ c.in_ok-write_text_or_null.ensures
+    ▸ token c.in_ok-key-3.ensures ▸ value _ _ _ c.in_ok-write_id_or_null.ensures
+    ▸ token c.in_ok-key-4.ensures ▸ value _ _ _ c.in_ok-write_text_or_null-2.ensures
+    ▸ token c.in_ok-key-5.ensures ▸ token c.in_ok-u64.ensures
+    ▸ token c.in_ok-key-6.ensures ▸ value _ _ _ c.in_ok-write_id.ensures
+    ▸ token c.in_ok-key-7.ensures ▸ value _ _ _ c.in_ok-write_hex_or_null.ensures
+    ▸ token c.in_ok-key-8.ensures ▸ value _ _ _ c.in_ok-write_text_or_null-3.ensures
+    ▸ token c.in_ok-key-9.ensures ▸ token c.in_ok-u64-2.ensures
+    ▸ token c.in_ok-key-10.ensures ▸ value _ _ _ c.in_ok-write_ids.ensures
+    ▸ token c.in_ok-key-11.ensures ▸ value _ _ _ c.in_ok-write_place.ensures
+    ▸ token c.in_ok-key-12.ensures ▸ value _ _ _ c.in_ok-write_count_or_null.ensures
+    ▸ token c.in_ok-end_object.ensures)

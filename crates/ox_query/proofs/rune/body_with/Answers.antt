@@ -1,0 +1,8 @@
+use Rattle.ox_ask.specs.Runes.{rune_tree}
+use Rattle.ox_query.proofs.Arrays.{first_tree}
+use Rattle.ox_query.proofs.rune.body_with.Goals as goal
+
+pub returns : goal.returns
+returns g c =
+    let tree = rune_tree (g.V.View.index c.args.live.now) c.args.n c.args.row.now in
+    c.body_of.ensures tree (first_tree c.in_ok-out.out c.write_rune.new.out tree c.in_ok-out.ensures c.in_ok-write_rune.ensures)

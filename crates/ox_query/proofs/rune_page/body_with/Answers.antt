@@ -1,0 +1,9 @@
+use Rattle.ox_ask.specs.Pages.{page_tree}
+use Rattle.ox_ask.specs.Runes.{rune_id}
+use Rattle.ox_query.proofs.Arrays.{first_tree}
+use Rattle.ox_query.proofs.rune_page.body_with.Goals as goal
+
+pub returns : goal.returns
+returns g c =
+    let tree = page_tree rune_id (g.V.View.index c.args.live.now).runes c.args.page in
+    c.body_of.ensures tree (first_tree c.in_ok-out.out c.write_rune_page.new.out tree c.in_ok-out.ensures c.in_ok-write_rune_page.ensures)

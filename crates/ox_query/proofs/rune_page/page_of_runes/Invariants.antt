@@ -1,9 +1,0 @@
-use Rattle.std.proofs.Common.{◌≡◌, map}
-use Rattle.serde_json.specs.View.{view}
-use Rattle.ox_ask.specs.Runes.{rune_id}
-use Rattle.ox_query.proofs.PageRows.{rows_between}
-use Rattle.ox_query.proofs.rune_page.page_of_runes.Given as goal
-
-abbrev pub invariant-loop-n : goal.invariant-loop-n
-invariant-loop-n g l =
-    map view l.ids.items ≡ map rune_id (rows_between (g.V.View.index l.live).runes l.rows.first l.n)
