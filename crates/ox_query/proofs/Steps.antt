@@ -1,5 +1,5 @@
 -- Tokens that are written one behind the other.
-use Rattle.std.proofs.Common.{◌≡◌, ℕ, List, [], ◌∷◌, ◌++◌, Ok, ap, ◌∙◌, append_assoc}
+use Rattle.std.proofs.Common.{◌≡◌, ℕ, List, [], ◌∷◌, ◌++◌, Ok, subst, ap, ◌∙◌, append_assoc}
 use Rattle.json.specs.Token.{Token}
 use Rattle.json.specs.Written.{Writes, Written}
 
@@ -16,6 +16,10 @@ token w = record { before = w.room.0; tokens = w.ok }
 pub value : (old new : Written) (tokens : List Token) → (new.before ≡ old.before) × (new.tokens ≡ old.tokens ++ tokens) → Step old new tokens
 value old new tokens w = record { before = w.0; tokens = w.1 }
 
+-- what is written of one that is another
+pub same : {A : Type 0} (told : A → List Token) {x y : A} {old new : Written} → x ≡ y → Step old new (told x) → Step old new (told y)
+same told {old = old} {new = new} is step = subst (λ x. Step old new (told x)) is step
+
 infixr 10 ◌▸◌
 
 -- what is written, and all that is written behind it
@@ -25,5 +29,6 @@ pub ◌▸◌ : {old mid new : Written} {here rest : List Token} → Step old mi
   tokens = others.tokens ∙ ap (λ (ts : List Token). ts ++ rest) first.tokens ∙ append_assoc old.tokens here rest;
 }
 
+-- it is all that is written
 pub all : {old new : Written} {tokens : List Token} → Step old new tokens → (new.before ≡ old.before) × (new.tokens ≡ old.tokens ++ tokens)
 all s = (s.before, s.tokens)
