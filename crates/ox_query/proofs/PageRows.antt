@@ -48,9 +48,13 @@ module _ {A : Type 0} where
         )
 
   -- the rows of a page are its entries
-  pub entries_are : (page first end : ℕ) (rows : List A) → first ≡ min (100 * page) (length rows) → end ≡ min (100 * page + 100) (length rows)
-      → rows_between rows first end ≡ entries_of page rows
-  entries_are page first end rows begins ends =
-      let many : end - first ≡ min 100 (length (drop first rows)) = omega (arith, length-drop first rows, begins, ends) in
-      ap (λ n. take n (drop first rows)) many ∙ take_min 100 (drop first rows)
-      ∙ ap (λ n. take 100 (drop n rows)) begins ∙ ap (take 100) (drop_min (100 * page) rows)
+  module _ (page len : ℕ) (rows : List A) (long : len ≡ length rows) where
+    pub entries_are : (first end : ℕ) → first ≡ min (100 * page) len → end ≡ min (100 * page + 100) len → rows_between rows first end ≡ entries_of page rows
+    entries_are first end begins ends =
+        let many : end - first ≡ min 100 (length (drop first rows)) = omega (arith, length-drop first rows, long, begins, ends) in
+        ap (λ n. take n (drop first rows)) many ∙ take_min 100 (drop first rows)
+        ∙ ap (λ n. take 100 (drop n rows)) (begins ∙ ap (min (100 * page)) long) ∙ ap (take 100) (drop_min (100 * page) rows)
+
+    -- whether more follow
+    pub more_are : (more : Bool) → more ≡ nat_lt (100 * page + 100) len → more ≡ has_more page rows
+    more_are more follow = follow ∙ ap (nat_lt (100 * page + 100)) long

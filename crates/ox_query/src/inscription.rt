@@ -199,7 +199,8 @@ fn write_page<V: View>(out: &mut Writer, live: &V, page: u64) -> Result<(), Memo
     out.begin_object()?;
     out.key("ids")?;
     write_row_ids(out, live, rows.first, rows.end)?;
-    write_page_end(out, rows.more, page)
+    write_page_end(out, rows.more, page)?;
+    Ok(out.end_object()?)
 }
 
 // The body of a page of inscriptions.

@@ -34,14 +34,13 @@ pub(crate) fn page_of(page: u64, len: u32) -> PageRows
     }
 }
 
-/// Writes what stands behind a page's ids: whether more follow, its number, and the end of the
-/// page. `Memory` where there is none for it.
+/// Writes what stands behind a page's ids: whether more follow, and its number. `Memory` where
+/// there is none for it.
 pub(crate) fn write_page_end(out: &mut Writer, more: bool, page: u64) -> Result<(), Memory>
     ensures { Adds result out.old out.new (page_end more page) }
 {
     out.key("more")?;
     out.boolean(more)?;
     out.key("page")?;
-    out.u64(page)?;
-    Ok(out.end_object()?)
+    Ok(out.u64(page)?)
 }

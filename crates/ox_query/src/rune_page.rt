@@ -47,7 +47,8 @@ fn write_rune_page<V: View>(out: &mut Writer, live: &V, page: u64) -> Result<(),
     out.begin_object()?;
     out.key("ids")?;
     write_rune_ids(out, live, rows.first, rows.end)?;
-    write_page_end(out, rows.more, page)
+    write_page_end(out, rows.more, page)?;
+    Ok(out.end_object()?)
 }
 
 // The body of a page of runes.

@@ -1,3 +1,7 @@
+use Rattle.std.proofs.Common.{map}
+use Rattle.serde_json.specs.Data.{array}
+use Rattle.serde_json.specs.View.{items_of}
+use Rattle.ox_ask.specs.Inscriptions.{id_tree}
 use Rattle.ox_ask.specs.Values.{count, place_tree}
 use Rattle.ox_query.specs.Written.{tokens_of}
 use Rattle.ox_query.proofs.Steps.{all, same, token, value, ◌▸◌}
@@ -15,7 +19,7 @@ returns g c =
     ▸ token c.in_ok-key-7.ensures ▸ value _ _ _ c.in_ok-write_hex_or_null.ensures
     ▸ token c.in_ok-key-8.ensures ▸ value _ _ _ c.in_ok-write_text_or_null-3.ensures
     ▸ token c.in_ok-key-9.ensures ▸ same (λ n. tokens_of (count n)) c.from-2.ensures (token c.in_ok-u64-2.ensures)
-    ▸ token c.in_ok-key-10.ensures ▸ value _ _ _ c.in_ok-write_ids.ensures
+    ▸ token c.in_ok-key-10.ensures ▸ same (λ ids. tokens_of (array (items_of (map id_tree ids)))) c.as_slice.ensures (value _ _ _ c.in_ok-write_ids.ensures)
     ▸ token c.in_ok-key-11.ensures ▸ same (λ p. tokens_of (place_tree p)) c.place_on.ensures (value _ _ _ c.in_ok-write_place.ensures)
     ▸ token c.in_ok-key-12.ensures ▸ value _ _ _ c.in_ok-write_count_or_null.ensures
     ▸ token c.in_ok-end_object.ensures)
