@@ -21,7 +21,6 @@ pub same : {A : Type 0} (told : A → List Token) {x y : A} {old new : Written} 
 same told {old = old} {new = new} is step = subst (λ x. Step old new (told x)) is step
 
 infixr 10 ◌▸◌
-
 -- what is written, and all that is written behind it
 pub ◌▸◌ : {old mid new : Written} {here rest : List Token} → Step old mid here → Step mid new rest → Step old new (here ++ rest)
 ◌▸◌ {old = old} {here = here} {rest = rest} first others = record {

@@ -53,11 +53,7 @@ fn write_text_or_null(out: &mut Writer, bytes: &Option<Bytes>) -> Result<(), Mem
 }
 
 // Writes bytes as hexadecimal digits, or null without any.
-fn write_hex_or_null(
-    alloc: Global,
-    out: &mut Writer,
-    bytes: &Option<Bytes>,
-) -> Result<(), Memory>
+fn write_hex_or_null(alloc: Global, out: &mut Writer, bytes: &Option<Bytes>) -> Result<(), Memory>
     ensures { Adds result out.old out.new (tokens_of (or_null hex_said bytes.now)) }
 {
     match bytes {
@@ -172,12 +168,7 @@ pub(crate) fn inscription_body<V: View>(
 }
 
 // Writes the ids of the inscriptions from one up to another, without that.
-fn write_row_ids<V: View>(
-    out: &mut Writer,
-    live: &V,
-    first: u32,
-    end: u32,
-) -> Result<(), Memory>
+fn write_row_ids<V: View>(out: &mut Writer, live: &V, first: u32, end: u32) -> Result<(), Memory>
     requires rising { first ≤ end }
     requires there { end ≤ length (V.index live.now).inscriptions }
     ensures { Adds result out.old out.new (tokens_of (array (items_of

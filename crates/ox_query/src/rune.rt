@@ -105,12 +105,7 @@ fn is_mintable<V: View>(live: &V, row: &RuneRow) -> bool
 }
 
 // Writes a rune with its number.
-fn write_rune<V: View>(
-    out: &mut Writer,
-    live: &V,
-    n: u32,
-    row: &RuneRow,
-) -> Result<(), Memory>
+fn write_rune<V: View>(out: &mut Writer, live: &V, n: u32, row: &RuneRow) -> Result<(), Memory>
     requires { slice_get (V.index live.now).runes n ≡ Some row.now }
     ensures { Adds result out.old out.new
         (tokens_of (rune_tree (V.index live.now) n row.now)) }

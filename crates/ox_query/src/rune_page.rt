@@ -20,12 +20,7 @@ use ox_model::View;
 use std::alloc::Global;
 
 // Writes the ids of the runes from one up to another, without that.
-fn write_rune_ids<V: View>(
-    out: &mut Writer,
-    live: &V,
-    first: u32,
-    end: u32,
-) -> Result<(), Memory>
+fn write_rune_ids<V: View>(out: &mut Writer, live: &V, first: u32, end: u32) -> Result<(), Memory>
     requires rising { first ≤ end }
     requires there { end ≤ length (V.index live.now).runes }
     ensures { Adds result out.old out.new (tokens_of (array (items_of

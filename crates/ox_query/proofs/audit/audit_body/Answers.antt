@@ -1,4 +1,4 @@
-use Rattle.std.proofs.Common.{◌≡◌, List, ℕ, subst}
+use Rattle.std.proofs.Common.{◌≡◌, subst}
 use Rattle.serde_json.specs.Written.{compact_text}
 use Rattle.ox_model.specs.declared.audit.Audit.{Audit}
 use Rattle.ox_ask.specs.Audits.{audit_tree}
