@@ -1,5 +1,5 @@
 -- Hexadecimal digits are text, and so is what is printed with them.
-use Rattle.std.proofs.Common.{◌≡◌, ◌<◌, ◌^◌, ℕ, Bool, true, ltb, ltb-true, IsUtf8, List, [], ◌∷◌, ◌++◌, ◌&&◌, reverse, decimal, append_assoc, refl, sym, subst, arith}
+use Rattle.std.proofs.Common.{◌≡◌, ◌<◌, ◌^◌, ℕ, true, ltb, ltb-true, IsUtf8, List, [], ◌∷◌, ◌++◌, reverse, decimal, append_assoc, refl, sym, subst, arith}
 use Rattle.std.specs.List.{list_all}
 use Rattle.std.specs.Str.{IsAscii}
 use Rattle.std.proofs.lemmas.Fmt.{IsAscii-decimal}

@@ -12,8 +12,7 @@ use Rattle.std.proofs.lemmas.List.Elements.{All-cons, All-nil, All-weaker, filte
 use Rattle.std.proofs.lemmas.Option.{cond_some}
 use Rattle.std.proofs.lemmas.Str.{IsUtf8-from_ascii, IsAscii-append}
 use Rattle.std.proofs.lemmas.Str.Ascii.{IsAscii-cons}
-use Rattle.json.specs.Token.{Token}
-use Rattle.serde_json.specs.Data.{Data}
+use Rattle.json.specs.Token.{Token, begin_array}
 use Rattle.hex.specs.Hex.{decode_sized, encode_lower}
 use Rattle.hex.specs.declared.error.FromHexError.{FromHexError}
 use Rattle.ox_range.specs.declared.runs.Run.{Run}
@@ -28,7 +27,7 @@ use Rattle.ox_inscribe.specs.declared.row.InsRow.{InsRow}
 use Rattle.ox_inscribe.proofs.NextLaws.{next_shown}
 use Rattle.ox_ask.specs.Inscriptions.{inscription_id}
 use Rattle.ox_ask.specs.Walk.{on_between, walk_of}
-use Rattle.ox_ask.proofs.Halves.{first_half, second_half}
+use Rattle.ox_ask.proofs.Halves.{second_half}
 use Rattle.ox_ask.proofs.Walks.{all_walked}
 use Rattle.ox_query.specs.Listed.{ids_of}
 use Rattle.ox_query.specs.Written.{tokens_of, tokens_of_all}
@@ -190,6 +189,11 @@ module _ (rows : List InsRow) where
   pub walked_all : (all so_far : List Token) (between : List ℕ) → between ≡ [] → so_far ++ told_of between ≡ all → so_far ≡ all
   walked_all all so_far between none told =
       sym (append-nil so_far) ∙ ap (λ (numbers : List ℕ). so_far ++ told_of numbers) (sym none) ∙ told
+
+  -- the ids on a satoshi, behind a bracket
+  pub told_on : (old begun all : List Token) (numbers : List ℕ) (sat : ℕ) → begun ≡ old ++ begin_array ∷ []
+      → all ≡ begun ++ told_of numbers → numbers ≡ on rows sat → all ≡ (old ++ begin_array ∷ []) ++ told_of (on rows sat)
+  told_on old begun all numbers sat begins told are = told ∙ ap₂ (λ (ts : List Token) (ns : List ℕ). ts ++ told_of ns) begins are
 
   -- ---- run by run
 

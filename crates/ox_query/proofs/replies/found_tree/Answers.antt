@@ -1,4 +1,4 @@
-use Rattle.std.proofs.Common.{sym, ap, ◌∙◌}
+use Rattle.std.proofs.Common.{sym, ◌∙◌}
 use Rattle.ox_ask.specs.Ask.{error_reply, tree_at}
 use Rattle.ox_query.specs.Asked.{asked_of}
 use Rattle.ox_query.proofs.Routes.{none_replied, some_replied}
