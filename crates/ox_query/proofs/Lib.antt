@@ -3,7 +3,6 @@ pub mod Filtered
 pub mod Contents
 pub mod Spelled
 pub mod Steps
-pub mod Told
 pub mod Arrays
 pub mod Bytes
 pub mod IdLists
