@@ -1,4 +1,4 @@
--- Hexadecimal digits are text, and so is what is printed with them.
+-- Hexadecimal digits are text.
 use Rattle.std.proofs.Common.{◌≡◌, ◌<◌, ◌^◌, ℕ, true, ltb, ltb-true, IsUtf8, List, [], ◌∷◌, ◌++◌, reverse, decimal, append_assoc, refl, sym, subst, arith}
 use Rattle.std.specs.List.{list_all}
 use Rattle.std.specs.Str.{IsAscii}
@@ -8,7 +8,7 @@ use Rattle.std.proofs.lemmas.Str.Ascii.{IsAscii-cons, IsAscii-nil}
 use Rattle.hex.specs.Hex.{encode_lower, lower_digits}
 use Rattle.hex.proofs.HexLemmas.{IsAscii-encode_with}
 use Rattle.ox_block.specs.declared.block.OutPoint.{OutPoint}
-use Rattle.ox_rules.specs.Text.{hash_text, outpoint_text}
+use Rattle.ox_rules.specs.Text.{hash_text}
 use Rattle.ox_ask.proofs.Halves.{first_half, second_half}
 
 -- bytes that all pass the test are ASCII
@@ -27,11 +27,3 @@ hash_small hash = digits_small (reverse hash)
 
 pub hash_is_text : (hash : List ℕ) → IsUtf8 (hash_text hash)
 hash_is_text hash = IsUtf8-from_ascii (hash_text hash) (hash_small hash)
-
-pub outpoint_is_text : (at : OutPoint) → at.index < 2 ^ 32 → IsUtf8 (outpoint_text at)
-unfolding outpoint_text
-outpoint_is_text at small =
-    let index : IsAscii (decimal at.index) = IsAscii-decimal at.index (omega (arith, small)) in
-    let behind : IsAscii (58 ∷ decimal at.index) = IsAscii-cons 58 (decimal at.index) (omega arith) index in
-    let whole : IsAscii (hash_text at.txid.0 ++ 58 ∷ decimal at.index) = IsAscii-append (hash_text at.txid.0) (58 ∷ decimal at.index) (hash_small at.txid.0) behind in
-    subst IsUtf8 (sym (append_assoc (hash_text at.txid.0) (58 ∷ []) (decimal at.index))) (IsUtf8-from_ascii (hash_text at.txid.0 ++ 58 ∷ decimal at.index) whole)

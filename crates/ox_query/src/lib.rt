@@ -11,7 +11,6 @@ mod inscription;
 mod output;
 mod pages;
 mod parts;
-mod printed;
 mod replies;
 mod rune;
 mod rune_named;

@@ -9,8 +9,7 @@ ghost use Rattle.ox_query.specs.Written.{Adds, tokens_of};
 
 use crate::bodies::{body_of, new_body};
 use crate::ids::write_ids_on;
-use crate::printed::write_outpoint;
-use crate::texts::{decimal_text, degree_text, rarity_word, write_name};
+use crate::texts::{decimal_text, degree_text, rarity_word, write_name, write_outpoint};
 use json::Writer;
 use ox_bytes::{Bytes, Memory};
 use ox_model::{Place, View};
@@ -41,7 +40,7 @@ pub(crate) fn write_place(out: &mut Writer, place: Option<Place>) -> Result<(), 
 }
 
 // Writes a satoshi.
-fn write_sat<V: View>(alloc: Global, out: &mut Writer, live: &V, sat: u64) -> Result<(), Memory>
+fn write_sat<V: View>(out: &mut Writer, live: &V, sat: u64) -> Result<(), Memory>
     requires { sat < (V.chain live.now).supply }
     ensures { Adds result out.old out.new
         (tokens_of (sat_tree (V.chain live.now) (V.index live.now) sat)) }
@@ -50,9 +49,9 @@ fn write_sat<V: View>(alloc: Global, out: &mut Writer, live: &V, sat: u64) -> Re
     let degree = degree_of(p, sat);
     out.begin_object()?;
     out.key("decimal")?;
-    out.string(&decimal_text(alloc, p, sat)?)?;
+    out.string(decimal_text(p, sat).as_str())?;
     out.key("degree")?;
-    out.string(&degree_text(alloc, &degree)?)?;
+    out.string(degree_text(&degree).as_str())?;
     out.key("inscriptions")?;
     write_ids_on(out, live, sat)?;
     out.key("name")?;
@@ -74,6 +73,6 @@ pub(crate) fn sat_body<V: View>(alloc: Global, live: &V, sat: u64) -> Result<Byt
         (λ body. body ≡ compact_text (sat_tree (V.chain live.now) (V.index live.now) sat)) }
 {
     let mut out = new_body(alloc)?;
-    write_sat(alloc, &mut out, live, sat)?;
+    write_sat(&mut out, live, sat)?;
     Ok(body_of(out))
 }

@@ -1,43 +1,56 @@
-//! How satoshis are written in replies.
+//! How satoshis and outpoints are written in replies.
 
-ghost use Rattle.std.specs.Prelude.{◌≡◌, ◌<◌, IfOk, string_bytes};
+ghost use Rattle.std.specs.Prelude.{◌≡◌, ◌+◌, ◌<◌, ◌≤◌, ◌++◌, decimal, length};
 ghost use Rattle.serde_json.specs.Data.{string};
 ghost use Rattle.ox_ask.specs.Texts.{decimal_text as decimal_written};
 ghost use Rattle.ox_ask.specs.Texts.{degree_text as degree_written, rarity_text};
 ghost use Rattle.ox_query.specs.Written.{Adds, tokens_of};
+ghost use Rattle.ox_rules.specs.Text.{outpoint_text as outpoint_printed};
 ghost use Rattle.ox_sat.specs.Names.{name_of};
 ghost use Rattle.ox_sat.specs.Profiles.{IsProfile};
 
-use crate::values::text_of;
+use crate::values::{hash_digits, text_of};
+use arrayvec::ArrayString;
+use itoa::Buffer;
 use json::Writer;
+use ox_block::OutPoint;
 use ox_bytes::Memory;
 use ox_sat::{Degree, Profile, Rarity, first, height_of};
-use std::alloc::Global;
 
-/// A satoshi's height and its place in that block, with a point between. `Memory` where there is
-/// none for it.
-pub(crate) fn decimal_text(alloc: Global, p: &Profile, sat: u64) -> Result<String, Memory>
+/// A satoshi's height and its place in that block, with a point between.
+pub(crate) fn decimal_text(p: &Profile, sat: u64) -> ArrayString<41>
     requires known { IsProfile p.now }
     requires minted { sat < p.now.supply }
-    ensures { IfOk result (λ text. string_bytes text ≡ decimal_written p.now sat) }
+    ensures { result.bytes ≡ decimal_written p.now sat }
 {
     let height = height_of(p, sat);
-    let offset = sat - first(p, height);
-    Ok(format!(in alloc; "{height}.{offset}")?)
+    let mut text = ArrayString::new();
+    text.push_str(Buffer::new().format(height));
+    text.push_str(".");
+    text.push_str(Buffer::new().format(sat - first(p, height)));
+    text
 }
 
-/// A degree as the Ordinal Theory Handbook writes it: hour°minute′second″third‴. `Memory` where
-/// there is none for it.
-pub(crate) fn degree_text(alloc: Global, degree: &Degree) -> Result<String, Memory>
-    ensures { IfOk result (λ text. string_bytes text ≡ degree_written degree.now) }
+// Puts a number and the mark behind it.
+fn push_part(text: &mut ArrayString<91>, number: u64, mark: &str)
+    requires { length text.old.bytes + 20 + length mark.now ≤ 91 }
+    ensures bytes { text.new.bytes ≡ text.old.bytes ++ decimal number ++ mark.now }
+    ensures len { length text.new.bytes ≤ length text.old.bytes + 20 + length mark.now }
 {
-    let Degree {
-        hour,
-        minute,
-        second,
-        third,
-    } = *degree;
-    Ok(format!(in alloc; "{hour}{}{minute}{}{second}{}{third}{}", '°', '′', '″', '‴')?)
+    text.push_str(Buffer::new().format(number));
+    text.push_str(mark);
+}
+
+/// A degree as the Ordinal Theory Handbook writes it: hour°minute′second″third‴.
+pub(crate) fn degree_text(degree: &Degree) -> ArrayString<91>
+    ensures { result.bytes ≡ degree_written degree.now }
+{
+    let mut text = ArrayString::new();
+    push_part(&mut text, degree.hour, "°");
+    push_part(&mut text, degree.minute, "′");
+    push_part(&mut text, degree.second, "″");
+    push_part(&mut text, degree.third, "‴");
+    text
 }
 
 /// The word of a rarity.
@@ -63,4 +76,23 @@ pub(crate) fn write_name(out: &mut Writer, p: &Profile, sat: u64) -> Result<(), 
     let mut letters = [0; 11];
     let len = ox_sat::write_name(p, sat, &mut letters);
     Ok(out.string(text_of(&letters[..len]))?)
+}
+
+// An outpoint as it is printed.
+#[tactic(auto, unfolding(ox_rules::specs::Text::outpoint_text))]
+fn outpoint_text(at: &OutPoint) -> ArrayString<75>
+    ensures { result.bytes ≡ outpoint_printed at.now }
+{
+    let mut text = ArrayString::new();
+    text.push_str(text_of(&hash_digits(&at.txid.0)));
+    text.push_str(":");
+    text.push_str(Buffer::new().format(at.index));
+    text
+}
+
+/// Writes an outpoint as it is printed. `Memory` where there is none for it.
+pub(crate) fn write_outpoint(out: &mut Writer, at: &OutPoint) -> Result<(), Memory>
+    ensures { Adds result out.old out.new (tokens_of (string (outpoint_printed at.now))) }
+{
+    Ok(out.string(outpoint_text(at).as_str())?)
 }

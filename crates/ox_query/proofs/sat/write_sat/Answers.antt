@@ -15,9 +15,9 @@ write_name-requires-clause-known g c = subst IsProfile (sym c.profile-p.ensures)
 
 pub returns : goal.returns
 returns g c =
-    let decimal = c.deref.ensures ∙ c.in_ok-decimal_text.ensures ∙ ap (λ (p : Profile). decimal_text p c.args.sat) c.profile-p.ensures in
+    let decimal = c.as_str.ensures.value ∙ c.decimal_text.ensures ∙ ap (λ (p : Profile). decimal_text p c.args.sat) c.profile-p.ensures in
     let degree = c.degree_of-degree.ensures ∙ ap (λ (p : Profile). degree_at p c.args.sat) c.profile-p.ensures in
-    let degrees = c.deref-2.ensures ∙ c.in_ok-degree_text.ensures ∙ ap degree_text degree in
+    let degrees = c.as_str-2.ensures.value ∙ c.degree_text.ensures ∙ ap degree_text degree in
     let rarity = c.rarity_word.ensures ∙ ap rarity_text (c.rarity_of.ensures ∙ ap rarity_by degree) in
     all (token c.in_ok-begin_object.ensures
     ▸ token c.in_ok-key.ensures ▸ same (λ text. string text ∷ []) decimal (token c.in_ok-string.ensures)
