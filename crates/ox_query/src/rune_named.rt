@@ -1,7 +1,8 @@
 //! Which rune a part of a path names.
 
 ghost use Rattle.std.specs.Prelude.{◌≡◌, ◌<◌, ◌++◌, [], length, IfOk, MatchOption, option_and_then};
-ghost use Rattle.ox_ask.specs.Named.{rune_id_in, rune_named as rune_said, without_escapes as text_said};
+ghost use Rattle.ox_ask.specs.Named.{rune_id_in, rune_named as rune_said};
+ghost use Rattle.ox_ask.specs.Named.{without_escapes as text_said};
 ghost use Rattle.ox_model.specs.Found.{by_id, by_name};
 ghost use Rattle.ox_name.specs.Spaced.{name_in};
 
