@@ -1,13 +1,11 @@
 -- Hexadecimal digits are text.
-use Rattle.std.proofs.Common.{◌≡◌, ◌<◌, ◌^◌, ℕ, true, ltb, ltb-true, IsUtf8, List, [], ◌∷◌, ◌++◌, reverse, decimal, append_assoc, refl, sym, subst, arith}
+use Rattle.std.proofs.Common.{◌≡◌, ℕ, true, ltb, ltb-true, IsUtf8, List, [], ◌∷◌, reverse, refl}
 use Rattle.std.specs.List.{list_all}
 use Rattle.std.specs.Str.{IsAscii}
-use Rattle.std.proofs.lemmas.Fmt.{IsAscii-decimal}
-use Rattle.std.proofs.lemmas.Str.{IsUtf8-from_ascii, IsAscii-append}
+use Rattle.std.proofs.lemmas.Str.{IsUtf8-from_ascii}
 use Rattle.std.proofs.lemmas.Str.Ascii.{IsAscii-cons, IsAscii-nil}
 use Rattle.hex.specs.Hex.{encode_lower, lower_digits}
 use Rattle.hex.proofs.HexLemmas.{IsAscii-encode_with}
-use Rattle.ox_block.specs.declared.block.OutPoint.{OutPoint}
 use Rattle.ox_rules.specs.Text.{hash_text}
 use Rattle.ox_ask.proofs.Halves.{first_half, second_half}
 
@@ -21,7 +19,7 @@ all_small (b ∷ bytes) h =
 pub digits_small : (bytes : List ℕ) → IsAscii (encode_lower bytes)
 digits_small bytes = IsAscii-encode_with lower_digits bytes (all_small lower_digits refl)
 
-pub hash_small : (hash : List ℕ) → IsAscii (hash_text hash)
+hash_small : (hash : List ℕ) → IsAscii (hash_text hash)
 unfolding hash_text
 hash_small hash = digits_small (reverse hash)
 

@@ -1,6 +1,6 @@
 //! The runes of an output.
 
-ghost use Rattle.std.specs.Prelude.{◌≡◌, ◌≤◌, [], ◌∷◌};
+ghost use Rattle.std.specs.Prelude.{◌≤◌, [], ◌∷◌};
 ghost use Rattle.std.specs.List.{filter_map};
 ghost use Rattle.ox_ask.specs.Runes.{balance_among, balance_tree, balances_tree};
 ghost use Rattle.ox_ledger.specs.Runes.{balances_at};

@@ -1,6 +1,6 @@
 //! Ids of inscriptions, and lists of them.
 
-ghost use Rattle.std.specs.Prelude.{◌≡◌, ◌+◌, ◌^◌, ◌<◌, All, length};
+ghost use Rattle.std.specs.Prelude.{◌+◌, ◌^◌, ◌<◌, All, length};
 ghost use Rattle.ox_ask.specs.Inscriptions.{id_tree, ids_on_all, ids_tree};
 ghost use Rattle.ox_ask.specs.Walk.{on_between};
 ghost use Rattle.ox_inscribe.specs.Inscriptions.{on};
