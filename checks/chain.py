@@ -47,9 +47,11 @@ def chain(count, script_at=lambda height: SHORT):
     return blocks, tips
 
 
-def envelope(fields, body):
-    """A part of a tapscript with an inscription of these tags and values and this body, each of 1 to 75 bytes."""
-    pushes = [b"ord"] + [push for tag, value in fields for push in (bytes([tag]), value)] + [b"", body]
+def envelope(fields=(), body=None):
+    """A part of a tapscript with an inscription of these tags and values and this body, if there is one, each of at most 75
+    bytes."""
+    pushes = [b"ord"] + [push for tag, value in fields for push in (bytes([tag]), value)]
+    pushes += [] if body is None else [b"", body] if body else [b""]
     return b"\0\x63" + b"".join(bytes([len(push)]) + push for push in pushes) + b"\x68"
 
 
@@ -58,21 +60,47 @@ def id_value(txid, index):
     return txid + bytes([index] if index else [])
 
 
+def transaction(inputs, outputs, script=b""):
+    """A transaction of inputs, each a transaction's id, an index and a tapscript that is empty for none, and of outputs, each
+    a value and a script: the bytes without witnesses and with them. Each input has this script."""
+    sources = [txid + index.to_bytes(4, "little") + compact(len(script)) + script + bytes(4) for txid, index, _ in inputs]
+    targets = [value.to_bytes(8, "little") + compact(len(to)) + to for value, to in outputs]
+    body = compact(len(sources)) + b"".join(sources) + compact(len(targets)) + b"".join(targets)
+    version, lock = (2).to_bytes(4, "little"), bytes(4)
+    bare = version + body + lock
+    if not any(tapscript for _, _, tapscript in inputs):
+        return bare, bare
+    stacks = [b"\2" + compact(len(part)) + part + b"\1\xc0" if part else b"\0" for _, _, part in inputs]
+    return bare, version + b"\0\1" + body + b"".join(stacks) + lock
+
+
 def revealing(spent, tapscript, outputs):
-    """A transaction that spends the first output of another one by a tapscript into these values and scripts: the bytes
-    without its witness and with it."""
-    inputs = b"\1" + spent + bytes(4) + b"\0" + bytes(4)
-    targets = b"".join(value.to_bytes(8, "little") + compact(len(script)) + script for value, script in outputs)
-    body, version, lock = inputs + bytes([len(outputs)]) + targets, (2).to_bytes(4, "little"), bytes(4)
-    witness = b"\2" + compact(len(tapscript)) + tapscript + b"\1\xc0"
-    return version + body + lock, version + b"\0\1" + body + witness + lock
+    """A transaction that spends the first output of another one by a tapscript into these values and scripts."""
+    return transaction([(spent, 0, tapscript)], outputs)
+
+
+def coinbase_to(mark, outputs):
+    """A coinbase of these outputs, which this number makes its own."""
+    return transaction([(bytes(32), 2**32 - 1, b"")], outputs, mark.to_bytes(4, "little"))
+
+
+def root(ids):
+    """The root over these ids."""
+    while len(ids) > 1:
+        ids = ids + ids[-1:] if len(ids) % 2 else ids
+        ids = [twice(ids[at] + ids[at + 1]) for at in range(0, len(ids), 2)]
+    return ids[0]
+
+
+def block_of(previous, txs, root_of=root):
+    """The bytes of a block of these transactions, and its hash."""
+    header = (1).to_bytes(4, "little") + previous + root_of([twice(bare) for bare, _ in txs]) + bytes(12)
+    return header + compact(len(txs)) + b"".join(whole for _, whole in txs), twice(header)
 
 
 def block_with(previous, height, tx):
     """The bytes of a block of a plain coinbase and such a transaction, and its hash."""
-    first = coinbase(height, SHORT)
-    header = (1).to_bytes(4, "little") + previous + twice(twice(first) + twice(tx[0])) + bytes(12)
-    return header + b"\2" + first + tx[1], twice(header)
+    return block_of(previous, [(coinbase(height, SHORT),) * 2, tx])
 
 
 def line(block):

@@ -1,0 +1,587 @@
+#!/usr/bin/env python3
+"""Makes the rows of crates/ox_query_rows and what has to be printed for them:
+
+    checks/query_rows.py
+
+It makes blocks by docs/FORMATS.md and writes down what they have to be replied, with Python's standard library alone.
+Where a reply names a satoshi, its notations are reckoned here. It knows hashes, ids and names that were reckoned before the
+library answered any request, which it writes down as they are.
+"""
+
+import json
+
+from chain import SHORT, SUBSIDY, block_of, coinbase_to, envelope, id_value, transaction
+from real_files import RESERVED, name_of
+from rows import Rows, carry, id_of, inscription, outpoint, plain, reveal, shown, spend
+
+OCTETS = "application/octet-stream"
+GENESIS = (
+    "0100000000000000000000000000000000000000000000000000000000000000000000003ba3edfd7a7b12b27ac72c3e67768f617fc81b"
+    "c3888a51323a9fb8aa4b1e5e4a29ab5f49ffff001d1dac2b7c010100000001000000000000000000000000000000000000000000000000"
+    "0000000000000000ffffffff4d04ffff001d0104455468652054696d65732030332f4a616e2f32303039204368616e63656c6c6f72206f"
+    "6e206272696e6b206f66207365636f6e64206261696c6f757420666f722062616e6b73ffffffff0100f2052a01000000434104678afdb0"
+    "fe5548271967f1a67130b7105cd6a828e03909a67962e0ea1f61deb649f6bc3f4cef38c4f35504e51ec112de5c384df7ba0b8d578a4c70"
+    "2b6bf11d5fac00000000"
+)
+GENESIS_HASH = "000000000019d6689c085ae165831e934ff763ae46a2a6c172b3f1b60a8ce26f"
+GENESIS_TXID = "4a5e1e4baab89f3a32518a88c31bc87f618f76673e2cc77ab2127b7afdeda33b"
+LAB_SUPPLY = 99_999_999_890
+TAPROOT = b"\x51\x20" + 32 * b"\7"
+
+
+def checksum(body):
+    total = 0
+    for byte in body:
+        total = (total * 1_000_003 + byte) % 2**64
+    return total
+
+
+class Queries(Rows):
+    """The rows of requests, and their replies."""
+
+    def case(self, what, profile="lab", depth=100):
+        """What the rows behind show, by a chain of this profile."""
+        self.begin(what, f"profile {profile} {depth}")
+
+    def asks(self, row, body, status=200, kind="application/json", encoding=None, close=False):
+        """A request of this row is replied so; a body is a text or bytes."""
+        head = f"{status}{' close' if close else ''} <{kind}>" + (f" <{encoding}>" if encoding is not None else "")
+        text = body
+        if isinstance(body, bytes):
+            text = body.decode() if len(body) <= 20_000 and printable(body) else f"(hex) {body.hex()}"
+            text = f"({len(body)} bytes, checksum {checksum(body)})" if len(body) > 20_000 else text
+        self.row(row, f"{head} {text}")
+
+    def says(self, path, tree):
+        """A GET of the path is replied this tree, compact and with sorted keys; a text is the body itself."""
+        text = tree if isinstance(tree, str) else json.dumps(tree, ensure_ascii=False, sort_keys=True, separators=(",", ":"))
+        self.asks(f"GET {path}", text)
+
+    def fails(self, status, row):
+        self.asks(row, f'{{"error":{status}}}', status)
+
+    def missing(self, *paths):
+        for path in paths:
+            self.fails(404, f"GET {path}")
+
+    def content(self, tx, body, kind=OCTETS, encoding=None, index=0):
+        self.asks(f"GET /content/{inscription(tx, index)}", body, kind=kind, encoding=encoding)
+
+    def inscription(self, tx, index=0, **fields):
+        """What `/inscription` says: these fields, and nothing of what isn't named."""
+        tree = dict.fromkeys(("content_length", "content_type", "delegate", "encoding", "metadata", "metaprotocol", "place", "sat"))
+        tree |= {"id": inscription(tx, index), "parents": [], **fields}
+        self.says(f"/inscription/{tree['id']}", tree)
+
+    def output(self, at, height, ranges, inscriptions=(), runes=(), script=SHORT):
+        value = sum(end - first for first, end in ranges)
+        tree = {"height": height, "inscriptions": list(inscriptions), "ranges": ranges, "runes": list(runes)}
+        self.says(f"/output/{at}", tree | {"script": script.hex(), "value": value})
+
+    def satoshi(self, number, inscriptions, place):
+        """What `/sat` says of one of the first ten heights of a lab chain."""
+        tree = lab_notations(number)
+        self.says(f"/sat/{number}", tree | {"inscriptions": inscriptions, "number": number, "place": place})
+
+    def audit(self, claimable, lost, runes=()):
+        tree = {"claimable": claimable, "lost": lost, "outputs": claimable - lost, "runes": list(runes)}
+        self.says("/audit", tree)
+
+
+def printable(body):
+    try:
+        return "\n" not in body.decode()
+    except UnicodeDecodeError:
+        return False
+
+
+def lab_notations(number):
+    """The notations of a satoshi of the first ten heights of a lab chain."""
+    height, offset = divmod(number, SUBSIDY)
+    assert height < 10
+    name, left = "", LAB_SUPPLY - number
+    while left > 0:
+        name = "abcdefghijklmnopqrstuvwxyz"[(left - 1) % 26] + name
+        left = (left - 1) // 26
+    rarity = "common" if offset else "uncommon" if height else "mythic"
+    degree = f"{height // 60}°{height % 10}′{height % 12}″{offset}‴"
+    return {"decimal": f"{height}.{offset}", "degree": degree, "name": name, "rarity": rarity}
+
+
+def at(tx, offset, index=0):
+    """A place in an output."""
+    return {"offset": offset, "outpoint": outpoint(tx, index)}
+
+
+def ids(tx, *indices):
+    return [inscription(tx, index) for index in indices]
+
+
+# What there is without inscriptions and runes.
+
+
+def chains(rows):
+    rows.case("an empty chain has its status", "regtest")
+    rows.says("/status", '{"blocks":0,"depth":100,"kept":0,"profile":"regtest","tip":null}')
+    rows.case("a satoshi that isn't minted is nowhere", "regtest")
+    for spelling in ("satoshi", "3891094.16797", "2099994106992659"):
+        rows.says(
+            f"/sat/{spelling}",
+            '{"decimal":"3891094.16797","degree":"3°111094′214″16797‴","inscriptions":[],"name":"satoshi",'
+            '"number":2099994106992659,"place":null,"rarity":"common"}',
+        )
+    rows.case("the last satoshi is below the supply", "mainnet")
+    rows.says(
+        "/sat/2099999997689999",
+        '{"decimal":"6929999.0","degree":"5°209999′1007″0‴","inscriptions":[],"name":"a","number":2099999997689999,'
+        '"place":null,"rarity":"uncommon"}',
+    )
+    rows.missing("/sat/2099999997690000")
+
+
+def genesis(rows, what):
+    """Mainnet's chain of one block."""
+    rows.case(what, "mainnet")
+    rows.takes(GENESIS, bytes.fromhex(GENESIS_HASH)[::-1])
+
+
+def first_block(rows):
+    genesis(rows, "the first satoshi stands in the first output, which is told as is its block")
+    rows.says(
+        "/sat/0",
+        '{"decimal":"0.0","degree":"0°0′0″0‴","inscriptions":[],"name":"nvtdijuwxlp","number":0,"place":{"offset":0,'
+        f'"outpoint":"{GENESIS_TXID}:0"}},"rarity":"mythic"}}',
+    )
+    rows.says(
+        f"/output/{GENESIS_TXID}:0",
+        '{"height":0,"inscriptions":[],"ranges":[[0,5000000000]],"runes":[],"script":"4104678afdb0fe5548271967f1a67130b7'
+        '105cd6a828e03909a67962e0ea1f61deb649f6bc3f4cef38c4f35504e51ec112de5c384df7ba0b8d578a4c702b6bf11d5fac",'
+        '"value":5000000000}',
+    )
+    rows.says("/blockhash/0", f'{{"hash":"{GENESIS_HASH}","height":0}}')
+    genesis(rows, "what a part doesn't name is missing")
+    rows.missing("", "//status", "/status/", "/sat/", "/sat/a/b", "/blockhash/00", "/blockhash/1")
+    rows.fails(404, "hex GET 2f7361742fff")
+    rows.missing("/blockhash/4294967296", "/blockhash/18446744073709551616", f"/output/{GENESIS_TXID.upper()}:0")
+    rows.missing(*(f"/output/{part}" for part in (f"{GENESIS_TXID[1:]}:0", f"{GENESIS_TXID}:1", f"{GENESIS_TXID}:4294967296")))
+    genesis(rows, "what isn't indexed is missing")
+    rows.missing(f"/inscription/{GENESIS_TXID}i0", f"/content/{GENESIS_TXID}i0", "/rune/2:0")
+
+
+def methods(rows):
+    rows.case("a method that a route hasn't is refused", "regtest")
+    asked = ("/status", "/audit", "/blockhash/0", "/output/a", "/sat/a", "/inscription/a", "/content/a", "/inscriptions/0")
+    for path in (*asked, "/rune/A", "/runes/0"):
+        rows.fails(405, f"POST {path}")
+        rows.fails(405, f"PUT {path}")
+    for path in ("/connect", "/disconnect"):
+        rows.fails(405, f"GET {path}")
+        rows.fails(405, f"PUT {path}")
+    rows.case("commands are forbidden and other paths missing", "regtest")
+    rows.fails(403, "POST /connect")
+    rows.fails(403, "POST /disconnect")
+    rows.fails(404, "POST /statuses")
+    rows.fails(404, "PUT /connect/")
+    rows.case("a reply closes as asked")
+    status = '{"blocks":0,"depth":100,"kept":0,"profile":"lab","tip":null}'
+    rows.asks("close GET /status", status, close=True)
+    rows.says("/status", status)
+    for status, row in ((404, "GET /sat/"), (405, "GET /connect"), (403, "POST /connect"), (404, "GET /")):
+        rows.asks(f"close {row}", f'{{"error":{status}}}', status, close=True)
+
+
+def with_a_fee(rows, claimed):
+    """Two plain blocks, and one in which a transaction spends the first into 2,000,000,000 and 1,000,000,000."""
+    rows.plain(2)
+    spends = transaction([spend(plain(0))], [(2_000_000_000, SHORT), (1_000_000_000, SHORT)])
+    rows.connects(coinbase_to(2, [(claimed, SHORT)]), spends)
+
+
+def satoshis(rows):
+    rows.case("ranges are the longest and end past their last", "regtest")
+    with_a_fee(rows, 7_000_000_000)
+    rows.says(
+        "/output/499a4e33c048532914c30aec9870ad65ef5fda85e0dc4d91ccb0edb8e144ef4f:0",
+        '{"height":2,"inscriptions":[],"ranges":[[10000000000,15000000000],[3000000000,5000000000]],"runes":[],'
+        '"script":"51","value":7000000000}',
+    )
+    rows.says("/blockhash/2", '{"hash":"ea49e7d6c555592acf35427d99ddbac372977baa6e13288fa151ff194fc25e73","height":2}')
+    rows.case("a satoshi that no output took is lost", "regtest")
+    with_a_fee(rows, 6_000_000_000)
+    rows.says(
+        "/sat/4000000000",
+        '{"decimal":"0.4000000000","degree":"0°0′0″4000000000‴","inscriptions":[],"name":"nvtcvldrvrt",'
+        '"number":4000000000,"place":{"lost":0},"rarity":"common"}',
+    )
+    tip = "810b814d6c84a3dae900256420e834450c567fdaf65d7f748512ea5880123bd6"
+    rows.says("/status", f'{{"blocks":3,"depth":100,"kept":3,"profile":"regtest","tip":"{tip}"}}')
+    rows.case("a status tells how many blocks are kept", "regtest", 2)
+    with_a_fee(rows, 6_000_000_000)
+    rows.says("/status", f'{{"blocks":3,"depth":2,"kept":2,"profile":"regtest","tip":"{tip}"}}')
+    rows.disconnects()
+    rows.says("/status", {"blocks": 2, "depth": 2, "kept": 1, "profile": "regtest", "tip": shown(rows.tip())})
+
+
+# Audits.
+
+
+def audits(rows):
+    rows.case("an audit tells what is lost", "regtest")
+    with_a_fee(rows, 6_000_000_000)
+    rows.says("/audit", '{"claimable":15000000000,"lost":1000000000,"outputs":14000000000,"runes":[]}')
+    rows.case("what an equal coinbase displaces is lost, and a disconnect brings it back", "regtest")
+    rows.connects(plain(0))
+    rows.connects(plain(0))
+    path = f"/output/{outpoint(plain(0))}"
+    output = '{{"height":{},"inscriptions":[],"ranges":[{}],"runes":[],"script":"51","value":5000000000}}'
+    rows.says("/audit", '{"claimable":10000000000,"lost":5000000000,"outputs":5000000000,"runes":[]}')
+    rows.says(path, output.format(1, "[5000000000,10000000000]"))
+    rows.disconnects()
+    rows.says("/audit", '{"claimable":5000000000,"lost":0,"outputs":5000000000,"runes":[]}')
+    rows.says(path, output.format(0, "[0,5000000000]"))
+    rows.case("a refused block changes no audit", "regtest")
+    rows.plain(2)
+    before = '{"claimable":10000000000,"lost":0,"outputs":10000000000,"runes":[]}'
+    rows.says("/audit", before)
+    spends = [transaction([spend(plain(0))], [(value, SHORT)]) for value in (SUBSIDY, SUBSIDY - 1)]
+    rows.refuses(f"refused 8 2 0 {outpoint(plain(0))}", plain(2), *spends)
+    rows.says("/audit", before)
+    rows.case("an audit tells where each rune is")
+    etches = etch(rows, "6a5d0802030607080a0a05")
+    rows.says(
+        "/audit",
+        '{"claimable":20000000000,"lost":0,"outputs":20000000000,"runes":'
+        '[{"burned":"0","held":"7","id":"3:1","minted":"0","premine":"7"}]}',
+    )
+    rows.extend(carry(etches, "6a5d06140314017e00"))
+    rows.says(
+        "/audit",
+        '{"claimable":25000000000,"lost":0,"outputs":25000000000,"runes":'
+        '[{"burned":"12","held":"0","id":"3:1","minted":"5","premine":"7"}]}',
+    )
+
+
+# Runes.
+
+NAME = "AAAAAAAAAAAAAAAAAAABPSMAJTP"
+SPACED = "A•AA•AAAAAAAAAAAAAAAABPSMAJTP"
+# with a premine of 1234, two decimals, spacers behind the first letter and the third, the symbol U+20AC, a cap of 2, an
+# amount of 5, mints from two blocks later on, and the end 9
+TERMS = "6a5d1402030102030505ac4106d20908020a050e091002"
+TERMS_TXID = "3d9239e6a714cf00f672835853445e98d2993d4746773347d1cfd2a807ae7b7d"
+
+
+def etch(rows, stone):
+    """Blocks up to height 3, in which transaction 1 etches; that transaction."""
+    rows.plain(3)
+    etches = carry(plain(0), stone)
+    rows.extend(etches)
+    return etches
+
+
+def shares(rows, stone, txid, amounts):
+    """A premine of 10, and how an edict splits it among three outputs."""
+    etches = etch(rows, "6a5d040201060a")
+    rows.extend(transaction([spend(etches)], [(1, SHORT)] * 3 + [(0, bytes.fromhex(stone))]))
+    for index, amount in enumerate(amounts):
+        rows.says(
+            f"/output/{txid}:{index}",
+            f'{{"height":4,"inscriptions":[],"ranges":[[{index},{index + 1}]],"runes":[{{"amount":"{amount}","id":"3:1",'
+            f'"name":"{NAME}","shown":"{amount}"}}],"script":"51","value":1}}',
+        )
+
+
+def edicts(rows):
+    rows.case("an output tells what an edict split")
+    shares(rows, "6a5d050003010004", "e0937fbcad91a681a26d79a9336ec4acf7ebc8fec2463a280cc0e355d319f77b", (4, 3, 3))
+    rows.case("an output tells what an edict gave while it lasted")
+    shares(rows, "6a5d050003010404", "cafcac2fb8f506ea54b2bc431132b5e0a6677a653f15e434be798c819cfbb126", (4, 4, 2))
+
+
+def with_terms(mintable):
+    return (
+        '{"amount":"5","burned":"0","cap":"2","divisibility":2,"etching":"'
+        f'{TERMS_TXID}","height":[null,9],"held":"1234","id":"3:1","mintable":{mintable},"mints":"0","name":"{SPACED}",'
+        '"number":0,"offset":[2,null],"premine":"1234","symbol":"€"}'
+    )
+
+
+def terms(rows):
+    rows.case("a mint is open for the next block")
+    etch(rows, TERMS)
+    rows.says("/rune/3:1", with_terms("false"))
+    rows.plain(5)
+    rows.says("/rune/3:1", with_terms("true"))
+    rows.case("an output shows its runes with decimals")
+    etch(rows, TERMS)
+    rows.says(
+        f"/output/{TERMS_TXID}:0",
+        '{"height":3,"inscriptions":[],"ranges":[[0,5000000000]],"runes":[{"amount":"1234","id":"3:1",'
+        f'"name":"{SPACED}","shown":"12.34"}}],"script":"51","value":5000000000}}',
+    )
+
+
+def two_runes(rows):
+    rows.case("an output that holds two runes tells both by id")
+    first = etch(rows, "6a5d0802030607080a0a05")
+    second = carry(first, "6a5d040201060a")
+    rows.extend(second)
+    later = name_of(RESERVED + (4 << 32) + 1)
+    balances = [{"amount": "7", "id": "3:1", "name": NAME, "shown": "7"}, {"amount": "10", "id": "4:1", "name": later, "shown": "10"}]
+    rows.output(outpoint(second), 4, [[0, SUBSIDY]], runes=balances)
+    rows.missing(f"/output/{outpoint(first)}")
+    rows.says("/runes/0", {"ids": ["3:1", "4:1"], "more": False, "page": 0})
+    audited = [{"burned": "0", "held": "7", "id": "3:1", "minted": "0", "premine": "7"}]
+    audited += [{"burned": "0", "held": "10", "id": "4:1", "minted": "0", "premine": "10"}]
+    rows.audit(5 * SUBSIDY, 0, audited)
+
+
+def names(rows):
+    rows.case("a name is found once it is etched, whose commitment has stood for six blocks")
+    rows.plain(4)
+    taproots = coinbase_to(4, [(SUBSIDY // 2, TAPROOT)] * 2)
+    rows.connects(taproots)
+    rows.plain(8)
+    stone, commits = bytes.fromhex("6a5d09020104cec8b6a9e802"), bytes.fromhex("054ea42d8516")
+    etches = [transaction([spend(taproots, index, commits)], [(SUBSIDY // 2, SHORT), (0, stone)]) for index in (0, 1)]
+    rows.extend(etches[0])
+    rows.missing("/rune/LABTESTS")
+    rows.extend(etches[1])
+    for name in ("LABTESTS", "LAB.TESTS"):
+        rows.says(
+            f"/rune/{name}",
+            '{"amount":null,"burned":"0","cap":null,"divisibility":0,"etching":'
+            '"1f403840af044d5a472563e4ed051e66677c2dfab6f369a90ac6d1b032826126","height":null,"held":"0","id":"9:1",'
+            '"mintable":false,"mints":"0","name":"LABTESTS","number":0,"offset":null,"premine":"0","symbol":null}',
+        )
+    rows.case("spacers aren't compared", "mainnet")
+    spelled = ("UNCOMMON.GOODS", "UNCOMMONGOODS", "UNCOMMON•GOODS", "UNCOMMON%E2%80%A2GOODS", "U.NCOMMON%E2%80%A2GOOD•S")
+    for part in ("1:0", *spelled):
+        rows.says(
+            f"/rune/{part}",
+            '{"amount":"1","burned":"0","cap":"340282366920938463463374607431768211455","divisibility":0,"etching":'
+            '"0000000000000000000000000000000000000000000000000000000000000000","height":[840000,1050000],"held":"0",'
+            '"id":"1:0","mintable":false,"mints":"0","name":"UNCOMMON•GOODS","number":0,"offset":[null,null],'
+            '"premine":"0","symbol":"⧉"}',
+        )
+    rows.case("what is spelled otherwise names no rune", "mainnet")
+    for part in ("", ":", "1:", ":0", "01:0", "1:00", "1:0:0", "1:1", "1:4294967296", "18446744073709551617:0"):
+        rows.missing(f"/rune/{part}")
+    for name in ("uncommongoods", "UNCOMMON..GOODS", ".UNCOMMONGOODS", "UNCOMMONGOODS.", "UNCOMMON%e2%80%a2GOODS"):
+        rows.missing(f"/rune/{name}")
+    rows.missing("/rune/UNCOMMON%E2%80%A2.GOODS", "/rune/" + 29 * "A")
+    rows.case("without runes none is named", "regtest")
+    rows.missing("/rune/1:0", "/rune/UNCOMMON.GOODS")
+    rows.says("/audit", '{"claimable":0,"lost":0,"outputs":0,"runes":[]}')
+
+
+def pages_of_runes(rows):
+    rows.case("pages of runes past the end have no ids", "mainnet")
+    rows.says("/runes/0", '{"ids":["1:0"],"more":false,"page":0}')
+    for page in ("1", "7", "184467440737095517", "18446744073709551615"):
+        rows.says(f"/runes/{page}", f'{{"ids":[],"more":false,"page":{page}}}')
+    rows.missing("/runes/00", "/runes/-1", "/runes/", "/runes/18446744073709551616")
+
+
+# Inscriptions.
+
+# an unknown even tag, the type text/plain and the content hi
+UNBOUND = bytes.fromhex("0063036f72640142017801010a746578742f706c61696e0002686968")
+PAST = ("2", "7", "42949673", "184467440737095516", "184467440737095517", "18446744073709551615")
+
+
+def revealed(rows, tapscript):
+    """Seven blocks, in the last of which a transaction spends the first one's coinbase by a tapscript; that transaction."""
+    rows.plain(6)
+    tx = reveal(plain(0), tapscript)
+    rows.extend(tx)
+    return tx
+
+
+def past(rows):
+    """Pages past the end are empty."""
+    for page in PAST:
+        rows.says(f"/inscriptions/{page}", f'{{"ids":[],"more":false,"page":{page}}}')
+
+
+def one_inscription(rows):
+    rows.case("an unbound inscription is nowhere")
+    tx = revealed(rows, UNBOUND)
+    rows.inscription(tx, content_length=2, content_type="text/plain", height=6, number=0)
+    rows.content(tx, b"hi", "text/plain")
+    rows.case("ids and pages are read as they are written")
+    txid = shown(id_of(revealed(rows, envelope())))
+    for end in ("i1", "i00", "i", "i4294967296", "i4294967295", "i+0", "I0", ":0", "i0i0", ""):
+        rows.missing(f"/inscription/{txid}{end}", f"/content/{txid}{end}")
+    rows.missing(*(f"/inscriptions/{page}" for page in ("01", "+0", "-1", "18446744073709551616", "0x0", "", "0/")))
+    past(rows)
+    rows.says("/inscriptions/0", {"ids": [f"{txid}i0"], "more": False, "page": 0})
+
+
+def pages_of_inscriptions(rows):
+    rows.case("an empty index has empty pages")
+    past(rows)
+    rows.says("/inscriptions/0", '{"ids":[],"more":false,"page":0}')
+    for what, many in (("a page has a hundred", 200), ("the next page may have one", 101)):
+        rows.case(what)
+        tx = revealed(rows, many * envelope())
+        rows.says("/inscriptions/0", {"ids": ids(tx, *range(100)), "more": True, "page": 0})
+        rows.says("/inscriptions/1", {"ids": ids(tx, *range(100, many)), "more": False, "page": 1})
+        past(rows)
+
+
+def texts(rows):
+    rows.case("a head has printable text alone, and a field is text where it is UTF-8")
+    types = [b"", b"a\nb", b"~", b"\x7f", b"\xff", b" "]
+    encodings = [b"br", b"b\nr", b""]
+    script = b"".join(envelope([(1, value)], b"a") for value in types)
+    script += b"".join(envelope([(9, value)], b"a") for value in encodings)
+    tx = revealed(rows, script + envelope([(5, b"\0\xff"), (7, b"m")], b""))
+    kinds = [OCTETS, OCTETS, "~", OCTETS, OCTETS, " ", OCTETS, OCTETS, OCTETS]
+    for index, kind in enumerate(kinds):
+        rows.content(tx, b"a", kind, "br" if index == 6 else None, index=index)
+    rows.content(tx, b"", index=9)
+    one = {"content_length": 1, "height": 6, "place": at(tx, 0), "sat": 0}
+    told = ["", "a\nb", "~", "\x7f", None, " "]
+    for index, text in enumerate(told):
+        rows.inscription(tx, index, content_type=text, number=index, **one)
+    for index, text in enumerate(["br", "b\nr", ""], 6):
+        rows.inscription(tx, index, encoding=text, number=index, **one)
+    last = one | {"content_length": 0, "metadata": "00ff", "metaprotocol": "m"}
+    rows.inscription(tx, 9, number=9, **last)
+    rows.case("a content that isn't text is replied as it is")
+    tx = revealed(rows, envelope([], b"\x00\xff\n"))
+    rows.content(tx, b"\x00\xff\n")
+
+
+def delegates(rows):
+    rows.case("a delegate is followed once, and told beside the own content")
+    rows.plain(2)
+    txs = [reveal(plain(0), UNBOUND)]
+    rows.extend(txs[0])
+    own = id_of(txs[0])
+
+    def add(tapscript):
+        txs.append(reveal(txs[-1], tapscript))
+        rows.extend(txs[-1])
+
+    # without a body, one that delegates to that, one with a body, one without either, and one that delegates to nothing
+    add(envelope([(11, own)]))
+    add(envelope([(11, id_of(txs[-1]))]))
+    add(envelope([(11, own)], b"a"))
+    add(envelope())
+    add(envelope([(11, id_of(plain(1)))], b"a"))
+    own, one, two, over, none, gone = txs
+    for tx in (own, one, over):
+        rows.content(tx, b"hi", "text/plain")
+    rows.missing(*(f"/content/{inscription(tx)}" for tx in (two, none, gone)))
+    place = at(gone, 0)
+    rows.inscription(over, content_length=1, delegate=inscription(own), height=5, number=3, place=place, sat=0)
+    rows.inscription(one, delegate=inscription(own), height=3, number=1, place=place, sat=0)
+    absent = inscription(plain(1))
+    rows.inscription(gone, content_length=1, delegate=absent, height=7, number=5, place=place, sat=0)
+
+
+def long_content(rows):
+    rows.case("a long content is whole")
+    part = bytes(at % 251 for at in range(520))
+    push = b"\x4d\x08\x02" + part
+    tapscript = envelope([], b"")[:-1] + 750 * push + b"\x68"
+    rows.plain(6)
+    tx = reveal(plain(0), tapscript)
+    block = block_on(rows, tx)
+    head, tail = block[0].split(750 * push)
+    rows.takes(f"{head.hex()} 750 {push.hex()} {tail.hex()}", block[1])
+    rows.content(tx, 750 * part)
+    rows.inscription(tx, content_length=390_000, height=6, number=0, place=at(tx, 0), sat=0)
+
+
+def block_on(rows, tx):
+    """The bytes of a block of a plain coinbase and a transaction on the newest one, and its hash."""
+    return block_of(rows.tip(), [plain(len(rows.tips)), tx])
+
+
+def places(rows):
+    rows.case("outputs tell inscriptions by place and number")
+    rows.plain(6)
+    pointers = ("b70b", "b80b", "000000000000000001", "e80300000000000000")
+    script = b"".join(envelope([(2, bytes.fromhex(pointer))]) for pointer in pointers)
+    tx = transaction([spend(plain(0), 0, script)], [(1_000, SHORT), (2_000, SHORT)])
+    rows.extend(tx)
+    rows.output(outpoint(tx), 6, [[0, 1_000]], ids(tx, 1, 2))
+    rows.output(outpoint(tx, 1), 6, [[1_000, 3_000]], ids(tx, 3, 0))
+    rows.output(outpoint(plain(1)), 1, [[SUBSIDY, 2 * SUBSIDY]])
+    rows.satoshi(0, ids(tx, 1, 2), at(tx, 0))
+    rows.satoshi(2999, ids(tx, 0), at(tx, 1_999, 1))
+    rows.satoshi(2998, [], at(tx, 1_998, 1))
+    rows.satoshi(1000, ids(tx, 3), at(tx, 0, 1))
+    rows.case("an output's runs may fall")
+    rows.plain(6)
+    far = envelope([(2, bytes.fromhex("00863ba101"))]) + envelope()
+    tx = transaction([spend(plain(1), 0, far), spend(plain(0))], [(2 * SUBSIDY, SHORT)])
+    rows.extend(tx)
+    rows.output(outpoint(tx), 6, [[SUBSIDY, 2 * SUBSIDY], [0, SUBSIDY]], ids(tx, 1, 0))
+    rows.satoshi(2_000_000_000, ids(tx, 0), at(tx, 7_000_000_000))
+    rows.satoshi(SUBSIDY, ids(tx, 1), at(tx, 0))
+
+
+def parents(rows):
+    rows.case("parents are told by their ids, and inscriptions share a satoshi")
+    rows.plain(6)
+    # P, then Q, which names P, and one that names Q
+    p = reveal(plain(1), envelope())
+    q_id = id_of(reveal(p, b""))
+    q = reveal(p, envelope([(3, id_of(p))]) + envelope([(3, q_id)]))
+    rows.extend(p, q)
+    shared = {"height": 6, "place": at(q, 0), "sat": SUBSIDY}
+    rows.inscription(p, number=0, **shared)
+    rows.inscription(q, number=1, parents=ids(p, 0), **shared)
+    rows.inscription(q, 1, number=2, **shared)
+    rows.output(outpoint(q), 6, [[SUBSIDY, 2 * SUBSIDY]], ids(p, 0) + ids(q, 0, 1))
+    rows.case("an inscription tells both of its parents, in the order in which it names them")
+    rows.plain(6)
+    both = reveal(plain(0), 2 * envelope())
+    rows.extend(both)
+    child = envelope([(3, id_value(id_of(both), 1)), (3, id_value(id_of(both), 0)), (3, id_value(id_of(both), 1))])
+    tx = reveal(both, child)
+    rows.extend(tx)
+    rows.inscription(tx, height=7, number=2, parents=ids(both, 1, 0), place=at(tx, 0), sat=0)
+
+
+def moves(rows):
+    rows.case("an inscription in the fees is told where they went")
+    rows.plain(6)
+    paid = coinbase_to(6, [(2 * SUBSIDY, SHORT)])
+    one = transaction([spend(plain(0)), spend(plain(1), 0, envelope())], [(SUBSIDY, SHORT)])
+    two = reveal(plain(2), envelope())
+    rows.connects(paid, one, two)
+    rows.inscription(one, height=6, number=1, place=at(paid, SUBSIDY), sat=SUBSIDY)
+    rows.inscription(two, height=6, number=0, place=at(two, 0), sat=2 * SUBSIDY)
+    rows.case("a moved inscription is told where it is now, and that it is lost")
+    rows.plain(6)
+    tx = reveal(plain(1), envelope())
+    rows.extend(tx)
+    moved = reveal(tx, b"")
+    rows.extend(moved)
+    rows.inscription(tx, height=6, number=0, place=at(moved, 0), sat=SUBSIDY)
+    rows.extend(transaction([spend(moved)], [(0, SHORT)]))
+    rows.inscription(tx, height=6, number=0, place={"lost": 0}, sat=SUBSIDY)
+    rows.disconnects()
+    rows.inscription(tx, height=6, number=0, place=at(moved, 0), sat=SUBSIDY)
+    rows.disconnects()
+    rows.disconnects()
+    rows.missing(f"/inscription/{inscription(tx)}")
+    rows.says("/inscriptions/0", '{"ids":[],"more":false,"page":0}')
+
+
+def main():
+    rows = Queries()
+    for group in (chains, first_block, methods, satoshis, audits, edicts, terms, two_runes, names, pages_of_runes):
+        group(rows)
+    for group in (one_inscription, pages_of_inscriptions, texts, delegates, long_content, places, parents, moves):
+        group(rows)
+    rows.write("ox_query_rows")
+
+
+if __name__ == "__main__":
+    main()

@@ -1,0 +1,101 @@
+"""Rows of a program that reads them on standard input, and the lines that it has to print for them."""
+
+import pathlib
+
+from chain import SHORT, SUBSIDY, block_of, coinbase, transaction, twice
+
+CRATES = pathlib.Path(__file__).resolve().parents[1] / "crates"
+
+
+def plain(mark):
+    """A coinbase alone that claims the whole subsidy, which this number makes its own."""
+    return (coinbase(mark, SHORT),) * 2
+
+
+def id_of(tx):
+    return twice(tx[0])
+
+
+def shown(hash_):
+    """A hash as it is printed."""
+    return hash_[::-1].hex()
+
+
+def spend(tx, index=0, tapscript=b""):
+    """An input that spends a transaction's output by a tapscript."""
+    return id_of(tx), index, tapscript
+
+
+def reveal(tx, tapscript=b"", index=0):
+    """A transaction that spends an output by a tapscript into one of a subsidy."""
+    return transaction([spend(tx, index, tapscript)], [(SUBSIDY, SHORT)])
+
+
+def carry(tx, stone, tapscript=b""):
+    """A transaction that spends an output of a subsidy into the same and a script, in hex digits, behind it."""
+    return transaction([spend(tx, 0, tapscript)], [(SUBSIDY, SHORT), (0, bytes.fromhex(stone))])
+
+
+def outpoint(tx, index=0):
+    return f"{shown(id_of(tx))}:{index}"
+
+
+def inscription(tx, index=0):
+    """The id of one of a transaction's inscriptions."""
+    return f"{shown(id_of(tx))}i{index}"
+
+
+class Rows:
+    """The rows of a program, what it has to print, and the blocks of the chain that the last rows make."""
+
+    def __init__(self):
+        self.rows, self.tips = [], []
+
+    def row(self, row, *lines):
+        """A row, and the lines that have to be printed for it."""
+        self.rows.append((row, list(lines)))
+
+    def begin(self, what, row):
+        """What the rows behind show, and the row that begins a chain of no block for them."""
+        self.row(f"# {what}", f"# {what}")
+        self.row(row)
+        self.tips = []
+
+    def tip(self):
+        return self.tips[-1] if self.tips else bytes(32)
+
+    def ok(self):
+        """The line that answers an accepted command."""
+        return f"ok {len(self.tips) - 1} {shown(self.tips[-1])}" if self.tips else "ok empty"
+
+    def connects(self, *txs):
+        """A block of these transactions on the newest one is taken in."""
+        block, tip = block_of(self.tip(), txs)
+        self.takes(block.hex(), tip)
+
+    def takes(self, digits, tip):
+        """A block that is written so and has this hash is taken in."""
+        self.tips.append(tip)
+        self.row(f"block {digits}", self.ok())
+
+    def plain(self, height):
+        """Plain blocks up to below this height, whose outputs `plain` has by their heights."""
+        for mark in range(len(self.tips), height):
+            self.connects(plain(mark))
+
+    def extend(self, *txs):
+        """A block of a plain coinbase and these transactions is taken in."""
+        self.connects(plain(len(self.tips)), *txs)
+
+    def refuses(self, line, *txs):
+        """A block of these transactions on the newest one is refused by this line."""
+        self.row(f"block {block_of(self.tip(), txs)[0].hex()}", line)
+
+    def disconnects(self):
+        self.tips.pop()
+        self.row("disconnect", self.ok())
+
+    def write(self, crate):
+        """The program's files."""
+        (CRATES / crate / "stdin").write_text("".join(row + "\n" for row, _ in self.rows))
+        (CRATES / crate / "stdout").write_text("".join(line + "\n" for _, lines in self.rows for line in lines))
