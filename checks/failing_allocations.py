@@ -12,12 +12,15 @@ call of one number.
   0 where nothing was lacking, or 4 where the folder couldn't be opened for it and nothing was shown, and to have shown
   whole lines in front of those of an undisturbed run. The lines behind
   them are then applied with all memory, and have to be answered by the others and to leave the files as they should be.
-- Tests that take want of memory into account (`TESTS` below): one run of the test for each
-  allocation, which fails. It has to pass, or to end while its chain is made (src/blocks.rt, or an `expect` on memory).
+- crates/ox_index_rows/out/ox_index_rows over rows that connect blocks, take them back and lead both ways, each followed by
+  a dump of the whole index: one run for each allocation, which fails. Where a row finds no memory it has to say so, and the
+  index has to be as before; the same row then has to do as it does with all memory. Only where the rows themselves can't be
+  read the run may end at once, and has to print nothing.
 
 The last line says how many runs there were. The status is 1 at the first that isn't as it should be.
 """
 
+import functools
 import os
 import pathlib
 import shutil
@@ -25,13 +28,16 @@ import subprocess
 import sys
 import tempfile
 
-from chain import SHORT, SUBSIDY, block_with, chain, coinbase, envelope, line, revealing, twice
+from chain import SHORT, SUBSIDY, block_of, block_with, chain, coinbase, envelope, line, revealing, twice
+from index_rows import Full, Held, Indexes, runes_of_mainnet
 from kills import Failed, demand
+from rows import plain, shown
 
 HERE = pathlib.Path(__file__).resolve().parent
 CRATES = HERE.parent / "crates"
 PROGRAM = CRATES / "ox_main" / "out" / "ox_main"
-TESTS = [("ox_index_tests", "runes::a_block_that_found_no_memory_is_taken_in_later")]
+INDEXES = CRATES / "ox_index_rows" / "out" / "ox_index_rows"
+NONE = ["no memory"]
 COUNT_TO = 3
 
 
@@ -112,18 +118,128 @@ def apply_in_turn(program, memory, top):
     print(f"apply: {count} allocations")
 
 
-def test_in_turn(crate, test, memory):
-    """Each allocation of a test fails in turn."""
-    words = [CRATES / crate / "out" / f"{crate}_tests", test]
-    ran, count = memory.run(words, 0)
-    demand(ran.returncode == 0, f"{test}: {ran.stderr}")
-    passed = 0
+class Scarce(Indexes):
+    """Rows, in steps: the rows of each, what they print, and what else they may print where an allocation fails in them."""
+
+    def __init__(self):
+        super().__init__()
+        self.steps = []
+
+    def step(self, rows, others=()):
+        """Rows, each with its lines, and what they may print instead."""
+        printed = [lines for _, lines in rows]
+        others = list(others)
+        # a dump lacks its first line or its audit
+        for place, (row, lines) in enumerate(rows):
+            if row.startswith("dump"):
+                others += [printed[:place] + [lacks] + printed[place + 1 :] for lacks in lacking(lines)]
+        self.steps.append(([row for row, _ in rows], printed, others))
+
+    def dump_of(self, side, kept=None):
+        """The row that dumps an index, and its lines."""
+        held, looks = side
+        self.rows = []
+        self.dump(held, *looks, kept=kept)
+        return self.rows[0]
+
+    def takes(self, before, after, *txs, kept=None):
+        """A block is connected, and once more, which is refused; each is followed by a dump."""
+        block, tip = block_of(self.tip(), txs)
+        row = f"block {block.hex()}"
+        dump, was = self.dump_of(before, kept and kept[0])
+        unlinked = [f"refused 5 {shown(self.tip())} {shown(tip)}"]
+        self.tips.append(tip)
+        ok, is_now = [self.ok()], self.dump_of(after, kept and kept[1])[1]
+        others = [[NONE, was, ok, is_now]]
+        others += [[ok, is_now, lacks, is_now] for lacks in (NONE, ["refused, and no memory to say why"])]
+        self.step([(row, ok), (dump, is_now), (row, unlinked), (dump, is_now)], others)
+
+    def takes_back(self, before, after, kept):
+        """The newest block is taken back."""
+        dump, was = self.dump_of(before, kept[0])
+        self.tips.pop()
+        is_now = self.dump_of(after, kept[1])[1]
+        self.step([("disconnect", [self.ok()]), (dump, is_now)], [[NONE, was]])
+
+    def leads_both_ways(self, before, after, *txs):
+        """A block is taken in, back, in again and back."""
+        self.rows = []
+        self.both(before, after, *txs)
+        row, lines = self.rows[0]
+        dump, was = self.dump_of(before)
+        size = len(was)
+        ends = [place for place, line in enumerate(lines) if line in ("connected", "back", "again", "cancelled")]
+        parts = [lines[place + 1 : end] for place, end in zip(ends, [*ends[1:], len(lines)])]
+        there = parts[0]
+        assert parts == [there, was, there, was] and size == len(was)
+        # no memory to connect, to go back, to go on again, and for the dumps of each step
+        others = [[NONE, was], [["connected", *there, *NONE, *there], there], [["connected", *there, "back", *was, *NONE, *was], was]]
+        for place, part in zip(ends, parts):
+            others += [[lines[: place + 1] + lacks + lines[place + 1 + len(part) :], was] for lacks in lacking(part)]
+        self.step([(row, lines), (dump, was)], others)
+
+
+def lacking(lines):
+    """The lines of a dump that lacks memory for its first line or its audit."""
+    first = next(place for place, line in enumerate(lines) if line.startswith("ok "))
+    audit = next(place for place, line in enumerate(lines) if line.startswith("audit "))
+    end = next((place for place, line in enumerate(lines) if place > audit and not line.startswith("  ")), len(lines))
+    return [lines[:first] + NONE + lines[first + 1 :], lines[:audit] + NONE + lines[end:]]
+
+
+def scarce():
+    """Blocks that are connected, by themselves and in a chain of which two are kept, that are taken back, and that lead both
+    ways; and the rune with which mainnet begins."""
+    rows = Scarce()
+    four = Full(Indexes())
+    nothing = Held(), []
+    for begin, depth in (("live lab", None), ("chain lab 2", 2), ("live lab", None)):
+        rows.tips, rows.halving, rows.depth = [], 10, depth
+        rows.step([(begin, [])])
+        kept = functools.partial(min, depth) if depth else lambda count: None
+        for height in range(3):
+            rows.takes(nothing, nothing, plain(height), kept=depth and (kept(height), kept(height + 1)))
+        rows.takes(nothing, (four.before()[0], []), plain(3), four.tx, kept=depth and (2, 2))
+        if begin == "live lab" and len(rows.steps) > 10:
+            rows.leads_both_ways(four.before(), four.after(), plain(4), four.all)
+            continue
+        rows.takes(four.before(), four.after(), plain(4), four.all, kept=depth and (2, 2))
+        if depth:
+            rows.takes_back(four.after(), four.before(), (2, 1))
+    before = rows.dump_of((four.before()[0], []))
+    rows.tips, rows.halving = [], 210_000
+    after = rows.dump_of((Held(0, [], runes_of_mainnet()), []))
+    rows.step([("live mainnet", []), after], [[NONE, before[1]]])
+    return rows.steps
+
+
+def text_of(printed):
+    return "".join(line + "\n" for lines in printed for line in lines)
+
+
+def rows_in_turn(memory):
+    """Each allocation of a run over rows fails in turn."""
+    steps = scarce()
+    feed = "".join(row + "\n" for rows, _, _ in steps for row in rows).encode()
+    texts = [text_of(printed) for _, printed, _ in steps]
+    whole, may_be = "".join(texts), set()
+    for place, (_, _, others) in enumerate(steps):
+        before, behind = "".join(texts[:place]), "".join(texts[place + 1 :])
+        may_be |= {before + text_of(printed) + behind for printed in others}
+    ran, count = memory.run([INDEXES], 0, feed)
+    demand(ran.returncode == 0 and ran.stdout.decode() == whole, f"rows: {ran.returncode}: {ran.stdout} {ran.stderr}")
+    unread, lacked = 0, set()
     for fails in range(1, count + 1):
-        ran, _ = memory.run(words, fails)
-        passed += ran.returncode == 0
-        before = ran.stderr.startswith(b"memory") or b"stopped at src/blocks.rt" in ran.stdout
-        demand(ran.returncode == 0 or before, f"{test}, allocation {fails}: {ran.stdout} {ran.stderr}")
-    print(f"{test}: {count} allocations, {passed} runs pass, {count - passed} end before what is tested")
+        ran, _ = memory.run([INDEXES], fails, feed)
+        shown_ = ran.stdout.decode()
+        if ran.returncode != 0:
+            unread += 1
+            demand(shown_ == "", f"rows, allocation {fails}: status {ran.returncode} and {shown_}")
+        elif shown_ != whole:
+            lacked.add(shown_)
+            demand(shown_ in may_be, f"rows, allocation {fails}: {shown_}")
+    demand(len(lacked) > len(may_be) // 2, f"only {len(lacked)} replies tell want of memory")
+    print(f"rows: {count} allocations, {unread} runs end before a row, {len(lacked)} of {len(may_be)} replies tell want of memory")
 
 
 def main():
@@ -132,8 +248,7 @@ def main():
     memory = Memory(shim(top), top)
     try:
         apply_in_turn(program, memory, top)
-        for crate, test in TESTS:
-            test_in_turn(crate, test, memory)
+        rows_in_turn(memory)
     except Failed as failed:
         print(f"FAILED: {failed}; the files are in {top}")
         sys.exit(1)

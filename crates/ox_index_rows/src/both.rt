@@ -1,0 +1,39 @@
+//! A block by whose change an index goes back and on again.
+
+use crate::end::print_end;
+use crate::look::dump;
+use ox_index::Live;
+use std::alloc::Global;
+use std::io;
+
+/// Connects a block, goes back and on again by its change, and cancels that; each step with what
+/// the index holds then.
+pub fn lead_both_ways(
+    rt: &impl Print,
+    alloc: Global,
+    live: &mut Live,
+    block: &[u8],
+    words: &str,
+) -> io::Result<()> {
+    let change = match live.connect(block) {
+        Ok(change) => change,
+        Err(fault) => return print_end(rt, alloc, live, Some(fault)),
+    };
+    dump_step(rt, "connected", live, words)?;
+    let Ok(()) = live.back(&change) else {
+        return dump_step(rt, "no memory", live, words);
+    };
+    dump_step(rt, "back", live, words)?;
+    let Ok(()) = live.again(&change) else {
+        return dump_step(rt, "no memory", live, words);
+    };
+    dump_step(rt, "again", live, words)?;
+    live.cancel();
+    dump_step(rt, "cancelled", live, words)
+}
+
+/// What was done, and the whole index then.
+fn dump_step(rt: &impl Print, step: &str, live: &Live, words: &str) -> io::Result<()> {
+    println!(rt; "{step}")?;
+    dump(rt, live, words)
+}

@@ -1,0 +1,29 @@
+//! How a command ends, in a line.
+
+use crate::show::print_tip;
+use ox_index::{ConnectFault, Live};
+use ox_model::Refusal;
+use std::alloc::Global;
+use std::io;
+
+/// Why a command is refused.
+fn print_refusal(rt: &impl Print, alloc: Global, refusal: &Refusal) -> io::Result<()> {
+    match refusal.line(alloc) {
+        Ok(line) => print!(rt; "{}", str::from_utf8(line.as_slice()).unwrap_or("no text")),
+        Err(_) => println!(rt; "refused, and no memory to say why"),
+    }
+}
+
+/// How a command ended: the newest block then, why it is refused, or want of memory.
+pub fn print_end(
+    rt: &impl Print,
+    alloc: Global,
+    live: &Live,
+    fault: Option<ConnectFault>,
+) -> io::Result<()> {
+    match fault {
+        None => print_tip(rt, live),
+        Some(ConnectFault::Refused(refusal)) => print_refusal(rt, alloc, &refusal),
+        Some(ConnectFault::Memory) => println!(rt; "no memory"),
+    }
+}

@@ -1,0 +1,162 @@
+//! What indexes of chains hold, a row of standard input each:
+//!
+//! - `live NAME`: from here on an index of no block of this profile;
+//! - `chain NAME DEPTH`: from here on a chain of no block, of whose blocks at most so many are kept;
+//! - `block HEX`: connects the block that has these bytes, and says how that ended;
+//! - `disconnect`: takes a chain's newest block back, and says how that ended;
+//! - `both HEX WORD..`: connects a block to a live index, goes back by its change and on again, and
+//!   cancels that. It dumps the index after each step;
+//! - `dump WORD..`: prints the whole index, and looks each word up;
+//! - `look WORD..`: looks each word up (src/look.rt);
+//! - a row that begins with `#` is printed as it stands.
+//!
+//! Want of memory is said, and the next row is done: `no memory`, and the index is as before.
+//!
+//! The rows and what has to be printed are made by checks/index_rows.py, which makes blocks by the
+//! public formats and shares nothing with the library.
+#![tactic(auto)]
+
+mod both;
+mod end;
+mod look;
+mod show;
+
+use crate::both::lead_both_ways;
+use crate::end::print_end;
+use crate::look::{dump, print_looks};
+use ox_index::{Chain, ConnectFault, Live};
+use ox_sat::{ProfileName, profile_of};
+use std::alloc::Global;
+use std::io;
+
+/// An index by itself, or one whose newest blocks can be taken back.
+#[derive(Drop)]
+enum Index {
+    Live(Live),
+    Chain(Chain),
+}
+
+/// The index in memory.
+fn live_in(index: &Index) -> &Live {
+    match index {
+        Index::Live(live) => live,
+        Index::Chain(chain) => chain.live(),
+    }
+}
+
+/// An index of no block.
+fn new_live(alloc: Global, name: &str) -> Option<Index> {
+    let name = ProfileName::of_word(name.as_bytes())?;
+    Some(Index::Live(Live::new(alloc, &profile_of(name)).ok()?))
+}
+
+/// A chain of no block: a profile's word, and how many blocks are kept.
+fn new_chain(alloc: Global, words: &str) -> Option<Index> {
+    let (name, depth) = words.split_once(' ')?;
+    let name = ProfileName::of_word(name.as_bytes())?;
+    let depth: u16 = depth.parse().ok()?;
+    if depth == 0 || depth > 1000 {
+        return None;
+    }
+    Some(Index::Chain(Chain::new(alloc, &profile_of(name), depth).ok()?))
+}
+
+/// Begins anew with an index of no block.
+fn begin(rt: &impl Print, index: &mut Index, new: Option<Index>) -> io::Result<()> {
+    match new {
+        Some(new) => {
+            *index = new;
+            Ok(())
+        }
+        None => println!(rt; "no memory"),
+    }
+}
+
+/// Connects a block.
+fn connect(index: &mut Index, block: &[u8]) -> Option<ConnectFault> {
+    match index {
+        Index::Live(live) => live.connect(block).err(),
+        Index::Chain(chain) => chain.connect(block).err(),
+    }
+}
+
+/// Connects the block that is spelled so, and says how that ended.
+fn connect_row(rt: &impl Print, alloc: Global, index: &mut Index, digits: &str) -> io::Result<()> {
+    let Ok(block) = hex::decode(alloc, digits) else {
+        return println!(rt; "no memory");
+    };
+    let fault = connect(index, &block);
+    print_end(rt, alloc, live_in(index), fault)
+}
+
+/// Takes a chain's newest block back, and says how that ended.
+fn disconnect_row(rt: &impl Print, alloc: Global, index: &mut Index) -> io::Result<()> {
+    let Index::Chain(chain) = index else {
+        return println!(rt; "no chain");
+    };
+    let fault = chain.disconnect().err();
+    print_end(rt, alloc, chain.live(), fault)
+}
+
+/// Leads a live index both ways by the block that is spelled first.
+fn both_row(rt: &impl Print, alloc: Global, index: &mut Index, rest: &str) -> io::Result<()> {
+    let Index::Live(live) = index else {
+        return println!(rt; "no live index");
+    };
+    let (digits, words) = rest.split_once(' ').unwrap_or((rest, ""));
+    let Ok(block) = hex::decode(alloc, digits) else {
+        return println!(rt; "no memory");
+    };
+    lead_both_ways(rt, alloc, live, &block, words)
+}
+
+/// How many blocks a chain keeps.
+fn print_kept(rt: &impl Print, index: &Index) -> io::Result<()> {
+    let Index::Chain(chain) = index else {
+        return Ok(());
+    };
+    let about = chain.about();
+    print!(rt; "kept {} of {}, ", about.kept, about.depth)?;
+    println!(rt; "{} changes", chain.changes().len())
+}
+
+/// Dumps an index.
+fn dump_row(rt: &impl Print, index: &Index, words: &str) -> io::Result<()> {
+    print_kept(rt, index)?;
+    dump(rt, live_in(index), words)
+}
+
+/// Does what a row says.
+fn run(rt: &impl Print, alloc: Global, index: &mut Index, row: &str) -> io::Result<()> {
+    let (word, rest) = row.split_once(' ').unwrap_or((row, ""));
+    match word {
+        "#" => println!(rt; "{row}"),
+        "live" => begin(rt, index, new_live(alloc, rest)),
+        "chain" => begin(rt, index, new_chain(alloc, rest)),
+        "block" => connect_row(rt, alloc, index, rest),
+        "both" => both_row(rt, alloc, index, rest),
+        "disconnect" => disconnect_row(rt, alloc, index),
+        "dump" => dump_row(rt, index, rest),
+        "look" => print_looks(rt, live_in(index), rest),
+        _ => println!(rt; "no row"),
+    }
+}
+
+/// Does what each row says.
+fn run_all(rt: &impl Print, alloc: Global, index: &mut Index, text: &str) -> io::Result<()> {
+    for row in text.split('\n') {
+        if !row.is_empty() {
+            run(rt, alloc, index, row)?;
+        }
+    }
+    Ok(())
+}
+
+fn main(rt: HostRuntime) -> io::Result<()> {
+    let alloc = rt.alloc();
+    let text = io::read_to_string(alloc, rt.stdin())?;
+    match new_live(alloc, "lab") {
+        Some(mut index) => run_all(&rt, alloc, &mut index, text.as_str()),
+        None => println!(rt; "no memory"),
+    }
+}
