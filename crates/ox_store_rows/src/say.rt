@@ -1,0 +1,120 @@
+// What is printed.
+
+use crate::carry::{Moved, Outcome};
+use ox_model::{Place, Refusal, View};
+use ox_outside::Which;
+use ox_store::{MakeFault, OpenFault, Store};
+use std::alloc::Global;
+use std::io;
+
+/// Bytes in hex digits.
+pub fn print_hex(rt: &impl Print, bytes: &[u8]) -> io::Result<()> {
+    for byte in bytes {
+        print!(rt; "{byte:02x}")?;
+    }
+    Ok(())
+}
+
+/// A height and a hash, or that there is no block.
+fn print_tip(rt: &impl Print, tip: Option<(u32, [u8; 32])>) -> io::Result<()> {
+    match tip {
+        Some(newest) => {
+            print!(rt; "tip {} ", newest.0)?;
+            print_hex(rt, &newest.1)?;
+            println!(rt)
+        }
+        None => println!(rt; "no tip"),
+    }
+}
+
+/// What a command changes, and the newest block after it.
+fn print_moved(rt: &impl Print, moved: &Moved) -> io::Result<()> {
+    print!(rt; "{} ", if moved.is_back { "back" } else { "on" })?;
+    print_hex(rt, &moved.hash)?;
+    print!(rt; ", {} gone, {} came, ", moved.gone, moved.came)?;
+    print_tip(rt, moved.tip)
+}
+
+/// The line of a refusal.
+fn print_refusal(rt: &impl Print, alloc: Global, refusal: &Refusal) -> io::Result<()> {
+    match refusal.line(alloc) {
+        Ok(line) => print!(rt;
+            "{}",
+            std::str::from_utf8(line.as_slice()).unwrap_or("no text\n")
+        ),
+        Err(_) => println!(rt; "no memory"),
+    }
+}
+
+/// What came of a command.
+pub fn print_outcome(rt: &impl Print, alloc: Global, outcome: &Outcome) -> io::Result<()> {
+    match outcome {
+        Outcome::Done(moved) => print_moved(rt, moved),
+        Outcome::Failed(moved) => {
+            print_moved(rt, moved)?;
+            println!(rt; "a call failed")
+        }
+        Outcome::Refused(refusal) => print_refusal(rt, alloc, refusal),
+        Outcome::Memory => println!(rt; "no memory"),
+    }
+}
+
+/// The newest block of a store.
+fn tip_of(store: &Store) -> Option<(u32, [u8; 32])> {
+    let live = store.live();
+    let height = live.blocks().checked_sub(1)?;
+    let hash = live.hash_of(height)?;
+    Some((height, *hash))
+}
+
+/// What a store says of itself.
+fn print_store(rt: &impl Print, store: &Store) -> io::Result<()> {
+    let about = store.about();
+    print!(rt; "{} blocks, {} of ", store.live().blocks(), about.kept)?;
+    print!(rt; "{} kept, {} changes, ", about.depth, store.changes().len())?;
+    print!(rt;
+        "{} lost, {} commands, ",
+        store.live().lost(),
+        store.commands()
+    )?;
+    print_tip(rt, tip_of(store))
+}
+
+/// What a store says of itself, where it is left.
+pub fn print_left(rt: &impl Print, left: Option<Store>) -> io::Result<()> {
+    match left {
+        Some(store) => print_store(rt, &store),
+        None => Ok(()),
+    }
+}
+
+/// Why files aren't made a store.
+pub fn print_unmade(rt: &impl Print, fault: MakeFault) -> io::Result<()> {
+    match fault {
+        MakeFault::NotEmpty => println!(rt; "not empty"),
+        MakeFault::DiskFault => println!(rt; "a call failed"),
+        MakeFault::Memory => println!(rt; "no memory"),
+    }
+}
+
+/// Why files aren't opened.
+pub fn print_unopened(rt: &impl Print, fault: OpenFault) -> io::Result<()> {
+    match fault {
+        OpenFault::NotStore { file: Which::A, at } => println!(rt; "not a store: A at {at}"),
+        OpenFault::NotStore { file: Which::B, at } => println!(rt; "not a store: B at {at}"),
+        OpenFault::DiskFault => println!(rt; "a call failed"),
+        OpenFault::Memory => println!(rt; "no memory"),
+    }
+}
+
+/// Where a satoshi is.
+pub fn print_place(rt: &impl Print, place: Option<Place>) -> io::Result<()> {
+    match place {
+        Some(Place::Out { outpoint, offset }) => {
+            print_hex(rt, &outpoint.txid.0)?;
+            println!(rt; ":{} at {offset}", outpoint.index)
+        }
+        Some(Place::Lost { offset }) => println!(rt; "lost at {offset}"),
+        None => println!(rt; "nowhere"),
+    }
+}
