@@ -2,9 +2,12 @@
 //! hash map whose rows hold short scripts and single runs themselves. Where it is asked to, it keeps an ordered map of
 //! runs beside, by which a satoshi is found, and what the newest blocks changed, so that they can be taken back. It stops
 //! at the first block that `ox` would refuse.
+pub mod feed;
+
 use sha2::{Digest, Sha256};
 use std::collections::hash_map::Entry;
 use std::collections::{BTreeMap, HashMap, VecDeque};
+use std::fmt;
 use std::mem;
 use std::ops::Range;
 
@@ -147,6 +150,38 @@ pub struct Index {
     new_lost: Vec<Run>,
 }
 
+/// A hash as it is printed.
+pub struct Shown<'h>(pub &'h Hash);
+
+impl fmt::Display for Shown<'_> {
+    fn fmt(&self, f: &mut fmt::Formatter) -> fmt::Result {
+        let mut digits = [0; 64];
+        for (pair, byte) in digits.chunks_exact_mut(2).zip(self.0.iter().rev()) {
+            pair[0] = b"0123456789abcdef"[usize::from(byte >> 4)];
+            pair[1] = b"0123456789abcdef"[usize::from(byte & 15)];
+        }
+        f.write_str(std::str::from_utf8(&digits).unwrap())
+    }
+}
+
+impl fmt::Display for OutPoint {
+    fn fmt(&self, f: &mut fmt::Formatter) -> fmt::Result {
+        write!(f, "{}:{}", Shown(&self.txid), self.index)
+    }
+}
+
+/// The script of a witness by which a taproot output may be spent.
+pub fn tapscript<'b>(witness: &[&'b [u8]]) -> Option<&'b [u8]> {
+    let kept = match witness {
+        [front @ .., annex] if !front.is_empty() && annex.first() == Some(&0x50) => front,
+        all => all,
+    };
+    match kept {
+        [.., script, _] => Some(script),
+        _ => None,
+    }
+}
+
 fn twice(bytes: &[u8]) -> Hash {
     Sha256::digest(Sha256::digest(bytes)).into()
 }
@@ -238,6 +273,11 @@ impl<'a> Block<'a> {
         }
         (reader.at == bytes.len()).then_some(block)
     }
+
+    /// The items of the witness of an input, by its place among all inputs.
+    pub fn witness(&self, input: usize) -> &[&'a [u8]] {
+        &self.items[self.stacks[input].clone()]
+    }
 }
 
 fn root(mut row: Vec<Hash>) -> Hash {
@@ -267,6 +307,11 @@ impl Index {
     /// No blocks, with or without a locator, and of which so many can be taken back.
     pub fn new(has_locator: bool, depth: usize) -> Index {
         Index { locator: has_locator.then(Locator::default), depth, ..Index::default() }
+    }
+
+    /// How many satoshis are lost.
+    pub fn lost(&self) -> u64 {
+        self.lost.iter().map(|(_, count)| count).sum()
     }
 
     fn take(&mut self, at: &OutPoint) -> Option<Row> {

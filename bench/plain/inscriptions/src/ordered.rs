@@ -1,5 +1,6 @@
 //! `mark` with ordered maps by id and by parent, as the proved program has them, in place of hash maps.
-use crate::{id_of, row_of, Id, Numbers, Row, BATCH};
+use crate::{id_of, row_of, BATCH};
+use inscriptions::shelf::{Id, Numbers, Row};
 use std::collections::btree_map::{BTreeMap, Entry};
 
 #[derive(Default)]

@@ -2,12 +2,15 @@
 //! `serde_json`, and a reply owns its kind and body. On standard input stand blocks with their lengths before them, a
 //! length of 0, and then a path a line. The argument is how a body is made: by `structs` that are written at once, or as a
 //! `tree` of values first; or `show`, which prints each body.
-mod by_structs;
-mod by_tree;
+mod bodies;
 mod sat;
+mod text;
 
-use fold_blocks::{Hash, Index, OutPoint};
+use fold_blocks::feed::{next_block, Chain};
+use index::Whole;
+use inscriptions::shelf::Row;
 use matchit::Router;
+use serde::Serialize;
 use std::io::{Read, Write};
 
 #[derive(Clone, Copy, PartialEq, Eq)]
@@ -89,39 +92,82 @@ fn routes() -> Router<Route> {
     router
 }
 
-/// A hash as it is printed.
-fn shown(hash: &Hash) -> String {
-    let mut reversed = *hash;
-    reversed.reverse();
-    hex::encode(reversed)
+/// How a body is made of what it says.
+#[derive(Clone, Copy)]
+enum Way {
+    Structs,
+    Tree,
 }
 
-fn number(text: &str) -> Option<u64> {
-    let is_plain = text.bytes().all(|c| c.is_ascii_digit()) && (text == "0" || !text.starts_with('0'));
-    text.parse().ok().filter(|_| is_plain)
-}
-
-/// An outpoint whose digits are small letters.
-fn outpoint(text: &str) -> Option<OutPoint> {
-    let (digits, index) = text.split_once(':')?;
-    let mut txid = [0; 32];
-    hex::decode_to_slice(digits, &mut txid).ok()?;
-    if digits.bytes().any(|digit| digit.is_ascii_uppercase()) {
-        return None;
+impl Way {
+    fn body(self, said: &impl Serialize) -> Option<Vec<u8>> {
+        match self {
+            Way::Structs => serde_json::to_vec(said).ok(),
+            Way::Tree => serde_json::to_vec(&serde_json::to_value(said).ok()?).ok(),
+        }
     }
-    txid.reverse();
-    Some(OutPoint { txid, index: u32::try_from(number(index)?).ok()? })
+}
+
+/// The inscription whose content is shown for another one.
+fn shown_for<'w>(whole: &'w Whole, row: &'w Row) -> Option<&'w Row> {
+    match &row.delegate {
+        Some(id) => whole.shelf.find(id).map(|number| &whole.shelf.rows[number as usize]),
+        None => Some(row),
+    }
+}
+
+fn header(bytes: &Option<Box<[u8]>>) -> Option<Vec<u8>> {
+    let bytes = bytes.as_ref().filter(|bytes| !bytes.is_empty())?;
+    bytes.iter().all(|byte| (32..=126).contains(byte)).then(|| bytes.to_vec())
+}
+
+fn content(whole: &Whole, part: &str, close: bool) -> Option<Reply> {
+    let number = whole.shelf.find(&text::inscription_id(part)?)?;
+    let row = shown_for(whole, &whole.shelf.rows[number as usize])?;
+    Some(Reply {
+        status: 200,
+        kind: header(&row.content_type).unwrap_or_else(|| b"application/octet-stream".to_vec()),
+        encoding: header(&row.encoding),
+        body: row.body.as_ref()?.to_vec(),
+        close,
+    })
+}
+
+fn rune_named(whole: &Whole, part: &str) -> Option<usize> {
+    let by_name = |part: &str| whole.ledger.by_name(runes::name::read(part)?);
+    let with_id = text::rune_id(part).and_then(|id| whole.ledger.by_id(id));
+    with_id.or_else(|| match part.contains('%') {
+        true => by_name(&part.replace("%E2%80%A2", "\u{2022}")),
+        false => by_name(part),
+    })
+}
+
+/// The body of what a route says of its part, if that names something.
+fn body(whole: &Whole, about: &About, route: Route, part: &str, way: Way) -> Option<Vec<u8>> {
+    let hashes = whole.hashes();
+    match route {
+        Route::Audit => way.body(&bodies::audit(whole)),
+        Route::BlockHash => way.body(&bodies::block_hash(hashes, text::number(part)?)?),
+        Route::Inscription => way.body(&bodies::inscription(whole, &text::inscription_id(part)?)?),
+        Route::Inscriptions => way.body(&bodies::inscriptions(whole, text::number(part)?)),
+        Route::Output => way.body(&bodies::output(whole, text::outpoint(part)?)?),
+        Route::Rune => way.body(&bodies::rune(whole, rune_named(whole, part)?)),
+        Route::Runes => way.body(&bodies::runes(whole, text::number(part)?)),
+        Route::Sat => way.body(&bodies::sat(whole, text::number(part)?)?),
+        Route::Status => way.body(&bodies::status(hashes, about.depth, about.kept)),
+        Route::Connect | Route::Content | Route::Disconnect => None,
+    }
 }
 
 fn json_reply(status: u16, body: Vec<u8>, close: bool) -> Reply {
     Reply { status, kind: b"application/json".to_vec(), encoding: None, body, close }
 }
 
-/// The body of what a route says of its part, if that names something.
-type Body = fn(&Index, &About, Route, &str) -> Option<Vec<u8>>;
-
-fn answer(routes: &Router<Route>, index: &Index, about: &About, request: &Request, body_of: Body) -> Reply {
-    let error = |status: u16| json_reply(status, by_structs::error(status), request.close);
+fn answer(routes: &Router<Route>, whole: &Whole, about: &About, request: &Request, way: Way) -> Reply {
+    let error = |status: u16| {
+        let body = way.body(&bodies::Error { error: status }).unwrap_or_default();
+        json_reply(status, body, request.close)
+    };
     let Some(found) = std::str::from_utf8(&request.path).ok().and_then(|path| routes.at(path).ok()) else {
         return error(404);
     };
@@ -133,34 +179,29 @@ fn answer(routes: &Router<Route>, index: &Index, about: &About, request: &Reques
         return error(403);
     }
     let part = found.params.iter().next().map_or("", |(_, part)| part);
-    match body_of(index, about, route, part) {
-        Some(body) => json_reply(200, body, request.close),
-        None => error(404),
-    }
+    let reply = match route {
+        Route::Content => content(whole, part, request.close),
+        _ => body(whole, about, route, part, way).map(|body| json_reply(200, body, request.close)),
+    };
+    reply.unwrap_or_else(|| error(404))
 }
 
 fn main() {
     let kind = std::env::args().nth(1).unwrap_or_default();
-    let body_of: Body = if kind == "tree" { by_tree::body } else { by_structs::body };
+    let way = if kind == "tree" { Way::Tree } else { Way::Structs };
     let mut bytes = Vec::new();
     std::io::stdin().read_to_end(&mut bytes).unwrap();
-    let mut index = Index::new(true, 0);
+    let mut whole = Whole::new(0);
     let mut rest = bytes.as_slice();
-    loop {
-        let (head, behind) = rest.split_at(4);
-        let (block, behind) = behind.split_at(u32::from_le_bytes(head.try_into().unwrap()) as usize);
-        rest = behind;
-        if block.is_empty() {
-            break;
-        }
-        index.connect(block).expect("a block that is accepted");
+    while let Some(block) = next_block(&mut rest).filter(|block| !block.is_empty()) {
+        whole.connect(block).expect("a block that is accepted");
     }
     let routes = routes();
     let mut out = std::io::stdout().lock();
     let (mut replies, mut length) = (0, 0);
     for path in rest.split(|byte| *byte == b'\n').filter(|path| !path.is_empty()) {
         let request = Request { method: Method::Get, path: path.to_vec(), body: Vec::new(), close: false };
-        let reply = answer(&routes, &index, &ABOUT, &request, body_of);
+        let reply = answer(&routes, &whole, &ABOUT, &request, way);
         if kind == "show" {
             out.write_all(&reply.body).unwrap();
             out.write_all(b"\n").unwrap();

@@ -1,25 +1,15 @@
 //! The ledger: which runes there are, and which output holds how much of them, with a mark to go back to.
 use crate::stone::{decipher, Edict, Etching, Item, Items, RuneId, Stone};
-use std::collections::{BTreeMap, HashMap};
+use fold_blocks::{tapscript, Block, Hash, OutPoint, Output};
+use std::collections::{BTreeMap, HashMap, VecDeque};
+use std::mem;
+use std::ops::Range;
 
 const RESERVED: u128 = 6_402_364_363_415_443_603_228_541_259_936_211_926;
 
-#[derive(Clone, Copy, PartialEq, Eq, Hash)]
-pub struct OutPoint {
-    pub txid: [u8; 32],
-    pub index: u32,
-}
-
-pub struct Tx {
-    pub id: [u8; 32],
-    pub inputs: Vec<OutPoint>,
-    pub witnesses: Vec<Vec<Vec<u8>>>,
-    pub outputs: Vec<Vec<u8>>,
-}
-
 /// Amounts by rising ids, of which one takes no memory of its own.
 pub enum Balances {
-    One(RuneId, u128),
+    One((RuneId, u128)),
     Many(Box<[(RuneId, u128)]>),
 }
 
@@ -27,15 +17,15 @@ impl Balances {
     fn new(pool: &Pool) -> Option<Balances> {
         match pool.as_slice() {
             [] => None,
-            [(id, amount)] => Some(Balances::One(*id, *amount)),
+            [balance] => Some(Balances::One(*balance)),
             many => Some(Balances::Many(many.into())),
         }
     }
 
-    pub fn each(&self, mut act: impl FnMut(RuneId, u128)) {
+    pub fn as_slice(&self) -> &[(RuneId, u128)] {
         match self {
-            Balances::One(id, amount) => act(*id, *amount),
-            Balances::Many(many) => many.iter().for_each(|(id, amount)| act(*id, *amount)),
+            Balances::One(balance) => std::slice::from_ref(balance),
+            Balances::Many(many) => many,
         }
     }
 }
@@ -63,11 +53,55 @@ fn take(pool: &mut Pool, id: RuneId, most: u128) -> u128 {
 }
 
 pub struct Rune {
-    id: RuneId,
-    name: u128,
-    etching: Etching,
-    mints: u128,
+    pub id: RuneId,
+    pub name: u128,
+    pub etching: Etching,
+    pub etched_by: Hash,
+    pub mints: u128,
     pub burned: u128,
+}
+
+impl Rune {
+    /// What a mint gives at a height, if one is open.
+    pub fn minted(&self, height: u64) -> Option<u128> {
+        let terms = self.etching.terms?;
+        let offset = |offset: u64| self.id.block.saturating_add(offset);
+        let start = terms.height.0.max(terms.offset.0.map(offset)).unwrap_or(0);
+        let ends = [terms.height.1, terms.offset.1.map(offset)];
+        let end = ends.into_iter().flatten().min().unwrap_or(u64::MAX);
+        let is_open = height >= start && height < end && self.mints < terms.cap.unwrap_or(0);
+        is_open.then_some(terms.amount.unwrap_or(0))
+    }
+
+    /// What all mints gave.
+    pub fn all_minted(&self) -> u128 {
+        self.mints * self.etching.terms.and_then(|terms| terms.amount).unwrap_or(0)
+    }
+
+    /// What outputs hold, once a block has ended.
+    pub fn held(&self) -> u128 {
+        self.etching.premine + self.all_minted() - self.burned
+    }
+}
+
+/// A transaction, by its place in a block.
+struct Tx<'a> {
+    block: &'a Block<'a>,
+    place: usize,
+}
+
+impl Tx<'_> {
+    fn id(&self) -> Hash {
+        self.block.txs[self.place].id
+    }
+
+    fn inputs(&self) -> Range<usize> {
+        self.block.txs[self.place].inputs.clone()
+    }
+
+    fn outputs(&self) -> &[Output<'_>] {
+        &self.block.outputs[self.block.txs[self.place].outputs.clone()]
+    }
 }
 
 enum Change {
@@ -82,34 +116,26 @@ pub struct Ledger {
     ids: HashMap<RuneId, usize>,
     names: HashMap<u128, usize>,
     due: BTreeMap<u32, Balances>,
-    coinbase: [u8; 32],
-    mark: Option<usize>,
+    coinbase: Hash,
+    /// How many runes there were when the block began, and what it has changed.
+    mark: usize,
     changes: Vec<Change>,
+    /// The same of blocks that are kept, the newest first.
+    kept: VecDeque<(usize, Vec<Change>)>,
 }
 
 fn is_burned(script: &[u8]) -> bool {
     script.first() == Some(&0x6a)
 }
 
-fn tapscript(witness: &[Vec<u8>]) -> Option<&[u8]> {
-    let kept = match witness {
-        [front @ .., annex] if !front.is_empty() && annex.first() == Some(&0x50) => front,
-        all => all,
-    };
-    match kept {
-        [.., script, _] => Some(script),
-        _ => None,
-    }
-}
-
 impl Ledger {
     pub fn begin(&mut self) {
         self.changes.clear();
-        self.mark = Some(self.runes.len());
+        self.mark = self.runes.len();
     }
 
+    /// Goes back to where the block began.
     pub fn cancel(&mut self) {
-        let count = self.mark.take().expect("a mark");
         while let Some(change) = self.changes.pop() {
             match change {
                 Change::Balance(at, Some(held)) => drop(self.balances.insert(at, held)),
@@ -117,16 +143,38 @@ impl Ledger {
                 Change::Counts(at, mints, burned) => (self.runes[at].mints, self.runes[at].burned) = (mints, burned),
             }
         }
-        for rune in self.runes.drain(count..) {
+        for rune in self.runes.drain(self.mark..) {
             self.ids.remove(&rune.id);
             self.names.remove(&rune.name);
         }
     }
 
-    fn note(&mut self, change: Change) {
-        if self.mark.is_some() {
-            self.changes.push(change);
+    /// Keeps what the block changed, and so many blocks at most.
+    pub fn keep(&mut self, depth: usize) {
+        self.kept.truncate(depth.saturating_sub(1));
+        if depth > 0 {
+            self.kept.push_front((self.mark, mem::take(&mut self.changes)));
         }
+    }
+
+    /// Takes back the newest block, if it is kept.
+    pub fn disconnect(&mut self) -> Option<()> {
+        (self.mark, self.changes) = self.kept.pop_front()?;
+        self.cancel();
+        Some(())
+    }
+
+    pub fn by_id(&self, id: RuneId) -> Option<usize> {
+        self.ids.get(&id).copied()
+    }
+
+    pub fn by_name(&self, name: u128) -> Option<usize> {
+        self.names.get(&name).copied()
+    }
+
+    /// What an output holds.
+    pub fn balances(&self, at: &OutPoint) -> &[(RuneId, u128)] {
+        self.balances.get(at).map_or(&[], Balances::as_slice)
     }
 
     fn count(&mut self, at: usize, mints: u128, burned: u128) {
@@ -134,7 +182,7 @@ impl Ledger {
         let change = Change::Counts(at, rune.mints, rune.burned);
         rune.mints += mints;
         rune.burned += burned;
-        self.note(change);
+        self.changes.push(change);
     }
 
     fn burn(&mut self, id: RuneId, amount: u128) {
@@ -143,8 +191,8 @@ impl Ledger {
 
     fn take_balance(&mut self, at: OutPoint, pool: &mut Pool) {
         if let Some(held) = self.balances.remove(&at) {
-            held.each(|id, amount| add(pool, id, amount));
-            self.note(Change::Balance(at, Some(held)));
+            held.as_slice().iter().for_each(|(id, amount)| add(pool, *id, *amount));
+            self.changes.push(Change::Balance(at, Some(held)));
         }
     }
 
@@ -160,25 +208,17 @@ impl Ledger {
         };
         let mut displaced = Pool::new();
         if let Some(earlier) = &earlier {
-            earlier.each(|id, amount| add(&mut displaced, id, amount));
+            earlier.as_slice().iter().for_each(|(id, amount)| add(&mut displaced, *id, *amount));
         }
-        self.note(Change::Balance(at, earlier));
+        self.changes.push(Change::Balance(at, earlier));
         self.burn_all(displaced);
     }
 
     fn mint(&mut self, id: RuneId, height: u64) -> u128 {
         let Some(&at) = self.ids.get(&id) else { return 0 };
-        let rune = &self.runes[at];
-        let Some(terms) = rune.etching.terms else { return 0 };
-        let offset = |offset: u64| rune.id.block.saturating_add(offset);
-        let start = terms.height.0.max(terms.offset.0.map(offset)).unwrap_or(0);
-        let ends = [terms.height.1, terms.offset.1.map(offset)];
-        let end = ends.into_iter().flatten().min().unwrap_or(u64::MAX);
-        if height < start || height >= end || rune.mints >= terms.cap.unwrap_or(0) {
-            return 0;
-        }
+        let Some(amount) = self.runes[at].minted(height) else { return 0 };
         self.count(at, 1, 0);
-        terms.amount.unwrap_or(0)
+        amount
     }
 
     /// Whether an input's tapscript pushes the name, and the output that it spends is old enough. Here each spent output
@@ -187,7 +227,8 @@ impl Ledger {
         let bytes = name.to_le_bytes();
         let commitment = &bytes[..16 - name.leading_zeros() as usize / 8];
         let pushes = |script: &[u8]| Items(script).any(|item| matches!(item, Some(Item::Push(push)) if push == commitment));
-        height + 1 >= 6 && tx.witnesses.iter().filter_map(|witness| tapscript(witness)).any(pushes)
+        let witness = |input| tx.block.witness(input);
+        height + 1 >= 6 && tx.inputs().filter_map(|input| tapscript(witness(input))).any(pushes)
     }
 
     fn etch(&mut self, etching: Etching, tx: &Tx, id: RuneId) -> bool {
@@ -203,17 +244,19 @@ impl Ledger {
         };
         self.ids.insert(id, self.runes.len());
         self.names.insert(name, self.runes.len());
-        self.runes.push(Rune { id, name, etching, mints: 0, burned: 0 });
+        self.runes.push(Rune { id, name, etching, etched_by: tx.id(), mints: 0, burned: 0 });
         true
     }
 
-    pub fn turn(&mut self, height: u64, place: u32, tx: &Tx) {
+    /// Does what the transaction at a place of a block says.
+    pub fn turn(&mut self, height: u64, place: u32, block: &Block) {
+        let tx = &Tx { block, place: place as usize };
         let mut pool = Pool::new();
-        for input in &tx.inputs {
-            self.take_balance(*input, &mut pool);
+        for input in tx.inputs() {
+            self.take_balance(block.inputs[input], &mut pool);
         }
-        let outputs = tx.outputs.len();
-        let stone = tx.outputs.iter().find_map(|script| decipher(script, outputs as u32));
+        let outputs = tx.outputs().len();
+        let stone = tx.outputs().iter().find_map(|output| decipher(output.script, outputs as u32));
         let id = RuneId { block: height, tx: place };
         let mut given: Vec<Pool> = Vec::new();
         let mut pointer = None;
@@ -226,18 +269,19 @@ impl Ledger {
                 if let Some(Etching { name: Some(name), .. }) = stone.etching {
                     self.etch(Etching { name: Some(name), ..Etching::default() }, tx, id);
                 }
-                self.burn_all(std::mem::take(&mut pool));
+                self.burn_all(mem::take(&mut pool));
             } else {
                 pointer = stone.pointer;
                 let is_etched = stone.etching.is_some_and(|etching| self.etch(etching, tx, id));
                 if is_etched {
                     add(&mut pool, id, stone.etching.unwrap().premine);
                 }
-                given = deal(&mut pool, &stone, is_etched.then_some(id), &tx.outputs);
+                given = deal(&mut pool, &stone, is_etched.then_some(id), tx.outputs());
             }
         }
         if !pool.is_empty() {
-            let to = pointer.map(|at| at as usize).or_else(|| tx.outputs.iter().position(|script| !is_burned(script)));
+            let first = || tx.outputs().iter().position(|output| !is_burned(output.script));
+            let to = pointer.map(|at| at as usize).or_else(first);
             match to {
                 Some(to) => {
                     given.resize_with(outputs.max(given.len()), Pool::new);
@@ -251,13 +295,13 @@ impl Ledger {
 
     fn place_all(&mut self, is_coinbase: bool, tx: &Tx, given: Vec<Pool>) {
         if is_coinbase {
-            self.coinbase = tx.id;
+            self.coinbase = tx.id();
         }
         let mut given = given.into_iter();
-        for (index, script) in tx.outputs.iter().enumerate() {
+        for (index, output) in tx.outputs().iter().enumerate() {
             let pool = given.next().unwrap_or_default();
-            let at = OutPoint { txid: tx.id, index: index as u32 };
-            if is_burned(script) {
+            let at = OutPoint { txid: tx.id(), index: index as u32 };
+            if is_burned(output.script) {
                 self.burn_all(pool);
                 self.place_nothing(at, is_coinbase);
             } else if is_coinbase {
@@ -279,14 +323,14 @@ impl Ledger {
     }
 
     pub fn end(&mut self) {
-        for (index, held) in std::mem::take(&mut self.due) {
+        for (index, held) in mem::take(&mut self.due) {
             self.place(OutPoint { txid: self.coinbase, index }, Some(held));
         }
     }
 }
 
 /// Deals a pool by edicts. What is left stays in the pool.
-fn deal(pool: &mut Pool, stone: &Stone, etched: Option<RuneId>, outputs: &[Vec<u8>]) -> Vec<Pool> {
+fn deal(pool: &mut Pool, stone: &Stone, etched: Option<RuneId>, outputs: &[Output]) -> Vec<Pool> {
     let mut given = vec![Pool::new(); outputs.len()];
     for Edict { id, amount, output } in &stone.edicts {
         let id = if *id == (RuneId { block: 0, tx: 0 }) { etched } else { Some(*id) };
@@ -302,14 +346,14 @@ fn deal(pool: &mut Pool, stone: &Stone, etched: Option<RuneId>, outputs: &[Vec<u
     given
 }
 
-fn deal_to_all(pool: &mut Pool, id: RuneId, amount: u128, outputs: &[Vec<u8>], given: &mut [Pool]) {
-    let open = outputs.iter().filter(|script| !is_burned(script)).count() as u128;
+fn deal_to_all(pool: &mut Pool, id: RuneId, amount: u128, outputs: &[Output], given: &mut [Pool]) {
+    let open = outputs.iter().filter(|output| !is_burned(output.script)).count() as u128;
     let left = pool.iter().find(|held| held.0 == id).map_or(0, |held| held.1);
     if open == 0 || left == 0 {
         return;
     }
     let mut remainder = left % open;
-    for (pool_there, _) in given.iter_mut().zip(outputs).filter(|(_, script)| !is_burned(script)) {
+    for (pool_there, _) in given.iter_mut().zip(outputs).filter(|(_, output)| !is_burned(output.script)) {
         let share = if amount > 0 { amount } else { left / open + u128::from(remainder > 0) };
         remainder = remainder.saturating_sub(1);
         let taken = take(pool, id, share);

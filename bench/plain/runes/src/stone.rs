@@ -1,5 +1,6 @@
 //! Runestones: what an output's script says.
 use std::collections::HashMap;
+use std::fmt;
 
 #[derive(Clone, Copy, PartialEq, Eq, Hash, PartialOrd, Ord, Debug)]
 pub struct RuneId {
@@ -17,6 +18,9 @@ pub struct Terms {
 
 #[derive(Clone, Copy, Default)]
 pub struct Etching {
+    pub divisibility: u8,
+    pub spacers: u32,
+    pub symbol: Option<char>,
     pub name: Option<u128>,
     pub premine: u128,
     pub terms: Option<Terms>,
@@ -37,6 +41,12 @@ pub struct Stone {
 }
 
 const CENOTAPH: Stone = Stone { etching: None, mint: None, pointer: None, edicts: Vec::new(), is_cenotaph: true };
+
+impl fmt::Display for RuneId {
+    fn fmt(&self, f: &mut fmt::Formatter) -> fmt::Result {
+        write!(f, "{}:{}", self.block, self.tx)
+    }
+}
 
 /// A script's items: a push or an opcode. The last is `None` where a push is cut.
 pub enum Item<'s> {
@@ -149,13 +159,14 @@ fn terms_of(fields: &mut Fields) -> Terms {
 }
 
 fn etching_of(fields: &mut Fields, has_terms: bool) -> Etching {
-    fields.take(1, |value| (value <= 38).then_some(()));
-    fields.take(3, |value| (value < 1 << 27).then_some(()));
-    fields.take(5, |value| char::from_u32(u32::try_from(value).ok()?));
-    let name = fields.take(4, Some);
-    let premine = fields.take(6, Some).unwrap_or(0);
-    let terms = has_terms.then(|| terms_of(fields));
-    Etching { name, premine, terms }
+    Etching {
+        divisibility: fields.take(1, |value| (value <= 38).then_some(value as u8)).unwrap_or(0),
+        spacers: fields.take(3, |value| (value < 1 << 27).then_some(value as u32)).unwrap_or(0),
+        symbol: fields.take(5, |value| char::from_u32(u32::try_from(value).ok()?)),
+        name: fields.take(4, Some),
+        premine: fields.take(6, Some).unwrap_or(0),
+        terms: has_terms.then(|| terms_of(fields)),
+    }
 }
 
 fn supply_fits(etching: &Etching) -> bool {

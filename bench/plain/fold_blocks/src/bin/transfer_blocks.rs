@@ -1,5 +1,6 @@
 //! Moves the satoshis of blocks that stand on standard input, each with its length before it, and then looks for as many
 //! satoshis as the argument says, in an ordered map of runs that is made at the end, if there are any.
+use fold_blocks::feed::next_block;
 use fold_blocks::{Block, Hash, Index, Locator, SUBSIDY};
 use std::io::Read;
 
@@ -25,11 +26,9 @@ fn main() {
     std::io::stdin().read_to_end(&mut feed).unwrap();
     let mut index = Index::default();
     let mut rest = feed.as_slice();
-    while let Some((length, behind)) = rest.split_first_chunk() {
-        let (block, behind) = behind.split_at(u32::from_le_bytes(*length) as usize);
+    while let Some(block) = next_block(&mut rest) {
         index.transfer(&Block::read(block).expect("a block")).expect("a block that is accepted");
         index.hashes.push(Hash::default());
-        rest = behind;
     }
     let height = index.hashes.len() as u64;
     let sum = if count == 0 { 0 } else { look(&locator_of(&index), height, count) };

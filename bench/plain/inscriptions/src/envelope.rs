@@ -1,5 +1,5 @@
 //! Envelopes in a tapscript, and what they say.
-use crate::shelf::Id;
+use crate::shelf::{Id, Row};
 use std::collections::HashSet;
 
 enum Item<'s> {
@@ -96,32 +96,37 @@ fn id(value: &[u8]) -> Option<Id> {
     Some(Id { txid: *txid, index: number(index)? as u32 })
 }
 
-#[derive(Default)]
-pub struct Says {
-    pub content_type: Option<Box<[u8]>>,
-    pub body: Option<Box<[u8]>>,
-    pub metadata: Option<Box<[u8]>>,
-    pub metaprotocol: Option<Box<[u8]>>,
-    pub encoding: Option<Box<[u8]>>,
-    pub pointer: Option<Box<[u8]>>,
-    pub delegate: Option<Id>,
-    pub parents: Vec<Id>,
-    pub marks: u16,
-}
-
 const UNKNOWN_EVEN: u16 = 1;
 const REPEAT: u16 = 2;
 const INCOMPLETE: u16 = 4;
 const POINTER: u16 = 32;
 const NUMBER: u16 = 64;
 
-/// What an envelope says.
-pub fn parse(pushes: &Pushes) -> Says {
+/// The tags of an envelope.
+#[derive(Default)]
+struct Tags<'s> {
+    short: [u64; 4],
+    long: HashSet<&'s [u8]>,
+}
+
+impl<'s> Tags<'s> {
+    /// Whether a tag is a new one.
+    fn insert(&mut self, tag: &'s [u8]) -> bool {
+        let [byte] = tag else { return self.long.insert(tag) };
+        let (word, bit) = (&mut self.short[usize::from(byte >> 6)], 1 << (byte & 63));
+        let is_new = *word & bit == 0;
+        *word |= bit;
+        is_new
+    }
+}
+
+/// What an envelope says, as a row that isn't on a satoshi yet and names its parents.
+pub fn parse(pushes: &Pushes) -> Row {
     let items = &pushes.items;
     let body = (0..items.len()).step_by(2).find(|at| items[*at].is_empty());
     let fields = items[..body.unwrap_or(items.len())].chunks(2);
-    let mut says = Says { body: body.map(|at| items[at + 1..].concat().into()), ..Says::default() };
-    let (mut known, mut metadata) = (HashSet::new(), None::<Vec<u8>>);
+    let mut says = Row { body: body.map(|at| items[at + 1..].concat().into()), ..Row::default() };
+    let (mut known, mut metadata) = (Tags::default(), None::<Vec<u8>>);
     for field in fields {
         let [tag, value] = *field else {
             says.marks |= INCOMPLETE;
