@@ -12,65 +12,24 @@ without envelopes, and with and without runestones. Nothing here is proved. Buil
 says.
 """
 
-import concurrent.futures
 import pathlib
 import random
-import struct
 import sys
 import tempfile
 
-from fold_blocks import PROGRAMS, TOP, root, run, size, twice, write_part
+from blocks import SUBSIDY, block, coinbase, connect, key, push, runestone, tx
+from runs import in_another_process, least, plain, proved, write_part
 
-PLAIN = TOP / "bench" / "plain" / "index" / "target" / "release" / "index"
-RUNS = 3
+PROGRAMS = {"ox": proved("ox_main"), "plain": plain("index")}
 EACH = 100
-SUBSIDY = 5_000_000_000
 TYPE = b"text/plain;charset=utf-8"
-
-
-def varint(n):
-    out = b""
-    while n > 127:
-        out += bytes([n & 127 | 128])
-        n >>= 7
-    return out + bytes([n])
-
-
-def runestone(*integers):
-    payload = b"".join(varint(n) for n in integers)
-    return b"\x6a\x5d" + bytes([len(payload)]) + payload
-
-
-def key(chance):
-    return b"\0\x14" + chance.randbytes(20)
-
-
-def bodies(inputs, outputs):
-    """Inputs and outputs as they are spelled."""
-    spelled = size(len(inputs)) + b"".join(txid + struct.pack("<I", at) + b"\0" + b"\xff" * 4 for txid, at in inputs)
-    return spelled + size(len(outputs)) + b"".join(struct.pack("<Q", value) + size(len(s)) + s for value, s in outputs)
-
-
-def bare(inputs, outputs):
-    """A transaction without a witness, and its id."""
-    tx = b"\2\0\0\0" + bodies(inputs, outputs) + bytes(4)
-    return tx, twice(tx)
-
-
-def coinbase(chance, height, values):
-    outputs = b"".join(struct.pack("<Q", value) + b"\x16" + key(chance) for value in values)
-    tx = b"\1\0\0\0\1" + bytes(32) + b"\xff" * 4 + b"\4" + struct.pack("<I", height) + b"\xff" * 4
-    tx += size(len(values)) + outputs + bytes(4)
-    return tx, twice(tx)
 
 
 def revealing(chance, origin, value, has_envelope):
     """A transaction whose witness has a script, with an envelope or with as many bytes in a push, and a control block."""
-    inner = b"\1\1" + bytes([len(TYPE)]) + TYPE + b"\0" + bytes([60]) + chance.randbytes(60)
-    script = b"\0\x63\3ord" + inner + b"\x68" if has_envelope else b"\x4c" + bytes([len(inner) + 6]) + bytes(len(inner) + 6)
-    body = bodies([origin], [(value, key(chance))])
-    witness = b"\2" + size(len(script)) + script + b"\x21\xc0" + bytes(32)
-    return b"\2\0\0\0\0\1" + body + witness + bytes(4), twice(b"\2\0\0\0" + body + bytes(4))
+    inner = b"\1\1" + push(TYPE) + b"\0" + push(chance.randbytes(60))
+    script = b"\0\x63\3ord" + inner + b"\x68" if has_envelope else push(bytes(len(inner) + 6))
+    return tx([origin], [(value, key(chance))], witness=[script, b"\xc0" + bytes(32)])
 
 
 class Chain:
@@ -87,9 +46,9 @@ class Chain:
         each = 10**30 // EACH
         outputs = [(value, key(self.chance)) for _, value, _ in self.held]
         stone = runestone(2, 1, 6, 10**30, 0, 0, 0, 0, EACH + 1) if self.runes else b"\x6a"
-        tx, txid = bare([origin for origin, _, _ in self.held], [*outputs, (0, stone)])
+        body, txid = tx([origin for origin, _, _ in self.held], [*outputs, (0, stone)])
         self.held = [((txid, at), value, each) for at, (value, _) in enumerate(outputs)]
-        return tx, txid
+        return body, txid
 
     def split(self, new):
         """One output with a balance, spent into two."""
@@ -100,15 +59,15 @@ class Chain:
         held.pop()
         # the rune of block 1, transaction 1
         stone = runestone(0, 1, 1, amount // 2, 1) if self.runes else b"\x6a"
-        tx, txid = bare([origin], [(value - value // 2, key(chance)), (value // 2, key(chance)), (0, stone)])
+        body, txid = tx([origin], [(value - value // 2, key(chance)), (value // 2, key(chance)), (0, stone)])
         new += [((txid, 0), value - value // 2, amount - amount // 2), ((txid, 1), value // 2, amount // 2)]
-        return tx, txid
+        return body, txid
 
-    def block(self, height):
+    def txs(self, height):
         """The transactions of the block at this height, with their ids."""
         count = 2 * EACH if height == 0 else EACH
         values = [SUBSIDY // count] * count
-        txs, new = [coinbase(self.chance, height, values)], []
+        txs, new = [coinbase(height, [(value, key(self.chance)) for value in values])], []
         if height == 1:
             txs.append(self.etch())
         elif height > 1:
@@ -125,36 +84,14 @@ def write_chain(path, count, reveals=True, runes=True):
     chain, previous, ends = Chain(reveals, runes), bytes(32), []
     with open(path, "wb") as feed:
         for height in range(count):
-            txs = chain.block(height)
-            header = b"\1\0\0\0" + previous + root([txid for _, txid in txs]) + struct.pack("<III", height, 0, 0)
-            previous = twice(header)
-            block = header + size(len(txs)) + b"".join(tx for tx, _ in txs)
-            feed.write(b"connect " + block.hex().encode() + b"\n")
+            body, previous = block(previous, height, chain.txs(height))
+            feed.write(connect(body))
             ends.append(feed.tell())
     return ends
 
 
 def commands(folder):
-    return {"ox": [PROGRAMS["ox"], folder, "fold", "regtest"], "plain": [PLAIN]}
-
-
-def measure(feed, count, folder, runs=RUNS):
-    """The least of the runs of each program over a feed of so many blocks: processor seconds, and the most memory."""
-    taken = {name: [] for name in commands(folder)}
-    for _ in range(runs):
-        for name, command in commands(folder).items():
-            taken[name].append(run(command, folder, feed))
-    answers = {shown for rows in taken.values() for _, _, shown in rows}
-    if len(answers) != 1 or answers.pop().count(b"\n") != count:
-        sys.exit("the answers differ")
-    return {name: min(rows)[:2] for name, rows in taken.items()}
-
-
-def in_another_process(call, *given):
-    """Answers what a call answers in a process of its own, since a child's greatest memory is never below that of its
-    parent."""
-    with concurrent.futures.ProcessPoolExecutor(1) as other:
-        return other.submit(call, *given).result()
+    return {"ox": [PROGRAMS["ox"], folder, "fold", "regtest"], "plain": [PROGRAMS["plain"]]}
 
 
 def tell_memory(folder, count):
@@ -163,7 +100,8 @@ def tell_memory(folder, count):
     for kind in ((True, True), (False, True), (True, False)):
         feed = folder / "feed"
         in_another_process(write_chain, feed, count, *kind)
-        most[kind] = {name: memory for name, (_, memory) in measure(feed, count, folder, 1).items()}
+        rows = least(commands(folder), feed, runs=1, lines=count)
+        most[kind] = {name: memory for name, (_, memory) in rows.items()}
     for name in commands(folder):
         whole = most[True, True][name]
         inscription = (whole - most[False, True][name]) / (EACH * (count - 1))
@@ -181,7 +119,8 @@ def main():
         seconds = {}
         for count in (tenth, most - tenth, most):
             write_part(whole, part, ends[count - 1])
-            seconds[count] = {name: it for name, (it, _) in measure(part, count, folder).items()}
+            rows = least(commands(folder), part, lines=count)
+            seconds[count] = {name: it for name, (it, _) in rows.items()}
         for count in (tenth, most):
             for name, it in seconds[count].items():
                 print(f"{count:6} blocks, {name:5}: {count / it:8.0f} blocks a second")

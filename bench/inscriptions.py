@@ -9,41 +9,17 @@ maps too. Then it has a block reveal what one transaction of 2,000 and of 20,000
 for each two inputs, or five parents for each two. It prints the processor time of the runs that took least of three,
 and the memory that a row takes. Build both programs first, as bench/README.md says.
 """
-import os
-import pathlib
-import subprocess
+from runs import least, plain, proved
 
-TOP = pathlib.Path(__file__).resolve().parent.parent
-PROGRAMS = {
-    "proved": TOP / "crates" / "ox_inscribe_speed" / "out" / "ox_inscribe_speed",
-    "plain": TOP / "bench" / "plain" / "inscriptions" / "target" / "release" / "inscriptions",
-}
-RUNS = 3
+PROGRAMS = {"proved": proved("ox_inscribe_speed"), "plain": plain("inscriptions")}
 LOOKS = 1
 MARKS = 500
 REVEALS = 10
 
 
-def run(program, kind, count, times):
-    """Processor seconds, the most memory in bytes, and what was answered."""
-    child = subprocess.Popen([program, kind, str(count), str(times)], stdout=subprocess.PIPE)
-    answer = child.stdout.read()
-    _, status, usage = os.wait4(child.pid, 0)
-    child.returncode = os.waitstatus_to_exitcode(status)
-    assert child.returncode == 0, child.args
-    return usage.ru_utime + usage.ru_stime, usage.ru_maxrss * 1024, answer
-
-
-def least(kind, count, times, programs=PROGRAMS):
+def measure(kind, count, times, programs=PROGRAMS):
     """The seconds and the memory of each program."""
-    taken, answers = {name: [] for name in programs}, set()
-    for _ in range(RUNS):
-        for name, program in programs.items():
-            seconds, memory, answer = run(program, kind, count, times)
-            taken[name].append((seconds, memory))
-            answers.add(answer)
-    assert len(answers) == 1, answers
-    return {name: min(runs) for name, runs in taken.items()}
+    return least({name: [program, kind, str(count), str(times)] for name, program in programs.items()})
 
 
 def tell(what, unit, proved, plain):
@@ -53,22 +29,22 @@ def tell(what, unit, proved, plain):
 def ordered(count):
     """The milliseconds of a mark, 1,000 rows more and back in plain Rust with ordered maps."""
     plain = {"plain": PROGRAMS["plain"]}
-    filled, marked = (least("ordered", count, times, plain)["plain"][0] for times in (0, MARKS))
+    filled, marked = (measure("ordered", count, times, plain)["plain"][0] for times in (0, MARKS))
     return (marked - filled) / MARKS * 1e3
 
 
 def reveals(kind, what, each):
     for inputs in (2_000, 20_000):
-        made, revealed = least(kind, inputs, 0), least(kind, inputs, REVEALS)
+        made, revealed = measure(kind, inputs, 0), measure(kind, inputs, REVEALS)
         tell(f"{inputs:,} inputs, {inputs // 2 * each:,} {what}", "milliseconds",
              *((revealed[name][0] - made[name][0]) / REVEALS * 1e3 for name in PROGRAMS))
 
 
 def main():
     for count in (100_000, 1_000_000):
-        filled = least("look", count, 0)
-        looked = least("look", count, LOOKS)
-        marked = least("mark", count, MARKS)
+        filled = measure("look", count, 0)
+        looked = measure("look", count, LOOKS)
+        marked = measure("mark", count, MARKS)
         proved, plain = ((filled[name], looked[name], marked[name]) for name in PROGRAMS)
         tell(f"{count:,} rows, appended, a row", "microseconds", *(it[0][0] / count * 1e6 for it in (proved, plain)))
         tell(f"{count:,} rows, looked up in four ways, a row", "microseconds",

@@ -11,56 +11,34 @@ of the runs that took least, blocks and satoshis a second of processor time, and
 plain program's map is made where a satoshi is looked for, and isn't timed. Nothing here is proved. Build both programs first, as bench/README.md says.
 """
 
-import concurrent.futures
-import hashlib
-import os
 import pathlib
 import random
-import struct
-import subprocess
 import sys
 import tempfile
 
-TOP = pathlib.Path(__file__).resolve().parent.parent
-PROGRAMS = {
-    "ox": TOP / "crates" / "ox_transfer_speed" / "out" / "ox_transfer_speed",
-    "plain": TOP / "bench" / "plain" / "fold_blocks" / "target" / "release" / "transfer_blocks",
-}
-RUNS = 3
+from blocks import SUBSIDY, coinbase, key, put, size, tx
+from runs import in_another_process, least, plain, proved, write_part
+
+PROGRAMS = {"ox": proved("ox_transfer_speed"), "plain": plain("fold_blocks", "transfer_blocks")}
 BLOCKS = 1_000
 SPENDS = 500
-SUBSIDY = 5_000_000_000
 FILL = 10_000
 SATOSHIS = 1_000_000
 
 
-def twice(message):
-    return hashlib.sha256(hashlib.sha256(message).digest()).digest()
-
-
-def size(n):
-    return bytes([n]) if n < 253 else b"\xfd" + struct.pack("<H", n)
-
-
-def tx(chance, txid, index, script, values):
-    head = b"\1\0\0\0\1" + txid + struct.pack("<I", index) + size(len(script)) + script + b"\xff" * 4 + size(len(values))
-    outputs = (struct.pack("<Q", value) + b"\x16\0\x14" + chance.randbytes(20) for value in values)
-    return head + b"".join(outputs) + bytes(4)
-
-
 def put_block(feed, txs):
-    block = b"\1\0\0\0" + bytes(76) + size(len(txs)) + b"".join(txs)
-    feed.write(struct.pack("<I", len(block)) + block)
+    """A block whose header isn't looked at."""
+    put(feed, b"\1\0\0\0" + bytes(76) + size(len(txs)) + b"".join(body for body, _ in txs))
 
 
 def spend(chance, unspent):
-    """A transaction of one output chosen at random, and its two outputs' values."""
+    """A transaction of one output chosen at random, its id, and its two outputs' values."""
     at = chance.randrange(len(unspent))
     unspent[at], unspent[-1] = unspent[-1], unspent[at]
     txid, index, value = unspent.pop()
     first = chance.randint(0, value)
     values = [first, value - first]
-    return tx(chance, txid, index, b"", values), values
+    return *tx([(txid, index)], [(value, key(chance)) for value in values]), values
 
 
 def write_blocks(path, outputs):
@@ -71,44 +49,21 @@ def write_blocks(path, outputs):
     part = SUBSIDY // FILL
     with open(path, "wb") as feed:
         for height in range(fills):
-            coinbase = tx(chance, bytes(32), 0xFFFFFFFF, struct.pack("<I", height), [part] * FILL)
-            txid = twice(coinbase)
-            unspent += [(txid, index, part) for index in range(FILL)]
-            put_block(feed, [coinbase])
+            first = coinbase(height, [(part, key(chance)) for _ in range(FILL)])
+            unspent += [(first[1], index, part) for index in range(FILL)]
+            put_block(feed, [first])
         filled = feed.tell()
         for height in range(fills, fills + BLOCKS):
-            coinbase = tx(chance, bytes(32), 0xFFFFFFFF, struct.pack("<I", height), [0])
             spends = [spend(chance, unspent) for _ in range(SPENDS)]
-            for body, values in spends:
-                txid = twice(body)
+            for _, txid, values in spends:
                 unspent += [(txid, index, value) for index, value in enumerate(values)]
-            put_block(feed, [coinbase] + [body for body, _ in spends])
+            put_block(feed, [coinbase(height, [(0, key(chance))])] + [(body, txid) for body, txid, _ in spends])
     return filled
-
-
-def run(program, feed, satoshis):
-    """Processor seconds, the most memory in bytes, and what was shown."""
-    with open(feed, "rb") as given:
-        child = subprocess.Popen([program, str(satoshis)], stdin=given, stdout=subprocess.PIPE)
-        shown = child.stdout.read()
-        _, status, usage = os.wait4(child.pid, 0)
-        child.returncode = os.waitstatus_to_exitcode(status)
-    if child.returncode:
-        sys.exit(f"{program} ended with {child.returncode}")
-    return usage.ru_utime + usage.ru_stime, usage.ru_maxrss * 1024, shown
 
 
 def measure(feed, satoshis):
     """The least seconds and memory of each program."""
-    took, answers = {name: [] for name in PROGRAMS}, set()
-    for _ in range(RUNS):
-        for name, program in PROGRAMS.items():
-            seconds, memory, shown = run(program, feed, satoshis)
-            took[name].append((seconds, memory))
-            answers.add(shown)
-    if len(answers) != 1:
-        sys.exit(f"the answers differ: {answers}")
-    return {name: min(taken) for name, taken in took.items()}
+    return least({name: [program, str(satoshis)] for name, program in PROGRAMS.items()}, feed)
 
 
 def tell(outputs, filled, fill, both, one, looked):
@@ -127,10 +82,8 @@ def main():
     for outputs in [int(word) for word in sys.argv[1:]] or [20_000, 300_000, 1_000_000, 3_000_000]:
         with tempfile.TemporaryDirectory() as folder:
             whole, first = pathlib.Path(folder) / "whole", pathlib.Path(folder) / "first"
-            # in a process of its own, since a child's greatest memory is never below that of its parent
-            with concurrent.futures.ProcessPoolExecutor(1) as other:
-                filled = other.submit(write_blocks, whole, outputs).result()
-            subprocess.run(["head", "-c", str(filled), whole], stdout=open(first, "wb"), check=True)
+            filled = in_another_process(write_blocks, whole, outputs)
+            write_part(whole, first, filled)
             fill, both = measure(first, 0), measure(whole, 0)
             tell(outputs, filled, fill, both, measure(first, 1), measure(first, SATOSHIS + 1))
 

@@ -12,18 +12,15 @@ that opens a store of 1,500 blocks of which 1,000 are kept, or one, and of the p
 Build both programs first, as bench/README.md says.
 """
 
-import concurrent.futures
-import os
 import pathlib
 import subprocess
 import sys
 import tempfile
 import threading
 
-from fold_blocks import PROGRAMS, SPENDS, write_chain, write_part
+from fold_blocks import OX, PLAIN, SPENDS, write_chain
+from runs import RUNS, in_another_process, run, write_part
 
-OX, PLAIN = PROGRAMS["ox"], PROGRAMS["plain"]
-RUNS = 3
 TURNS = 10
 OF_A_TURN = 10
 DEPTH = 1000
@@ -107,40 +104,23 @@ def tell(chain, ends, count, folder):
     print(f"       ox to plain: disconnects {ratios[0]:.2f}, connects {ratios[1]:.2f}, both {both:.2f}", flush=True)
 
 
-def most_memory(words, feed):
-    with open(feed, "rb") as given:
-        child = subprocess.Popen(words, stdin=given, stdout=subprocess.DEVNULL, stderr=subprocess.DEVNULL)
-        _, status, usage = os.wait4(child.pid, 0)
-        child.returncode = os.waitstatus_to_exitcode(status)
-    if child.returncode:
-        sys.exit(f"{words[0]} ended with {child.returncode}")
-    return usage.ru_maxrss * 1024
-
-
 def memory_of_a_store(depth, feed, folder):
     """The most memory of opening a store of the feed's blocks."""
     store = folder / f"depth{depth}"
     store.mkdir()
     for words in ["init", "regtest", str(depth)], ["apply"]:
-        most_memory([OX, store, *words], feed)
-    return most_memory([OX, store, "apply"], os.devnull)
+        run([OX, store, *words], feed)
+    return run([OX, store, "apply"])[1]
 
 
 def tell_memory(feed, folder):
     taken = {
         "ox": [memory_of_a_store(depth, feed, folder) for depth in (1, DEPTH)],
-        "plain": [most_memory([PLAIN, "locator", str(depth)], feed) for depth in (1, DEPTH)],
+        "plain": [run([PLAIN, "locator", str(depth)], feed)[1] for depth in (1, DEPTH)],
     }
     for name, (least, most) in taken.items():
         each = (most - least) / (DEPTH - 1) / ROWS
         print(f"{name:5}: {each:.0f} bytes a kept row; {least / 1e6:.0f} MB with one block kept, {most / 1e6:.0f} with {DEPTH}")
-
-
-def in_another_process(call, *given):
-    """Answers what a call answers in a process of its own, since a child's greatest memory is never below that of its
-    parent."""
-    with concurrent.futures.ProcessPoolExecutor(1) as other:
-        return other.submit(call, *given).result()
 
 
 def main():
