@@ -1,130 +1,176 @@
 #!/usr/bin/env python3
-"""Times replies to queries over an index of coinbases, beside a plain Rust program of the same work.
+"""Times replies to queries over an index with inscriptions and runes, beside a plain Rust program of the same work.
 
     python3 bench/query.py [OUTPUTS..]
 
-makes blocks of 20,000 outputs until there are as many outputs as each number says (20,000, 200,000 and 2,000,000
-without a word), and paths of each of four routes that name something chosen at random. `ox_query_speed` and the plain
-program run in turn, three times, over the blocks alone and with the paths; it prints, of the runs that took least,
-replies a second of processor time, without that of the blocks. The plain program routes by `matchit` and makes a body by
-`serde_json`: as a tree of values, as ours does, and as structs that are written at once. Nothing here is proved. Build
-both programs first, as bench/README.md says.
+makes blocks, each of which spends the coinbase before it into 20,000 outputs, until there are as many outputs as each
+number says (20,000, 200,000 and 2,000,000 without a word): an inscription and a balance of one of 20 runes stand on every
+tenth of them. A last block reveals eight inscriptions of 390,000 bytes. Of each route it makes paths that name something
+chosen at random; satoshis are the first ones of outputs, so that a tenth of them bear an inscription. `ox_query_speed` and
+the plain program run in turn, three times, over the blocks alone and with the paths; it prints, of the runs that took
+least, replies a second of processor time (of contents megabytes), without that of the blocks. The plain program routes by
+`matchit` and makes a body by `serde_json`: as structs that are written at once, and as a tree of values, as ours does.
+Nothing here is proved. Build both programs first, as bench/README.md says.
 """
 
-import hashlib
-import os
 import pathlib
 import random
-import struct
-import subprocess
 import sys
 import tempfile
 
-TOP = pathlib.Path(__file__).resolve().parent.parent
-PLAIN = TOP / "bench" / "plain" / "query" / "target" / "release" / "query"
-PROGRAMS = {
-    "ox": [TOP / "crates" / "ox_query_speed" / "out" / "ox_query_speed", "count"],
-    "tree": [PLAIN, "tree"],
-    "structs": [PLAIN, "structs"],
-}
-RUNS = 3
+from blocks import SUBSIDY, block, coinbase, key, push, pushes, put, runestone, tx
+from runs import in_another_process, least, plain, proved, run
+
+OX, PLAIN = proved("ox_query_speed"), plain("query")
+PROGRAMS = {"ox": [OX, "count"], "structs": [PLAIN, "structs"], "tree": [PLAIN, "tree"]}
 EACH = 20_000
-SUBSIDY = 5_000_000_000
-# how many replies of each route are timed: so many that they take longer than the blocks
-REPLIES = {"status": 2_000_000, "blockhash": 2_000_000, "output": 2_000_000, "sat": 1_000_000}
+TENTH = 10
+RUNES = 20
+AMOUNT = 1_234_500
+# the least name that is kept for etchings without one
+RESERVED = 6_402_364_363_415_443_603_228_541_259_936_211_926
+CONTENTS, CONTENT = 8, 390_000
+CONTENT_ROUTE = "content"
+# how many replies of each route are timed: so many that they take longer than the blocks, where that can be
+REPLIES = {
+    "status": 2_000_000,
+    "blockhash": 2_000_000,
+    "output": 2_000_000,
+    "sat": 2_000_000,
+    "inscription": 1_000_000,
+    "rune": 1_000_000,
+    "inscriptions": 100_000,
+    "audit": 200_000,
+    CONTENT_ROUTE: 50_000,
+}
+CONTROL = b"\xc0" + bytes(32)
 
 
-def twice(message):
-    return hashlib.sha256(hashlib.sha256(message).digest()).digest()
+def etched(chance, origin, place):
+    """A transaction that etches a rune which says all but its name, and gets the premine."""
+    terms = 8, 10**9, 10, AMOUNT * EACH // TENTH, 12, place % 2, 18, 10**6
+    stone = runestone(2, 3, 1, place % 10, 3, 37 * place, 5, 0x29C9, 6, 10**30, *terms)
+    return tx([origin], [(SUBSIDY // RUNES, key(chance)), (0, stone)])
 
 
-def coinbase(chance, height):
-    head = b"\1\0\0\0\1" + bytes(32) + b"\xff" * 4 + b"\4" + struct.pack("<I", height) + b"\xff" * 4
-    value = struct.pack("<Q", SUBSIDY // EACH)
-    outputs = b"".join(value + b"\x16\0\x14" + chance.randbytes(20) for _ in range(EACH))
-    return head + b"\xfd" + struct.pack("<H", EACH) + outputs + bytes(4)
+def name_of(place, spacer):
+    """The name of the rune that was etched by a transaction of the block of height 1, with its spacers."""
+    number, letters = RESERVED + (1 << 32) + place, ""
+    while number >= 0:
+        letters = chr(ord("A") + number % 26) + letters
+        number = number // 26 - 1
+    spacers = 37 * (place - 1)
+    return "".join(letter + spacer * (spacers >> at & 1) for at, letter in enumerate(letters[:-1])) + letters[-1]
+
+
+def pointing_at(place):
+    """The envelope of an inscription on the satoshi at a place of the transaction."""
+    pointer = place.to_bytes((place.bit_length() + 7) // 8, "little")
+    return b"\0\x63\3ord\1\1" + push(b"text/plain") + b"\1\2" + push(pointer) + b"\0" + push(b"the place %d" % place) + b"\x68"
+
+
+def spread(chance, origin, place):
+    """A transaction that spends a whole subsidy into the outputs of a block. It mints a rune for every tenth, and reveals an
+    inscription on the first satoshi of the same."""
+    value, tenths = SUBSIDY // EACH, range(0, EACH, TENTH)
+    edicts = [number for at in tenths for number in ((0, 0) if at else (1, place), (AMOUNT, at))]
+    stone = runestone(20, 1, 20, place, 0, *(number for pair in edicts for number in pair))
+    script = b"".join(pointing_at(value * at) for at in tenths)
+    outputs = [(value, key(chance)) for _ in range(EACH)]
+    return tx([origin], [*outputs, (0, stone)], witness=[script, CONTROL])
+
+
+def large(chance, origin):
+    """A transaction that reveals large contents."""
+    bodies = (chance.randbytes(CONTENT // 2).hex().encode() for _ in range(CONTENTS))
+    script = b"".join(b"\0\x63\3ord\1\1" + push(b"text/plain") + b"\0" + pushes(body) + b"\x68" for body in bodies)
+    return tx([origin], [(SUBSIDY, key(chance))], witness=[script, CONTROL])
 
 
 def write_blocks(path, count):
-    """Blocks, each with its length before it, and then a length of 0. Answers the ids of their transactions."""
-    chance = random.Random(5)
-    previous, ids = bytes(32), []
+    """Blocks, each with its length before it, and then a length of 0; so many of them have outputs. Answers the ids of their
+    transactions, and that of the one with large contents."""
+    chance, tip, ids = random.Random(5), bytes(32), []
     with open(path, "wb") as feed:
-        for height in range(count):
-            tx = coinbase(chance, height)
-            ids.append(twice(tx))
-            header = b"\1\0\0\0" + previous + ids[-1] + struct.pack("<III", height, 0, 0)
-            previous = twice(header)
-            feed.write(struct.pack("<I", 81 + len(tx)) + header + b"\1" + tx)
+
+        def put_block(height, *txs, parts=1):
+            """Puts a block of a coinbase and these transactions. Answers the coinbase's id."""
+            nonlocal tip
+            first = coinbase(height, [(SUBSIDY // parts, key(chance)) for _ in range(parts)])
+            body, tip = block(tip, height, [first, *txs])
+            put(feed, body)
+            return first[1]
+
+        first = put_block(0, parts=RUNES)
+        before = put_block(1, *(etched(chance, (first, at), at) for at in range(RUNES)))
+        for place in range(count):
+            body = spread(chance, (before, 0), 1 + place % RUNES)
+            before = put_block(2 + place, body)
+            ids.append(body[1])
+        body = large(chance, (before, 0))
+        put_block(2 + count, body)
         feed.write(bytes(4))
-    return ids
+    return ids, body[1]
 
 
-def paths_of(route, ids, count):
+def paths_of(route, ids, contents, count):
+    """So many paths of a route, a line each."""
     chance = random.Random(7)
     blocks = len(ids)
+
+    def shown():
+        return chance.choice(ids)[::-1].hex()
+
+    def rune():
+        place = 1 + chance.randrange(RUNES)
+        return chance.choice((f"1:{place}", name_of(place, "."), name_of(place, "\u2022"), name_of(place, "%E2%80%A2")))
+
     one = {
         "status": lambda: "/status",
-        "blockhash": lambda: f"/blockhash/{chance.randrange(blocks)}",
-        "output": lambda: f"/output/{chance.choice(ids)[::-1].hex()}:{chance.randrange(EACH)}",
-        "sat": lambda: f"/sat/{chance.randrange(blocks * SUBSIDY)}",
+        "blockhash": lambda: f"/blockhash/{chance.randrange(3 + blocks)}",
+        "output": lambda: f"/output/{shown()}:{chance.randrange(EACH)}",
+        # the block of height 1 is the first whose subsidy is spent into the outputs of a block
+        "sat": lambda: f"/sat/{(1 + chance.randrange(blocks)) * SUBSIDY + chance.randrange(EACH) * (SUBSIDY // EACH)}",
+        "inscription": lambda: f"/inscription/{shown()}i{chance.randrange(EACH // TENTH)}",
+        "rune": lambda: f"/rune/{rune()}",
+        "inscriptions": lambda: "/inscriptions/9",
+        "audit": lambda: "/audit",
+        "content": lambda: f"/content/{contents[::-1].hex()}i{chance.randrange(CONTENTS)}",
     }[route]
     return "".join(one() + "\n" for _ in range(count)).encode()
 
 
-def run(command, feed):
-    """Processor seconds, and what was shown."""
-    with open(feed, "rb") as given:
-        child = subprocess.Popen(command, stdin=given, stdout=subprocess.PIPE)
-        shown = child.stdout.read()
-        _, status, usage = os.wait4(child.pid, 0)
-        child.returncode = os.waitstatus_to_exitcode(status)
-    if child.returncode:
-        sys.exit(f"{command[0]} ended with {child.returncode}")
-    return usage.ru_utime + usage.ru_stime, shown
-
-
-def measure(feed):
-    """The least seconds of each program over a feed."""
-    took, answers = {name: [] for name in PROGRAMS}, set()
-    for _ in range(RUNS):
-        for name, command in PROGRAMS.items():
-            seconds, shown = run(command, feed)
-            took[name].append(seconds)
-            answers.add(shown)
-    if len(answers) != 1:
-        sys.exit(f"the answers differ: {answers}")
-    return {name: min(seconds) for name, seconds in took.items()}
-
-
-def compare_bodies(blocks, ids, folder):
-    """Whether both programs say the same."""
+def compare_bodies(blocks, ids, contents, folder):
+    """Ends where the programs don't say the same."""
     feed = folder / "few"
-    few = b"".join(paths_of(route, ids, 20) for route in REPLIES)
-    feed.write_bytes(blocks.read_bytes() + few)
-    if run([PROGRAMS["ox"][0], "show"], feed)[1] != run([PLAIN, "show"], feed)[1]:
+    few = b"".join(paths_of(route, ids, contents, 3 if route == CONTENT_ROUTE else 50) for route in REPLIES)
+    wrong = b"/\n/sat/-1\n/connect\n/output/0\n/rune/99:1\n/inscription/i0\n/runes/0\n/runes/1\n/inscriptions/99999\n"
+    feed.write_bytes(blocks.read_bytes() + few + wrong)
+    if run([OX, "show"], feed)[2] != run([PLAIN, "show"], feed)[2]:
         sys.exit("the bodies differ")
 
 
 def tell(route, outputs, replies, base, with_paths):
-    seconds = {name: with_paths[name] - base[name] for name in PROGRAMS}
-    rates = ", ".join(f"{name} {replies / seconds[name]:,.0f} a second" for name in PROGRAMS)
-    print(f"{outputs:9,} outputs, /{route}: {rates}; ox to tree {seconds['tree'] / seconds['ox']:.2f},"
-          f" to structs {seconds['structs'] / seconds['ox']:.2f}", flush=True)
+    seconds = {name: with_paths[name][0] - base[name][0] for name in PROGRAMS}
+    unit, each = ("MB", CONTENT / 1e6) if route == CONTENT_ROUTE else ("replies", 1)
+    rates = ", ".join(f"{name} {each * replies / it:,.0f}" for name, it in seconds.items())
+    ratios = ", ".join(f"to {name} {seconds[name] / seconds['ox']:.2f}" for name in ("structs", "tree"))
+    took = ", ".join(f"{seconds[name]:.2f} of {with_paths[name][0]:.2f} s" for name in PROGRAMS)
+    print(f"{outputs:9,} outputs, /{route}: {rates} {unit} a second; ox {ratios} ({took})", flush=True)
 
 
 def main():
     words = sys.argv[1:]
     with tempfile.TemporaryDirectory() as folder:
         folder = pathlib.Path(folder)
+        blocks, feed = folder / "blocks", folder / "feed"
         for outputs in [int(word) for word in words] or [20_000, 200_000, 2_000_000]:
-            blocks, feed = folder / "blocks", folder / "feed"
-            ids = write_blocks(blocks, outputs // EACH)
-            compare_bodies(blocks, ids, folder)
-            base = measure(blocks)
+            ids, contents = in_another_process(write_blocks, blocks, outputs // EACH)
+            compare_bodies(blocks, ids, contents, folder)
+            base = least(PROGRAMS, blocks)
             for route, replies in REPLIES.items():
-                feed.write_bytes(blocks.read_bytes() + paths_of(route, ids, replies))
-                tell(route, outputs, replies, base, measure(feed))
+                feed.write_bytes(blocks.read_bytes() + paths_of(route, ids, contents, replies))
+                tell(route, outputs, replies, base, least(PROGRAMS, feed))
 
 
 if __name__ == "__main__":
