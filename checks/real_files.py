@@ -26,6 +26,7 @@ import traceback
 from chain import DISCONNECT, SHORT, SUBSIDY, block_with, chain, coinbase, envelope, file_a, file_of, id_value, line
 from chain import payload_of, record, revealing, twice
 from kills import Failed, demand, kill_often
+from table import BLOCKS, PERIOD, Table, outpoint, satoshi
 
 HERE = pathlib.Path(__file__).resolve().parent
 PROGRAM = HERE.parent / "crates" / "ox_main" / "out" / "ox_main"
@@ -308,6 +309,31 @@ def inscriptions_and_runes(ox):
     ox.says("/runes/0", {"ids": [], "more": False, "page": 0})
     for path in (f"/inscription/{ids[0]}", f"/content/{ids[0]}", "/rune/3:1", f"/output/{at}"):
         ox.says(path, {"error": 404})
+
+
+def asked_satoshis(table):
+    """Satoshis at both ends of runs of one output, in its middle, one that is lost, and two that aren't mined."""
+    runs = max((row[1] for row in table.rows.values()), key=len)
+    ends = [runs[0][0], sum(runs[0]) - 1, runs[-1][0], sum(runs[-1]) - 1]
+    middle = runs[len(runs) // 2]
+    return [*ends, middle[0] + middle[1] // 2, sum(table.lost[-1]) - 1, BLOCKS * SUBSIDY, PERIOD * SUBSIDY - 1]
+
+
+@check(f"among 500,000 outputs satoshis are found where they have to be, or nowhere, within {SECONDS} seconds")
+def many_outputs(ox):
+    table = Table(SEED)
+    demand(len(table.rows) == 500_000, f"there are {len(table.rows)} outputs")
+    tips = [tip[::-1].hex() for tip in table.tips]
+    ox.init()
+    wanted = b"".join(answer(height, tips) for height in range(BLOCKS))
+    ox.wants((0, wanted), "apply", feed=b"".join(map(line, table.blocks)))
+    for sat in asked_satoshis(table):
+        ox.says(f"/sat/{sat}", satoshi(sat, table.place(sat)))
+    at, (height, runs) = max(table.rows.items(), key=lambda row: len(row[1][1]))
+    ranges = [[first, first + count] for first, count in runs]
+    output = {"height": height, "inscriptions": [], "ranges": ranges, "runes": [], "script": SHORT.hex()}
+    ox.says(f"/output/{outpoint(*at)}", output | {"value": sum(count for _, count in runs)})
+    ox.says(f"/output/{outpoint(*table.spent)}", {"error": 404})
 
 
 @check("`fold` and `query` change no byte of the files")
