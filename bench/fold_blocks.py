@@ -33,7 +33,8 @@ def write_chain(path, count):
     with open(path, "wb") as feed:
         for height in range(count):
             parts = [SUBSIDY // SPENDS] * SPENDS if height < 2 else [SUBSIDY]
-            txs, new = [coinbase(height, [(value, key(chance)) for value in parts])], [(0, i, value) for i, value in enumerate(parts)]
+            txs = [coinbase(height, [(value, key(chance)) for value in parts])]
+            new = [(0, index, value) for index, value in enumerate(parts)]
             for place in range(SPENDS if height >= 2 else 0):
                 at = chance.randrange(len(unspent))
                 txid, index, value = unspent[at]

@@ -50,7 +50,8 @@ def fill(path, outputs):
             txs = []
             for place in range(1, IN_A_BLOCK + 1):
                 if len(held) < outputs:
-                    scripts = [runestone(2, 1, 6, 1_000_000 * EACH, 0, 0, 0, 0, EACH + 1)] + [key(chance) for _ in range(EACH)]
+                    stone = runestone(2, 1, 6, 1_000_000 * EACH, 0, 0, 0, 0, EACH + 1)
+                    scripts = [stone] + [key(chance) for _ in range(EACH)]
                     body, txid = worthless((chance.randbytes(32), 0), scripts)
                     txs.append(body)
                     held += [((txid, index), (height, place)) for index in range(1, EACH + 1)]

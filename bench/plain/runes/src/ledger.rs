@@ -226,7 +226,8 @@ impl Ledger {
     fn is_committed(tx: &Tx, name: u128, height: u64) -> bool {
         let bytes = name.to_le_bytes();
         let commitment = &bytes[..16 - name.leading_zeros() as usize / 8];
-        let pushes = |script: &[u8]| Items(script).any(|item| matches!(item, Some(Item::Push(push)) if push == commitment));
+        let commits = |item| matches!(item, Some(Item::Push(push)) if push == commitment);
+        let pushes = |script| Items(script).any(commits);
         let witness = |input| tx.block.witness(input);
         height + 1 >= 6 && tx.inputs().filter_map(|input| tapscript(witness(input))).any(pushes)
     }
