@@ -1,7 +1,8 @@
 //! What indexes of chains hold, a row of standard input each:
 //!
 //! - `live NAME`: from here on an index of no block of this profile;
-//! - `chain NAME DEPTH`: from here on a chain of no block, of whose blocks at most so many are kept;
+//! - `chain NAME DEPTH`: from here on a chain of no block, of whose blocks at most so many are
+//!   kept;
 //! - `block HEX`: connects the block that has these bytes, and says how that ended;
 //! - `disconnect`: takes a chain's newest block back, and says how that ended;
 //! - `both HEX WORD..`: connects a block to a live index, goes back by its change and on again, and

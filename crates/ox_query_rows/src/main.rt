@@ -1,17 +1,17 @@
 //! What requests are replied by chains of blocks, a row of standard input each:
 //!
-//! - `profile NAME DEPTH`: from here on a chain of no block of this profile, of whose blocks at most
-//!   so many are kept;
-//! - `block HEX`, or `block HEAD N PART TAIL`: connects the block that has these bytes, or a head, N
-//!   times a part and a tail, and prints the line that answers it;
+//! - `profile NAME DEPTH`: from here on a chain of no block of this profile, of whose blocks at
+//!   most so many are kept;
+//! - `block HEX`, or `block HEAD N PART TAIL`: connects the block that has these bytes, or a head,
+//!   N times a part and a tail, and prints the line that answers it;
 //! - `disconnect`: takes the newest block back, and prints the line that answers it;
-//! - `GET PATH`, `POST PATH`, `PUT PATH`: prints the reply to this request. With `close` and a space
-//!   in front the link ends with it, with `hex` the path is written in hex digits;
+//! - `GET PATH`, `POST PATH`, `PUT PATH`: prints the reply to this request. With `close` and a
+//!   space in front the link ends with it, with `hex` the path is written in hex digits;
 //! - a row that begins with `#` is printed as it stands.
 //!
 //! The reply of `answer` is printed, that of `answer_by` has to be the same: its status, `close`
-//! where the link ends, its kind, its encoding if there is one, and its body. A body that isn't text
-//! in one line is shown in hex digits, and a long one by its length and a checksum.
+//! where the link ends, its kind, its encoding if there is one, and its body. A body that isn't
+//! text in one line is shown in hex digits, and a long one by its length and a checksum.
 //!
 //! The rows and what has to be printed are made by checks/query_rows.py, which makes blocks by the
 //! public formats and shares nothing with the library.
