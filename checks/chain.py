@@ -1,7 +1,11 @@
 """Chains of blocks, the lines that connect them and take them back, and the files of a store that heard them."""
 
 import hashlib
+import pathlib
 
+FEEDS = pathlib.Path(__file__).resolve().parents[1] / "feeds"
+# Bitcoin's first block
+GENESIS = bytes.fromhex((FEEDS / "genesis.feed").read_text().split()[1])
 SUBSIDY = 5_000_000_000
 HALVING = 210_000
 EMPTY_HEAD = b"\1oxidx\1\1" + (100).to_bytes(2, "little") + (1).to_bytes(8, "little") + bytes(8)

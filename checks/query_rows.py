@@ -10,19 +10,11 @@ library answered any request, which it writes down as they are.
 
 import json
 
-from chain import SHORT, SUBSIDY, block_of, coinbase_to, envelope, id_value, transaction
+from chain import GENESIS, SHORT, SUBSIDY, block_of, coinbase_to, envelope, id_value, transaction
 from real_files import RESERVED, name_of
 from rows import Rows, carry, id_of, inscription, outpoint, plain, reveal, shown, spend
 
 OCTETS = "application/octet-stream"
-GENESIS = (
-    "0100000000000000000000000000000000000000000000000000000000000000000000003ba3edfd7a7b12b27ac72c3e67768f617fc81b"
-    "c3888a51323a9fb8aa4b1e5e4a29ab5f49ffff001d1dac2b7c010100000001000000000000000000000000000000000000000000000000"
-    "0000000000000000ffffffff4d04ffff001d0104455468652054696d65732030332f4a616e2f32303039204368616e63656c6c6f72206f"
-    "6e206272696e6b206f66207365636f6e64206261696c6f757420666f722062616e6b73ffffffff0100f2052a01000000434104678afdb0"
-    "fe5548271967f1a67130b7105cd6a828e03909a67962e0ea1f61deb649f6bc3f4cef38c4f35504e51ec112de5c384df7ba0b8d578a4c70"
-    "2b6bf11d5fac00000000"
-)
 GENESIS_HASH = "000000000019d6689c085ae165831e934ff763ae46a2a6c172b3f1b60a8ce26f"
 GENESIS_TXID = "4a5e1e4baab89f3a32518a88c31bc87f618f76673e2cc77ab2127b7afdeda33b"
 LAB_SUPPLY = 99_999_999_890
@@ -142,7 +134,7 @@ def chains(rows):
 def genesis(rows, what):
     """Mainnet's chain of one block."""
     rows.case(what, "mainnet")
-    rows.takes(GENESIS, bytes.fromhex(GENESIS_HASH)[::-1])
+    rows.takes(GENESIS.hex(), bytes.fromhex(GENESIS_HASH)[::-1])
 
 
 def first_block(rows):

@@ -10,7 +10,7 @@ lengths, writes B, syncs it, writes A's first byte and the others, syncs A, writ
 
 import pathlib
 
-from chain import DISCONNECT, SHORT, SUBSIDY, compact, payload_of, record_of, twice
+from chain import DISCONNECT, GENESIS, SHORT, SUBSIDY, compact, payload_of, record_of, twice
 
 CRATE = pathlib.Path(__file__).resolve().parents[1] / "crates" / "ox_store_rows"
 ALL = 1_000_000_000
@@ -18,14 +18,6 @@ MOST = 4_000_000
 PROFILES = {"mainnet": (0, 210_000, None), "regtest": (1, 210_000, None), "lab": (2, 10, 40)}
 NO_BLOCK = bytes(32)
 
-GENESIS = bytes.fromhex(
-    "0100000000000000000000000000000000000000000000000000000000000000000000003ba3edfd7a7b12b27ac72c3e67768f617fc81b"
-    "c3888a51323a9fb8aa4b1e5e4a29ab5f49ffff001d1dac2b7c010100000001000000000000000000000000000000000000000000000000"
-    "0000000000000000ffffffff4d04ffff001d0104455468652054696d65732030332f4a616e2f32303039204368616e63656c6c6f72206f"
-    "6e206272696e6b206f66207365636f6e64206261696c6f757420666f722062616e6b73ffffffff0100f2052a01000000434104678afdb0"
-    "fe5548271967f1a67130b7105cd6a828e03909a67962e0ea1f61deb649f6bc3f4cef38c4f35504e51ec112de5c384df7ba0b8d578a4c70"
-    "2b6bf11d5fac00000000"
-)
 GENESIS_HASH = "6fe28c0ab6f1b372c1a6a246ae63f74f931e8365e15a089c68d6190000000000"
 
 # an empty regtest store of depth 100, file A, as FORMATS has it
