@@ -529,8 +529,67 @@ def both_ways(rows):
     full.dump(full.after())
 
 
+def burn_and_take_back(rows):
+    rows.chain("a disconnect takes back what a cenotaph minted and burned", 100)
+    etches = etched(rows, ETCHES)
+    first = Held(0, [], [Rune(3, 1, id_of(etches), 7, gives=5, terms=FROM_ETCHES)])
+    looks = [at(etches, 0, runs(3, (0, SUBSIDY), runes="3:1=7")), found("rune=3:1", 0)]
+    rows.dump(first, *looks, kept=4)
+    cenotaph = carry(etches, "6a5d06140314017e00")
+    rows.extend(cenotaph)
+    rune = Rune(3, 1, id_of(etches), 7, burned=12, mints=1, gives=5, terms=FROM_ETCHES)
+    rows.dump(Held(0, [], [rune]), at(etches, 0, "none"), at(cenotaph, 0, runs(4, (0, SUBSIDY))), kept=5)
+    rows.disconnects()
+    rows.dump(first, *looks, at(cenotaph, 0, "none"), kept=4)
+    rows.chain("no more blocks are taken back than are kept", 2, "regtest")
+    rows.plain(3)
+    rows.disconnects()
+    rows.disconnects()
+    rows.row("disconnect", "refused 11")
+    rows.dump(Held(), at(plain(0), 0, runs(0, (0, SUBSIDY))), at(plain(1), 0, "none"), kept=0)
+
+
+def spend_twice_behind_two(rows):
+    rows.live("an output is spent once, behind two blocks", "regtest")
+    rows.plain(2)
+    spends = [transaction([spend(plain(0))], [(value, SHORT)]) for value in (SUBSIDY, SUBSIDY - 1)]
+    rows.refuses(f"refused 8 2 0 {outpoint(plain(0))}", plain(2), *spends)
+    rows.dump(Held(), at(plain(0), 0, runs(0, (0, SUBSIDY))), at(plain(1), 0, runs(1, (SUBSIDY, SUBSIDY))), at(spends[0], 0, "none"))
+
+
+def bring_balances_back(rows):
+    rows.chain("a disconnect brings displaced balances back", 100, "regtest")
+    five = coinbase_to(3, [(SUBSIDY, SHORT), (0, bytes.fromhex("6a5d0402010605"))])
+    rows.connects(five)
+    first = Held(0, [], [Rune(0, 0, id_of(five), 5)])
+    look = at(five, 0, runs(0, (0, SUBSIDY), runes="0:0=5"))
+    rows.dump(first, look, kept=1)
+    rows.connects(five)
+    runes = [Rune(0, 0, id_of(five), 5, burned=5), Rune(1, 0, id_of(five), 5)]
+    rows.dump(Held(SUBSIDY, [], runes), at(five, 0, runs(1, (SUBSIDY, SUBSIDY), runes="1:0=5")), found("rune=1:0", 1), kept=2)
+    rows.disconnects()
+    rows.dump(first, look, found("rune=1:0", None), kept=1)
+
+
+def runs_that_fall(rows):
+    rows.live("an output of 5,000,000,000 satoshis has two runs that fall, each with an inscription")
+    rows.plain(6)
+    far, near = (place.to_bytes(5, "little") for place in (6_000_000_000, 3_000_000_000))
+    half = SUBSIDY // 2
+    inputs = [spend(plain(1), 0, envelope([(2, far)]) + envelope([(2, near)])), spend(plain(0))]
+    tx = transaction(inputs, [(half, SHORT), (SUBSIDY, SHORT), (half, SHORT)])
+    rows.extend(tx)
+    # bit 4: not the first envelope of its input; bit 5: a pointer
+    inscriptions = [Inscription(tx, 6, 1_000_000_000, 0x20, 0, f"pointer={far.hex()}")]
+    inscriptions.append(Inscription(tx, 6, 8_000_000_000, 0x30, 1, f"pointer={near.hex()}"))
+    looks = [at(tx, 1, runs(6, (7_500_000_000, half), (0, half))), sat(1_000_000_000, place(tx, 3_500_000_000, 1))]
+    looks += [sat(8_000_000_000, place(tx, 500_000_000, 1)), sat(1_000_000_001, place(tx, 3_500_000_001, 1))]
+    rows.dump(Held(0, inscriptions), *looks)
+
+
 GROUPS = [satoshis, refusals, last_height, pointers, parents, fees, marks, moves, finds, mainnet, burns, edicts, names]
 GROUPS += [coinbases, refused, kept, all_back, both_ways]
+GROUPS += [burn_and_take_back, spend_twice_behind_two, bring_balances_back, runs_that_fall]
 
 
 def main():

@@ -18,6 +18,9 @@ OCTETS = "application/octet-stream"
 GENESIS_HASH = "000000000019d6689c085ae165831e934ff763ae46a2a6c172b3f1b60a8ce26f"
 GENESIS_TXID = "4a5e1e4baab89f3a32518a88c31bc87f618f76673e2cc77ab2127b7afdeda33b"
 LAB_SUPPLY = 99_999_999_890
+GOODS = 2_055_900_680_524_219_742
+# in 32 or in 64 bits 0, or 0 once it is a hundred times as much
+WRAPS = ("1073741824", "4294967296", "4611686018427387904", "9223372036854775808")
 TAPROOT = b"\x51\x20" + 32 * b"\7"
 
 
@@ -566,11 +569,229 @@ def moves(rows):
     rows.says("/inscriptions/0", '{"ids":[],"more":false,"page":0}')
 
 
+def rune_tree(etches, tx, held, burned, mints, height=3):
+    """What `/rune` says of a rune without a name, with premine 7, cap 10 and amount 5."""
+    name = name_of(RESERVED + (height << 32) + tx)
+    tree = {"amount": "5", "burned": burned, "cap": "10", "divisibility": 0, "etching": shown(id_of(etches)), "held": held}
+    tree |= {"height": [None, None], "id": f"{height}:{tx}", "mintable": True, "mints": mints, "name": name, "number": 0}
+    return tree | {"offset": [None, None], "premine": "7", "symbol": None}
+
+
+def ends_of_numbers(rows):
+    rows.case("an empty chain has no first block, and a number has no leading zero", "regtest")
+    rows.says("/inscriptions/7", '{"ids":[],"more":false,"page":7}')
+    rows.missing("/blockhash/0", "/sat/01")
+    rows.case("the last satoshi of each spelling is below the supply", "mainnet")
+    last = (
+        '{"decimal":"6929999.0","degree":"5°209999′1007″0‴","inscriptions":[],"name":"a","number":2099999997689999,'
+        '"place":null,"rarity":"uncommon"}'
+    )
+    for spelling in ("a", "6929999.0"):
+        rows.says(f"/sat/{spelling}", last)
+    rows.missing("/sat/nvtdijuwxlq", "/sat/6929999.1", "/sat/6930000.0", "/sat/0.5000000000", "/sat/18446744073709551616")
+    rows.case("the last satoshi of a lab chain is below its supply")
+    rows.says(
+        "/sat/99999999889",
+        '{"decimal":"329.0","degree":"5°9′5″0‴","inscriptions":[],"name":"a","number":99999999889,"place":null,'
+        '"rarity":"uncommon"}',
+    )
+    rows.missing("/sat/99999999890", "/sat/lkrmvqwy")
+
+
+def other_methods(rows):
+    rows.case("a path that no route takes is missing by each method", "regtest")
+    for path in ("", "/", "//status", "/status/", "/audit/", "/sat/", "/sat/a/b", "/connect/", "/disconnect/"):
+        rows.fails(404, f"GET {path}")
+        rows.fails(404, f"POST {path}")
+    rows.fails(404, "hex POST 2f7361742fff")
+
+
+def keep_blocks(rows):
+    rows.case("no more blocks are taken back than are kept", "regtest", 2)
+    rows.plain(3)
+    rows.disconnects()
+    rows.disconnects()
+    rows.row("disconnect", "refused 11")
+    rows.says("/status", {"blocks": 1, "depth": 2, "kept": 0, "profile": "regtest", "tip": shown(rows.tip())})
+
+
+def burn_and_take_back(rows):
+    rows.case("what a cenotaph burned and minted is there again after a disconnect")
+    etches = etch(rows, "6a5d0802030607080a0a05")
+    first = {"claimable": 4 * SUBSIDY, "lost": 0, "outputs": 4 * SUBSIDY}
+    first["runes"] = [{"burned": "0", "held": "7", "id": "3:1", "minted": "0", "premine": "7"}]
+    rows.says("/rune/3:1", rune_tree(etches, 1, "7", "0", "0"))
+    rows.says("/audit", first)
+    rows.extend(carry(etches, "6a5d06140314017e00"))
+    rows.says("/rune/3:1", rune_tree(etches, 1, "0", "12", "1"))
+    rows.disconnects()
+    rows.says("/rune/3:1", rune_tree(etches, 1, "7", "0", "0"))
+    rows.says("/audit", first)
+
+
+def equal_coinbases(rows):
+    rows.case("what a displaced output holds is burned, and a disconnect brings it back", "regtest")
+    stone = bytes.fromhex("6a5d0402010605")
+    five = coinbase_to(3, [(SUBSIDY, SHORT), (0, stone)])
+    zero = {"burned": "0", "held": "5", "id": "0:0", "minted": "0", "premine": "5"}
+    rows.connects(five)
+    balance = {"amount": "5", "id": "0:0", "name": "AAAAAAAAAAAAAAAAAAAAAAAAAAA", "shown": "5"}
+    rows.output(outpoint(five), 0, [[0, SUBSIDY]], runes=[balance])
+    rows.connects(five)
+    rows.audit(2 * SUBSIDY, SUBSIDY, [zero | {"burned": "5", "held": "0"}, zero | {"id": "1:0"}])
+    later = balance | {"id": "1:0", "name": name_of(RESERVED + (1 << 32))}
+    rows.output(outpoint(five), 1, [[SUBSIDY, 2 * SUBSIDY]], runes=[later])
+    rows.output(outpoint(five, 1), 1, [], script=stone)
+    rows.says("/runes/0", {"ids": ["0:0", "1:0"], "more": False, "page": 0})
+    rows.disconnects()
+    rows.audit(SUBSIDY, 0, [zero])
+    rows.output(outpoint(five), 0, [[0, SUBSIDY]], runes=[balance])
+    rows.case("what a coinbase etches is minted in its block, and its outputs hold the premine")
+    rows.plain(3)
+    mints = carry(plain(0), "6a5d0414031400")
+    etches = coinbase_to(3, [(SUBSIDY, SHORT), (0, bytes.fromhex("6a5d0802030607080a0a05"))])
+    rows.connects(etches, mints)
+    rows.audit(4 * SUBSIDY, 0, [{"burned": "0", "held": "12", "id": "3:0", "minted": "5", "premine": "7"}])
+    rows.says("/rune/3:0", rune_tree(etches, 0, "12", "0", "1"))
+    five = {"amount": "5", "id": "3:0", "name": name_of(RESERVED + (3 << 32)), "shown": "5"}
+    rows.output(outpoint(mints), 3, [[0, SUBSIDY]], runes=[five])
+    rows.output(outpoint(etches), 3, [[3 * SUBSIDY, 4 * SUBSIDY]], runes=[five | {"amount": "7", "shown": "7"}])
+
+
+def names_past_an_end(rows):
+    rows.case("a name past 128 bits, and spacers at an end or side by side, name no rune", "mainnet")
+    # of 28 and of 29 letters, and in 128 bits the number of UNCOMMONGOODS
+    for number in (GOODS + 2**128, GOODS + 13 * 2**128):
+        rows.missing(f"/rune/{name_of(number)}")
+    for spacer in ("•", "%E2%80%A2"):
+        for name in (f"{spacer}UNCOMMONGOODS", f"UNCOMMONGOODS{spacer}", f"UNCOMMON{2 * spacer}GOODS"):
+            rows.missing(f"/rune/{name}")
+    rows.missing("/rune/UNCOMMON%E2%80%A2%e2%80%a2GOODS", "/rune/UNCOMMON%E2%80GOODS")
+    rows.missing("/rune/4294967297:0", "/rune/18446744073709551616:0")
+    rows.case("a page whose number wraps isn't the first", "mainnet")
+    for page in WRAPS:
+        rows.says(f"/runes/{page}", f'{{"ids":[],"more":false,"page":{page}}}')
+
+
+def pages_that_wrap(rows):
+    rows.case("a page of inscriptions whose number wraps isn't the first")
+    tx = revealed(rows, envelope())
+    for page in WRAPS:
+        rows.says(f"/inscriptions/{page}", f'{{"ids":[],"more":false,"page":{page}}}')
+    rows.says("/inscriptions/0", {"ids": ids(tx, 0), "more": False, "page": 0})
+
+
+def many_runes(rows):
+    for what, many in (("a page has a hundred runes", 200), ("the next page may have one rune", 101)):
+        rows.case(what)
+        rows.plain(3)
+        split = transaction([spend(plain(0))], [(1, SHORT)] * many)
+        stone = bytes.fromhex("6a5d020201")
+        rows.extend(split, *(transaction([spend(split, index)], [(1, SHORT), (0, stone)]) for index in range(many)))
+        told = [f"3:{place}" for place in range(2, many + 2)]
+        rows.says("/runes/0", {"ids": told[:100], "more": True, "page": 0})
+        rows.says("/runes/1", {"ids": told[100:], "more": False, "page": 1})
+        for page in (*PAST, *WRAPS):
+            rows.says(f"/runes/{page}", f'{{"ids":[],"more":false,"page":{page}}}')
+
+
+def bytes_that_are_no_text(rows):
+    rows.case("a metaprotocol and an encoding that aren't UTF-8 are null")
+    tx = revealed(rows, envelope([(7, b"\xff"), (9, b"\xff"), (1, b"\x7e\x1f")], b"a") + envelope([(9, b"\x7f")], b"a"))
+    one = {"content_length": 1, "height": 6, "place": at(tx, 0), "sat": 0}
+    rows.inscription(tx, 0, content_type="~\x1f", number=0, **one)
+    rows.inscription(tx, 1, encoding="\x7f", number=1, **one)
+    rows.content(tx, b"a")
+    rows.content(tx, b"a", index=1)
+
+
+def delegates_without_bodies(rows):
+    rows.case("a delegate without a body is missing, and one with a body that delegates further gives its own")
+    rows.plain(2)
+    own = reveal(plain(0), UNBOUND)
+    bare = reveal(own, envelope())
+    over = reveal(bare, envelope([(11, id_of(own)), (1, b"text/css"), (9, b"br")], b"a"))
+    to_bare = reveal(over, envelope([(11, id_of(bare))], b"b"))
+    to_over = reveal(to_bare, envelope([(11, id_of(over)), (1, b"text/html"), (9, b"gzip")], b"c"))
+    last = reveal(to_over, envelope([(11, id_value(id_of(own), 1))], b"d"))
+    for tx in (own, bare, over, to_bare, to_over, last):
+        rows.extend(tx)
+    # a body of its own doesn't stand in for the delegate's, nor do a type and an encoding of its own
+    rows.missing(f"/content/{inscription(to_bare)}", f"/content/{inscription(bare)}", f"/content/{inscription(last)}")
+    rows.content(over, b"hi", "text/plain")
+    rows.content(to_over, b"a", "text/css", "br")
+    html = {"content_length": 1, "content_type": "text/html", "delegate": inscription(over), "encoding": "gzip"}
+    rows.inscription(to_over, height=6, number=4, place=at(last, 0), sat=0, **html)
+
+
+def places_by_pointers(rows):
+    rows.case("pointers choose the satoshis that inscriptions tell of")
+    rows.plain(6)
+    pointers = ("b70b", "b80b", "000000000000000001", "e80300000000000000")
+    script = b"".join(envelope([(2, bytes.fromhex(pointer))]) for pointer in pointers)
+    tx = transaction([spend(plain(0), 0, script)], [(1_000, SHORT), (2_000, SHORT)])
+    rows.extend(tx)
+    chosen = ((2_999, at(tx, 1_999, 1)), (0, at(tx, 0)), (0, at(tx, 0)), (1_000, at(tx, 0, 1)))
+    for number, (sat, place) in enumerate(chosen):
+        rows.inscription(tx, number, height=6, number=number, place=place, sat=sat)
+    rows.case("an output of 5,000,000,000 satoshis has two runs that fall, each with an inscription")
+    rows.plain(6)
+    # places among the inputs' satoshis
+    far, near = ((2, place.to_bytes(5, "little")) for place in (6_000_000_000, 3_000_000_000))
+    half = SUBSIDY // 2
+    inputs = [spend(plain(1), 0, envelope([far]) + envelope([near])), spend(plain(0))]
+    tx = transaction(inputs, [(half, SHORT), (SUBSIDY, SHORT), (half, SHORT)])
+    rows.extend(tx)
+    rows.output(outpoint(tx), 6, [[5_000_000_000, 7_500_000_000]])
+    rows.output(outpoint(tx, 1), 6, [[7_500_000_000, 10_000_000_000], [0, 2_500_000_000]], ids(tx, 1, 0))
+    rows.output(outpoint(tx, 2), 6, [[2_500_000_000, 5_000_000_000]])
+    rows.inscription(tx, 0, height=6, number=0, place=at(tx, 3_500_000_000, 1), sat=1_000_000_000)
+    rows.inscription(tx, 1, height=6, number=1, place=at(tx, 500_000_000, 1), sat=8_000_000_000)
+    rows.satoshi(1_000_000_000, ids(tx, 0), at(tx, 3_500_000_000, 1))
+    rows.satoshi(8_000_000_000, ids(tx, 1), at(tx, 500_000_000, 1))
+
+
+def parents_of_their_block(rows):
+    rows.case("parents are told behind a block that reveals an unbound inscription")
+    first = revealed(rows, UNBOUND)
+    p = reveal(plain(1), envelope())
+    q_id = id_of(reveal(p, b""))
+    q = reveal(p, envelope([(3, id_of(p))]) + envelope([(3, q_id)]))
+    rows.extend(p, q)
+    shared = {"height": 7, "place": at(q, 0), "sat": SUBSIDY}
+    rows.inscription(first, content_length=2, content_type="text/plain", height=6, number=0)
+    rows.inscription(p, number=1, **shared)
+    rows.inscription(q, number=2, parents=ids(p, 0), **shared)
+    rows.inscription(q, 1, number=3, **shared)
+    rows.satoshi(SUBSIDY, ids(p, 0) + ids(q, 0, 1), at(q, 0))
+
+
+def curse_below_the_jubilee(rows):
+    rows.case("inscriptions below and at the jubilee are told by their numbers")
+    rows.plain(3)
+    first, even, last = reveal(plain(0), 2 * envelope()), reveal(plain(1), UNBOUND), reveal(plain(2), 2 * envelope())
+    rows.extend(first)
+    rows.plain(5)
+    rows.extend(even)
+    rows.extend(last)
+    for index in (0, 1):
+        rows.inscription(first, index, height=3, number=index, place=at(first, 0), sat=0)
+        rows.inscription(last, index, height=6, number=3 + index, place=at(last, 0), sat=2 * SUBSIDY)
+    rows.inscription(even, content_length=2, content_type="text/plain", height=5, number=2)
+    rows.says("/inscriptions/0", {"ids": ids(first, 0, 1) + ids(even, 0) + ids(last, 0, 1), "more": False, "page": 0})
+
+
 def main():
     rows = Queries()
     for group in (chains, first_block, methods, satoshis, audits, edicts, terms, two_runes, names, pages_of_runes):
         group(rows)
     for group in (one_inscription, pages_of_inscriptions, texts, delegates, long_content, places, parents, moves):
+        group(rows)
+    for group in (ends_of_numbers, other_methods, keep_blocks, burn_and_take_back, equal_coinbases, names_past_an_end):
+        group(rows)
+    for group in (pages_that_wrap, many_runes, bytes_that_are_no_text, delegates_without_bodies, places_by_pointers):
+        group(rows)
+    for group in (parents_of_their_block, curse_below_the_jubilee):
         group(rows)
     rows.write("ox_query_rows")
 

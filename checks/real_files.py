@@ -26,7 +26,7 @@ import traceback
 from chain import DISCONNECT, SHORT, SUBSIDY, block_with, chain, coinbase, envelope, file_a, file_of, id_value, line
 from chain import payload_of, record, revealing, twice
 from kills import Failed, demand, kill_often
-from table import BLOCKS, PERIOD, Table, outpoint, satoshi
+from table import BLOCKS, Table, outpoint, satoshi
 
 HERE = pathlib.Path(__file__).resolve().parent
 PROGRAM = HERE.parent / "crates" / "ox_main" / "out" / "ox_main"
@@ -311,12 +311,49 @@ def inscriptions_and_runes(ox):
         ox.says(path, {"error": 404})
 
 
+@check("what a cenotaph minted and burned is taken back with its block, by a later run too")
+def burns_taken_back(ox):
+    blocks, _ = chain(3)
+    etches = revealing(twice(coinbase(0, SHORT)), b"", [(SUBSIDY, SHORT), (0, bytes.fromhex("6a5d0802030607080a0a05"))])
+    burns = revealing(twice(etches[0]), b"", [(SUBSIDY, SHORT), (0, bytes.fromhex("6a5d06140314017e00"))])
+    for height, tx in ((3, etches), (4, burns)):
+        blocks.append(block_with(twice(blocks[-1][:80]), height, tx)[0])
+    ox.wants((0, b"ok empty\n"), "init", "lab", "100")
+    ox.run("apply", feed=b"".join(map(line, blocks)))
+    for count, burned, held, minted, mints in ((5, "12", "0", "5", "1"), (4, "0", "7", "0", "0")):
+        audited = {"burned": burned, "held": held, "id": "3:1", "minted": minted, "premine": "7"}
+        ox.says("/audit", {"claimable": count * SUBSIDY, "lost": 0, "outputs": count * SUBSIDY, "runes": [audited]})
+        rune = {"amount": "5", "burned": burned, "cap": "10", "divisibility": 0, "etching": twice(etches[0])[::-1].hex()}
+        rune |= {"height": [None, None], "held": held, "id": "3:1", "mintable": True, "mints": mints, "number": 0}
+        rune |= {"name": name_of(RESERVED + (3 << 32) + 1), "offset": [None, None], "premine": "7", "symbol": None}
+        ox.says("/rune/3:1", rune)
+        ox.run("apply", feed=b"disconnect\n")
+
+
+@check("empty stores and one of Bitcoin's first block tell of a rune, a page and the first satoshi")
+def first_replies(ox):
+    ox.init()
+    ox.says("/inscriptions/7", b'{"ids":[],"more":false,"page":7}')
+    ox.says("/blockhash/0", {"error": 404})
+    ox.says("/sat/01", {"error": 404})
+    ox.write(b"", b"")
+    ox.wants((0, b"ok empty\n"), "init", "mainnet", "100")
+    goods = (
+        '{"amount":"1","burned":"0","cap":"340282366920938463463374607431768211455","divisibility":0,"etching":"'
+        + 64 * "0" + '","height":[840000,1050000],"held":"0","id":"1:0","mintable":false,"mints":"0",'
+        '"name":"UNCOMMON•GOODS","number":0,"offset":[null,null],"premine":"0","symbol":"⧉"}'
+    )
+    ox.says("/rune/UNCOMMON.GOODS", goods.encode())
+    ox.wants((0, GENESIS_ANSWER), "apply", feed=GENESIS)
+    place = {"offset": 0, "outpoint": "4a5e1e4baab89f3a32518a88c31bc87f618f76673e2cc77ab2127b7afdeda33b:0"}
+    told = {"decimal": "0.0", "degree": "0°0′0″0‴", "inscriptions": [], "name": "nvtdijuwxlp", "number": 0}
+    ox.says("/sat/0", told | {"place": place, "rarity": "mythic"})
+
+
 def asked_satoshis(table):
-    """Satoshis at both ends of runs of one output, in its middle, one that is lost, and two that aren't mined."""
+    """Satoshis at both ends of runs of one output, one that is lost, and one that isn't mined."""
     runs = max((row[1] for row in table.rows.values()), key=len)
-    ends = [runs[0][0], sum(runs[0]) - 1, runs[-1][0], sum(runs[-1]) - 1]
-    middle = runs[len(runs) // 2]
-    return [*ends, middle[0] + middle[1] // 2, sum(table.lost[-1]) - 1, BLOCKS * SUBSIDY, PERIOD * SUBSIDY - 1]
+    return [runs[0][0], sum(runs[-1]) - 1, sum(table.lost[-1]) - 1, BLOCKS * SUBSIDY]
 
 
 @check(f"among 500,000 outputs satoshis are found where they have to be, or nowhere, within {SECONDS} seconds")

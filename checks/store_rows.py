@@ -660,9 +660,44 @@ def keeps(rows):
     rows.open()
 
 
+def keep_what_is_kept(rows):
+    rows.heading("an opening keeps how many blocks may be taken back")
+    payloads, _ = marks(1, 3)
+    rows.make("regtest", 2)
+    rows.open(payloads + [DISCONNECT])
+    rows.open(2 * [DISCONNECT])
+    first, second = (twice(payload[1:81]).hex() for payload in payloads[:2])
+    assert rows.stdout[-4].startswith(f"2 blocks, 1 of 2 kept") and rows.stdout[-4].endswith(f"tip 1 {second}")
+    assert rows.stdout[-3].endswith(f"tip 0 {first}") and rows.stdout[-2] == "refused 11"
+
+
+def stop_in_a_second_gate(rows):
+    rows.heading("a stop in a second block's gate leaves one block or two")
+    payloads, _ = marks(1, 2)
+    rows.make("regtest", 100, payloads)
+    # the making has 7 moments, and each block 4: a write, a sync, the gate's write and its sync
+    for moment, fill, blocks in ((13, 0x07, 1), (14, 0x00, 1), (14, 0x07, 2)):
+        rows.crash(moment, fill, ALL)
+        assert rows.stdout[-1].startswith(f"{blocks} blocks")
+
+
+def spoil_a_first_byte(rows):
+    rows.heading("a store whose first byte is 00 is none, nor is one without the other file")
+    rows.make()
+    rows.overwrite("A", 0, b"\0")
+    rows.open()
+    assert rows.stdout[-1] == "not a store: A at 0"
+    rows.fresh()
+    rows.overwrite("A", 0, EMPTY)
+    rows.open()
+    assert rows.stdout[-1] == "not a store: B at 0"
+
+
 def main():
     rows = Rows()
     for part in (makes, commits, refuses, no_store, fails, stops, prefixes, many, displaces, replaces, keeps):
+        part(rows)
+    for part in (keep_what_is_kept, stop_in_a_second_gate, spoil_a_first_byte):
         part(rows)
     (CRATE / "stdin").write_text("".join(line + "\n" for line in rows.stdin))
     (CRATE / "stdout").write_text("".join(line + "\n" for line in rows.stdout))

@@ -10,7 +10,6 @@ SPENT = 1_000
 # of each coinbase so many satoshis are left, which are lost
 LEFT = 1_000
 SUPPLY = 2_099_999_997_690_000
-PERIOD = 2_016
 NO_OUTPUT = bytes(32), 0xFFFFFFFF
 
 
