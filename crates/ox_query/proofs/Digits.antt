@@ -25,3 +25,6 @@ hash_small hash = digits_small (reverse hash)
 
 pub hash_is_text : (hash : List ℕ) → IsUtf8 (hash_text hash)
 hash_is_text hash = IsUtf8-from_ascii (hash_text hash) (hash_small hash)
+
+pub digits_are_text : (bytes : List ℕ) → IsUtf8 (encode_lower bytes)
+digits_are_text bytes = IsUtf8-from_ascii (encode_lower bytes) (digits_small bytes)

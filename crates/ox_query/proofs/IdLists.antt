@@ -29,7 +29,7 @@ use Rattle.ox_ask.specs.Inscriptions.{inscription_id}
 use Rattle.ox_ask.specs.Walk.{on_between, walk_of}
 use Rattle.ox_ask.proofs.Halves.{second_half}
 use Rattle.ox_ask.proofs.Walks.{all_walked}
-use Rattle.ox_query.specs.Listed.{ids_of}
+use Rattle.ox_query.specs.Listed.{inscription_ids_of}
 use Rattle.ox_query.specs.Written.{tokens_of, tokens_of_all}
 use Rattle.ox_query.proofs.Digits.{digits_small}
 
@@ -93,20 +93,20 @@ module _ (rows : List InsRow) where
   found_there id None e = tt
   found_there id (Some n) e = found_below id n (sym e)
 
-  ids_of-append : (a b : List ℕ) → ids_of rows (a ++ b) ≡ ids_of rows a ++ ids_of rows b
-  ids_of-append a b =
+  inscription_ids_of-append : (a b : List ℕ) → inscription_ids_of rows (a ++ b) ≡ inscription_ids_of rows a ++ inscription_ids_of rows b
+  inscription_ids_of-append a b =
       ap (map inscription_id) (filter_map-append (slice_get rows) a b)
       ∙ map-append inscription_id (filter_map (slice_get rows) a) (filter_map (slice_get rows) b)
 
-  one_id : (n : ℕ) (row : InsRow) → slice_get rows n ≡ Some row → ids_of rows (n ∷ []) ≡ inscription_id row ∷ []
+  one_id : (n : ℕ) (row : InsRow) → slice_get rows n ≡ Some row → inscription_ids_of rows (n ∷ []) ≡ inscription_id row ∷ []
   one_id n row there = ap (λ (found : Option InsRow). map inscription_id (cons_option found [])) there
 
   -- the tokens of the ids of the inscriptions with these numbers
   abbrev pub told_of : List ℕ → List Token
-  told_of numbers = tokens_of_all (ids_of rows numbers)
+  told_of numbers = tokens_of_all (inscription_ids_of rows numbers)
 
   told_of-append : (a b : List ℕ) → told_of (a ++ b) ≡ told_of a ++ told_of b
-  told_of-append a b = ap tokens_of_all (ids_of-append a b) ∙ flat_map-append tokens_of (ids_of rows a) (ids_of rows b)
+  told_of-append a b = ap tokens_of_all (inscription_ids_of-append a b) ∙ flat_map-append tokens_of (inscription_ids_of rows a) (inscription_ids_of rows b)
 
   told_of_one : (n : ℕ) (row : InsRow) → slice_get rows n ≡ Some row → told_of (n ∷ []) ≡ tokens_of (inscription_id row)
   told_of_one n row there = ap tokens_of_all (one_id n row there) ∙ append-nil (tokens_of (inscription_id row))

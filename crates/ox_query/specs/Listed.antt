@@ -6,5 +6,5 @@ use Rattle.ox_inscribe.specs.declared.row.InsRow.{InsRow}
 use Rattle.ox_ask.specs.Inscriptions.{inscription_id}
 
 -- the ids of the inscriptions with these numbers, one by one
-abbrev pub ids_of : List InsRow → List ℕ → List Data
-ids_of rows numbers = map inscription_id (filter_map (slice_get rows) numbers)
+abbrev pub inscription_ids_of : List InsRow → List ℕ → List Data
+inscription_ids_of rows numbers = map inscription_id (filter_map (slice_get rows) numbers)

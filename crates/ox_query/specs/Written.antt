@@ -15,8 +15,8 @@ abbrev pub tokens_of_all : List Data → List Token
 tokens_of_all = flat_map tokens_of
 
 -- if all went well, these tokens came behind those that stood there
-abbrev pub Adds : {E : Type 0} → Result (Unit {0}) E → Written → Written → List Token → Type 0
-Adds r old new tokens = OnOk r ((new.before ≡ old.before) × (new.tokens ≡ old.tokens ++ tokens))
+abbrev pub AddsTokens : {E : Type 0} → Result (Unit {0}) E → Written → Written → List Token → Type 0
+AddsTokens r old new tokens = OnOk r ((new.before ≡ old.before) × (new.tokens ≡ old.tokens ++ tokens))
 
 -- nothing is written yet
 abbrev pub IsBlank : Written → Type 0

@@ -6,7 +6,7 @@ ghost use Rattle.serde_json.specs.View.{items_of};
 ghost use Rattle.serde_json.specs.Written.{compact_text};
 ghost use Rattle.ox_ask.specs.Audits.{audit_tree, rune_audit_tree};
 ghost use Rattle.ox_model.specs.Audit.{audit_of};
-ghost use Rattle.ox_query.specs.Written.{Adds, tokens_of};
+ghost use Rattle.ox_query.specs.Written.{AddsTokens, tokens_of};
 
 use crate::bodies::{body_of, new_body};
 use crate::rune_values::{write_amount, write_rune_id};
@@ -17,7 +17,7 @@ use std::alloc::Global;
 
 // Writes where a rune is and where it came from.
 fn write_rune_audit(out: &mut Writer, rune: &RuneAudit) -> Result<(), Memory>
-    ensures { Adds result out.old out.new (tokens_of (rune_audit_tree rune.now)) }
+    ensures { AddsTokens result out.old out.new (tokens_of (rune_audit_tree rune.now)) }
 {
     out.begin_object()?;
     out.key("burned")?;
@@ -35,7 +35,7 @@ fn write_rune_audit(out: &mut Writer, rune: &RuneAudit) -> Result<(), Memory>
 
 // Writes runes, in order.
 fn write_runes(out: &mut Writer, runes: &[RuneAudit]) -> Result<(), Memory>
-    ensures { Adds result out.old out.new
+    ensures { AddsTokens result out.old out.new
         (tokens_of (array (items_of (map rune_audit_tree runes.now)))) }
 {
     out.begin_array()?;
@@ -47,7 +47,7 @@ fn write_runes(out: &mut Writer, runes: &[RuneAudit]) -> Result<(), Memory>
 
 // Writes where all satoshis and all runes are.
 fn write_audit(out: &mut Writer, audit: &Audit) -> Result<(), Memory>
-    ensures { Adds result out.old out.new (tokens_of (audit_tree audit.now)) }
+    ensures { AddsTokens result out.old out.new (tokens_of (audit_tree audit.now)) }
 {
     out.begin_object()?;
     out.key("claimable")?;

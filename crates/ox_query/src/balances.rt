@@ -4,9 +4,9 @@ ghost use Rattle.std.specs.Prelude.{◌≤◌, [], ◌∷◌};
 ghost use Rattle.std.specs.List.{filter_map};
 ghost use Rattle.ox_ask.specs.Runes.{balance_among, balance_tree, balances_tree};
 ghost use Rattle.ox_ledger.specs.Runes.{balances_at};
-ghost use Rattle.ox_query.specs.Written.{Adds, tokens_of, tokens_of_all};
+ghost use Rattle.ox_query.specs.Written.{AddsTokens, tokens_of, tokens_of_all};
 
-use crate::rune_values::{write_amount, write_name, write_rune_id, write_shown};
+use crate::rune_values::{write_amount, write_rune_id, write_rune_name, write_shown};
 use json::Writer;
 use ox_block::OutPoint;
 use ox_bytes::Memory;
@@ -15,7 +15,7 @@ use ox_model::{RuneId, RuneRow, View};
 // Writes so much of a rune.
 fn write_held(out: &mut Writer, amount: u128, row: &RuneRow) -> Result<(), Memory>
     requires { row.now.divisibility ≤ 38 }
-    ensures { Adds result out.old out.new (tokens_of (balance_tree amount row.now)) }
+    ensures { AddsTokens result out.old out.new (tokens_of (balance_tree amount row.now)) }
 {
     out.begin_object()?;
     out.key("amount")?;
@@ -23,7 +23,7 @@ fn write_held(out: &mut Writer, amount: u128, row: &RuneRow) -> Result<(), Memor
     out.key("id")?;
     write_rune_id(out, &row.id)?;
     out.key("name")?;
-    write_name(out, row)?;
+    write_rune_name(out, row)?;
     out.key("shown")?;
     write_shown(out, amount, row.divisibility)?;
     Ok(out.end_object()?)
@@ -35,7 +35,7 @@ fn write_balance<V: View>(
     live: &V,
     balance: &(RuneId, u128),
 ) -> Result<(), Memory>
-    ensures { Adds result out.old out.new (tokens_of_all
+    ensures { AddsTokens result out.old out.new (tokens_of_all
         (filter_map (balance_among (V.index live.now).runes) (balance.now ∷ []))) }
 {
     let (id, amount) = *balance;
@@ -51,7 +51,7 @@ pub(crate) fn write_balances<V: View>(
     live: &V,
     at: &OutPoint,
 ) -> Result<(), Memory>
-    ensures { Adds result out.old out.new (tokens_of (balances_tree (V.index live.now).runes
+    ensures { AddsTokens result out.old out.new (tokens_of (balances_tree (V.index live.now).runes
         (balances_at (V.index live.now).bal at.now))) }
 {
     out.begin_array()?;

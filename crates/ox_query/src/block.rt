@@ -3,7 +3,7 @@
 ghost use Rattle.std.specs.Prelude.{◌≡◌, IfOk, option_map, slice_get};
 ghost use Rattle.serde_json.specs.Written.{compact_text};
 ghost use Rattle.ox_ask.specs.Trees.{block_tree};
-ghost use Rattle.ox_query.specs.Written.{Adds, tokens_of};
+ghost use Rattle.ox_query.specs.Written.{AddsTokens, tokens_of};
 
 use crate::bodies::{body_of, new_body};
 use crate::values::write_hash;
@@ -14,7 +14,7 @@ use std::alloc::Global;
 
 // Writes the block of a height and its hash.
 fn write_block(out: &mut Writer, height: u64, hash: &[u8; 32]) -> Result<(), Memory>
-    ensures { Adds result out.old out.new (tokens_of (block_tree height hash.now)) }
+    ensures { AddsTokens result out.old out.new (tokens_of (block_tree height hash.now)) }
 {
     out.begin_object()?;
     out.key("hash")?;

@@ -9,7 +9,7 @@ use json::Writer;
 use ox_bytes::{Bytes, Memory};
 use std::alloc::Global;
 
-/// So many bytes most replies need at most.
+/// For so many bytes a new body has room. It grows where it needs more.
 const ROOM: usize = 256;
 
 /// A body in which nothing is written yet. `Memory` where there is none for it.

@@ -4,8 +4,8 @@ ghost use Rattle.std.specs.Prelude.{◌+◌, ◌^◌, ◌<◌, All, length};
 ghost use Rattle.ox_ask.specs.Inscriptions.{id_tree, ids_on_all, ids_tree};
 ghost use Rattle.ox_ask.specs.Walk.{on_between};
 ghost use Rattle.ox_inscribe.specs.Inscriptions.{on};
-ghost use Rattle.ox_query.specs.Listed.{ids_of};
-ghost use Rattle.ox_query.specs.Written.{Adds, tokens_of, tokens_of_all};
+ghost use Rattle.ox_query.specs.Listed.{inscription_ids_of};
+ghost use Rattle.ox_query.specs.Written.{AddsTokens, tokens_of, tokens_of_all};
 ghost use Rattle.ox_range.specs.Runs.{AreMaximal, end_of, numbers_of};
 
 use crate::values::text_of;
@@ -16,7 +16,7 @@ use ox_range::{Ranges, Run};
 
 /// Writes an inscription's id as it is printed. `Memory` where there is none for it.
 pub(crate) fn write_id(out: &mut Writer, id: &InsId) -> Result<(), Memory>
-    ensures { Adds result out.old out.new (tokens_of (id_tree id.now)) }
+    ensures { AddsTokens result out.old out.new (tokens_of (id_tree id.now)) }
 {
     let mut letters = [0; 75];
     let len = ox_envelope::write_id(id, &mut letters);
@@ -26,8 +26,8 @@ pub(crate) fn write_id(out: &mut Writer, id: &InsId) -> Result<(), Memory>
 // Writes the ids of the inscriptions with these numbers, one behind the other.
 fn write_ids<V: View>(out: &mut Writer, live: &V, numbers: &[u32]) -> Result<(), Memory>
     requires { All (λ n. n < length (V.index live.now).inscriptions) numbers.now }
-    ensures { Adds result out.old out.new
-        (tokens_of_all (ids_of (V.index live.now).inscriptions numbers.now)) }
+    ensures { AddsTokens result out.old out.new
+        (tokens_of_all (inscription_ids_of (V.index live.now).inscriptions numbers.now)) }
 {
     for n in numbers {
         write_id(out, &live.inscription(*n).id)?;
@@ -38,7 +38,7 @@ fn write_ids<V: View>(out: &mut Writer, live: &V, numbers: &[u32]) -> Result<(),
 /// Writes the ids of the inscriptions on a satoshi, by number. `Memory` where there is none for
 /// them.
 pub(crate) fn write_ids_on<V: View>(out: &mut Writer, live: &V, sat: u64) -> Result<(), Memory>
-    ensures { Adds result out.old out.new (tokens_of
+    ensures { AddsTokens result out.old out.new (tokens_of
         (ids_tree (V.index live.now).inscriptions (on (V.index live.now).inscriptions sat))) }
 {
     out.begin_array()?;
@@ -50,7 +50,7 @@ pub(crate) fn write_ids_on<V: View>(out: &mut Writer, live: &V, sat: u64) -> Res
 // next.
 fn write_ids_on_run<V: View>(out: &mut Writer, live: &V, run: &Run) -> Result<(), Memory>
     requires { run.now.first + run.now.count < 2 ^ 64 }
-    ensures { Adds result out.old out.new (tokens_of_all (ids_of (V.index live.now).inscriptions
+    ensures { AddsTokens result out.old out.new (tokens_of_all (inscription_ids_of (V.index live.now).inscriptions
         (on_between (V.index live.now).inscriptions run.now.first (end_of run.now)))) }
 {
     let end = run.first + run.count;
@@ -68,7 +68,7 @@ fn write_ids_on_run<V: View>(out: &mut Writer, live: &V, run: &Run) -> Result<()
 // Writes the ids of the inscriptions on the satoshis of these runs.
 fn write_ids_on_runs<V: View>(out: &mut Writer, live: &V, runs: &[Run]) -> Result<(), Memory>
     requires { AreMaximal runs.now }
-    ensures { Adds result out.old out.new
+    ensures { AddsTokens result out.old out.new
         (tokens_of (ids_on_all (V.index live.now).inscriptions (numbers_of runs.now))) }
 {
     out.begin_array()?;
@@ -81,7 +81,7 @@ fn write_ids_on_runs<V: View>(out: &mut Writer, live: &V, runs: &[Run]) -> Resul
 /// Writes the ids of the inscriptions on these satoshis: satoshi by satoshi, and on each by number.
 /// `Memory` where there is none for them.
 pub(crate) fn write_ids_in<V: View>(out: &mut Writer, live: &V, sats: &Ranges) -> Result<(), Memory>
-    ensures { Adds result out.old out.new
+    ensures { AddsTokens result out.old out.new
         (tokens_of (ids_on_all (V.index live.now).inscriptions sats.now)) }
 {
     write_ids_on_runs(out, live, sats.runs())

@@ -14,14 +14,14 @@ ghost use Rattle.ox_ask.specs.Values.{count, hex as hex_said, or_null};
 ghost use Rattle.ox_ask.specs.Values.{text_or_null as text_said};
 ghost use Rattle.ox_model.specs.Where.{where_is};
 ghost use Rattle.ox_query.specs.Paged.{rows_between};
-ghost use Rattle.ox_query.specs.Written.{Adds, tokens_of};
+ghost use Rattle.ox_query.specs.Written.{AddsTokens, tokens_of};
 
 use crate::bodies::{body_of, new_body};
 use crate::ids::write_id;
 use crate::pages::{page_of, write_page_end};
 use crate::parts::number;
 use crate::sat::write_place;
-use crate::values::write_count_or_null;
+use crate::values::{write_count_or_null, write_hex};
 use json::Writer;
 use ox_bytes::{Bytes, Memory};
 use ox_envelope::read_id_text;
@@ -30,7 +30,7 @@ use std::alloc::Global;
 
 // Writes how many bytes there are, or null without any.
 fn write_length_or_null(out: &mut Writer, bytes: &Option<Bytes>) -> Result<(), Memory>
-    ensures { Adds result out.old out.new
+    ensures { AddsTokens result out.old out.new
         (tokens_of (or_null (λ bytes. count (length bytes)) bytes.now)) }
 {
     match bytes {
@@ -41,7 +41,7 @@ fn write_length_or_null(out: &mut Writer, bytes: &Option<Bytes>) -> Result<(), M
 
 // Writes bytes as text, or null where there are none or they aren't UTF-8.
 fn write_text_or_null(out: &mut Writer, bytes: &Option<Bytes>) -> Result<(), Memory>
-    ensures { Adds result out.old out.new (tokens_of (or_null text_said bytes.now)) }
+    ensures { AddsTokens result out.old out.new (tokens_of (or_null text_said bytes.now)) }
 {
     let Some(bytes) = bytes else {
         return Ok(out.null()?);
@@ -54,17 +54,17 @@ fn write_text_or_null(out: &mut Writer, bytes: &Option<Bytes>) -> Result<(), Mem
 
 // Writes bytes as hexadecimal digits, or null without any.
 fn write_hex_or_null(alloc: Global, out: &mut Writer, bytes: &Option<Bytes>) -> Result<(), Memory>
-    ensures { Adds result out.old out.new (tokens_of (or_null hex_said bytes.now)) }
+    ensures { AddsTokens result out.old out.new (tokens_of (or_null hex_said bytes.now)) }
 {
     match bytes {
-        Some(bytes) => Ok(out.string(hex::encode(alloc, bytes.as_slice())?.as_str())?),
+        Some(bytes) => write_hex(alloc, out, bytes.as_slice()),
         None => Ok(out.null()?),
     }
 }
 
 // Writes an id, or null without one.
 fn write_id_or_null(out: &mut Writer, id: &Option<InsId>) -> Result<(), Memory>
-    ensures { Adds result out.old out.new (tokens_of (or_null id_tree id.now)) }
+    ensures { AddsTokens result out.old out.new (tokens_of (or_null id_tree id.now)) }
 {
     match id {
         Some(id) => write_id(out, id),
@@ -73,8 +73,8 @@ fn write_id_or_null(out: &mut Writer, id: &Option<InsId>) -> Result<(), Memory>
 }
 
 // Writes ids, in order.
-fn write_ids(out: &mut Writer, ids: &[InsId]) -> Result<(), Memory>
-    ensures { Adds result out.old out.new
+fn write_id_list(out: &mut Writer, ids: &[InsId]) -> Result<(), Memory>
+    ensures { AddsTokens result out.old out.new
         (tokens_of (array (items_of (map id_tree ids.now)))) }
 {
     out.begin_array()?;
@@ -99,7 +99,7 @@ fn write_inscription<V: View>(
     n: u32,
     row: &InsRow,
 ) -> Result<(), Memory>
-    ensures { Adds result out.old out.new
+    ensures { AddsTokens result out.old out.new
         (tokens_of (inscription_tree (V.index live.now) n row.now)) }
 {
     out.begin_object()?;
@@ -122,7 +122,7 @@ fn write_inscription<V: View>(
     out.key("number")?;
     out.u64(u64::from(n))?;
     out.key("parents")?;
-    write_ids(out, row.parents.as_slice())?;
+    write_id_list(out, row.parents.as_slice())?;
     out.key("place")?;
     write_place(out, place_on(live, row.sat))?;
     out.key("sat")?;
@@ -171,7 +171,7 @@ pub(crate) fn inscription_body<V: View>(
 fn write_row_ids<V: View>(out: &mut Writer, live: &V, first: u32, end: u32) -> Result<(), Memory>
     requires rising { first ≤ end }
     requires there { end ≤ length (V.index live.now).inscriptions }
-    ensures { Adds result out.old out.new (tokens_of (array (items_of
+    ensures { AddsTokens result out.old out.new (tokens_of (array (items_of
         (map inscription_id (rows_between (V.index live.now).inscriptions first end))))) }
 {
     out.begin_array()?;
@@ -183,7 +183,7 @@ fn write_row_ids<V: View>(out: &mut Writer, live: &V, first: u32, end: u32) -> R
 
 // Writes a page of inscriptions.
 fn write_page<V: View>(out: &mut Writer, live: &V, page: u64) -> Result<(), Memory>
-    ensures { Adds result out.old out.new
+    ensures { AddsTokens result out.old out.new
         (tokens_of (page_tree inscription_id (V.index live.now).inscriptions page)) }
 {
     let rows = page_of(page, live.inscriptions());

@@ -5,12 +5,13 @@ ghost use Rattle.std.specs.FinMap as map;
 ghost use Rattle.serde_json.specs.Data.{array};
 ghost use Rattle.serde_json.specs.Written.{compact_text};
 ghost use Rattle.ox_ask.specs.Trees.{output_tree, run_items, run_tree};
-ghost use Rattle.ox_query.specs.Written.{Adds, tokens_of};
+ghost use Rattle.ox_query.specs.Written.{AddsTokens, tokens_of};
 ghost use Rattle.ox_range.specs.Runs.{AreMaximal};
 
 use crate::balances::write_balances;
 use crate::bodies::{body_of, new_body};
 use crate::ids::write_ids_in;
+use crate::values::write_hex;
 use json::Writer;
 use ox_block::OutPoint;
 use ox_bytes::{Bytes, Memory};
@@ -21,7 +22,7 @@ use std::alloc::Global;
 // Writes a run's first satoshi, and the one behind its last.
 fn write_run(out: &mut Writer, run: &Run) -> Result<(), Memory>
     requires { run.now.first + run.now.count < 2 ^ 64 }
-    ensures { Adds result out.old out.new (tokens_of (run_tree run.now)) }
+    ensures { AddsTokens result out.old out.new (tokens_of (run_tree run.now)) }
 {
     out.begin_array()?;
     out.u64(run.first)?;
@@ -32,7 +33,7 @@ fn write_run(out: &mut Writer, run: &Run) -> Result<(), Memory>
 // Writes runs, in order.
 fn write_runs(out: &mut Writer, runs: &[Run]) -> Result<(), Memory>
     requires { AreMaximal runs.now }
-    ensures { Adds result out.old out.new (tokens_of (array (run_items runs.now))) }
+    ensures { AddsTokens result out.old out.new (tokens_of (array (run_items runs.now))) }
 {
     out.begin_array()?;
     for run in runs {
@@ -49,7 +50,7 @@ fn write_output<V: View>(
     at: &OutPoint,
     row: &OutRow,
 ) -> Result<(), Memory>
-    ensures { Adds result out.old out.new
+    ensures { AddsTokens result out.old out.new
         (tokens_of (output_tree (V.index live.now) at.now row.now)) }
 {
     out.begin_object()?;
@@ -62,7 +63,7 @@ fn write_output<V: View>(
     out.key("runes")?;
     write_balances(out, live, at)?;
     out.key("script")?;
-    out.string(&hex::encode(alloc, row.script.as_slice())?)?;
+    write_hex(alloc, out, row.script.as_slice())?;
     out.key("value")?;
     out.u64(row.sats.len())?;
     Ok(out.end_object()?)

@@ -2,7 +2,7 @@
 
 ghost use Rattle.std.specs.Prelude.{◌≡◌, ◌+◌, ◌*◌, min, nat_lt};
 ghost use Rattle.ox_query.specs.Paged.{page_end};
-ghost use Rattle.ox_query.specs.Written.{Adds};
+ghost use Rattle.ox_query.specs.Written.{AddsTokens};
 
 use json::Writer;
 use ox_bytes::Memory;
@@ -37,7 +37,7 @@ pub(crate) fn page_of(page: u64, len: u32) -> PageRows
 /// Writes what stands behind a page's ids: whether more follow, and its number. `Memory` where
 /// there is none for it.
 pub(crate) fn write_page_end(out: &mut Writer, more: bool, page: u64) -> Result<(), Memory>
-    ensures { Adds result out.old out.new (page_end more page) }
+    ensures { AddsTokens result out.old out.new (page_end more page) }
 {
     out.key("more")?;
     out.boolean(more)?;

@@ -8,7 +8,7 @@ ghost use Rattle.ox_ask.specs.Ask.{named_reply as named_said, same_method as is_
 ghost use Rattle.ox_ask.specs.Ask.{tree_reply as tree_said};
 ghost use Rattle.ox_ask.specs.Trees.{error_tree};
 ghost use Rattle.ox_query.specs.Asked.{asked_of};
-ghost use Rattle.ox_query.specs.Written.{Adds, tokens_of};
+ghost use Rattle.ox_query.specs.Written.{AddsTokens, tokens_of};
 
 use crate::audit::audit_body;
 use crate::block::block_at;
@@ -28,7 +28,7 @@ use ox_model::{About, View};
 use ox_routes::{Found, Route, Routes};
 use std::alloc::Global;
 
-// A reply with a tree, of which the body is the compact JSON.
+// A reply whose body is the compact JSON of a tree.
 fn tree_reply(alloc: Global, status: u16, body: Bytes, close: bool) -> Result<Reply, Memory>
     ensures { (tree : Data) → body ≡ compact_text tree
         → IfOk result (λ reply. reply ≡ tree_said status tree close) }
@@ -44,7 +44,7 @@ fn tree_reply(alloc: Global, status: u16, body: Bytes, close: bool) -> Result<Re
 
 // Writes what a status that isn't 200 says.
 fn write_error(out: &mut Writer, status: u16) -> Result<(), Memory>
-    ensures { Adds result out.old out.new (tokens_of (error_tree status)) }
+    ensures { AddsTokens result out.old out.new (tokens_of (error_tree status)) }
 {
     out.begin_object()?;
     out.key("error")?;

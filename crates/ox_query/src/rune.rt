@@ -9,11 +9,11 @@ ghost use Rattle.ox_ask.specs.Runes.{character, rune_tree, span_tree};
 ghost use Rattle.ox_etching.specs.Minted.{minted as minted_at};
 ghost use Rattle.ox_model.specs.Found.{held_of};
 ghost use Rattle.ox_ask.specs.Values.{amount as amount_said, or_null};
-ghost use Rattle.ox_query.specs.Written.{Adds, tokens_of};
+ghost use Rattle.ox_query.specs.Written.{AddsTokens, tokens_of};
 
 use crate::bodies::{body_of, new_body};
 use crate::rune_named::rune_named;
-use crate::rune_values::{write_amount, write_name, write_rune_id};
+use crate::rune_values::{write_amount, write_rune_id, write_rune_name};
 use crate::values::{write_count_or_null, write_hash};
 use json::Writer;
 use ox_bytes::{Bytes, Memory};
@@ -24,7 +24,7 @@ use std::alloc::Global;
 
 // Writes an amount, or null without one.
 fn write_amount_or_null(out: &mut Writer, amount: Option<u128>) -> Result<(), Memory>
-    ensures { Adds result out.old out.new (tokens_of (or_null amount_said amount)) }
+    ensures { AddsTokens result out.old out.new (tokens_of (or_null amount_said amount)) }
 {
     match amount {
         Some(amount) => write_amount(out, amount),
@@ -34,7 +34,7 @@ fn write_amount_or_null(out: &mut Writer, amount: Option<u128>) -> Result<(), Me
 
 // Writes a start and an end, each null where it is missing.
 fn write_span(out: &mut Writer, start: Option<u64>, end: Option<u64>) -> Result<(), Memory>
-    ensures { Adds result out.old out.new (tokens_of (span_tree start end)) }
+    ensures { AddsTokens result out.old out.new (tokens_of (span_tree start end)) }
 {
     out.begin_array()?;
     write_count_or_null(out, start)?;
@@ -58,7 +58,7 @@ fn cap_of(terms: Option<Terms>) -> Option<u128>
 
 // Writes the first open and the first closed height, or null without terms.
 fn write_heights(out: &mut Writer, terms: Option<Terms>) -> Result<(), Memory>
-    ensures { Adds result out.old out.new
+    ensures { AddsTokens result out.old out.new
         (tokens_of (or_null (λ t. span_tree t.height_start t.height_end) terms)) }
 {
     match terms {
@@ -70,7 +70,7 @@ fn write_heights(out: &mut Writer, terms: Option<Terms>) -> Result<(), Memory>
 // Writes the first open and the first closed height, counted from the etching's, or null without
 // terms.
 fn write_offsets(out: &mut Writer, terms: Option<Terms>) -> Result<(), Memory>
-    ensures { Adds result out.old out.new
+    ensures { AddsTokens result out.old out.new
         (tokens_of (or_null (λ t. span_tree t.offset_start t.offset_end) terms)) }
 {
     match terms {
@@ -81,7 +81,7 @@ fn write_offsets(out: &mut Writer, terms: Option<Terms>) -> Result<(), Memory>
 
 // Writes a character, or null without one.
 fn write_symbol(out: &mut Writer, symbol: Option<char>) -> Result<(), Memory>
-    ensures { Adds result out.old out.new (tokens_of (or_null character symbol)) }
+    ensures { AddsTokens result out.old out.new (tokens_of (or_null character symbol)) }
 {
     match symbol {
         Some(symbol) => Ok(out.string(symbol.encode_utf8(&mut [0; 4]))?),
@@ -90,7 +90,7 @@ fn write_symbol(out: &mut Writer, symbol: Option<char>) -> Result<(), Memory>
 }
 
 // How much of a rune outputs hold.
-fn held<V: View>(live: &V, n: u32, row: &RuneRow) -> u128
+fn amount_held<V: View>(live: &V, n: u32, row: &RuneRow) -> u128
     requires { slice_get (V.index live.now).runes n ≡ Some row.now }
     ensures { result ≡ held_of (V.index live.now) row.now }
 {
@@ -107,7 +107,7 @@ fn is_mintable<V: View>(live: &V, row: &RuneRow) -> bool
 // Writes a rune with its number.
 fn write_rune<V: View>(out: &mut Writer, live: &V, n: u32, row: &RuneRow) -> Result<(), Memory>
     requires { slice_get (V.index live.now).runes n ≡ Some row.now }
-    ensures { Adds result out.old out.new
+    ensures { AddsTokens result out.old out.new
         (tokens_of (rune_tree (V.index live.now) n row.now)) }
 {
     out.begin_object()?;
@@ -124,7 +124,7 @@ fn write_rune<V: View>(out: &mut Writer, live: &V, n: u32, row: &RuneRow) -> Res
     out.key("height")?;
     write_heights(out, row.terms)?;
     out.key("held")?;
-    write_amount(out, held(live, n, row))?;
+    write_amount(out, amount_held(live, n, row))?;
     out.key("id")?;
     write_rune_id(out, &row.id)?;
     out.key("mintable")?;
@@ -132,7 +132,7 @@ fn write_rune<V: View>(out: &mut Writer, live: &V, n: u32, row: &RuneRow) -> Res
     out.key("mints")?;
     write_amount(out, row.mints)?;
     out.key("name")?;
-    write_name(out, row)?;
+    write_rune_name(out, row)?;
     out.key("number")?;
     out.u64(u64::from(n))?;
     out.key("offset")?;

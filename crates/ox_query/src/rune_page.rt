@@ -8,7 +8,7 @@ ghost use Rattle.ox_ask.specs.Pages.{page_tree};
 ghost use Rattle.ox_ask.specs.Runes.{rune_id};
 ghost use Rattle.ox_ask.specs.Texts.{number_in};
 ghost use Rattle.ox_query.specs.Paged.{rows_between};
-ghost use Rattle.ox_query.specs.Written.{Adds, tokens_of};
+ghost use Rattle.ox_query.specs.Written.{AddsTokens, tokens_of};
 
 use crate::bodies::{body_of, new_body};
 use crate::pages::{page_of, write_page_end};
@@ -23,7 +23,7 @@ use std::alloc::Global;
 fn write_rune_ids<V: View>(out: &mut Writer, live: &V, first: u32, end: u32) -> Result<(), Memory>
     requires rising { first ≤ end }
     requires there { end ≤ length (V.index live.now).runes }
-    ensures { Adds result out.old out.new (tokens_of (array (items_of
+    ensures { AddsTokens result out.old out.new (tokens_of (array (items_of
         (map rune_id (rows_between (V.index live.now).runes first end))))) }
 {
     out.begin_array()?;
@@ -35,7 +35,7 @@ fn write_rune_ids<V: View>(out: &mut Writer, live: &V, first: u32, end: u32) -> 
 
 // Writes a page of runes.
 fn write_rune_page<V: View>(out: &mut Writer, live: &V, page: u64) -> Result<(), Memory>
-    ensures { Adds result out.old out.new
+    ensures { AddsTokens result out.old out.new
         (tokens_of (page_tree rune_id (V.index live.now).runes page)) }
 {
     let rows = page_of(page, live.runes());

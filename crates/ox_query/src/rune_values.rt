@@ -6,7 +6,7 @@ ghost use Rattle.ox_ask.specs.Named.{rune_id_text as rune_id_said};
 ghost use Rattle.ox_ask.specs.Runes.{name_tree, rune_id_tree};
 ghost use Rattle.ox_ask.specs.Values.{amount as amount_said};
 ghost use Rattle.ox_name.specs.Amount.{amount_text};
-ghost use Rattle.ox_query.specs.Written.{Adds, tokens_of};
+ghost use Rattle.ox_query.specs.Written.{AddsTokens, tokens_of};
 
 use crate::values::text_of;
 use arrayvec::ArrayString;
@@ -18,7 +18,7 @@ use ox_name::write_spaced;
 
 /// Writes an amount, as the text of its digits. `Memory` where there is none for it.
 pub(crate) fn write_amount(out: &mut Writer, amount: u128) -> Result<(), Memory>
-    ensures { Adds result out.old out.new (tokens_of (amount_said amount)) }
+    ensures { AddsTokens result out.old out.new (tokens_of (amount_said amount)) }
 {
     Ok(out.string(Buffer::new().format(amount))?)
 }
@@ -36,14 +36,14 @@ fn rune_id_text(id: &RuneId) -> ArrayString<31>
 
 /// Writes a rune's id, as text. `Memory` where there is none for it.
 pub(crate) fn write_rune_id(out: &mut Writer, id: &RuneId) -> Result<(), Memory>
-    ensures { Adds result out.old out.new (tokens_of (rune_id_tree id.now)) }
+    ensures { AddsTokens result out.old out.new (tokens_of (rune_id_tree id.now)) }
 {
     Ok(out.string(rune_id_text(id).as_str())?)
 }
 
 /// Writes a rune's name, with its spacers. `Memory` where there is none for it.
-pub(crate) fn write_name(out: &mut Writer, row: &RuneRow) -> Result<(), Memory>
-    ensures { Adds result out.old out.new (tokens_of (name_tree row.now)) }
+pub(crate) fn write_rune_name(out: &mut Writer, row: &RuneRow) -> Result<(), Memory>
+    ensures { AddsTokens result out.old out.new (tokens_of (name_tree row.now)) }
 {
     let mut name = [0; 112];
     let len = write_spaced(row.name, row.spacers, &mut name);
@@ -53,7 +53,7 @@ pub(crate) fn write_name(out: &mut Writer, row: &RuneRow) -> Result<(), Memory>
 /// Writes an amount with so many decimals, as text. `Memory` where there is none for it.
 pub(crate) fn write_shown(out: &mut Writer, amount: u128, divisibility: u8) -> Result<(), Memory>
     requires { divisibility ≤ 38 }
-    ensures { Adds result out.old out.new
+    ensures { AddsTokens result out.old out.new
         (tokens_of (string (amount_text amount divisibility))) }
 {
     let mut shown = [0; 41];

@@ -4,11 +4,11 @@ ghost use Rattle.std.specs.Prelude.{◌≡◌, ◌<◌, IfOk};
 ghost use Rattle.serde_json.specs.Written.{compact_text};
 ghost use Rattle.ox_ask.specs.Trees.{sat_tree};
 ghost use Rattle.ox_ask.specs.Values.{place_tree};
-ghost use Rattle.ox_query.specs.Written.{Adds, tokens_of};
+ghost use Rattle.ox_query.specs.Written.{AddsTokens, tokens_of};
 
 use crate::bodies::{body_of, new_body};
 use crate::ids::write_ids_on;
-use crate::texts::{decimal_text, degree_text, rarity_word, write_name, write_outpoint};
+use crate::texts::{decimal_text, degree_text, rarity_word, write_outpoint, write_sat_name};
 use json::Writer;
 use ox_bytes::{Bytes, Memory};
 use ox_model::{Place, View};
@@ -17,7 +17,7 @@ use std::alloc::Global;
 
 /// Writes where a satoshi is, or null where it is nowhere. `Memory` where there is none for it.
 pub(crate) fn write_place(out: &mut Writer, place: Option<Place>) -> Result<(), Memory>
-    ensures { Adds result out.old out.new (tokens_of (place_tree place)) }
+    ensures { AddsTokens result out.old out.new (tokens_of (place_tree place)) }
 {
     let Some(place) = place else {
         return Ok(out.null()?);
@@ -41,7 +41,7 @@ pub(crate) fn write_place(out: &mut Writer, place: Option<Place>) -> Result<(), 
 // Writes a satoshi.
 fn write_sat<V: View>(out: &mut Writer, live: &V, sat: u64) -> Result<(), Memory>
     requires { sat < (V.chain live.now).supply }
-    ensures { Adds result out.old out.new
+    ensures { AddsTokens result out.old out.new
         (tokens_of (sat_tree (V.chain live.now) (V.index live.now) sat)) }
 {
     let p = live.profile();
@@ -54,7 +54,7 @@ fn write_sat<V: View>(out: &mut Writer, live: &V, sat: u64) -> Result<(), Memory
     out.key("inscriptions")?;
     write_ids_on(out, live, sat)?;
     out.key("name")?;
-    write_name(out, p, sat)?;
+    write_sat_name(out, p, sat)?;
     out.key("number")?;
     out.u64(sat)?;
     out.key("place")?;

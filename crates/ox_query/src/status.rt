@@ -4,7 +4,7 @@ ghost use Rattle.std.specs.Prelude.{◌≡◌, IfOk, option_copied};
 ghost use Rattle.serde_json.specs.Written.{compact_text};
 ghost use Rattle.ox_ask.specs.Trees.{status_tree, tip};
 ghost use Rattle.ox_query.specs.Asked.{asked_of};
-ghost use Rattle.ox_query.specs.Written.{Adds, tokens_of};
+ghost use Rattle.ox_query.specs.Written.{AddsTokens, tokens_of};
 
 use crate::bodies::{body_of, new_body};
 use crate::values::write_hash_or_null;
@@ -23,7 +23,7 @@ fn newest<V: View>(live: &V) -> Option<&[u8; 32]>
 
 // Writes what is asked of a chain's blocks.
 fn write_status<V: View>(out: &mut Writer, live: &V, about: &About) -> Result<(), Memory>
-    ensures { Adds result out.old out.new (tokens_of
+    ensures { AddsTokens result out.old out.new (tokens_of
         (status_tree (asked_of (V.chain live.now) (V.index live.now) about.now))) }
 {
     let profile = ProfileName::of_byte(live.profile().byte);

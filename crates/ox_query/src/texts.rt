@@ -4,7 +4,7 @@ ghost use Rattle.std.specs.Prelude.{◌≡◌, ◌+◌, ◌<◌, ◌≤◌, ◌+
 ghost use Rattle.serde_json.specs.Data.{string};
 ghost use Rattle.ox_ask.specs.Texts.{decimal_text as decimal_written};
 ghost use Rattle.ox_ask.specs.Texts.{degree_text as degree_written, rarity_text};
-ghost use Rattle.ox_query.specs.Written.{Adds, tokens_of};
+ghost use Rattle.ox_query.specs.Written.{AddsTokens, tokens_of};
 ghost use Rattle.ox_rules.specs.Text.{outpoint_text as outpoint_printed};
 ghost use Rattle.ox_sat.specs.Names.{name_of};
 ghost use Rattle.ox_sat.specs.Profiles.{IsProfile};
@@ -68,10 +68,10 @@ pub(crate) fn rarity_word(rarity: Rarity) -> &'static str
 }
 
 /// Writes a satoshi's name. `Memory` where there is none for it.
-pub(crate) fn write_name(out: &mut Writer, p: &Profile, sat: u64) -> Result<(), Memory>
+pub(crate) fn write_sat_name(out: &mut Writer, p: &Profile, sat: u64) -> Result<(), Memory>
     requires known { IsProfile p.now }
     requires minted { sat < p.now.supply }
-    ensures { Adds result out.old out.new (tokens_of (string (name_of p.now sat))) }
+    ensures { AddsTokens result out.old out.new (tokens_of (string (name_of p.now sat))) }
 {
     let mut letters = [0; 11];
     let len = ox_sat::write_name(p, sat, &mut letters);
@@ -92,7 +92,7 @@ fn outpoint_text(at: &OutPoint) -> ArrayString<75>
 
 /// Writes an outpoint as it is printed. `Memory` where there is none for it.
 pub(crate) fn write_outpoint(out: &mut Writer, at: &OutPoint) -> Result<(), Memory>
-    ensures { Adds result out.old out.new (tokens_of (string (outpoint_printed at.now))) }
+    ensures { AddsTokens result out.old out.new (tokens_of (string (outpoint_printed at.now))) }
 {
     Ok(out.string(outpoint_text(at).as_str())?)
 }

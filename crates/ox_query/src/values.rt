@@ -3,13 +3,17 @@
 ghost use Rattle.std.specs.Prelude.{◌≡◌, option_copied};
 ghost use Rattle.std.specs.Str.{IsUtf8};
 ghost use Rattle.serde_json.specs.Data.{string};
-ghost use Rattle.ox_ask.specs.Values.{count, hash_or_null as hash_said, or_null};
-ghost use Rattle.ox_query.specs.Written.{Adds, tokens_of};
+ghost use Rattle.ox_ask.specs.Values.{count, hash_or_null as hash_said, hex as hex_said, or_null};
+ghost use Rattle.ox_query.specs.Written.{AddsTokens, tokens_of};
 ghost use Rattle.ox_rules.specs.Text.{hash_text};
 
 use crate::parts::digits_of;
 use json::Writer;
 use ox_bytes::Memory;
+use std::alloc::Global;
+
+/// Bytes of at most so many are spelled on the stack.
+const SHORT: usize = 36;
 
 /// The text that some bytes are.
 pub(crate) fn text_of(bytes: &[u8]) -> &str
@@ -34,14 +38,14 @@ pub(crate) fn hash_digits(hash: &[u8; 32]) -> [u8; 64]
 
 /// Writes a hash as it is printed. `Memory` where there is none for it.
 pub(crate) fn write_hash(out: &mut Writer, hash: &[u8; 32]) -> Result<(), Memory>
-    ensures { Adds result out.old out.new (tokens_of (string (hash_text hash.now))) }
+    ensures { AddsTokens result out.old out.new (tokens_of (string (hash_text hash.now))) }
 {
     Ok(out.string(text_of(&hash_digits(hash)))?)
 }
 
 /// Writes a hash as it is printed, or null without one. `Memory` where there is none for it.
 pub(crate) fn write_hash_or_null(out: &mut Writer, hash: Option<&[u8; 32]>) -> Result<(), Memory>
-    ensures { Adds result out.old out.new (tokens_of (hash_said (option_copied hash.entry))) }
+    ensures { AddsTokens result out.old out.new (tokens_of (hash_said (option_copied hash.entry))) }
 {
     match hash {
         Some(hash) => write_hash(out, hash),
@@ -51,10 +55,25 @@ pub(crate) fn write_hash_or_null(out: &mut Writer, hash: Option<&[u8; 32]>) -> R
 
 /// Writes a number, or null without one. `Memory` where there is none for it.
 pub(crate) fn write_count_or_null(out: &mut Writer, number: Option<u64>) -> Result<(), Memory>
-    ensures { Adds result out.old out.new (tokens_of (or_null count number)) }
+    ensures { AddsTokens result out.old out.new (tokens_of (or_null count number)) }
 {
     match number {
         Some(number) => Ok(out.u64(number)?),
         None => Ok(out.null()?),
+    }
+}
+
+/// Writes bytes in hexadecimal digits. `Memory` where there is none for it.
+pub(crate) fn write_hex(alloc: Global, out: &mut Writer, bytes: &[u8]) -> Result<(), Memory>
+    ensures { AddsTokens result out.old out.new (tokens_of (hex_said bytes.now)) }
+{
+    if bytes.len() > SHORT {
+        return Ok(out.string(&hex::encode(alloc, bytes)?)?);
+    }
+    let mut room = [0; 2 * SHORT];
+    let digits = &mut room[..2 * bytes.len()];
+    match hex::encode_to_slice(bytes, digits) {
+        Ok(()) => Ok(out.string(text_of(digits))?),
+        Err(_) => unreachable!(),
     }
 }

@@ -4,7 +4,7 @@ use Rattle.json.specs.Token.{begin_array}
 use Rattle.ox_inscribe.specs.Inscriptions.{on}
 use Rattle.ox_range.specs.Runs.{numbers_of}
 use Rattle.ox_range.proofs.RunLemmas.{maximal-at, zero_run}
-use Rattle.ox_query.specs.Listed.{ids_of}
+use Rattle.ox_query.specs.Listed.{inscription_ids_of}
 use Rattle.ox_query.proofs.Arrays.{bracketed}
 use Rattle.ox_query.proofs.IdLists.{all_runs_told, no_run, one_run_more}
 use Rattle.ox_query.proofs.ids.write_ids_on_runs.Goals as goal
@@ -29,7 +29,7 @@ pub returns : goal.returns
 returns g c =
     let rows = (g.V.View.index c.args.live.now).inscriptions in (
       c.in_ok-end_array.ensures.room.0 ∙ c.loop-run.invariant.0,
-      bracketed c.args.out.now.tokens c.loop-run.out.tokens c.end_array.new.self.tokens (ids_of rows (flat_map (on rows) (numbers_of c.args.runs.now)))
+      bracketed c.args.out.now.tokens c.loop-run.out.tokens c.end_array.new.self.tokens (inscription_ids_of rows (flat_map (on rows) (numbers_of c.args.runs.now)))
           (all_runs_told rows (c.args.out.now.tokens ++ begin_array ∷ []) c.loop-run.out.tokens c.args.runs.now c.loop-run.run-index c.loop-run-test.false c.loop-run.invariant.1)
           c.in_ok-end_array.ensures.ok,
     )

@@ -19,7 +19,7 @@ returns g c =
     ▸ token c.in_ok-key-7.ensures ▸ value _ _ _ c.in_ok-write_hex_or_null.ensures
     ▸ token c.in_ok-key-8.ensures ▸ value _ _ _ c.in_ok-write_text_or_null-3.ensures
     ▸ token c.in_ok-key-9.ensures ▸ same (λ n. tokens_of (count n)) c.from-2.ensures (token c.in_ok-u64-2.ensures)
-    ▸ token c.in_ok-key-10.ensures ▸ same (λ ids. tokens_of (array (items_of (map id_tree ids)))) c.as_slice.ensures (value _ _ _ c.in_ok-write_ids.ensures)
+    ▸ token c.in_ok-key-10.ensures ▸ same (λ ids. tokens_of (array (items_of (map id_tree ids)))) c.as_slice.ensures (value _ _ _ c.in_ok-write_id_list.ensures)
     ▸ token c.in_ok-key-11.ensures ▸ same (λ p. tokens_of (place_tree p)) c.place_on.ensures (value _ _ _ c.in_ok-write_place.ensures)
     ▸ token c.in_ok-key-12.ensures ▸ value _ _ _ c.in_ok-write_count_or_null.ensures
     ▸ token c.in_ok-end_object.ensures)

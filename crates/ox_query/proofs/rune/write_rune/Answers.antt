@@ -14,11 +14,11 @@ returns g c =
     ▸ token c.in_ok-key-4.ensures ▸ same (λ n. tokens_of (count n)) c.from.ensures (token c.in_ok-u64.ensures)
     ▸ token c.in_ok-key-5.ensures ▸ value _ _ _ c.in_ok-write_hash.ensures
     ▸ token c.in_ok-key-6.ensures ▸ value _ _ _ c.in_ok-write_heights.ensures
-    ▸ token c.in_ok-key-7.ensures ▸ same (λ a. tokens_of (amount a)) c.held.ensures (value _ _ _ c.in_ok-write_amount-2.ensures)
+    ▸ token c.in_ok-key-7.ensures ▸ same (λ a. tokens_of (amount a)) c.amount_held.ensures (value _ _ _ c.in_ok-write_amount-2.ensures)
     ▸ token c.in_ok-key-8.ensures ▸ value _ _ _ c.in_ok-write_rune_id.ensures
     ▸ token c.in_ok-key-9.ensures ▸ same (λ b. boolean b ∷ []) c.is_mintable.ensures (token c.in_ok-boolean.ensures)
     ▸ token c.in_ok-key-10.ensures ▸ value _ _ _ c.in_ok-write_amount-3.ensures
-    ▸ token c.in_ok-key-11.ensures ▸ value _ _ _ c.in_ok-write_name.ensures
+    ▸ token c.in_ok-key-11.ensures ▸ value _ _ _ c.in_ok-write_rune_name.ensures
     ▸ token c.in_ok-key-12.ensures ▸ same (λ n. tokens_of (count n)) c.from-2.ensures (token c.in_ok-u64-2.ensures)
     ▸ token c.in_ok-key-13.ensures ▸ value _ _ _ c.in_ok-write_offsets.ensures
     ▸ token c.in_ok-key-14.ensures ▸ value _ _ _ c.in_ok-write_amount-4.ensures

@@ -10,8 +10,8 @@ use Rattle.ox_query.specs.Written.{tokens_of}
 use Rattle.ox_query.proofs.Steps.{all, same, token, value, ◌▸◌}
 use Rattle.ox_query.proofs.sat.write_sat.Goals as goal
 
-pub write_name-requires-clause-known : goal.write_name-requires-clause-known
-write_name-requires-clause-known g c = subst IsProfile (sym c.profile-p.ensures) (g.met.V.View.known c.args.live.now)
+pub write_sat_name-requires-clause-known : goal.write_sat_name-requires-clause-known
+write_sat_name-requires-clause-known g c = subst IsProfile (sym c.profile-p.ensures) (g.met.V.View.known c.args.live.now)
 
 pub returns : goal.returns
 returns g c =
@@ -23,7 +23,7 @@ returns g c =
     ▸ token c.in_ok-key.ensures ▸ same (λ text. string text ∷ []) decimal (token c.in_ok-string.ensures)
     ▸ token c.in_ok-key-2.ensures ▸ same (λ text. string text ∷ []) degrees (token c.in_ok-string-2.ensures)
     ▸ token c.in_ok-key-3.ensures ▸ value _ _ _ c.in_ok-write_ids_on.ensures
-    ▸ token c.in_ok-key-4.ensures ▸ same (λ (p : Profile). string (name_of p c.args.sat) ∷ []) c.profile-p.ensures (value _ _ _ c.in_ok-write_name.ensures)
+    ▸ token c.in_ok-key-4.ensures ▸ same (λ (p : Profile). string (name_of p c.args.sat) ∷ []) c.profile-p.ensures (value _ _ _ c.in_ok-write_sat_name.ensures)
     ▸ token c.in_ok-key-5.ensures ▸ token c.in_ok-u64.ensures
     ▸ token c.in_ok-key-6.ensures ▸ same (λ place. tokens_of (place_tree place)) c.locate.ensures (value _ _ _ c.in_ok-write_place.ensures)
     ▸ token c.in_ok-key-7.ensures ▸ same (λ text. string text ∷ []) rarity (token c.in_ok-string-3.ensures)

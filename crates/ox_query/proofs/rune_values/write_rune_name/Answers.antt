@@ -1,6 +1,6 @@
 use Rattle.std.proofs.Common.{arith}
 use Rattle.ox_query.proofs.RuneTexts.{front_is_text, name_is_text}
-use Rattle.ox_query.proofs.rune_values.write_name.Goals as goal
+use Rattle.ox_query.proofs.rune_values.write_rune_name.Goals as goal
 
 pub text_of-requires : goal.text_of-requires
 text_of-requires c =
