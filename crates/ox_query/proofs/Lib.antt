@@ -6,6 +6,7 @@ pub mod Steps
 pub mod Arrays
 pub mod Bytes
 pub mod IdLists
+pub mod Capitals
 pub mod Outpoints
 pub mod PageRows
 pub mod Runs

@@ -1,6 +1,6 @@
 -- An outpoint is what its parts spell.
-use Rattle.std.proofs.Common.{◌≡◌, ◌≢◌, ℕ, ◌+◌, ◌-◌, ◌<◌, ◌≤◌, ◌^◌, ◌==◌, ◌&&◌, inl, inr, ltb, List, [], ◌∷◌, ◌++◌, length, get_or, take, drop, reverse, append_assoc, Option, Some, None, MatchResult, Result, Ok, Err, decimal, bytes_eq, refl, sym, ap, ap₂, ◌∙◌, subst, arith, unwrap_or, ltb-true, eqb-true}
-use Rattle.std.specs.List.{before_first, after_first}
+use Rattle.std.proofs.Common.{◌≡◌, ◌≢◌, true≢false, Bool, true, false, ℕ, ◌+◌, ◌-◌, ◌<◌, ◌≤◌, ◌^◌, ◌==◌, ◌&&◌, inl, inr, ltb, List, [], ◌∷◌, ◌++◌, length, get_or, take, drop, reverse, append_assoc, Option, Some, None, MatchResult, Result, Ok, Err, decimal, bytes_eq, refl, sym, ap, ap₂, ◌∙◌, subst, arith, unwrap_or, ltb-true, eqb-true}
+use Rattle.std.specs.List.{before_first, after_first, list_any}
 use Rattle.std.specs.Result.{OkIff, result_ok, result_unwrap_or}
 use Rattle.std.specs.Str.Parse.{digits_value}
 use Rattle.std.proofs.Math.Seq.{take-append_seam, drop-append-add, split_at}
@@ -8,13 +8,14 @@ use Rattle.std.proofs.lemmas.Bool.{cases_lt}
 use Rattle.std.proofs.lemmas.List.{get_or_past, get_or-reverse, length-reverse, reverse-reverse, length-take-le, take_all, length-drop}
 use Rattle.hex.specs.Hex.{IsBytes, decode_of, decode_sized, encode_lower, lower_digits}
 use Rattle.hex.specs.declared.error.FromHexError.{FromHexError}
-use Rattle.hex.proofs.HexLemmas.{decode_of-ok, decode_sized-ok, decode_sized-twice, decode_sized-encode_lower, length-encode_with}
+use Rattle.hex.proofs.HexLemmas.{decode_of-even, decode_of-ok, decode_sized-ok, decode_sized-twice, decode_sized-encode_lower, length-encode_with}
 use Rattle.ox_block.specs.declared.block.OutPoint.{OutPoint}
 use Rattle.ox_rules.specs.Text.{outpoint_text, hash_text}
 use Rattle.ox_ask.specs.Texts.{number_in, outpoint_in}
 use Rattle.ox_ask.proofs.Halves.{first_half, second_half}
 use Rattle.ox_ask.proofs.Read.{number_read, number_written, outpoint_read, outpoint_written}
 use Rattle.ox_query.specs.Sides.{Sides}
+use Rattle.ox_query.proofs.Capitals.{is_capital, printed_small, pairs_printed}
 use Rattle.ox_query.proofs.Spelled.{test_passed}
 
 reverse_bytes : (xs : List ℕ) → IsBytes xs → IsBytes (reverse xs)
@@ -44,28 +45,38 @@ pub no_digits : (digits : List ℕ) (e : FromHexError) (out : List ℕ) → Told
 no_digits digits e out told hash long bytes is =
     let no : Err e ≡ Ok tt = (told_of digits (Err e) out hash told long bytes is).0 in absurd cc
 
--- what is printed otherwise is no hash
-pub not_printed : (digits out printed : List ℕ) → Told digits (Ok tt) out → printed ≡ encode_lower out → printed ≢ digits
+-- digits with a capital letter are no hash
+pub with_capitals : (digits : List ℕ) (capitals : Bool) → capitals ≡ list_any is_capital digits → capitals ≡ true
     → (hash : List ℕ) → length hash ≡ 32 → IsBytes hash → digits ≢ hash_text hash
 unfolding hash_text
-not_printed digits out printed told is other hash long bytes e =
-    other (is ∙ ap encode_lower (told_of digits (Ok tt) out hash told long bytes e).1 ∙ sym e)
-
-pub printed_hash : (digits out printed : List ℕ) → printed ≡ encode_lower out → printed ≡ digits → digits ≡ hash_text (reverse out)
-unfolding hash_text
-printed_hash digits out printed is same = sym same ∙ is ∙ ap encode_lower (sym (reverse-reverse out))
+with_capitals digits capitals is some hash long bytes e =
+    true≢false (sym some ∙ is ∙ ap (list_any is_capital) e ∙ printed_small (reverse hash))
 
 decoded : (out : List ℕ) (d : Result (List ℕ) FromHexError) (r : Result (Unit {0}) FromHexError) → r ≡ Ok tt
     → MatchResult d (λ bytes. (r ≡ Ok tt) × (out ≡ bytes)) (λ e. r ≡ Err e) → d ≡ Ok out
 decoded out (Ok bytes) r ok told = ap Ok (sym told.1)
 decoded out (Err e) r ok told = let no : Err e ≡ Ok tt = sym told ∙ ok in absurd cc
 
+decoded_of : (digits out : List ℕ) → Told digits (Ok tt) out → decode_of digits ≡ Ok out
+decoded_of digits out told =
+    let is : decode_sized digits 32 ≡ Ok out = decoded out (decode_sized digits 32) (Ok tt) refl told in
+    sym (decode_sized-twice digits 32 (decode_sized-ok digits 32 out is)) ∙ is
+
 pub hash_bytes : (digits out : List ℕ) → Told digits (Ok tt) out → (length (reverse out) ≡ 32) × IsBytes (reverse out)
 hash_bytes digits out told =
     let is : decode_sized digits 32 ≡ Ok out = decoded out (decode_sized digits 32) (Ok tt) refl told in
     let len = decode_sized-ok digits 32 out is in
-    let ok = decode_of-ok digits out (sym (decode_sized-twice digits 32 len) ∙ is) in
+    let ok = decode_of-ok digits out (decoded_of digits out told) in
     (omega (arith, length-reverse out, len, ok.2), reverse_bytes out ok.3)
+
+-- digits without a capital letter are those that are printed for what they decode to
+pub printed_hash : (digits out : List ℕ) (capitals : Bool) → capitals ≡ list_any is_capital digits → capitals ≡ false
+    → Told digits (Ok tt) out → digits ≡ hash_text (reverse out)
+unfolding hash_text
+printed_hash digits out capitals is none told =
+    let ok = decoded_of digits out told in
+    let even = (decode_of-ok digits out ok).0 in
+    sym (pairs_printed 0 digits out (sym (decode_of-even digits even) ∙ ok) (sym is ∙ none)) ∙ ap encode_lower (sym (reverse-reverse out))
 
 -- two texts with a colon at the same place
 apart : (a b x y : List ℕ) → length a ≡ length b → a ++ 58 ∷ x ≡ b ++ 58 ∷ y → (a ≡ b) × (x ≡ y)

@@ -1,7 +1,8 @@
 //! What is read from a part of a path.
 
 ghost use Rattle.std.specs.Prelude.{◌≡◌, ◌≢◌, ◌<◌, ℕ, List, length, ◌∷◌, ◌++◌};
-ghost use Rattle.std.specs.Prelude.{IfSome, IfNone};
+ghost use Rattle.std.specs.Prelude.{IfSome, IfNone, ◌&&◌, nat_le};
+ghost use Rattle.std.specs.List.{list_any};
 ghost use Rattle.hex.specs.Hex.{IsBytes, encode_lower};
 ghost use Rattle.ox_rules.specs.Text.{hash_text};
 ghost use Rattle.ox_ask.specs.Texts.{number_in, outpoint_in};
@@ -45,7 +46,15 @@ pub(crate) fn digits_of(bytes: &[u8; 32]) -> [u8; 64]
     }
 }
 
-// The hash that is printed as these digits, if any.
+// Whether there is a capital letter among these bytes.
+fn has_capitals(bytes: &[u8]) -> bool
+    ensures { result ≡ list_any (λ c. nat_le 65 c && nat_le c 90) bytes.now }
+{
+    bytes.iter().any(|byte| byte.is_ascii_uppercase())
+}
+
+// The hash that is printed as these digits, if any. Capital letters would be decoded too, but no
+// hash is printed with them.
 fn hash(digits: &[u8]) -> Option<[u8; 32]>
     ensures read { IfSome result (λ hash. digits.now ≡ hash_text hash) }
     ensures long { IfSome result (λ hash. length hash ≡ 32) }
@@ -53,14 +62,13 @@ fn hash(digits: &[u8]) -> Option<[u8; 32]>
     ensures none { IfNone result ((hash : List ℕ) → length hash ≡ 32 → IsBytes hash
         → digits.now ≢ hash_text hash) }
 {
+    if has_capitals(digits) {
+        return None;
+    }
     let mut hash = [0; 32];
     let Ok(()) = hex::decode_to_slice(digits, &mut hash) else {
         return None;
     };
-    let printed = digits_of(&hash);
-    if &printed[..] != digits {
-        return None;
-    }
     hash.reverse();
     Some(hash)
 }
