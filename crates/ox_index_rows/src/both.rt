@@ -1,8 +1,12 @@
 //! A block by whose change an index goes back and on again.
 
+ghost use Rattle.ox_model.specs.Ends.{EndsIn};
+ghost use Rattle.ox_index.specs.Live.{index_in, profile_in};
+
 use crate::end::print_end;
 use crate::look::dump;
 use ox_index::Live;
+use ox_model::Change;
 use std::alloc::Global;
 use std::io;
 
@@ -15,16 +19,22 @@ pub fn lead_both_ways(
     block: &[u8],
     words: &str,
 ) -> io::Result<()> {
-    let change = match live.connect(block) {
-        Ok(change) => change,
-        Err(fault) => return print_end(rt, alloc, live, Some(fault)),
-    };
+    match live.connect(block) {
+        Ok(change) => go_back_and_on(rt, live, &change, words),
+        Err(fault) => print_end(rt, alloc, live, Some(fault)),
+    }
+}
+
+/// Goes back and on again by a change that ends here, and cancels that.
+fn go_back_and_on(rt: &impl Print, live: &mut Live, change: &Change, words: &str) -> io::Result<()>
+    requires { EndsIn (profile_in live.old) (index_in live.old) change.now }
+{
     dump_step(rt, "connected", live, words)?;
-    let Ok(()) = live.back(&change) else {
+    let Ok(()) = live.back(change) else {
         return dump_step(rt, "no memory", live, words);
     };
     dump_step(rt, "back", live, words)?;
-    let Ok(()) = live.again(&change) else {
+    let Ok(()) = live.again(change) else {
         return dump_step(rt, "no memory", live, words);
     };
     dump_step(rt, "again", live, words)?;
