@@ -1,4 +1,4 @@
-// Commands that are carried out on one store.
+//! Commands that are carried out on one store.
 
 ghost use Rattle.std.specs.Prelude.{◌≡◌, IsTrue, IfOk, IfSome};
 ghost use Rattle.ox_gated.specs.Tail.{Holds};
@@ -14,10 +14,15 @@ use std::io;
 /// What a command changes, and the newest block after it.
 #[derive(Clone, Copy)]
 pub struct Moved {
+    /// Whether a block is taken back.
     pub is_back: bool,
+    /// The hash of the block that moves.
     pub hash: [u8; 32],
+    /// How many outputs go.
     pub gone: usize,
+    /// How many outputs come.
     pub came: usize,
+    /// The newest block's height and hash afterwards, if there is one.
     pub tip: Option<(u32, [u8; 32])>,
 }
 
@@ -28,7 +33,9 @@ pub enum Outcome {
     Done(Moved),
     /// It was prepared, and a call failed.
     Failed(Moved),
+    /// It is refused, and the store is as before.
     Refused(Refusal),
+    /// There is no memory for it, or no number for its record: the store is as before.
     Memory,
 }
 

@@ -86,7 +86,12 @@ fn open(
 }
 
 /// What a crash leaves.
-fn crashed(site: &MemSite, moment: &str, fill: &str, keep: &str) -> anyhow::Result<MemSite> {
+fn site_after_crash(
+    site: &MemSite,
+    moment: &str,
+    fill: &str,
+    keep: &str,
+) -> anyhow::Result<MemSite> {
     let choice = Choice {
         moment: number_of(moment)?,
         fill: byte_of(fill)?,
@@ -107,7 +112,7 @@ fn crash(
     fill: &str,
     keep: &str,
 ) -> anyhow::Result<()> {
-    let mut after = crashed(site, moment, fill, keep)?;
+    let mut after = site_after_crash(site, moment, fill, keep)?;
     Ok(open(rt, alloc, &mut after, &[])?)
 }
 
@@ -158,7 +163,7 @@ fn set(alloc: Global, site: &mut MemSite, words: &[&str]) -> anyhow::Result<bool
     match words {
         ["fresh"] => *site = fresh(alloc)?,
         ["fail", call] => site.fail(number_of(call)?).ok().context("no memory")?,
-        ["restart", moment, fill, keep] => *site = crashed(site, moment, fill, keep)?,
+        ["restart", moment, fill, keep] => *site = site_after_crash(site, moment, fill, keep)?,
         ["overwrite", file, at, hex] => {
             overwrite(site, file_of(file)?, number_of(at)?, &bytes_of(alloc, hex)?)?
         }

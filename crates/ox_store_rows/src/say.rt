@@ -1,4 +1,4 @@
-// What is printed.
+//! What is printed.
 
 use crate::carry::{Moved, Outcome};
 use ox_model::{Place, Refusal, View};

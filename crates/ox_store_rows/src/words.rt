@@ -1,4 +1,4 @@
-// The words of a row.
+//! The words of a row.
 
 ghost use Rattle.std.specs.Prelude.{◌≤◌, IfOk};
 
@@ -59,7 +59,7 @@ fn append(alloc: Global, bytes: &mut Vec<u8>, times: u64, word: &str) -> anyhow:
 }
 
 /// A head, so many times a part, and a tail.
-fn joined(
+fn parts_joined(
     alloc: Global,
     head: &str,
     times: u64,
@@ -77,7 +77,7 @@ fn joined(
 fn block_of(alloc: Global, word: &str) -> anyhow::Result<Vec<u8>> {
     let parts: Vec<&str> = word.split(',').collect(alloc)?;
     match parts.as_slice() {
-        [head, times, part, tail] => joined(alloc, head, number_of(times)?, part, tail),
+        [head, times, part, tail] => parts_joined(alloc, head, number_of(times)?, part, tail),
         _ => bytes_of(alloc, word),
     }
 }
