@@ -1,4 +1,4 @@
-"""Blocks, their transactions and scripts, as the scripts of this folder make them."""
+"""Blocks, their transactions and scripts, as the scripts of this folder make them that time an index or a part of one."""
 
 import hashlib
 import struct

@@ -5,11 +5,11 @@
 
 makes blocks, each of which spends the coinbase before it into 20,000 outputs, until there are as many outputs as each
 number says (20,000, 200,000 and 2,000,000 without a word): an inscription and a balance of one of 20 runes stand on every
-tenth of them. A last block reveals eight inscriptions of 390,000 bytes. Of each route it makes paths that name something
-chosen at random; satoshis are the first ones of outputs, so that a tenth of them bear an inscription. `ox_query_speed` and
+tenth of them. A last block reveals eight inscriptions of 390,000 bytes. Of each route but `/runes`, whose bodies are only
+compared, it makes paths that name something chosen at random; satoshis are the first ones of outputs, so that a tenth of them bear an inscription. `ox_query_speed` and
 the plain program run in turn, three times, over the blocks alone and with the paths; it prints, of the runs that took
 least, replies a second of processor time (of contents megabytes), without that of the blocks. The plain program routes by
-`matchit` and makes a body by `serde_json`: as structs that are written at once, and as a tree of values, as ours does.
+`matchit` and makes a body by `serde_json`: as structs that are written at once, and as a tree of values first.
 Nothing here is proved. Build both programs first, as bench/README.md says.
 """
 

@@ -6,8 +6,8 @@
 fills a table with as many outputs as each number says (20,000, 300,000, 1,000,000 and 3,000,000 without a word) in blocks
 of 10,000, and then connects 1,000 blocks of 500 transactions, each of which spends an output chosen at random into two.
 `ox_transfer_speed` and a plain Rust program with a hash map run in turn, three times, over the first part, over the
-whole, and over the first part with 1,000,000 satoshis looked for (the plain program in an ordered map of runs). It prints,
-of the runs that took least, blocks and satoshis a second of processor time, and the memory that an output takes. The
+whole, and over the first part with one satoshi and with 1,000,001 looked for (the plain program in an ordered map of
+runs). It prints, of the runs that took least, blocks and satoshis a second of processor time, and the memory that an output takes. The
 plain program's map is made where a satoshi is looked for, and isn't timed. Nothing here is proved. Build both programs
 first, as bench/README.md says.
 """

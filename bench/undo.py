@@ -7,7 +7,7 @@ makes a chain as bench/fold_blocks.py does and gives the first so many blocks of
 without a word, which leave 20,000, 200,000 and 2,000,000 outputs). Then the ten newest blocks are taken back and
 connected again, ten times. Before and behind each ten it reads the processor time that the program has had, so that
 nothing else is counted. The programs run in turn, three times; it prints, of the runs that took least, disconnects and
-connects a second. Last it tells what a row of a kept block takes, gone or come: by the greatest memory of an `apply`
+connects a second. Before that it tells what a row of a kept block takes, gone or come: by the greatest memory of an `apply`
 that opens a store of 1,500 blocks of which 1,000 are kept, or one, and of the plain program. Nothing here is proved.
 Build both programs first, as bench/README.md says.
 """

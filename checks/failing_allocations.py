@@ -5,13 +5,13 @@
 
 No contract says that there is memory, and each says what is left where there is none: so this tries it over built
 programs. checks/failing_allocation.c, which `cc` compiles, stands before libc's `malloc` and `realloc` and refuses the
-call of one number.
+call of one number. Build both programs first: `rt run` in crates/ox_main, and `rt run < stdin` in crates/ox_index_rows.
 
 - `apply` of PROGRAM (crates/ox_main/out/ox_main without a word) over a lab chain whose blocks reveal inscriptions, etch,
   mint and burn runes, and are taken back: one run for each allocation, which fails. The run has to end with status 8, or
   0 where nothing was lacking, or 4 where the folder couldn't be opened for it and nothing was shown, and to have shown
-  whole lines in front of those of an undisturbed run. The lines behind
-  them are then applied with all memory, and have to be answered by the others and to leave the files as they should be.
+  whole lines in front of those of an undisturbed run. The lines behind them are then applied with all memory, and have to
+  be answered by the others and to leave the files as they should be.
 - crates/ox_index_rows/out/ox_index_rows over rows that connect blocks, take them back and lead both ways, each followed by
   a dump of the whole index: one run for each allocation, which fails. Where a row finds no memory it has to say so, and the
   index has to be as before; the same row then has to do as it does with all memory. Only where the rows themselves can't be

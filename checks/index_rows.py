@@ -9,7 +9,7 @@ alone. What is looked up of inscriptions and runes, as the first with an id, it 
 
 from chain import SHORT, SUBSIDY, block_of, coinbase_to, envelope, transaction, twice
 from real_files import RESERVED
-from rows import Rows, carry, id_of, inscription, outpoint, plain, reveal, shown, spend
+from rows import Rows, carry, id_of, inscription, outpoint, plain, reveal, hash_text, spend
 
 HALVINGS = {"mainnet": 210_000, "regtest": 210_000, "lab": 10}
 TAPROOT = b"\x51\x20" + 32 * b"\7"
@@ -44,7 +44,7 @@ class Rune:
 
     def line(self, number):
         head = f"  {number}: {self.id} name {self.name} found {number} found {number} held {self.held} burned {self.burned}"
-        by = f"by {shown(self.etching)}" + (f" terms {self.terms}" if self.terms else "")
+        by = f"by {hash_text(self.etching)}" + (f" terms {self.terms}" if self.terms else "")
         return f"{head} mints {self.mints} premine {self.premine} {self.shape} {by}"
 
     def audit(self):
@@ -124,9 +124,9 @@ class Indexes(Rows):
 
     def lines(self, held, looks, tips):
         """A whole index."""
-        line = f"ok {len(tips) - 1} {shown(tips[-1])}" if tips else "ok empty"
+        line = f"ok {len(tips) - 1} {hash_text(tips[-1])}" if tips else "ok empty"
         yield from (line, f"{len(tips)} blocks, {held.lost} satoshis are lost")
-        yield from (f"  height {height}: {shown(tip)}" for height, tip in enumerate(tips))
+        yield from (f"  height {height}: {hash_text(tip)}" for height, tip in enumerate(tips))
         yield f"  height {len(tips)}: none"
         yield f"{len(held.inscriptions)} inscriptions"
         yield from (row.line(number, held.inscriptions) for number, row in enumerate(held.inscriptions))
@@ -207,7 +207,7 @@ def refusals(rows):
     _, want = block_of(bytes(32), [plain(0)])
     root = id_of(plain(0))
     block, _ = block_of(bytes(32), [plain(0)], lambda ids: want)
-    rows.row(f"block {block.hex()}", f"refused 6 {shown(want)} {shown(root)}")
+    rows.row(f"block {block.hex()}", f"refused 6 {hash_text(want)} {hash_text(root)}")
     rows.dump(Held(), at(plain(0), 0, "none"))
 
 

@@ -12,7 +12,7 @@ import json
 
 from chain import GENESIS, SHORT, SUBSIDY, block_of, coinbase_to, envelope, id_value, transaction
 from real_files import RESERVED, name_of
-from rows import Rows, carry, id_of, inscription, outpoint, plain, reveal, shown, spend
+from rows import Rows, carry, id_of, inscription, outpoint, plain, reveal, hash_text, spend
 
 OCTETS = "application/octet-stream"
 GENESIS_HASH = "000000000019d6689c085ae165831e934ff763ae46a2a6c172b3f1b60a8ce26f"
@@ -214,7 +214,7 @@ def satoshis(rows):
     with_a_fee(rows, 6_000_000_000)
     rows.says("/status", f'{{"blocks":3,"depth":2,"kept":2,"profile":"regtest","tip":"{tip}"}}')
     rows.disconnects()
-    rows.says("/status", {"blocks": 2, "depth": 2, "kept": 1, "profile": "regtest", "tip": shown(rows.tip())})
+    rows.says("/status", {"blocks": 2, "depth": 2, "kept": 1, "profile": "regtest", "tip": hash_text(rows.tip())})
 
 
 # Audits.
@@ -405,7 +405,7 @@ def one_inscription(rows):
     rows.inscription(tx, content_length=2, content_type="text/plain", height=6, number=0)
     rows.content(tx, b"hi", "text/plain")
     rows.case("ids and pages are read as they are written")
-    txid = shown(id_of(revealed(rows, envelope())))
+    txid = hash_text(id_of(revealed(rows, envelope())))
     for end in ("i1", "i00", "i", "i4294967296", "i4294967295", "i+0", "I0", ":0", "i0i0", ""):
         rows.missing(f"/inscription/{txid}{end}", f"/content/{txid}{end}")
     rows.missing(*(f"/inscriptions/{page}" for page in ("01", "+0", "-1", "18446744073709551616", "0x0", "", "0/")))
@@ -572,7 +572,7 @@ def moves(rows):
 def rune_tree(etches, tx, held, burned, mints, height=3):
     """What `/rune` says of a rune without a name, with premine 7, cap 10 and amount 5."""
     name = name_of(RESERVED + (height << 32) + tx)
-    tree = {"amount": "5", "burned": burned, "cap": "10", "divisibility": 0, "etching": shown(id_of(etches)), "held": held}
+    tree = {"amount": "5", "burned": burned, "cap": "10", "divisibility": 0, "etching": hash_text(id_of(etches)), "held": held}
     tree |= {"height": [None, None], "id": f"{height}:{tx}", "mintable": True, "mints": mints, "name": name, "number": 0}
     return tree | {"offset": [None, None], "premine": "7", "symbol": None}
 
@@ -612,7 +612,7 @@ def keep_blocks(rows):
     rows.disconnects()
     rows.disconnects()
     rows.row("disconnect", "refused 11")
-    rows.says("/status", {"blocks": 1, "depth": 2, "kept": 0, "profile": "regtest", "tip": shown(rows.tip())})
+    rows.says("/status", {"blocks": 1, "depth": 2, "kept": 0, "profile": "regtest", "tip": hash_text(rows.tip())})
 
 
 def burn_and_take_back(rows):

@@ -4,10 +4,12 @@
     python3 checks/real_files.py [PROGRAM]
 
 No proof says which bytes a real file gives or takes, so this tries it: each subcommand, each status but 9, which would take
-4,611,686,018,427,387,904 bytes, the bytes of the files, and fifty kills of a running `apply` (checks/kills.py). Each check
+4,611,686,018,427,387,904 bytes, the bytes of the files, satoshis among 500,000 outputs (checks/table.py),
+and fifty kills of a running `apply` (checks/kills.py). Each check
 has a new folder, below out/ beside this script, that is gone where it passed. A check that fails is told with its cause,
 and its folder stays. The last line says how many passed and how many failed, and the status is 1 where one failed.
-PROGRAM is crates/ox_main/out/ox_main without a word, which `rt ci` and `rt run` leave there. It takes some fifteen seconds.
+PROGRAM is crates/ox_main/out/ox_main without a word, which `rt ci` and `rt run` leave there. It takes half a minute to
+a minute and a half.
 """
 
 import collections

@@ -16,7 +16,7 @@ def id_of(tx):
     return twice(tx[0])
 
 
-def shown(hash_):
+def hash_text(hash_):
     """A hash as it is printed."""
     return hash_[::-1].hex()
 
@@ -37,12 +37,12 @@ def carry(tx, stone, tapscript=b""):
 
 
 def outpoint(tx, index=0):
-    return f"{shown(id_of(tx))}:{index}"
+    return f"{hash_text(id_of(tx))}:{index}"
 
 
 def inscription(tx, index=0):
     """The id of one of a transaction's inscriptions."""
-    return f"{shown(id_of(tx))}i{index}"
+    return f"{hash_text(id_of(tx))}i{index}"
 
 
 class Rows:
@@ -66,7 +66,7 @@ class Rows:
 
     def ok(self):
         """The line that answers an accepted command."""
-        return f"ok {len(self.tips) - 1} {shown(self.tips[-1])}" if self.tips else "ok empty"
+        return f"ok {len(self.tips) - 1} {hash_text(self.tips[-1])}" if self.tips else "ok empty"
 
     def connects(self, *txs):
         """A block of these transactions on the newest one is taken in."""
