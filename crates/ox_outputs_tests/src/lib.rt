@@ -2,4 +2,6 @@
 #![tactic(auto)]
 
 #[cfg(test)]
+mod locating;
+#[cfg(test)]
 mod tests;

@@ -1,0 +1,91 @@
+-- Satoshis between two numbers, and outputs that hold such, after one came or went.
+use Rattle.std.proofs.Common.{◌≡◌, ◌∙◌, ◌≤◌, ◌<◌, ◌+◌, ◌==◌, ℕ, Bool, true, false, cond, List, [], ◌∷◌, ◌++◌, inl, inr, refl, sym, ap, subst, arith, Option, Some, None, nat_lt, length}
+use Rattle.std.specs.Prelude.{if◌then◌else◌, ◌⊎◌}
+use Rattle.std.specs.Ordering.{eq_by_cmp}
+use Rattle.std.specs.FinMap.{empty, get, insert, remove, get-empty, get-insert, get-remove}
+use Rattle.std.proofs.lemmas.Bool.{cases_lt}
+use Rattle.std.proofs.lemmas.Bool.Decides.{nat_tests}
+use Rattle.ox_block.specs.declared.block.OutPoint.{OutPoint}
+use Rattle.ox_range.specs.Numbers.{numbers_from}
+use Rattle.ox_range.proofs.RunLemmas.{length-numbers_from}
+use Rattle.ox_rules.specs.declared.rows.OutRow.{OutRow}
+use Rattle.ox_rules.specs.Outputs.{Outputs, MayStand, outpoint_cmp, times}
+use Rattle.ox_rules.proofs.Conservation.{times-append}
+use Rattle.ox_rules.proofs.Orders.{outpoints_total}
+use Rattle.ox_rules.proofs.Transfers.{counts_numbers}
+use Rattle.ox_outputs_tests.specs.Rising.{AreWithin, HoldBelow}
+
+pub none_hold_any : (outs : Outputs) (end : ℕ) → outs ≡ empty → HoldBelow end outs
+none_hold_any outs end is at row found = absurd (by_none (sym (get-empty outpoint_cmp at) ∙ ap (λ (o : Outputs). get o at) (sym is) ∙ found)) where
+  by_none : ◌≡◌ {A = Option OutRow} None (Some row) → ⊥
+  by_none e = absurd (cc e)
+
+pub numbers_count : (first count : ℕ) → length (numbers_from first count) ≡ count
+numbers_count first count = length-numbers_from first count
+
+counted_once : (n first end sat : ℕ) → n + (if nat_lt sat first then 1 else 0) ≡ (if nat_lt sat end then 1 else 0) → n ≤ 1
+counted_once n first end sat is = grind (arith, nat_tests)
+
+none_before : (n first end sat : ℕ) → n + (if nat_lt sat first then 1 else 0) ≡ (if nat_lt sat end then 1 else 0) → sat < first → n ≡ 0
+none_before n first end sat is below = grind (arith, nat_tests)
+
+none_behind : (n first end sat : ℕ) → n + (if nat_lt sat first then 1 else 0) ≡ (if nat_lt sat end then 1 else 0) → end ≤ sat → n ≡ 0
+none_behind n first end sat is behind = grind (arith, nat_tests)
+
+pub numbers_within : (first count : ℕ) → AreWithin first (first + count) (numbers_from first count)
+numbers_within first count = record {
+  once = λ sat. counted_once (times sat (numbers_from first count)) first (first + count) sat (counts_numbers sat first count);
+  from = λ sat below. none_before (times sat (numbers_from first count)) first (first + count) sat (counts_numbers sat first count) below;
+  below = λ sat behind. none_behind (times sat (numbers_from first count)) first (first + count) sat (counts_numbers sat first count) behind;
+}
+
+sum_once : (a b sat middle : ℕ) → a ≤ 1 → b ≤ 1 → (middle ≤ sat → a ≡ 0) → (sat < middle → b ≡ 0) → a + b ≤ 1
+sum_once a b sat middle one other before behind = by_test (cases_lt sat middle) where
+  by_test : (sat < middle) ⊎ (middle ≤ sat) → a + b ≤ 1
+  by_test (inl less) = omega (arith, one, behind less)
+  by_test (inr more) = omega (arith, other, before more)
+
+joined_within : (low middle start end : ℕ) (a b : List ℕ) → AreWithin low middle a → AreWithin start end b → low ≤ start → middle ≤ start → middle ≤ end → AreWithin low end (a ++ b)
+joined_within low middle start end a b first second up apart further = record {
+  once = λ sat. omega (arith, times-append sat a b, sum_once (times sat a) (times sat b) sat middle (first.once sat) (second.once sat) (first.below sat) (λ less. second.from sat (omega (arith, less, apart))));
+  from = λ sat below. omega (arith, times-append sat a b, first.from sat below, second.from sat (omega (arith, below, up)));
+  below = λ sat behind. omega (arith, times-append sat a b, first.below sat (omega (arith, behind, further)), second.below sat behind);
+}
+
+pub three_within : (a b c both all : List ℕ) → AreWithin 100 102 a → AreWithin 110 113 b → AreWithin 120 124 c → both ≡ a ++ b → all ≡ both ++ c → AreWithin 100 124 all
+three_within a b c both all first second third is_both is_all =
+    let two = joined_within 100 102 110 113 a b first second (omega arith) (omega arith) (omega arith) in
+    let three = joined_within 100 113 120 124 (a ++ b) c two third (omega arith) (omega arith) (omega arith) in
+    subst (AreWithin 100 124) (sym (is_all ∙ ap (λ (l : List ℕ). l ++ c) is_both)) three
+
+pub may_stand : (outs : Outputs) (at : OutPoint) (sats : List ℕ) (low end to : ℕ) → AreWithin low end sats → HoldBelow to outs → to ≤ low → MayStand at sats outs
+may_stand outs at sats low end to within held up = record {
+  once = within.once;
+  apart = λ other row sat differs found. let there = held other row found in
+      omega (arith, sum_once (times sat row.sats) (times sat sats) sat low (there.once sat) (within.once sat) (λ past. there.below sat (omega (arith, past, up))) (within.from sat));
+}
+
+-- satoshis below a number are below a greater one
+further : (a b : ℕ) (low : ℕ) (sats : List ℕ) → a ≤ b → AreWithin low a sats → AreWithin 0 b sats
+further a b low sats up within = record {
+  once = within.once;
+  from = λ sat below. absurd (omega (arith, below));
+  below = λ sat behind. within.below sat (omega (arith, up, behind));
+}
+
+pub hold_further : (outs : Outputs) (a b : ℕ) → a ≤ b → HoldBelow a outs → HoldBelow b outs
+hold_further outs a b up h at row found = further a b 0 row.sats up (h at row found)
+
+pub placed_below : (outs new : Outputs) (at : OutPoint) (row : OutRow) (low end after : ℕ) → new ≡ insert outs at row → AreWithin low end row.sats → low ≤ end → end ≤ after → HoldBelow low outs → HoldBelow after new
+placed_below outs new at row low end after is within up further_up h q r found =
+    by_test (eq_by_cmp outpoint_cmp q at) (sym (ap (λ (o : Outputs). get o q) is ∙ get-insert outpoints_total outs at row q) ∙ found) where
+      by_test : (b : Bool) → cond b (Some row) (get outs q) ≡ Some r → AreWithin 0 after r.sats
+      by_test true same = let e : row ≡ r = cc same in subst (λ (x : OutRow). AreWithin 0 after x.sats) e (further end after low row.sats further_up within)
+      by_test false other = further low after 0 r.sats (omega (arith, up, further_up)) (h q r other)
+
+pub taken_below : (outs new : Outputs) (at : OutPoint) (end : ℕ) → new ≡ remove outs at → HoldBelow end outs → HoldBelow end new
+taken_below outs new at end is h q r found =
+    by_test (eq_by_cmp outpoint_cmp q at) (sym (ap (λ (o : Outputs). get o q) is ∙ get-remove outpoints_total outs at q) ∙ found) where
+      by_test : (b : Bool) → cond b None (get outs q) ≡ Some r → AreWithin 0 end r.sats
+      by_test true same = absurd (cc same)
+      by_test false other = h q r other

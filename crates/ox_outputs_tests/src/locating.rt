@@ -1,0 +1,176 @@
+//! Where satoshis are.
+
+ghost use Rattle.std.specs.Prelude.{◌≡◌, ◌+◌, ◌*◌, ◌<◌, ◌≤◌, ◌^◌, length};
+ghost use Rattle.ox_outputs.specs.Table.{rows_in};
+ghost use Rattle.ox_outputs_tests.specs.Rising.{AreWithin, HoldBelow};
+
+use ox_block::{OutPoint, Txid};
+use ox_outputs::Outputs;
+use ox_range::Ranges;
+use ox_rules::{OutRow, OutTable, Place, Script};
+use std::alloc::Global;
+use std::process::Abort;
+
+/// So many outputs of one satoshi each.
+const COUNT: u32 = 500_000;
+
+/// The outpoint of a number: a txid that begins with it in four bytes, and index 0.
+fn outpoint(number: u32) -> OutPoint {
+    let mut id = [0; 32];
+    let [a, b, c, d] = number.to_be_bytes();
+    id[0] = a;
+    id[1] = b;
+    id[2] = c;
+    id[3] = d;
+    OutPoint {
+        txid: Txid(id),
+        index: 0,
+    }
+}
+
+/// So many satoshis from the first on.
+#[tactic(auto, using(crate::proofs::Rising::numbers_within, crate::proofs::Rising::numbers_count))]
+fn run(rt: &impl Abort, alloc: Global, first: u64, count: u64) -> Ranges
+    requires { first + count < 2 ^ 40 }
+    ensures within { AreWithin first (first + count) result }
+    ensures len { length result ≡ count }
+{
+    Ranges::one(alloc, first, count).expect(rt, "memory")
+}
+
+/// No outputs.
+fn fresh(alloc: Global) -> Outputs
+    ensures { HoldBelow 0 (rows_in result) }
+{
+    Outputs::new(alloc)
+}
+
+/// A row that holds these satoshis.
+fn row_of(rt: &impl Abort, alloc: Global, sats: Ranges) -> OutRow
+    ensures { result.sats ≡ sats }
+{
+    OutRow {
+        script: Script::copy(alloc, &[0x51]).expect(rt, "memory"),
+        height: 0,
+        sats,
+    }
+}
+
+/// Places an output of so many satoshis at the outpoint of a number.
+#[tactic(auto, using(crate::proofs::Rising::placed_below))]
+fn put<O: OutTable>(
+    rt: &impl Abort,
+    alloc: Global,
+    table: &mut O,
+    number: u32,
+    first: u64,
+    count: u64,
+)
+    requires below { HoldBelow first (O.contents table.old) }
+    requires fits { first + count < 2 ^ 40 }
+    ensures below { HoldBelow (first + count) (O.contents table.new) }
+    ensures mark { O.marked table.new ≡ O.marked table.old }
+{
+    let sats = run(rt, alloc, first, count);
+    let row = row_of(rt, alloc, sats);
+    table.place(&outpoint(number), row).expect(rt, "memory");
+}
+
+/// The outputs of all numbers below one, that of each with the satoshi of twice the number and no
+/// other.
+fn filled(rt: &impl Abort, alloc: Global, count: u32) -> Outputs {
+    let mut table = fresh(alloc);
+    for number in 0..count {
+        put(rt, alloc, &mut table, number, 2 * u64::from(number), 1);
+    }
+    table
+}
+
+/// Whether a satoshi is found at this place of the output of a number.
+fn is_at(table: &Outputs, sat: u64, number: u32, offset: u64) -> bool {
+    table.locate(sat)
+        == Some(Place::Out {
+            outpoint: outpoint(number),
+            offset,
+        })
+}
+
+/// Whether the satoshi of twice a number is found in the output of the number, and the next one in
+/// none.
+fn is_located(table: &Outputs, number: u32) -> bool {
+    let sat = 2 * u64::from(number);
+    is_at(table, sat, number, 0) && table.locate(sat + 1).is_none()
+}
+
+#[test]
+fn each_of_many_satoshis_is_found(rt: HostRuntime) {
+    let table = filled(&rt, rt.alloc(), COUNT);
+    assert!(rt; (0..COUNT).all(|number| is_located(&table, number)));
+}
+
+/// Two outputs: that of 1 holds the satoshis from 0 to 9, that of 2 those from 10 to 14.
+fn two_runs(rt: &impl Abort, alloc: Global) -> Outputs
+    ensures { HoldBelow 15 (rows_in result) }
+{
+    let mut table = fresh(alloc);
+    put(rt, alloc, &mut table, 1, 0, 10);
+    put(rt, alloc, &mut table, 2, 10, 5);
+    table
+}
+
+#[test]
+fn a_satoshi_is_found_at_both_ends_of_a_run(rt: HostRuntime) {
+    let table = two_runs(&rt, rt.alloc());
+    assert!(rt; is_at(&table, 0, 1, 0) && is_at(&table, 9, 1, 9));
+    assert!(rt; is_at(&table, 10, 2, 0) && is_at(&table, 14, 2, 4));
+    assert!(rt; table.locate(15).is_none());
+}
+
+#[test]
+fn a_displaced_satoshi_is_found_again_after_going_back(rt: HostRuntime) {
+    let mut table = two_runs(&rt, rt.alloc());
+    table.begin().expect(&rt, "memory");
+    put(&rt, rt.alloc(), &mut table, 1, 15, 3);
+    assert!(rt; table.locate(5).is_none() && is_at(&table, 17, 1, 2));
+    table.cancel();
+    assert!(rt; is_at(&table, 5, 1, 5) && table.locate(17).is_none());
+}
+
+#[test]
+fn a_taken_satoshi_is_found_again_after_going_back(rt: HostRuntime) {
+    let mut table = two_runs(&rt, rt.alloc());
+    table.begin().expect(&rt, "memory");
+    table.take(&outpoint(2)).expect(&rt, "memory");
+    assert!(rt; table.locate(12).is_none() && is_at(&table, 5, 1, 5));
+    table.cancel();
+    assert!(rt; is_at(&table, 12, 2, 2));
+}
+
+/// Three runs: the satoshis from 100 to 101, from 110 to 112, and from 120 to 123.
+#[tactic(auto, using(crate::proofs::Rising::three_within))]
+fn three_runs(rt: &impl Abort, alloc: Global) -> Ranges
+    ensures { AreWithin 100 124 result }
+{
+    let mut sats = run(rt, alloc, 100, 2);
+    sats.join(&run(rt, alloc, 110, 3)).expect(rt, "memory");
+    sats.join(&run(rt, alloc, 120, 4)).expect(rt, "memory");
+    sats
+}
+
+/// Places an output of three runs at the outpoint of 3.
+fn put_three(rt: &impl Abort, alloc: Global, table: &mut Outputs)
+    requires { HoldBelow 15 (rows_in table.old) }
+{
+    let sats = three_runs(rt, alloc);
+    let row = row_of(rt, alloc, sats);
+    table.place(&outpoint(3), row).expect(rt, "memory");
+}
+
+#[test]
+fn a_satoshi_is_found_in_a_row_of_many_runs(rt: HostRuntime) {
+    let mut table = two_runs(&rt, rt.alloc());
+    put_three(&rt, rt.alloc(), &mut table);
+    assert!(rt; is_at(&table, 101, 3, 1) && is_at(&table, 110, 3, 2));
+    assert!(rt; is_at(&table, 112, 3, 4) && is_at(&table, 123, 3, 8));
+    assert!(rt; table.locate(102).is_none() && table.locate(119).is_none());
+}
