@@ -1,6 +1,6 @@
 -- Satoshis between two numbers, and outputs that hold such, after one came or went.
-use Rattle.std.proofs.Common.{◌≡◌, ◌∙◌, ◌≤◌, ◌<◌, ◌+◌, ◌==◌, ℕ, Bool, true, false, cond, List, [], ◌∷◌, ◌++◌, inl, inr, refl, sym, ap, subst, arith, Option, Some, None, nat_lt, length}
-use Rattle.std.specs.Prelude.{if◌then◌else◌, ◌⊎◌}
+use Rattle.std.proofs.Common.{◌≡◌, ◌∙◌, ◌≤◌, ◌<◌, ◌+◌, ℕ, Bool, true, false, cond, List, [], ◌++◌, inl, inr, sym, ap, subst, arith, Option, Some, None, nat_lt, length, length-append}
+use Rattle.std.specs.Prelude.{if◌then◌else◌, ◌⊎◌, OnOk, Result, Ok, Err}
 use Rattle.std.specs.Ordering.{eq_by_cmp}
 use Rattle.std.specs.FinMap.{empty, get, insert, remove, get-empty, get-insert, get-remove}
 use Rattle.std.proofs.lemmas.Bool.{cases_lt}
@@ -45,18 +45,29 @@ sum_once a b sat middle one other before behind = by_test (cases_lt sat middle) 
   by_test (inl less) = omega (arith, one, behind less)
   by_test (inr more) = omega (arith, other, before more)
 
-joined_within : (low middle start end : ℕ) (a b : List ℕ) → AreWithin low middle a → AreWithin start end b → low ≤ start → middle ≤ start → middle ≤ end → AreWithin low end (a ++ b)
-joined_within low middle start end a b first second up apart further = record {
+pub joined : (low middle start end after : ℕ) (a b all : List ℕ) → all ≡ a ++ b → AreWithin low middle a → AreWithin start end b → low ≤ start → middle ≤ start → start ≤ end → end ≤ after → AreWithin low after all
+joined low middle start end after a b all is first second up apart on past = subst (AreWithin low after) (sym is) (record {
   once = λ sat. omega (arith, times-append sat a b, sum_once (times sat a) (times sat b) sat middle (first.once sat) (second.once sat) (first.below sat) (λ less. second.from sat (omega (arith, less, apart))));
   from = λ sat below. omega (arith, times-append sat a b, first.from sat below, second.from sat (omega (arith, below, up)));
-  below = λ sat behind. omega (arith, times-append sat a b, first.below sat (omega (arith, behind, further)), second.below sat behind);
-}
+  below = λ sat behind. omega (arith, times-append sat a b, first.below sat (omega (arith, behind, apart, on, past)), second.below sat (omega (arith, behind, past)));
+})
 
-pub three_within : (a b c both all : List ℕ) → AreWithin 100 102 a → AreWithin 110 113 b → AreWithin 120 124 c → both ≡ a ++ b → all ≡ both ++ c → AreWithin 100 124 all
-three_within a b c both all first second third is_both is_all =
-    let two = joined_within 100 102 110 113 a b first second (omega arith) (omega arith) (omega arith) in
-    let three = joined_within 100 113 120 124 (a ++ b) c two third (omega arith) (omega arith) (omega arith) in
-    subst (AreWithin 100 124) (sym (is_all ∙ ap (λ (l : List ℕ). l ++ c) is_both)) three
+-- what holds where a result is a value, once it is one
+pub on_value : {T E P : Type 0} (r : Result T E) (x : T) → r ≡ Ok x → OnOk r P → P
+on_value (Ok y) x is ok = ok
+on_value (Err e) x is ok = absurd (cc is)
+
+pub joined_count : (a b all : List ℕ) → all ≡ a ++ b → length all ≡ length a + length b
+joined_count a b all is = ap (λ (l : List ℕ). length l) is ∙ length-append a b
+
+pub none_within : (low end : ℕ) (sats : List ℕ) → sats ≡ [] → AreWithin low end sats
+none_within low end sats none = record {
+  once = λ sat. omega (arith, no_times sats sat none);
+  from = λ sat below. no_times sats sat none;
+  below = λ sat behind. no_times sats sat none;
+} where
+  no_times : (list : List ℕ) (sat : ℕ) → list ≡ [] → times sat list ≡ 0
+  no_times list sat is = ap (times sat) is
 
 pub may_stand : (outs : Outputs) (at : OutPoint) (sats : List ℕ) (low end to : ℕ) → AreWithin low end sats → HoldBelow to outs → to ≤ low → MayStand at sats outs
 may_stand outs at sats low end to within held up = record {

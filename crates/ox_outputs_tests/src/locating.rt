@@ -14,6 +14,9 @@ use std::process::Abort;
 /// So many outputs of one satoshi each.
 const COUNT: u32 = 500_000;
 
+/// So many runs of one output.
+const RUNS: u32 = 100;
+
 /// The outpoint of a number: a txid that begins with it in four bytes, and index 0.
 fn outpoint(number: u32) -> OutPoint {
     let mut id = [0; 32];
@@ -127,6 +130,14 @@ fn a_satoshi_is_found_at_both_ends_of_a_run(rt: HostRuntime) {
 }
 
 #[test]
+fn a_displaced_satoshi_is_lost(rt: HostRuntime) {
+    let mut table = two_runs(&rt, rt.alloc());
+    put(&rt, rt.alloc(), &mut table, 1, 15, 3);
+    assert!(rt; table.locate(0).is_none() && table.locate(9).is_none());
+    assert!(rt; is_at(&table, 15, 1, 0) && is_at(&table, 10, 2, 0));
+}
+
+#[test]
 fn a_displaced_satoshi_is_found_again_after_going_back(rt: HostRuntime) {
     let mut table = two_runs(&rt, rt.alloc());
     table.begin().expect(&rt, "memory");
@@ -146,31 +157,52 @@ fn a_taken_satoshi_is_found_again_after_going_back(rt: HostRuntime) {
     assert!(rt; is_at(&table, 12, 2, 2));
 }
 
-/// Three runs: the satoshis from 100 to 101, from 110 to 112, and from 120 to 123.
-#[tactic(auto, using(crate::proofs::Rising::three_within))]
-fn three_runs(rt: &impl Abort, alloc: Global) -> Ranges
-    ensures { AreWithin 100 124 result }
+/// Puts the run of a number behind, two satoshis: the third is in none.
+#[tactic(auto, using(crate::proofs::Rising::joined_count))]
+fn join_two(rt: &impl Abort, alloc: Global, sats: &mut Ranges, number: u32)
+    requires within { AreWithin 0 (3 * number) sats.old }
+    requires len { length sats.old ≡ 2 * number }
+    ensures within { AreWithin 0 (3 * (number + 1)) sats.new }
+    ensures len { length sats.new ≡ 2 * (number + 1) }
 {
-    let mut sats = run(rt, alloc, 100, 2);
-    sats.join(&run(rt, alloc, 110, 3)).expect(rt, "memory");
-    sats.join(&run(rt, alloc, 120, 4)).expect(rt, "memory");
+    let two = run(rt, alloc, 3 * u64::from(number), 2);
+    sats.join(&two).expect(rt, "memory");
+}
+
+/// The runs of all numbers below one.
+#[tactic(auto, using(crate::proofs::Rising::none_within))]
+fn runs_below(rt: &impl Abort, alloc: Global, count: u32) -> Ranges
+    ensures { AreWithin 0 (3 * count) result }
+{
+    let mut sats = Ranges::empty(alloc);
+    for number in 0..count {
+        join_two(rt, alloc, &mut sats, number);
+    }
     sats
 }
 
-/// Places an output of three runs at the outpoint of 3.
-fn put_three(rt: &impl Abort, alloc: Global, table: &mut Outputs)
-    requires { HoldBelow 15 (rows_in table.old) }
+/// Places an output of many runs at the outpoint of 3.
+fn put_many(rt: &impl Abort, alloc: Global, table: &mut Outputs)
+    requires { HoldBelow 0 (rows_in table.old) }
 {
-    let sats = three_runs(rt, alloc);
+    let sats = runs_below(rt, alloc, RUNS);
     let row = row_of(rt, alloc, sats);
     table.place(&outpoint(3), row).expect(rt, "memory");
 }
 
+/// Whether both satoshis of a number's run are found, and the third in no output.
+fn is_run_located(table: &Outputs, number: u32) -> bool {
+    let sat = 3 * u64::from(number);
+    let offset = 2 * u64::from(number);
+    is_at(table, sat, 3, offset)
+        && is_at(table, sat + 1, 3, offset + 1)
+        && table.locate(sat + 2).is_none()
+}
+
 #[test]
 fn a_satoshi_is_found_in_a_row_of_many_runs(rt: HostRuntime) {
-    let mut table = two_runs(&rt, rt.alloc());
-    put_three(&rt, rt.alloc(), &mut table);
-    assert!(rt; is_at(&table, 101, 3, 1) && is_at(&table, 110, 3, 2));
-    assert!(rt; is_at(&table, 112, 3, 4) && is_at(&table, 123, 3, 8));
-    assert!(rt; table.locate(102).is_none() && table.locate(119).is_none());
+    let mut table = fresh(rt.alloc());
+    put_many(&rt, rt.alloc(), &mut table);
+    assert!(rt; (0..RUNS).all(|number| is_run_located(&table, number)));
+    assert!(rt; table.locate(3 * u64::from(RUNS)).is_none());
 }
