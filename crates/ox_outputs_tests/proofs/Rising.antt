@@ -2,7 +2,7 @@
 use Rattle.std.proofs.Common.{◌≡◌, ◌∙◌, ◌≤◌, ◌<◌, ◌+◌, ℕ, Bool, true, false, cond, List, [], ◌++◌, inl, inr, sym, ap, subst, arith, Option, Some, None, nat_lt, length, length-append}
 use Rattle.std.specs.Prelude.{if◌then◌else◌, ◌⊎◌, OnOk, Result, Ok, Err}
 use Rattle.std.specs.Ordering.{eq_by_cmp}
-use Rattle.std.specs.FinMap.{empty, get, insert, remove, get-empty, get-insert, get-remove}
+use Rattle.std.specs.FinMap.{empty, get, insert, get-empty, get-insert}
 use Rattle.std.proofs.lemmas.Bool.{cases_lt}
 use Rattle.std.proofs.lemmas.Bool.Decides.{nat_tests}
 use Rattle.ox_block.specs.declared.block.OutPoint.{OutPoint}
@@ -93,10 +93,3 @@ placed_below outs new at row low end after is within up further_up h q r found =
       by_test : (b : Bool) → cond b (Some row) (get outs q) ≡ Some r → AreWithin 0 after r.sats
       by_test true same = let e : row ≡ r = cc same in subst (λ (x : OutRow). AreWithin 0 after x.sats) e (further end after low row.sats further_up within)
       by_test false other = further low after 0 r.sats (omega (arith, up, further_up)) (h q r other)
-
-pub taken_below : (outs new : Outputs) (at : OutPoint) (end : ℕ) → new ≡ remove outs at → HoldBelow end outs → HoldBelow end new
-taken_below outs new at end is h q r found =
-    by_test (eq_by_cmp outpoint_cmp q at) (sym (ap (λ (o : Outputs). get o q) is ∙ get-remove outpoints_total outs at q) ∙ found) where
-      by_test : (b : Bool) → cond b None (get outs q) ≡ Some r → AreWithin 0 end r.sats
-      by_test true same = absurd (cc same)
-      by_test false other = h q r other

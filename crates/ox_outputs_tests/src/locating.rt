@@ -129,12 +129,17 @@ fn a_satoshi_is_found_at_both_ends_of_a_run(rt: HostRuntime) {
     assert!(rt; table.locate(15).is_none());
 }
 
+/// Whether no output holds the first and the last satoshi of a run.
+fn is_lost(table: &Outputs, first: u64, last: u64) -> bool {
+    table.locate(first).is_none() && table.locate(last).is_none()
+}
+
 #[test]
 fn a_displaced_satoshi_is_lost(rt: HostRuntime) {
     let mut table = two_runs(&rt, rt.alloc());
     put(&rt, rt.alloc(), &mut table, 1, 15, 3);
-    assert!(rt; table.locate(0).is_none() && table.locate(9).is_none());
-    assert!(rt; is_at(&table, 15, 1, 0) && is_at(&table, 10, 2, 0));
+    assert!(rt; is_lost(&table, 0, 9) && is_at(&table, 10, 2, 0));
+    assert!(rt; is_at(&table, 15, 1, 0) && is_at(&table, 17, 1, 2));
 }
 
 #[test]
@@ -142,9 +147,9 @@ fn a_displaced_satoshi_is_found_again_after_going_back(rt: HostRuntime) {
     let mut table = two_runs(&rt, rt.alloc());
     table.begin().expect(&rt, "memory");
     put(&rt, rt.alloc(), &mut table, 1, 15, 3);
-    assert!(rt; table.locate(5).is_none() && is_at(&table, 17, 1, 2));
+    assert!(rt; is_lost(&table, 0, 9) && is_at(&table, 17, 1, 2));
     table.cancel();
-    assert!(rt; is_at(&table, 5, 1, 5) && table.locate(17).is_none());
+    assert!(rt; is_at(&table, 0, 1, 0) && is_at(&table, 9, 1, 9) && is_lost(&table, 15, 17));
 }
 
 #[test]
@@ -152,9 +157,11 @@ fn a_taken_satoshi_is_found_again_after_going_back(rt: HostRuntime) {
     let mut table = two_runs(&rt, rt.alloc());
     table.begin().expect(&rt, "memory");
     table.take(&outpoint(2)).expect(&rt, "memory");
-    assert!(rt; table.locate(12).is_none() && is_at(&table, 5, 1, 5));
+    assert!(rt; is_lost(&table, 10, 14) && is_at(&table, 9, 1, 9));
     table.cancel();
-    assert!(rt; is_at(&table, 12, 2, 2));
+    assert!(rt; is_at(&table, 10, 2, 0) && is_at(&table, 14, 2, 4));
+    table.take(&outpoint(1)).expect(&rt, "memory");
+    assert!(rt; is_at(&table, 12, 2, 2) && is_lost(&table, 0, 9));
 }
 
 /// Puts the run of a number behind, two satoshis: the third is in none.

@@ -1,4 +1,3 @@
-use Rattle.std.proofs.Common.{◌≡◌}
 use Rattle.ox_outputs_tests.specs.Empty.{HoldNothing}
 use Rattle.ox_outputs_tests.proofs.tests.fill.Given as goal
 
