@@ -1,6 +1,6 @@
 //! Where satoshis are.
 
-ghost use Rattle.std.specs.Prelude.{◌≡◌, ◌+◌, ◌*◌, ◌<◌, ◌≤◌, ◌^◌, length};
+ghost use Rattle.std.specs.Prelude.{◌≡◌, ◌+◌, ◌*◌, ◌<◌, ◌^◌, length};
 ghost use Rattle.ox_outputs.specs.Table.{rows_in};
 ghost use Rattle.ox_outputs_tests.specs.Rising.{AreWithin, HoldBelow};
 
