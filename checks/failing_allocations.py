@@ -31,7 +31,7 @@ import tempfile
 from chain import SHORT, SUBSIDY, block_of, block_with, chain, coinbase, envelope, line, revealing, twice
 from index_rows import Full, Held, Indexes, runes_of_mainnet
 from kills import Failed, demand
-from rows import plain, shown
+from rows import hash_text, plain
 
 HERE = pathlib.Path(__file__).resolve().parent
 CRATES = HERE.parent / "crates"
@@ -147,7 +147,7 @@ class Scarce(Indexes):
         block, tip = block_of(self.tip(), txs)
         row = f"block {block.hex()}"
         dump, was = self.dump_of(before, kept and kept[0])
-        unlinked = [f"refused 5 {shown(self.tip())} {shown(tip)}"]
+        unlinked = [f"refused 5 {hash_text(self.tip())} {hash_text(tip)}"]
         self.tips.append(tip)
         ok, is_now = [self.ok()], self.dump_of(after, kept and kept[1])[1]
         others = [[NONE, was, ok, is_now]]
