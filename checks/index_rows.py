@@ -9,7 +9,7 @@ alone. What is looked up of inscriptions and runes, as the first with an id, it 
 
 from chain import SHORT, SUBSIDY, block_of, coinbase_to, envelope, transaction, twice
 from real_files import RESERVED
-from rows import Rows, carry, id_of, inscription, outpoint, plain, reveal, hash_text, spend
+from rows import Rows, carry, etch, hash_text, id_of, inscription, outpoint, plain, reveal, spend
 
 HALVINGS = {"mainnet": 210_000, "regtest": 210_000, "lab": 10}
 TAPROOT = b"\x51\x20" + 32 * b"\7"
@@ -347,17 +347,9 @@ def mainnet(rows):
     rows.dump(Held(), found("rune=1:0", None), found("name=2055900680524219742", None))
 
 
-def etched(rows, stone):
-    """Block 3, whose transaction 1 etches by this runestone; that transaction."""
-    rows.plain(3)
-    tx = carry(plain(0), stone)
-    rows.extend(tx)
-    return tx
-
-
 def burns(rows):
     rows.live("a cenotaph burns what it mints")
-    tx = etched(rows, ETCHES)
+    tx = etch(rows, ETCHES)
     rune = Rune(3, 1, id_of(tx), 7, gives=5, terms=FROM_ETCHES)
     rows.dump(Held(0, [], [rune]), at(tx, 0, runs(3, (0, SUBSIDY), runes="3:1=7")), found("rune=3:1", 0))
     cenotaph = carry(tx, "6a5d06140314017e00")
@@ -365,7 +357,7 @@ def burns(rows):
     rune = Rune(3, 1, id_of(tx), 7, burned=12, mints=1, gives=5, terms=FROM_ETCHES)
     rows.dump(Held(0, [], [rune]), at(tx, 0, "none"), at(cenotaph, 0, runs(4, (0, SUBSIDY))))
     rows.live("what is held doesn't count what was burned")
-    tx = etched(rows, TEN)
+    tx = etch(rows, TEN)
     # an edict gives 4 to the output of the runestone itself, where they are burned
     moved = carry(tx, "6a5d050003010401")
     rows.extend(moved)
@@ -377,7 +369,7 @@ def burns(rows):
 def edicts(rows):
     for stone, amounts in (("6a5d050003010004", (4, 3, 3)), ("6a5d050003010404", (4, 4, 2))):
         rows.live(f"an edict splits a premine of 10 into {amounts[0]}, {amounts[1]} and {amounts[2]}")
-        tx = etched(rows, TEN)
+        tx = etch(rows, TEN)
         dealt = transaction([spend(tx)], [(1, SHORT)] * 3 + [(0, bytes.fromhex(stone))])
         rows.extend(dealt)
         looks = [at(dealt, index, runs(4, (index, 1), runes=f"3:1={amount}")) for index, amount in enumerate(amounts)]
@@ -424,7 +416,7 @@ class Full:
     """A chain of four blocks, whose last etches a premine of 10, and a block on it that does all at once."""
 
     def __init__(self, rows):
-        self.rows, self.tx = rows, etched(rows, TEN)
+        self.rows, self.tx = rows, etch(rows, TEN)
         # an envelope, an etching with a premine of 5, and an edict that gives 4 to the first output, which gets the rest too
         self.all = carry(self.tx, "6a5d09020106050003010400", envelope())
         self.rune = Rune(3, 1, id_of(self.tx), 10)
@@ -531,7 +523,7 @@ def both_ways(rows):
 
 def burn_and_take_back(rows):
     rows.chain("a disconnect takes back what a cenotaph minted and burned", 100)
-    etches = etched(rows, ETCHES)
+    etches = etch(rows, ETCHES)
     first = Held(0, [], [Rune(3, 1, id_of(etches), 7, gives=5, terms=FROM_ETCHES)])
     looks = [at(etches, 0, runs(3, (0, SUBSIDY), runes="3:1=7")), found("rune=3:1", 0)]
     rows.dump(first, *looks, kept=4)
@@ -587,9 +579,17 @@ def runs_that_fall(rows):
     rows.dump(Held(0, inscriptions), *looks)
 
 
+def words_alone(rows):
+    rows.live("words are looked up without the rest of the index", "regtest")
+    rows.plain(2)
+    hashes = [f"  height {height}: {hash_text(tip)}" for height, tip in enumerate(rows.tips)]
+    word, line = sat(SUBSIDY, place(plain(1), 0))
+    rows.row(f"look height=0 height=1 height=2 {word}", *hashes, "  height 2: none", line(Held()))
+
+
 GROUPS = [satoshis, refusals, last_height, pointers, parents, fees, marks, moves, finds, mainnet, burns, edicts, names]
 GROUPS += [coinbases, refused, kept, all_back, both_ways]
-GROUPS += [burn_and_take_back, spend_twice_behind_two, bring_balances_back, runs_that_fall]
+GROUPS += [burn_and_take_back, spend_twice_behind_two, bring_balances_back, runs_that_fall, words_alone]
 
 
 def main():

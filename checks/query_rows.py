@@ -12,7 +12,7 @@ import json
 
 from chain import GENESIS, SHORT, SUBSIDY, block_of, coinbase_to, envelope, id_value, transaction
 from real_files import RESERVED, name_of
-from rows import Rows, carry, id_of, inscription, outpoint, plain, reveal, hash_text, spend
+from rows import Rows, carry, etch, hash_text, id_of, inscription, outpoint, plain, reveal, spend
 
 OCTETS = "application/octet-stream"
 GENESIS_HASH = "000000000019d6689c085ae165831e934ff763ae46a2a6c172b3f1b60a8ce26f"
@@ -266,14 +266,6 @@ TERMS = "6a5d1402030102030505ac4106d20908020a050e091002"
 TERMS_TXID = "3d9239e6a714cf00f672835853445e98d2993d4746773347d1cfd2a807ae7b7d"
 
 
-def etch(rows, stone):
-    """Blocks up to height 3, in which transaction 1 etches; that transaction."""
-    rows.plain(3)
-    etches = carry(plain(0), stone)
-    rows.extend(etches)
-    return etches
-
-
 def shares(rows, stone, txid, amounts):
     """A premine of 10, and how an edict splits it among three outputs."""
     etches = etch(rows, "6a5d040201060a")
@@ -497,7 +489,7 @@ def block_on(rows, tx):
 
 
 def places(rows):
-    rows.case("outputs tell inscriptions by place and number")
+    rows.case("outputs tell inscriptions by place and number, which pointers choose")
     rows.plain(6)
     pointers = ("b70b", "b80b", "000000000000000001", "e80300000000000000")
     script = b"".join(envelope([(2, bytes.fromhex(pointer))]) for pointer in pointers)
@@ -510,6 +502,9 @@ def places(rows):
     rows.satoshi(2999, ids(tx, 0), at(tx, 1_999, 1))
     rows.satoshi(2998, [], at(tx, 1_998, 1))
     rows.satoshi(1000, ids(tx, 3), at(tx, 0, 1))
+    chosen = ((2_999, at(tx, 1_999, 1)), (0, at(tx, 0)), (0, at(tx, 0)), (1_000, at(tx, 0, 1)))
+    for number, (sat, place) in enumerate(chosen):
+        rows.inscription(tx, number, height=6, number=number, place=place, sat=sat)
     rows.case("an output's runs may fall")
     rows.plain(6)
     far = envelope([(2, bytes.fromhex("00863ba101"))]) + envelope()
@@ -724,16 +719,7 @@ def delegates_without_bodies(rows):
     rows.inscription(to_over, height=6, number=4, place=at(last, 0), sat=0, **html)
 
 
-def places_by_pointers(rows):
-    rows.case("pointers choose the satoshis that inscriptions tell of")
-    rows.plain(6)
-    pointers = ("b70b", "b80b", "000000000000000001", "e80300000000000000")
-    script = b"".join(envelope([(2, bytes.fromhex(pointer))]) for pointer in pointers)
-    tx = transaction([spend(plain(0), 0, script)], [(1_000, SHORT), (2_000, SHORT)])
-    rows.extend(tx)
-    chosen = ((2_999, at(tx, 1_999, 1)), (0, at(tx, 0)), (0, at(tx, 0)), (1_000, at(tx, 0, 1)))
-    for number, (sat, place) in enumerate(chosen):
-        rows.inscription(tx, number, height=6, number=number, place=place, sat=sat)
+def runs_that_fall(rows):
     rows.case("an output of 5,000,000,000 satoshis has two runs that fall, each with an inscription")
     rows.plain(6)
     # places among the inputs' satoshis
@@ -789,7 +775,7 @@ def main():
         group(rows)
     for group in (ends_of_numbers, other_methods, keep_blocks, burn_and_take_back, equal_coinbases, names_past_an_end):
         group(rows)
-    for group in (pages_that_wrap, many_runes, bytes_that_are_no_text, delegates_without_bodies, places_by_pointers):
+    for group in (pages_that_wrap, many_runes, bytes_that_are_no_text, delegates_without_bodies, runs_that_fall):
         group(rows)
     for group in (parents_of_their_block, curse_below_the_jubilee):
         group(rows)

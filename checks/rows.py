@@ -36,6 +36,14 @@ def carry(tx, stone, tapscript=b""):
     return transaction([spend(tx, 0, tapscript)], [(SUBSIDY, SHORT), (0, bytes.fromhex(stone))])
 
 
+def etch(rows, stone):
+    """Blocks up to height 3, in which transaction 1 etches by this runestone; that transaction."""
+    rows.plain(3)
+    tx = carry(plain(0), stone)
+    rows.extend(tx)
+    return tx
+
+
 def outpoint(tx, index=0):
     return f"{hash_text(id_of(tx))}:{index}"
 
