@@ -1,0 +1,8 @@
+//! An ordered map in many parts: a key says in which of them it stands, so that each is small.
+#![tactic(auto)]
+
+mod keys;
+mod shards;
+
+pub use keys::Sharded;
+pub use shards::Shards;
