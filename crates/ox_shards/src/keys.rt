@@ -34,7 +34,8 @@ pub trait Sharded: Ord + Copy {
 }
 
 impl Sharded for OutPoint {
-    ghost use Rattle.ox_shards.specs.Keys.{outpoint_shard, AreOfOne, outpoints_alike, outpoints_between};
+    ghost use Rattle.ox_shards.specs.Keys.{outpoint_shard, AreOfOne};
+    ghost use Rattle.ox_shards.specs.Keys.{outpoints_alike, outpoints_between};
 
     ghost SHARDS = { 65536 };
 

@@ -6,3 +6,6 @@ mod shards;
 
 pub use keys::Sharded;
 pub use shards::Shards;
+
+#[cfg(test)]
+mod tests;

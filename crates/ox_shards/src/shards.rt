@@ -1,26 +1,33 @@
 //! A map in parts.
 
-ghost use Rattle.std.specs.Prelude.{◌≡◌, [], None, cond, Some, OnOk, OnErr, IfOk, IfErr, IfSome, IfNone};
+ghost use Rattle.std.specs.Prelude.{◌≡◌, [], None, Some, IfSome, IfNone, OnOk, OnErr, IfOk, IfErr};
+ghost use Rattle.std.specs.Prelude.{cond, length};
 ghost use Rattle.std.specs.Ordering.{is_eq};
 ghost use Rattle.std.specs.Option.{option_copied};
 ghost use Rattle.std.specs.BTreeMap as tree;
-ghost use Rattle.ox_shards.specs.Shards.{Entries, at};
+ghost use Rattle.ox_shards.specs.Shards.{at, entries_of, AreEmpty, AreParts};
 
 use crate::keys::Sharded;
-use std::alloc::{AllocFailed, Global};
+use std::alloc::{AllocError, AllocFailed, Global};
 use std::collections::BTreeMap;
 use std::marker::Model;
 
 /// A map whose keys are spread over many ordered maps, each of which is small.
 #[derive(Drop)]
 pub struct Shards<K: Sharded, V> {
-    map: BTreeMap<K, V>,
+    alloc: Global,
+    /// None until a value is put in.
+    parts: Vec<BTreeMap<K, V>>,
 }
 
 impl<K: Sharded, V> Model for Shards<K, V> {
+    ghost use Rattle.ox_shards.specs.Shards.{Entries, AreParts, entries_of};
+
     ghost Value = { Entries K V };
 
-    ghost view = { λ s. s.map.entries };
+    ghost view = { λ s. entries_of s.parts.items };
+
+    ghost invariant = { λ s. AreParts K.cmp K.shard K.SHARDS s.parts.items };
 }
 
 impl<K: Sharded, V> Shards<K, V> {
@@ -29,7 +36,8 @@ impl<K: Sharded, V> Shards<K, V> {
         ensures { result ≡ [] }
     {
         Shards {
-            map: BTreeMap::new(alloc),
+            alloc,
+            parts: Vec::new(alloc),
         }
     }
 
@@ -39,14 +47,17 @@ impl<K: Sharded, V> Shards<K, V> {
             → tree.get K.cmp part.now q ≡ at K.cmp self.now q) }
         ensures none { IfNone result ((q : K) → at K.cmp self.now q ≡ None) }
     {
-        Some(&self.map)
+        self.parts.get(key.shard())
     }
 
     /// The value at a key.
     pub fn get(&self, key: &K) -> Option<&V>
         ensures { option_copied result ≡ at K.cmp self.now key.now }
     {
-        self.map.get(key)
+        match self.part(key) {
+            Some(part) => part.get(key),
+            None => None,
+        }
     }
 
     /// Puts a value at a key, and answers the one that it displaces. Where there is no memory, both
@@ -58,7 +69,12 @@ impl<K: Sharded, V> Shards<K, V> {
         ensures handed_back { IfErr result (λ e. e.value ≡ (key, value)) }
         ensures err { OnErr result (self.new ≡ self.old) }
     {
-        self.map.insert(key, value)
+        if spread(&mut self.parts, self.alloc).is_err() {
+            return Err(AllocFailed {
+                value: (key, value),
+            });
+        }
+        self.parts[key.shard()].insert(key, value)
     }
 
     /// Takes the value at a key out, and answers it.
@@ -67,6 +83,42 @@ impl<K: Sharded, V> Shards<K, V> {
         ensures left { (q : K) → at K.cmp self.new q
             ≡ cond (is_eq (K.cmp key.now q)) None (at K.cmp self.old q) }
     {
-        self.map.remove(key)
+        let index = key.shard();
+        if index < self.parts.len() {
+            self.parts[index].remove(key)
+        } else {
+            None
+        }
     }
+}
+
+// Makes the parts, if there are none. `AllocError` where there is no memory for them.
+fn spread<K: Sharded, V>(parts: &mut Vec<BTreeMap<K, V>>, alloc: Global) -> Result<(), AllocError>
+    requires parts { AreParts K.cmp K.shard K.SHARDS parts.old.items }
+    ensures parts { AreParts K.cmp K.shard K.SHARDS parts.new.items }
+    ensures same { entries_of parts.new.items ≡ entries_of parts.old.items }
+    ensures all { OnOk result (length parts.new.items ≡ K.SHARDS) }
+{
+    if parts.is_empty() {
+        make_parts(parts, alloc)?;
+    }
+    Ok(())
+}
+
+// Makes as many maps as there are parts, without a value. `AllocError` where there is no memory for
+// them: there are none.
+fn make_parts<K: Sharded, V>(
+    parts: &mut Vec<BTreeMap<K, V>>,
+    alloc: Global,
+) -> Result<(), AllocError>
+    requires { parts.old.items ≡ [] }
+    ensures count { OnOk result (length parts.new.items ≡ K.SHARDS) }
+    ensures empty { AreEmpty parts.new.items }
+    ensures err { OnErr result (parts.new.items ≡ []) }
+{
+    parts.reserve_exact(K::SHARDS)?;
+    while parts.len() < K::SHARDS {
+        parts.push_reserved(BTreeMap::new(alloc));
+    }
+    Ok(())
 }
