@@ -16,7 +16,8 @@ tokens_of_all = flat_map tokens_of
 
 -- if all went well, these tokens came behind those that stood there
 abbrev pub AddsTokens : {E : Type 0} → Result (Unit {0}) E → Written → Written → List Token → Type 0
-AddsTokens r old new tokens = OnOk r ((new.before ≡ old.before) × (new.tokens ≡ old.tokens ++ tokens))
+AddsTokens r old new tokens =
+    OnOk r ((new.before ≡ old.before) × (new.tokens ≡ old.tokens ++ tokens))
 
 -- nothing is written yet
 abbrev pub IsBlank : Written → Type 0

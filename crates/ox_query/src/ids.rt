@@ -50,7 +50,8 @@ pub(crate) fn write_ids_on<V: View>(out: &mut Writer, live: &V, sat: u64) -> Res
 // next.
 fn write_ids_on_run<V: View>(out: &mut Writer, live: &V, run: &Run) -> Result<(), Memory>
     requires { run.now.first + run.now.count < 2 ^ 64 }
-    ensures { AddsTokens result out.old out.new (tokens_of_all (inscription_ids_of (V.index live.now).inscriptions
+    ensures { AddsTokens result out.old out.new
+        (tokens_of_all (inscription_ids_of (V.index live.now).inscriptions
         (on_between (V.index live.now).inscriptions run.now.first (end_of run.now)))) }
 {
     let end = run.first + run.count;

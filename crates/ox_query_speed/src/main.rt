@@ -11,8 +11,8 @@ use ox_query::answer_by;
 use ox_routes::Routes;
 use ox_sat::{ProfileName, profile_of};
 use std::alloc::Global;
+use std::env;
 use std::io::Read;
-use std::{env, mem};
 
 const ABOUT: About = About {
     depth: 100,
@@ -40,27 +40,15 @@ fn connect_all<'f>(live: &mut Live, feed: &'f [u8]) -> &'f [u8] {
     rest
 }
 
-/// The reply to a GET of a path, which stands in room that is used again and again.
-fn reply_to(
-    alloc: Global,
-    routes: &Routes,
-    live: &Live,
-    room: &mut Vec<u8>,
-    path: &[u8],
-) -> Result<Reply, Memory> {
-    let mut target = mem::replace(room, Vec::new(alloc));
-    target.clear();
-    target.extend_from_slice(path)?;
+/// The reply to a GET of a path.
+fn reply_to(alloc: Global, routes: &Routes, live: &Live, path: &[u8]) -> Result<Reply, Memory> {
     let request = Request {
         method: Method::Get,
-        path: Bytes::from_vec(target),
+        path: Bytes::copy(alloc, path)?,
         body: Bytes::empty(alloc),
         close: false,
     };
-    let reply = answer_by(alloc, routes, live, &ABOUT, &request)?;
-    let Request { path, .. } = request;
-    *room = path.into_vec();
-    Ok(reply)
+    answer_by(alloc, routes, live, &ABOUT, &request)
 }
 
 /// How many replies there are to the paths, a line each, and how many bytes their bodies have.
@@ -72,10 +60,9 @@ fn count(
 ) -> Result<(u64, usize), Memory> {
     let mut replies: u64 = 0;
     let mut length: usize = 0;
-    let mut room = Vec::new(alloc);
     for path in paths.split(|byte| *byte == b'\n') {
         if !path.is_empty() {
-            let reply = reply_to(alloc, routes, live, &mut room, path)?;
+            let reply = reply_to(alloc, routes, live, path)?;
             replies = replies.saturating_add(1);
             length = length.saturating_add(reply.body.len());
         }
@@ -86,10 +73,9 @@ fn count(
 /// The bodies of the replies to the paths, a line each.
 fn bodies(alloc: Global, routes: &Routes, live: &Live, paths: &[u8]) -> Result<Bytes, Memory> {
     let mut text = Bytes::empty(alloc);
-    let mut room = Vec::new(alloc);
     for path in paths.split(|byte| *byte == b'\n') {
         if !path.is_empty() {
-            let reply = reply_to(alloc, routes, live, &mut room, path)?;
+            let reply = reply_to(alloc, routes, live, path)?;
             text.append(reply.body.as_slice())?;
             text.append(b"\n")?;
         }
