@@ -154,7 +154,7 @@ module _ {m n : Places} {s t : Held} {at : OutPoint} {place : Option ℕ} (c : C
   pub slot_there : (row : Option OutRow) → option_map (row_in t) place ≡ Some row → IsSome (slot_at (slots_in n t) at)
   slot_there row is = subst IsSome (sym (slot_at-slots_in n t at ∙ ap (option_map (row_in t)) there ∙ is)) refl
 
--- ---- the four changes
+-- ---- the changes
 
 -- no other slot has this place
 others_place : (m : Places) (s : Held) (at q : OutPoint) (p r : ℕ) → ArePlaced m s → place_at m at ≡ Some p → is_same at q ≡ false → place_at m q ≡ Some r → r ≡ p → ⊥
@@ -191,6 +191,16 @@ removed m n s t at p h is u places = record {
       (λ same. absurd (nothing_there (get t r) (ap (get t) same ∙ u.changed) some))
       (λ other. inr (subst IsSome (u.others r other) some, λ too. other (sym (the_place p r (sym is ∙ too)))))
       (cases_eq r p);
+}
+
+-- a slot is taken away where there is none
+pub none_removed : (m n : Places) (s : Held) (at : OutPoint) → place_at m at ≡ None → ((q : OutPoint) → place_at n q ≡ cond (is_same at q) None (place_at m q)) → Changes m n s s at None
+none_removed m n s at none places = record {
+  places = places;
+  others = λ q r other too. refl;
+  own = λ q r other place too. no_place r place;
+  given = λ r place. absurd (no_place r place);
+  none_lost = λ r some. inr (some, λ too. no_place r (sym none ∙ too));
 }
 
 -- a slot is made

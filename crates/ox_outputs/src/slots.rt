@@ -9,16 +9,16 @@ ghost use Rattle.ox_outputs.specs.Slots.{slot_at, put_slot, rows_of};
 use crate::held::{Held, exchange_in, give_out, row_in, take_back};
 use ox_block::OutPoint;
 use ox_rules::{OutRow, Unplaced};
+use ox_shards::Shards;
 use slab::Slab;
 use std::alloc::Global;
-use std::collections::BTreeMap;
 use std::marker::Model;
 
 /// Slots by outpoint, each with a row or empty. The rows stand apart from the outpoints, each at a
 /// place of its own, so that the map's nodes are small and no row is moved when one comes or goes.
 #[derive(Drop)]
 pub(crate) struct Slots {
-    places: BTreeMap<OutPoint, u32>,
+    places: Shards<OutPoint, u32>,
     held: Held,
 }
 
@@ -27,9 +27,9 @@ impl Model for Slots {
 
     ghost Value = { SlotList };
 
-    ghost view = { λ s. slots_in s.places.entries s.held };
+    ghost view = { λ s. slots_in s.places s.held };
 
-    ghost invariant = { λ s. ArePlaced s.places.entries s.held };
+    ghost invariant = { λ s. ArePlaced s.places s.held };
 }
 
 impl Slots {
@@ -38,7 +38,7 @@ impl Slots {
         ensures { result ≡ [] }
     {
         Slots {
-            places: BTreeMap::new(alloc),
+            places: Shards::new(alloc),
             held: Slab::new(alloc),
         }
     }
