@@ -64,18 +64,6 @@ pub(crate) fn take_twice(
     }
 }
 
-/// Takes the slot at this outpoint away if it is empty: no row is lost.
-pub(crate) fn tidy(slots: &mut Slots, at: OutPoint)
-    ensures { rows_of slots.new ≡ rows_of slots.old }
-{
-    match slots.get(&at) {
-        Some(_) => (),
-        None => {
-            let _empty = slots.remove(&at);
-        }
-    }
-}
-
 // Copies a row whose satoshis leave the locator, and those of the row come that displaces it.
 // `Memory` where there is none: the locator is as before.
 fn displace_copied(
@@ -206,7 +194,7 @@ pub(crate) fn settle(
 {
     while let Some(at) = changed.pop() {
         if let Some(Some(_)) = before.pop() {
-            tidy(slots, at);
+            slots.tidy(&at);
         }
     }
 }
@@ -217,7 +205,7 @@ pub(crate) fn forget(slots: &mut Slots, changed: &mut Vec<OutPoint>)
     ensures none { changed.new.items ≡ [] }
 {
     while let Some(at) = changed.pop() {
-        tidy(slots, at);
+        slots.tidy(&at);
     }
 }
 

@@ -9,7 +9,7 @@ ghost use Rattle.ox_outputs.specs.Located.{StandOnce, AreRuns};
 ghost use Rattle.ox_outputs.specs.Locator.{live_at, kept_at};
 ghost use Rattle.ox_outputs.specs.Stretches.{AreApart};
 
-use crate::changes::{fill_twice, forget, go_back, settle, take_twice, tidy};
+use crate::changes::{fill_twice, forget, go_back, settle, take_twice};
 use crate::differing::{differing, place_all, take_out};
 use crate::locator::Locator;
 use crate::slots::Slots;
@@ -78,7 +78,7 @@ impl Outputs {
         ensures unmarked { self.new.marked ≡ false }
     {
         let taken = take_twice(&mut self.slots, &mut self.locator, at, self.alloc)?;
-        tidy(&mut self.slots, *at);
+        self.slots.tidy(at);
         match taken {
             Some((row, _)) => Ok(Some(row)),
             None => Ok(None),

@@ -80,14 +80,26 @@ impl Slots {
         }
     }
 
-    /// Takes the slot at this outpoint away, and answers what it held.
-    pub(crate) fn remove(&mut self, at: &OutPoint) -> Option<OutRow>
+    // Takes the slot at this outpoint away, and answers what it held.
+    fn remove(&mut self, at: &OutPoint) -> Option<OutRow>
         ensures held { result ≡ map.get (rows_of self.old) at.now }
         ensures rows { rows_of self.new ≡ put_slot (rows_of self.old) at.now None }
     {
         match self.places.remove(at) {
             Some(place) => take_back(&mut self.held, place),
             None => None,
+        }
+    }
+
+    /// Takes the slot at this outpoint away if it is empty: no row is lost.
+    pub(crate) fn tidy(&mut self, at: &OutPoint)
+        ensures { rows_of self.new ≡ rows_of self.old }
+    {
+        match self.get(at) {
+            Some(_) => (),
+            None => {
+                let _empty = self.remove(at);
+            }
         }
     }
 
