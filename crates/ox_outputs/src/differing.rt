@@ -60,13 +60,14 @@ fn oldest(alloc: Global, changed: &[OutPoint]) -> Result<BTreeMap<OutPoint, usiz
         ≡ position_from (eq_by_cmp outpoint_cmp at) 0 changed.now) }
     ensures ordered { IfOk result (trees.IsOrdered outpoint_cmp) }
 {
-    let mut places = BTreeMap::new(alloc);
+    // Of those at one outpoint the map keeps the last, which is the oldest.
+    let mut newest_first = Vec::with_capacity(alloc, changed.len())?;
     let mut left = changed.len();
     while left > 0 {
         left -= 1;
-        let _newer = places.insert(changed[left], left)?;
+        newest_first.push_reserved((changed[left], left));
     }
-    Ok(places)
+    Ok(BTreeMap::from_iter(alloc, newest_first)?)
 }
 
 // Puts a row behind the others, where there is one and the other one isn't the same.
