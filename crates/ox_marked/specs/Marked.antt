@@ -5,8 +5,8 @@ use Rattle.std.specs.Option.{unwrap_or}
 use Rattle.std.specs.Map.{lookup}
 use Rattle.std.specs.BTreeMap.{is_at}
 
--- What was put, a value or none for each key, and the entries that it lies over, both in the keys'
--- order; and whether what lies below is what there was at a mark.
+-- What was put, a value or none for each key, in the keys' order; the entries that it lies over;
+-- and whether what lies below is what there was at a mark.
 pub record Layers (K V : Type 0) : Type 0 where
   pub changes : List (K × Option V)
   pub below : List (K × V)

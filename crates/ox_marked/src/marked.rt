@@ -10,35 +10,36 @@ ghost use Rattle.std.specs.BTreeMap as tree;
 ghost use Rattle.std.specs.BTreeMap.Range.{IsInRange, IsLeBy};
 ghost use Rattle.std.specs.declared.ops.Bound.TheVariants.{Included};
 ghost use Rattle.ox_marked.specs.Marked.{Layers, content_in, mark_in, is_changed};
+ghost use Rattle.ox_shards.specs.Shards.{at};
 
 use ox_bytes::Memory;
-use std::alloc::Global;
+use ox_shards::{Sharded, Shards};
+use std::alloc::{AllocFailed, Global};
 use std::collections::BTreeMap;
-use std::collections::btree_map::Entry;
 use std::marker::Model;
 
 /// A map that goes back to a mark. What was put since the mark lies over a map that stays as it was
 /// then, so that to go back takes no memory.
 #[derive(Drop)]
-pub struct Marked<K: Ord + Copy, V> {
+pub struct Marked<K: Sharded, V> {
     alloc: Global,
-    below: BTreeMap<K, V>,
+    below: Shards<K, V>,
     /// What was put: a value, or `None` where one was taken out.
     changes: BTreeMap<K, Option<V>>,
     marked: bool,
 }
 
-impl<K: Ord + Copy, V> Model for Marked<K, V> {
+impl<K: Sharded, V> Model for Marked<K, V> {
     ghost Value = { Layers K V };
 
     ghost view = { λ m. record {
       changes = m.changes.entries;
-      below = m.below.entries;
+      below = m.below;
       marked = m.marked;
     } };
 }
 
-impl<K: Ord + Copy, V> Marked<K, V> {
+impl<K: Sharded, V> Marked<K, V> {
     /// No values, and no mark. It takes no memory until a key is put.
     pub fn new(alloc: Global) -> Marked<K, V>
         ensures content { (q : K) → content_in K.cmp result q ≡ None }
@@ -47,7 +48,7 @@ impl<K: Ord + Copy, V> Marked<K, V> {
     {
         Marked {
             alloc,
-            below: BTreeMap::new(alloc),
+            below: Shards::new(alloc),
             changes: BTreeMap::new(alloc),
             marked: false,
         }
@@ -91,19 +92,9 @@ impl<K: Ord + Copy, V> Marked<K, V> {
         ensures err { OnErr result (mark_in K.cmp self.new ≡ None) }
     {
         self.marked = false;
-        while let Some((key, value)) = self.changes.first_key_value() {
-            match value {
-                Some(_) => {
-                    let slot = self.below.entry(*key)?;
-                    if let Some((_, Some(value))) = self.changes.pop_first() {
-                        slot.insert_entry(value);
-                    }
-                }
-                None => {
-                    self.below.remove(key);
-                    self.changes.pop_first();
-                }
-            }
+        while let Some(mut change) = self.changes.first_entry() {
+            settle(&mut self.below, *change.key(), change.get_mut())?;
+            change.remove();
         }
         self.marked = true;
         Ok(())
@@ -159,12 +150,37 @@ impl<K: Ord + Copy, V> Marked<K, V> {
 
     /// Whether no key from the first to the second, both among them, has a value.
     pub fn is_empty_between(&self, from: &K, to: &K) -> bool
-        requires { IsLeBy K.cmp from.now to.now }
+        requires order { IsLeBy K.cmp from.now to.now }
+        requires near { K.AreNear from.now to.now }
         ensures { IsTrue result ↔ ((q : K) → IsInRange K.cmp (Included from.now) (Included to.now) q
             → content_in K.cmp self.now q ≡ None) }
     {
         puts_none_between(&self.changes, *from, *to)
             && is_hidden_between(&self.below, &self.changes, *from, *to)
+    }
+}
+
+// Puts a change at a key into what lies below. Where there is no memory, both are as they were.
+fn settle<K: Sharded, V: Drop>(
+    below: &mut Shards<K, V>,
+    key: K,
+    change: &mut Option<V>,
+) -> Result<(), Memory>
+    ensures ok { OnOk result ((q : K) → at K.cmp below.new q
+        ≡ cond (is_eq (K.cmp key q)) change.old (at K.cmp below.old q)) }
+    ensures below { OnErr result (below.new ≡ below.old) }
+    ensures change { OnErr result (change.new ≡ change.old) }
+{
+    let Some(value) = change.take() else {
+        below.remove(&key);
+        return Ok(());
+    };
+    match below.insert(key, value) {
+        Ok(_) => Ok(()),
+        Err(AllocFailed { value: (_, value) }) => {
+            *change = Some(value);
+            Err(Memory)
+        }
     }
 }
 
@@ -178,17 +194,34 @@ fn puts_none_between<K: Ord + Copy, V>(changes: &BTreeMap<K, Option<V>>, from: K
 }
 
 // Whether each key below from the first to the second was taken out.
-fn is_hidden_between<K: Ord + Copy, V>(
-    below: &BTreeMap<K, V>,
+fn is_hidden_between<K: Sharded, V>(
+    below: &Shards<K, V>,
+    changes: &BTreeMap<K, Option<V>>,
+    from: K,
+    to: K,
+) -> bool
+    requires order { IsLeBy K.cmp from to }
+    requires near { K.AreNear from to }
+    ensures { IsTrue result ↔ ((q : K) → IsInRange K.cmp (Included from) (Included to) q
+        → IsSome (at K.cmp below.now q) → tree.get K.cmp changes.now q ≡ Some None) }
+{
+    match below.part(&from) {
+        Some(part) => is_taken_between(part, changes, from, to),
+        None => true,
+    }
+}
+
+// Whether each key of a part from the first to the second was taken out.
+fn is_taken_between<K: Ord + Copy, V>(
+    part: &BTreeMap<K, V>,
     changes: &BTreeMap<K, Option<V>>,
     from: K,
     to: K,
 ) -> bool
     requires { IsLeBy K.cmp from to }
     ensures { IsTrue result ↔ ((q : K) → IsInRange K.cmp (Included from) (Included to) q
-        → IsSome (tree.get K.cmp below.now q) → tree.get K.cmp changes.now q ≡ Some None) }
+        → IsSome (tree.get K.cmp part.now q) → tree.get K.cmp changes.now q ≡ Some None) }
 {
-    below
-        .range(from..=to)
+    part.range(from..=to)
         .all(|(key, _)| matches!(changes.get(key), Some(None)))
 }
