@@ -19,7 +19,7 @@ pub trait Sharded: Ord + Copy {
     /// The part in which a key stands, counted from 0.
     ghost shard: { Self → ℕ };
 
-    /// All keys between these two stand in one part.
+    /// Whether two keys are so near that all keys between them stand in one part.
     ghost AreNear: { Self → Self → Type 0 };
 
     /// The part in which this key stands, counted from 0.
@@ -27,8 +27,10 @@ pub trait Sharded: Ord + Copy {
         ensures part { result ≡ shard self.now }
         ensures there { result < SHARDS };
 
+    /// Equal keys stand in one part.
     ghost alike: { (a b : Self) → is_eq (Self.cmp a b) ≡ true → shard a ≡ shard b };
 
+    /// So do all keys between two near ones.
     ghost between: { (a b q : Self) → AreNear a b
         → IsInRange Self.cmp (Included a) (Included b) q → shard q ≡ shard a };
 }
