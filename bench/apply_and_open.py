@@ -47,7 +47,7 @@ def make(program, folder):
     subprocess.run([program, folder, "init", "regtest", "100"], check=True, stdout=subprocess.DEVNULL)
 
 
-def timed(command, **streams):
+def time_run(command, **streams):
     """Runs the program: how long it takes from its start to its end, and how much processor time."""
     begun = time.perf_counter()
     child = subprocess.Popen(command, **streams)
@@ -64,7 +64,7 @@ def time_apply(program, folder, feed, blocks):
     make(program, folder)
     shown = folder / "shown"
     with open(feed, "rb") as given, open(shown, "wb") as taken:
-        times = timed([program, folder, "apply"], stdin=given, stdout=taken)
+        times = time_run([program, folder, "apply"], stdin=given, stdout=taken)
     answers = shown.read_bytes().splitlines()
     if len(answers) != len(blocks) or not all(answer.startswith(b"ok ") for answer in answers):
         sys.exit("not each block was accepted")
@@ -118,7 +118,7 @@ def time_query(program, folder, count, tip):
     walls, works = [], []
     for _ in range(RUNS):
         with open(shown, "wb") as taken:
-            wall, work = timed([program, folder, "query", "/status"], stdout=taken)
+            wall, work = time_run([program, folder, "query", "/status"], stdout=taken)
         walls.append(wall)
         works.append(work)
         body = json.loads(shown.read_bytes())

@@ -19,9 +19,9 @@ import sys
 import tempfile
 
 from blocks import SUBSIDY, block, coinbase, connect, key, tx
-from runs import in_another_process, least, plain, proved, write_part
+from runs import in_another_process, least, plain_program, proved_program, write_part
 
-OX, PLAIN = proved("ox_main"), plain("fold_blocks")
+OX, PLAIN = proved_program("ox_main"), plain_program("fold_blocks")
 PLAIN_WORDS = {"plain": [], "same": ["locator", "1000"]}
 SPENDS = 500
 

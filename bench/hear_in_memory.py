@@ -19,18 +19,18 @@ ALL_EVENTS = 1_000_000
 RUNS = 7
 
 
-def spent():
+def seconds_of_children():
     return resource.getrusage(resource.RUSAGE_CHILDREN).ru_utime
 
 
 def seconds(times, links, hearings):
     """The processor time of a run over so many sites, each of so many links and hearings."""
-    before = spent()
+    before = seconds_of_children()
     words = [str(times), str(links), str(hearings)]
     done = subprocess.run([PROGRAM, *words], capture_output=True, text=True, check=True)
     if done.stdout != f"{links + hearings}\n":
         raise SystemExit(f"{words}: {done.stdout!r}")
-    return spent() - before
+    return seconds_of_children() - before
 
 
 for events in 10_000, 100_000:

@@ -18,14 +18,14 @@ import sys
 import tempfile
 
 from blocks import SUBSIDY, block, coinbase, connect, key, push, runestone, tx
-from runs import in_another_process, least, plain, proved, write_part
+from runs import in_another_process, least, plain_program, proved_program, write_part
 
-PROGRAMS = {"ox": proved("ox_main"), "plain": plain("index")}
+PROGRAMS = {"ox": proved_program("ox_main"), "plain": plain_program("index")}
 EACH = 100
 TYPE = b"text/plain;charset=utf-8"
 
 
-def revealing(chance, origin, value, has_envelope):
+def reveal(chance, origin, value, has_envelope):
     """A transaction whose witness has a script, with an envelope or with as many bytes in a push, and a control block."""
     inner = b"\1\1" + push(TYPE) + b"\0" + push(chance.randbytes(60))
     script = b"\0\x63\3ord" + inner + b"\x68" if has_envelope else push(bytes(len(inner) + 6))
@@ -72,7 +72,7 @@ class Chain:
             txs.append(self.etch())
         elif height > 1:
             txs += [self.split(new) for _ in range(EACH)]
-        txs += [revealing(self.chance, origin, value, self.reveals) for origin, value in self.fresh]
+        txs += [reveal(self.chance, origin, value, self.reveals) for origin, value in self.fresh]
         points = [((txs[0][1], at), value) for at, value in enumerate(values)]
         self.fresh = points[:EACH]
         self.held += new + [(origin, value, 0) for origin, value in points[EACH:]]

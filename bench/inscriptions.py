@@ -9,9 +9,9 @@ maps too. Then it has a block reveal what one transaction of 2,000 and of 20,000
 for each two inputs, or five parents for each two. It prints the processor time of the runs that took least of three,
 and the memory that a row takes. Build both programs first, as bench/README.md says.
 """
-from runs import least, plain, proved
+from runs import least, plain_program, proved_program
 
-PROGRAMS = {"proved": proved("ox_inscribe_speed"), "plain": plain("inscriptions")}
+PROGRAMS = {"proved": proved_program("ox_inscribe_speed"), "plain": plain_program("inscriptions")}
 LOOKS = 1
 MARKS = 500
 REVEALS = 10
@@ -26,7 +26,7 @@ def tell(what, unit, proved, plain):
     print(f"{what}: {proved:.2f} {unit}, plain Rust {plain:.2f} {unit}, {proved / plain:.2f} times", flush=True)
 
 
-def ordered(count):
+def time_ordered_maps(count):
     """The milliseconds of a mark, 1,000 rows more and back in plain Rust with ordered maps."""
     plain = {"plain": PROGRAMS["plain"]}
     filled, marked = (measure("ordered", count, times, plain)["plain"][0] for times in (0, MARKS))
@@ -51,7 +51,7 @@ def main():
              *((it[1][0] - it[0][0]) / LOOKS / count * 1e6 for it in (proved, plain)))
         tell(f"{count:,} rows, a mark, 1,000 more and back", "milliseconds",
              *((it[2][0] - it[0][0]) / MARKS * 1e3 for it in (proved, plain)))
-        print(f"the same in plain Rust with ordered maps: {ordered(count):.2f} milliseconds", flush=True)
+        print(f"the same in plain Rust with ordered maps: {time_ordered_maps(count):.2f} milliseconds", flush=True)
         tell(f"{count:,} rows, the most memory a row", "bytes", *(it[0][1] / count for it in (proved, plain)))
     reveals("pointers", "pointers", 9)
     reveals("parents", "parents", 5)

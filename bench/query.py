@@ -19,9 +19,9 @@ import sys
 import tempfile
 
 from blocks import SUBSIDY, block, coinbase, key, push, pushes, put, runestone, tx
-from runs import in_another_process, least, plain, proved, run
+from runs import in_another_process, least, plain_program, proved_program, run
 
-OX, PLAIN = proved("ox_query_speed"), plain("query")
+OX, PLAIN = proved_program("ox_query_speed"), plain_program("query")
 PROGRAMS = {"ox": [OX, "count"], "structs": [PLAIN, "structs"], "tree": [PLAIN, "tree"]}
 EACH = 20_000
 TENTH = 10
@@ -46,7 +46,7 @@ REPLIES = {
 CONTROL = b"\xc0" + bytes(32)
 
 
-def etched(chance, origin, place):
+def etch(chance, origin, place):
     """A transaction that etches a rune which says all but its name, and gets the premine."""
     terms = 8, 10**9, 10, AMOUNT * EACH // TENTH, 12, place % 2, 18, 10**6
     stone = runestone(2, 3, 1, place % 10, 3, 37 * place, 5, 0x29C9, 6, 10**30, *terms)
@@ -63,7 +63,7 @@ def name_of(place, spacer):
     return "".join(letter + spacer * (spacers >> at & 1) for at, letter in enumerate(letters[:-1])) + letters[-1]
 
 
-def pointing_at(place):
+def envelope_at(place):
     """The envelope of an inscription on the satoshi at a place of the transaction."""
     pointer = place.to_bytes((place.bit_length() + 7) // 8, "little")
     return b"\0\x63\3ord\1\1" + push(b"text/plain") + b"\1\2" + push(pointer) + b"\0" + push(b"the place %d" % place) + b"\x68"
@@ -75,7 +75,7 @@ def spread(chance, origin, place):
     value, tenths = SUBSIDY // EACH, range(0, EACH, TENTH)
     edicts = [number for at in tenths for number in ((0, 0) if at else (1, place), (AMOUNT, at))]
     stone = runestone(20, 1, 20, place, 0, *(number for pair in edicts for number in pair))
-    script = b"".join(pointing_at(value * at) for at in tenths)
+    script = b"".join(envelope_at(value * at) for at in tenths)
     outputs = [(value, key(chance)) for _ in range(EACH)]
     return tx([origin], [*outputs, (0, stone)], witness=[script, CONTROL])
 
@@ -102,7 +102,7 @@ def write_blocks(path, count):
             return first[1]
 
         first = put_block(0, parts=RUNES)
-        before = put_block(1, *(etched(chance, (first, at), at) for at in range(RUNES)))
+        before = put_block(1, *(etch(chance, (first, at), at) for at in range(RUNES)))
         for place in range(count):
             body = spread(chance, (before, 0), 1 + place % RUNES)
             before = put_block(2 + place, body)
@@ -118,7 +118,7 @@ def paths_of(route, ids, contents, count):
     chance = random.Random(7)
     blocks = len(ids)
 
-    def shown():
+    def txid():
         return chance.choice(ids)[::-1].hex()
 
     def rune():
@@ -128,10 +128,10 @@ def paths_of(route, ids, contents, count):
     one = {
         "status": lambda: "/status",
         "blockhash": lambda: f"/blockhash/{chance.randrange(3 + blocks)}",
-        "output": lambda: f"/output/{shown()}:{chance.randrange(EACH)}",
+        "output": lambda: f"/output/{txid()}:{chance.randrange(EACH)}",
         # the block of height 1 is the first whose subsidy is spent into the outputs of a block
         "sat": lambda: f"/sat/{(1 + chance.randrange(blocks)) * SUBSIDY + chance.randrange(EACH) * (SUBSIDY // EACH)}",
-        "inscription": lambda: f"/inscription/{shown()}i{chance.randrange(EACH // TENTH)}",
+        "inscription": lambda: f"/inscription/{txid()}i{chance.randrange(EACH // TENTH)}",
         "rune": lambda: f"/rune/{rune()}",
         "inscriptions": lambda: "/inscriptions/9",
         "audit": lambda: "/audit",

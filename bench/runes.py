@@ -18,9 +18,9 @@ import sys
 import tempfile
 
 from blocks import coinbase, key, put, runestone, size, tx
-from runs import in_another_process, least, plain, proved
+from runs import in_another_process, least, plain_program, proved_program
 
-PROGRAMS = {"ox": proved("ox_ledger_speed"), "plain": plain("runes")}
+PROGRAMS = {"ox": proved_program("ox_ledger_speed"), "plain": plain_program("runes")}
 EACH = 10_000
 IN_A_BLOCK = 10
 LEAST_BLOCKS = 8
@@ -60,7 +60,7 @@ def fill(path, outputs):
     return held
 
 
-def spending(chance, kind, held):
+def spend(chance, kind, held):
     """A transaction of a block of this kind."""
     origin, (block, place) = chance.choice(held)
     scripts = [key(chance), key(chance)]
@@ -81,7 +81,7 @@ def put_last(feed, kind, held):
         body, _ = worthless((chance.randbytes(32), 0), [key(chance), runestone(2, 1, 4, NAME)], witness)
         put_block(feed, chance, [body])
     else:
-        put_block(feed, chance, [spending(chance, kind, held) for _ in range(SPENDS)])
+        put_block(feed, chance, [spend(chance, kind, held) for _ in range(SPENDS)])
 
 
 def write_feeds(folder, outputs):

@@ -11,12 +11,12 @@ TOP = pathlib.Path(__file__).resolve().parent.parent
 RUNS = 3
 
 
-def proved(name):
+def proved_program(name):
     """Where `rt run` leaves a program."""
     return TOP / "crates" / name / "out" / name
 
 
-def plain(name, program=None):
+def plain_program(name, program=None):
     """Where cargo leaves a plain program."""
     return TOP / "bench" / "plain" / name / "target" / "release" / (program or name)
 

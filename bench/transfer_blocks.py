@@ -18,9 +18,9 @@ import sys
 import tempfile
 
 from blocks import SUBSIDY, coinbase, key, put, size, tx
-from runs import in_another_process, least, plain, proved, write_part
+from runs import in_another_process, least, plain_program, proved_program, write_part
 
-PROGRAMS = {"ox": proved("ox_transfer_speed"), "plain": plain("fold_blocks", "transfer_blocks")}
+PROGRAMS = {"ox": proved_program("ox_transfer_speed"), "plain": plain_program("fold_blocks", "transfer_blocks")}
 BLOCKS = 1_000
 SPENDS = 500
 FILL = 10_000

@@ -176,7 +176,7 @@ KNOWN = {
 }
 
 
-def known():
+def known_blocks():
     for data, facts in KNOWN.values():
         lines = answer(bytes.fromhex(data))
         for fact in facts:
@@ -208,17 +208,17 @@ def large_tx(inputs, outputs):
 
 def rows():
     """The words of a row: how often the part stands, the head, the part and the tail."""
-    genesis, two, three = known()
-    edited = lambda data, at, byte: data[:at] + bytes([byte]) + data[at + 1:]
-    for data in (genesis, two, three, edited(genesis, 205, 1)):
+    genesis, two, three = known_blocks()
+    edit = lambda data, at, byte: data[:at] + bytes([byte]) + data[at + 1:]
+    for data in (genesis, two, three, edit(genesis, 205, 1)):
         yield 0, data, b"", b""
     # no transaction; a second one, which is cut; a long count; a bad flag; no output; an output above all satoshis
     for at, byte in ((80, 0), (80, 2), (80, 253), (85, 0), (204, 0), (212, 8)):
-        yield 0, edited(genesis, at, byte), b"", b""
+        yield 0, edit(genesis, at, byte), b"", b""
     # a flag of 2; no input; a sum above all satoshis; empty stacks; and both, of which the sum stands first
     for at, byte in ((86, 2), (87, 0), (152, 7), (192, 0)):
-        yield 0, edited(two, at, byte), b"", b""
-    yield 0, edited(edited(two, 152, 7), 192, 0), b"", b""
+        yield 0, edit(two, at, byte), b"", b""
+    yield 0, edit(edit(two, 152, 7), 192, 0), b"", b""
     # counts that lie, and bytes behind
     for end in (b"", b"\xfe\xff\xff\xff\xff", b"\xfd\1\0", b"\xff\0\0\0\0\1\0\0\0", b"\xfe\xff\xff\0\0", b"\xfd\xfc\0"):
         yield 0, genesis[:80], b"", end
@@ -241,7 +241,7 @@ def main():
     for first, second in ((ones, late), (late, early), (early, late), (late, late), (early, ones)):
         stdin.append(f"order {first.hex()} {second.hex()}")
         stdout.append("less" if first < second else "greater" if first > second else "equal")
-    two = known()[1]
+    two = known_blocks()[1]
     stdin.append(f"fronts {two.hex()}")
     stdout.append("".join(" " + answer(two[:length])[0].removeprefix("fault at ") for length in range(len(two))))
     (CRATE / "stdin").write_text("".join(line + "\n" for line in stdin))

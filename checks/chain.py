@@ -78,7 +78,7 @@ def transaction(inputs, outputs, script=b""):
     return bare, version + b"\0\1" + body + b"".join(stacks) + lock
 
 
-def revealing(spent, tapscript, outputs):
+def reveal_into(spent, tapscript, outputs):
     """A transaction that spends the first output of another one by a tapscript into these values and scripts."""
     return transaction([(spent, 0, tapscript)], outputs)
 

@@ -37,7 +37,7 @@ def items(script):
     return found
 
 
-def pushed(item):
+def bytes_pushed(item):
     if isinstance(item, bytes):
         return item
     if item == 0x4F:
@@ -55,11 +55,11 @@ def envelopes(script):
             at += 1
             continue
         end = at + 3
-        while end < len(all_items) and pushed(all_items[end]) is not None:
+        while end < len(all_items) and bytes_pushed(all_items[end]) is not None:
             end += 1
         inside = all_items[at + 3:end]
         if end < len(all_items) and all_items[end] == 0x68:
-            found.append(([pushed(item) for item in inside], any(isinstance(item, int) for item in inside)))
+            found.append(([bytes_pushed(item) for item in inside], any(isinstance(item, int) for item in inside)))
         at = end + 1
     return found
 
@@ -71,13 +71,13 @@ def id_of(value):
     return f"{txid[::-1].hex()}i{int.from_bytes(index, 'little')}"
 
 
-def shown(data):
+def bytes_text(data):
     if len(data) > MOST_SHOWN:
         return f"{len(data)} bytes, {sum(chr(byte).isdigit() for byte in data)} digits"
     return data.hex()
 
 
-def said(pushes, number):
+def envelope_line(pushes, number):
     empties = [at for at in range(0, len(pushes), 2) if not pushes[at]]
     body = b"".join(pushes[empties[0] + 1:]) if empties else None
     front = pushes[:empties[0]] if empties else pushes
@@ -95,7 +95,7 @@ def said(pushes, number):
     values["body"] = body
     for name in ("type", "pointer", "metadata", "protocol", "encoding", "body"):
         if values[name] is not None:
-            line += f" {name}={shown(values[name])}"
+            line += f" {name}={bytes_text(values[name])}"
     line += " parents" + "".join(" " + id_of(value) for value in of(3) if id_of(value))
     return line + " delegate " + ((id_of(of(11)[0]) if of(11) else None) or "none")
 
@@ -105,8 +105,8 @@ def script_lines(times, head, part, tail):
     found = envelopes(script)
     yield f"{len(found)} envelopes"
     for pushes, number in found:
-        yield "  pushes" + "".join(" " + shown(push) for push in pushes)
-        yield said(pushes, number)
+        yield "  pushes" + "".join(" " + bytes_text(push) for push in pushes)
+        yield envelope_line(pushes, number)
 
 
 def scripts():

@@ -28,7 +28,7 @@ import subprocess
 import sys
 import tempfile
 
-from chain import SHORT, SUBSIDY, block_of, block_with, chain, coinbase, envelope, line, revealing, twice
+from chain import SHORT, SUBSIDY, block_of, block_with, chain, coinbase, envelope, line, reveal_into, twice
 from index_rows import Full, Held, Indexes, runes_of_mainnet
 from kills import Failed, demand
 from rows import hash_text, plain
@@ -76,9 +76,9 @@ def lab_chain():
     last back and connect it again."""
     blocks, _ = chain(3)
     etching, cenotaph = bytes.fromhex("6a5d0802030607080a0a05"), bytes.fromhex("6a5d06140314017e00")
-    first = revealing(twice(coinbase(0, SHORT)), envelope([(1, b"text/plain")], b"hi"), [(SUBSIDY, SHORT), (0, etching)])
+    first = reveal_into(twice(coinbase(0, SHORT)), envelope([(1, b"text/plain")], b"hi"), [(SUBSIDY, SHORT), (0, etching)])
     block, tip = block_with(twice(blocks[2][:80]), 3, first)
-    second = revealing(twice(first[0]), envelope([], b"on"), [(SUBSIDY, SHORT), (0, cenotaph)])
+    second = reveal_into(twice(first[0]), envelope([], b"on"), [(SUBSIDY, SHORT), (0, cenotaph)])
     last, _ = block_with(tip, 4, second)
     return [*map(line, blocks), line(block), line(last), b"disconnect\n", line(last)]
 
@@ -132,7 +132,7 @@ class Scarce(Indexes):
         # a dump lacks its first line or its audit
         for place, (row, lines) in enumerate(rows):
             if row.startswith("dump"):
-                others += [printed[:place] + [lacks] + printed[place + 1 :] for lacks in lacking(lines)]
+                others += [printed[:place] + [lacks] + printed[place + 1 :] for lacks in dumps_without_memory(lines)]
         self.steps.append(([row for row, _ in rows], printed, others))
 
     def dump_of(self, side, kept=None):
@@ -175,11 +175,11 @@ class Scarce(Indexes):
         # no memory to connect, to go back, to go on again, and for the dumps of each step
         others = [[NONE, was], [["connected", *there, *NONE, *there], there], [["connected", *there, "back", *was, *NONE, *was], was]]
         for place, part in zip(ends, parts):
-            others += [[lines[: place + 1] + lacks + lines[place + 1 + len(part) :], was] for lacks in lacking(part)]
+            others += [[lines[: place + 1] + lacks + lines[place + 1 + len(part) :], was] for lacks in dumps_without_memory(part)]
         self.step([(row, lines), (dump, was)], others)
 
 
-def lacking(lines):
+def dumps_without_memory(lines):
     """The lines of a dump that lacks memory for its first line or its audit."""
     first = next(place for place, line in enumerate(lines) if line.startswith("ok "))
     audit = next(place for place, line in enumerate(lines) if line.startswith("audit "))
@@ -196,9 +196,9 @@ def scarce():
     for begin, depth in (("live lab", None), ("chain lab 2", 2), ("live lab", None)):
         rows.tips, rows.halving, rows.depth = [], 10, depth
         rows.step([(begin, [])])
-        kept = functools.partial(min, depth) if depth else lambda count: None
+        count_kept = functools.partial(min, depth) if depth else lambda count: None
         for height in range(3):
-            rows.takes(nothing, nothing, plain(height), kept=depth and (kept(height), kept(height + 1)))
+            rows.takes(nothing, nothing, plain(height), kept=depth and (count_kept(height), count_kept(height + 1)))
         rows.takes(nothing, (four.before()[0], []), plain(3), four.tx, kept=depth and (2, 2))
         if begin == "live lab" and len(rows.steps) > 10:
             rows.leads_both_ways(four.before(), four.after(), plain(4), four.all)

@@ -60,7 +60,7 @@ class Held:
     def on(self, sat):
         return [number for number, row in enumerate(self.inscriptions) if row.sat == sat]
 
-    def borne(self):
+    def inscribed_satoshis(self):
         return sorted({row.sat for row in self.inscriptions if row.sat is not None})
 
 
@@ -68,7 +68,7 @@ def terms(amount, cap, start="none", end="none"):
     return f"amount {amount} cap {cap} from {start} to {end} after none until none"
 
 
-def spaced(numbers):
+def join_numbers(numbers):
     return "".join(f" {number}" for number in numbers)
 
 
@@ -91,9 +91,9 @@ def sat(number, place):
     """Where a satoshi is."""
 
     def line(held):
-        later = [other for other in held.borne() if other >= number]
-        after = f" {later[0]}:{spaced(held.on(later[0]))}" if later else " none"
-        return f"satoshi {number} {place}:{spaced(held.on(number))}, next{after}"
+        later = [other for other in held.inscribed_satoshis() if other >= number]
+        after = f" {later[0]}:{join_numbers(held.on(later[0]))}" if later else " none"
+        return f"satoshi {number} {place}:{join_numbers(held.on(number))}, next{after}"
 
     return f"sat={number}", line
 
@@ -102,11 +102,11 @@ def place(tx, offset, index=0):
     return f"at {offset} of {outpoint(tx, index)}"
 
 
-def lost(offset):
+def lost_place(offset):
     return f"at {offset} of the lost ones"
 
 
-def found(word, number):
+def look_up(word, number):
     """What an id or a name leads to."""
     return word, lambda held: f"{word} found {'none' if number is None else number}"
 
@@ -130,7 +130,7 @@ class Indexes(Rows):
         yield f"  height {len(tips)}: none"
         yield f"{len(held.inscriptions)} inscriptions"
         yield from (row.line(number, held.inscriptions) for number, row in enumerate(held.inscriptions))
-        yield from (f"  satoshi {sat}:{spaced(held.on(sat))}" for sat in held.borne())
+        yield from (f"  satoshi {sat}:{join_numbers(held.on(sat))}" for sat in held.inscribed_satoshis())
         yield f"{len(held.runes)} runes"
         yield from (rune.line(number) for number, rune in enumerate(held.runes))
         claimable = sum(SUBSIDY >> height // self.halving for height in range(len(tips)))
@@ -176,12 +176,13 @@ def satoshis(rows):
     rows.live("what a coinbase leaves is lost", "regtest")
     paid, looks = with_a_fee(rows, 6_000_000_000)
     gets = at(paid, 0, runs(2, (10_000_000_000, SUBSIDY), (3_000_000_000, 1_000_000_000)))
-    where = [sat(3_999_999_999, place(paid, 5_999_999_999)), sat(4_000_000_000, lost(0)), sat(4_999_999_999, lost(999_999_999))]
+    where = [sat(3_999_999_999, place(paid, 5_999_999_999)), sat(4_000_000_000, lost_place(0))]
+    where.append(sat(4_999_999_999, lost_place(999_999_999)))
     rows.dump(Held(1_000_000_000), gets, *looks, *where, sat(15_000_000_000, "nowhere"))
     rows.live("an equal coinbase displaces the one before", "regtest")
     rows.connects(plain(7))
     rows.connects(plain(7))
-    where = [sat(0, lost(0)), sat(SUBSIDY + 1, place(plain(7), 1))]
+    where = [sat(0, lost_place(0)), sat(SUBSIDY + 1, place(plain(7), 1))]
     rows.dump(Held(SUBSIDY), at(plain(7), 0, runs(1, (SUBSIDY, SUBSIDY))), *where)
 
 
@@ -238,7 +239,7 @@ def pointers(rows):
     chosen = zip(values, (2_999, 0, 0, 1_000), (0x20, 0x30, 0xB0, 0x30))
     inscriptions = [Inscription(tx, 6, number, marks, at_, f"pointer={value}") for at_, (value, number, marks) in enumerate(chosen)]
     looks = [sat(0, place(tx, 0)), sat(1, place(tx, 1)), sat(1_000, place(tx, 0, 1)), sat(2_999, place(tx, 1_999, 1))]
-    dealt = [at(tx, 0, runs(6, (0, 1_000))), at(tx, 1, runs(6, (1_000, 2_000))), sat(3_000, lost(0))]
+    dealt = [at(tx, 0, runs(6, (0, 1_000))), at(tx, 1, runs(6, (1_000, 2_000))), sat(3_000, lost_place(0))]
     rows.dump(Held(4_999_997_000, inscriptions), *looks, *dealt)
     rows.live("an unknown even tag leaves an inscription unbound")
     rows.plain(6)
@@ -260,7 +261,7 @@ def parents(rows):
     inscriptions = [Inscription(first, 6, None, 1, fields=UNBOUND_FIELDS), Inscription(p, 7, SUBSIDY)]
     inscriptions.append(Inscription(q, 7, SUBSIDY, 0x80, parents=[inscription(p)]))
     inscriptions.append(Inscription(q, 7, SUBSIDY, 0x90, 1))
-    ids = [found(f"id={inscription(*named)}", number) for number, named in enumerate([(first,), (p,), (q,), (q, 1)])]
+    ids = [look_up(f"id={inscription(*named)}", number) for number, named in enumerate([(first,), (p,), (q,), (q, 1)])]
     rows.dump(Held(0, inscriptions), sat(SUBSIDY, place(q, 0)), at(p, 0, "none"), *ids)
 
 
@@ -302,7 +303,7 @@ def moves(rows):
         rows.extend(tx)
         rows.dump(Held(0, held), sat(SUBSIDY, place(tx, 0)))
     rows.extend(transaction([spend(third)], [(0, SHORT)]))
-    rows.dump(Held(SUBSIDY, held), sat(SUBSIDY, lost(0)), at(third, 0, "none"))
+    rows.dump(Held(SUBSIDY, held), sat(SUBSIDY, lost_place(0)), at(third, 0, "none"))
 
 
 def finds(rows):
@@ -315,13 +316,13 @@ def finds(rows):
     assert id_of(tx) == id_of(again)
     rows.extend(again)
     inscriptions = [Inscription(tx, 1, 0), Inscription(again, 3, None, 1, fields=UNBOUND_FIELDS)]
-    looks = [found(f"id={inscription(tx)}", 0), sat(0, lost(0)), at(tx, 0, runs(3, (2 * SUBSIDY, SUBSIDY)))]
+    looks = [look_up(f"id={inscription(tx)}", 0), sat(0, lost_place(0)), at(tx, 0, runs(3, (2 * SUBSIDY, SUBSIDY)))]
     rows.dump(Held(SUBSIDY, inscriptions), *looks)
     rows.live("each inscription of a transaction is found")
     rows.plain(6)
     tx = reveal(plain(0), 2 * envelope())
     rows.extend(tx)
-    ids = [found(f"id={inscription(tx, index)}", number) for index, number in enumerate((0, 1, None))]
+    ids = [look_up(f"id={inscription(tx, index)}", number) for index, number in enumerate((0, 1, None))]
     rows.dump(Held(0, [Inscription(tx, 6, 0), Inscription(tx, 6, 0, 0x90, 1)]), *ids)
 
 
@@ -342,16 +343,17 @@ def runes_of_mainnet():
 
 def mainnet(rows):
     rows.live("mainnet begins with a rune", "mainnet")
-    rows.dump(Held(0, [], runes_of_mainnet()), found("rune=1:0", 0), found("name=2055900680524219742", 0), found("rune=0:1", None))
+    looks = [look_up("rune=1:0", 0), look_up("name=2055900680524219742", 0), look_up("rune=0:1", None)]
+    rows.dump(Held(0, [], runes_of_mainnet()), *looks)
     rows.live("a chain of another profile begins with none", "regtest")
-    rows.dump(Held(), found("rune=1:0", None), found("name=2055900680524219742", None))
+    rows.dump(Held(), look_up("rune=1:0", None), look_up("name=2055900680524219742", None))
 
 
 def burns(rows):
     rows.live("a cenotaph burns what it mints")
     tx = etch(rows, ETCHES)
     rune = Rune(3, 1, id_of(tx), 7, gives=5, terms=FROM_ETCHES)
-    rows.dump(Held(0, [], [rune]), at(tx, 0, runs(3, (0, SUBSIDY), runes="3:1=7")), found("rune=3:1", 0))
+    rows.dump(Held(0, [], [rune]), at(tx, 0, runs(3, (0, SUBSIDY), runes="3:1=7")), look_up("rune=3:1", 0))
     cenotaph = carry(tx, "6a5d06140314017e00")
     rows.extend(cenotaph)
     rune = Rune(3, 1, id_of(tx), 7, burned=12, mints=1, gives=5, terms=FROM_ETCHES)
@@ -373,7 +375,7 @@ def edicts(rows):
         dealt = transaction([spend(tx)], [(1, SHORT)] * 3 + [(0, bytes.fromhex(stone))])
         rows.extend(dealt)
         looks = [at(dealt, index, runs(4, (index, 1), runes=f"3:1={amount}")) for index, amount in enumerate(amounts)]
-        rows.dump(Held(SUBSIDY - 3, [], [Rune(3, 1, id_of(tx), 10)]), *looks, sat(3, lost(0)))
+        rows.dump(Held(SUBSIDY - 3, [], [Rune(3, 1, id_of(tx), 10)]), *looks, sat(3, lost_place(0)))
 
 
 def names(rows):
@@ -385,10 +387,10 @@ def names(rows):
     stone, commits = bytes.fromhex("6a5d09020104cec8b6a9e802"), bytes.fromhex("054ea42d8516")
     etches = [transaction([spend(taproots, index, commits)], [(SUBSIDY // 2, SHORT), (0, stone)]) for index in (0, 1)]
     rows.extend(etches[0])
-    rows.dump(Held(), found("name=96723641422", None), found("rune=8:1", None))
+    rows.dump(Held(), look_up("name=96723641422", None), look_up("rune=8:1", None))
     rows.extend(etches[1])
     rune = Rune(9, 1, id_of(etches[1]), name=96_723_641_422)
-    rows.dump(Held(0, [], [rune]), found("name=96723641422", 0), found("rune=9:1", 0), found("rune=8:1", None))
+    rows.dump(Held(0, [], [rune]), look_up("name=96723641422", 0), look_up("rune=9:1", 0), look_up("rune=8:1", None))
 
 
 def coinbases(rows):
@@ -398,7 +400,7 @@ def coinbases(rows):
     rows.dump(Held(0, [], [Rune(0, 0, id_of(five), 5)]), at(five, 0, runs(0, (0, SUBSIDY), runes="0:0=5")))
     rows.connects(five)
     runes = [Rune(0, 0, id_of(five), 5, burned=5), Rune(1, 0, id_of(five), 5)]
-    rows.dump(Held(SUBSIDY, [], runes), at(five, 0, runs(1, (SUBSIDY, SUBSIDY), runes="1:0=5")), sat(0, lost(0)))
+    rows.dump(Held(SUBSIDY, [], runes), at(five, 0, runs(1, (SUBSIDY, SUBSIDY), runes="1:0=5")), sat(0, lost_place(0)))
     rows.live("a coinbase etches what its block mints, and its outputs get theirs at the block's end")
     rows.plain(3)
     mints = carry(plain(0), "6a5d0414031400")
@@ -420,8 +422,8 @@ class Full:
         # an envelope, an etching with a premine of 5, and an edict that gives 4 to the first output, which gets the rest too
         self.all = carry(self.tx, "6a5d09020106050003010400", envelope())
         self.rune = Rune(3, 1, id_of(self.tx), 10)
-        self.named = [found(f"id={inscription(self.all)}", None), found("rune=4:1", None)]
-        self.named.append(found(f"name={RESERVED + (4 << 32) + 1}", None))
+        self.named = [look_up(f"id={inscription(self.all)}", None), look_up("rune=4:1", None)]
+        self.named.append(look_up(f"name={RESERVED + (4 << 32) + 1}", None))
 
     def before(self):
         looks = [at(self.tx, 0, runs(3, (0, SUBSIDY), runes="3:1=10")), at(self.all, 0, "none"), at(plain(4), 0, "none")]
@@ -431,7 +433,7 @@ class Full:
         whole = at(self.all, 0, runs(4, (0, SUBSIDY), runes="3:1=10 4:1=5"))
         looks = [at(self.tx, 0, "none"), whole, at(plain(4), 0, runs(4, (4 * SUBSIDY, SUBSIDY)))]
         held = Held(0, [Inscription(self.all, 4, 0)], [self.rune, Rune(4, 1, id_of(self.all), 5)])
-        named = [found(word, number) for (word, _), number in zip(self.named, (0, 1, 1))]
+        named = [look_up(word, number) for (word, _), number in zip(self.named, (0, 1, 1))]
         return held, [*looks, sat(0, place(self.all, 0)), sat(4 * SUBSIDY, place(plain(4), 0)), *named]
 
     def dump(self, side, **kept):
@@ -439,7 +441,7 @@ class Full:
         self.rows.dump(held, *looks, **kept)
 
 
-def refused(rows):
+def refuse_a_full_block(rows):
     rows.live("nothing stays of a refused block: it reveals, etches and moves runes, and its coinbase claims too much")
     full = Full(rows)
     full.dump(full.before())
@@ -452,11 +454,11 @@ def refused(rows):
 # Blocks that are taken back.
 
 
-def kept(rows):
+def keep_blocks(rows):
     rows.chain("a disconnect brings displaced satoshis back", 100, "regtest")
     rows.connects(plain(7))
     first = [at(plain(7), 0, runs(0, (0, SUBSIDY))), sat(3, place(plain(7), 3)), sat(SUBSIDY, "nowhere")]
-    second = [at(plain(7), 0, runs(1, (SUBSIDY, SUBSIDY))), sat(3, lost(3)), sat(SUBSIDY, place(plain(7), 0))]
+    second = [at(plain(7), 0, runs(1, (SUBSIDY, SUBSIDY))), sat(3, lost_place(3)), sat(SUBSIDY, place(plain(7), 0))]
     rows.dump(Held(), *first, kept=1)
     for _ in range(2):
         rows.connects(plain(7))
@@ -500,7 +502,7 @@ def both_ways(rows):
     rows.live("an equal coinbase is taken in, back, in again and back", "regtest")
     rows.connects(plain(7))
     before = [at(plain(7), 0, runs(0, (0, SUBSIDY))), sat(0, place(plain(7), 0)), sat(SUBSIDY, "nowhere")]
-    after = [at(plain(7), 0, runs(1, (SUBSIDY, SUBSIDY))), sat(0, lost(0)), sat(SUBSIDY, place(plain(7), 0))]
+    after = [at(plain(7), 0, runs(1, (SUBSIDY, SUBSIDY))), sat(0, lost_place(0)), sat(SUBSIDY, place(plain(7), 0))]
     rows.both((Held(), before), (Held(SUBSIDY), after), plain(7))
     rows.dump(Held(), *before)
     rows.live("inscriptions and runes are taken in, back, in again and back")
@@ -525,7 +527,7 @@ def burn_and_take_back(rows):
     rows.chain("a disconnect takes back what a cenotaph minted and burned", 100)
     etches = etch(rows, ETCHES)
     first = Held(0, [], [Rune(3, 1, id_of(etches), 7, gives=5, terms=FROM_ETCHES)])
-    looks = [at(etches, 0, runs(3, (0, SUBSIDY), runes="3:1=7")), found("rune=3:1", 0)]
+    looks = [at(etches, 0, runs(3, (0, SUBSIDY), runes="3:1=7")), look_up("rune=3:1", 0)]
     rows.dump(first, *looks, kept=4)
     cenotaph = carry(etches, "6a5d06140314017e00")
     rows.extend(cenotaph)
@@ -558,9 +560,9 @@ def bring_balances_back(rows):
     rows.dump(first, look, kept=1)
     rows.connects(five)
     runes = [Rune(0, 0, id_of(five), 5, burned=5), Rune(1, 0, id_of(five), 5)]
-    rows.dump(Held(SUBSIDY, [], runes), at(five, 0, runs(1, (SUBSIDY, SUBSIDY), runes="1:0=5")), found("rune=1:0", 1), kept=2)
+    rows.dump(Held(SUBSIDY, [], runes), at(five, 0, runs(1, (SUBSIDY, SUBSIDY), runes="1:0=5")), look_up("rune=1:0", 1), kept=2)
     rows.disconnects()
-    rows.dump(first, look, found("rune=1:0", None), kept=1)
+    rows.dump(first, look, look_up("rune=1:0", None), kept=1)
 
 
 def runs_that_fall(rows):
@@ -588,7 +590,7 @@ def words_alone(rows):
 
 
 GROUPS = [satoshis, refusals, last_height, pointers, parents, fees, marks, moves, finds, mainnet, burns, edicts, names]
-GROUPS += [coinbases, refused, kept, all_back, both_ways]
+GROUPS += [coinbases, refuse_a_full_block, keep_blocks, all_back, both_ways]
 GROUPS += [burn_and_take_back, spend_twice_behind_two, bring_balances_back, runs_that_fall, words_alone]
 
 

@@ -55,7 +55,7 @@ class Queries(Rows):
     def fails(self, status, row):
         self.asks(row, f'{{"error":{status}}}', status)
 
-    def missing(self, *paths):
+    def lacks(self, *paths):
         for path in paths:
             self.fails(404, f"GET {path}")
 
@@ -131,7 +131,7 @@ def chains(rows):
         '{"decimal":"6929999.0","degree":"5°209999′1007″0‴","inscriptions":[],"name":"a","number":2099999997689999,'
         '"place":null,"rarity":"uncommon"}',
     )
-    rows.missing("/sat/2099999997690000")
+    rows.lacks("/sat/2099999997690000")
 
 
 def genesis(rows, what):
@@ -155,12 +155,12 @@ def first_block(rows):
     )
     rows.says("/blockhash/0", f'{{"hash":"{GENESIS_HASH}","height":0}}')
     genesis(rows, "what a part doesn't name is missing")
-    rows.missing("", "//status", "/status/", "/sat/", "/sat/a/b", "/blockhash/00", "/blockhash/1")
+    rows.lacks("", "//status", "/status/", "/sat/", "/sat/a/b", "/blockhash/00", "/blockhash/1")
     rows.fails(404, "hex GET 2f7361742fff")
-    rows.missing("/blockhash/4294967296", "/blockhash/18446744073709551616", f"/output/{GENESIS_TXID.upper()}:0")
-    rows.missing(*(f"/output/{part}" for part in (f"{GENESIS_TXID[1:]}:0", f"{GENESIS_TXID}:1", f"{GENESIS_TXID}:4294967296")))
+    rows.lacks("/blockhash/4294967296", "/blockhash/18446744073709551616", f"/output/{GENESIS_TXID.upper()}:0")
+    rows.lacks(*(f"/output/{part}" for part in (f"{GENESIS_TXID[1:]}:0", f"{GENESIS_TXID}:1", f"{GENESIS_TXID}:4294967296")))
     genesis(rows, "what isn't indexed is missing")
-    rows.missing(f"/inscription/{GENESIS_TXID}i0", f"/content/{GENESIS_TXID}i0", "/rune/2:0")
+    rows.lacks(f"/inscription/{GENESIS_TXID}i0", f"/content/{GENESIS_TXID}i0", "/rune/2:0")
 
 
 def methods(rows):
@@ -316,7 +316,7 @@ def two_runes(rows):
     later = name_of(RESERVED + (4 << 32) + 1)
     balances = [{"amount": "7", "id": "3:1", "name": NAME, "shown": "7"}, {"amount": "10", "id": "4:1", "name": later, "shown": "10"}]
     rows.output(outpoint(second), 4, [[0, SUBSIDY]], runes=balances)
-    rows.missing(f"/output/{outpoint(first)}")
+    rows.lacks(f"/output/{outpoint(first)}")
     rows.says("/runes/0", {"ids": ["3:1", "4:1"], "more": False, "page": 0})
     audited = [{"burned": "0", "held": "7", "id": "3:1", "minted": "0", "premine": "7"}]
     audited += [{"burned": "0", "held": "10", "id": "4:1", "minted": "0", "premine": "10"}]
@@ -332,7 +332,7 @@ def names(rows):
     stone, commits = bytes.fromhex("6a5d09020104cec8b6a9e802"), bytes.fromhex("054ea42d8516")
     etches = [transaction([spend(taproots, index, commits)], [(SUBSIDY // 2, SHORT), (0, stone)]) for index in (0, 1)]
     rows.extend(etches[0])
-    rows.missing("/rune/LABTESTS")
+    rows.lacks("/rune/LABTESTS")
     rows.extend(etches[1])
     for name in ("LABTESTS", "LAB.TESTS"):
         rows.says(
@@ -353,12 +353,12 @@ def names(rows):
         )
     rows.case("what is spelled otherwise names no rune", "mainnet")
     for part in ("", ":", "1:", ":0", "01:0", "1:00", "1:0:0", "1:1", "1:4294967296", "18446744073709551617:0"):
-        rows.missing(f"/rune/{part}")
+        rows.lacks(f"/rune/{part}")
     for name in ("uncommongoods", "UNCOMMON..GOODS", ".UNCOMMONGOODS", "UNCOMMONGOODS.", "UNCOMMON%e2%80%a2GOODS"):
-        rows.missing(f"/rune/{name}")
-    rows.missing("/rune/UNCOMMON%E2%80%A2.GOODS", "/rune/" + 29 * "A")
+        rows.lacks(f"/rune/{name}")
+    rows.lacks("/rune/UNCOMMON%E2%80%A2.GOODS", "/rune/" + 29 * "A")
     rows.case("without runes none is named", "regtest")
-    rows.missing("/rune/1:0", "/rune/UNCOMMON.GOODS")
+    rows.lacks("/rune/1:0", "/rune/UNCOMMON.GOODS")
     rows.says("/audit", '{"claimable":0,"lost":0,"outputs":0,"runes":[]}')
 
 
@@ -367,7 +367,7 @@ def pages_of_runes(rows):
     rows.says("/runes/0", '{"ids":["1:0"],"more":false,"page":0}')
     for page in ("1", "7", "184467440737095517", "18446744073709551615"):
         rows.says(f"/runes/{page}", f'{{"ids":[],"more":false,"page":{page}}}')
-    rows.missing("/runes/00", "/runes/-1", "/runes/", "/runes/18446744073709551616")
+    rows.lacks("/runes/00", "/runes/-1", "/runes/", "/runes/18446744073709551616")
 
 
 # Inscriptions.
@@ -377,7 +377,7 @@ UNBOUND = bytes.fromhex("0063036f72640142017801010a746578742f706c61696e000268696
 PAST = ("2", "7", "42949673", "184467440737095516", "184467440737095517", "18446744073709551615")
 
 
-def revealed(rows, tapscript):
+def reveal_in_a_block(rows, tapscript):
     """Seven blocks, in the last of which a transaction spends the first one's coinbase by a tapscript; that transaction."""
     rows.plain(6)
     tx = reveal(plain(0), tapscript)
@@ -393,14 +393,14 @@ def past(rows):
 
 def one_inscription(rows):
     rows.case("an unbound inscription is nowhere")
-    tx = revealed(rows, UNBOUND)
+    tx = reveal_in_a_block(rows, UNBOUND)
     rows.inscription(tx, content_length=2, content_type="text/plain", height=6, number=0)
     rows.content(tx, b"hi", "text/plain")
     rows.case("ids and pages are read as they are written")
-    txid = hash_text(id_of(revealed(rows, envelope())))
+    txid = hash_text(id_of(reveal_in_a_block(rows, envelope())))
     for end in ("i1", "i00", "i", "i4294967296", "i4294967295", "i+0", "I0", ":0", "i0i0", ""):
-        rows.missing(f"/inscription/{txid}{end}", f"/content/{txid}{end}")
-    rows.missing(*(f"/inscriptions/{page}" for page in ("01", "+0", "-1", "18446744073709551616", "0x0", "", "0/")))
+        rows.lacks(f"/inscription/{txid}{end}", f"/content/{txid}{end}")
+    rows.lacks(*(f"/inscriptions/{page}" for page in ("01", "+0", "-1", "18446744073709551616", "0x0", "", "0/")))
     past(rows)
     rows.says("/inscriptions/0", {"ids": [f"{txid}i0"], "more": False, "page": 0})
 
@@ -411,7 +411,7 @@ def pages_of_inscriptions(rows):
     rows.says("/inscriptions/0", '{"ids":[],"more":false,"page":0}')
     for what, many in (("a page has a hundred", 200), ("the next page may have one", 101)):
         rows.case(what)
-        tx = revealed(rows, many * envelope())
+        tx = reveal_in_a_block(rows, many * envelope())
         rows.says("/inscriptions/0", {"ids": ids(tx, *range(100)), "more": True, "page": 0})
         rows.says("/inscriptions/1", {"ids": ids(tx, *range(100, many)), "more": False, "page": 1})
         past(rows)
@@ -423,7 +423,7 @@ def texts(rows):
     encodings = [b"br", b"b\nr", b""]
     script = b"".join(envelope([(1, value)], b"a") for value in types)
     script += b"".join(envelope([(9, value)], b"a") for value in encodings)
-    tx = revealed(rows, script + envelope([(5, b"\0\xff"), (7, b"m")], b""))
+    tx = reveal_in_a_block(rows, script + envelope([(5, b"\0\xff"), (7, b"m")], b""))
     kinds = [OCTETS, OCTETS, "~", OCTETS, OCTETS, " ", OCTETS, OCTETS, OCTETS]
     for index, kind in enumerate(kinds):
         rows.content(tx, b"a", kind, "br" if index == 6 else None, index=index)
@@ -437,7 +437,7 @@ def texts(rows):
     last = one | {"content_length": 0, "metadata": "00ff", "metaprotocol": "m"}
     rows.inscription(tx, 9, number=9, **last)
     rows.case("a content that isn't text is replied as it is")
-    tx = revealed(rows, envelope([], b"\x00\xff\n"))
+    tx = reveal_in_a_block(rows, envelope([], b"\x00\xff\n"))
     rows.content(tx, b"\x00\xff\n")
 
 
@@ -461,7 +461,7 @@ def delegates(rows):
     own, one, two, over, none, gone = txs
     for tx in (own, one, over):
         rows.content(tx, b"hi", "text/plain")
-    rows.missing(*(f"/content/{inscription(tx)}" for tx in (two, none, gone)))
+    rows.lacks(*(f"/content/{inscription(tx)}" for tx in (two, none, gone)))
     place = at(gone, 0)
     rows.inscription(over, content_length=1, delegate=inscription(own), height=5, number=3, place=place, sat=0)
     rows.inscription(one, delegate=inscription(own), height=3, number=1, place=place, sat=0)
@@ -560,7 +560,7 @@ def moves(rows):
     rows.inscription(tx, height=6, number=0, place=at(moved, 0), sat=SUBSIDY)
     rows.disconnects()
     rows.disconnects()
-    rows.missing(f"/inscription/{inscription(tx)}")
+    rows.lacks(f"/inscription/{inscription(tx)}")
     rows.says("/inscriptions/0", '{"ids":[],"more":false,"page":0}')
 
 
@@ -575,7 +575,7 @@ def rune_tree(etches, tx, held, burned, mints, height=3):
 def ends_of_numbers(rows):
     rows.case("an empty chain has no first block, and a number has no leading zero", "regtest")
     rows.says("/inscriptions/7", '{"ids":[],"more":false,"page":7}')
-    rows.missing("/blockhash/0", "/sat/01")
+    rows.lacks("/blockhash/0", "/sat/01")
     rows.case("the last satoshi of each spelling is below the supply", "mainnet")
     last = (
         '{"decimal":"6929999.0","degree":"5°209999′1007″0‴","inscriptions":[],"name":"a","number":2099999997689999,'
@@ -583,14 +583,14 @@ def ends_of_numbers(rows):
     )
     for spelling in ("a", "6929999.0"):
         rows.says(f"/sat/{spelling}", last)
-    rows.missing("/sat/nvtdijuwxlq", "/sat/6929999.1", "/sat/6930000.0", "/sat/0.5000000000", "/sat/18446744073709551616")
+    rows.lacks("/sat/nvtdijuwxlq", "/sat/6929999.1", "/sat/6930000.0", "/sat/0.5000000000", "/sat/18446744073709551616")
     rows.case("the last satoshi of a lab chain is below its supply")
     rows.says(
         "/sat/99999999889",
         '{"decimal":"329.0","degree":"5°9′5″0‴","inscriptions":[],"name":"a","number":99999999889,"place":null,'
         '"rarity":"uncommon"}',
     )
-    rows.missing("/sat/99999999890", "/sat/lkrmvqwy")
+    rows.lacks("/sat/99999999890", "/sat/lkrmvqwy")
 
 
 def other_methods(rows):
@@ -657,12 +657,12 @@ def names_past_an_end(rows):
     rows.case("a name past 128 bits, and spacers at an end or side by side, name no rune", "mainnet")
     # of 28 and of 29 letters, and in 128 bits the number of UNCOMMONGOODS
     for number in (GOODS + 2**128, GOODS + 13 * 2**128):
-        rows.missing(f"/rune/{name_of(number)}")
+        rows.lacks(f"/rune/{name_of(number)}")
     for spacer in ("•", "%E2%80%A2"):
         for name in (f"{spacer}UNCOMMONGOODS", f"UNCOMMONGOODS{spacer}", f"UNCOMMON{2 * spacer}GOODS"):
-            rows.missing(f"/rune/{name}")
-    rows.missing("/rune/UNCOMMON%E2%80%A2%e2%80%a2GOODS", "/rune/UNCOMMON%E2%80GOODS")
-    rows.missing("/rune/4294967297:0", "/rune/18446744073709551616:0")
+            rows.lacks(f"/rune/{name}")
+    rows.lacks("/rune/UNCOMMON%E2%80%A2%e2%80%a2GOODS", "/rune/UNCOMMON%E2%80GOODS")
+    rows.lacks("/rune/4294967297:0", "/rune/18446744073709551616:0")
     rows.case("a page whose number wraps isn't the first", "mainnet")
     for page in WRAPS:
         rows.says(f"/runes/{page}", f'{{"ids":[],"more":false,"page":{page}}}')
@@ -670,7 +670,7 @@ def names_past_an_end(rows):
 
 def pages_that_wrap(rows):
     rows.case("a page of inscriptions whose number wraps isn't the first")
-    tx = revealed(rows, envelope())
+    tx = reveal_in_a_block(rows, envelope())
     for page in WRAPS:
         rows.says(f"/inscriptions/{page}", f'{{"ids":[],"more":false,"page":{page}}}')
     rows.says("/inscriptions/0", {"ids": ids(tx, 0), "more": False, "page": 0})
@@ -692,7 +692,7 @@ def many_runes(rows):
 
 def bytes_that_are_no_text(rows):
     rows.case("a metaprotocol and an encoding that aren't UTF-8 are null")
-    tx = revealed(rows, envelope([(7, b"\xff"), (9, b"\xff"), (1, b"\x7e\x1f")], b"a") + envelope([(9, b"\x7f")], b"a"))
+    tx = reveal_in_a_block(rows, envelope([(7, b"\xff"), (9, b"\xff"), (1, b"\x7e\x1f")], b"a") + envelope([(9, b"\x7f")], b"a"))
     one = {"content_length": 1, "height": 6, "place": at(tx, 0), "sat": 0}
     rows.inscription(tx, 0, content_type="~\x1f", number=0, **one)
     rows.inscription(tx, 1, encoding="\x7f", number=1, **one)
@@ -712,7 +712,7 @@ def delegates_without_bodies(rows):
     for tx in (own, bare, over, to_bare, to_over, last):
         rows.extend(tx)
     # a body of its own doesn't stand in for the delegate's, nor do a type and an encoding of its own
-    rows.missing(f"/content/{inscription(to_bare)}", f"/content/{inscription(bare)}", f"/content/{inscription(last)}")
+    rows.lacks(f"/content/{inscription(to_bare)}", f"/content/{inscription(bare)}", f"/content/{inscription(last)}")
     rows.content(over, b"hi", "text/plain")
     rows.content(to_over, b"a", "text/css", "br")
     html = {"content_length": 1, "content_type": "text/html", "delegate": inscription(over), "encoding": "gzip"}
@@ -739,7 +739,7 @@ def runs_that_fall(rows):
 
 def parents_of_their_block(rows):
     rows.case("parents are told behind a block that reveals an unbound inscription")
-    first = revealed(rows, UNBOUND)
+    first = reveal_in_a_block(rows, UNBOUND)
     p = reveal(plain(1), envelope())
     q_id = id_of(reveal(p, b""))
     q = reveal(p, envelope([(3, id_of(p))]) + envelope([(3, q_id)]))

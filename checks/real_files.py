@@ -26,7 +26,7 @@ import tempfile
 import traceback
 
 from chain import DISCONNECT, SHORT, SUBSIDY, block_with, chain, coinbase, envelope, file_a, file_of, id_value, line
-from chain import payload_of, record, revealing, twice
+from chain import payload_of, record, reveal_into, twice
 from kills import Failed, demand, kill_often
 from table import BLOCKS, Table, outpoint, satoshi
 
@@ -73,7 +73,7 @@ class Ox:
     def wants(self, wanted, *words, **how):
         """Runs the program, which has to end with this status and show just this."""
         got = self.run(*words, **how)
-        demand(got == wanted, f"{shown(words)} ended with {shown(got)}, and {shown(wanted)} was wanted")
+        demand(got == wanted, f"{value_text(words)} ended with {value_text(got)}, and {value_text(wanted)} was wanted")
 
     def init(self):
         self.wants((0, b"ok empty\n"), "init", "regtest", "100")
@@ -88,7 +88,7 @@ class Ox:
     def has(self, a, b):
         """The files have to be these."""
         for name, got, wanted in zip("AB", self.files(), (a, b)):
-            demand(got == wanted, f"file {name} has {shown(got)}, and {shown(wanted)} was wanted")
+            demand(got == wanted, f"file {name} has {value_text(got)}, and {value_text(wanted)} was wanted")
 
     def has_blocks(self, blocks):
         self.has(file_a(blocks), EMPTY_B)
@@ -106,7 +106,7 @@ class Ox:
         self.wants((0, body.encode()), "query", "/status")
 
 
-def shown(value):
+def value_text(value):
     """A value as it is told, cut where it is long."""
     text = value.hex() if isinstance(value, bytes) and len(value) > 80 else repr(value)
     return text if len(text) < 300 else f"{text[:300]}.."
@@ -152,7 +152,7 @@ def first_block(ox):
     ox.wants((0, GENESIS_ANSWER), "apply", feed=GENESIS)
     a, b = ox.files()
     block = bytes.fromhex(GENESIS.split()[1].decode())
-    demand(len(a) == 318 and b == EMPTY_B, f"file A has {len(a)} bytes, and file B {shown(b)}")
+    demand(len(a) == 318 and b == EMPTY_B, f"file A has {len(a)} bytes, and file B {value_text(b)}")
     demand(a[:26] == EMPTY_A[:26], "file A begins with another head")
     demand(a[26:32].hex() == "011e01000001", f"the record begins with {a[26:32].hex()}")
     demand(a[32:317] == block and a[317] == 0, "the record has another block, or no closed gate behind it")
@@ -181,7 +181,7 @@ def line_by_line(ox):
             for at in range(0, len(bytes_), 50):
                 child.stdin.write(bytes_[at : at + 50])
             got = child.stdout.readline()
-            demand(got == answer(height, tips), f"{shown(got)} was shown for block {height}")
+            demand(got == answer(height, tips), f"{value_text(got)} was shown for block {height}")
             ox.has_blocks(blocks[: height + 1])
         child.stdin.close()
         demand(child.stdout.read() == b"" and child.wait(SECONDS) == 0, "the end of the feed doesn't end the program")
@@ -226,7 +226,7 @@ def nothing_kept(ox):
 
 
 @check("the newest blocks are taken back, as many as are kept, by a later run too")
-def taken_back(ox):
+def blocks_taken_back(ox):
     blocks, tips = chain(3)
     for depth in (1, 2):
         ox.write(b"", b"")
@@ -241,14 +241,14 @@ def taken_back(ox):
 
 
 @check("blocks are replaced by others, and a fold of the new chain shows the same")
-def replaced(ox):
+def replaced_blocks(ox):
     old, _ = chain(3)
     new, tips = chain(4, lambda height: b"\x52")
     lines = b"".join(map(line, old)) + b"disconnect\n" * 3 + b"".join(map(line, new))
     ox.init()
     status, got = ox.run("apply", feed=lines)
     wanted = b"ok empty\n" + b"".join(answer(height, tips) for height in range(4))
-    demand(status == 0 and got.endswith(wanted), f"`apply` ended with {status} and showed {shown(got)}")
+    demand(status == 0 and got.endswith(wanted), f"`apply` ended with {status} and showed {value_text(got)}")
     ox.wants((0, got), "fold", "regtest", feed=lines)
     ox.has(file_of([*map(payload_of, old), *[DISCONNECT] * 3, *map(payload_of, new)]), EMPTY_B)
     ox.status_is(4, tips[3])
@@ -275,13 +275,13 @@ def inscriptions_and_runes(ox):
     # an etching with premine 7, cap 10 and amount 5
     stone = bytes.fromhex("6a5d0802030607080a0a05")
     outputs = [(SUBSIDY, SHORT), (0, stone)]
-    hash = twice(revealing(spent, b"", outputs)[0])
+    hash = twice(reveal_into(spent, b"", outputs)[0])
     txid, at, name = hash[::-1].hex(), f"{hash[::-1].hex()}:0", name_of(RESERVED + (3 << 32) + 1)
     ids = [f"{txid}i{index}" for index in range(3)]
     # the first has a content, the second delegates to it, and the third to the second, which has a body of its own
     script = envelope([(1, b"text/plain"), (5, b"\0\xff"), (7, b"m"), (9, b"br")], b"hi")
     script += envelope([(11, id_value(hash, 0))], b"two") + envelope([(11, id_value(hash, 1))], b"three")
-    block, tip = block_with(previous, 3, revealing(spent, script, outputs))
+    block, tip = block_with(previous, 3, reveal_into(spent, script, outputs))
     ox.wants((0, b"ok empty\n"), "init", "lab", "100")
     ox.run("apply", feed=b"".join(map(line, blocks)))
     ox.wants((0, f"ok 3 {tip[::-1].hex()}\n".encode()), "apply", feed=line(block))
@@ -316,8 +316,8 @@ def inscriptions_and_runes(ox):
 @check("what a cenotaph minted and burned is taken back with its block, by a later run too")
 def burns_taken_back(ox):
     blocks, _ = chain(3)
-    etches = revealing(twice(coinbase(0, SHORT)), b"", [(SUBSIDY, SHORT), (0, bytes.fromhex("6a5d0802030607080a0a05"))])
-    burns = revealing(twice(etches[0]), b"", [(SUBSIDY, SHORT), (0, bytes.fromhex("6a5d06140314017e00"))])
+    etches = reveal_into(twice(coinbase(0, SHORT)), b"", [(SUBSIDY, SHORT), (0, bytes.fromhex("6a5d0802030607080a0a05"))])
+    burns = reveal_into(twice(etches[0]), b"", [(SUBSIDY, SHORT), (0, bytes.fromhex("6a5d06140314017e00"))])
     for height, tx in ((3, etches), (4, burns)):
         blocks.append(block_with(twice(blocks[-1][:80]), height, tx)[0])
     ox.wants((0, b"ok empty\n"), "init", "lab", "100")
@@ -590,7 +590,7 @@ def no_memory(ox):
 
 
 @check(f"{KILLS} kills of a running `apply` lose no command whose line was shown")
-def killed(ox):
+def killed_runs(ox):
     kill_often(ox.program, ox.folder, KILLS, random.Random(SEED), collections.Counter())
 
 

@@ -68,11 +68,11 @@ class Chain:
             if not self.kept:
                 raise Refused("refused 11")
             self.kept -= 1
-            told = self.told("back")
+            told = self.newest_change("back")
             self.blocks.pop()
             return told
         self.connect(payload[1:])
-        return self.told("on")
+        return self.newest_change("on")
 
     def connect(self, block):
         if not block:
@@ -92,7 +92,7 @@ class Chain:
         self.blocks.append((twice(block[:80]), txid, claim))
         self.kept = min(self.kept + 1, self.depth)
 
-    def told(self, way):
+    def newest_change(self, way):
         """The newest block's change: its output comes, and takes the place of an equal coinbase's."""
         block_hash, txid, _ = self.blocks[-1]
         gone = any(txid == earlier[1] for earlier in self.blocks[:-1])
@@ -112,7 +112,7 @@ class Chain:
             first += self.subsidy(height)
         return outs, lost
 
-    def lost(self):
+    def lost_count(self):
         return sum(count for _, count in self.sats()[1])
 
     def place(self, sat):
@@ -181,7 +181,8 @@ class Site:
         left = bytes(fill if place in covered else byte for place, byte in enumerate(synced))
         return left + bytes([fill]) * (min(keep, longest) - len(left))
 
-    def crashed(self, moment, fill, keep):
+    def crash(self, moment, fill, keep):
+        """The site that a crash leaves."""
         assert moment <= len(self.steps)
         return Site({file: self.image(file, moment, fill, keep) for file in "AB"})
 
@@ -282,7 +283,7 @@ class Store:
     def line(self):
         chain = self.chain
         kept = f"{len(chain.blocks)} blocks, {chain.kept} of {chain.depth} kept, {chain.kept} changes, "
-        return f"{kept}{chain.lost()} lost, {self.commands} commands, {chain.tip_line()}"
+        return f"{kept}{chain.lost_count()} lost, {self.commands} commands, {chain.tip_line()}"
 
 
 def word_of(payload):
@@ -307,7 +308,7 @@ class Rows:
     def row(self, *words):
         self.stdin.append(" ".join(map(str, words)))
 
-    def commanded(self, words, payloads):
+    def command_row(self, words, payloads):
         self.row(*words, *map(word_of, payloads))
 
     def heading(self, text):
@@ -333,10 +334,10 @@ class Rows:
             self.stdout.append("a call failed")
 
     def make(self, profile="regtest", depth=100, payloads=()):
-        self.commanded(("make", profile, depth), payloads)
-        self.run(self.made(self.site, profile, depth, payloads))
+        self.command_row(("make", profile, depth), payloads)
+        self.run(self.lines_of_making(self.site, profile, depth, payloads))
 
-    def made(self, site, profile, depth, payloads):
+    def lines_of_making(self, site, profile, depth, payloads):
         site.look()
         site.look()
         if site.files["A"] or site.files["B"]:
@@ -354,10 +355,10 @@ class Rows:
         yield from Store(site, Chain(profile, depth), "A", 26).carry_out(payloads)
 
     def open(self, payloads=()):
-        self.commanded(("open",), payloads)
-        self.run(self.opened(self.site, payloads))
+        self.command_row(("open",), payloads)
+        self.run(self.lines_of_opening(self.site, payloads))
 
-    def opened(self, site, payloads):
+    def lines_of_opening(self, site, payloads):
         site.sync("A")
         site.sync("B")
         # the lengths and the fronts of both files; how often it reads behind them isn't told, so no later call may fail
@@ -374,13 +375,13 @@ class Rows:
 
     def crash(self, moment, fill, keep):
         self.row("crash", moment, fill, keep)
-        after = self.site.crashed(moment, fill, keep)
-        self.run(self.opened(after, ()))
+        after = self.site.crash(moment, fill, keep)
+        self.run(self.lines_of_opening(after, ()))
         return after
 
     def restart(self, moment, fill, keep):
         self.row("restart", moment, fill, keep)
-        self.site = self.site.crashed(moment, fill, keep)
+        self.site = self.site.crash(moment, fill, keep)
 
     def locate(self, *sats):
         self.row("locate", *sats)
