@@ -1,3 +1,4 @@
 pub mod CommandsInMemory
 pub mod FilesOfStores
 pub mod ReplayByRecord
+pub mod MakeFaults

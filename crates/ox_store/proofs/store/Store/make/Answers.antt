@@ -1,4 +1,4 @@
-use Rattle.std.proofs.Common.{◌∙◌, [], sym, ap, ⊎_elim}
+use Rattle.std.proofs.Common.{◌∙◌, [], sym, ap}
 use Rattle.std.proofs.lemmas.Result.{err_from_is_err_and}
 use Rattle.std.specs.Prelude.{Ok}
 use Rattle.ox_outside.proofs.Calls.{leaves_then, leaves_weaker}
@@ -6,6 +6,7 @@ use Rattle.ox_model.specs.Machine.{empty_machine, stack_of}
 use Rattle.ox_model.specs.Stack.{Stack}
 use Rattle.ox_sat.specs.declared.profiles.Profile.{Profile}
 use Rattle.ox_store.proofs.FilesOfStores.{stands_first}
+use Rattle.ox_store.proofs.MakeFaults.{the_disk_alone}
 use Rattle.ox_store.proofs.store.Store.make.Goals as goal
 
 pub returns-clause-stands : goal.returns-clause-stands
@@ -35,4 +36,4 @@ returns-in_err-tail-clause-log_stays g c =
 pub returns-in_err-tail-clause-wrote_nothing : goal.returns-in_err-tail-clause-wrote_nothing
 returns-in_err-tail-clause-wrote_nothing g c =
     let p = err_from_is_err_and c.from_residual-in_err-tail.result c.from_residual-in_err-tail.ensures.1 in
-    ⊎_elim (λ one. absurd (cc (p.1, p.2, one))) (λ other. absurd (cc (p.1, p.2, other)))
+    λ other. absurd (the_disk_alone _ p.0 p.1 p.2 other)
