@@ -4,7 +4,7 @@ use Rattle.std.specs.Cmp.{IsTotalOrder}
 use Rattle.std.specs.Option.{unwrap_or}
 use Rattle.std.specs.Map.{lookup}
 use Rattle.std.specs.BTreeMap.{get, is_at, Updates}
-use Rattle.ox_shards.specs.Shards.{Entries, at}
+use Rattle.ox_shards.specs.Shards.{Entries, value_at}
 
 equal : (r : Ordering) → is_eq r ≡ true → r ≡ Equal
 equal Less h = absurd (true≢false (sym h))
@@ -27,17 +27,17 @@ module _ {K V : Type 0} {cmp : K → K → Ordering} (o : IsTotalOrder cmp) (m :
   at_key q same = ap (λ f. lookup (is_at f) m.entries) (λ i z. sym (o.congr key q z (equal (cmp key q) same)) i) ∙ is
 
   -- Where the change went below, and left the changes, the content is the same.
-  pub settled : (r : BTreeMap K (Option V)) → Updates cmp m r key None → n ≡ r.entries → ((q : K) → at cmp new q ≡ cond (is_eq (cmp key q)) change (at cmp old q))
-      → (q : K) → unwrap_or (lookup (is_at (cmp q)) n) (at cmp new q) ≡ unwrap_or (get cmp m q) (at cmp old q)
+  pub settled : (r : BTreeMap K (Option V)) → Updates cmp m r key None → n ≡ r.entries → ((q : K) → value_at cmp new q ≡ cond (is_eq (cmp key q)) change (value_at cmp old q))
+      → (q : K) → unwrap_or (lookup (is_at (cmp q)) n) (value_at cmp new q) ≡ unwrap_or (get cmp m q) (value_at cmp old q)
   settled r gone same below q =
-      ap (λ w. unwrap_or w (at cmp new q)) (ap (lookup (is_at (cmp q))) same ∙ gone.0 q) ∙ ap (λ w. unwrap_or (cond (is_eq (cmp key q)) None (get cmp m q)) w) (below q)
-      ∙ settled_by (is_eq (cmp key q)) (get cmp m q) change (at cmp old q) (at_key q)
+      ap (λ w. unwrap_or w (value_at cmp new q)) (ap (lookup (is_at (cmp q))) same ∙ gone.0 q) ∙ ap (λ w. unwrap_or (cond (is_eq (cmp key q)) None (get cmp m q)) w) (below q)
+      ∙ settled_by (is_eq (cmp key q)) (get cmp m q) change (value_at cmp old q) (at_key q)
 
   -- Where the change was written once more, and nothing went below, the content is the same.
   pub kept : (r : BTreeMap K (Option V)) (after : Option V) → Updates cmp m r key (Some after) → n ≡ r.entries → after ≡ change → new ≡ old
-      → (q : K) → unwrap_or (lookup (is_at (cmp q)) n) (at cmp new q) ≡ unwrap_or (get cmp m q) (at cmp old q)
+      → (q : K) → unwrap_or (lookup (is_at (cmp q)) n) (value_at cmp new q) ≡ unwrap_or (get cmp m q) (value_at cmp old q)
   kept r after written same again below q =
-      ap (λ w. unwrap_or w (at cmp new q))
+      ap (λ w. unwrap_or w (value_at cmp new q))
       (ap (lookup (is_at (cmp q))) same ∙ written.0 q ∙ ap (λ w. cond (is_eq (cmp key q)) (Some w) (get cmp m q)) again
       ∙ kept_by (is_eq (cmp key q)) (get cmp m q) change (at_key q))
-      ∙ ap (λ es. unwrap_or (get cmp m q) (at cmp es q)) below
+      ∙ ap (λ es. unwrap_or (get cmp m q) (value_at cmp es q)) below

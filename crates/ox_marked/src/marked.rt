@@ -1,7 +1,7 @@
 //! A map with a mark.
 
-ghost use Rattle.std.specs.Prelude.{◌≡◌, ◌↔◌, IsTrue, IsSome, Some, None, [], OnOk, OnErr, IfOk};
-ghost use Rattle.std.specs.Prelude.{cond, true, false};
+ghost use Rattle.std.specs.Prelude.{◌≡◌, ◌↔◌, IsTrue, IsSome, Some, None, OnOk, OnErr, IfOk};
+ghost use Rattle.std.specs.Prelude.{if◌then◌else◌, true, false};
 ghost use Rattle.std.specs.List.{list_any};
 ghost use Rattle.std.specs.List.Sorted.{IsStrictlySortedBy};
 ghost use Rattle.std.specs.Ordering.{is_eq};
@@ -10,7 +10,7 @@ ghost use Rattle.std.specs.BTreeMap as tree;
 ghost use Rattle.std.specs.BTreeMap.Range.{IsInRange, IsLeBy};
 ghost use Rattle.std.specs.declared.ops.Bound.TheVariants.{Included};
 ghost use Rattle.ox_marked.specs.Marked.{Layers, content_in, mark_in, is_changed};
-ghost use Rattle.ox_shards.specs.Shards.{at};
+ghost use Rattle.ox_shards.specs.Shards.{value_at};
 
 use ox_bytes::Memory;
 use ox_shards::{Sharded, Shards};
@@ -70,9 +70,9 @@ impl<K: Sharded, V> Marked<K, V> {
     where
         V: Drop,
         ensures content { OnOk result ((q : K) → content_in K.cmp self.new q
-            ≡ cond (is_eq (K.cmp key q)) value (content_in K.cmp self.old q)) }
+            ≡ (if is_eq (K.cmp key q) then value else content_in K.cmp self.old q)) }
         ensures changed { OnOk result ((q : K) → is_changed K.cmp self.new q
-            ≡ cond (is_eq (K.cmp key q)) true (is_changed K.cmp self.old q)) }
+            ≡ (if is_eq (K.cmp key q) then true else is_changed K.cmp self.old q)) }
         ensures mark { mark_in K.cmp self.new ≡ mark_in K.cmp self.old }
         ensures err { OnErr result (self.new ≡ self.old) }
     {
@@ -148,7 +148,8 @@ impl<K: Sharded, V> Marked<K, V> {
         Ok(self.changes.keys().copied().collect(self.alloc)?)
     }
 
-    /// Whether no key from the first to the second, both among them, has a value.
+    /// Whether no key from the first to the second, both among them, has a value. The two are near,
+    /// so that all keys between them stand in one shard.
     pub fn is_empty_between(&self, from: &K, to: &K) -> bool
         requires order { IsLeBy K.cmp from.now to.now }
         requires near { K.AreNear from.now to.now }
@@ -166,8 +167,8 @@ fn settle<K: Sharded, V: Drop>(
     key: K,
     change: &mut Option<V>,
 ) -> Result<(), Memory>
-    ensures ok { OnOk result ((q : K) → at K.cmp below.new q
-        ≡ cond (is_eq (K.cmp key q)) change.old (at K.cmp below.old q)) }
+    ensures ok { OnOk result ((q : K) → value_at K.cmp below.new q
+        ≡ (if is_eq (K.cmp key q) then change.old else value_at K.cmp below.old q)) }
     ensures below { OnErr result (below.new ≡ below.old) }
     ensures change { OnErr result (change.new ≡ change.old) }
 {
@@ -203,25 +204,26 @@ fn is_hidden_between<K: Sharded, V>(
     requires order { IsLeBy K.cmp from to }
     requires near { K.AreNear from to }
     ensures { IsTrue result ↔ ((q : K) → IsInRange K.cmp (Included from) (Included to) q
-        → IsSome (at K.cmp below.now q) → tree.get K.cmp changes.now q ≡ Some None) }
+        → IsSome (value_at K.cmp below.now q) → tree.get K.cmp changes.now q ≡ Some None) }
 {
-    match below.part(&from) {
-        Some(part) => is_taken_between(part, changes, from, to),
+    match below.shard_of(&from) {
+        Some(shard) => is_taken_between(shard, changes, from, to),
         None => true,
     }
 }
 
-// Whether each key of a part from the first to the second was taken out.
+// Whether each key of a shard from the first to the second was taken out.
 fn is_taken_between<K: Ord + Copy, V>(
-    part: &BTreeMap<K, V>,
+    shard: &BTreeMap<K, V>,
     changes: &BTreeMap<K, Option<V>>,
     from: K,
     to: K,
 ) -> bool
     requires { IsLeBy K.cmp from to }
     ensures { IsTrue result ↔ ((q : K) → IsInRange K.cmp (Included from) (Included to) q
-        → IsSome (tree.get K.cmp part.now q) → tree.get K.cmp changes.now q ≡ Some None) }
+        → IsSome (tree.get K.cmp shard.now q) → tree.get K.cmp changes.now q ≡ Some None) }
 {
-    part.range(from..=to)
+    shard
+        .range(from..=to)
         .all(|(key, _)| matches!(changes.get(key), Some(None)))
 }

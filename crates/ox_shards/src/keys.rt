@@ -1,43 +1,45 @@
-//! Keys that say in which part of a map they stand.
+//! Keys that say in which shard of a map they stand.
 
 ghost use Rattle.std.specs.Prelude.{◌≡◌, ℕ, ◌<◌, ⊤, true};
 ghost use Rattle.std.specs.Ordering.{is_eq};
 ghost use Rattle.std.specs.BTreeMap.Range.{IsInRange};
 ghost use Rattle.std.specs.declared.ops.Bound.TheVariants.{Included};
+ghost use Rattle.std.proofs.Common.{refl};
 
 use ox_block::OutPoint;
 use ox_runestone::RuneId;
 
-/// A key that says in which of so many parts of a map it stands.
+/// A key that says in which of so many shards of a map it stands.
 pub trait Sharded: Ord + Copy {
-    /// How many parts there are.
+    /// How many shards there are.
     ghost SHARDS: { ℕ };
 
-    /// How many parts there are.
+    /// How many shards there are.
     const SHARDS: usize;
 
-    /// The part in which a key stands, counted from 0.
+    /// The shard in which a key stands, counted from 0.
     ghost shard: { Self → ℕ };
 
-    /// Whether two keys are so near that all keys between them stand in one part.
+    /// Whether two keys are so near that all keys between them stand in one shard.
     ghost AreNear: { Self → Self → Type 0 };
 
-    /// The part in which this key stands, counted from 0.
+    /// The shard in which this key stands, counted from 0.
     fn shard(&self) -> usize
-        ensures part { result ≡ shard self.now }
-        ensures there { result < SHARDS };
+        ensures value { result ≡ shard self.now }
+        ensures in_range { result < SHARDS };
 
-    /// Equal keys stand in one part.
+    /// Equal keys stand in one shard.
     ghost alike: { (a b : Self) → is_eq (Self.cmp a b) ≡ true → shard a ≡ shard b };
 
-    /// So do all keys between two near ones.
+    /// All keys between two near ones stand in the shard of the first.
     ghost between: { (a b q : Self) → AreNear a b
         → IsInRange Self.cmp (Included a) (Included b) q → shard q ≡ shard a };
 }
 
+/// By the first two bytes of the transaction's id, which is a hash.
 impl Sharded for OutPoint {
-    ghost use Rattle.ox_shards.specs.Keys.{outpoint_shard, AreOfOne};
-    ghost use Rattle.ox_shards.specs.Keys.{outpoints_alike, outpoints_between};
+    ghost use Rattle.ox_shards.specs.Keys.{outpoint_shard, AreOfOneTransaction};
+    ghost use Rattle.ox_shards.specs.Laws.{outpoints_alike, outpoints_between};
 
     ghost SHARDS = { 65536 };
 
@@ -45,7 +47,7 @@ impl Sharded for OutPoint {
 
     ghost shard = { outpoint_shard };
 
-    ghost AreNear = { AreOfOne };
+    ghost AreNear = { AreOfOneTransaction };
 
     fn shard(&self) -> usize {
         let id = &self.txid.0;
@@ -57,6 +59,7 @@ impl Sharded for OutPoint {
     ghost between = { outpoints_between };
 }
 
+/// Runes are few: one shard.
 impl Sharded for RuneId {
     ghost SHARDS = { 1 };
 
@@ -70,11 +73,12 @@ impl Sharded for RuneId {
         0
     }
 
-    ghost alike = { λ _ _ _ i. 0 };
+    ghost alike = { λ _ _ _. refl };
 
-    ghost between = { λ _ _ _ _ _ i. 0 };
+    ghost between = { λ _ _ _ _ _. refl };
 }
 
+/// Places of a list, which are few: one shard.
 impl Sharded for u32 {
     ghost SHARDS = { 1 };
 
@@ -88,11 +92,12 @@ impl Sharded for u32 {
         0
     }
 
-    ghost alike = { λ _ _ _ i. 0 };
+    ghost alike = { λ _ _ _. refl };
 
-    ghost between = { λ _ _ _ _ _ i. 0 };
+    ghost between = { λ _ _ _ _ _. refl };
 }
 
+/// Names of runes, which are few: one shard.
 impl Sharded for u128 {
     ghost SHARDS = { 1 };
 
@@ -106,7 +111,7 @@ impl Sharded for u128 {
         0
     }
 
-    ghost alike = { λ _ _ _ i. 0 };
+    ghost alike = { λ _ _ _. refl };
 
-    ghost between = { λ _ _ _ _ _ i. 0 };
+    ghost between = { λ _ _ _ _ _. refl };
 }

@@ -1,4 +1,4 @@
-//! An ordered map in many parts: a key says in which of them it stands, so that each is small.
+//! A map over many ordered maps: a key says in which of them it stands, so that each is small.
 #![tactic(auto)]
 
 mod keys;

@@ -15,8 +15,8 @@ fn outpoint(first: u8, second: u8, third: u8, index: u32) -> OutPoint {
     }
 }
 
-/// Four outpoints: two of one part, one at each end of all.
-fn four() -> [OutPoint; 4] {
+/// Four outpoints: two of one shard, one at each end of all.
+fn four_outpoints() -> [OutPoint; 4] {
     [
         outpoint(7, 9, 1, 0),
         outpoint(7, 9, 2, 0),
@@ -26,9 +26,9 @@ fn four() -> [OutPoint; 4] {
 }
 
 /// A map with 10, 11, 12 and 13 at the four, in their order.
-fn filled(rt: &impl Abort, alloc: Global) -> Shards<OutPoint, u64> {
+fn map_of_four(rt: &impl Abort, alloc: Global) -> Shards<OutPoint, u64> {
     let mut map = Shards::new(alloc);
-    let [a, b, low, high] = four();
+    let [a, b, low, high] = four_outpoints();
     map.insert(a, 10).expect(rt, "memory");
     map.insert(b, 11).expect(rt, "memory");
     map.insert(low, 12).expect(rt, "memory");
@@ -43,8 +43,8 @@ fn has<K: Sharded>(map: &Shards<K, u64>, key: K, value: Option<u64>) -> bool {
 
 #[test]
 fn each_key_has_its_own_value(rt: HostRuntime) {
-    let map = filled(&rt, rt.alloc());
-    let [a, b, low, high] = four();
+    let map = map_of_four(&rt, rt.alloc());
+    let [a, b, low, high] = four_outpoints();
     assert!(rt; has(&map, a, Some(10)) && has(&map, b, Some(11)));
     assert!(rt; has(&map, low, Some(12)) && has(&map, high, Some(13)));
     assert!(rt; has(&map, outpoint(7, 9, 1, 1), None) && has(&map, outpoint(9, 7, 1, 0), None));
@@ -53,15 +53,15 @@ fn each_key_has_its_own_value(rt: HostRuntime) {
 #[test]
 fn nothing_is_there_before_a_value_is_put_in(rt: HostRuntime) {
     let mut map: Shards<OutPoint, u64> = Shards::new(rt.alloc());
-    let [a, _, _, _] = four();
-    assert!(rt; has(&map, a, None) && map.part(&a).is_none());
-    assert!(rt; map.remove(&a).is_none() && map.part(&a).is_none());
+    let [a, _, _, _] = four_outpoints();
+    assert!(rt; has(&map, a, None) && map.shard_of(&a).is_none());
+    assert!(rt; map.remove(&a).is_none() && map.shard_of(&a).is_none());
 }
 
 #[test]
 fn a_value_is_displaced_and_taken_out(rt: HostRuntime) {
-    let mut map = filled(&rt, rt.alloc());
-    let [a, b, low, high] = four();
+    let mut map = map_of_four(&rt, rt.alloc());
+    let [a, b, low, high] = four_outpoints();
     assert!(rt; map.insert(a, 20).expect(&rt, "memory") == Some(10));
     assert!(rt; map.remove(&high) == Some(13) && map.remove(&high).is_none());
     assert!(rt; has(&map, a, Some(20)) && has(&map, b, Some(11)));
@@ -69,27 +69,40 @@ fn a_value_is_displaced_and_taken_out(rt: HostRuntime) {
 }
 
 #[test]
-fn a_part_has_the_outpoints_of_a_transaction(rt: HostRuntime) {
-    let mut map = filled(&rt, rt.alloc());
+fn a_shard_has_the_outpoints_of_a_transaction(rt: HostRuntime) {
+    let mut map = map_of_four(&rt, rt.alloc());
     map.insert(outpoint(7, 9, 1, 5), 50).expect(&rt, "memory");
-    match map.part(&outpoint(7, 9, 1, 3)) {
-        Some(part) => {
-            assert!(rt; part.contains_key(&outpoint(7, 9, 1, 0)) && part.len() == 3);
-            assert!(rt; part.contains_key(&outpoint(7, 9, 1, 5)));
+    match map.shard_of(&outpoint(7, 9, 1, 3)) {
+        Some(shard) => {
+            assert!(rt; shard.contains_key(&outpoint(7, 9, 1, 0)) && shard.len() == 3);
+            assert!(rt; shard.contains_key(&outpoint(7, 9, 1, 5)));
         }
         None => rt.abort(),
     }
 }
 
 #[test]
-fn keys_of_one_part_all_stand_in_it(rt: HostRuntime) {
+fn keys_of_one_shard_all_stand_in_it(rt: HostRuntime) {
     let mut map = Shards::new(rt.alloc());
     for key in 0..1_000u32 {
         map.insert(key, u64::from(key)).expect(&rt, "memory");
     }
     assert!(rt; has(&map, 0, Some(0)) && has(&map, 999, Some(999)) && has(&map, 1_000, None));
-    match map.part(&7) {
-        Some(part) => assert!(rt; part.len() == 1_000),
+    match map.shard_of(&7) {
+        Some(shard) => assert!(rt; shard.len() == 1_000),
         None => rt.abort(),
+    }
+}
+
+#[test]
+fn a_thousand_outpoints_stand_in_as_many_shards(rt: HostRuntime) {
+    let mut map = Shards::new(rt.alloc());
+    for key in 0..1_000u32 {
+        let at = outpoint((key / 256) as u8, (key % 256) as u8, 0, key);
+        map.insert(at, u64::from(key)).expect(&rt, "memory");
+    }
+    for key in 0..1_000u32 {
+        let at = outpoint((key / 256) as u8, (key % 256) as u8, 0, key);
+        assert!(rt; map.remove(&at) == Some(u64::from(key)) && map.get(&at).is_none());
     }
 }

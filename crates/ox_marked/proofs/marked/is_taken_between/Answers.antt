@@ -13,7 +13,7 @@ returns g c =
     let cmp = g.K.Ord.cmp in
     let o = g.met.K.Ord.total in
     let shows = all_between o c.args.from c.args.to (λ e. taken_out (tree.get cmp c.args.changes.now e.0))
-    (λ x y v e. ap (λ f. taken_out (lookup (is_at f) c.args.changes.now.entries)) (λ i z. sym (o.congr x y z e) i)) c.args.part.now c.range.result
+    (λ x y v e. ap (λ f. taken_out (lookup (is_at f) c.args.changes.now.entries)) (λ i z. sym (o.congr x y z e) i)) c.args.shard.now c.range.result
     _ _ (ap Included c.new.ensures.start) (ap Included c.new.ensures.end)
     (c.range.ensures.between c.new.ensures.exhausted) (c.range.ensures.in_range c.new.ensures.exhausted).0 c.all.result
     (all_from_yields_List (λ e. taken_out (tree.get cmp c.args.changes.now e.0)) _ _ c.all.result c.all.ensures.ran (YieldsList-from_rest c.range.result refl) (λ x b q k. search (rules, tests))) in

@@ -4,7 +4,7 @@ use Rattle.std.specs.Map.{lookup}
 use Rattle.std.specs.BTreeMap.{is_at}
 use Rattle.std.specs.BTreeMap.Entry.{map_with_value, map_without_entry, entry_key}
 use Rattle.std.specs.declared.collections.btree_map.Entry.TheVariants.{Occupied}
-use Rattle.ox_shards.specs.Shards.{at}
+use Rattle.ox_shards.specs.Shards.{value_at}
 use Rattle.ox_marked.specs.Marked.{content_in}
 use Rattle.ox_marked.proofs.Settled.{settled, kept}
 use Rattle.ox_marked.proofs.marked.Marked.begin.Given.{Over}
@@ -21,10 +21,10 @@ returns-in_err-settle-clause-content g c = λ q.
 
 -- where the entry is out of the changes, the content is as before
 stays : (g : Over) (c : After-remove g) (n : List (g.row.K.Denot × Option g.row.V.Denot)) → n ≡ (map_without_entry (Occupied c.in-Some.change)).entries
-    → (q : g.row.K.Denot) → unwrap_or (lookup (is_at (g.K.Ord.cmp q)) n) (at g.K.Ord.cmp c.settle.new.below q) ≡ content_in g.K.Ord.cmp c.args.self.now q
+    → (q : g.row.K.Denot) → unwrap_or (lookup (is_at (g.K.Ord.cmp q)) n) (value_at g.K.Ord.cmp c.settle.new.below q) ≡ content_in g.K.Ord.cmp c.args.self.now q
 stays g c n same q =
     let e = Occupied c.in-Some.change in
-    let below = subst (λ k. (q : g.row.K.Denot) → at g.K.Ord.cmp c.settle.new.below q ≡ cond (is_eq (g.K.Ord.cmp k q)) c.get_mut.result.now (at g.K.Ord.cmp c.loop-change.self-inside.below q))
+    let below = subst (λ k. (q : g.row.K.Denot) → value_at g.K.Ord.cmp c.settle.new.below q ≡ cond (is_eq (g.K.Ord.cmp k q)) c.get_mut.result.now (value_at g.K.Ord.cmp c.loop-change.self-inside.below q))
     c.key.ensures c.in_ok-settle.ensures.ok in
     settled g.met.K.Ord.total c.loop-change.self-inside.changes n c.loop-change.self-inside.below c.settle.new.below (entry_key e) c.get_mut.result.now
     (search rules) (map_without_entry e) c.in-Some.ensures.removal.0 same below q
