@@ -147,6 +147,9 @@ module _ {m n : Places} {s t : Held} {at : OutPoint} {place : Option ℕ} (c : C
   rows_taken is = rows_of_take (slots_in m s) (slots_in n t) at (λ q.
       slots_after q ∙ ap (λ (o : Option ℕ). cond (is_same at q) (option_map (row_in t) o) (slot_at (slots_in m s) q)) is)
 
+  pub slot_gone : place ≡ None → slot_at (slots_in n t) at ≡ None
+  slot_gone is = slot_at-slots_in n t at ∙ ap (option_map (row_in t)) (there ∙ is)
+
   pub slots_stay : (row : Option OutRow) → option_map (row_in t) place ≡ Some row → (q : OutPoint) → IsSome (slot_at (slots_in m s) q) → IsSome (slot_at (slots_in n t) q)
   slots_stay row is q some = still_there (is_same at q) row (slot_at (slots_in m s) q) (slot_at (slots_in n t) q)
       (slots_after q ∙ ap (λ (o : Option (Option OutRow)). cond (is_same at q) o (slot_at (slots_in m s) q)) is) some

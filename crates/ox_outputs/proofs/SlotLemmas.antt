@@ -143,6 +143,12 @@ row_known slots at row is = by_slot (slot_at slots at) (is ∙ get-rows_of slots
   by_slot None none = absurd (cc none)
   by_slot (Some s) some = refl
 
+-- and isn't empty
+pub is_full : (slots : SlotList) (at : OutPoint) (row : OutRow) → Some row ≡ get (rows_of slots) at → slot_at slots at ≡ Some None → ⊥
+is_full slots at row is empty =
+    let none : ◌≡◌ {A = Option OutRow} (Some row) None = is ∙ get-rows_of slots at ∙ ap held empty in
+    absurd (cc none)
+
 -- one change is undone
 pub undo_step : (d : OutPoint) (rows rest : List (Option OutRow)) (row : Option OutRow) (ats : List OutPoint) (old new final : Outputs) (k : ℕ) → rows ≡ rest ++ row ∷ [] → length rows ≤ length ats → k ≡ length rest → new ≡ put_slot old (get_or ats k d) row → undone rows ats old ≡ final → undone rest ats new ≡ final
 undo_step d rows rest row ats old new final k is short at step so_far =

@@ -1,6 +1,6 @@
 //! Slots for rows. A slot that is there can be filled and emptied without memory.
 
-ghost use Rattle.std.specs.Prelude.{◌≡◌, [], None, IsSome, IfOk, IfErr, OnOk, OnErr};
+ghost use Rattle.std.specs.Prelude.{◌≡◌, ◌≢◌, [], Some, None, IsSome, IfOk, IfErr, OnOk, OnErr};
 ghost use Rattle.std.specs.Option.{option_copied};
 ghost use Rattle.std.specs.FinMap as map;
 ghost use Rattle.ox_block.specs.declared.block.OutPoint.{OutPoint};
@@ -84,6 +84,7 @@ impl Slots {
     fn remove(&mut self, at: &OutPoint) -> Option<OutRow>
         ensures held { result ≡ map.get (rows_of self.old) at.now }
         ensures rows { rows_of self.new ≡ put_slot (rows_of self.old) at.now None }
+        ensures gone { slot_at self.new at.now ≡ None }
     {
         match self.places.remove(at) {
             Some(place) => take_back(&mut self.held, place),
@@ -92,8 +93,10 @@ impl Slots {
     }
 
     /// Takes the slot at this outpoint away if it is empty: no row is lost.
+    #[tactic(auto, using(crate::proofs::SlotLemmas::put_none, crate::proofs::SlotLemmas::is_full))]
     pub(crate) fn tidy(&mut self, at: &OutPoint)
-        ensures { rows_of self.new ≡ rows_of self.old }
+        ensures rows { rows_of self.new ≡ rows_of self.old }
+        ensures gone { slot_at self.new at.now ≢ Some None }
     {
         match self.get(at) {
             Some(_) => (),
