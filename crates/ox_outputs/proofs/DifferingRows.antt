@@ -1,6 +1,6 @@
 -- The rows in which a table differs from itself before some changes, and rows that are placed back.
-use Rattle.std.proofs.Common.{◌≡◌, ◌≢◌, ◌∙◌, ◌≤◌, ◌<◌, ◌+◌, ◌-◌, ℕ, zero, suc, Bool, true, false, cond, T, List, [], ◌∷◌, ◌++◌, length, drop, get_or, refl, sym, ap, subst, arith, not, Option, Some, None, Ordering, inl, inr}
-use Rattle.std.specs.Prelude.{◌↔◌, ◌⊎◌, ◌&&◌, ◌==◌, All, bytes_eq, IsTrue, is_some, slice_get, if◌then◌else◌}
+use Rattle.std.proofs.Common.{◌≡◌, ◌≢◌, ◌∙◌, ◌≤◌, ◌<◌, ◌+◌, ◌-◌, ℕ, suc, Bool, true, false, cond, T, List, [], ◌∷◌, ◌++◌, length, drop, get_or, refl, sym, ap, subst, arith, not, Option, Some, None, Ordering, inl, inr}
+use Rattle.std.specs.Prelude.{◌⊎◌, ◌&&◌, ◌==◌, All, IsTrue, is_some, if◌then◌else◌}
 use Rattle.std.specs.Prelude.{Result, Ok, Err, IfOk}
 use Rattle.std.specs.Bool.{Decides}
 use Rattle.std.specs.List.{AllByRecursion, position_from}
@@ -10,28 +10,28 @@ use Rattle.std.specs.BTreeMap.{BTreeMap, is_at}
 use Rattle.std.specs.BTreeMap as trees
 use Rattle.std.specs.Ordering.{eq_by_cmp, is_eq, is_lt}
 use Rattle.std.specs.Cmp.{eq_by_cmp_equiv}
-use Rattle.std.specs.FinMap.{FinMap, find, get, get-remove, is_sorted, remove}
+use Rattle.std.specs.FinMap.{find, get, get-remove, is_sorted, remove}
 use Rattle.std.specs.FinMap.Entries.{below_all}
 use Rattle.std.specs.declared.cmp.Ordering.TheVariants.{Less, Equal, Greater}
 use Rattle.std.proofs.lemmas.Bool.Decides.{Decides-and, Decides-eqb, Decides-like}
 use Rattle.std.proofs.lemmas.List.{append_assoc, append-nil, drop_more}
-use Rattle.std.proofs.lemmas.List.Elements.{All-nil, All-cons, All-drop, All-get_or, All-head, All-tail}
+use Rattle.std.proofs.lemmas.List.Elements.{All-nil, All-cons, All-drop, All-head, All-tail}
 use Rattle.std.proofs.lemmas.Map.Entries.{btree_map_get_place}
 use Rattle.std.proofs.lemmas.Option.{slice_get-get_or}
 use Rattle.ox_block.specs.declared.block.OutPoint.{OutPoint}
 use Rattle.ox_range.specs.declared.runs.Run.{Run}
 use Rattle.ox_rules.specs.declared.rows.OutRow.{OutRow}
-use Rattle.ox_rules.specs.Differences.{AreGone, Differ, Difference, other_end, with_rows, without_rows}
+use Rattle.ox_rules.specs.Differences.{AreGone, with_rows, without_rows}
 use Rattle.ox_rules.specs.Outputs.{MayStand, Outputs, outpoint_cmp, sats_held, times}
 use Rattle.ox_rules.proofs.Conservation.{times_held}
-use Rattle.ox_rules.proofs.DifferenceLemmas.{differs, get-with_rows, get-without_rows, go_back, has_gone, or_else, same_row, same_row-Decides}
+use Rattle.ox_rules.proofs.DifferenceLemmas.{differs, get-with_rows, get-without_rows, has_gone, or_else, same_row, same_row-Decides}
 use Rattle.ox_rules.proofs.MapSums.{total_remove}
 use Rattle.ox_rules.proofs.Orders.{outpoints_total, outpoints_exact}
 use Rattle.ox_outputs.specs.Differing.{FitIn, gone_at, row_at, row_unless, rows_for}
-use Rattle.ox_outputs.specs.Slots.{put_slot, undone}
+use Rattle.ox_outputs.specs.Slots.{undone}
 use Rattle.ox_outputs.specs.Table.{EndsIn}
 use Rattle.ox_outputs.proofs.PlaceLemmas.{is_same, same_or_not}
-use Rattle.ox_outputs.proofs.SlotLemmas.{equal, get-put_slot}
+use Rattle.ox_outputs.proofs.SlotLemmas.{get-put_slot}
 
 some_is : {X : Type 0} (x y : X) → Some x ≡ Some y → x ≡ y
 some_is x y is = cc
@@ -115,15 +115,6 @@ unless_differs (Some x) (Some y) = by_same (same_row x y) where
 pub unless_itself : (row : Option OutRow) → row_unless row row ≡ None
 unless_itself None = refl
 unless_itself (Some row) = ap (λ (b : Bool). if b then None else Some row) ((same_row-Decides row row).1 refl)
-
-pub same_unless : (row other : OutRow) → row ≡ other → row_unless (Some row) (Some other) ≡ None
-same_unless row other is = ap (λ (b : Bool). if b then None else Some row) ((same_row-Decides row other).1 is)
-
-pub other_unless : (row other : OutRow) → (row ≡ other → ⊥) → row_unless (Some row) (Some other) ≡ Some row
-other_unless row other isnt = by_test (same_row row other) refl where
-  by_test : (b : Bool) → same_row row other ≡ b → (if b then None else Some row) ≡ Some row
-  by_test true same = absurd (isnt ((same_row-Decides row other).0 same))
-  by_test false same = refl
 
 find_row_at : (q at : OutPoint) (row : Option OutRow) (rest : List (OutPoint × OutRow)) → find outpoint_cmp q (row_at at row ++ rest) ≡ cond (is_same q at) (or_else row (find outpoint_cmp q rest)) (find outpoint_cmp q rest)
 find_row_at q at None rest = by_test (is_same q at) where

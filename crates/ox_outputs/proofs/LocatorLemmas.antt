@@ -1,5 +1,5 @@
 -- What changes of a locator's stretches leave.
-use Rattle.std.proofs.Common.{◌≡◌, ◌∙◌, ℕ, ◌+◌, ◌<◌, ◌^◌, Bool, true, false, cond, List, [], ◌∷◌, length, refl, sym, ap, ap₂, subst, arith, Option, Some, None, true≢false, inl, inr, ⊎_elim}
+use Rattle.std.proofs.Common.{◌≡◌, ◌∙◌, ℕ, ◌+◌, ◌<◌, ◌^◌, Bool, true, false, cond, List, [], ◌∷◌, length, refl, sym, ap, ap₂, subst, arith, Option, Some, None, true≢false, ⊎_elim}
 use Rattle.std.specs.Prelude.{◌⊎◌}
 use Rattle.std.specs.BTreeMap.{BTreeMap}
 use Rattle.std.specs.Option.{option_or}
@@ -7,7 +7,7 @@ use Rattle.ox_block.specs.declared.block.OutPoint.{OutPoint}
 use Rattle.ox_range.specs.declared.runs.Run.{Run}
 use Rattle.ox_range.specs.Runs.{numbers_of}
 use Rattle.ox_outputs.specs.declared.stretch.Stretch.{Stretch}
-use Rattle.ox_outputs.specs.Stretches.{StretchList, stretch_at, stretches_of, is_among, firsts_of, live_in, kept_in, Agree, AreShort, AreKept}
+use Rattle.ox_outputs.specs.Stretches.{StretchList, stretch_at, stretches_of, is_among, firsts_of, live_in, kept_in, Agree, AreKept}
 use Rattle.ox_outputs.proofs.StretchLemmas.{either_is, or_none, run_live, made_of, none_begins, number_itself}
 
 -- ---- one stretch

@@ -245,13 +245,6 @@ moved_held m s t at p e row h is free u = ap option_flatten (u.others e (free_pl
 
 -- ---- no change
 
-pub placed_alike : (m : Places) (s t : Held) → ((p : ℕ) → get t p ≡ get s p) → ArePlaced m s → ArePlaced m t
-placed_alike m s t same h = record {
-  given = λ at p is. subst IsSome (sym (same p)) (h.given at p is);
-  apart = h.apart;
-  none_lost = λ p some. h.none_lost p (subst IsSome (same p) some);
-}
-
 pub slots_alike : (m : Places) (s t : Held) → ((p : ℕ) → get t p ≡ get s p) → slots_in m t ≡ slots_in m s
 slots_alike [] s t same = refl
 slots_alike (e ∷ m) s t same = λ i. (e.0, option_flatten (same e.1 i)) ∷ slots_alike m s t same i

@@ -1,6 +1,6 @@
 -- Stretches by their first numbers: what changes of them leave.
-use Rattle.std.proofs.Common.{◌≡◌, ◌∙◌, ℕ, ◌+◌, ◌-◌, ◌<◌, ◌≤◌, Bool, true, false, cond, List, [], ◌∷◌, length, length-append, drop, zero, suc, ◌^◌, Result, Ok, Err, refl, sym, ap, ap₂, subst, arith, Option, Some, None, true≢false, inl, inr, ⊎_elim, Ordering}
-use Rattle.std.specs.Prelude.{is_some, ◌||◌, ◌⊎◌, OnOk, OnErr}
+use Rattle.std.proofs.Common.{◌≡◌, ◌∙◌, ℕ, ◌+◌, ◌-◌, ◌<◌, ◌≤◌, Bool, true, false, cond, List, [], ◌∷◌, length, length-append, drop, zero, suc, Result, Ok, Err, refl, sym, ap, ap₂, subst, arith, Option, Some, None, true≢false, inl, inr, ⊎_elim, Ordering}
+use Rattle.std.specs.Prelude.{◌||◌, ◌⊎◌, OnOk, OnErr}
 use Rattle.std.specs.Result.{is_err}
 use Rattle.std.specs.Ordering.{nat_cmp, is_eq, is_gt, is_lt, MatchOrdering}
 use Rattle.std.specs.declared.cmp.Ordering.TheVariants.{Less, Equal, Greater}
@@ -8,7 +8,7 @@ use Rattle.std.specs.FinMap.{nat_cmp-IsAntisymmetric}
 use Rattle.std.proofs.lemmas.Bool.{cases_lt}
 use Rattle.std.specs.Cmp.{eq_by_cmp_equiv}
 use Rattle.std.proofs.lemmas.Cmp.{nat_cmp_total, ranked}
-use Rattle.std.specs.Option.{option_map, option_or}
+use Rattle.std.specs.Option.{option_or}
 use Rattle.std.specs.BTreeMap.{is_at}
 use Rattle.ox_block.specs.declared.block.OutPoint.{OutPoint}
 use Rattle.ox_range.specs.declared.runs.Run.{Run}
@@ -18,7 +18,7 @@ use Rattle.ox_range.specs.Runs.{numbers_of}
 use Rattle.ox_range.proofs.RunLemmas.{numbers-cons, length-numbers_from}
 use Rattle.ox_rules.specs.declared.place.Place.{Place}
 use Rattle.ox_outputs.specs.Finding.{Finds}
-use Rattle.ox_outputs.specs.Stretches.{StretchList, stretch_at, stretches_of, is_among, firsts_of, live_in, kept_in, Agree, AreApart, AreShort, AreKept, Holds}
+use Rattle.ox_outputs.specs.Stretches.{StretchList, stretch_at, stretches_of, is_among, firsts_of, live_in, Agree, AreApart, AreKept, Holds}
 
 -- which number it is, seen from either
 pub same_first : (a b : ℕ) → is_at (nat_cmp a) b ≡ is_at (nat_cmp b) a

@@ -1,7 +1,6 @@
-use Rattle.std.proofs.Common.{◌≡◌, ◌∙◌, List, sym, ap}
+use Rattle.std.proofs.Common.{◌∙◌, sym, ap}
 use Rattle.std.proofs.lemmas.Slice.Eq.{slice_eq-Decides}
 use Rattle.ox_range.specs.Runs.{numbers_of, runs_of}
-use Rattle.ox_range.specs.declared.runs.Run.{Run}
 use Rattle.ox_outputs.proofs.DifferingRows.{same_run, same_run-Decides}
 use Rattle.ox_outputs.proofs.differing.are_same.Goals as goal
 

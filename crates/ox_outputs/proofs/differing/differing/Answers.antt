@@ -1,4 +1,4 @@
-use Rattle.std.proofs.Common.{◌≡◌, ◌∙◌, ◌++◌, ℕ, List, Some, None, Option, sym, ap, subst}
+use Rattle.std.proofs.Common.{◌≡◌, ◌∙◌, ◌++◌, ℕ, List, Some, None, sym, ap, subst}
 use Rattle.std.specs.Prelude.{All, option_copied}
 use Rattle.std.specs.BTreeMap as trees
 use Rattle.std.specs.FinMap.{get}

@@ -1,4 +1,4 @@
-use Rattle.std.proofs.Common.{◌≡◌, ◌∙◌, ℕ, ◌+◌, ◌-◌, ◌<◌, ◌≤◌, ap, ap₂, sym, arith, get_or, drop, length, ◌∷◌, false, List, cond, None}
+use Rattle.std.proofs.Common.{◌≡◌, ◌∙◌, ℕ, ◌+◌, ◌-◌, ◌<◌, ◌≤◌, ap, ap₂, sym, arith, get_or, drop, length, ◌∷◌, List, cond, None}
 use Rattle.std.specs.Option.{option_or}
 use Rattle.std.proofs.lemmas.List.{drop_more, drop_all, take_rest}
 use Rattle.ox_range.specs.declared.runs.Run.{Run}

@@ -1,4 +1,4 @@
-use Rattle.std.proofs.Common.{◌≡◌, ◌∙◌, ap, sym, get_or, drop, ◌+◌, ◌∷◌, List, ⊎_elim, inl, inr}
+use Rattle.std.proofs.Common.{◌≡◌, ap, get_or, drop, ◌+◌, ◌∷◌, List, ⊎_elim, inl, inr}
 use Rattle.std.proofs.lemmas.List.{drop_more, drop_all}
 use Rattle.std.specs.BTreeMap.{is_at}
 use Rattle.std.specs.Ordering.{nat_cmp}

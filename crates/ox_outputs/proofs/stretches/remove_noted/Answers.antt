@@ -1,5 +1,5 @@
-use Rattle.std.proofs.Common.{◌≡◌, ◌∙◌, ap, sym, List}
-use Rattle.ox_outputs.specs.Stretches.{stretch_at, is_among}
+use Rattle.std.proofs.Common.{◌∙◌}
+use Rattle.ox_outputs.specs.Stretches.{stretch_at}
 use Rattle.ox_outputs.proofs.StretchLemmas.{removed_noted}
 use Rattle.ox_outputs.proofs.stretches.remove_noted.Goals as goal
 

@@ -1,11 +1,9 @@
-use Rattle.std.proofs.Common.{◌≡◌, ◌∙◌, ℕ, ◌<◌, ◌^◌, ap, sym, refl, arith, length, Bool, true, false, cond, None, List, Option, inl, true≢false}
-use Rattle.std.specs.Option.{option_or}
+use Rattle.std.proofs.Common.{◌≡◌, ◌∙◌, ◌<◌, ◌^◌, ap, sym, refl, arith, length, true, false, None, List, true≢false}
 use Rattle.ox_range.specs.declared.runs.Run.{Run}
 use Rattle.ox_range.specs.Runs.{numbers_of}
-use Rattle.ox_outputs.specs.declared.stretch.Stretch.{Stretch}
-use Rattle.ox_outputs.specs.Stretches.{is_among, firsts_of, stretch_at, stretches_of, live_in}
+use Rattle.ox_outputs.specs.Stretches.{is_among, firsts_of, stretch_at, stretches_of}
 use Rattle.ox_outputs.proofs.StretchLemmas.{either_way, none_begins}
-use Rattle.ox_outputs.proofs.LocatorLemmas.{kept_coming, kept_comes, kept_still, live_comes, live_none, kept_runs, kept_step, not_true}
+use Rattle.ox_outputs.proofs.LocatorLemmas.{kept_coming, kept_comes, kept_still, live_none, kept_runs, kept_step, not_true}
 use Rattle.ox_outputs.proofs.locator.Locator.arrive.Goals as goal
 
 pub insert_runs-requires-clause-fresh : goal.insert_runs-requires-clause-fresh

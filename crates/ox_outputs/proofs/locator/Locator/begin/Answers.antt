@@ -1,7 +1,7 @@
-use Rattle.std.proofs.Common.{◌≡◌, ◌∙◌, sym, ap}
+use Rattle.std.proofs.Common.{◌∙◌}
 use Rattle.ox_outputs.specs.Locator.{live_at}
 use Rattle.ox_outputs.proofs.StretchLemmas.{ok_then}
-use Rattle.ox_outputs.proofs.LocatorLemmas.{kept_begun, kept_marked}
+use Rattle.ox_outputs.proofs.LocatorLemmas.{kept_marked}
 use Rattle.ox_outputs.proofs.locator.Locator.begin.Goals as goal
 
 pub returns-clause-ok : goal.returns-clause-ok

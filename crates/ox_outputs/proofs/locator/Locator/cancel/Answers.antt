@@ -1,6 +1,6 @@
-use Rattle.std.proofs.Common.{◌≡◌, ◌∙◌, ap, sym, subst, length, true≢false}
-use Rattle.ox_outputs.specs.Stretches.{StretchList, AreKept, live_in, kept_in}
-use Rattle.ox_outputs.proofs.LocatorLemmas.{entries_of, kept_back, kept_same, live_back, live_same, kept_still_there, kept_marked, none_in, first_in, empty_list}
+use Rattle.std.proofs.Common.{◌∙◌, ap, sym, true≢false}
+use Rattle.ox_outputs.specs.Stretches.{StretchList, live_in}
+use Rattle.ox_outputs.proofs.LocatorLemmas.{entries_of, live_back, live_same, kept_still_there, kept_marked, none_in, first_in, empty_list}
 use Rattle.ox_outputs.proofs.locator.Locator.cancel.Goals as goal
 
 pub returns-else-is_empty-clause-live : goal.returns-else-is_empty-clause-live

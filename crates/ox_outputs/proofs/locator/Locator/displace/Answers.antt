@@ -1,9 +1,9 @@
-use Rattle.std.proofs.Common.{◌≡◌, ◌∙◌, ℕ, ◌<◌, ◌^◌, ap, ap₂, sym, refl, arith, length, Bool, true, false, cond, None, List, Option, true≢false}
+use Rattle.std.proofs.Common.{◌∙◌, ℕ, ◌<◌, ◌^◌, ap, ap₂, sym, arith, length, Bool, cond, None, List, Option, true≢false}
 use Rattle.std.specs.Option.{option_or}
 use Rattle.ox_range.specs.declared.runs.Run.{Run}
 use Rattle.ox_range.specs.Runs.{numbers_of, runs_of}
 use Rattle.ox_outputs.specs.declared.stretch.Stretch.{Stretch}
-use Rattle.ox_outputs.specs.Stretches.{is_among, firsts_of, stretch_at, stretches_of, live_in}
+use Rattle.ox_outputs.specs.Stretches.{is_among, firsts_of, stretch_at, stretches_of}
 use Rattle.ox_outputs.specs.Locator.{live_at}
 use Rattle.ox_outputs.proofs.StretchLemmas.{none_begins, or_none}
 use Rattle.ox_outputs.proofs.LocatorLemmas.{agree_runs, kept_noted, kept_coming, kept_late, kept_displaced, live_displaced, live_none, kept_runs, kept_step, not_true}

@@ -1,4 +1,4 @@
-use Rattle.ox_outputs.proofs.StretchLemmas.{runs_apart, late_apart, finds_both, finds_first}
+use Rattle.ox_outputs.proofs.StretchLemmas.{runs_apart, late_apart, finds_both}
 use Rattle.ox_outputs.proofs.locator.Locator.find.Goals as goal
 
 pub find-requires-clause-apart : goal.find-requires-clause-apart

@@ -1,8 +1,8 @@
-use Rattle.std.proofs.Common.{◌≡◌, ◌∙◌, ℕ, ap, sym, refl, Bool, false, cond, None, List, Option, inl, true≢false}
+use Rattle.std.proofs.Common.{◌∙◌, ap, sym, refl, false, cond, None, List, Option, inl, true≢false}
 use Rattle.ox_range.specs.declared.runs.Run.{Run}
 use Rattle.ox_outputs.specs.declared.stretch.Stretch.{Stretch}
 use Rattle.ox_outputs.specs.Locator.{live_at}
-use Rattle.ox_outputs.specs.Stretches.{is_among, firsts_of, stretch_at, live_in}
+use Rattle.ox_outputs.specs.Stretches.{is_among, firsts_of, stretch_at}
 use Rattle.ox_outputs.proofs.LocatorLemmas.{agree_runs, kept_noted, kept_gone, live_gone, live_none, kept_runs, kept_step}
 use Rattle.ox_outputs.proofs.locator.Locator.leave.Goals as goal
 

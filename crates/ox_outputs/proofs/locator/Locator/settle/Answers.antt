@@ -1,5 +1,4 @@
-use Rattle.ox_outputs.proofs.LocatorLemmas.{kept_settled, kept_live}
-use Rattle.ox_outputs.specs.Locator.{live_at}
+use Rattle.ox_outputs.proofs.LocatorLemmas.{kept_settled}
 use Rattle.ox_outputs.proofs.locator.Locator.settle.Goals as goal
 
 pub settle-requires : goal.settle-requires

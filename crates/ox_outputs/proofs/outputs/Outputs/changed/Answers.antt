@@ -1,10 +1,7 @@
-use Rattle.std.proofs.Common.{◌≡◌, ◌∙◌, List, Option, Some, sym, ap, subst}
-use Rattle.ox_block.specs.declared.block.OutPoint.{OutPoint}
-use Rattle.ox_rules.specs.Differences.{Differ, Difference}
-use Rattle.ox_rules.specs.Outputs.{Outputs as Rows, outpoint_cmp}
-use Rattle.ox_rules.specs.declared.rows.OutRow.{OutRow}
+use Rattle.std.proofs.Common.{◌≡◌, ◌∙◌, subst}
+use Rattle.ox_rules.specs.Differences.{Differ}
+use Rattle.ox_rules.specs.Outputs.{Outputs as Rows}
 use Rattle.ox_outputs.specs.Slots.{rows_of, undone}
-use Rattle.ox_outputs.specs.Table.{marked_in, rows_in}
 use Rattle.ox_outputs.proofs.DifferingRows.{if_ok, mark_is}
 use Rattle.ox_outputs.proofs.outputs.Outputs.changed.Goals as goal
 

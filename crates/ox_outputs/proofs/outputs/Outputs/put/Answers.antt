@@ -1,4 +1,4 @@
-use Rattle.std.proofs.Common.{◌≡◌, ◌∙◌, sym, ap, subst}
+use Rattle.std.proofs.Common.{sym, subst}
 use Rattle.ox_rules.specs.Outputs.{Outputs as Rows}
 use Rattle.ox_outputs.specs.Differing.{FitIn}
 use Rattle.ox_outputs.specs.Table.{rows_in}
