@@ -118,8 +118,8 @@ pub(crate) fn gather(alloc: Global, holders: &mut Holders, inputs: &[TxIn]) -> R
 
 /// Whether nothing stands at the first so many outpoints of a transaction.
 pub(crate) fn are_free(holders: &Holders, txid: Txid, count: u32) -> bool
-    ensures { IsTrue result → (index : ℕ) → index < count
-        → map.get (held_in holders.now) (record { txid = txid; index = index }) ≡ None }
+    ensures { IsTrue result ↔ ((index : ℕ) → index < count
+        → map.get (held_in holders.now) (record { txid = txid; index = index }) ≡ None) }
 {
     if count == 0 {
         return true;

@@ -24,7 +24,7 @@ returns-then-are_free-clause-ok c =
     let pool_is = hand_pool at c.args.body.now c.args.spent.now state c.in_ok-artifact.artifact c.mint_by-mint.result c.etching_by-etching.result (runes_of c.bring.new.self) c.in_ok-pool.pool found
     c.take_up.new.pool c.in_ok-take_up.ensures.pool in
     nothing_to_do at c.args.body.now c.args.spent.now state (runes_of c.take_up.new.self) c.take_up.new.pool c.in_ok-count.count mid_is pool_is (sym c.is_empty.ensures ∙ c.if-is_empty.true) c.if-tx-ne0.true
-    (c.in_ok-count.ensures.count ∙ ap length c.as_slice-outputs.ensures) (c.are_free.ensures c.if-are_free.true)
+    (c.in_ok-count.ensures.count ∙ ap length c.as_slice-outputs.ensures) (c.are_free.ensures.0 c.if-are_free.true)
 
 pub give-requires-clause-count : goal.give-requires-clause-count
 give-requires-clause-count c =
