@@ -1,23 +1,18 @@
 -- What a map of balances with a mark shows, as a finite map.
-use Rattle.std.proofs.Common.{◌≡◌, ◌∙◌, ℕ, Bool, true, false, true≢false, cond, List, [], ◌∷◌, refl, sym, ap, subst, arith, ◌+◌, ◌≤◌, Option, Some, None, is_some, Ordering}
+use Rattle.std.proofs.Common.{◌≡◌, ◌∙◌, ℕ, Bool, Bor, ◌⊎◌, inl, inr, true, false, true≢false, cond, List, [], ◌∷◌, refl, sym, ap, subst, arith, ◌+◌, ◌≤◌, Option, Some, None, is_some, Ordering}
 use Rattle.std.specs.Prelude.{IsSome, if◌then◌else◌, length, ◌==◌, Result, Ok, Err, OnOk}
-use Rattle.std.specs.Option.{IfSome, unwrap_or}
+use Rattle.std.specs.Option.{IfSome, option_copied, unwrap_or}
 use Rattle.std.specs.Ordering.{eq_by_cmp, is_eq}
 use Rattle.std.specs.Map.{lookup}
 use Rattle.std.specs.BTreeMap.{is_at}
 use Rattle.std.specs.declared.cmp.Ordering.TheVariants.{Less, Equal, Greater}
 use Rattle.std.specs.Cmp.{eq_by_cmp_equiv}
-use Rattle.std.specs.declared.ops.Bound.TheVariants.{Included}
-use Rattle.std.specs.FinMap.{from_entries, get, get-from_entries, get-insert, get-remove, nat_cmp-IsAntisymmetric, remove, same_map, slice_cmp-IsAntisymmetric}
+use Rattle.std.specs.FinMap.{from_entries, get, get-from_entries, get-insert, get-remove, remove, same_map}
 use Rattle.ox_block.specs.declared.block.OutPoint.{OutPoint}
 use Rattle.ox_marked.specs.Marked.{Layers, content_in, mark_in}
 use Rattle.ox_rules.specs.Outputs.{outpoint_cmp}
 use Rattle.ox_rules.proofs.Orders.{outpoints_total, outpoints_exact}
-use Rattle.std.proofs.lemmas.Bool.Decides.{nat_tests}
-use Rattle.std.specs.Cmp.{tied_itself}
-use Rattle.std.specs.Cmp.Lexicographic.{nat_list_cmp_total, slice_cmp}
-use Rattle.std.specs.Ordering.{is_gt, nat_cmp, ordering_reverse, ordering_then}
-use Rattle.std.specs.BTreeMap.Range.{IsInRange, IsLeBy}
+use Rattle.std.proofs.lemmas.Bool.{cases_lt}
 use Rattle.std.specs.Prelude.{slice_index_or, drop, ◌^◌, ◌<◌}
 use Rattle.std.proofs.lemmas.List.{at_drop_more, at_drop_all}
 use Rattle.ox_block.specs.declared.block.TxIn.{TxIn}
@@ -215,27 +210,22 @@ gathers_all all bal pool gathers = gathers.whole
 
 -- ---- outpoints of one transaction
 
-not_past : (a b : ℕ) → a ≤ b → is_gt (nat_cmp a b) ≡ false
-not_past a b less = grind (arith, nat_tests)
+-- nothing stands at the first so many
+abbrev pub AreFree : Held → Txid → ℕ → Type 0
+AreFree map txid count = (index : ℕ) → index < count → get (held_in map) (record { txid = txid; index = index }) ≡ None
 
-pub in_order : (txid : Txid) (a b : ℕ) → a ≤ b → IsLeBy outpoint_cmp (record { txid = txid; index = a }) (record { txid = txid; index = b })
-in_order txid a b less = ap (λ r. is_gt (ordering_then r (nat_cmp a b))) (tied_itself nat_list_cmp_total txid.0) ∙ not_past a b less
+-- one more at which a look-up finds nothing
+pub one_more_free : (map : Held) (txid : Txid) (count : ℕ) → AreFree map txid count → content_in outpoint_cmp map (record { txid = txid; index = count }) ≡ None → AreFree map txid (count + 1)
+one_more_free map txid count free none index less = by_last (cases_lt index count) where
+  by_last : (index < count) ⊎ (count ≤ index) → get (held_in map) (record { txid = txid; index = index }) ≡ None
+  by_last (inl before) = free index before
+  by_last (inr last) = get-held_in map (record { txid = txid; index = index })
+      ∙ ap (λ (i : ℕ). content_in outpoint_cmp map (record { txid = txid; index = i })) (omega (arith, less, last)) ∙ none
 
-to_order : (a b : ℕ) → is_gt (nat_cmp a b) ≡ false → a ≤ b
-to_order a b less = grind (arith, nat_tests)
+pub copied_none : {T : Type 0} (found : Option (Bor T)) → is_some found ≡ false → option_copied found ≡ None
+copied_none None is = refl
+copied_none (Some value) is = absurd (true≢false is)
 
-ids_tied : (r s t u : Ordering) → s ≡ ordering_reverse r → is_gt (ordering_then r t) ≡ false → is_gt (ordering_then s u) ≡ false → r ≡ Equal
-ids_tied Less s t u turned low high = absurd (cc (sym (ap (λ (o : Ordering). is_gt (ordering_then o u)) turned) ∙ high))
-ids_tied Equal s t u turned low high = refl
-ids_tied Greater s t u turned low high = absurd (cc low)
-
--- what stands between two outpoints of a transaction is one of that transaction
-pub between_two : (txid : Txid) (a b : ℕ) (q : OutPoint) → IsInRange outpoint_cmp (Included (record { txid = txid; index = a })) (Included (record { txid = txid; index = b })) q
-    → (q ≡ record { txid = txid; index = q.index }) × (q.index ≤ b)
-between_two txid a b q within =
-    let turned = nat_list_cmp_total.antisymm q.txid.0 txid.0 in
-    let tie = ids_tied (slice_cmp nat_cmp txid.0 q.txid.0) (slice_cmp nat_cmp q.txid.0 txid.0) (nat_cmp a q.index) (nat_cmp q.index b) turned within.0 within.1 in
-    let same : txid.0 ≡ q.txid.0 = slice_cmp-IsAntisymmetric nat_cmp-IsAntisymmetric txid.0 q.txid.0 tie in
-    let other : slice_cmp nat_cmp q.txid.0 txid.0 ≡ Equal = turned ∙ ap ordering_reverse tie in
-    let last : is_gt (nat_cmp q.index b) ≡ false = sym (ap (λ (o : Ordering). is_gt (ordering_then o (nat_cmp q.index b))) other) ∙ within.1 in
-    (λ i. record { txid = record { 0 = sym same i }; index = q.index }, to_order q.index b last)
+pub copied_some : {T : Type 0} (found : Option (Bor T)) → is_some found ≡ true → option_copied found ≡ None → ⊥
+copied_some None is none = true≢false (sym is)
+copied_some (Some value) is none = true≢false (ap is_some none)

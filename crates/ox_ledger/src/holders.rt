@@ -116,20 +116,18 @@ pub(crate) fn gather(alloc: Global, holders: &mut Holders, inputs: &[TxIn]) -> R
     Ok(pool)
 }
 
-/// Whether nothing stands at the first so many outpoints of a transaction.
+/// Whether nothing stands at the first so many outpoints of a transaction: a look-up for each, up
+/// to the first at which something stands.
 pub(crate) fn are_free(holders: &Holders, txid: Txid, count: u32) -> bool
     ensures { IsTrue result ↔ ((index : ℕ) → index < count
         → map.get (held_in holders.now) (record { txid = txid; index = index }) ≡ None) }
 {
-    if count == 0 {
-        return true;
+    for index in 0..count {
+        if holders.get(&OutPoint { txid, index }).is_some() {
+            return false;
+        }
     }
-    let first = OutPoint { txid, index: 0 };
-    let last = OutPoint {
-        txid,
-        index: count - 1,
-    };
-    holders.is_empty_between(&first, &last)
+    true
 }
 
 /// The balances of outputs that are gone since a mark, and those that came.

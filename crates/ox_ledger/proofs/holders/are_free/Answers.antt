@@ -1,19 +1,23 @@
-use Rattle.std.proofs.Common.{◌∙◌, ◌-◌, arith, ap, sym}
-use Rattle.std.specs.FinMap as map
-use Rattle.ox_ledger.specs.Shown.{held_in}
-use Rattle.ox_ledger.proofs.HolderLemmas.{between_two, get-held_in, in_order}
+use Rattle.std.proofs.Common.{◌∙◌, arith, sym, refl, true≢false}
+use Rattle.ox_ledger.proofs.HolderLemmas.{copied_none, copied_some, get-held_in, one_more_free}
 use Rattle.ox_ledger.proofs.holders.are_free.Goals as goal
 
-pub is_empty_between-requires-clause-order : goal.is_empty_between-requires-clause-order
-is_empty_between-requires-clause-order c = in_order c.args.txid 0 (c.args.count - 1) (omega arith)
+pub loop-index-init : goal.loop-index-init
+loop-index-init c index less = absurd (omega (arith, less))
+
+pub returns-then-is_some : goal.returns-then-is_some
+returns-then-is_some c = (
+  λ free. absurd (true≢false (sym free)),
+  λ free. absurd (copied_some c.get.result (sym c.if-is_some.ensures)
+      (c.get.ensures ∙ sym (get-held_in c.args.holders.now (record { txid = c.args.txid; index = c.loop-index.index })) ∙ free c.loop-index.index c.loop-index-test.true)),
+)
+
+pub loop-index-preserved : goal.loop-index-preserved
+loop-index-preserved c = one_more_free c.args.holders.now c.args.txid c.loop-index.index c.loop-index.invariant
+    (sym c.get.ensures ∙ copied_none c.get.result (sym c.if-is_some.ensures))
 
 pub returns : goal.returns
 returns c = (
-  λ free index less.
-      get-held_in c.args.holders.now (record { txid = c.args.txid; index = index })
-      ∙ c.is_empty_between.ensures.0 free (record { txid = c.args.txid; index = index })
-      (in_order c.args.txid 0 index (omega arith), in_order c.args.txid index (c.args.count - 1) (omega (arith, less))),
-  λ none. c.is_empty_between.ensures.1 (λ q within.
-      let is = between_two c.args.txid 0 (c.args.count - 1) q within in
-      sym (get-held_in c.args.holders.now q) ∙ ap (map.get (held_in c.args.holders.now)) is.0 ∙ none q.index (omega (arith, is.1))),
+  λ free index less. c.loop-index.invariant index (omega (arith, less, c.loop-index-test.false, c.loop-index.auto.index-end)),
+  λ none. refl,
 )
