@@ -1,2 +1,2 @@
-pub mod Between
+pub mod ChangedKeys
 pub mod Settled

@@ -1,14 +1,11 @@
 //! A map with a mark.
 
-ghost use Rattle.std.specs.Prelude.{◌≡◌, ◌↔◌, IsTrue, IsSome, Some, None, OnOk, OnErr, IfOk};
+ghost use Rattle.std.specs.Prelude.{◌≡◌, IsSome, Some, None, OnOk, OnErr, IfOk};
 ghost use Rattle.std.specs.Prelude.{if◌then◌else◌, true, false};
 ghost use Rattle.std.specs.List.{list_any};
 ghost use Rattle.std.specs.List.Sorted.{IsStrictlySortedBy};
 ghost use Rattle.std.specs.Ordering.{is_eq};
 ghost use Rattle.std.specs.Option.{option_copied, IfSome, IsSomeAnd};
-ghost use Rattle.std.specs.BTreeMap as tree;
-ghost use Rattle.std.specs.BTreeMap.Range.{IsInRange, IsLeBy};
-ghost use Rattle.std.specs.declared.ops.Bound.TheVariants.{Included};
 ghost use Rattle.ox_marked.specs.Marked.{Layers, content_in, mark_in, is_changed};
 ghost use Rattle.ox_shards.specs.Shards.{value_at};
 
@@ -147,18 +144,6 @@ impl<K: Sharded, V> Marked<K, V> {
     {
         Ok(self.changes.keys().copied().collect(self.alloc)?)
     }
-
-    /// Whether no key from the first to the second, both among them, has a value. The two are near,
-    /// so that all keys between them stand in one shard.
-    pub fn is_empty_between(&self, from: &K, to: &K) -> bool
-        requires order { IsLeBy K.cmp from.now to.now }
-        requires near { K.AreNear from.now to.now }
-        ensures { IsTrue result ↔ ((q : K) → IsInRange K.cmp (Included from.now) (Included to.now) q
-            → content_in K.cmp self.now q ≡ None) }
-    {
-        puts_none_between(&self.changes, *from, *to)
-            && is_hidden_between(&self.below, &self.changes, *from, *to)
-    }
 }
 
 // Puts a change at a key into what lies below. Where there is no memory, both are as they were.
@@ -183,47 +168,4 @@ fn settle<K: Sharded, V: Drop>(
             Err(Memory)
         }
     }
-}
-
-// Whether no value was put at a key from the first to the second.
-fn puts_none_between<K: Ord + Copy, V>(changes: &BTreeMap<K, Option<V>>, from: K, to: K) -> bool
-    requires { IsLeBy K.cmp from to }
-    ensures { IsTrue result ↔ ((q : K) → IsInRange K.cmp (Included from) (Included to) q
-        → IfSome (tree.get K.cmp changes.now q) (λ value. value ≡ None)) }
-{
-    changes.range(from..=to).all(|(_, value)| value.is_none())
-}
-
-// Whether each key below from the first to the second was taken out.
-fn is_hidden_between<K: Sharded, V>(
-    below: &Shards<K, V>,
-    changes: &BTreeMap<K, Option<V>>,
-    from: K,
-    to: K,
-) -> bool
-    requires order { IsLeBy K.cmp from to }
-    requires near { K.AreNear from to }
-    ensures { IsTrue result ↔ ((q : K) → IsInRange K.cmp (Included from) (Included to) q
-        → IsSome (value_at K.cmp below.now q) → tree.get K.cmp changes.now q ≡ Some None) }
-{
-    match below.shard_of(&from) {
-        Some(shard) => is_taken_between(shard, changes, from, to),
-        None => true,
-    }
-}
-
-// Whether each key of a shard from the first to the second was taken out.
-fn is_taken_between<K: Ord + Copy, V>(
-    shard: &BTreeMap<K, V>,
-    changes: &BTreeMap<K, Option<V>>,
-    from: K,
-    to: K,
-) -> bool
-    requires { IsLeBy K.cmp from to }
-    ensures { IsTrue result ↔ ((q : K) → IsInRange K.cmp (Included from) (Included to) q
-        → IsSome (tree.get K.cmp shard.now q) → tree.get K.cmp changes.now q ≡ Some None) }
-{
-    shard
-        .range(from..=to)
-        .all(|(key, _)| matches!(changes.get(key), Some(None)))
 }

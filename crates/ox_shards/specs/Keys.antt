@@ -1,15 +1,8 @@
 -- In which shard of a map keys stand.
-use Rattle.std.specs.Prelude.{◌≡◌, ℕ, ◌+◌, ◌*◌, List, slice_index_or}
+use Rattle.std.specs.Prelude.{ℕ, ◌+◌, ◌*◌, ◌%◌, slice_index_or}
 use Rattle.ox_block.specs.declared.block.OutPoint.{OutPoint}
 
--- the shard of an id: its first two bytes
-abbrev pub id_shard : List ℕ → ℕ
-id_shard id = slice_index_or id 0 0 * 256 + slice_index_or id 1 0
-
--- an outpoint stands in the shard of its transaction
+-- the shard of an outpoint, of 65,536: by the first two bytes of the id, and the index
 abbrev pub outpoint_shard : OutPoint → ℕ
-outpoint_shard o = id_shard o.txid.0
-
--- outpoints of one transaction
-abbrev pub AreOfOneTransaction : OutPoint → OutPoint → Type 0
-AreOfOneTransaction a b = a.txid.0 ≡ b.txid.0
+outpoint_shard o =
+    (slice_index_or o.txid.0 0 0 * 256 + slice_index_or o.txid.0 1 0 + o.index) % 65536

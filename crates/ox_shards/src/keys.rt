@@ -1,9 +1,7 @@
 //! Keys that say in which shard of a map they stand.
 
-ghost use Rattle.std.specs.Prelude.{◌≡◌, ℕ, ◌<◌, ⊤, true};
+ghost use Rattle.std.specs.Prelude.{◌≡◌, ℕ, ◌<◌, true};
 ghost use Rattle.std.specs.Ordering.{is_eq};
-ghost use Rattle.std.specs.BTreeMap.Range.{IsInRange};
-ghost use Rattle.std.specs.declared.ops.Bound.TheVariants.{Included};
 ghost use Rattle.std.proofs.Common.{refl};
 
 use ox_block::OutPoint;
@@ -20,9 +18,6 @@ pub trait Sharded: Ord + Copy {
     /// The shard in which a key stands, counted from 0.
     ghost shard: { Self → ℕ };
 
-    /// Whether two keys are so near that all keys between them stand in one shard.
-    ghost AreNear: { Self → Self → Type 0 };
-
     /// The shard in which this key stands, counted from 0.
     fn shard(&self) -> usize
         ensures value { result ≡ shard self.now }
@@ -30,16 +25,13 @@ pub trait Sharded: Ord + Copy {
 
     /// Equal keys stand in one shard.
     ghost alike: { (a b : Self) → is_eq (Self.cmp a b) ≡ true → shard a ≡ shard b };
-
-    /// All keys between two near ones stand in the shard of the first.
-    ghost between: { (a b q : Self) → AreNear a b
-        → IsInRange Self.cmp (Included a) (Included b) q → shard q ≡ shard a };
 }
 
-/// By the first two bytes of the transaction's id, which is a hash.
+/// By the first two bytes of the transaction's id, which is a hash, and the index, so that a
+/// transaction's outputs stand in as many shards.
 impl Sharded for OutPoint {
-    ghost use Rattle.ox_shards.specs.Keys.{outpoint_shard, AreOfOneTransaction};
-    ghost use Rattle.ox_shards.specs.Laws.{outpoints_alike, outpoints_between};
+    ghost use Rattle.ox_shards.specs.Keys.{outpoint_shard};
+    ghost use Rattle.ox_shards.specs.Laws.{outpoints_alike};
 
     ghost SHARDS = { 65536 };
 
@@ -47,16 +39,12 @@ impl Sharded for OutPoint {
 
     ghost shard = { outpoint_shard };
 
-    ghost AreNear = { AreOfOneTransaction };
-
     fn shard(&self) -> usize {
         let id = &self.txid.0;
-        usize::from(id[0]) * 256 + usize::from(id[1])
+        (usize::from(id[0]) * 256 + usize::from(id[1]) + self.index as usize) % Self::SHARDS
     }
 
     ghost alike = { outpoints_alike };
-
-    ghost between = { outpoints_between };
 }
 
 /// Runes are few: one shard.
@@ -67,15 +55,11 @@ impl Sharded for RuneId {
 
     ghost shard = { λ _. 0 };
 
-    ghost AreNear = { λ _ _. ⊤ };
-
     fn shard(&self) -> usize {
         0
     }
 
     ghost alike = { λ _ _ _. refl };
-
-    ghost between = { λ _ _ _ _ _. refl };
 }
 
 /// Places of a list, which are few: one shard.
@@ -86,15 +70,11 @@ impl Sharded for u32 {
 
     ghost shard = { λ _. 0 };
 
-    ghost AreNear = { λ _ _. ⊤ };
-
     fn shard(&self) -> usize {
         0
     }
 
     ghost alike = { λ _ _ _. refl };
-
-    ghost between = { λ _ _ _ _ _. refl };
 }
 
 /// Names of runes, which are few: one shard.
@@ -105,13 +85,9 @@ impl Sharded for u128 {
 
     ghost shard = { λ _. 0 };
 
-    ghost AreNear = { λ _ _. ⊤ };
-
     fn shard(&self) -> usize {
         0
     }
 
     ghost alike = { λ _ _ _. refl };
-
-    ghost between = { λ _ _ _ _ _. refl };
 }

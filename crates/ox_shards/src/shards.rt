@@ -39,9 +39,9 @@ impl<K: Sharded, V> Shards<K, V> {
         }
     }
 
-    /// The ordered map in which all keys of this one's shard stand. `None` comes only where no key
-    /// has a value.
-    pub fn shard_of(&self, key: &K) -> Option<&BTreeMap<K, V>>
+    // The ordered map in which all keys of this one's shard stand. `None` comes only where no key
+    // has a value.
+    fn shard_of(&self, key: &K) -> Option<&BTreeMap<K, V>>
         ensures some { IfSome result (λ map. (q : K) → K.shard q ≡ K.shard key.now
             → tree.get K.cmp map.now q ≡ value_at K.cmp self.now q) }
         ensures none { IfNone result ((q : K) → value_at K.cmp self.now q ≡ None) }

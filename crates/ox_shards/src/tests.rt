@@ -15,7 +15,7 @@ fn outpoint(first: u8, second: u8, third: u8, index: u32) -> OutPoint {
     }
 }
 
-/// Four outpoints: two of one shard, one at each end of all.
+/// Four outpoints: two of one shard, one at each end of all ids.
 fn four_outpoints() -> [OutPoint; 4] {
     [
         outpoint(7, 9, 1, 0),
@@ -54,8 +54,7 @@ fn each_key_has_its_own_value(rt: HostRuntime) {
 fn nothing_is_there_before_a_value_is_put_in(rt: HostRuntime) {
     let mut map: Shards<OutPoint, u64> = Shards::new(rt.alloc());
     let [a, _, _, _] = four_outpoints();
-    assert!(rt; has(&map, a, None) && map.shard_of(&a).is_none());
-    assert!(rt; map.remove(&a).is_none() && map.shard_of(&a).is_none());
+    assert!(rt; has(&map, a, None) && map.remove(&a).is_none());
 }
 
 #[test]
@@ -69,16 +68,18 @@ fn a_value_is_displaced_and_taken_out(rt: HostRuntime) {
 }
 
 #[test]
-fn a_shard_has_the_outpoints_of_a_transaction(rt: HostRuntime) {
-    let mut map = map_of_four(&rt, rt.alloc());
-    map.insert(outpoint(7, 9, 1, 5), 50).expect(&rt, "memory");
-    match map.shard_of(&outpoint(7, 9, 1, 3)) {
-        Some(shard) => {
-            assert!(rt; shard.contains_key(&outpoint(7, 9, 1, 0)) && shard.len() == 3);
-            assert!(rt; shard.contains_key(&outpoint(7, 9, 1, 5)));
-        }
-        None => rt.abort(),
+fn outputs_of_a_transaction_are_told_apart(rt: HostRuntime) {
+    let mut map = Shards::new(rt.alloc());
+    for index in [0, 1, 65_536, 65_537, u32::MAX] {
+        map.insert(outpoint(7, 9, 1, index), u64::from(index))
+            .expect(&rt, "memory");
     }
+    assert!(rt;
+        has(&map, outpoint(7, 9, 1, 0), Some(0)) && has(&map, outpoint(7, 9, 1, 1), Some(1))
+    );
+    assert!(rt; has(&map, outpoint(7, 9, 1, 65_536), Some(65_536)));
+    assert!(rt; has(&map, outpoint(7, 9, 1, u32::MAX), Some(u64::from(u32::MAX))));
+    assert!(rt; has(&map, outpoint(7, 9, 1, 2), None) && has(&map, outpoint(7, 10, 1, 0), None));
 }
 
 #[test]
@@ -88,14 +89,10 @@ fn keys_of_one_shard_all_stand_in_it(rt: HostRuntime) {
         map.insert(key, u64::from(key)).expect(&rt, "memory");
     }
     assert!(rt; has(&map, 0, Some(0)) && has(&map, 999, Some(999)) && has(&map, 1_000, None));
-    match map.shard_of(&7) {
-        Some(shard) => assert!(rt; shard.len() == 1_000),
-        None => rt.abort(),
-    }
 }
 
 #[test]
-fn a_thousand_outpoints_stand_in_as_many_shards(rt: HostRuntime) {
+fn a_thousand_outpoints_are_taken_out(rt: HostRuntime) {
     let mut map = Shards::new(rt.alloc());
     for key in 0..1_000u32 {
         let at = outpoint((key / 256) as u8, (key % 256) as u8, 0, key);

@@ -1,7 +1,7 @@
 use Rattle.std.proofs.Common.{rules, ◌≡◌, map, ap, ◌∙◌, is_eq}
 use Rattle.std.specs.List.{list_any}
 use Rattle.ox_marked.specs.Marked.{is_changed}
-use Rattle.ox_marked.proofs.Between.{keys_tell}
+use Rattle.ox_marked.proofs.ChangedKeys.{keys_tell}
 use Rattle.ox_marked.proofs.marked.Marked.changed.Goals as goal
 
 pub returns-clause-put : goal.returns-clause-put
