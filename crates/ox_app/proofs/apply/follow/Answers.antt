@@ -121,3 +121,9 @@ returns-in_err-carried-clause-out_of_memory g c told stood is =
     (g.S.Site.log c.args.site.now) (g.S.Site.log c.loop-lines.site) (g.S.Site.log c.next_carried.new.site)
     (c.in_err-carried.ensures.out_of_memory (kept.1.as_told ∙ told) (kept.3 told stood) (ap Err (same_stop c.in_err-carried.field-0.0 Memory (rw (p.1, p.2) at is))))
     kept.0 c.in_err-carried.ensures.told
+
+pub returns-in_err-show_all-clause-calls : goal.returns-in_err-show_all-clause-calls
+returns-in_err-show_all-clause-calls g c =
+    calls_then g.S.Site c.args.site.now c.next_carried.new.site c.show_all.new.site
+    (calls_then g.S.Site c.args.site.now c.loop-lines.site c.next_carried.new.site c.loop-lines.invariant.1 c.next_carried.ensures.calls)
+    (rw c.as_slice.ensures at c.show_all.ensures.talks).calls

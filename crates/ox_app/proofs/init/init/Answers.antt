@@ -2,8 +2,8 @@ use Rattle.std.proofs.Common.{◌∙◌, List, ℕ, ap, inl, inr, subst}
 use Rattle.std.specs.Prelude.{Err, Ok}
 use Rattle.ox_outside.specs.Log.{Grows}
 use Rattle.ox_app.specs.Show.{ShowsReply}
-use Rattle.ox_app.specs.declared.status.Status.TheVariants.{Done}
-use Rattle.ox_app.proofs.Images.{only_looked, looked_then_talked, made_then_talked, reply_whole}
+use Rattle.ox_app.specs.declared.status.Status.TheVariants.{Done, ShowFault}
+use Rattle.ox_app.proofs.Images.{only_looked, looked_then_talked, made_then_talked, reply_front, reply_whole}
 use Rattle.ox_app.proofs.init.init.Goals as goal
 
 pub returns-in-Ok-show_all-clause-made_before : goal.returns-in-Ok-show_all-clause-made_before
@@ -38,3 +38,8 @@ pub returns-in-Ok-show_all-clause-shows : goal.returns-in-Ok-show_all-clause-sho
 returns-in-Ok-show_all-clause-shows g c isnt =
     subst (λ (l : List ℕ). Grows (ShowsReply l Done) (g.S.Site.log c.args.site.now) (g.S.Site.log c.show_all.new.site)) c.empty_line.ensures.text
     (reply_whole _ (g.S.Site.log c.args.site.now) (g.S.Site.log c.make.new.site) (g.S.Site.log c.show_all.new.site) c.make.ensures.logged c.in-Ok-show_all.ensures.told)
+
+pub returns-in-Ok-clause-shows : goal.returns-in-Ok-clause-shows
+returns-in-Ok-clause-shows g c isnt =
+    subst (λ (l : List ℕ). Grows (ShowsReply l ShowFault) (g.S.Site.log c.args.site.now) (g.S.Site.log c.show_all.new.site)) c.empty_line.ensures.text
+    (reply_front _ ShowFault (g.S.Site.log c.args.site.now) (g.S.Site.log c.make.new.site) (g.S.Site.log c.show_all.new.site) (λ is. absurd (cc is)) c.make.ensures.logged c.in-Err.ensures.told)
