@@ -41,25 +41,57 @@ fn row_of(rt: &impl Abort, alloc: Global, length: usize, height: u32) -> OutRow
     }
 }
 
-/// Places a row at this outpoint.
+/// Places a row at this outpoint, whose script has so many bytes.
 #[tactic(auto, using(crate::proofs::Nothing::insert_holds, crate::proofs::Nothing::may_stand))]
+pub(crate) fn put_at<O: OutTable>(
+    rt: &impl Abort,
+    alloc: Global,
+    table: &mut O,
+    at: &OutPoint,
+    length: usize,
+    height: u32,
+)
+    requires { HoldNothing (O.contents table.old) }
+    ensures rows { HoldNothing (O.contents table.new) }
+    ensures mark { O.marked table.new ≡ O.marked table.old }
+{
+    let row = row_of(rt, alloc, length, height);
+    table.place(at, row).expect(rt, "memory");
+}
+
+/// Takes the row at this outpoint, if there is one.
+#[tactic(auto, using(crate::proofs::Nothing::remove_holds))]
+pub(crate) fn take_at<O: OutTable>(rt: &impl Abort, table: &mut O, at: &OutPoint)
+    requires { HoldNothing (O.contents table.old) }
+    ensures rows { HoldNothing (O.contents table.new) }
+    ensures mark { O.marked table.new ≡ O.marked table.old }
+{
+    table.take(at).expect(rt, "memory");
+}
+
+/// Places a row at the outpoint of this number.
 fn put<O: OutTable>(rt: &impl Abort, alloc: Global, table: &mut O, number: u32, height: u32)
     requires { HoldNothing (O.contents table.old) }
     ensures rows { HoldNothing (O.contents table.new) }
     ensures mark { O.marked table.new ≡ O.marked table.old }
 {
-    let row = row_of(rt, alloc, length_at(number), height);
-    table.place(&outpoint(number), row).expect(rt, "memory");
+    put_at(
+        rt,
+        alloc,
+        table,
+        &outpoint(number),
+        length_at(number),
+        height,
+    );
 }
 
-/// Takes the row at this outpoint, if there is one.
-#[tactic(auto, using(crate::proofs::Nothing::remove_holds))]
+/// Takes the row at the outpoint of this number, if there is one.
 fn take<O: OutTable>(rt: &impl Abort, table: &mut O, number: u32)
     requires { HoldNothing (O.contents table.old) }
     ensures rows { HoldNothing (O.contents table.new) }
     ensures mark { O.marked table.new ≡ O.marked table.old }
 {
-    table.take(&outpoint(number)).expect(rt, "memory");
+    take_at(rt, table, &outpoint(number));
 }
 
 /// Rows at two of three outpoints of 300.
@@ -104,7 +136,7 @@ fn is_filled(table: &Outputs, number: u32) -> bool {
 
 /// No outputs.
 #[tactic(auto, using(crate::proofs::Nothing::none_hold))]
-fn fresh(alloc: Global) -> Outputs
+pub(crate) fn fresh(alloc: Global) -> Outputs
     ensures { HoldNothing (rows_in result) }
 {
     Outputs::new(alloc)
