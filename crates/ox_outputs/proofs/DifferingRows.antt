@@ -8,7 +8,7 @@ use Rattle.std.specs.List.Sorted.{IsStrictlySortedBy}
 use Rattle.std.specs.Map.{keys_of, lookup}
 use Rattle.std.specs.BTreeMap.{BTreeMap, is_at}
 use Rattle.std.specs.BTreeMap as trees
-use Rattle.std.specs.Ordering.{eq_by_cmp, is_eq, is_lt}
+use Rattle.std.specs.Ordering.{is_eq, is_lt}
 use Rattle.std.specs.Cmp.{eq_by_cmp_equiv}
 use Rattle.std.specs.FinMap.{find, get, get-remove, is_sorted, remove}
 use Rattle.std.specs.FinMap.Entries.{below_all}
@@ -28,10 +28,11 @@ use Rattle.ox_rules.proofs.DifferenceLemmas.{differs, get-with_rows, get-without
 use Rattle.ox_rules.proofs.MapSums.{total_remove}
 use Rattle.ox_rules.proofs.Orders.{outpoints_total, outpoints_exact}
 use Rattle.ox_outputs.specs.Differing.{FitIn, gone_at, row_at, row_unless, rows_for}
-use Rattle.ox_outputs.specs.Slots.{undone}
+use Rattle.ox_outputs.specs.Slots.{SlotList, outpoint_at, undone, AreSpots}
 use Rattle.ox_outputs.specs.Table.{EndsIn}
+use Rattle.ox_outputs.specs.declared.spot.Spot.{Spot}
 use Rattle.ox_outputs.proofs.PlaceLemmas.{is_same, same_or_not}
-use Rattle.ox_outputs.proofs.SlotLemmas.{get-put_slot}
+use Rattle.ox_outputs.proofs.SlotLemmas.{get-put_slot, spot_known}
 
 some_is : {X : Type 0} (x y : X) → Some x ≡ Some y → x ≡ y
 some_is x y is = cc
@@ -53,31 +54,53 @@ same_run-Decides a b =
 
 -- ---- the oldest change at an outpoint
 
-pub oldest_step : (changed : List OutPoint) (d : OutPoint) (left k : ℕ) (before : Option ℕ) (at : OutPoint) → k + 1 ≡ left → k < length changed
-    → before ≡ position_from (eq_by_cmp outpoint_cmp at) left (drop left changed)
-    → cond (is_same (get_or changed k d) at) (Some k) before ≡ position_from (eq_by_cmp outpoint_cmp at) k (drop k changed)
-oldest_step changed d left k before at next less is =
-    ap (λ (b : Bool). cond b (Some k) before) ((eq_by_cmp_equiv outpoints_total).symm (get_or changed k d) at)
-    ∙ ap (cond (is_same at (get_or changed k d)) (Some k)) (is ∙ ap (λ (n : ℕ). position_from (eq_by_cmp outpoint_cmp at) n (drop n changed)) (sym next))
-    ∙ sym (ap (position_from (eq_by_cmp outpoint_cmp at) k) (drop_more changed k d less))
+-- whether a spot is that of this outpoint
+abbrev pub is_of : OutPoint → Spot → Bool
+is_of at spot = is_same at spot.at
 
-pub place_within : (at : OutPoint) (changed : List OutPoint) (n place : ℕ) → position_from (eq_by_cmp outpoint_cmp at) n changed ≡ Some place → (n ≤ place) × (place < n + length changed)
+pub oldest_step : (changed : List Spot) (d : Spot) (left k : ℕ) (before : Option ℕ) (at : OutPoint) → k + 1 ≡ left → k < length changed
+    → before ≡ position_from (is_of at) left (drop left changed)
+    → cond (is_same (get_or changed k d).at at) (Some k) before ≡ position_from (is_of at) k (drop k changed)
+oldest_step changed d left k before at next less is =
+    ap (λ (b : Bool). cond b (Some k) before) ((eq_by_cmp_equiv outpoints_total).symm (get_or changed k d).at at)
+    ∙ ap (cond (is_same at (get_or changed k d).at) (Some k)) (is ∙ ap (λ (n : ℕ). position_from (is_of at) n (drop n changed)) (sym next))
+    ∙ sym (ap (position_from (is_of at) k) (drop_more changed k d less))
+
+pub place_within : (at : OutPoint) (changed : List Spot) (n place : ℕ) → position_from (is_of at) n changed ≡ Some place → (n ≤ place) × (place < n + length changed)
 place_within at [] n place is = absurd (cc is)
-place_within at (first ∷ changed) n place is = by_test (place_within at changed (n + 1) place) (is_same at first) is where
-  by_test : (position_from (eq_by_cmp outpoint_cmp at) (n + 1) changed ≡ Some place → (n + 1 ≤ place) × (place < n + 1 + length changed))
-      → (b : Bool) → cond b (Some n) (position_from (eq_by_cmp outpoint_cmp at) (n + 1) changed) ≡ Some place → (n ≤ place) × (place < n + length (first ∷ changed))
+place_within at (spot ∷ changed) n place is = by_test (place_within at changed (n + 1) place) (is_same at spot.at) is where
+  by_test : (position_from (is_of at) (n + 1) changed ≡ Some place → (n + 1 ≤ place) × (place < n + 1 + length changed))
+      → (b : Bool) → cond b (Some n) (position_from (is_of at) (n + 1) changed) ≡ Some place → (n ≤ place) × (place < n + length (spot ∷ changed))
   by_test more true is = let same : n ≡ place = some_is n place is in (omega (arith, same), omega (arith, same))
   by_test more false is = let rest = more is in (omega (arith, rest.0), omega (arith, rest.1))
 
+-- the spot there is the outpoint's
+pub place_of : (d : Spot) (at : OutPoint) (changed : List Spot) (n place : ℕ) → position_from (is_of at) n changed ≡ Some place → at ≡ (get_or changed (place - n) d).at
+place_of d at [] n place is = absurd (cc is)
+place_of d at (spot ∷ changed) n place is = by_same (place_of d at changed (n + 1) place) (same_or_not at spot.at) is where
+  by_same : (position_from (is_of at) (n + 1) changed ≡ Some place → at ≡ (get_or changed (place - (n + 1)) d).at)
+      → (at ≡ spot.at) ⊎ (is_same at spot.at ≡ false) → cond (is_same at spot.at) (Some n) (position_from (is_of at) (n + 1) changed) ≡ Some place
+      → at ≡ (get_or (spot ∷ changed) (place - n) d).at
+  by_same more (inl same) is =
+      let here : is_same at spot.at ≡ true = ap (is_same at) (sym same) ∙ same_itself at in
+      let first : n ≡ place = some_is n place (subst (λ (b : Bool). cond b (Some n) (position_from (is_of at) (n + 1) changed) ≡ Some place) here is) in
+      let none : place - n ≡ 0 = omega (arith, first) in
+      same ∙ sym (ap (λ (k : ℕ). (get_or (spot ∷ changed) k d).at) none)
+  by_same more (inr other) is =
+      let later : position_from (is_of at) (n + 1) changed ≡ Some place = subst (λ (b : Bool). cond b (Some n) (position_from (is_of at) (n + 1) changed) ≡ Some place) other is in
+      let within = place_within at changed (n + 1) place later in
+      let next : place - n ≡ suc (place - (n + 1)) = omega (arith, within.0) in
+      more later ∙ sym (ap (λ (k : ℕ). (get_or (spot ∷ changed) k d).at) next)
+
 -- what stood there
-pub stood_at : (before : List (Option OutRow)) (changed : List OutPoint) (outs : Outputs) (at : OutPoint) (n place : ℕ) → length before ≡ length changed
-    → position_from (eq_by_cmp outpoint_cmp at) n changed ≡ Some place → get (undone before changed outs) at ≡ get_or before (place - n) None
+pub stood_at : (before : List (Option OutRow)) (changed : List Spot) (outs : Outputs) (at : OutPoint) (n place : ℕ) → length before ≡ length changed
+    → position_from (is_of at) n changed ≡ Some place → get (undone before changed outs) at ≡ get_or before (place - n) None
 stood_at before [] outs at n place many is = absurd (cc is)
-stood_at [] (first ∷ changed) outs at n place many is = absurd (omega (arith, many))
-stood_at (row ∷ before) (first ∷ changed) outs at n place many is =
-    get-put_slot (undone before changed outs) first row at ∙ by_test (stood_at before changed outs at (n + 1) place (omega (arith, many))) (is_same at first) is where
-      by_test : (position_from (eq_by_cmp outpoint_cmp at) (n + 1) changed ≡ Some place → get (undone before changed outs) at ≡ get_or before (place - (n + 1)) None)
-          → (b : Bool) → cond b (Some n) (position_from (eq_by_cmp outpoint_cmp at) (n + 1) changed) ≡ Some place
+stood_at [] (spot ∷ changed) outs at n place many is = absurd (omega (arith, many))
+stood_at (row ∷ before) (spot ∷ changed) outs at n place many is =
+    get-put_slot (undone before changed outs) spot.at row at ∙ by_test (stood_at before changed outs at (n + 1) place (omega (arith, many))) (is_same at spot.at) is where
+      by_test : (position_from (is_of at) (n + 1) changed ≡ Some place → get (undone before changed outs) at ≡ get_or before (place - (n + 1)) None)
+          → (b : Bool) → cond b (Some n) (position_from (is_of at) (n + 1) changed) ≡ Some place
           → cond b row (get (undone before changed outs) at) ≡ get_or (row ∷ before) (place - n) None
       by_test more true is =
           let none : place - n ≡ 0 = let same : n ≡ place = some_is n place is in omega (arith, same) in
@@ -87,17 +110,17 @@ stood_at (row ∷ before) (first ∷ changed) outs at n place many is =
           let next : place - n ≡ suc (place - (n + 1)) = omega (arith, within.0) in
           more is ∙ sym (ap (λ (k : ℕ). get_or (row ∷ before) k None) next)
 
-pub stays_at : (before : List (Option OutRow)) (changed : List OutPoint) (outs : Outputs) (at : OutPoint) (n : ℕ)
-    → position_from (eq_by_cmp outpoint_cmp at) n changed ≡ None → get (undone before changed outs) at ≡ get outs at
+pub stays_at : (before : List (Option OutRow)) (changed : List Spot) (outs : Outputs) (at : OutPoint) (n : ℕ)
+    → position_from (is_of at) n changed ≡ None → get (undone before changed outs) at ≡ get outs at
 stays_at before [] outs at n none = by_rows before where
   by_rows : (rows : List (Option OutRow)) → get (undone rows [] outs) at ≡ get outs at
   by_rows [] = refl
   by_rows (row ∷ rows) = refl
-stays_at [] (first ∷ changed) outs at n none = refl
-stays_at (row ∷ before) (first ∷ changed) outs at n none =
-    get-put_slot (undone before changed outs) first row at ∙ by_test (stays_at before changed outs at (n + 1)) (is_same at first) none where
-      by_test : (position_from (eq_by_cmp outpoint_cmp at) (n + 1) changed ≡ None → get (undone before changed outs) at ≡ get outs at)
-          → (b : Bool) → cond b (Some n) (position_from (eq_by_cmp outpoint_cmp at) (n + 1) changed) ≡ None
+stays_at [] (spot ∷ changed) outs at n none = refl
+stays_at (row ∷ before) (spot ∷ changed) outs at n none =
+    get-put_slot (undone before changed outs) spot.at row at ∙ by_test (stays_at before changed outs at (n + 1)) (is_same at spot.at) none where
+      by_test : (position_from (is_of at) (n + 1) changed ≡ None → get (undone before changed outs) at ≡ get outs at)
+          → (b : Bool) → cond b (Some n) (position_from (is_of at) (n + 1) changed) ≡ None
           → cond b row (get (undone before changed outs) at) ≡ get outs at
       by_test more true none = absurd (cc none)
       by_test more false none = more none
@@ -179,13 +202,24 @@ pub all_there : (places : BTreeMap OutPoint ℕ) → trees.IsOrdered outpoint_cm
 all_there places ordered = λ k d less.
     btree_map_get_place outpoints_total places k (get_or places.entries k d).0 (get_or places.entries k d).1 ordered (slice_get-get_or places.entries k d less)
 
-pub stays_stood : (before : List (Option OutRow)) (changed : List OutPoint) (outs : Outputs) (at : OutPoint) (place : ℕ) (entries iterator : List (OutPoint × ℕ)) → length before ≡ length changed
-    → iterator ≡ entries → lookup (is_at (outpoint_cmp at)) iterator ≡ Some place → lookup (is_at (outpoint_cmp at)) entries ≡ position_from (eq_by_cmp outpoint_cmp at) 0 changed
+pub stays_stood : (before : List (Option OutRow)) (changed : List Spot) (outs : Outputs) (at : OutPoint) (place : ℕ) (entries iterator : List (OutPoint × ℕ)) → length before ≡ length changed
+    → iterator ≡ entries → lookup (is_at (outpoint_cmp at)) iterator ≡ Some place → lookup (is_at (outpoint_cmp at)) entries ≡ position_from (is_of at) 0 changed
     → get_or before place None ≡ get (undone before changed outs) at
 stays_stood before changed outs at place entries iterator many is there found =
-    let oldest : position_from (eq_by_cmp outpoint_cmp at) 0 changed ≡ Some place = sym found ∙ ap (λ (es : List (OutPoint × ℕ)). lookup (is_at (outpoint_cmp at)) es) (sym is) ∙ there in
+    let oldest : position_from (is_of at) 0 changed ≡ Some place = sym found ∙ ap (λ (es : List (OutPoint × ℕ)). lookup (is_at (outpoint_cmp at)) es) (sym is) ∙ there in
     let same : place - 0 ≡ place = omega arith in
     sym (stood_at before changed outs at 0 place many oldest ∙ ap (λ (k : ℕ). get_or before k None) same)
+
+-- the place among the changes that an entry gives is that of a spot of its outpoint
+pub stays_spot : (d : Spot) (changed : List Spot) (slots : SlotList) (at : OutPoint) (place : ℕ) (entries iterator : List (OutPoint × ℕ)) → AreSpots changed slots
+    → iterator ≡ entries → lookup (is_at (outpoint_cmp at)) iterator ≡ Some place → lookup (is_at (outpoint_cmp at)) entries ≡ position_from (is_of at) 0 changed
+    → (place < length changed) × (outpoint_at slots (get_or changed place d).place ≡ Some at)
+stays_spot d changed slots at place entries iterator known is there found =
+    let oldest : position_from (is_of at) 0 changed ≡ Some place = sym found ∙ ap (λ (es : List (OutPoint × ℕ)). lookup (is_at (outpoint_cmp at)) es) (sym is) ∙ there in
+    let within : place < length changed = let bounds = place_within at changed 0 place oldest in omega (arith, bounds.1) in
+    let same : place - 0 ≡ place = omega arith in
+    let here : at ≡ (get_or changed place d).at = place_of d at changed 0 place oldest ∙ ap (λ (k : ℕ). (get_or changed k d).at) same in
+    (within, spot_known d changed slots place within known ∙ ap Some (sym here))
 
 pub first_of_all : {X : Type 0} (P : X → Type 0) (iterator : List X) (e : X) (next : List X) → iterator ≡ e ∷ next → All P iterator → P e
 first_of_all P iterator e next is all = All-head P e next (subst (All P) is all)

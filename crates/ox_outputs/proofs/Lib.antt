@@ -1,6 +1,7 @@
 pub mod DifferingRows
 pub mod LocatorLemmas
 pub mod OutputsLemmas
+pub mod ListLemmas
 pub mod PlaceLemmas
 pub mod RowLemmas
 pub mod SlotLemmas

@@ -1,21 +1,23 @@
 -- What a change of the outputs leaves of their facts.
 use Rattle.std.proofs.Common.{◌≡◌, ◌∙◌, ℕ, refl, ap, sym, subst, List, [], ◌∷◌, Option, Some, None, Result, Ok, Err}
-use Rattle.std.specs.Prelude.{IfErr, IfOk, IsSomeAnd, IsTrue}
+use Rattle.std.specs.Prelude.{IfErr, IfOk, IfSome, IsSomeAnd}
+use Rattle.std.specs.Option.{option_map}
 use Rattle.std.specs.FinMap.{empty, get, get-empty, insert}
 use Rattle.ox_block.specs.declared.block.OutPoint.{OutPoint}
 use Rattle.ox_rules.specs.declared.rows.OutRow.{OutRow}
 use Rattle.ox_rules.specs.Outputs.{Outputs, MayStand, outpoint_cmp}
 use Rattle.ox_outputs.specs.declared.stretch.Stretch.{Stretch}
 use Rattle.ox_outputs.specs.Stretches.{AreApart}
-use Rattle.ox_outputs.specs.Slots.{SlotList, put_slot, undone, are_slots}
+use Rattle.ox_outputs.specs.Slots.{SlotList, put_slot, undone, AreSpots}
+use Rattle.ox_outputs.specs.declared.spot.Spot.{Spot}
 use Rattle.ox_outputs.specs.Located.{StandOnce, AreRuns, stretch_in}
 use Rattle.ox_outputs.proofs.SlotLemmas.{get-put_slot}
 use Rattle.ox_outputs.proofs.RowLemmas.{once_taken, once_placed, once_alike, runs_alike, held_in}
 
-pub undone_none : (before : List (Option OutRow)) (changed : List OutPoint) (outs : Outputs) → changed ≡ [] → undone before changed outs ≡ outs
+pub undone_none : (before : List (Option OutRow)) (changed : List Spot) (outs : Outputs) → changed ≡ [] → undone before changed outs ≡ outs
 undone_none [] changed outs none = refl
 undone_none (row ∷ before) [] outs none = refl
-undone_none (row ∷ before) (at ∷ changed) outs none = absurd (cc none)
+undone_none (row ∷ before) (spot ∷ changed) outs none = absurd (cc none)
 
 pub once_less : (outs outs' : Outputs) (at : OutPoint) → StandOnce outs → outs' ≡ put_slot outs at None → StandOnce outs'
 once_less outs outs' at once is = once_taken outs outs' at once (λ q. ap (λ (o : Outputs). get o q) is ∙ get-put_slot outs at None q)
@@ -58,6 +60,17 @@ none_apart live none = record { before = λ f g s t is js low. absurd (cc (is, n
 pub apart_among : (live live' : ℕ → Option Stretch) → AreApart live → ((q : ℕ) (s : Stretch) → live' q ≡ Some s → live q ≡ Some s) → AreApart live'
 apart_among live live' apart among = record { before = λ f g s t is js low. apart.before f g s t (among f s is) (among g t js) low }
 
-pub known_none : (ats : List OutPoint) (slots : SlotList) → ats ≡ [] → IsTrue (are_slots ats slots)
+pub known_none : (spots : List Spot) (slots : SlotList) → spots ≡ [] → AreSpots spots slots
 known_none [] slots none = refl
-known_none (at ∷ ats) slots none = absurd (cc none)
+known_none (spot ∷ spots) slots none = absurd (cc none)
+
+-- ---- what was taken, if anything was
+
+pub mapped_none : {X Y : Type 0} (f : X → Y) (o : Option X) (y : Option Y) → o ≡ None → option_map f o ≡ y → y ≡ None
+mapped_none f o y none is = sym is ∙ ap (option_map f) none
+
+pub mapped_some : {X Y : Type 0} (f : X → Y) (o : Option X) (x : X) (y : Option Y) → o ≡ Some x → option_map f o ≡ y → Some (f x) ≡ y
+mapped_some f o x y some is = sym (ap (option_map f) some) ∙ is
+
+pub so_of_some : {X : Type 0} (P : X → Type 0) (o : Option X) (x : X) → o ≡ Some x → IfSome o P → P x
+so_of_some P o x some is = subst (λ (o : Option _). IfSome o P) some is

@@ -1,20 +1,24 @@
--- Slots that each have a place of their own: what a change at one outpoint leaves.
-use Rattle.std.proofs.Common.{◌≡◌, ◌∙◌, ℕ, Bool, true, false, cond, [], ◌∷◌, refl, sym, ap, subst, Option, Some, None, true≢false, inl, inr, ⊎_elim}
+-- Slots that each have an outpoint of their own: what a change at one place leaves.
+use Rattle.std.proofs.Common.{◌≡◌, ◌≢◌, ◌∙◌, ℕ, zero, suc, Bool, true, false, cond, [], ◌∷◌, refl, sym, ap, subst, Option, Some, None, true≢false, inl, inr, ⊎_elim}
 use Rattle.std.specs.Prelude.{IsSome, ◌⊎◌}
 use Rattle.std.specs.Ordering.{eq_by_cmp}
 use Rattle.std.specs.Cmp.{eq_by_cmp_equiv}
-use Rattle.std.specs.Option.{option_map, option_flatten}
+use Rattle.std.specs.Option.{option_map, option_and_then}
 use Rattle.std.proofs.lemmas.Bool.{cases_eq}
-use Rattle.std.specs.FinMap as map
-use Rattle.slab.specs.Slab.{get, Updates}
+use Rattle.std.specs.FinMap.{get, get-empty, same_map}
+use Rattle.slab.specs.Slab.{Slab, Updates}
+use Rattle.slab.specs.Slab as slab
 use Rattle.ox_block.specs.declared.block.OutPoint.{OutPoint}
 use Rattle.ox_rules.specs.declared.rows.OutRow.{OutRow}
 use Rattle.ox_rules.specs.Outputs.{outpoint_cmp}
 use Rattle.ox_rules.proofs.Orders.{outpoints_total, outpoints_exact}
-use Rattle.ox_outputs.specs.Slots.{Places, Held, row_in, slots_in, place_at, slot_at, put_slot, rows_of, ArePlaced}
-use Rattle.ox_outputs.proofs.SlotLemmas.{held, equal, get-rows_of, rows_of_put, rows_of_take, still_there}
+use Rattle.ox_outputs.specs.declared.held.Slot.{Slot}
+use Rattle.ox_outputs.specs.declared.places.Places.{Places}
+use Rattle.ox_outputs.specs.Slots.{SlotList, outpoint_at, row_at, slot_with, put_slot, rows_of}
+use Rattle.ox_outputs.specs.Places.{other_at, HasPlace, ArePlaced}
+use Rattle.ox_outputs.proofs.SlotLemmas.{equal, get-put_slot}
 
--- ---- which slot it is
+-- ---- which outpoint it is
 
 abbrev pub is_same : OutPoint → OutPoint → Bool
 is_same a b = eq_by_cmp outpoint_cmp a b
@@ -25,233 +29,255 @@ same_or_not a b = by_test (is_same a b) refl where
   by_test true is = inl (outpoints_exact a b (equal _ is))
   by_test false is = inr is
 
-same_itself : (a : OutPoint) → is_same a a ≡ true
+pub same_itself : (a : OutPoint) → is_same a a ≡ true
 same_itself a = (eq_by_cmp_equiv outpoints_total).refl a
 
 pub not_both : (a b : OutPoint) → a ≡ b → is_same a b ≡ false → ⊥
 not_both a b same other = true≢false (sym (same_itself a) ∙ ap (is_same a) same ∙ other)
 
-the_place : (p q : ℕ) → ◌≡◌ {A = Option ℕ} (Some p) (Some q) → p ≡ q
-the_place p q is = cc is
-
-no_place : (p : ℕ) → ◌≡◌ {A = Option ℕ} None (Some p) → ⊥
-no_place p is = absurd (cc is)
-
 pub nothing_there : {X : Type 0} (o : Option X) → o ≡ None → IsSome o → ⊥
 nothing_there o none some = true≢false (sym (subst IsSome none some))
 
--- ---- slots as a list
+the_outpoint : (a b : OutPoint) → ◌≡◌ {A = Option OutPoint} (Some a) (Some b) → a ≡ b
+the_outpoint a b is = cc is
 
-map_cond : {A B : Type 0} (f : A → B) (b : Bool) (x : A) (rest : Option A) → option_map f (cond b (Some x) rest) ≡ cond b (Some (f x)) (option_map f rest)
-map_cond f true x rest = refl
-map_cond f false x rest = refl
+no_outpoint : (a : OutPoint) → ◌≡◌ {A = Option OutPoint} None (Some a) → ⊥
+no_outpoint a is = absurd (cc is)
 
-pub slot_at-slots_in : (places : Places) (s : Held) (q : OutPoint) → slot_at (slots_in places s) q ≡ option_map (row_in s) (place_at places q)
-slot_at-slots_in [] s q = refl
-slot_at-slots_in (e ∷ places) s q =
-    ap (λ (o : Option (Option OutRow)). cond (is_same q e.0) (Some (row_in s e.1)) o) (slot_at-slots_in places s q)
-    ∙ sym (map_cond (row_in s) (is_same q e.0) e.1 (place_at places q))
+pub no_place : (p : ℕ) → ◌≡◌ {A = Option ℕ} None (Some p) → ⊥
+no_place p is = absurd (cc is)
 
--- the row in the slot at an outpoint
-pub get-slots_in : (places : Places) (s : Held) (q : OutPoint) → map.get (rows_of (slots_in places s)) q ≡ held (option_map (row_in s) (place_at places q))
-get-slots_in places s q = get-rows_of (slots_in places s) q ∙ ap held (slot_at-slots_in places s q)
+-- ---- the rows of slots
 
--- where a slot has a place
-pub get-at_place : (places : Places) (s : Held) (q : OutPoint) (p : ℕ) → place_at places q ≡ Some p → map.get (rows_of (slots_in places s)) q ≡ row_in s p
-get-at_place places s q p is = get-slots_in places s q ∙ ap (λ (o : Option ℕ). held (option_map (row_in s) o)) is
+-- no two slots are of one outpoint
+abbrev pub AreApart : SlotList → Type 0
+AreApart slots = (at : OutPoint) (p q : ℕ) → outpoint_at slots p ≡ Some at → outpoint_at slots q ≡ Some at → p ≡ q
 
-pub get-nowhere : (places : Places) (s : Held) (q : OutPoint) → place_at places q ≡ None → map.get (rows_of (slots_in places s)) q ≡ None
-get-nowhere places s q is = get-slots_in places s q ∙ ap (λ (o : Option ℕ). held (option_map (row_in s) o)) is
+-- no slot is of this outpoint
+abbrev pub IsNowhere : SlotList → OutPoint → Type 0
+IsNowhere slots at = (p : ℕ) → outpoint_at slots p ≢ Some at
 
--- a slot that is there has a place
-pub place_of_slot : (places : Places) (s : Held) (q : OutPoint) → IsSome (slot_at (slots_in places s) q) → IsSome (place_at places q)
-place_of_slot places s q some = by_place (place_at places q) (subst IsSome (slot_at-slots_in places s q) some) where
-  by_place : (o : Option ℕ) → IsSome (option_map (row_in s) o) → IsSome o
-  by_place None some = some
-  by_place (Some p) some = refl
+rest_apart : (e : Option Slot) (slots : SlotList) → AreApart (e ∷ slots) → AreApart slots
+rest_apart e slots apart at p q one two = cc (apart at (suc p) (suc q) one two)
 
-abbrev some_row : Option (Option OutRow) → Option (Option OutRow)
-some_row o = Some (option_flatten o)
+-- the rows of slots of which the first isn't of this outpoint
+get-behind : (s : Slot) (slots : SlotList) (q : OutPoint) → (q ≡ s.at → ⊥) → get (rows_of (Some s ∷ slots)) q ≡ get (rows_of slots) q
+get-behind s slots q other = get-put_slot (rows_of slots) s.at s.row q ∙ by_test (same_or_not q s.at) where
+  by_test : (q ≡ s.at) ⊎ (is_same q s.at ≡ false) → cond (is_same q s.at) s.row (get (rows_of slots) q) ≡ get (rows_of slots) q
+  by_test (inl same) = absurd (other same)
+  by_test (inr is) = ap (λ (b : Bool). cond b s.row (get (rows_of slots) q)) is
 
-pub row_there : (s : Held) (p : ℕ) (row : Option OutRow) → get s p ≡ Some row → option_map (row_in s) (Some p) ≡ Some row
-row_there s p row is = ap some_row is
+-- where no slot is of an outpoint, no row stands there
+pub get-nowhere : (slots : SlotList) (q : OutPoint) → IsNowhere slots q → get (rows_of slots) q ≡ None
+get-nowhere [] q none = get-empty outpoint_cmp q
+get-nowhere (None ∷ slots) q none = get-nowhere slots q (λ p. none (suc p))
+get-nowhere (Some s ∷ slots) q none = get-behind s slots q (λ same. none zero (ap Some (sym same))) ∙ get-nowhere slots q (λ p. none (suc p))
 
--- ---- a change at one outpoint
+-- the row at an outpoint is the one in its slot
+pub get-at_place : (slots : SlotList) (p : ℕ) (q : OutPoint) → AreApart slots → outpoint_at slots p ≡ Some q → get (rows_of slots) q ≡ row_at slots p
+get-at_place [] p q apart is = absurd (no_outpoint q is)
+get-at_place (None ∷ slots) zero q apart is = absurd (no_outpoint q is)
+get-at_place (None ∷ slots) (suc p) q apart is = get-at_place slots p q (rest_apart None slots apart) is
+get-at_place (Some s ∷ slots) zero q apart is =
+    get-put_slot (rows_of slots) s.at s.row q
+    ∙ ap (λ (b : Bool). cond b s.row (get (rows_of slots) q)) (ap (is_same q) (the_outpoint s.at q is) ∙ same_itself q)
+get-at_place (Some s ∷ slots) (suc p) q apart is =
+    get-behind s slots q (λ same. absurd (cc (apart q zero (suc p) (ap Some (sym same)) is)))
+    ∙ get-at_place slots p q (rest_apart (Some s) slots apart) is
 
--- At one outpoint there is now this place, or no slot. The places of other slots hold what they
--- held, this one is none of theirs, and what is given out now is this place or that of another slot.
-pub record Changes (m n : Places) (s t : Held) (at : OutPoint) (place : Option ℕ) : Type 0 where
-  pub places : (q : OutPoint) → place_at n q ≡ cond (is_same at q) place (place_at m q)
-  pub others : (q : OutPoint) (p : ℕ) → is_same at q ≡ false → place_at m q ≡ Some p → get t p ≡ get s p
-  pub own : (q : OutPoint) (p : ℕ) → is_same at q ≡ false → place ≡ Some p → place_at m q ≡ Some p → ⊥
-  pub given : (p : ℕ) → place ≡ Some p → IsSome (get t p)
-  pub none_lost : (p : ℕ) → IsSome (get t p) → (place ≡ Some p) ⊎ (IsSome (get s p) × (place_at m at ≡ Some p → ⊥))
+-- an outpoint has a slot, or none
+pub somewhere : (slots : SlotList) (q : OutPoint) → ((p : ℕ) × (outpoint_at slots p ≡ Some q)) ⊎ IsNowhere slots q
+somewhere [] q = inr (λ p is. no_outpoint q is)
+somewhere (e ∷ slots) q = by_first e (somewhere slots q) where
+  behind : (e : Option Slot) → (outpoint_at (e ∷ slots) zero ≡ Some q → ⊥) → IsNowhere slots q → IsNowhere (e ∷ slots) q
+  behind e first none zero is = first is
+  behind e first none (suc p) is = none p is
 
-module _ {m n : Places} {s t : Held} {at : OutPoint} {place : Option ℕ} (c : Changes m n s t at place) (h : ArePlaced m s) where
-  there : place_at n at ≡ place
-  there = c.places at ∙ ap (λ (b : Bool). cond b place (place_at m at)) (same_itself at)
+  by_rest : (e : Option Slot) → (outpoint_at (e ∷ slots) zero ≡ Some q → ⊥) → ((p : ℕ) × (outpoint_at slots p ≡ Some q)) ⊎ IsNowhere slots q → ((p : ℕ) × (outpoint_at (e ∷ slots) p ≡ Some q)) ⊎ IsNowhere (e ∷ slots) q
+  by_rest e first (inl found) = inl (suc found.0, found.1)
+  by_rest e first (inr none) = inr (behind e first none)
 
-  elsewhere : (q : OutPoint) → is_same at q ≡ false → place_at n q ≡ place_at m q
-  elsewhere q other = c.places q ∙ ap (λ (b : Bool). cond b place (place_at m q)) other
+  by_first : (e : Option Slot) → ((p : ℕ) × (outpoint_at slots p ≡ Some q)) ⊎ IsNowhere slots q → ((p : ℕ) × (outpoint_at (e ∷ slots) p ≡ Some q)) ⊎ IsNowhere (e ∷ slots) q
+  by_first None rest = by_rest None (no_outpoint q) rest
+  by_first (Some s) rest = ⊎_elim
+      (λ same. inl (zero, ap Some same))
+      (λ other. by_rest (Some s) (λ is. not_both s.at q (the_outpoint s.at q is) other) rest)
+      (same_or_not s.at q)
 
-  here : (q : OutPoint) (p : ℕ) → at ≡ q → place_at n q ≡ Some p → place ≡ Some p
-  here q p same is = sym there ∙ ap (place_at n) same ∙ is
+-- ---- a change at one place
 
-  still_given : (q : OutPoint) (p : ℕ) → place_at n q ≡ Some p → IsSome (get t p)
-  still_given q p is = ⊎_elim
-      (λ same. c.given p (here q p same is))
-      (λ other. let before = sym (elsewhere q other) ∙ is in subst IsSome (sym (c.others q p other before)) (h.given q p before))
-      (same_or_not at q)
+-- a slot, if there is one, is of this outpoint
+abbrev pub IsOf : OutPoint → Option Slot → Type 0
+IsOf at slot = (q : OutPoint) → option_map (λ s. s.at) slot ≡ Some q → at ≡ q
 
-  still_apart : (a b : OutPoint) (p : ℕ) → place_at n a ≡ Some p → place_at n b ≡ Some p → a ≡ b
-  still_apart a b p one two = ⊎_elim
-      (λ same. ⊎_elim
-      (λ too. sym same ∙ too)
-      (λ other. absurd (c.own b p other (here a p same one) (sym (elsewhere b other) ∙ two)))
-      (same_or_not at b))
-      (λ other. ⊎_elim
-      (λ same. absurd (c.own a p other (here b p same two) (sym (elsewhere a other) ∙ one)))
-      (λ too. h.apart a b p (sym (elsewhere a other) ∙ one) (sym (elsewhere b too) ∙ two))
-      (same_or_not at b))
-      (same_or_not at a)
+-- At one place there is now this slot, or none. It is the only place of slots of an outpoint.
+pub record Changes (s t : Slab Slot) (place : ℕ) (at : OutPoint) (slot : Option Slot) : Type 0 where
+  pub updates : Updates s t place slot
+  pub apart : AreApart s.slots
+  pub old : IsOf at (slab.get s place)
+  pub new : IsOf at slot
+  pub alone : (p : ℕ) → p ≢ place → outpoint_at s.slots p ≢ Some at
 
-  still_none_lost : (p : ℕ) → IsSome (get t p) → (q : OutPoint) × (place_at n q ≡ Some p)
-  still_none_lost p some = ⊎_elim
-      (λ is. (at, there ∙ is))
-      (λ old. let of = h.none_lost p old.0 in ⊎_elim
-      (λ same. absurd (old.1 (ap (place_at m) same ∙ of.1)))
-      (λ other. (of.0, elsewhere of.0 other ∙ of.1))
-      (same_or_not at of.0))
-      (c.none_lost p some)
+module _ {s t : Slab Slot} {place : ℕ} {at : OutPoint} {slot : Option Slot} (c : Changes s t place at slot) where
+  -- the outpoint of a slot elsewhere
+  pub outpoint_elsewhere : (p : ℕ) → p ≢ place → outpoint_at t.slots p ≡ outpoint_at s.slots p
+  outpoint_elsewhere p other = ap (option_map (λ (s : Slot). s.at)) (c.updates.others p other)
 
-  pub still_placed : ArePlaced n t
-  still_placed = record { given = still_given; apart = still_apart; none_lost = still_none_lost }
+  pub outpoint_here : outpoint_at t.slots place ≡ option_map (λ s. s.at) slot
+  outpoint_here = ap (option_map (λ (s : Slot). s.at)) c.updates.changed
 
-  rows_as_before : (o : Option ℕ) → ((p : ℕ) → o ≡ Some p → get t p ≡ get s p) → option_map (row_in t) o ≡ option_map (row_in s) o
-  rows_as_before None same = refl
-  rows_as_before (Some p) same = ap some_row (same p refl)
+  -- the slot at the place, found there, is of the outpoint
+  pub found_here : (p : ℕ) (q : OutPoint) → p ≡ place → outpoint_at t.slots p ≡ Some q → at ≡ q
+  found_here p q same is = c.new q (sym outpoint_here ∙ ap (outpoint_at t.slots) (sym same) ∙ is)
 
-  pub slots_after : (q : OutPoint) → slot_at (slots_in n t) q ≡ cond (is_same at q) (option_map (row_in t) place) (slot_at (slots_in m s) q)
-  slots_after q = slot_at-slots_in n t q ∙ ap (option_map (row_in t)) (c.places q) ∙ by_test (is_same at q) refl where
-    by_test : (b : Bool) → is_same at q ≡ b → option_map (row_in t) (cond b place (place_at m q)) ≡ cond b (option_map (row_in t) place) (slot_at (slots_in m s) q)
-    by_test true is = refl
-    by_test false is = rows_as_before (place_at m q) (λ p found. c.others q p is found) ∙ sym (slot_at-slots_in m s q)
+  pub was_here : (p : ℕ) (q : OutPoint) → p ≡ place → outpoint_at s.slots p ≡ Some q → at ≡ q
+  was_here p q same is = c.old q (ap (outpoint_at s.slots) (sym same) ∙ is)
 
-  -- where the slot holds a row or none now
-  pub rows_put : (row : Option OutRow) → option_map (row_in t) place ≡ Some row → rows_of (slots_in n t) ≡ put_slot (rows_of (slots_in m s)) at row
-  rows_put row is = rows_of_put (slots_in m s) (slots_in n t) at row (λ q.
-      slots_after q ∙ ap (λ (o : Option (Option OutRow)). cond (is_same at q) o (slot_at (slots_in m s) q)) is)
+  -- a slot of the outpoint is at the place
+  only_here : (p r : ℕ) (q : OutPoint) → p ≡ place → r ≢ place → outpoint_at t.slots p ≡ Some q → outpoint_at t.slots r ≡ Some q → ⊥
+  only_here p r q same other one two = c.alone r other (sym (outpoint_elsewhere r other) ∙ two ∙ ap Some (sym (found_here p q same one)))
 
-  -- where there is no slot now
-  pub rows_taken : place ≡ None → rows_of (slots_in n t) ≡ put_slot (rows_of (slots_in m s)) at None
-  rows_taken is = rows_of_take (slots_in m s) (slots_in n t) at (λ q.
-      slots_after q ∙ ap (λ (o : Option ℕ). cond (is_same at q) (option_map (row_in t) o) (slot_at (slots_in m s) q)) is)
+  pub still_apart : AreApart t.slots
+  still_apart q p r one two = ⊎_elim
+      (λ same. ⊎_elim (λ too. same ∙ sym too) (λ other. absurd (only_here p r q same other one two)) (cases_eq r place))
+      (λ other. ⊎_elim (λ same. absurd (only_here r p q same other two one))
+          (λ too. c.apart q p r (sym (outpoint_elsewhere p other) ∙ one) (sym (outpoint_elsewhere r too) ∙ two)) (cases_eq r place))
+      (cases_eq p place)
 
-  pub slot_gone : place ≡ None → slot_at (slots_in n t) at ≡ None
-  slot_gone is = slot_at-slots_in n t at ∙ ap (option_map (row_in t)) (there ∙ is)
+  -- where the outpoint has no slot now
+  gone : slot ≡ None → IsNowhere t.slots at
+  gone none p is = ⊎_elim
+      (λ same. no_outpoint at (sym (ap (option_map (λ (s : Slot). s.at)) none) ∙ sym outpoint_here ∙ ap (outpoint_at t.slots) (sym same) ∙ is))
+      (λ other. c.alone p other (sym (outpoint_elsewhere p other) ∙ is))
+      (cases_eq p place)
 
-  pub slots_stay : (row : Option OutRow) → option_map (row_in t) place ≡ Some row → (q : OutPoint) → IsSome (slot_at (slots_in m s) q) → IsSome (slot_at (slots_in n t) q)
-  slots_stay row is q some = still_there (is_same at q) row (slot_at (slots_in m s) q) (slot_at (slots_in n t) q)
-      (slots_after q ∙ ap (λ (o : Option (Option OutRow)). cond (is_same at q) o (slot_at (slots_in m s) q)) is) some
+  -- the row at the outpoint
+  row_here : get (rows_of t.slots) at ≡ option_and_then (λ s. s.row) slot
+  row_here = by_slot slot refl where
+    by_slot : (o : Option Slot) → slot ≡ o → get (rows_of t.slots) at ≡ option_and_then (λ s. s.row) slot
+    by_slot None is = get-nowhere t.slots at (gone is) ∙ sym (ap (option_and_then (λ (s : Slot). s.row)) is)
+    by_slot (Some x) is =
+        let of : at ≡ x.at = c.new x.at (ap (option_map (λ (s : Slot). s.at)) is) in
+        get-at_place t.slots place at still_apart (outpoint_here ∙ ap (option_map (λ (s : Slot). s.at)) is ∙ ap Some (sym of))
+        ∙ ap (option_and_then (λ (s : Slot). s.row)) c.updates.changed
 
-  pub slot_there : (row : Option OutRow) → option_map (row_in t) place ≡ Some row → IsSome (slot_at (slots_in n t) at)
-  slot_there row is = subst IsSome (sym (slot_at-slots_in n t at ∙ ap (option_map (row_in t)) there ∙ is)) refl
+  -- the row at another outpoint
+  row_elsewhere : (q : OutPoint) → is_same at q ≡ false → get (rows_of t.slots) q ≡ get (rows_of s.slots) q
+  row_elsewhere q apart = ⊎_elim
+      (λ found. let other : found.0 ≢ place = λ same. not_both at q (was_here found.0 q same found.1) apart in
+          get-at_place t.slots found.0 q still_apart (outpoint_elsewhere found.0 other ∙ found.1)
+          ∙ ap (option_and_then (λ (s : Slot). s.row)) (c.updates.others found.0 other)
+          ∙ sym (get-at_place s.slots found.0 q c.apart found.1))
+      (λ none. get-nowhere t.slots q (λ p is. ⊎_elim
+          (λ same. not_both at q (found_here p q same is) apart)
+          (λ other. none p (sym (outpoint_elsewhere p other) ∙ is))
+          (cases_eq p place))
+          ∙ sym (get-nowhere s.slots q none))
+      (somewhere s.slots q)
+
+  -- the rows where the slot holds a row or none now
+  pub rows_put : (row : Option OutRow) → option_and_then (λ s. s.row) slot ≡ row → rows_of t.slots ≡ put_slot (rows_of s.slots) at row
+  rows_put row is = same_map outpoints_total outpoints_exact (rows_of t.slots) (put_slot (rows_of s.slots) at row) (λ q.
+      by_test q (same_or_not at q) ∙ sym (get-put_slot (rows_of s.slots) at row q)) where
+    by_test : (q : OutPoint) → (at ≡ q) ⊎ (is_same at q ≡ false) → get (rows_of t.slots) q ≡ cond (is_same q at) row (get (rows_of s.slots) q)
+    by_test q (inl same) =
+        ap (get (rows_of t.slots)) (sym same) ∙ row_here ∙ is
+        ∙ sym (ap (λ (b : Bool). cond b row (get (rows_of s.slots) q)) (ap (is_same q) same ∙ same_itself q))
+    by_test q (inr other) =
+        row_elsewhere q other
+        ∙ sym (ap (λ (b : Bool). cond b row (get (rows_of s.slots) q)) ((eq_by_cmp_equiv outpoints_total).symm q at ∙ other))
+
+  -- the rows where the slot holds what stood at the outpoint
+  pub rows_same : get (rows_of s.slots) at ≡ option_and_then (λ s. s.row) slot → rows_of t.slots ≡ rows_of s.slots
+  rows_same is = same_map outpoints_total outpoints_exact (rows_of t.slots) (rows_of s.slots) (λ q. by_test q (same_or_not at q)) where
+    by_test : (q : OutPoint) → (at ≡ q) ⊎ (is_same at q ≡ false) → get (rows_of t.slots) q ≡ get (rows_of s.slots) q
+    by_test q (inl same) = ap (get (rows_of t.slots)) (sym same) ∙ row_here ∙ sym is ∙ ap (get (rows_of s.slots)) same
+    by_test q (inr other) = row_elsewhere q other
 
 -- ---- the changes
 
--- no other slot has this place
-others_place : (m : Places) (s : Held) (at q : OutPoint) (p r : ℕ) → ArePlaced m s → place_at m at ≡ Some p → is_same at q ≡ false → place_at m q ≡ Some r → r ≡ p → ⊥
-others_place m s at q p r h is other too same = not_both at q (h.apart at q r (is ∙ ap Some (sym same)) too) other
-
--- no slot has a place that isn't given out
-free_place : (m : Places) (s : Held) (q : OutPoint) (p r : ℕ) → ArePlaced m s → get s p ≡ None → place_at m q ≡ Some r → r ≡ p → ⊥
-free_place m s q p r h free is same = nothing_there (get s r) (ap (get s) same ∙ free) (h.given q r is)
+-- the outpoint of a slot, found at its place
+slot_of : (s : Slab Slot) (place : ℕ) (at : OutPoint) → outpoint_at s.slots place ≡ Some at → IsOf at (slab.get s place)
+slot_of s place at is q too = the_outpoint at q (sym is ∙ too)
 
 -- what a slot holds changes
-pub exchanged : (m : Places) (s t : Held) (at : OutPoint) (p : ℕ) (row : Option OutRow) → ArePlaced m s → place_at m at ≡ Some p → Updates s t p (Some row) → Changes m m s t at (Some p)
-exchanged m s t at p row h is u = record {
-  places = λ q. by_test q (is_same at q) refl;
-  others = λ q r other too. u.others r (others_place m s at q p r h is other too);
-  own = λ q r other place too. others_place m s at q p r h is other too (sym (the_place p r place));
-  given = λ r place. subst IsSome (sym (ap (get t) (sym (the_place p r place)) ∙ u.changed)) refl;
-  none_lost = λ r some. ⊎_elim
-      (λ same. inl (ap Some (sym same)))
-      (λ other. inr (subst IsSome (u.others r other) some, λ too. other (sym (the_place p r (sym is ∙ too)))))
-      (cases_eq r p);
+pub exchanged : (s t : Slab Slot) (place : ℕ) (at : OutPoint) (row : Option OutRow) → AreApart s.slots → outpoint_at s.slots place ≡ Some at → Updates s t place (slot_with (slab.get s place) row) → Changes s t place at (slot_with (slab.get s place) row)
+exchanged s t place at row apart is u = record {
+  updates = u;
+  apart = apart;
+  old = slot_of s place at is;
+  new = λ q too. the_outpoint at q (sym is ∙ sym (outpoint_with (slab.get s place)) ∙ too);
+  alone = λ p other too. other (apart at p place too is);
 } where
-  by_test : (q : OutPoint) (b : Bool) → is_same at q ≡ b → place_at m q ≡ cond b (Some p) (place_at m q)
-  by_test q true same = ap (place_at m) (sym (outpoints_exact at q (equal _ same))) ∙ is
-  by_test q false other = refl
+  outpoint_with : (slot : Option Slot) → option_map (λ s. s.at) (slot_with slot row) ≡ option_map (λ s. s.at) slot
+  outpoint_with None = refl
+  outpoint_with (Some x) = refl
+
+pub row_with : (s : Slab Slot) (place : ℕ) (at : OutPoint) (row : Option OutRow) → outpoint_at s.slots place ≡ Some at → option_and_then (λ s. s.row) (slot_with (slab.get s place) row) ≡ row
+row_with s place at row is = by_slot (slab.get s place) is where
+  by_slot : (slot : Option Slot) → option_map (λ s. s.at) slot ≡ Some at → option_and_then (λ s. s.row) (slot_with slot row) ≡ row
+  by_slot None none = absurd (no_outpoint at none)
+  by_slot (Some x) some = refl
 
 -- a slot is taken away
-pub removed : (m n : Places) (s t : Held) (at : OutPoint) (p : ℕ) → ArePlaced m s → place_at m at ≡ Some p → Updates s t p None → ((q : OutPoint) → place_at n q ≡ cond (is_same at q) None (place_at m q)) → Changes m n s t at None
-removed m n s t at p h is u places = record {
-  places = places;
-  others = λ q r other too. u.others r (others_place m s at q p r h is other too);
-  own = λ q r other place too. no_place r place;
-  given = λ r place. absurd (no_place r place);
-  none_lost = λ r some. ⊎_elim
-      (λ same. absurd (nothing_there (get t r) (ap (get t) same ∙ u.changed) some))
-      (λ other. inr (subst IsSome (u.others r other) some, λ too. other (sym (the_place p r (sym is ∙ too)))))
-      (cases_eq r p);
-}
-
--- a slot is taken away where there is none
-pub none_removed : (m n : Places) (s : Held) (at : OutPoint) → place_at m at ≡ None → ((q : OutPoint) → place_at n q ≡ cond (is_same at q) None (place_at m q)) → Changes m n s s at None
-none_removed m n s at none places = record {
-  places = places;
-  others = λ q r other too. refl;
-  own = λ q r other place too. no_place r place;
-  given = λ r place. absurd (no_place r place);
-  none_lost = λ r some. inr (some, λ too. no_place r (sym none ∙ too));
+pub removed : (s t : Slab Slot) (place : ℕ) (at : OutPoint) → AreApart s.slots → outpoint_at s.slots place ≡ Some at → Updates s t place None → Changes s t place at None
+removed s t place at apart is u = record {
+  updates = u;
+  apart = apart;
+  old = slot_of s place at is;
+  new = λ q too. absurd (no_outpoint q too);
+  alone = λ p other too. other (apart at p place too is);
 }
 
 -- a slot is made
-pub made : (m n : Places) (s t : Held) (at : OutPoint) (p : ℕ) (row : Option OutRow) → ArePlaced m s → place_at m at ≡ None → get s p ≡ None → Updates s t p (Some row) → ((q : OutPoint) → place_at n q ≡ cond (is_same at q) (Some p) (place_at m q)) → Changes m n s t at (Some p)
-made m n s t at p row h none free u places = record {
-  places = places;
-  others = λ q r other too. u.others r (free_place m s q p r h free too);
-  own = λ q r other place too. free_place m s q p r h free too (sym (the_place p r place));
-  given = λ r place. subst IsSome (sym (ap (get t) (sym (the_place p r place)) ∙ u.changed)) refl;
-  none_lost = λ r some. ⊎_elim
-      (λ same. inl (ap Some (sym same)))
-      (λ other. inr (subst IsSome (u.others r other) some, λ too. no_place r (sym none ∙ too)))
-      (cases_eq r p);
+pub made : (s t : Slab Slot) (place : ℕ) (slot : Slot) → AreApart s.slots → IsNowhere s.slots slot.at → slab.get s place ≡ None → Updates s t place (Some slot) → Changes s t place slot.at (Some slot)
+made s t place slot apart none free u = record {
+  updates = u;
+  apart = apart;
+  old = λ q too. absurd (no_outpoint q (sym (ap (option_map (λ (s : Slot). s.at)) free) ∙ too));
+  new = λ q too. the_outpoint slot.at q too;
+  alone = λ p other. none p;
 }
 
--- a slot has another place, and the one that it had is taken back
-pub moved : (m n : Places) (s t v : Held) (at : OutPoint) (p e : ℕ) (row : Option OutRow) → ArePlaced m s → place_at m at ≡ Some e → get s p ≡ None → Updates s t p (Some row) → Updates t v e None → ((q : OutPoint) → place_at n q ≡ cond (is_same at q) (Some p) (place_at m q)) → Changes m n s v at (Some p)
-moved m n s t v at p e row h is free u w places = record {
-  places = places;
-  others = λ q r other too. w.others r (others_place m s at q e r h is other too) ∙ u.others r (free_place m s q p r h free too);
-  own = λ q r other place too. free_place m s q p r h free too (sym (the_place p r place));
-  given = λ r place. subst IsSome (sym (ap (get v) (sym (the_place p r place)) ∙ w.others p (λ same. free_place m s at p e h free is (sym same)) ∙ u.changed)) refl;
-  none_lost = λ r some. ⊎_elim
-      (λ same. inl (ap Some (sym same)))
-      (λ other. ⊎_elim
-      (λ same. absurd (nothing_there (get v r) (ap (get v) same ∙ w.changed) some))
-      (λ too. inr (subst IsSome (w.others r too ∙ u.others r other) some, λ found. too (sym (the_place e r (sym is ∙ found)))))
-      (cases_eq r e))
-      (cases_eq r p);
-}
+-- a slot that was made is taken back
+pub given_back : (s t v : Slab Slot) (place : ℕ) (slot : Option Slot) → slab.get s place ≡ None → Updates s t place slot → Updates t v place None → (p : ℕ) → slab.get v p ≡ slab.get s p
+given_back s t v place slot free u w p = ⊎_elim
+    (λ same. ap (slab.get v) same ∙ w.changed ∙ sym free ∙ ap (slab.get s) (sym same))
+    (λ other. w.others p other ∙ u.others p other)
+    (cases_eq p place)
 
--- what stands at the place then
-pub moved_row : (m : Places) (s t v : Held) (at : OutPoint) (p e : ℕ) (row : Option OutRow) → ArePlaced m s → place_at m at ≡ Some e → get s p ≡ None → Updates s t p (Some row) → Updates t v e None → row_in v p ≡ row
-moved_row m s t v at p e row h is free u w = ap option_flatten (w.others p (λ same. free_place m s at p e h free is (sym same)) ∙ u.changed)
+-- slots that are alike, place by place, have the same rows
+pub rows_alike : (s t : Slab Slot) → AreApart s.slots → ((p : ℕ) → slab.get t p ≡ slab.get s p) → rows_of t.slots ≡ rows_of s.slots
+rows_alike s t apart same = same_map outpoints_total outpoints_exact (rows_of t.slots) (rows_of s.slots) (λ q. ⊎_elim
+    (λ found. get-at_place t.slots found.0 q apart_too (outpoint found.0 ∙ found.1) ∙ ap (option_and_then (λ (s : Slot). s.row)) (same found.0)
+        ∙ sym (get-at_place s.slots found.0 q apart found.1))
+    (λ none. get-nowhere t.slots q (λ p is. none p (sym (outpoint p) ∙ is)) ∙ sym (get-nowhere s.slots q none))
+    (somewhere s.slots q))
+  where
+  outpoint : (p : ℕ) → outpoint_at t.slots p ≡ outpoint_at s.slots p
+  outpoint p = ap (option_map (λ (s : Slot). s.at)) (same p)
 
--- what stood at the place that is taken back
-pub moved_held : (m : Places) (s t : Held) (at : OutPoint) (p e : ℕ) (row : Option OutRow) → ArePlaced m s → place_at m at ≡ Some e → get s p ≡ None → Updates s t p (Some row) → row_in t e ≡ row_in s e
-moved_held m s t at p e row h is free u = ap option_flatten (u.others e (free_place m s at p e h free is))
+  apart_too : AreApart t.slots
+  apart_too q p r one two = apart q p r (sym (outpoint p) ∙ one) (sym (outpoint r) ∙ two)
 
--- ---- no change
+-- ---- the places of slots
 
-pub slots_alike : (m : Places) (s t : Held) → ((p : ℕ) → get t p ≡ get s p) → slots_in m t ≡ slots_in m s
-slots_alike [] s t same = refl
-slots_alike (e ∷ m) s t same = λ i. (e.0, option_flatten (same e.1 i)) ∷ slots_alike m s t same i
-
--- a place that is given out and taken back
-pub given_back : (s t v : Held) (p : ℕ) (row : Option OutRow) → get s p ≡ None → Updates s t p (Some row) → Updates t v p None → (r : ℕ) → get v r ≡ get s r
-given_back s t v p row free u w r = ⊎_elim
-    (λ same. ap (get v) same ∙ w.changed ∙ sym free ∙ sym (ap (get s) same))
-    (λ other. w.others r other ∙ u.others r other)
-    (cases_eq r p)
+-- where a slot is taken away
+pub placed_less : (m n : Places) (s t : Slab Slot) (place : ℕ) (at : OutPoint) → ArePlaced m s.slots → outpoint_at s.slots place ≡ Some at → Updates s t place None
+    → ((q : OutPoint) (p : ℕ) → HasPlace m q p → q ≢ at → p ≢ place → HasPlace n q p)
+    → ((q : OutPoint) → other_at n q ≡ cond (is_same at q) None (other_at m q))
+    → ArePlaced n t.slots
+placed_less m n s t place at h is u left others =
+    let change = removed s t place at h.apart is u in
+    record {
+      among = λ q p found.
+          let other : p ≢ place = λ same. no_outpoint q (sym (outpoint_here change) ∙ ap (outpoint_at t.slots) (sym same) ∙ found) in
+          let was = sym (outpoint_elsewhere change p other) ∙ found in
+          left q p (h.among q p was) (λ same. other (h.apart at p place (was ∙ ap Some same) is)) other;
+      others = λ q p found. ⊎_elim
+          (λ same. absurd (no_place p (sym (others q ∙ ap (λ (b : Bool). cond b None (other_at m q)) (ap (is_same at) (sym same) ∙ same_itself at)) ∙ found)))
+          (λ other. let was = h.others q p (sym (others q ∙ ap (λ (b : Bool). cond b None (other_at m q)) other) ∙ found) in
+              outpoint_elsewhere change p (λ same. not_both at q (was_here change p q same was) other) ∙ was)
+          (same_or_not at q);
+      apart = still_apart change;
+    }

@@ -1,7 +1,7 @@
 //! Changes of slots, which can be taken back.
 
-ghost use Rattle.std.specs.Prelude.{◌≡◌, ℕ, IsTrue, true, false, Option, None, IsSome, IfOk, IfErr};
-ghost use Rattle.std.specs.Prelude.{OnOk, OnErr, [], length, if◌then◌else◌, IsSomeAnd, Some};
+ghost use Rattle.std.specs.Prelude.{◌≡◌, ℕ, true, false, Option, Some, None, IfOk, IfErr};
+ghost use Rattle.std.specs.Prelude.{OnOk, OnErr, [], length, if◌then◌else◌, IfSome, IsSomeAnd};
 ghost use Rattle.std.specs.Option.{option_map, option_or};
 ghost use Rattle.std.specs.FinMap as map;
 ghost use Rattle.ox_block.specs.declared.block.OutPoint.{OutPoint};
@@ -10,10 +10,11 @@ ghost use Rattle.ox_rules.specs.Outputs.{MayStand};
 ghost use Rattle.ox_outputs.specs.Located.{AreRuns};
 ghost use Rattle.ox_outputs.specs.Locator.{live_at, kept_at};
 ghost use Rattle.ox_outputs.specs.Stretches.{stretch_at, stretches_of, is_among, firsts_of};
-ghost use Rattle.ox_outputs.specs.Slots.{slot_at, put_slot, rows_of, undone, are_slots};
+ghost use Rattle.ox_outputs.specs.Slots.{outpoint_at, put_slot, rows_of, undone, AreSpots};
 
 use crate::locator::Locator;
 use crate::slots::Slots;
+use crate::spot::Spot;
 use ox_block::OutPoint;
 use ox_range::Ranges;
 use ox_rules::{Memory, OutRow, Unplaced};
@@ -32,33 +33,49 @@ fn leave_copied(locator: &mut Locator, row: &OutRow, alloc: Global) -> Result<Ou
     Ok(copy)
 }
 
-/// Empties the slot at this outpoint, if there is one, and answers what it held twice. Its
-/// satoshis leave the locator. `Memory` where there is none: all is as before.
+/// A row that was taken.
+#[derive(Drop)]
+pub(crate) struct Taken {
+    /// The place of its slot, which is empty now.
+    pub(crate) place: u32,
+    /// What stood there.
+    pub(crate) row: OutRow,
+    /// The row once more.
+    pub(crate) kept: OutRow,
+}
+
+/// Empties the slot at this outpoint, if it holds a row, and answers the row twice. Its satoshis
+/// leave the locator. `Memory` where there is none: all is as before.
 pub(crate) fn take_twice(
     slots: &mut Slots,
     locator: &mut Locator,
     at: &OutPoint,
     alloc: Global,
-) -> Result<Option<(OutRow, OutRow)>, Memory>
+) -> Result<Option<Taken>, Memory>
     requires runs { AreRuns (live_at locator.old) (rows_of slots.old) }
-    ensures held { IfOk result
-        (λ held. held
-        ≡ option_map (λ row. (row, row)) (map.get (rows_of slots.old) at.now)) }
+    ensures row { IfOk result
+        (λ taken. option_map (λ t. t.row) taken ≡ map.get (rows_of slots.old) at.now) }
+    ensures kept { IfOk result
+        (λ taken. option_map (λ t. t.kept) taken ≡ map.get (rows_of slots.old) at.now) }
+    ensures place { IfOk result
+        (λ taken. IfSome taken (λ t. outpoint_at slots.new t.place ≡ Some at.now)) }
     ensures rows { OnOk result
         (rows_of slots.new ≡ put_slot (rows_of slots.old) at.now None) }
-    ensures others { (q : OutPoint) → IsSome (slot_at slots.old q)
-        → IsSome (slot_at slots.new q) }
+    ensures places { (p : ℕ) → outpoint_at slots.new p ≡ outpoint_at slots.old p }
     ensures err { OnErr result (rows_of slots.new ≡ rows_of slots.old) }
     ensures runs { AreRuns (live_at locator.new) (rows_of slots.new) }
-    ensures kept { (q : ℕ) → kept_at locator.new q ≡ kept_at locator.old q }
+    ensures same { (q : ℕ) → kept_at locator.new q ≡ kept_at locator.old q }
 {
-    let Some(row) = slots.empty(at) else {
+    let Some(place) = slots.find(at) else {
+        return Ok(None);
+    };
+    let Some(row) = slots.exchange(place, None) else {
         return Ok(None);
     };
     match leave_copied(locator, &row, alloc) {
-        Ok(kept) => Ok(Some((row, kept))),
+        Ok(kept) => Ok(Some(Taken { place, row, kept })),
         Err(e) => {
-            let _empty = slots.exchange(at, Some(row));
+            let _empty = slots.exchange(place, Some(row));
             Err(e)
         }
     }
@@ -87,29 +104,46 @@ fn displace_copied(
     Ok(copy)
 }
 
-// The satoshis of a row that now stands where none did come into the locator. It answers what
-// stood there, twice. Where there is no memory, the row is handed back, and its slot is empty.
+/// What stood where a row now stands.
+#[derive(Drop)]
+pub(crate) struct Displaced {
+    /// The place of the slot.
+    pub(crate) place: u32,
+    /// The row that stood there, if one did.
+    pub(crate) row: Option<OutRow>,
+    /// The same once more.
+    pub(crate) kept: Option<OutRow>,
+}
+
+// The satoshis of a row that now stands where none did come into the locator. Where there is no
+// memory, the row is handed back, and its slot is empty.
 fn arrive_at(
     slots: &mut Slots,
     locator: &mut Locator,
-    at: OutPoint,
+    spot: Spot,
     sats: &Ranges,
-) -> Result<(Option<OutRow>, Option<OutRow>), Unplaced>
-    requires stands { IsSomeAnd (map.get (rows_of slots.old) at) (λ row. row.sats ≡ sats.now) }
-    requires runs { AreRuns (live_at locator.old) (map.remove (rows_of slots.old) at) }
-    requires may { MayStand at sats.now (map.remove (rows_of slots.old) at) }
-    ensures none { IfOk result (λ held. held ≡ (None, None)) }
+) -> Result<Displaced, Unplaced>
+    requires spot { outpoint_at slots.old spot.place ≡ Some spot.at }
+    requires stands { IsSomeAnd (map.get (rows_of slots.old) spot.at)
+        (λ row. row.sats ≡ sats.now) }
+    requires runs { AreRuns (live_at locator.old) (map.remove (rows_of slots.old) spot.at) }
+    requires may { MayStand spot.at sats.now (map.remove (rows_of slots.old) spot.at) }
+    ensures none { IfOk result
+        (λ held. held ≡ record { place = spot.place; row = None; kept = None }) }
     ensures rows { OnOk result (rows_of slots.new ≡ rows_of slots.old) }
-    ensures others { (q : OutPoint) → IsSome (slot_at slots.old q)
-        → IsSome (slot_at slots.new q) }
-    ensures handed_back { IfErr result (λ e. Some e.row ≡ map.get (rows_of slots.old) at) }
-    ensures err { OnErr result (rows_of slots.new ≡ map.remove (rows_of slots.old) at) }
+    ensures places { (p : ℕ) → outpoint_at slots.new p ≡ outpoint_at slots.old p }
+    ensures handed_back { IfErr result (λ e. Some e.row ≡ map.get (rows_of slots.old) spot.at) }
+    ensures err { OnErr result (rows_of slots.new ≡ map.remove (rows_of slots.old) spot.at) }
     ensures runs { AreRuns (live_at locator.new) (rows_of slots.new) }
-    ensures kept { (q : ℕ) → kept_at locator.new q ≡ kept_at locator.old q }
+    ensures same { (q : ℕ) → kept_at locator.new q ≡ kept_at locator.old q }
 {
-    match locator.arrive(&at, sats) {
-        Ok(()) => Ok((None, None)),
-        Err(_) => match slots.empty(&at) {
+    match locator.arrive(&spot.at, sats) {
+        Ok(()) => Ok(Displaced {
+            place: spot.place,
+            row: None,
+            kept: None,
+        }),
+        Err(_) => match slots.exchange(spot.place, None) {
             Some(row) => Err(Unplaced { row }),
             None => unreachable!(),
         },
@@ -122,26 +156,33 @@ fn arrive_at(
 fn displace_at(
     slots: &mut Slots,
     locator: &mut Locator,
-    at: OutPoint,
+    spot: Spot,
     other: OutRow,
     sats: &Ranges,
     alloc: Global,
-) -> Result<(Option<OutRow>, Option<OutRow>), Unplaced>
-    requires stands { IsSomeAnd (map.get (rows_of slots.old) at) (λ row. row.sats ≡ sats.now) }
-    requires runs { AreRuns (live_at locator.old) (map.insert (rows_of slots.old) at other) }
-    requires may { MayStand at sats.now (map.insert (rows_of slots.old) at other) }
-    ensures twice { IfOk result (λ held. held ≡ (Some other, Some other)) }
+) -> Result<Displaced, Unplaced>
+    requires spot { outpoint_at slots.old spot.place ≡ Some spot.at }
+    requires stands { IsSomeAnd (map.get (rows_of slots.old) spot.at)
+        (λ row. row.sats ≡ sats.now) }
+    requires runs { AreRuns (live_at locator.old) (map.insert (rows_of slots.old) spot.at other) }
+    requires may { MayStand spot.at sats.now (map.insert (rows_of slots.old) spot.at other) }
+    ensures twice { IfOk result
+        (λ held. held ≡ record { place = spot.place; row = Some other; kept = Some other }) }
     ensures rows { OnOk result (rows_of slots.new ≡ rows_of slots.old) }
-    ensures others { (q : OutPoint) → IsSome (slot_at slots.old q)
-        → IsSome (slot_at slots.new q) }
-    ensures handed_back { IfErr result (λ e. Some e.row ≡ map.get (rows_of slots.old) at) }
-    ensures err { OnErr result (rows_of slots.new ≡ map.insert (rows_of slots.old) at other) }
+    ensures places { (p : ℕ) → outpoint_at slots.new p ≡ outpoint_at slots.old p }
+    ensures handed_back { IfErr result (λ e. Some e.row ≡ map.get (rows_of slots.old) spot.at) }
+    ensures err { OnErr result
+        (rows_of slots.new ≡ map.insert (rows_of slots.old) spot.at other) }
     ensures runs { AreRuns (live_at locator.new) (rows_of slots.new) }
-    ensures kept { (q : ℕ) → kept_at locator.new q ≡ kept_at locator.old q }
+    ensures same { (q : ℕ) → kept_at locator.new q ≡ kept_at locator.old q }
 {
-    match displace_copied(locator, &other, &at, sats, alloc) {
-        Ok(kept) => Ok((Some(other), Some(kept))),
-        Err(_) => match slots.exchange(&at, Some(other)) {
+    match displace_copied(locator, &other, &spot.at, sats, alloc) {
+        Ok(kept) => Ok(Displaced {
+            place: spot.place,
+            row: Some(other),
+            kept: Some(kept),
+        }),
+        Err(_) => match slots.exchange(spot.place, Some(other)) {
             Some(row) => Err(Unplaced { row }),
             None => unreachable!(),
         },
@@ -157,68 +198,66 @@ pub(crate) fn fill_twice(
     at: OutPoint,
     row: OutRow,
     alloc: Global,
-) -> Result<(Option<OutRow>, Option<OutRow>), Unplaced>
+) -> Result<Displaced, Unplaced>
     requires runs { AreRuns (live_at locator.old) (rows_of slots.old) }
     requires may { MayStand at row.sats (rows_of slots.old) }
-    ensures held { IfOk result (λ held. held.0 ≡ map.get (rows_of slots.old) at) }
-    ensures twice { IfOk result (λ held. held.1 ≡ map.get (rows_of slots.old) at) }
+    ensures held { IfOk result (λ held. held.row ≡ map.get (rows_of slots.old) at) }
+    ensures twice { IfOk result (λ held. held.kept ≡ map.get (rows_of slots.old) at) }
+    ensures place { IfOk result (λ held. outpoint_at slots.new held.place ≡ Some at) }
     ensures rows { OnOk result
         (rows_of slots.new ≡ map.insert (rows_of slots.old) at row) }
-    ensures slot { OnOk result (IsSome (slot_at slots.new at)) }
-    ensures others { (q : OutPoint) → IsSome (slot_at slots.old q)
-        → IsSome (slot_at slots.new q) }
+    ensures places { (p : ℕ) (q : OutPoint) → outpoint_at slots.old p ≡ Some q
+        → outpoint_at slots.new p ≡ Some q }
     ensures handed_back { IfErr result (λ e. e.row ≡ row) }
     ensures err { OnErr result (rows_of slots.new ≡ rows_of slots.old) }
     ensures runs { AreRuns (live_at locator.new) (rows_of slots.new) }
-    ensures kept { (q : ℕ) → kept_at locator.new q ≡ kept_at locator.old q }
+    ensures same { (q : ℕ) → kept_at locator.new q ≡ kept_at locator.old q }
 {
     let Ok(sats) = row.sats.copy(alloc) else {
         return Err(Unplaced { row });
     };
-    match slots.fill(at, row)? {
-        None => arrive_at(slots, locator, at, &sats),
-        Some(other) => displace_at(slots, locator, at, other, &sats, alloc),
+    let (place, earlier) = slots.fill(at, row)?;
+    let spot = Spot { at, place };
+    match earlier {
+        None => arrive_at(slots, locator, spot, &sats),
+        Some(other) => displace_at(slots, locator, spot, other, &sats, alloc),
     }
 }
 
 /// Forgets changes, and takes the slots away in which they left no row: no row is lost. Only where
 /// a row stood before is its slot looked at, since a change without one filled its slot, and a row
 /// that was taken since is another change.
-pub(crate) fn settle(
-    slots: &mut Slots,
-    changed: &mut Vec<OutPoint>,
-    before: &mut Vec<Option<OutRow>>,
-)
+pub(crate) fn settle(slots: &mut Slots, changed: &mut Vec<Spot>, before: &mut Vec<Option<OutRow>>)
     ensures rows { rows_of slots.new ≡ rows_of slots.old }
     ensures none { changed.new.items ≡ [] }
 {
-    while let Some(at) = changed.pop() {
+    while let Some(spot) = changed.pop() {
         if let Some(Some(_)) = before.pop() {
-            slots.tidy(&at);
+            slots.tidy(spot.place);
         }
     }
 }
 
 /// Takes the empty slots among these away: no row is lost.
-pub(crate) fn forget(slots: &mut Slots, changed: &mut Vec<OutPoint>)
+pub(crate) fn forget(slots: &mut Slots, changed: &mut Vec<Spot>)
     ensures rows { rows_of slots.new ≡ rows_of slots.old }
     ensures none { changed.new.items ≡ [] }
 {
-    while let Some(at) = changed.pop() {
-        slots.tidy(&at);
+    while let Some(spot) = changed.pop() {
+        slots.tidy(spot.place);
     }
 }
 
 /// Puts back what stood at the changed outpoints, the newest change first.
-pub(crate) fn go_back(slots: &mut Slots, changed: &[OutPoint], before: &mut Vec<Option<OutRow>>)
+pub(crate) fn go_back(slots: &mut Slots, changed: &[Spot], before: &mut Vec<Option<OutRow>>)
     requires paired { length before.old.items ≡ length changed.now }
-    requires known { IsTrue (are_slots changed.now slots.old) }
+    requires known { AreSpots changed.now slots.old }
     ensures rows { rows_of slots.new
         ≡ undone before.old.items changed.now (rows_of slots.old) }
-    ensures known { IsTrue (are_slots changed.now slots.new) }
+    ensures known { AreSpots changed.now slots.new }
     ensures none { before.new.items ≡ [] }
 {
     while let Some(row) = before.pop() {
-        let _changed = slots.exchange(&changed[before.len()], row);
+        let _changed = slots.exchange(changed[before.len()].place, row);
     }
 }

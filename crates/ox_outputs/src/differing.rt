@@ -10,9 +10,10 @@ ghost use Rattle.ox_block.specs.declared.block.OutPoint.{OutPoint};
 ghost use Rattle.ox_rules.specs.Differences.{Differ, without_rows, with_rows};
 ghost use Rattle.ox_rules.specs.Outputs.{Outputs, outpoint_cmp};
 ghost use Rattle.ox_outputs.specs.Differing.{row_at, row_unless, FitIn};
-ghost use Rattle.ox_outputs.specs.Slots.{rows_of, undone};
+ghost use Rattle.ox_outputs.specs.Slots.{rows_of, undone, AreSpots};
 
 use crate::slots::Slots;
+use crate::spot::Spot;
 use ox_block::OutPoint;
 use ox_range::Ranges;
 use ox_rules::{Memory, OutRow, OutTable, TableRows};
@@ -24,10 +25,11 @@ use std::collections::BTreeMap;
 pub(crate) fn differing(
     alloc: Global,
     slots: &Slots,
-    changed: &[OutPoint],
+    changed: &[Spot],
     before: &[Option<OutRow>],
 ) -> Result<(TableRows, TableRows), Memory>
-    requires { length before.now ≡ length changed.now }
+    requires paired { length before.now ≡ length changed.now }
+    requires known { AreSpots changed.now slots.now }
     ensures { IfOk result (λ rows.
         Differ (undone before.now changed.now (rows_of slots.now)) (rows_of slots.now)
         (record { gone = rows.0; came = rows.1 })) }
@@ -37,7 +39,7 @@ pub(crate) fn differing(
     let mut came = TableRows::new(alloc);
     for (at, place) in places.iter() {
         let stood = row_before(before, *place);
-        let stands = slots.get(at);
+        let stands = slots.row(changed[*place].place);
         push_unless(alloc, &mut gone, at, stood, stands)?;
         push_unless(alloc, &mut came, at, stands, stood)?;
     }
@@ -55,9 +57,9 @@ fn row_before(before: &[Option<OutRow>], place: usize) -> Option<&OutRow>
 }
 
 // The place of the oldest change at each outpoint.
-fn oldest(alloc: Global, changed: &[OutPoint]) -> Result<BTreeMap<OutPoint, usize>, Memory>
+fn oldest(alloc: Global, changed: &[Spot]) -> Result<BTreeMap<OutPoint, usize>, Memory>
     ensures places { IfOk result (λ places. (at : OutPoint) → trees.get outpoint_cmp places at
-        ≡ position_from (eq_by_cmp outpoint_cmp at) 0 changed.now) }
+        ≡ position_from (λ spot. eq_by_cmp outpoint_cmp at spot.at) 0 changed.now) }
     ensures ordered { IfOk result (trees.IsOrdered outpoint_cmp) }
 {
     // Of those at one outpoint the map keeps the last, which is the oldest.
@@ -65,7 +67,7 @@ fn oldest(alloc: Global, changed: &[OutPoint]) -> Result<BTreeMap<OutPoint, usiz
     let mut left = changed.len();
     while left > 0 {
         left -= 1;
-        newest_first.push_reserved((changed[left], left));
+        newest_first.push_reserved((changed[left].at, left));
     }
     Ok(BTreeMap::from_iter(alloc, newest_first)?)
 }

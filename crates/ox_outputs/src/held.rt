@@ -1,64 +1,90 @@
-//! What stands at the places of slots: a row, or none.
+//! Slots at the places that they were given.
 
-ghost use Rattle.std.specs.Prelude.{◌≡◌, Some, None, IsSome, IfOk, IfErr, OnErr, option_copied};
+ghost use Rattle.std.specs.Prelude.{◌≡◌, ◌↔◌, Some, None, IsTrue, IsSome, IfOk, IfErr, OnErr};
+ghost use Rattle.std.specs.Option.{option_copied};
 ghost use Rattle.slab.specs.Slab.{get, Updates};
-ghost use Rattle.ox_outputs.specs.Slots.{row_in};
+ghost use Rattle.ox_outputs.specs.Slots.{row_at, outpoint_at, slot_with};
 
+use ox_block::OutPoint;
 use ox_rules::{OutRow, Unplaced};
 use slab::Slab;
 use std::mem;
 
-/// Places by number. One that is given out holds a row or none.
-pub(crate) type Held = Slab<Option<OutRow>>;
+/// A slot of an outpoint, with a row or empty.
+#[derive(Drop)]
+pub(crate) struct Slot {
+    pub(crate) at: OutPoint,
+    pub(crate) row: Option<OutRow>,
+}
 
-/// The row at this place, if any.
+/// Slots by their places.
+pub(crate) type Held = Slab<Slot>;
+
+/// The row in the slot at this place, if any.
 pub(crate) fn row_in(held: &Held, place: u32) -> Option<&OutRow>
-    ensures { option_copied result ≡ row_in held.now place }
+    ensures { option_copied result ≡ row_at held.now.slots place }
 {
     match held.get(place as usize) {
-        Some(row) => row.as_ref(),
+        Some(slot) => slot.row.as_ref(),
         None => None,
     }
 }
 
-/// Changes what stands at this place, and answers what stood there.
+/// Whether the slot at this place is that of an outpoint.
+pub(crate) fn is_slot_of(held: &Held, place: u32, at: &OutPoint) -> bool
+    ensures { IsTrue result ↔ (outpoint_at held.now.slots place ≡ Some at.now) }
+{
+    match held.get(place as usize) {
+        Some(slot) => slot.at == *at,
+        None => false,
+    }
+}
+
+/// Changes what the slot at this place holds, and answers what it held.
 pub(crate) fn exchange_in(held: &mut Held, place: u32, row: Option<OutRow>) -> Option<OutRow>
     requires { IsSome (get held.old place) }
-    ensures stood { result ≡ row_in held.old place }
-    ensures updates { Updates held.old held.new place (Some row) }
+    ensures stood { result ≡ row_at held.old.slots place }
+    ensures updates { Updates held.old held.new place (slot_with (get held.old place) row) }
 {
     match held.get_mut(place as usize) {
-        Some(stands) => mem::replace(stands, row),
+        Some(slot) => mem::replace(&mut slot.row, row),
         None => unreachable!(),
     }
 }
 
 /// Takes this place back, and answers the row that stood there, if any.
 pub(crate) fn take_back(held: &mut Held, place: u32) -> Option<OutRow>
-    ensures stood { result ≡ row_in held.old place }
+    ensures stood { result ≡ row_at held.old.slots place }
     ensures updates { Updates held.old held.new place None }
 {
     match held.try_remove(place as usize) {
-        Some(row) => row,
+        Some(slot) => slot.row,
         None => None,
     }
 }
 
-/// Gives out a place, and puts a row there. Where there is no memory for it, or no number below
-/// 2 ^ 32, the row is handed back and all places are as before.
-pub(crate) fn give_out(held: &mut Held, row: OutRow) -> Result<u32, Unplaced>
+/// Takes this place back, with the slot there.
+pub(crate) fn vacate(held: &mut Held, place: u32)
+    ensures { Updates held.old held.new place None }
+{
+    drop(held.try_remove(place as usize));
+}
+
+/// Gives out a place, and puts a slot there with a row. Where there is no memory for it, or no
+/// number below 2 ^ 32, the row is handed back and all places are as before.
+pub(crate) fn give_out(held: &mut Held, at: OutPoint, row: OutRow) -> Result<u32, Unplaced>
     ensures free { IfOk result (λ place. get held.old place ≡ None) }
-    ensures updates { IfOk result
-        (λ place. Updates held.old held.new place (Some (Some row))) }
+    ensures updates { IfOk result (λ place. Updates held.old held.new place
+        (Some (record { at = at; row = Some row }))) }
     ensures handed_back { IfErr result (λ e. e.row ≡ row) }
     ensures err { OnErr result (held.new.slots ≡ held.old.slots) }
 {
     let Ok(place) = u32::try_from(held.vacant_key()) else {
         return Err(Unplaced { row });
     };
-    match held.insert(Some(row)) {
+    match held.insert(Slot { at, row: Some(row) }) {
         Ok(_) => Ok(place),
-        Err(failed) => match failed.value {
+        Err(failed) => match failed.value.row {
             Some(row) => Err(Unplaced { row }),
             None => unreachable!(),
         },

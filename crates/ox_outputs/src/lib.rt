@@ -3,10 +3,13 @@
 
 mod changes;
 mod differing;
+mod entry;
 mod held;
 mod locator;
 mod outputs;
+mod places;
 mod slots;
+mod spot;
 mod stretch;
 mod stretches;
 

@@ -1,18 +1,19 @@
 //! The unspent outputs.
 
-ghost use Rattle.std.specs.Prelude.{◌≡◌, true, false, [], IsTrue, IsSome, IfOk, OnOk, OnErr};
+ghost use Rattle.std.specs.Prelude.{◌≡◌, true, false, [], IsSome, IfOk, OnOk, OnErr};
 ghost use Rattle.std.specs.Prelude.{length, if◌then◌else◌, Some, None};
 ghost use Rattle.std.specs.Option.{option_copied};
 ghost use Rattle.std.specs.FinMap as map;
-ghost use Rattle.ox_outputs.specs.Slots.{rows_of, undone, are_slots};
+ghost use Rattle.ox_outputs.specs.Slots.{rows_of, undone, AreSpots};
 ghost use Rattle.ox_outputs.specs.Located.{StandOnce, AreRuns};
 ghost use Rattle.ox_outputs.specs.Locator.{live_at, kept_at};
 ghost use Rattle.ox_outputs.specs.Stretches.{AreApart};
 
-use crate::changes::{fill_twice, forget, go_back, settle, take_twice};
+use crate::changes::{Displaced, Taken, fill_twice, forget, go_back, settle, take_twice};
 use crate::differing::{differing, place_all, take_out};
 use crate::locator::Locator;
 use crate::slots::Slots;
+use crate::spot::Spot;
 use ox_block::OutPoint;
 use ox_rules::{Memory, OutRow, OutTable, Place, TableRows, Unplaced};
 use std::alloc::Global;
@@ -24,12 +25,12 @@ use std::alloc::Global;
 pub struct Outputs {
     alloc: Global,
     slots: Slots,
-    /// The outpoints at which rows changed, the oldest change first, and what stood there.
-    changed: Vec<OutPoint>,
+    /// The slots in which rows changed, the oldest change first, and what stood there.
+    changed: Vec<Spot>,
     before: Vec<Option<OutRow>>,
     marked: bool,
     locator: Locator,
-    ghost known: { IsTrue (are_slots changed.items slots) },
+    ghost known: { AreSpots changed.items slots },
     ghost paired: { length before.items ≡ length changed.items },
     ghost unmarked: { marked ≡ false → changed.items ≡ [] },
     ghost once: { StandOnce (rows_of slots) },
@@ -77,10 +78,11 @@ impl Outputs {
         ensures err { OnErr result (rows_in self.new ≡ rows_in self.old) }
         ensures unmarked { self.new.marked ≡ false }
     {
-        let taken = take_twice(&mut self.slots, &mut self.locator, at, self.alloc)?;
-        self.slots.tidy(at);
-        match taken {
-            Some((row, _)) => Ok(Some(row)),
+        match take_twice(&mut self.slots, &mut self.locator, at, self.alloc)? {
+            Some(taken) => {
+                self.slots.tidy(taken.place);
+                Ok(Some(taken.row))
+            }
             None => Ok(None),
         }
     }
@@ -129,36 +131,28 @@ impl OutTable for Outputs {
         self.changed.reserve(1)?;
         self.before.reserve(1)?;
         let taken = take_twice(&mut self.slots, &mut self.locator, at, self.alloc)?;
-        let Some((row, kept)) = taken else {
+        let Some(Taken { place, row, kept }) = taken else {
             return Ok(None);
         };
-        self.changed.push_reserved(*at);
+        self.changed.push_reserved(Spot { at: *at, place });
         self.before.push_reserved(Some(kept));
         Ok(Some(row))
     }
 
     fn place(&mut self, at: &OutPoint, row: OutRow) -> Result<Option<OutRow>, Unplaced> {
         if !self.marked {
-            let (displaced, _) = fill_twice(
-                &mut self.slots,
-                &mut self.locator,
-                *at,
-                row,
-                self.alloc,
-            )?;
-            return Ok(displaced);
+            let displaced = fill_twice(&mut self.slots, &mut self.locator, *at, row, self.alloc)?;
+            return Ok(displaced.row);
         }
         if self.changed.reserve(1).is_err() || self.before.reserve(1).is_err() {
             return Err(Unplaced { row });
         }
-        let (displaced, kept) = fill_twice(
-            &mut self.slots,
-            &mut self.locator,
-            *at,
-            row,
-            self.alloc,
-        )?;
-        self.changed.push_reserved(*at);
+        let Displaced {
+            place,
+            row: displaced,
+            kept,
+        } = fill_twice(&mut self.slots, &mut self.locator, *at, row, self.alloc)?;
+        self.changed.push_reserved(Spot { at: *at, place });
         self.before.push_reserved(kept);
         Ok(displaced)
     }

@@ -1,35 +1,38 @@
 //! Slots for rows. A slot that is there can be filled and emptied without memory.
 
-ghost use Rattle.std.specs.Prelude.{◌≡◌, ◌≢◌, [], Some, None, IsSome, IfOk, IfErr, OnOk, OnErr};
+ghost use Rattle.std.specs.Prelude.{◌≡◌, ◌≢◌, ℕ, [], Some, None, IsSome, IfSome, IfNone, IfOk};
+ghost use Rattle.std.specs.Prelude.{IfErr, OnOk, OnErr};
 ghost use Rattle.std.specs.Option.{option_copied};
 ghost use Rattle.std.specs.FinMap as map;
 ghost use Rattle.ox_block.specs.declared.block.OutPoint.{OutPoint};
-ghost use Rattle.ox_outputs.specs.Slots.{slot_at, put_slot, rows_of};
+ghost use Rattle.ox_outputs.specs.Slots.{outpoint_at, slot_at, put_slot, rows_of};
 
-use crate::held::{Held, exchange_in, give_out, row_in, take_back};
+use crate::held::{Held, exchange_in, give_out, row_in, take_back, vacate};
+use crate::places::Places;
 use ox_block::OutPoint;
 use ox_rules::{OutRow, Unplaced};
-use ox_shards::Shards;
 use slab::Slab;
 use std::alloc::Global;
 use std::marker::Model;
 
-/// Slots by outpoint, each with a row or empty. The rows stand apart from the outpoints, each at a
-/// place of its own, so that the map's nodes are small and no row is moved when one comes or goes.
+/// Slots of outpoints, each with a row or empty. A slot keeps its place while it is there, so that
+/// who knows the place needn't look for the outpoint again. Contracts see the slot, or nothing, at
+/// each place.
 #[derive(Drop)]
 pub(crate) struct Slots {
-    places: Shards<OutPoint, u32>,
+    places: Places,
     held: Held,
 }
 
 impl Model for Slots {
-    ghost use Rattle.ox_outputs.specs.Slots.{SlotList, slots_in, ArePlaced};
+    ghost use Rattle.ox_outputs.specs.Slots.{SlotList};
+    ghost use Rattle.ox_outputs.specs.Places.{ArePlaced};
 
     ghost Value = { SlotList };
 
-    ghost view = { λ s. slots_in s.places s.held };
+    ghost view = { λ s. s.held.slots };
 
-    ghost invariant = { λ s. ArePlaced s.places s.held };
+    ghost invariant = { λ s. ArePlaced s.places s.held.slots };
 }
 
 impl Slots {
@@ -38,90 +41,88 @@ impl Slots {
         ensures { result ≡ [] }
     {
         Slots {
-            places: Shards::new(alloc),
+            places: Places::new(alloc),
             held: Slab::new(alloc),
         }
+    }
+
+    /// The place of the slot at this outpoint. Where there is none, no row stands there.
+    pub(crate) fn find(&self, at: &OutPoint) -> Option<u32>
+        ensures some { IfSome result (λ place. outpoint_at self.now place ≡ Some at.now) }
+        ensures none { IfNone result (map.get (rows_of self.now) at.now ≡ None) }
+    {
+        self.places.find(&self.held, at)
     }
 
     /// The row in the slot at this outpoint.
     pub(crate) fn get(&self, at: &OutPoint) -> Option<&OutRow>
         ensures { option_copied result ≡ map.get (rows_of self.now) at.now }
     {
-        match self.places.get(at) {
-            Some(place) => row_in(&self.held, *place),
+        match self.find(at) {
+            Some(place) => self.row(place),
             None => None,
         }
     }
 
-    /// Changes what a slot that is there holds, and answers what it held.
-    pub(crate) fn exchange(&mut self, at: &OutPoint, row: Option<OutRow>) -> Option<OutRow>
-        requires { IsSome (slot_at self.old at.now) }
-        ensures held { result ≡ map.get (rows_of self.old) at.now }
-        ensures rows { rows_of self.new ≡ put_slot (rows_of self.old) at.now row }
-        ensures others { (q : OutPoint) → IsSome (slot_at self.old q)
-            → IsSome (slot_at self.new q) }
+    /// The row in the slot at this place.
+    pub(crate) fn row(&self, place: u32) -> Option<&OutRow>
+        ensures { (at : OutPoint) → outpoint_at self.now place ≡ Some at
+            → option_copied result ≡ map.get (rows_of self.now) at }
     {
-        match self.places.get(at) {
-            Some(place) => exchange_in(&mut self.held, *place, row),
-            None => unreachable!(),
-        }
+        row_in(&self.held, place)
     }
 
-    /// Empties the slot at this outpoint, if there is one, and answers what it held.
-    pub(crate) fn empty(&mut self, at: &OutPoint) -> Option<OutRow>
-        ensures held { result ≡ map.get (rows_of self.old) at.now }
-        ensures rows { rows_of self.new ≡ put_slot (rows_of self.old) at.now None }
-        ensures others { (q : OutPoint) → IsSome (slot_at self.old q)
-            → IsSome (slot_at self.new q) }
+    /// Changes what the slot at this place holds, and answers what it held.
+    pub(crate) fn exchange(&mut self, place: u32, row: Option<OutRow>) -> Option<OutRow>
+        requires { IsSome (outpoint_at self.old place) }
+        ensures held { (at : OutPoint) → outpoint_at self.old place ≡ Some at
+            → result ≡ map.get (rows_of self.old) at }
+        ensures rows { (at : OutPoint) → outpoint_at self.old place ≡ Some at
+            → rows_of self.new ≡ put_slot (rows_of self.old) at row }
+        ensures places { (p : ℕ) → outpoint_at self.new p ≡ outpoint_at self.old p }
     {
-        match self.places.get(at) {
-            Some(place) => exchange_in(&mut self.held, *place, None),
-            None => None,
-        }
+        exchange_in(&mut self.held, place, row)
     }
 
-    // Takes the slot at this outpoint away, and answers what it held.
-    fn remove(&mut self, at: &OutPoint) -> Option<OutRow>
-        ensures held { result ≡ map.get (rows_of self.old) at.now }
-        ensures rows { rows_of self.new ≡ put_slot (rows_of self.old) at.now None }
-        ensures gone { slot_at self.new at.now ≡ None }
-    {
-        match self.places.remove(at) {
-            Some(place) => take_back(&mut self.held, place),
-            None => None,
-        }
-    }
-
-    /// Takes the slot at this outpoint away if it is empty: no row is lost.
-    #[tactic(auto, using(crate::proofs::SlotLemmas::put_none, crate::proofs::SlotLemmas::is_full))]
-    pub(crate) fn tidy(&mut self, at: &OutPoint)
+    /// Takes the slot at this place away if it is empty: no row is lost.
+    pub(crate) fn tidy(&mut self, place: u32)
         ensures rows { rows_of self.new ≡ rows_of self.old }
-        ensures gone { slot_at self.new at.now ≢ Some None }
+        ensures gone { (at : OutPoint)
+            → slot_at self.new place ≢ Some (record { at = at; row = None }) }
     {
-        match self.get(at) {
-            Some(_) => (),
-            None => {
-                let _empty = self.remove(at);
-            }
+        let Some(slot) = self.held.get(place as usize) else {
+            return;
+        };
+        if slot.row.is_none() {
+            let at = slot.at;
+            self.places.remove(&at, place);
+            vacate(&mut self.held, place);
         }
     }
 
-    /// Fills the slot at this outpoint, which is made where there is none, and answers what it
-    /// held. Where there is no memory, the row is handed back and the slots are as before.
-    pub(crate) fn fill(&mut self, at: OutPoint, row: OutRow) -> Result<Option<OutRow>, Unplaced>
-        ensures held { IfOk result (λ held. held ≡ map.get (rows_of self.old) at) }
-        ensures rows { OnOk result
-            (rows_of self.new ≡ map.insert (rows_of self.old) at row) }
-        ensures slot { OnOk result (IsSome (slot_at self.new at)) }
-        ensures others { (q : OutPoint) → IsSome (slot_at self.old q)
-            → IsSome (slot_at self.new q) }
+    /// Fills the slot at this outpoint, which is made where there is none, and answers its place
+    /// and what it held. Where there is no memory, the row is handed back and no row has changed.
+    pub(crate) fn fill(
+        &mut self,
+        at: OutPoint,
+        row: OutRow,
+    ) -> Result<(u32, Option<OutRow>), Unplaced>
+        ensures held { IfOk result
+            (λ filled. filled.1 ≡ map.get (rows_of self.old) at) }
+        ensures rows { OnOk result (rows_of self.new ≡ map.insert (rows_of self.old) at row) }
+        ensures place { IfOk result (λ filled. outpoint_at self.new filled.0 ≡ Some at) }
+        ensures places { (p : ℕ) (q : OutPoint) → outpoint_at self.old p ≡ Some q
+            → outpoint_at self.new p ≡ Some q }
         ensures handed_back { IfErr result (λ e. e.row ≡ row) }
-        ensures err { OnErr result (self.new ≡ self.old) }
+        ensures err { OnErr result (rows_of self.new ≡ rows_of self.old) }
     {
-        let place = give_out(&mut self.held, row)?;
-        match self.places.insert(at, place) {
-            Ok(Some(earlier)) => Ok(take_back(&mut self.held, earlier)),
-            Ok(None) => Ok(None),
+        if let Some(place) = self.places.find(&self.held, &at) {
+            let earlier = exchange_in(&mut self.held, place, Some(row));
+            return Ok((place, earlier));
+        }
+        let place = give_out(&mut self.held, at, row)?;
+        match self.places.add(at, place) {
+            Ok(()) => Ok((place, None)),
             Err(_) => match take_back(&mut self.held, place) {
                 Some(row) => Err(Unplaced { row }),
                 None => unreachable!(),

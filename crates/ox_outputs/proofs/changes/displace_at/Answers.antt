@@ -7,13 +7,13 @@ use Rattle.ox_outputs.specs.Located.{AreRuns}
 use Rattle.ox_outputs.specs.Locator.{live_at}
 use Rattle.ox_outputs.specs.Slots.{rows_of, put_slot}
 use Rattle.ox_outputs.specs.Stretches.{stretch_at, stretches_of, is_among, firsts_of}
-use Rattle.ox_outputs.proofs.SlotLemmas.{get-put_slot, get-put_slot_same, row_known}
+use Rattle.ox_outputs.proofs.SlotLemmas.{get-put_slot, get-put_slot_same}
 use Rattle.ox_outputs.proofs.RowLemmas.{fresh_runs, arrive_rows, leave_rows, the_row, gets_again, elsewhere_is, may_alike, may_less, stays_none}
 use Rattle.ox_outputs.proofs.changes.displace_at.Goals as goal
 
 pub displace_copied-requires : goal.displace_copied-requires
 displace_copied-requires c =
-    let at = c.args.at in
+    let at = c.args.spot.at in
     let before = put_slot (rows_of c.args.slots.now) at (Some c.args.other) in
     let outs = put_slot before at None in
     let goes : ℕ → Bool = is_among (firsts_of (runs_of c.args.other.sats)) in
@@ -23,14 +23,9 @@ displace_copied-requires c =
       fresh = λ q among stays. stays_none (goes q) (live_at c.args.locator.now q) (fresh_runs live outs at c.args.sats.now q left (get-put_slot_same before at None) may among) stays;
     }
 
-pub exchange-requires : goal.exchange-requires
-exchange-requires c =
-    let row = the_row (map.get (rows_of c.args.slots.now) c.args.at) c.args.sats.now c.requires.stands in
-    row_known c.args.slots.now c.args.at row.0 (sym row.1)
-
 pub returns-in-Ok-clause-runs : goal.returns-in-Ok-clause-runs
 returns-in-Ok-clause-runs c =
-    let at = c.args.at in
+    let at = c.args.spot.at in
     let rows = rows_of c.args.slots.now in
     let before = put_slot rows at (Some c.args.other) in
     let outs = put_slot before at None in

@@ -26,58 +26,58 @@ back o x row is stands = let both : Some x ≡ Some row = is ∙ stands in cc bo
 
 pub arrive_at-requires-clause-stands : goal.arrive_at-requires-clause-stands
 arrive_at-requires-clause-stands c =
-    some_and (map.get (rows_of c.fill.new.self) c.args.at) c.args.row c.in-Ok.sats (there (rows_of c.args.slots.now) (rows_of c.fill.new.self) c.args.at c.args.row c.in_ok-fill.ensures.rows) (sym c.in-Ok.ensures)
+    some_and (map.get (rows_of c.fill.new.self) c.args.at) c.args.row c.in-Ok.sats (there (rows_of c.args.slots.now) (rows_of c.fill.new.self) c.args.at c.args.row c.in_ok-place.ensures.rows) (sym c.in-Ok.ensures)
 
 pub arrive_at-requires-clause-runs : goal.arrive_at-requires-clause-runs
 arrive_at-requires-clause-runs c =
     let rows = rows_of c.args.slots.now in
     let filled = rows_of c.fill.new.self in
     runs_alike (live_at c.args.locator.now) (live_at c.args.locator.now) rows (put_slot filled c.args.at None) c.requires.runs (λ q. refl)
-    (before rows filled c.args.at c.args.row c.in_ok-fill.field-0 None c.in_ok-fill.ensures.rows c.in_ok-fill.ensures.held c.in-None.is)
+    (before rows filled c.args.at c.args.row c.in_ok-place.earlier None c.in_ok-place.ensures.rows c.in_ok-place.ensures.held c.in-None.is)
 
 pub arrive_at-requires-clause-may : goal.arrive_at-requires-clause-may
 arrive_at-requires-clause-may c =
     let rows = rows_of c.args.slots.now in
     let filled = rows_of c.fill.new.self in
     may_alike c.args.at c.args.row.sats c.in-Ok.sats rows (put_slot filled c.args.at None) c.requires.may c.in-Ok.ensures
-    (before rows filled c.args.at c.args.row c.in_ok-fill.field-0 None c.in_ok-fill.ensures.rows c.in_ok-fill.ensures.held c.in-None.is)
+    (before rows filled c.args.at c.args.row c.in_ok-place.earlier None c.in_ok-place.ensures.rows c.in_ok-place.ensures.held c.in-None.is)
 
 pub returns-in-None-clause-handed_back : goal.returns-in-None-clause-handed_back
 returns-in-None-clause-handed_back c =
-    let stands = there (rows_of c.args.slots.now) (rows_of c.fill.new.self) c.args.at c.args.row c.in_ok-fill.ensures.rows in
+    let stands = there (rows_of c.args.slots.now) (rows_of c.fill.new.self) c.args.at c.args.row c.in_ok-place.ensures.rows in
     err_so c.arrive_at.result (λ e is. back (map.get (rows_of c.fill.new.self) c.args.at) e.row c.args.row is stands) c.arrive_at.ensures.handed_back
 
 pub returns-in-None-clause-err : goal.returns-in-None-clause-err
 returns-in-None-clause-err c =
     let rows = rows_of c.args.slots.now in
     let filled = rows_of c.fill.new.self in
-    err_so c.arrive_at.result (λ e is. is ∙ before rows filled c.args.at c.args.row c.in_ok-fill.field-0 None c.in_ok-fill.ensures.rows c.in_ok-fill.ensures.held c.in-None.is) c.arrive_at.ensures.err
+    err_so c.arrive_at.result (λ e is. is ∙ before rows filled c.args.at c.args.row c.in_ok-place.earlier None c.in_ok-place.ensures.rows c.in_ok-place.ensures.held c.in-None.is) c.arrive_at.ensures.err
 
 pub displace_at-requires-clause-stands : goal.displace_at-requires-clause-stands
 displace_at-requires-clause-stands c =
-    some_and (map.get (rows_of c.fill.new.self) c.args.at) c.args.row c.in-Ok.sats (there (rows_of c.args.slots.now) (rows_of c.fill.new.self) c.args.at c.args.row c.in_ok-fill.ensures.rows) (sym c.in-Ok.ensures)
+    some_and (map.get (rows_of c.fill.new.self) c.args.at) c.args.row c.in-Ok.sats (there (rows_of c.args.slots.now) (rows_of c.fill.new.self) c.args.at c.args.row c.in_ok-place.ensures.rows) (sym c.in-Ok.ensures)
 
 pub displace_at-requires-clause-runs : goal.displace_at-requires-clause-runs
 displace_at-requires-clause-runs c =
     let rows = rows_of c.args.slots.now in
     let filled = rows_of c.fill.new.self in
     runs_alike (live_at c.args.locator.now) (live_at c.args.locator.now) rows (put_slot filled c.args.at (Some c.in-Some.other)) c.requires.runs (λ q. refl)
-    (before rows filled c.args.at c.args.row c.in_ok-fill.field-0 (Some c.in-Some.other) c.in_ok-fill.ensures.rows c.in_ok-fill.ensures.held c.in-Some.is)
+    (before rows filled c.args.at c.args.row c.in_ok-place.earlier (Some c.in-Some.other) c.in_ok-place.ensures.rows c.in_ok-place.ensures.held c.in-Some.is)
 
 pub displace_at-requires-clause-may : goal.displace_at-requires-clause-may
 displace_at-requires-clause-may c =
     let rows = rows_of c.args.slots.now in
     let filled = rows_of c.fill.new.self in
     may_alike c.args.at c.args.row.sats c.in-Ok.sats rows (put_slot filled c.args.at (Some c.in-Some.other)) c.requires.may c.in-Ok.ensures
-    (before rows filled c.args.at c.args.row c.in_ok-fill.field-0 (Some c.in-Some.other) c.in_ok-fill.ensures.rows c.in_ok-fill.ensures.held c.in-Some.is)
+    (before rows filled c.args.at c.args.row c.in_ok-place.earlier (Some c.in-Some.other) c.in_ok-place.ensures.rows c.in_ok-place.ensures.held c.in-Some.is)
 
 pub returns-clause-handed_back : goal.returns-clause-handed_back
 returns-clause-handed_back c =
-    let stands = there (rows_of c.args.slots.now) (rows_of c.fill.new.self) c.args.at c.args.row c.in_ok-fill.ensures.rows in
+    let stands = there (rows_of c.args.slots.now) (rows_of c.fill.new.self) c.args.at c.args.row c.in_ok-place.ensures.rows in
     err_so c.displace_at.result (λ e is. back (map.get (rows_of c.fill.new.self) c.args.at) e.row c.args.row is stands) c.displace_at.ensures.handed_back
 
 pub returns-clause-err : goal.returns-clause-err
 returns-clause-err c =
     let rows = rows_of c.args.slots.now in
     let filled = rows_of c.fill.new.self in
-    err_so c.displace_at.result (λ e is. is ∙ before rows filled c.args.at c.args.row c.in_ok-fill.field-0 (Some c.in-Some.other) c.in_ok-fill.ensures.rows c.in_ok-fill.ensures.held c.in-Some.is) c.displace_at.ensures.err
+    err_so c.displace_at.result (λ e is. is ∙ before rows filled c.args.at c.args.row c.in_ok-place.earlier (Some c.in-Some.other) c.in_ok-place.ensures.rows c.in_ok-place.ensures.held c.in-Some.is) c.displace_at.ensures.err

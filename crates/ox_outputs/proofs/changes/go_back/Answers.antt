@@ -1,40 +1,49 @@
-use Rattle.std.proofs.Common.{◌≡◌, ◌∙◌, ◌<◌, sym, ap, arith, length, length-append, List, Option, [], ◌∷◌}
+use Rattle.std.proofs.Common.{◌≡◌, ◌∙◌, ◌<◌, ◌≤◌, sym, ap, arith, length, length-append, List, Option, [], ◌∷◌}
 use Rattle.ox_rules.specs.declared.rows.OutRow.{OutRow}
 use Rattle.ox_outputs.specs.Slots.{rows_of, undone}
-use Rattle.ox_outputs.proofs.SlotLemmas.{no_rows, undo_step, slots_kept, slot_known}
+use Rattle.ox_outputs.proofs.SlotLemmas.{keep_same, no_rows, some_there, spot_known, spots_kept, undo_step}
 use Rattle.ox_outputs.proofs.changes.go_back.Goals as goal
 
 pub exchange-changed-requires : goal.exchange-changed-requires
 exchange-changed-requires c =
     let popped = c.in-Some.ensures.items in
     let fits : c.len.result < length c.args.changed.now = omega (arith, c.loop-row.invariant.short, ap length popped, length-append c.pop.new.self.items (c.in-Some.row ∷ [])) in
-    slot_known _ c.args.changed.now c.loop-row.slots c.len.result fits c.loop-row.invariant.known
+    some_there _ _ (spot_known _ c.args.changed.now c.loop-row.slots c.len.result fits c.loop-row.invariant.known)
 
 pub loop-row-preserved-in-Some : goal.loop-row-preserved-in-Some
 loop-row-preserved-in-Some c =
     let popped = c.in-Some.ensures.items in
-    let at : c.len.result ≡ length c.pop.new.self.items = omega (arith, c.len.ensures) in record {
-      rows = undo_step _ c.loop-row.before.items c.pop.new.self.items c.in-Some.row c.args.changed.now _ _ _ c.len.result popped c.loop-row.invariant.short at c.exchange-changed.ensures.rows c.loop-row.invariant.rows;
-      short = omega (arith, c.loop-row.invariant.short, ap length popped, length-append c.pop.new.self.items (c.in-Some.row ∷ []));
-      known = slots_kept c.args.changed.now c.loop-row.slots c.exchange-changed.new.self c.exchange-changed.ensures.others c.loop-row.invariant.known;
+    let fits : c.len.result < length c.args.changed.now = omega (arith, c.loop-row.invariant.short, ap length popped, length-append c.pop.new.self.items (c.in-Some.row ∷ [])) in
+    let at : c.len.result ≡ length c.pop.new.self.items = omega (arith, c.len.ensures) in
+    let short : length c.pop.new.self.items ≤ length c.args.changed.now = omega (arith, c.loop-row.invariant.short, ap length popped, length-append c.pop.new.self.items (c.in-Some.row ∷ [])) in
+    let spot = spot_known _ c.args.changed.now c.loop-row.slots c.len.result fits c.loop-row.invariant.known in record {
+      rows = undo_step _ c.loop-row.before.items c.pop.new.self.items c.in-Some.row c.args.changed.now _ _ _ c.len.result popped c.loop-row.invariant.short at (c.exchange-changed.ensures.rows _ spot) c.loop-row.invariant.rows;
+      short = short;
+      known = spots_kept c.args.changed.now c.loop-row.slots c.exchange-changed.new.self (keep_same c.loop-row.slots c.exchange-changed.new.self c.exchange-changed.ensures.places) c.loop-row.invariant.known;
     }
 
 pub loop-row-preserved : goal.loop-row-preserved
 loop-row-preserved c =
     let popped = c.in-Some.ensures.items in
-    let at : c.len.result ≡ length c.pop.new.self.items = omega (arith, c.len.ensures) in record {
-      rows = undo_step _ c.loop-row.before.items c.pop.new.self.items c.in-Some.row c.args.changed.now _ _ _ c.len.result popped c.loop-row.invariant.short at c.exchange-changed.ensures.rows c.loop-row.invariant.rows;
-      short = omega (arith, c.loop-row.invariant.short, ap length popped, length-append c.pop.new.self.items (c.in-Some.row ∷ []));
-      known = slots_kept c.args.changed.now c.loop-row.slots c.exchange-changed.new.self c.exchange-changed.ensures.others c.loop-row.invariant.known;
+    let fits : c.len.result < length c.args.changed.now = omega (arith, c.loop-row.invariant.short, ap length popped, length-append c.pop.new.self.items (c.in-Some.row ∷ [])) in
+    let at : c.len.result ≡ length c.pop.new.self.items = omega (arith, c.len.ensures) in
+    let short : length c.pop.new.self.items ≤ length c.args.changed.now = omega (arith, c.loop-row.invariant.short, ap length popped, length-append c.pop.new.self.items (c.in-Some.row ∷ [])) in
+    let spot = spot_known _ c.args.changed.now c.loop-row.slots c.len.result fits c.loop-row.invariant.known in record {
+      rows = undo_step _ c.loop-row.before.items c.pop.new.self.items c.in-Some.row c.args.changed.now _ _ _ c.len.result popped c.loop-row.invariant.short at (c.exchange-changed.ensures.rows _ spot) c.loop-row.invariant.rows;
+      short = short;
+      known = spots_kept c.args.changed.now c.loop-row.slots c.exchange-changed.new.self (keep_same c.loop-row.slots c.exchange-changed.new.self c.exchange-changed.ensures.places) c.loop-row.invariant.known;
     }
 
 pub loop-row-preserved-in-Some-2 : goal.loop-row-preserved-in-Some-2
 loop-row-preserved-in-Some-2 c =
     let popped = c.in-Some.ensures.items in
-    let at : c.len.result ≡ length c.pop.new.self.items = omega (arith, c.len.ensures) in record {
-      rows = undo_step _ c.loop-row.before.items c.pop.new.self.items c.in-Some.row c.args.changed.now _ _ _ c.len.result popped c.loop-row.invariant.short at c.exchange-changed.ensures.rows c.loop-row.invariant.rows;
-      short = omega (arith, c.loop-row.invariant.short, ap length popped, length-append c.pop.new.self.items (c.in-Some.row ∷ []));
-      known = slots_kept c.args.changed.now c.loop-row.slots c.exchange-changed.new.self c.exchange-changed.ensures.others c.loop-row.invariant.known;
+    let fits : c.len.result < length c.args.changed.now = omega (arith, c.loop-row.invariant.short, ap length popped, length-append c.pop.new.self.items (c.in-Some.row ∷ [])) in
+    let at : c.len.result ≡ length c.pop.new.self.items = omega (arith, c.len.ensures) in
+    let short : length c.pop.new.self.items ≤ length c.args.changed.now = omega (arith, c.loop-row.invariant.short, ap length popped, length-append c.pop.new.self.items (c.in-Some.row ∷ [])) in
+    let spot = spot_known _ c.args.changed.now c.loop-row.slots c.len.result fits c.loop-row.invariant.known in record {
+      rows = undo_step _ c.loop-row.before.items c.pop.new.self.items c.in-Some.row c.args.changed.now _ _ _ c.len.result popped c.loop-row.invariant.short at (c.exchange-changed.ensures.rows _ spot) c.loop-row.invariant.rows;
+      short = short;
+      known = spots_kept c.args.changed.now c.loop-row.slots c.exchange-changed.new.self (keep_same c.loop-row.slots c.exchange-changed.new.self c.exchange-changed.ensures.places) c.loop-row.invariant.known;
     }
 
 pub returns-clause-rows : goal.returns-clause-rows

@@ -1,13 +1,12 @@
 use Rattle.std.proofs.Common.{◌≡◌, ◌≤◌, length}
-use Rattle.std.specs.Prelude.{IsTrue}
-use Rattle.ox_outputs.specs.Slots.{rows_of, undone, are_slots}
+use Rattle.ox_outputs.specs.Slots.{rows_of, undone, AreSpots}
 use Rattle.ox_outputs.proofs.changes.go_back.Given as goal
 
 abbrev pub invariant-loop-row : goal.invariant-loop-row
 invariant-loop-row l = record {
   rows : undone l.before.items l.changed (rows_of l.slots) ≡ undone l.fn.before.items l.changed (rows_of l.fn.slots);
   short : length l.before.items ≤ length l.changed;
-  known : IsTrue (are_slots l.changed l.slots);
+  known : AreSpots l.changed l.slots;
 }
 
 abbrev pub decreases-loop-row : goal.decreases-loop-row

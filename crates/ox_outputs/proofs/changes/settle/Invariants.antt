@@ -2,8 +2,8 @@ use Rattle.std.proofs.Common.{◌≡◌, length}
 use Rattle.ox_outputs.specs.Slots.{rows_of}
 use Rattle.ox_outputs.proofs.changes.settle.Given as goal
 
-abbrev pub invariant-loop-at : goal.invariant-loop-at
-invariant-loop-at l = rows_of l.slots ≡ rows_of l.fn.slots
+abbrev pub invariant-loop-spot : goal.invariant-loop-spot
+invariant-loop-spot l = rows_of l.slots ≡ rows_of l.fn.slots
 
-abbrev pub decreases-loop-at : goal.decreases-loop-at
-decreases-loop-at l = length l.changed.items
+abbrev pub decreases-loop-spot : goal.decreases-loop-spot
+decreases-loop-spot l = length l.changed.items

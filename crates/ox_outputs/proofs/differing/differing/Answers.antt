@@ -1,4 +1,4 @@
-use Rattle.std.proofs.Common.{◌≡◌, ◌∙◌, ◌++◌, ℕ, List, Some, None, sym, ap, subst}
+use Rattle.std.proofs.Common.{◌≡◌, ◌∙◌, ◌++◌, ℕ, List, Some, None, sym, ap, subst, arith}
 use Rattle.std.specs.Prelude.{All, option_copied}
 use Rattle.std.specs.BTreeMap as trees
 use Rattle.std.specs.FinMap.{get}
@@ -9,7 +9,8 @@ use Rattle.ox_rules.specs.Outputs.{Outputs, outpoint_cmp}
 use Rattle.ox_rules.specs.declared.rows.OutRow.{OutRow}
 use Rattle.ox_outputs.specs.Differing.{gone_at, row_unless, rows_for}
 use Rattle.ox_outputs.specs.Slots.{rows_of, undone}
-use Rattle.ox_outputs.proofs.DifferingRows.{all_rows, all_there, are_gone, first_of_all, one_more, rest_of_all, stays_at, stays_stood}
+use Rattle.ox_outputs.specs.declared.spot.Spot.{Spot}
+use Rattle.ox_outputs.proofs.DifferingRows.{all_rows, all_there, are_gone, first_of_all, one_more, rest_of_all, stays_at, stays_spot, stays_stood}
 use Rattle.ox_outputs.proofs.differing.differing.Goals as goal
 
 pub loop-at-init : goal.loop-at-init
@@ -24,6 +25,25 @@ loop-at-init c =
       came = ap (λ (l : List (OutPoint × OutRow)). l ++ rows_for (gone_at now marked) c.into_iter-at-iterator.result) c.new-came.ensures;
     }
 
+pub bounds-changed-place : goal.bounds-changed-place
+bounds-changed-place c =
+    let is : c.into_iter-at-iterator.result ≡ c.in_ok-places.places.entries = c.into_iter-at-iterator.ensures.into_iter_gives ∙ c.iter-at-items.ensures.rest in
+    let at : OutPoint = c.in-Some.at.now in
+    let place : ℕ = c.in-Some.place.now in
+    let there = first_of_all (λ (e : OutPoint × ℕ). lookup (trees.is_at (outpoint_cmp e.0)) c.into_iter-at-iterator.result ≡ Some e.1) c.loop-at.at-iterator (at, place) c.next.new.self c.in-Some.ensures.steps c.loop-at.invariant.there in
+    let d : Spot = record { at = at; place = 0 } in
+    (stays_spot d c.args.changed.now c.args.slots.now at place c.in_ok-places.places.entries c.into_iter-at-iterator.result c.requires.known is there (c.in_ok-places.ensures.places at)).0
+
+pub offset_bounds-changed-place : goal.offset_bounds-changed-place
+offset_bounds-changed-place c =
+    let is : c.into_iter-at-iterator.result ≡ c.in_ok-places.places.entries = c.into_iter-at-iterator.ensures.into_iter_gives ∙ c.iter-at-items.ensures.rest in
+    let at : OutPoint = c.in-Some.at.now in
+    let place : ℕ = c.in-Some.place.now in
+    let there = first_of_all (λ (e : OutPoint × ℕ). lookup (trees.is_at (outpoint_cmp e.0)) c.into_iter-at-iterator.result ≡ Some e.1) c.loop-at.at-iterator (at, place) c.next.new.self c.in-Some.ensures.steps c.loop-at.invariant.there in
+    let d : Spot = record { at = at; place = 0 } in
+    let within = (stays_spot d c.args.changed.now c.args.slots.now at place c.in_ok-places.places.entries c.into_iter-at-iterator.result c.requires.known is there (c.in_ok-places.ensures.places at)).0 in
+    omega (arith, within, c.well_formed)
+
 pub loop-at-preserved : goal.loop-at-preserved
 loop-at-preserved c =
     let is : c.into_iter-at-iterator.result ≡ c.in_ok-places.places.entries = c.into_iter-at-iterator.ensures.into_iter_gives ∙ c.iter-at-items.ensures.rest in
@@ -34,8 +54,9 @@ loop-at-preserved c =
     let steps : c.loop-at.at-iterator ≡ _ = c.in-Some.ensures.steps in
     let there = first_of_all (λ (e : OutPoint × ℕ). lookup (trees.is_at (outpoint_cmp e.0)) c.into_iter-at-iterator.result ≡ Some e.1) c.loop-at.at-iterator (at, place) c.next.new.self steps c.loop-at.invariant.there in
     let stood : option_copied c.row_before-stood.result ≡ get marked at =
-    c.row_before-stood.ensures ∙ stays_stood c.args.before.now c.args.changed.now now at place c.in_ok-places.places.entries c.into_iter-at-iterator.result c.requires is there (c.in_ok-places.ensures.places at) in
-    let stands : option_copied c.get-stands.result ≡ get now at = c.get-stands.ensures in record {
+    c.row_before-stood.ensures ∙ stays_stood c.args.before.now c.args.changed.now now at place c.in_ok-places.places.entries c.into_iter-at-iterator.result c.requires.paired is there (c.in_ok-places.ensures.places at) in
+    let stands : option_copied c.row-stands.result ≡ get now at = c.row-stands.ensures at
+    (stays_spot _ c.args.changed.now c.args.slots.now at place c.in_ok-places.places.entries c.into_iter-at-iterator.result c.requires.known is there (c.in_ok-places.ensures.places at)).1 in record {
       can = tt;
       finite = tt;
       there = rest_of_all (λ (e : OutPoint × ℕ). lookup (trees.is_at (outpoint_cmp e.0)) c.into_iter-at-iterator.result ≡ Some e.1) c.loop-at.at-iterator (at, place) c.next.new.self steps c.loop-at.invariant.there;

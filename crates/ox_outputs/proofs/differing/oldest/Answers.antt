@@ -8,7 +8,7 @@ use Rattle.std.proofs.lemmas.Iterator.Adapters.{YieldsList-from_vec}
 use Rattle.std.proofs.lemmas.Map.{update_all_push}
 use Rattle.ox_block.specs.declared.block.OutPoint.{OutPoint}
 use Rattle.ox_rules.specs.Outputs.{outpoint_cmp}
-use Rattle.ox_outputs.proofs.DifferingRows.{oldest_step}
+use Rattle.ox_outputs.proofs.DifferingRows.{is_of, oldest_step}
 use Rattle.ox_outputs.proofs.differing.oldest.Goals as goal
 
 -- the place that each outpoint has, with these pairs put in one behind the other
@@ -21,7 +21,7 @@ loop-left-init c = record {
   len = c.in_ok-newest_first.ensures.len ∙ sym (ap length c.in_ok-newest_first.ensures.items);
   room = omega (arith, c.in_ok-newest_first.ensures.capacity, c.in_ok-newest_first.ensures.len);
   places = λ at. ap (λ (pairs : List (OutPoint × ℕ)). place_in pairs at) c.in_ok-newest_first.ensures.items
-      ∙ sym (ap (position_from (eq_by_cmp outpoint_cmp at) (length c.args.changed.now)) (drop_all (length c.args.changed.now) c.args.changed.now (omega arith)));
+      ∙ sym (ap (position_from (is_of at) (length c.args.changed.now)) (drop_all (length c.args.changed.now) c.args.changed.now (omega arith)));
 }
 
 pub push_reserved-requires : goal.push_reserved-requires
@@ -48,4 +48,4 @@ returns-clause-places c = λ at.
     let all : ran.1 ≡ pairs = sym (map-id ran.1) ∙ items_from_drains ran.1 ran.3 (YieldsList-from_vec pairs ran.2.0 (ran.2.1 ∙ c.loop-left.invariant.len)) in
     let none : c.loop-left.left ≡ 0 = omega (arith, c.loop-left-test.false) in
     ran.4.0 at ∙ ap (λ (xs : List (OutPoint × ℕ)). place_in xs at) all ∙ c.loop-left.invariant.places at
-    ∙ ap (λ (n : ℕ). position_from (eq_by_cmp outpoint_cmp at) n (drop n c.args.changed.now)) none
+    ∙ ap (λ (n : ℕ). position_from (is_of at) n (drop n c.args.changed.now)) none

@@ -1,19 +1,38 @@
-use Rattle.std.proofs.Common.{◌∙◌}
-use Rattle.ox_outputs.specs.Locator.{kept_at}
+use Rattle.std.proofs.Common.{◌∙◌, refl}
+use Rattle.ox_outputs.specs.Locator.{live_at, kept_at}
 use Rattle.ox_outputs.specs.Slots.{rows_of, undone}
-use Rattle.ox_outputs.proofs.RowLemmas.{apart_alike, once_alike}
-use Rattle.ox_outputs.proofs.OutputsLemmas.{undone_none, once_less}
+use Rattle.ox_outputs.proofs.RowLemmas.{apart_alike, once_alike, runs_alike}
+use Rattle.ox_outputs.proofs.OutputsLemmas.{known_none, undone_none, once_less}
 use Rattle.ox_outputs.proofs.outputs.Outputs.take_away.Goals as goal
 
-pub invariant_of-self-2-clause-once : goal.invariant_of-self-2-clause-once
-invariant_of-self-2-clause-once c =
-    once_less (rows_of c.args.self.now.slots) (rows_of c.tidy.new.self) c.args.at.now c.args.self.now.once (c.tidy.ensures.rows ∙ c.in_ok-taken.ensures.rows)
-
-pub invariant_of-self-2-clause-once_before : goal.invariant_of-self-2-clause-once_before
-invariant_of-self-2-clause-once_before c =
+pub invariant_of-self-in-Some : goal.invariant_of-self-in-Some
+invariant_of-self-in-Some c =
     let self = c.args.self.now in
-    let once = once_less (rows_of self.slots) (rows_of c.tidy.new.self) c.args.at.now self.once (c.tidy.ensures.rows ∙ c.in_ok-taken.ensures.rows) in
-    once_alike (rows_of c.tidy.new.self) (undone self.before.items self.changed.items (rows_of c.tidy.new.self)) once (undone_none self.before.items self.changed.items (rows_of c.tidy.new.self) (self.unmarked c.requires))
+    let rows = rows_of c.tidy.new.self in
+    let none = self.unmarked c.requires in
+    let once = once_less (rows_of self.slots) rows c.args.at.now self.once (c.tidy.ensures.rows ∙ c.in_ok-taken.ensures.rows) in record {
+      known = known_none self.changed.items c.tidy.new.self none;
+      paired = self.paired;
+      unmarked = self.unmarked;
+      once = once;
+      once_before = once_alike rows (undone self.before.items self.changed.items rows) once (undone_none self.before.items self.changed.items rows none);
+      runs = runs_alike (live_at c.take_twice.new.locator) (live_at c.take_twice.new.locator) (rows_of c.take_twice.new.slots) rows c.take_twice.ensures.runs (λ q. refl) c.tidy.ensures.rows;
+      runs_before = λ is. absurd (cc (is, c.requires));
+      apart = apart_alike (kept_at self.locator) (kept_at c.take_twice.new.locator) self.apart c.take_twice.ensures.same;
+    }
 
-pub invariant_of-self-2-clause-apart : goal.invariant_of-self-2-clause-apart
-invariant_of-self-2-clause-apart c = apart_alike (kept_at c.args.self.now.locator) (kept_at c.take_twice.new.locator) c.args.self.now.apart c.take_twice.ensures.kept
+pub invariant_of-self-in-None : goal.invariant_of-self-in-None
+invariant_of-self-in-None c =
+    let self = c.args.self.now in
+    let rows = rows_of c.take_twice.new.slots in
+    let none = self.unmarked c.requires in
+    let once = once_less (rows_of self.slots) rows c.args.at.now self.once c.in_ok-taken.ensures.rows in record {
+      known = known_none self.changed.items c.take_twice.new.slots none;
+      paired = self.paired;
+      unmarked = self.unmarked;
+      once = once;
+      once_before = once_alike rows (undone self.before.items self.changed.items rows) once (undone_none self.before.items self.changed.items rows none);
+      runs = c.take_twice.ensures.runs;
+      runs_before = λ is. absurd (cc (is, c.requires));
+      apart = apart_alike (kept_at self.locator) (kept_at c.take_twice.new.locator) self.apart c.take_twice.ensures.same;
+    }

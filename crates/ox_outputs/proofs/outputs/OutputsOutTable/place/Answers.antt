@@ -1,6 +1,6 @@
 use Rattle.std.proofs.Common.{◌≡◌, ◌∙◌, ap, refl, List, Option, Some, [], ◌∷◌, ◌++◌}
-use Rattle.ox_block.specs.declared.block.OutPoint.{OutPoint}
 use Rattle.ox_rules.specs.declared.rows.OutRow.{OutRow}
+use Rattle.ox_outputs.specs.declared.spot.Spot.{Spot}
 use Rattle.ox_outputs.specs.Locator.{kept_at}
 use Rattle.ox_outputs.specs.Slots.{rows_of, undone}
 use Rattle.ox_outputs.proofs.SlotLemmas.{known_more, known_still, both_grown, both_still, mark_kept, mark_still, same_mark}
@@ -16,53 +16,55 @@ invariant_of-self c =
     let once = either_way c.fill_twice.result c.fill_twice.ensures.rows c.fill_twice.ensures.err
     (λ is. once_more (rows_of self.slots) rows c.args.at.now c.args.row self.once c.requires is)
     (λ is. once_alike (rows_of self.slots) rows self.once is) in record {
-      known = known_still self.changed.items self.changed.items self.slots c.fill_twice.new.slots refl self.known c.fill_twice.ensures.others;
+      known = known_still self.changed.items self.changed.items self.slots c.fill_twice.new.slots refl self.known c.fill_twice.ensures.places;
       paired = self.paired;
       unmarked = self.unmarked;
       once = once;
       once_before = once_alike rows (undone self.before.items self.changed.items rows) once (undone_none self.before.items self.changed.items rows (self.unmarked c.if-not-self.true));
       runs = c.fill_twice.ensures.runs;
       runs_before = λ is. absurd (cc (is, c.if-not-self.true));
-      apart = apart_alike (kept_at self.locator) (kept_at c.fill_twice.new.locator) self.apart c.fill_twice.ensures.kept;
+      apart = apart_alike (kept_at self.locator) (kept_at c.fill_twice.new.locator) self.apart c.fill_twice.ensures.same;
     }
 
-pub invariant_of-self-in-Break-branch-5 : goal.invariant_of-self-in-Break-branch-5
-invariant_of-self-in-Break-branch-5 c =
+pub invariant_of-self-in-Break-branch-2 : goal.invariant_of-self-in-Break-branch-2
+invariant_of-self-in-Break-branch-2 c =
     let self = c.args.self.now in
     let rows = rows_of c.fill_twice-2.new.slots in
-    let same = c.in_err-displaced-2.ensures.err in
+    let same = c.in_err-place.ensures.err in
     let mark = mark_still self.before.items c.reserve-else-is_err.new.self.items self.changed.items c.reserve.new.self.items (rows_of self.slots) rows c.reserve-else-is_err.ensures.items c.reserve.ensures.items same in record {
-      known = known_still self.changed.items c.reserve.new.self.items self.slots c.fill_twice-2.new.slots c.reserve.ensures.items self.known c.fill_twice-2.ensures.others;
+      known = known_still self.changed.items c.reserve.new.self.items self.slots c.fill_twice-2.new.slots c.reserve.ensures.items self.known c.fill_twice-2.ensures.places;
       paired = both_still self.before.items c.reserve-else-is_err.new.self.items self.changed.items c.reserve.new.self.items c.reserve-else-is_err.ensures.items c.reserve.ensures.items self.paired;
       unmarked = λ is. absurd (cc (is, c.if-not-self.false));
       once = once_alike (rows_of self.slots) rows self.once same;
       once_before = once_alike (undone self.before.items self.changed.items (rows_of self.slots)) _ self.once_before mark;
       runs = c.fill_twice-2.ensures.runs;
-      runs_before = λ is. runs_alike (kept_at self.locator) (kept_at c.fill_twice-2.new.locator) (undone self.before.items self.changed.items (rows_of self.slots)) _ (self.runs_before is) c.fill_twice-2.ensures.kept mark;
-      apart = apart_alike (kept_at self.locator) (kept_at c.fill_twice-2.new.locator) self.apart c.fill_twice-2.ensures.kept;
+      runs_before = λ is. runs_alike (kept_at self.locator) (kept_at c.fill_twice-2.new.locator) (undone self.before.items self.changed.items (rows_of self.slots)) _ (self.runs_before is) c.fill_twice-2.ensures.same mark;
+      apart = apart_alike (kept_at self.locator) (kept_at c.fill_twice-2.new.locator) self.apart c.fill_twice-2.ensures.same;
     }
 
 pub invariant_of-self-2 : goal.invariant_of-self-2
 invariant_of-self-2 c =
     let self = c.args.self.now in
     let rows = rows_of c.fill_twice-2.new.slots in
-    let changed : c.push_reserved.new.self.items ≡ self.changed.items ++ c.args.at.now ∷ [] = c.push_reserved.ensures.items ∙ ap (λ (l : List OutPoint). l ++ c.args.at.now ∷ []) c.reserve.ensures.items in
-    let before : c.push_reserved-2.new.self.items ≡ self.before.items ++ c.in_ok-displaced-2.kept ∷ [] = c.push_reserved-2.ensures.items ∙ ap (λ (l : List (Option OutRow)). l ++ c.in_ok-displaced-2.kept ∷ []) c.reserve-else-is_err.ensures.items in
-    let mark = mark_kept self.before.items c.push_reserved-2.new.self.items self.changed.items c.push_reserved.new.self.items (rows_of self.slots) rows c.in_ok-displaced-2.kept (Some c.args.row) c.args.at.now before changed c.in_ok-displaced-2.ensures.rows c.in_ok-displaced-2.ensures.twice self.paired in record {
-      known = known_more self.changed.items c.push_reserved.new.self.items c.args.at.now self.slots c.fill_twice-2.new.slots changed self.known c.in_ok-displaced-2.ensures.slot c.fill_twice-2.ensures.others;
+    let spot : Spot = record { at = c.args.at.now; place = c.in_ok-place.field-0.place } in
+    let changed : c.push_reserved.new.self.items ≡ self.changed.items ++ spot ∷ [] = c.push_reserved.ensures.items ∙ ap (λ (l : List Spot). l ++ spot ∷ []) c.reserve.ensures.items in
+    let before : c.push_reserved-2.new.self.items ≡ self.before.items ++ c.in_ok-place.field-0.kept ∷ [] = c.push_reserved-2.ensures.items ∙ ap (λ (l : List (Option OutRow)). l ++ c.in_ok-place.field-0.kept ∷ []) c.reserve-else-is_err.ensures.items in
+    let mark = mark_kept self.before.items c.push_reserved-2.new.self.items self.changed.items c.push_reserved.new.self.items (rows_of self.slots) rows c.in_ok-place.field-0.kept (Some c.args.row) spot before changed c.in_ok-place.ensures.rows c.in_ok-place.ensures.twice self.paired in record {
+      known = known_more self.changed.items c.push_reserved.new.self.items spot self.slots c.fill_twice-2.new.slots changed self.known c.in_ok-place.ensures.place c.fill_twice-2.ensures.places;
       paired = both_grown self.before.items c.push_reserved-2.new.self.items self.changed.items c.push_reserved.new.self.items _ _ before changed self.paired;
       unmarked = λ is. absurd (cc (is, c.if-not-self.false));
-      once = once_more (rows_of self.slots) rows c.args.at.now c.args.row self.once c.requires c.in_ok-displaced-2.ensures.rows;
+      once = once_more (rows_of self.slots) rows c.args.at.now c.args.row self.once c.requires c.in_ok-place.ensures.rows;
       once_before = once_alike (undone self.before.items self.changed.items (rows_of self.slots)) _ self.once_before mark;
       runs = c.fill_twice-2.ensures.runs;
-      runs_before = λ is. runs_alike (kept_at self.locator) (kept_at c.fill_twice-2.new.locator) (undone self.before.items self.changed.items (rows_of self.slots)) _ (self.runs_before is) c.fill_twice-2.ensures.kept mark;
-      apart = apart_alike (kept_at self.locator) (kept_at c.fill_twice-2.new.locator) self.apart c.fill_twice-2.ensures.kept;
+      runs_before = λ is. runs_alike (kept_at self.locator) (kept_at c.fill_twice-2.new.locator) (undone self.before.items self.changed.items (rows_of self.slots)) _ (self.runs_before is) c.fill_twice-2.ensures.same mark;
+      apart = apart_alike (kept_at self.locator) (kept_at c.fill_twice-2.new.locator) self.apart c.fill_twice-2.ensures.same;
     }
 
 pub returns-clause-mark : goal.returns-clause-mark
 returns-clause-mark c =
     let self = c.args.self.now in
     let rows = rows_of c.fill_twice-2.new.slots in
-    let changed : c.push_reserved.new.self.items ≡ self.changed.items ++ c.args.at.now ∷ [] = c.push_reserved.ensures.items ∙ ap (λ (l : List OutPoint). l ++ c.args.at.now ∷ []) c.reserve.ensures.items in
-    let before : c.push_reserved-2.new.self.items ≡ self.before.items ++ c.in_ok-displaced-2.kept ∷ [] = c.push_reserved-2.ensures.items ∙ ap (λ (l : List (Option OutRow)). l ++ c.in_ok-displaced-2.kept ∷ []) c.reserve-else-is_err.ensures.items in
-    same_mark self.marked _ _ (mark_kept self.before.items c.push_reserved-2.new.self.items self.changed.items c.push_reserved.new.self.items (rows_of self.slots) rows c.in_ok-displaced-2.kept (Some c.args.row) c.args.at.now before changed c.in_ok-displaced-2.ensures.rows c.in_ok-displaced-2.ensures.twice self.paired)
+    let spot : Spot = record { at = c.args.at.now; place = c.in_ok-place.field-0.place } in
+    let changed : c.push_reserved.new.self.items ≡ self.changed.items ++ spot ∷ [] = c.push_reserved.ensures.items ∙ ap (λ (l : List Spot). l ++ spot ∷ []) c.reserve.ensures.items in
+    let before : c.push_reserved-2.new.self.items ≡ self.before.items ++ c.in_ok-place.field-0.kept ∷ [] = c.push_reserved-2.ensures.items ∙ ap (λ (l : List (Option OutRow)). l ++ c.in_ok-place.field-0.kept ∷ []) c.reserve-else-is_err.ensures.items in
+    same_mark self.marked _ _ (mark_kept self.before.items c.push_reserved-2.new.self.items self.changed.items c.push_reserved.new.self.items (rows_of self.slots) rows c.in_ok-place.field-0.kept (Some c.args.row) spot before changed c.in_ok-place.ensures.rows c.in_ok-place.ensures.twice self.paired)

@@ -1,0 +1,10 @@
+//! Where a slot is.
+
+use ox_block::OutPoint;
+
+/// A slot's outpoint, and its place.
+#[derive(Clone, Copy)]
+pub(crate) struct Spot {
+    pub(crate) at: OutPoint,
+    pub(crate) place: u32,
+}
