@@ -104,7 +104,7 @@ pub pushed_here : (lists : List (Vec Entry)) (i j : ℕ) (old : List Entry) (v :
     → is_in (items_at (slice_set lists i v) j) tag place ≡ true
 pushed_here lists i j old v e tag place low is tagged items =
     ap (λ (l : List Entry). is_in l tag place)
-      (ap (items_at (slice_set lists i v)) (sym is) ∙ set_here lists i v low ∙ items ∙ ap (λ (t : ℕ). old ++ record { tag = t; place = place } ∷ []) tagged)
+    (ap (items_at (slice_set lists i v)) (sym is) ∙ set_here lists i v low ∙ items ∙ ap (λ (t : ℕ). old ++ record { tag = t; place = place } ∷ []) tagged)
     ∙ added_is_in old tag place
 
 -- and the others still are
@@ -112,8 +112,8 @@ pub pushed_still : (lists : List (Vec Entry)) (i j : ℕ) (x v : Vec Entry) (e :
     → is_in (items_at lists j) tag place ≡ true → is_in (items_at (slice_set lists i v) j) tag place ≡ true
 pushed_still lists i j x v e tag place low there items is = ⊎_elim
     (λ same.
-      ap (λ (l : List Entry). is_in l tag place) (ap (items_at (slice_set lists i v)) (sym same) ∙ set_here lists i v low ∙ items)
-      ∙ still_in x.items e tag place (ap (λ (l : List Entry). is_in l tag place) (sym (items_there lists i x low there) ∙ ap (items_at lists) same) ∙ is))
+    ap (λ (l : List Entry). is_in l tag place) (ap (items_at (slice_set lists i v)) (sym same) ∙ set_here lists i v low ∙ items)
+    ∙ still_in x.items e tag place (ap (λ (l : List Entry). is_in l tag place) (sym (items_there lists i x low there) ∙ ap (items_at lists) same) ∙ is))
     (λ other. ap (λ (l : List Entry). is_in l tag place) (set_elsewhere lists i j v other) ∙ is)
     (cases_eq i j)
 

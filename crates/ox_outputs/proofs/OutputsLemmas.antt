@@ -1,6 +1,6 @@
 -- What a change of the outputs leaves of their facts.
 use Rattle.std.proofs.Common.{◌≡◌, ◌∙◌, ℕ, refl, ap, sym, subst, List, [], ◌∷◌, Option, Some, None, Result, Ok, Err}
-use Rattle.std.specs.Prelude.{IfErr, IfOk, IfSome, IsSomeAnd}
+use Rattle.std.specs.Prelude.{IfErr, IfSome, IsSomeAnd}
 use Rattle.std.specs.Option.{option_map}
 use Rattle.std.specs.FinMap.{empty, get, get-empty, insert}
 use Rattle.ox_block.specs.declared.block.OutPoint.{OutPoint}
@@ -28,10 +28,6 @@ once_more outs outs' at row once may is = once_placed outs outs' at row once may
 pub err_so : {A E : Type 0} {P Q : E → Type 0} (r : Result A E) → ((e : E) → P e → Q e) → IfErr r P → IfErr r Q
 err_so (Ok x) more is = tt
 err_so (Err e) more is = more e is
-
-pub ok_so : {A E : Type 0} {P Q : A → Type 0} (r : Result A E) → ((x : A) → P x → Q x) → IfOk r P → IfOk r Q
-ok_so (Ok x) more is = more x is
-ok_so (Err e) more is = tt
 
 pub some_and : (o : Option OutRow) (row : OutRow) (sats : List ℕ) → o ≡ Some row → row.sats ≡ sats → IsSomeAnd o (λ row. row.sats ≡ sats)
 some_and o row sats is same = subst (λ (o : Option OutRow). IsSomeAnd o (λ row. row.sats ≡ sats)) (sym is) same

@@ -1,6 +1,6 @@
 -- Slots that each have an outpoint of their own: what a change at one place leaves.
-use Rattle.std.proofs.Common.{◌≡◌, ◌≢◌, ◌∙◌, ℕ, zero, suc, Bool, true, false, cond, [], ◌∷◌, refl, sym, ap, subst, Option, Some, None, true≢false, inl, inr, ⊎_elim}
-use Rattle.std.specs.Prelude.{IsSome, ◌⊎◌}
+use Rattle.std.proofs.Common.{◌≡◌, ◌≢◌, ◌∙◌, ℕ, zero, suc, Bool, true, false, cond, [], ◌∷◌, refl, sym, ap, Option, Some, None, true≢false, inl, inr, ⊎_elim}
+use Rattle.std.specs.Prelude.{◌⊎◌}
 use Rattle.std.specs.Ordering.{eq_by_cmp}
 use Rattle.std.specs.Cmp.{eq_by_cmp_equiv}
 use Rattle.std.specs.Option.{option_map, option_and_then}
@@ -34,9 +34,6 @@ same_itself a = (eq_by_cmp_equiv outpoints_total).refl a
 
 pub not_both : (a b : OutPoint) → a ≡ b → is_same a b ≡ false → ⊥
 not_both a b same other = true≢false (sym (same_itself a) ∙ ap (is_same a) same ∙ other)
-
-pub nothing_there : {X : Type 0} (o : Option X) → o ≡ None → IsSome o → ⊥
-nothing_there o none some = true≢false (sym (subst IsSome none some))
 
 the_outpoint : (a b : OutPoint) → ◌≡◌ {A = Option OutPoint} (Some a) (Some b) → a ≡ b
 the_outpoint a b is = cc is
@@ -141,7 +138,7 @@ module _ {s t : Slab Slot} {place : ℕ} {at : OutPoint} {slot : Option Slot} (c
   still_apart q p r one two = ⊎_elim
       (λ same. ⊎_elim (λ too. same ∙ sym too) (λ other. absurd (only_here p r q same other one two)) (cases_eq r place))
       (λ other. ⊎_elim (λ same. absurd (only_here r p q same other two one))
-          (λ too. c.apart q p r (sym (outpoint_elsewhere p other) ∙ one) (sym (outpoint_elsewhere r too) ∙ two)) (cases_eq r place))
+      (λ too. c.apart q p r (sym (outpoint_elsewhere p other) ∙ one) (sym (outpoint_elsewhere r too) ∙ two)) (cases_eq r place))
       (cases_eq p place)
 
   -- where the outpoint has no slot now
@@ -165,27 +162,27 @@ module _ {s t : Slab Slot} {place : ℕ} {at : OutPoint} {slot : Option Slot} (c
   row_elsewhere : (q : OutPoint) → is_same at q ≡ false → get (rows_of t.slots) q ≡ get (rows_of s.slots) q
   row_elsewhere q apart = ⊎_elim
       (λ found. let other : found.0 ≢ place = λ same. not_both at q (was_here found.0 q same found.1) apart in
-          get-at_place t.slots found.0 q still_apart (outpoint_elsewhere found.0 other ∙ found.1)
-          ∙ ap (option_and_then (λ (s : Slot). s.row)) (c.updates.others found.0 other)
-          ∙ sym (get-at_place s.slots found.0 q c.apart found.1))
+      get-at_place t.slots found.0 q still_apart (outpoint_elsewhere found.0 other ∙ found.1)
+      ∙ ap (option_and_then (λ (s : Slot). s.row)) (c.updates.others found.0 other)
+      ∙ sym (get-at_place s.slots found.0 q c.apart found.1))
       (λ none. get-nowhere t.slots q (λ p is. ⊎_elim
-          (λ same. not_both at q (found_here p q same is) apart)
-          (λ other. none p (sym (outpoint_elsewhere p other) ∙ is))
-          (cases_eq p place))
-          ∙ sym (get-nowhere s.slots q none))
+      (λ same. not_both at q (found_here p q same is) apart)
+      (λ other. none p (sym (outpoint_elsewhere p other) ∙ is))
+      (cases_eq p place))
+      ∙ sym (get-nowhere s.slots q none))
       (somewhere s.slots q)
 
   -- the rows where the slot holds a row or none now
   pub rows_put : (row : Option OutRow) → option_and_then (λ s. s.row) slot ≡ row → rows_of t.slots ≡ put_slot (rows_of s.slots) at row
   rows_put row is = same_map outpoints_total outpoints_exact (rows_of t.slots) (put_slot (rows_of s.slots) at row) (λ q.
       by_test q (same_or_not at q) ∙ sym (get-put_slot (rows_of s.slots) at row q)) where
-    by_test : (q : OutPoint) → (at ≡ q) ⊎ (is_same at q ≡ false) → get (rows_of t.slots) q ≡ cond (is_same q at) row (get (rows_of s.slots) q)
-    by_test q (inl same) =
-        ap (get (rows_of t.slots)) (sym same) ∙ row_here ∙ is
-        ∙ sym (ap (λ (b : Bool). cond b row (get (rows_of s.slots) q)) (ap (is_same q) same ∙ same_itself q))
-    by_test q (inr other) =
-        row_elsewhere q other
-        ∙ sym (ap (λ (b : Bool). cond b row (get (rows_of s.slots) q)) ((eq_by_cmp_equiv outpoints_total).symm q at ∙ other))
+        by_test : (q : OutPoint) → (at ≡ q) ⊎ (is_same at q ≡ false) → get (rows_of t.slots) q ≡ cond (is_same q at) row (get (rows_of s.slots) q)
+        by_test q (inl same) =
+            ap (get (rows_of t.slots)) (sym same) ∙ row_here ∙ is
+            ∙ sym (ap (λ (b : Bool). cond b row (get (rows_of s.slots) q)) (ap (is_same q) same ∙ same_itself q))
+        by_test q (inr other) =
+            row_elsewhere q other
+            ∙ sym (ap (λ (b : Bool). cond b row (get (rows_of s.slots) q)) ((eq_by_cmp_equiv outpoints_total).symm q at ∙ other))
 
   -- the rows where the slot holds what stood at the outpoint
   pub rows_same : get (rows_of s.slots) at ≡ option_and_then (λ s. s.row) slot → rows_of t.slots ≡ rows_of s.slots
@@ -250,15 +247,15 @@ given_back s t v place slot free u w p = ⊎_elim
 pub rows_alike : (s t : Slab Slot) → AreApart s.slots → ((p : ℕ) → slab.get t p ≡ slab.get s p) → rows_of t.slots ≡ rows_of s.slots
 rows_alike s t apart same = same_map outpoints_total outpoints_exact (rows_of t.slots) (rows_of s.slots) (λ q. ⊎_elim
     (λ found. get-at_place t.slots found.0 q apart_too (outpoint found.0 ∙ found.1) ∙ ap (option_and_then (λ (s : Slot). s.row)) (same found.0)
-        ∙ sym (get-at_place s.slots found.0 q apart found.1))
+    ∙ sym (get-at_place s.slots found.0 q apart found.1))
     (λ none. get-nowhere t.slots q (λ p is. none p (sym (outpoint p) ∙ is)) ∙ sym (get-nowhere s.slots q none))
     (somewhere s.slots q))
   where
-  outpoint : (p : ℕ) → outpoint_at t.slots p ≡ outpoint_at s.slots p
-  outpoint p = ap (option_map (λ (s : Slot). s.at)) (same p)
+    outpoint : (p : ℕ) → outpoint_at t.slots p ≡ outpoint_at s.slots p
+    outpoint p = ap (option_map (λ (s : Slot). s.at)) (same p)
 
-  apart_too : AreApart t.slots
-  apart_too q p r one two = apart q p r (sym (outpoint p) ∙ one) (sym (outpoint r) ∙ two)
+    apart_too : AreApart t.slots
+    apart_too q p r one two = apart q p r (sym (outpoint p) ∙ one) (sym (outpoint r) ∙ two)
 
 -- ---- the places of slots
 
@@ -277,7 +274,7 @@ placed_less m n s t place at h is u left others =
       others = λ q p found. ⊎_elim
           (λ same. absurd (no_place p (sym (others q ∙ ap (λ (b : Bool). cond b None (other_at m q)) (ap (is_same at) (sym same) ∙ same_itself at)) ∙ found)))
           (λ other. let was = h.others q p (sym (others q ∙ ap (λ (b : Bool). cond b None (other_at m q)) other) ∙ found) in
-              outpoint_elsewhere change p (λ same. not_both at q (was_here change p q same was) other) ∙ was)
+          outpoint_elsewhere change p (λ same. not_both at q (was_here change p q same was) other) ∙ was)
           (same_or_not at q);
       apart = still_apart change;
     }

@@ -1,6 +1,6 @@
 -- Stretches by their first numbers: what changes of them leave.
-use Rattle.std.proofs.Common.{◌≡◌, ◌∙◌, ℕ, ◌+◌, ◌-◌, ◌<◌, ◌≤◌, Bool, true, false, cond, List, [], ◌∷◌, length, length-append, drop, zero, suc, Result, Ok, Err, refl, sym, ap, ap₂, subst, arith, Option, Some, None, true≢false, inl, inr, ⊎_elim, Ordering}
-use Rattle.std.specs.Prelude.{◌||◌, ◌⊎◌, OnOk, OnErr}
+use Rattle.std.proofs.Common.{◌≡◌, ◌∙◌, ℕ, ◌+◌, ◌-◌, ◌<◌, ◌≤◌, Bool, true, false, cond, List, [], ◌∷◌, length, length-append, drop, zero, suc, Result, Ok, Err, refl, sym, ap, subst, arith, Option, Some, None, true≢false, inl, inr, ⊎_elim, Ordering}
+use Rattle.std.specs.Prelude.{◌||◌, ◌⊎◌, OnOk, OnErr, is_some}
 use Rattle.std.specs.Result.{is_err}
 use Rattle.std.specs.Ordering.{nat_cmp, is_eq, is_gt, is_lt, MatchOrdering}
 use Rattle.std.specs.declared.cmp.Ordering.TheVariants.{Less, Equal, Greater}
@@ -10,6 +10,7 @@ use Rattle.std.specs.Cmp.{eq_by_cmp_equiv}
 use Rattle.std.proofs.lemmas.Cmp.{nat_cmp_total, ranked}
 use Rattle.std.specs.Option.{option_or}
 use Rattle.std.specs.BTreeMap.{is_at}
+use Rattle.std.specs.Map.{keys_of}
 use Rattle.ox_block.specs.declared.block.OutPoint.{OutPoint}
 use Rattle.ox_range.specs.declared.runs.Run.{Run}
 use Rattle.ox_outputs.specs.declared.stretch.Stretch.{Stretch}
@@ -17,8 +18,7 @@ use Rattle.ox_range.specs.Numbers.{numbers_from}
 use Rattle.ox_range.specs.Runs.{numbers_of}
 use Rattle.ox_range.proofs.RunLemmas.{numbers-cons, length-numbers_from}
 use Rattle.ox_rules.specs.declared.place.Place.{Place}
-use Rattle.ox_outputs.specs.Finding.{Finds}
-use Rattle.ox_outputs.specs.Stretches.{StretchList, stretch_at, stretches_of, is_among, firsts_of, live_in, Agree, AreApart, AreKept, Holds}
+use Rattle.ox_outputs.specs.Stretches.{StretchList, stretch_at, stretches_of, is_among, firsts_of, goes, AreNoted, AreApart, Holds}
 
 -- which number it is, seen from either
 pub same_first : (a b : ℕ) → is_at (nat_cmp a) b ≡ is_at (nat_cmp b) a
@@ -116,30 +116,15 @@ among_apart some all are apart = record {
   before = λ f g s t is js low. apart.before f g s t (are f s is) (are g t js) low;
 }
 
-late_live : (late run : Option Stretch) (s : Stretch) → late ≡ Some s → option_or late run ≡ Some s
-late_live late run s is = ap (λ (o : Option Stretch). option_or o run) is
-
-pub run_live : (late run : Option Stretch) (s : Stretch) → Agree late run → run ≡ Some s → option_or late run ≡ Some s
-run_live late run s agree is = agree ∙ ap (λ (o : Option Stretch). option_or o late) is
-
-module _ {runs late away : StretchList} {came : List ℕ} (kept : AreKept runs late away came) where
-  pub runs_apart : AreApart (live_in runs late) → AreApart (stretch_at runs)
-  runs_apart = among_apart (stretch_at runs) (live_in runs late) (λ q s is. run_live (stretch_at late q) (stretch_at runs q) s (kept.late_agrees q) is)
-
-  pub late_apart : AreApart (live_in runs late) → AreApart (stretch_at late)
-  late_apart = among_apart (stretch_at late) (live_in runs late) (λ q s is. late_live (stretch_at late q) (stretch_at runs q) s is)
-
-  pub finds_both : (sat : ℕ) (r : Option Place) → Finds (stretch_at runs) sat None → Finds (stretch_at late) sat r → Finds (live_in runs late) sat r
-  finds_both sat None none found = λ f s place is holds. ⊎_elim
-      (λ here. found f s place here holds)
-      (λ there. none f s place there holds)
-      (either_is (stretch_at late f) (stretch_at runs f) s is)
-  finds_both sat (Some place) none found =
-      (found.0, found.1, late_live (stretch_at late found.0) (stretch_at runs found.0) found.1 found.2, found.3)
-
-  pub finds_first : (sat : ℕ) (place : Place) → Finds (stretch_at runs) sat (Some place) → Finds (live_in runs late) sat (Some place)
-  finds_first sat place found =
-      (found.0, found.1, run_live (stretch_at late found.0) (stretch_at runs found.0) found.1 (kept.late_agrees found.0) found.2, found.3)
+-- a stretch that is apart from others and holds the same satoshi is the same
+pub same_holder : (at : ℕ → Option Stretch) (f g sat : ℕ) (s t : Stretch) (p q : Place) → AreApart at → at f ≡ Some s → at g ≡ Some t → Holds f s sat p → Holds g t sat q → f ≡ g
+same_holder at f g sat s t p q apart is js holds there = ⊎_elim
+    (λ below. let ends : f + s.count ≤ g = apart.before f g s t is js below in absurd (omega (arith, ends, holds.high, there.low)))
+    (λ low. ⊎_elim
+    (λ above. let ends : g + t.count ≤ f = apart.before g f t s js is above in absurd (omega (arith, ends, there.high, holds.low)))
+    (λ high. omega (arith, low, high))
+    (cases_lt g f))
+    (cases_lt f g)
 
 -- ---- the places of stretches
 
@@ -204,10 +189,6 @@ pub either_way : {A E P Q R : Type 0} (r : Result A E) → OnOk r P → OnErr r 
 either_way (Ok x) p q f g = f p
 either_way (Err e) p q f g = g q
 
-pub ok_then : {A E P Q : Type 0} (r : Result A E) → OnOk r P → (P → Q) → OnOk r Q
-ok_then (Ok x) p f = f p
-ok_then (Err e) p f = p
-
 pub either_true : (a b : Bool) → (a || b) ≡ true → (a ≡ true) ⊎ (b ≡ true)
 either_true true b is = inl refl
 either_true false b is = inr is
@@ -224,86 +205,6 @@ same_as a b is = nat_cmp-IsAntisymmetric a b (is_equal (nat_cmp a b) is) where
 pub number_itself : (n : ℕ) → is_at (nat_cmp n) n ≡ true
 number_itself n = (eq_by_cmp_equiv nat_cmp_total).refl n
 
--- a stretch is noted, where it isn't one that came
-abbrev pub noted_one : (came : Bool) → Option Stretch → Option Stretch → Option Stretch
-noted_one came away there = cond came away (option_or there away)
-
-pub kept_one : (came : Bool) (away there : Option Stretch) → (came ≡ false → Agree away there) → option_or (noted_one came away there) (cond came None there) ≡ option_or away (cond came None there)
-kept_one true away there agree = refl
-kept_one false away None agree = refl
-kept_one false None (Some x) agree = refl
-kept_one false (Some y) (Some x) agree = sym (agree refl)
-
-pub agree_one : (away there : Option Stretch) → Agree away there → Agree (noted_one false away there) there
-agree_one away None agree = agree
-agree_one away (Some x) agree = refl
-
-pub or_none : (o : Option Stretch) → o ≡ option_or o None
-or_none None = refl
-or_none (Some x) = refl
-
-pub is_one : (came : Bool) (away there : Option Stretch) → (came ≡ false → Agree away there) → noted_one came away there ≡ option_or away (cond came None there)
-is_one true away there agree = or_none away
-is_one false away there agree = sym (agree refl)
-
-pub which_one : (came : Bool) (away there : Option Stretch) (s : Stretch) → noted_one came away there ≡ Some s → (away ≡ Some s) ⊎ (there ≡ Some s)
-which_one true away there s is = inl is
-which_one false away None s is = inl is
-which_one false away (Some x) s is = inr is
-
--- what is noted of the number at which the code notes, seen from any number
-pub noted_at : (first q : ℕ) (came : List ℕ) (there away : StretchList) (n : Option Stretch) → n ≡ cond (is_at (nat_cmp first) q) (noted_one (is_among came first) (stretch_at away first) (stretch_at there first)) (stretch_at away q) → n ≡ cond (is_at (nat_cmp first) q) (noted_one (is_among came q) (stretch_at away q) (stretch_at there q)) (stretch_at away q)
-noted_at first q came there away n is = is ∙ by_test (is_at (nat_cmp first) q) refl where
-  one : ℕ → Option Stretch
-  one f = noted_one (is_among came f) (stretch_at away f) (stretch_at there f)
-
-  by_test : (b : Bool) → is_at (nat_cmp first) q ≡ b → cond b (one first) (stretch_at away q) ≡ cond b (one q) (stretch_at away q)
-  by_test true at = ap one (same_as first q at)
-  by_test false at = refl
-
--- nothing is to be noted
-pub noted_not : (first q : ℕ) (came : List ℕ) (there away : StretchList) → noted_one (is_among came first) (stretch_at away first) (stretch_at there first) ≡ stretch_at away first → stretch_at away q ≡ cond (is_at (nat_cmp first) q) (noted_one (is_among came q) (stretch_at away q) (stretch_at there q)) (stretch_at away q)
-noted_not first q came there away none = noted_at first q came there away (stretch_at away q) (by_test (is_at (nat_cmp first) q) refl) where
-  one : Option Stretch
-  one = noted_one (is_among came first) (stretch_at away first) (stretch_at there first)
-
-  by_test : (b : Bool) → is_at (nat_cmp first) q ≡ b → stretch_at away q ≡ cond b one (stretch_at away q)
-  by_test true at = ap (stretch_at away) (sym (same_as first q at)) ∙ sym none
-  by_test false at = refl
-
-pub noted_came : (came : Bool) (away there : Option Stretch) → came ≡ true → noted_one came away there ≡ away
-noted_came true away there is = refl
-noted_came false away there is = absurd (true≢false (sym is))
-
-pub noted_none : (came : Bool) (away there : Option Stretch) → there ≡ None → noted_one came away there ≡ away
-noted_none true away there is = refl
-noted_none false away there is = ap (λ (o : Option Stretch). option_or o away) is
-
-pub noted_some : (came : Bool) (away there : Option Stretch) (s : Stretch) → came ≡ false → there ≡ Some s → Some s ≡ noted_one came away there
-noted_some true away there s out is = absurd (true≢false out)
-noted_some false away there s out is = sym (ap (λ (o : Option Stretch). option_or o away) is)
-
--- one more is noted
-pub agree_next : (b came : Bool) (away there n : Option Stretch) → n ≡ cond b (noted_one came away there) away → (came ≡ false → Agree away there) → came ≡ false → Agree n there
-agree_next b true away there n is agree out = absurd (true≢false out)
-agree_next true false away there n is agree out = subst (λ (o : Option Stretch). Agree o there) (sym is) (agree_one away there (agree refl))
-agree_next false false away there n is agree out = subst (λ (o : Option Stretch). Agree o there) (sym is) (agree refl)
-
-pub kept_next : (b came : Bool) (away there n : Option Stretch) → n ≡ cond b (noted_one came away there) away → (came ≡ false → Agree away there) → option_or n (cond came None there) ≡ option_or away (cond came None there)
-kept_next true came away there n is agree = ap (λ (o : Option Stretch). option_or o (cond came None there)) is ∙ kept_one came away there agree
-kept_next false came away there n is agree = ap (λ (o : Option Stretch). option_or o (cond came None there)) is
-
-pub which_next : (b came : Bool) (away there n : Option Stretch) (s : Stretch) → n ≡ cond b (noted_one came away there) away → n ≡ Some s → (away ≡ Some s) ⊎ (there ≡ Some s)
-which_next true came away there n s is some = which_one came away there s (sym is ∙ some)
-which_next false came away there n s is some = inl (sym is ∙ some)
-
-pub noted_next : (b came : Bool) (away there n k : Option Stretch) {Rest : Type 0} → n ≡ cond b (noted_one came away there) away → (came ≡ false → Agree away there) → option_or away (cond came None there) ≡ k → ((b ≡ true) ⊎ Rest) ⊎ (away ≡ k) → Rest ⊎ (n ≡ k)
-noted_next true came away there n k is agree same how = inr (is ∙ is_one came away there agree ∙ same)
-noted_next false came away there n k is agree same how = ⊎_elim
-    (λ ahead. ⊎_elim (λ here. absurd (true≢false (sym here))) (λ rest. inl rest) ahead)
-    (λ done. inr (is ∙ done))
-    how
-
 -- a run that is among those from a place on is the first of them or behind it
 pub first_or_rest : (q : ℕ) (run : Run) (runs all : List Run) → all ≡ run ∷ runs → is_among (firsts_of all) q ≡ true → (is_at (nat_cmp run.first) q ≡ true) ⊎ (is_among (firsts_of runs) q ≡ true)
 first_or_rest q run runs all split some = ⊎_elim
@@ -311,38 +212,84 @@ first_or_rest q run runs all split some = ⊎_elim
     (λ rest. inr rest)
     (either_true (is_at (nat_cmp q) run.first) (is_among (firsts_of runs) q) (sym (ap (λ (rs : List Run). is_among (firsts_of rs) q) split) ∙ some))
 
--- one more first number is noted
-pub came_next : (b came n : Bool) {Rest : Type 0} → n ≡ cond b true came → ((b ≡ true) ⊎ Rest) ⊎ (came ≡ true) → Rest ⊎ (n ≡ true)
-came_next true came n is how = inr is
-came_next false came n is how = ⊎_elim
-    (λ ahead. ⊎_elim (λ here. absurd (true≢false (sym here))) (λ rest. inl rest) ahead)
-    (λ done. inr (is ∙ done))
-    how
+-- a number's stretch is taken away
+pub removed_gone : (q first : ℕ) (gone rest : List ℕ) (n o : Option Stretch) → gone ≡ first ∷ rest → n ≡ cond (is_at (nat_cmp first) q) None o → cond (is_among rest q) None n ≡ cond (is_among gone q) None o
+removed_gone q first gone rest n o split is = none_twice (is_at (nat_cmp q) first) (is_among rest q) n o (is ∙ ap (λ (b : Bool). cond b None o) (same_first first q)) ∙ ap (λ (l : List ℕ). cond (is_among l q) None o) (sym split)
 
-pub came_which : (b came was n among : Bool) → n ≡ cond b true came → (b ≡ true → among ≡ true) → (came ≡ was) ⊎ ((came ≡ true) × (among ≡ true)) → (n ≡ was) ⊎ ((n ≡ true) × (among ≡ true))
-came_which true came was n among is here how = inr (is, here refl)
-came_which false came was n among is here how = ⊎_elim (λ same. inl (is ∙ same)) (λ new. inr (is ∙ new.0, new.1)) how
+false_twice : (a b n o : Bool) → n ≡ cond a false o → cond b false n ≡ cond (a || b) false o
+false_twice true true n o is = refl
+false_twice true false n o is = is
+false_twice false true n o is = refl
+false_twice false false n o is = is
 
--- a run at a place is one of the runs
-pub among_at : (q i : ℕ) (run : Run) (runs rest : List Run) → drop i runs ≡ run ∷ rest → is_at (nat_cmp run.first) q ≡ true → is_among (firsts_of runs) q ≡ true
-among_at q i run runs rest split here = among_drop q i runs (ap (λ (rs : List Run). is_among (firsts_of rs) q) split ∙ ap (λ (b : Bool). b || is_among (firsts_of rest) q) (same_first q run.first ∙ here))
+-- a number is taken out
+pub removed_number : (q first : ℕ) (others rest : List ℕ) (n o : Bool) → others ≡ first ∷ rest → n ≡ cond (is_at (nat_cmp first) q) false o → cond (is_among rest q) false n ≡ cond (is_among others q) false o
+removed_number q first others rest n o split is = false_twice (is_at (nat_cmp q) first) (is_among rest q) n o (is ∙ ap (λ (b : Bool). cond b false o) (same_first first q)) ∙ ap (λ (l : List ℕ). cond (is_among l q) false o) (sym split)
 
--- a noted number's stretch is taken away
-pub removed_noted : (q first : ℕ) (came rest : List ℕ) (n o : Option Stretch) → came ≡ first ∷ rest → n ≡ cond (is_at (nat_cmp first) q) None o → cond (is_among rest q) None n ≡ cond (is_among came q) None o
-removed_noted q first came rest n o split is = none_twice (is_at (nat_cmp q) first) (is_among rest q) n o (is ∙ ap (λ (b : Bool). cond b None o) (same_first first q)) ∙ ap (λ (l : List ℕ). cond (is_among l q) None o) (sym split)
+-- no more numbers go
+pub none_goes : (came : Option Stretch) (runs : List Run) (gone : List ℕ) (q : ℕ) → runs ≡ [] → goes came (firsts_of runs) gone q ≡ is_among gone q
+none_goes came runs gone q none = ap (λ (rs : List Run). goes came (firsts_of rs) gone q) none ∙ by_came (is_some came) where
+  by_came : (b : Bool) → cond b (is_among gone q) (is_among gone q) ≡ is_among gone q
+  by_came true = refl
+  by_came false = refl
 
--- ---- one is put in
+came_one : (b some rest gone : Bool) → (b ≡ true → some ≡ true) → cond some gone (rest || gone) ≡ cond some gone ((b || rest) || gone)
+came_one true true rest gone is = refl
+came_one true false rest gone is = absurd (true≢false (sym (is refl)))
+came_one false some rest gone is = refl
 
-pub agree_put : (b : Bool) (late run late' run' : Option Stretch) (s : Stretch) → late' ≡ cond b None late → run' ≡ cond b (Some s) run → Agree late run → Agree late' run'
-agree_put true late run late' run' s gone put agree = ap₂ option_or gone put ∙ sym (ap₂ option_or put gone)
-agree_put false late run late' run' s gone put agree = ap₂ option_or gone put ∙ agree ∙ sym (ap₂ option_or put gone)
+-- a run came, so that its number needn't go
+pub came_goes : (q : ℕ) (run : Run) (runs rest : List Run) (came : StretchList) (gone : List ℕ) → runs ≡ run ∷ rest → is_some (stretch_at came run.first) ≡ true → goes (stretch_at came q) (firsts_of rest) gone q ≡ goes (stretch_at came q) (firsts_of runs) gone q
+came_goes q run runs rest came gone split some =
+    came_one (is_at (nat_cmp q) run.first) (is_some (stretch_at came q)) (is_among (firsts_of rest) q) (is_among gone q) (λ same. ap (λ (f : ℕ). is_some (stretch_at came f)) (same_as q run.first same) ∙ some)
+    ∙ ap (λ (rs : List Run). goes (stretch_at came q) (firsts_of rs) gone q) (sym split)
 
-pub live_put : (first q : ℕ) (late : StretchList) (run late' run' : Option Stretch) (s : Stretch) → stretch_at late first ≡ Some s → late' ≡ cond (is_at (nat_cmp first) q) None (stretch_at late q) → run' ≡ cond (is_at (nat_cmp first) q) (Some s) run → option_or late' run' ≡ option_or (stretch_at late q) run
-live_put first q late run late' run' s is gone put = ap₂ option_or gone put ∙ by_test (is_at (nat_cmp first) q) refl where
-  by_test : (b : Bool) → is_at (nat_cmp first) q ≡ b → option_or (cond b None (stretch_at late q)) (cond b (Some s) run) ≡ option_or (stretch_at late q) run
-  by_test true at = sym (ap (λ (f : ℕ). option_or (stretch_at late f) run) (sym (same_as first q at)) ∙ ap (λ (o : Option Stretch). option_or o run) is)
-  by_test false at = refl
+gone_one : (b some rest gone gone' : Bool) → (b ≡ true → some ≡ false) → gone' ≡ cond b true gone → cond some gone' (rest || gone') ≡ cond some gone ((b || rest) || gone)
+gone_one b some rest gone gone' is put = ap (λ (g : Bool). cond some g (rest || g)) put ∙ by_cases b some rest is where
+  by_cases : (b some rest : Bool) → (b ≡ true → some ≡ false) → cond some (cond b true gone) (rest || cond b true gone) ≡ cond some gone ((b || rest) || gone)
+  by_cases true true rest is = absurd (true≢false (is refl))
+  by_cases true false true is = refl
+  by_cases true false false is = refl
+  by_cases false some rest is = refl
 
-pub late_less : (b : Bool) (late late' : Option Stretch) (s : Stretch) → late' ≡ cond b None late → late' ≡ Some s → late ≡ Some s
-late_less true late late' s gone is = absurd (cc (gone, is))
-late_less false late late' s gone is = sym gone ∙ is
+-- a number goes
+pub number_goes : (q : ℕ) (run : Run) (runs rest : List Run) (came : StretchList) (gone gone' : List ℕ) → runs ≡ run ∷ rest → is_some (stretch_at came run.first) ≡ false → is_among gone' q ≡ cond (is_at (nat_cmp run.first) q) true (is_among gone q) → goes (stretch_at came q) (firsts_of rest) gone' q ≡ goes (stretch_at came q) (firsts_of runs) gone q
+number_goes q run runs rest came gone gone' split none put =
+    gone_one (is_at (nat_cmp q) run.first) (is_some (stretch_at came q)) (is_among (firsts_of rest) q) (is_among gone q) (is_among gone' q) (λ same. ap (λ (f : ℕ). is_some (stretch_at came f)) (same_as q run.first same) ∙ none) (put ∙ ap (λ (b : Bool). cond b true (is_among gone q)) (same_first run.first q))
+    ∙ ap (λ (rs : List Run). goes (stretch_at came q) (firsts_of rs) gone q) (sym split)
+
+pub none_there : (o : Option Stretch) → is_some o ≡ false → o ≡ None
+none_there None none = refl
+none_there (Some s) none = absurd (true≢false none)
+
+-- a number that isn't that of a stretch that came
+pub none_at : (q first : ℕ) (came : StretchList) → is_some (stretch_at came first) ≡ false → is_at (nat_cmp first) q ≡ true → stretch_at came q ≡ None
+none_at q first came none same = ap (stretch_at came) (sym (same_as first q same)) ∙ none_there (stretch_at came first) none
+
+pub noted_still : (noted noted' was is is' : List ℕ) → noted' ≡ noted → is' ≡ is → AreNoted noted was is → AreNoted noted' was is'
+noted_still noted noted' was is is' same still made = subst (λ (l : List ℕ). AreNoted l was is') (sym same) (subst (AreNoted noted was) (sym still) made)
+
+-- the numbers with which stretches begin
+pub among_keys : (q : ℕ) (l : StretchList) → is_among (keys_of l) q ≡ is_some (stretch_at l q)
+among_keys q [] = refl
+among_keys q (one ∷ l) = ap (λ (b : Bool). is_at (nat_cmp q) one.0 || b) (among_keys q l) ∙ by_test (is_at (nat_cmp q) one.0) where
+  by_test : (b : Bool) → (b || is_some (stretch_at l q)) ≡ is_some (cond b (Some one.1) (stretch_at l q))
+  by_test true = refl
+  by_test false = refl
+
+-- ---- those that came are put in
+
+pub put_all : (first q : ℕ) (came : StretchList) (s : Stretch) (run was run' : Option Stretch) → stretch_at came first ≡ Some s → run' ≡ cond (is_at (nat_cmp first) q) (Some s) run → option_or (stretch_at came q) run ≡ option_or (stretch_at came q) was → option_or (stretch_at came q) run' ≡ option_or (stretch_at came q) was
+put_all first q came s run was run' there put all = by_test (is_at (nat_cmp first) q) refl where
+  by_test : (b : Bool) → is_at (nat_cmp first) q ≡ b → option_or (stretch_at came q) run' ≡ option_or (stretch_at came q) was
+  by_test true same = let is = sym (ap (stretch_at came) (same_as first q same)) ∙ there in ap (λ (o : Option Stretch). option_or o run') is ∙ sym (ap (λ (o : Option Stretch). option_or o was) is)
+  by_test false differ = ap (option_or (stretch_at came q)) (put ∙ ap (λ (b : Bool). cond b (Some s) run) differ) ∙ all
+
+pub put_done : (first q : ℕ) (came rest rest' : StretchList) (s t : Stretch) (run run' : Option Stretch) → rest ≡ (first, s) ∷ rest' → stretch_at came first ≡ Some s → stretch_at came q ≡ Some t → run' ≡ cond (is_at (nat_cmp first) q) (Some s) run → (is_some (stretch_at rest q) ≡ true) ⊎ (run ≡ Some t) → (is_some (stretch_at rest' q) ≡ true) ⊎ (run' ≡ Some t)
+put_done first q came rest rest' s t run run' split there is put done = by_test (is_at (nat_cmp first) q) refl where
+  by_test : (b : Bool) → is_at (nat_cmp first) q ≡ b → (is_some (stretch_at rest' q) ≡ true) ⊎ (run' ≡ Some t)
+  by_test true same = inr (put ∙ ap (λ (b : Bool). cond b (Some s) run) same ∙ sym there ∙ ap (stretch_at came) (same_as first q same) ∙ is)
+  by_test false differ = ⊎_elim
+      (λ ahead. inl (sym (ap (λ (l : StretchList). is_some (stretch_at l q)) split ∙ ap (λ (b : Bool). is_some (cond b (Some s) (stretch_at rest' q))) (same_first q first ∙ differ)) ∙ ahead))
+      (λ was. inr (put ∙ ap (λ (b : Bool). cond b (Some s) run) differ ∙ was))
+      done

@@ -10,3 +10,9 @@ Finds stretches sat None =
     (f : ℕ) (s : Stretch) (place : Place) → stretches f ≡ Some s → Holds f s sat place → ⊥
 Finds stretches sat (Some place) =
     (f : ℕ) × (s : Stretch) × (stretches f ≡ Some s) × Holds f s sat place
+
+-- the same, with the number that the stretch begins with
+abbrev pub FindsFrom : (ℕ → Option Stretch) → ℕ → Option (ℕ × Place) → Type 0
+FindsFrom stretches sat None = Finds stretches sat None
+FindsFrom stretches sat (Some found) =
+    (s : Stretch) × (stretches found.0 ≡ Some s) × Holds found.0 s sat found.1

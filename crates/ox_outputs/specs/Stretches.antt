@@ -1,6 +1,6 @@
 -- Runs of satoshis by their first numbers, with where each of them is.
 use Rattle.std.specs.Prelude.{◌≡◌, ℕ, ◌+◌, ◌-◌, ◌^◌, ◌<◌, ◌≤◌, Bool, false, List, [], ◌∷◌}
-use Rattle.std.specs.Prelude.{map, Option, Some, None, if◌then◌else◌}
+use Rattle.std.specs.Prelude.{◌||◌, true, map, Option, Some, None, is_some, if◌then◌else◌}
 use Rattle.std.specs.List.{list_any}
 use Rattle.std.specs.Option.{option_or}
 use Rattle.std.specs.Ordering.{nat_cmp}
@@ -34,19 +34,20 @@ is_among firsts number = list_any (is_at (nat_cmp number)) firsts
 abbrev pub firsts_of : List Run → List ℕ
 firsts_of runs = map (λ run. run.first) runs
 
--- The stretches: those that are yet to be put in, and the others.
-abbrev pub live_in : StretchList → StretchList → ℕ → Option Stretch
-live_in runs late first = option_or (stretch_at late first) (stretch_at runs first)
+-- The stretches: those that came, and of the others those whose numbers aren't gone.
+abbrev pub live_in : StretchList → List ℕ → StretchList → ℕ → Option Stretch
+live_in came gone runs first =
+    option_or (stretch_at came first) (if is_among gone first then None else stretch_at runs first)
 
--- The stretches at the mark: those that went since, and of those that are there the ones that
--- haven't come since.
-abbrev pub kept_in : (ℕ → Option Stretch) → StretchList → List ℕ → ℕ → Option Stretch
-kept_in live away came first =
-    option_or (stretch_at away first) (if is_among came first then None else live first)
+-- whether a number is gone where these go, but for a stretch that came
+abbrev pub goes : Option Stretch → List ℕ → List ℕ → ℕ → Bool
+goes came firsts gone number =
+    if is_some came then is_among gone number else (is_among firsts number || is_among gone number)
 
--- two stretches, where there are two, are the same
-abbrev pub Agree : Option Stretch → Option Stretch → Type 0
-Agree one other = option_or one other ≡ option_or other one
+-- these numbers, none of which was there, are those that were put in
+pub record AreNoted (noted was is : List ℕ) : Type 0 where
+  pub fresh : (q : ℕ) → is_among noted q ≡ true → is_among was q ≡ false
+  pub all : (q : ℕ) → is_among is q ≡ (is_among noted q || is_among was q)
 
 -- No stretch reaches to where the next begins.
 pub record AreApart (stretches : ℕ → Option Stretch) : Type 0 where
@@ -63,14 +64,9 @@ pub record Holds (first : ℕ) (s : Stretch) (sat : ℕ) (found : Place) : Type 
   pub high : sat < first + s.count
   pub place : found ≡ Out s.outpoint (s.place + (sat - first))
 
--- Stretches, those that are yet to be put in, those that went since the mark, and the first numbers
--- of those that came.
-pub record AreKept (runs late away : StretchList) (came : List ℕ) : Type 0 where
-  pub late_agrees : (f : ℕ) → Agree (stretch_at late f) (stretch_at runs f)
-  pub away_agrees : (f : ℕ) → is_among came f ≡ false
-      → Agree (stretch_at away f) (live_in runs late f)
-  pub late_came : (f g : ℕ) (s : Stretch) → stretch_at late f ≡ Some s → is_among came f ≡ false
-      → stretch_at away g ≡ None
+-- Stretches that came lie over others, of which some are gone: where one came, no other is seen.
+pub record AreKept (came : StretchList) (gone : List ℕ) (runs : StretchList) : Type 0 where
+  pub once : (q : ℕ) (s : Stretch) → stretch_at came q ≡ Some s → is_among gone q ≡ false
+      → stretch_at runs q ≡ None
+  pub came_short : AreShort (stretch_at came)
   pub runs_short : AreShort (stretch_at runs)
-  pub late_short : AreShort (stretch_at late)
-  pub away_short : AreShort (stretch_at away)

@@ -10,31 +10,31 @@ ghost use Rattle.ox_outputs.specs.Stretches.{AreKept, AreApart};
 ghost use Rattle.ox_outputs.specs.Finding.{Finds};
 
 use crate::stretches::{
-    Stretches, find, insert_runs, note_away, note_came, remove_noted, remove_runs, settle,
+    Stretches, find, insert_runs, note_gone, put_over, remove_gone, remove_numbers, remove_runs,
+    settle,
 };
 use ox_block::OutPoint;
 use ox_range::Ranges;
 use ox_rules::{Memory, Place};
 use std::alloc::Global;
 use std::collections::{BTreeMap, BTreeSet};
-use std::mem;
 
 /// Where each satoshi of some outputs is: an entry for each run of satoshis that stand side by side
-/// in an output, by its first number. It has a mark to which it can go back without memory: what
-/// went since is kept, and what came is noted. To go back takes away what came, and what went is
-/// put in again by the next change, which may lack memory for it; until then it is looked up where
-/// it is kept.
+/// in an output, by its first number. The runs at the mark stay as they are, and what changed since
+/// lies over them. So a change costs by the runs that changed since alone, and to go back takes no
+/// memory. The next mark puts the changes in.
 #[derive(Drop)]
 pub(crate) struct Locator {
+    /// The runs at the mark.
     runs: Stretches,
-    /// The runs that are yet to be put in: those that a cancelled change had taken away, or that
-    /// came in place of others.
-    late: Stretches,
-    /// The runs that stood at the mark and went since.
-    away: Stretches,
-    /// The first numbers of the runs that came since the mark.
-    came: BTreeSet<u64>,
-    ghost kept: { AreKept runs.entries late.entries away.entries came.keys },
+    /// The first numbers of the runs at the mark that went since.
+    gone: BTreeSet<u64>,
+    /// The runs that came since, and stand.
+    came: Stretches,
+    /// The numbers that the last change put into `gone`, which it takes out again where it lacks
+    /// memory. They are kept for their room alone.
+    noted: Vec<u64>,
+    ghost kept: { AreKept came.entries gone.keys runs.entries },
 }
 
 impl Locator {
@@ -47,43 +47,41 @@ impl Locator {
     {
         Locator {
             runs: BTreeMap::new(alloc),
-            late: BTreeMap::new(alloc),
-            away: BTreeMap::new(alloc),
-            came: BTreeSet::new(alloc),
+            gone: BTreeSet::new(alloc),
+            came: BTreeMap::new(alloc),
+            noted: Vec::new(alloc),
         }
     }
 
-    /// Where a satoshi is.
+    /// Where a satoshi is. A run that holds it is the last that begins at it or before, of those
+    /// that came since the mark or of those at the mark.
     pub(crate) fn find(&self, sat: u64) -> Option<Place>
         requires live { AreApart (live_at self.now) }
+        requires kept { AreApart (kept_at self.now) }
         ensures { Finds (live_at self.now) sat result }
     {
-        match find(&self.runs, sat) {
-            Some(place) => Some(place),
-            None => find(&self.late, sat),
+        if let Some((_, place)) = find(&self.came, sat) {
+            return Some(place);
         }
+        let (first, place) = find(&self.runs, sat)?;
+        if self.gone.contains(&first) {
+            return None;
+        }
+        Some(place)
     }
 
-    // Puts the runs in that are yet to be put in. Where there is no memory, some of them stay.
-    fn settle(&mut self) -> Result<(), Memory>
-        ensures live { (q : ℕ) → live_at self.new q ≡ live_at self.old q }
-        ensures kept { (q : ℕ) → kept_at self.new q ≡ kept_at self.old q }
-        ensures none { OnOk result ((q : ℕ) → stretch_at self.new.late.entries q ≡ None) }
-    {
-        settle(&mut self.runs, &mut self.late)
-    }
-
-    /// The runs of these satoshis go. `Memory` where there is none: all is as before.
+    /// The runs of these satoshis go. `Memory` where there is none: all is as before. For a run at
+    /// the mark it costs a look among those that came, and an entry among the numbers that went.
     pub(crate) fn leave(&mut self, sats: &Ranges) -> Result<(), Memory>
         ensures ok { OnOk result ((q : ℕ) → live_at self.new q
             ≡ (if is_among (firsts_of (runs_of sats.now)) q then None else live_at self.old q)) }
         ensures err { OnErr result ((q : ℕ) → live_at self.new q ≡ live_at self.old q) }
         ensures kept { (q : ℕ) → kept_at self.new q ≡ kept_at self.old q }
     {
-        self.settle()?;
         let runs = sats.runs();
-        note_away(&self.runs, &self.came, &mut self.away, runs)?;
-        remove_runs(&mut self.runs, runs);
+        if note_gone(&mut self.gone, &mut self.noted, &self.came, runs)? {
+            remove_runs(&mut self.came, runs);
+        }
         Ok(())
     }
 
@@ -97,14 +95,12 @@ impl Locator {
         ensures err { OnErr result ((q : ℕ) → live_at self.new q ≡ live_at self.old q) }
         ensures kept { (q : ℕ) → kept_at self.new q ≡ kept_at self.old q }
     {
-        self.settle()?;
-        let runs = sats.runs();
-        note_came(&mut self.came, runs)?;
-        insert_runs(&mut self.runs, outpoint, runs, sats.len())
+        insert_runs(&mut self.came, outpoint, sats.runs(), sats.len())
     }
 
     /// The runs of an output's satoshis come in place of those of other ones, which were there.
-    /// `Memory` where there is none: all is as before.
+    /// `Memory` where there is none: all is as before. Where some of the others came since the
+    /// mark, all that came since is copied for it.
     pub(crate) fn displace(
         &mut self,
         others: &Ranges,
@@ -119,26 +115,33 @@ impl Locator {
         ensures err { OnErr result ((q : ℕ) → live_at self.new q ≡ live_at self.old q) }
         ensures kept { (q : ℕ) → kept_at self.new q ≡ kept_at self.old q }
     {
-        self.settle()?;
         let gone = others.runs();
-        let runs = sats.runs();
-        note_away(&self.runs, &self.came, &mut self.away, gone)?;
-        note_came(&mut self.came, runs)?;
-        insert_runs(&mut self.late, outpoint, runs, sats.len())?;
-        remove_runs(&mut self.runs, gone);
-        Ok(())
+        let some_came = note_gone(&mut self.gone, &mut self.noted, &self.came, gone)?;
+        let put = put_over(
+            &mut self.came,
+            some_came,
+            gone,
+            outpoint,
+            sats.runs(),
+            sats.len(),
+        );
+        if put.is_err() {
+            remove_numbers(&mut self.gone, &self.noted);
+        }
+        put
     }
 
-    /// Sets the mark at the runs as they are. `Memory` where there is none: no run has changed.
+    /// Sets the mark at the runs as they are: those that went go out, and those that came go in.
+    /// `Memory` where there is none: no run has changed. It costs by the runs that changed, and by
+    /// the logarithm of all for each.
     pub(crate) fn begin(&mut self) -> Result<(), Memory>
         ensures live { (q : ℕ) → live_at self.new q ≡ live_at self.old q }
         ensures ok { OnOk result ((q : ℕ) → kept_at self.new q ≡ live_at self.old q) }
         ensures among { (q : ℕ) (s : Stretch) → kept_at self.new q ≡ Some s
             → live_at self.old q ≡ Some s }
     {
-        self.away.clear();
-        self.came.clear();
-        self.settle()
+        remove_gone(&mut self.runs, &mut self.gone);
+        settle(&mut self.runs, &mut self.came)
     }
 
     /// Goes back to the runs at the mark. It takes no memory.
@@ -146,9 +149,7 @@ impl Locator {
         ensures live { (q : ℕ) → live_at self.new q ≡ kept_at self.old q }
         ensures kept { (q : ℕ) → kept_at self.new q ≡ kept_at self.old q }
     {
-        remove_noted(&mut self.runs, &mut self.late, &mut self.came);
-        if self.late.is_empty() {
-            mem::swap(&mut self.late, &mut self.away);
-        }
+        self.gone.clear();
+        self.came.clear();
     }
 }

@@ -1,15 +1,15 @@
 //! Runs of satoshis by their first numbers, with where each of them is.
 
-ghost use Rattle.std.specs.Prelude.{◌≡◌, ℕ, ◌+◌, ◌^◌, ◌<◌, ◌≤◌, ◌⊎◌, [], true, false, length};
-ghost use Rattle.std.specs.Prelude.{IsTrue, None, Some, OnOk, OnErr, if◌then◌else◌};
+ghost use Rattle.std.specs.Prelude.{◌≡◌, ℕ, ◌+◌, ◌^◌, ◌<◌, ◌≤◌, [], true, false, length};
+ghost use Rattle.std.specs.Prelude.{List, None, Some, IfOk, OnOk, OnErr, is_some, if◌then◌else◌};
 ghost use Rattle.std.specs.BTreeMap.{is_at};
 ghost use Rattle.std.specs.Option.{option_or};
 ghost use Rattle.std.specs.Ordering.{nat_cmp};
 ghost use Rattle.ox_range.specs.Runs.{numbers_of, AreMaximal};
 ghost use Rattle.ox_outputs.specs.declared.stretch.Stretch.{Stretch};
 ghost use Rattle.ox_outputs.specs.Stretches.{stretch_at, stretches_of, is_among, firsts_of};
-ghost use Rattle.ox_outputs.specs.Stretches.{live_in, kept_in, Agree, AreApart, AreShort};
-ghost use Rattle.ox_outputs.specs.Finding.{Finds};
+ghost use Rattle.ox_outputs.specs.Stretches.{goes, AreNoted, AreApart, AreShort};
+ghost use Rattle.ox_outputs.specs.Finding.{FindsFrom};
 
 use crate::stretch::Stretch;
 use ox_block::OutPoint;
@@ -66,117 +66,171 @@ pub(crate) fn insert_runs(
     Ok(())
 }
 
-/// Notes the stretches that begin as these runs do, before they go, but for those that came since.
-/// Where there is no memory, some are noted, which changes nothing at the mark.
-pub(crate) fn note_away(
-    stretches: &Stretches,
-    came: &BTreeSet<u64>,
-    away: &mut Stretches,
+/// Puts the stretches of an output's runs in, in place of those of other runs, if there are some of
+/// these. Where there is no memory, all is as before. If there are some, all stretches are copied.
+pub(crate) fn put_over(
+    stretches: &mut Stretches,
+    has_others: bool,
+    others: &[Run],
+    outpoint: &OutPoint,
     runs: &[Run],
+    len: u64,
 ) -> Result<(), Memory>
-    requires agree { (q : ℕ) → is_among came.now.keys q ≡ false
-        → Agree (stretch_at away.old.entries q) (stretch_at stretches.now.entries q) }
-    ensures agree { (q : ℕ) → is_among came.now.keys q ≡ false
-        → Agree (stretch_at away.new.entries q) (stretch_at stretches.now.entries q) }
-    ensures kept { (q : ℕ)
-        → kept_in (stretch_at stretches.now.entries) away.new.entries came.now.keys q
-        ≡ kept_in (stretch_at stretches.now.entries) away.old.entries came.now.keys q }
-    ensures noted { OnOk result ((q : ℕ) → is_among (firsts_of runs.now) q ≡ true
-        → stretch_at away.new.entries q
-        ≡ kept_in (stretch_at stretches.now.entries) away.old.entries came.now.keys q) }
-    ensures which { (q : ℕ) (s : Stretch) → stretch_at away.new.entries q ≡ Some s
-        → (stretch_at away.old.entries q ≡ Some s) ⊎ (stretch_at stretches.now.entries q ≡ Some s) }
+    requires len { length (numbers_of runs.now) ≡ len }
+    requires maximal { AreMaximal runs.now }
+    requires none { has_others ≡ false → (q : ℕ) → is_among (firsts_of others.now) q ≡ true
+        → stretch_at stretches.old.entries q ≡ None }
+    requires fresh { (q : ℕ) → is_among (firsts_of runs.now) q ≡ true
+        → is_among (firsts_of others.now) q ≡ false → stretch_at stretches.old.entries q ≡ None }
+    ensures ok { OnOk result ((q : ℕ) → stretch_at stretches.new.entries q
+        ≡ option_or (stretch_at (stretches_of outpoint.now 0 runs.now) q)
+        (if is_among (firsts_of others.now) q then None else stretch_at stretches.old.entries q)) }
+    ensures err { OnErr result ((q : ℕ) → stretch_at stretches.new.entries q
+        ≡ stretch_at stretches.old.entries q) }
 {
+    if !has_others {
+        return insert_runs(stretches, outpoint, runs, len);
+    }
+    let mut copy = stretches.clone()?;
+    remove_runs(&mut copy, others);
+    insert_runs(&mut copy, outpoint, runs, len)?;
+    *stretches = copy;
+    Ok(())
+}
+
+/// Puts the first numbers of runs that go among those of runs that went, but for the runs that came
+/// since. The answer is whether any of them came since. The numbers that were put in are noted.
+/// Where there is no memory, all is as before.
+pub(crate) fn note_gone(
+    gone: &mut BTreeSet<u64>,
+    noted: &mut Vec<u64>,
+    came: &Stretches,
+    runs: &[Run],
+) -> Result<bool, Memory>
+    ensures ok { OnOk result ((q : ℕ) → is_among gone.new.keys q
+        ≡ goes (stretch_at came.now.entries q) (firsts_of runs.now) gone.old.keys q) }
+    ensures came { IfOk result (λ some. some ≡ false → (q : ℕ)
+        → is_among (firsts_of runs.now) q ≡ true → stretch_at came.now.entries q ≡ None) }
+    ensures noted { OnOk result (AreNoted noted.new.items gone.old.keys gone.new.keys) }
+    ensures err { OnErr result ((q : ℕ) → is_among gone.new.keys q ≡ is_among gone.old.keys q) }
+{
+    noted.clear();
+    let some_came = note_each(gone, noted, came, runs);
+    if some_came.is_err() {
+        remove_numbers(gone, noted);
+    }
+    some_came
+}
+
+// The same, but where there is no memory, the numbers that were put in are those that are noted.
+fn note_each(
+    gone: &mut BTreeSet<u64>,
+    noted: &mut Vec<u64>,
+    came: &Stretches,
+    runs: &[Run],
+) -> Result<bool, Memory>
+    requires none { noted.old.items ≡ [] }
+    ensures ok { OnOk result ((q : ℕ) → is_among gone.new.keys q
+        ≡ goes (stretch_at came.now.entries q) (firsts_of runs.now) gone.old.keys q) }
+    ensures came { IfOk result (λ some. some ≡ false → (q : ℕ)
+        → is_among (firsts_of runs.now) q ≡ true → stretch_at came.now.entries q ≡ None) }
+    ensures noted { AreNoted noted.new.items gone.old.keys gone.new.keys }
+{
+    let mut some_came = false;
     for run in runs {
-        note_one(stretches, came, away, run.first)?;
+        if came.contains_key(&run.first) {
+            some_came = true;
+        } else {
+            note_one(gone, noted, run.first)?;
+        }
+    }
+    Ok(some_came)
+}
+
+// Puts a number in, and notes it where it is new. Where there is no memory, it is neither.
+fn note_one(gone: &mut BTreeSet<u64>, noted: &mut Vec<u64>, first: u64) -> Result<(), Memory>
+    ensures ok { OnOk result ((q : ℕ) → is_among gone.new.keys q
+        ≡ (if is_at (nat_cmp first) q then true else is_among gone.old.keys q)) }
+    ensures noted { (start : List ℕ) → AreNoted noted.old.items start gone.old.keys
+        → AreNoted noted.new.items start gone.new.keys }
+{
+    noted.reserve(1)?;
+    if gone.insert(first)? {
+        noted.push_reserved(first);
     }
     Ok(())
 }
 
-// The same for the stretch that begins with this number, if there is one.
-fn note_one(
-    stretches: &Stretches,
-    came: &BTreeSet<u64>,
-    away: &mut Stretches,
-    first: u64,
-) -> Result<(), Memory>
-    ensures one { OnOk result ((q : ℕ) → stretch_at away.new.entries q
-        ≡ (if is_at (nat_cmp first) q
-        then (if is_among came.now.keys q then stretch_at away.old.entries q
-        else option_or (stretch_at stretches.now.entries q) (stretch_at away.old.entries q))
-        else stretch_at away.old.entries q)) }
-    ensures err { OnErr result ((q : ℕ) → stretch_at away.new.entries q
-        ≡ stretch_at away.old.entries q) }
+/// Takes numbers out.
+pub(crate) fn remove_numbers(numbers: &mut BTreeSet<u64>, others: &[u64])
+    ensures { (q : ℕ) → is_among numbers.new.keys q
+        ≡ (if is_among others.now q then false else is_among numbers.old.keys q) }
 {
-    if came.contains(&first) {
-        return Ok(());
+    for other in others {
+        numbers.remove(other);
     }
-    if let Some(stretch) = stretches.get(&first) {
-        away.insert(first, *stretch)?;
+}
+
+/// Takes the stretches away that begin with these numbers, and leaves no number.
+pub(crate) fn remove_gone(stretches: &mut Stretches, gone: &mut BTreeSet<u64>)
+    ensures stretches { (q : ℕ) → stretch_at stretches.new.entries q
+        ≡ (if is_among gone.old.keys q then None else stretch_at stretches.old.entries q) }
+    ensures none { gone.new.keys ≡ [] }
+{
+    for first in gone.iter() {
+        stretches.remove(first);
     }
+    gone.clear();
+}
+
+/// Puts the stretches in that came, and leaves none there. Where there is no memory, all is as
+/// before.
+pub(crate) fn settle(stretches: &mut Stretches, came: &mut Stretches) -> Result<(), Memory>
+    requires once { (q : ℕ) (s : Stretch) → stretch_at came.old.entries q ≡ Some s
+        → stretch_at stretches.old.entries q ≡ None }
+    ensures ok { OnOk result ((q : ℕ) → stretch_at stretches.new.entries q
+        ≡ option_or (stretch_at came.old.entries q) (stretch_at stretches.old.entries q)) }
+    ensures none { OnOk result (came.new.entries ≡ []) }
+    ensures err { OnErr result ((q : ℕ) → stretch_at stretches.new.entries q
+        ≡ stretch_at stretches.old.entries q) }
+    ensures still { OnErr result (came.new.entries ≡ came.old.entries) }
+{
+    for (first, stretch) in came.iter() {
+        if stretches.insert(*first, *stretch).is_err() {
+            remove_all(stretches, came);
+            return Err(Memory);
+        }
+    }
+    came.clear();
     Ok(())
 }
 
-/// Notes the first numbers of runs that come. Where there is no memory, some of them are noted.
-pub(crate) fn note_came(came: &mut BTreeSet<u64>, runs: &[Run]) -> Result<(), Memory>
-    ensures all { OnOk result ((q : ℕ) → is_among (firsts_of runs.now) q ≡ true
-        → is_among came.new.keys q ≡ true) }
-    ensures which { (q : ℕ) → (is_among came.new.keys q ≡ is_among came.old.keys q)
-        ⊎ ((is_among came.new.keys q ≡ true) × (is_among (firsts_of runs.now) q ≡ true)) }
+// Takes the stretches away that begin as these do.
+fn remove_all(stretches: &mut Stretches, others: &Stretches)
+    ensures { (q : ℕ) → stretch_at stretches.new.entries q
+        ≡ (if is_some (stretch_at others.now.entries q) then None
+        else stretch_at stretches.old.entries q) }
 {
-    for run in runs {
-        came.insert(run.first)?;
-    }
-    Ok(())
-}
-
-/// Takes the stretches away, of both, that begin with the numbers of those that came.
-pub(crate) fn remove_noted(one: &mut Stretches, other: &mut Stretches, came: &mut BTreeSet<u64>)
-    ensures one { (q : ℕ) → stretch_at one.new.entries q
-        ≡ (if is_among came.old.keys q then None else stretch_at one.old.entries q) }
-    ensures other { (q : ℕ) → stretch_at other.new.entries q
-        ≡ (if is_among came.old.keys q then None else stretch_at other.old.entries q) }
-    ensures none { came.new.keys ≡ [] }
-{
-    while let Some(first) = came.pop_first() {
-        one.remove(&first);
-        other.remove(&first);
+    for first in others.keys() {
+        stretches.remove(first);
     }
 }
 
-/// Puts the stretches in that are yet to be put in. Where there is no memory, some of them stay.
-pub(crate) fn settle(stretches: &mut Stretches, late: &mut Stretches) -> Result<(), Memory>
-    requires agree { (q : ℕ)
-        → Agree (stretch_at late.old.entries q) (stretch_at stretches.old.entries q) }
-    ensures agree { (q : ℕ)
-        → Agree (stretch_at late.new.entries q) (stretch_at stretches.new.entries q) }
-    ensures all { (q : ℕ) → live_in stretches.new.entries late.new.entries q
-        ≡ live_in stretches.old.entries late.old.entries q }
-    ensures which { (q : ℕ) (s : Stretch) → stretch_at late.new.entries q ≡ Some s
-        → stretch_at late.old.entries q ≡ Some s }
-    ensures none { OnOk result ((q : ℕ) → stretch_at late.new.entries q ≡ None) }
-{
-    while let Some((first, stretch)) = late.first_key_value() {
-        let first = *first;
-        stretches.insert(first, *stretch)?;
-        late.remove(&first);
-    }
-    Ok(())
-}
-
-/// Where a satoshi is by these stretches: in the last that begins with it or before.
-pub(crate) fn find(stretches: &Stretches, sat: u64) -> Option<Place>
+/// Where a satoshi is by these stretches: in the last that begins with it or before, of which the
+/// first number stands before the place.
+pub(crate) fn find(stretches: &Stretches, sat: u64) -> Option<(u64, Place)>
     requires apart { AreApart (stretch_at stretches.now.entries) }
     requires short { AreShort (stretch_at stretches.now.entries) }
-    ensures { Finds (stretch_at stretches.now.entries) sat result }
+    ensures { FindsFrom (stretch_at stretches.now.entries) sat result }
 {
     let (first, stretch) = stretches.range(..=sat).next_back()?;
     let behind = sat - *first;
     if behind >= stretch.count {
         return None;
     }
-    Some(Place::Out {
+    let place = Place::Out {
         outpoint: stretch.outpoint,
         offset: stretch.place + behind,
-    })
+    };
+    Some((*first, place))
 }

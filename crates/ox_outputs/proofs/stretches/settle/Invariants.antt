@@ -1,17 +1,14 @@
-use Rattle.std.proofs.Common.{◌≡◌, ℕ, Some}
-use Rattle.std.specs.BTreeMap.{btree_map_len}
+use Rattle.std.proofs.Common.{◌≡◌, ℕ, Some, true}
+use Rattle.std.specs.Prelude.{◌⊎◌, is_some}
+use Rattle.std.specs.Option.{option_or}
 use Rattle.ox_outputs.specs.declared.stretch.Stretch.{Stretch}
-use Rattle.ox_outputs.specs.Stretches.{stretch_at, live_in, Agree}
+use Rattle.ox_outputs.specs.Stretches.{stretch_at}
 use Rattle.ox_outputs.proofs.stretches.settle.Given as goal
 
 abbrev pub invariant-loop-first : goal.invariant-loop-first
 invariant-loop-first l = record {
-  agree : (q : ℕ) → Agree (stretch_at l.late.entries q) (stretch_at l.stretches.entries q);
-  all : (q : ℕ) → live_in l.stretches.entries l.late.entries q
-      ≡ live_in l.fn.stretches.entries l.fn.late.entries q;
-  which : (q : ℕ) (s : Stretch) → stretch_at l.late.entries q ≡ Some s
-      → stretch_at l.fn.late.entries q ≡ Some s;
+  all : (q : ℕ) → option_or (stretch_at l.fn.came.entries q) (stretch_at l.stretches.entries q)
+      ≡ option_or (stretch_at l.fn.came.entries q) (stretch_at l.fn.stretches.entries q);
+  done : (q : ℕ) (s : Stretch) → stretch_at l.fn.came.entries q ≡ Some s
+      → (is_some (stretch_at l.first-iterator q) ≡ true) ⊎ (stretch_at l.stretches.entries q ≡ Some s);
 }
-
-abbrev pub decreases-loop-first : goal.decreases-loop-first
-decreases-loop-first l = btree_map_len l.late

@@ -6,6 +6,7 @@ use Rattle.ox_outputs.proofs.outputs.Outputs.locate.Goals as goal
 pub find-requires : goal.find-requires
 find-requires c = record {
   live = apart_runs (live_at c.args.self.now.locator) (rows_of c.args.self.now.slots) c.args.self.now.runs c.args.self.now.once;
+  kept = c.args.self.now.apart;
 }
 
 pub returns : goal.returns

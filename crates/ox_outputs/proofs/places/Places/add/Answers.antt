@@ -13,7 +13,7 @@ returns-in_ok-push-clause-added c = inl (pushed_here c.ensure_lists.new.lists.it
 pub returns-in_ok-push-clause-before : goal.returns-in_ok-push-clause-before
 returns-in_ok-push-clause-before c = λ q p has other. ⊎_elim
     (λ is. inl (pushed_still c.ensure_lists.new.lists.items c.shard.result (outpoint_shard q) c.index_mut-list.result.now c.push.new.self _ (tag q) p (search (rules, arith)) c.index_mut-list.ensures.value c.in_ok-push.ensures.items
-        (ap (λ (l : List Entry). is_in l (tag q) p) (c.ensure_lists.ensures.same (outpoint_shard q)) ∙ is)))
+    (ap (λ (l : List Entry). is_in l (tag q) p) (c.ensure_lists.ensures.same (outpoint_shard q)) ∙ is)))
     (λ is. inr is)
     has
 
@@ -21,9 +21,9 @@ pub returns-in_ok-insert-clause-before : goal.returns-in_ok-insert-clause-before
 returns-in_ok-insert-clause-before c = λ q p has other. ⊎_elim
     (λ is. inl (ap (λ (l : List Entry). is_in l (tag q) p) (set_again c.ensure_lists.new.lists.items c.shard.result (outpoint_shard q) c.index_mut-list.result.now (search (rules, arith)) c.index_mut-list.ensures.value ∙ c.ensure_lists.ensures.same (outpoint_shard q)) ∙ is))
     (λ is. inr (⊎_elim
-        (λ same. absurd (other (sym same)))
-        (λ differs. c.in_ok-insert.ensures.updates.0 q ∙ ap (λ (b : Bool). cond b (Some c.args.place) (other_at c.args.self.now q)) differs ∙ is)
-        (same_or_not c.args.at q)))
+    (λ same. absurd (other (sym same)))
+    (λ differs. c.in_ok-insert.ensures.updates.0 q ∙ ap (λ (b : Bool). cond b (Some c.args.place) (other_at c.args.self.now q)) differs ∙ is)
+    (same_or_not c.args.at q)))
     has
 
 the_place : (p q : ℕ) → ◌≡◌ {A = Option ℕ} (Some p) (Some q) → p ≡ q

@@ -11,19 +11,19 @@ use Rattle.ox_outputs.proofs.places.Places.remove.Goals as goal
 pub returns-clause-gone : goal.returns-clause-gone
 returns-clause-gone c = λ has. ⊎_elim
     (λ is. true≢false (sym is ∙ ap (λ (l : List Entry). is_in l (tag c.args.at.now) c.args.place) (ap (items_at c.take_out.new.lists.items) (sym c.shard.ensures.value) ∙ c.take_out.ensures.taken)
-        ∙ filtered_out (items_at c.args.self.now.lists.items c.shard.result) (tag c.args.at.now) c.args.place))
+    ∙ filtered_out (items_at c.args.self.now.lists.items c.shard.result) (tag c.args.at.now) c.args.place))
     (λ is. no_place c.args.place (sym (c.remove.ensures.updates.0 c.args.at.now ∙ ap (λ (b : Bool). cond b None (other_at c.args.self.now c.args.at.now)) (same_itself c.args.at.now)) ∙ is))
     has
 
 pub returns-clause-left : goal.returns-clause-left
 returns-clause-left c = λ q p has other differs. ⊎_elim
     (λ is. inl (⊎_elim
-        (λ same. ap (λ (l : List Entry). is_in l (tag q) p) (ap (items_at c.take_out.new.lists.items) (sym same) ∙ c.take_out.ensures.taken)
-            ∙ filtered_in (items_at c.args.self.now.lists.items c.shard.result) (tag q) c.args.place p differs (ap (λ (l : List Entry). is_in l (tag q) p) (ap (items_at c.args.self.now.lists.items) same) ∙ is))
-        (λ another. ap (λ (l : List Entry). is_in l (tag q) p) (c.take_out.ensures.others (outpoint_shard q) (λ same. another (sym same))) ∙ is)
-        (cases_eq c.shard.result (outpoint_shard q))))
+    (λ same. ap (λ (l : List Entry). is_in l (tag q) p) (ap (items_at c.take_out.new.lists.items) (sym same) ∙ c.take_out.ensures.taken)
+    ∙ filtered_in (items_at c.args.self.now.lists.items c.shard.result) (tag q) c.args.place p differs (ap (λ (l : List Entry). is_in l (tag q) p) (ap (items_at c.args.self.now.lists.items) same) ∙ is))
+    (λ another. ap (λ (l : List Entry). is_in l (tag q) p) (c.take_out.ensures.others (outpoint_shard q) (λ same. another (sym same))) ∙ is)
+    (cases_eq c.shard.result (outpoint_shard q))))
     (λ is. inr (⊎_elim
-        (λ same. absurd (other (sym same)))
-        (λ apart. c.remove.ensures.updates.0 q ∙ ap (λ (b : Bool). cond b None (other_at c.args.self.now q)) apart ∙ is)
-        (same_or_not c.args.at.now q)))
+    (λ same. absurd (other (sym same)))
+    (λ apart. c.remove.ensures.updates.0 q ∙ ap (λ (b : Bool). cond b None (other_at c.args.self.now q)) apart ∙ is)
+    (same_or_not c.args.at.now q)))
     has
