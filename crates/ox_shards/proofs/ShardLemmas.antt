@@ -1,201 +1,241 @@
--- What shards have at a key.
-use Rattle.std.proofs.Common.{rules, tests, ◌≡◌, ◌∙◌, ℕ, zero, suc, Bool, true, false, cond, List, [], ◌∷◌, ◌++◌, length, length-set, slice_set, nat_lt, is_some, get_or, Bor, ◌<◌, Option, Some, None, Ordering, refl, sym, ap, subst, true≢false, inl, inr, arith}
-use Rattle.std.specs.Prelude.{◌⊎◌, IsSome, slice_get}
+-- What lists and the ordered map behind them have at a key.
+use Rattle.std.proofs.Common.{◌≡◌, ◌≢◌, ◌∙◌, ℕ, zero, suc, ◌<◌, Bool, true, false, cond, List, [], ◌∷◌, ◌++◌, length, length-set, slice_set, get_or, Option, Some, None, Ordering, refl, sym, ap, subst, true≢false, inl, inr, arith}
+use Rattle.std.specs.Prelude.{◌⊎◌, IsSome, OnOk, OnErr}
+use Rattle.std.specs.declared.result.Result.{Result}
+use Rattle.std.specs.declared.result.Result.TheVariants.{Ok, Err}
+use Rattle.std.specs.Global.{Vec}
 use Rattle.std.specs.Ordering.{is_eq}
-use Rattle.std.specs.Option.{option_or, option_and_then, IfSome}
-use Rattle.std.specs.Map.{lookup}
-use Rattle.std.specs.BTreeMap.{BTreeMap, get, is_at}
+use Rattle.std.specs.Option.{option_or}
+use Rattle.std.specs.List.{IsDistinct}
+use Rattle.std.specs.BTreeMap.{is_at}
 use Rattle.std.proofs.lemmas.Bool.{cases_eq}
-use Rattle.ox_shards.specs.Shards.{Entries, value_at, entries_of, AreShards}
+use Rattle.ox_shards.specs.Shards.{Entries, value_at, value_with, joined, entries_of, items_at, IsSound, Changes, AreShards}
+use Rattle.ox_shards.proofs.ListLemmas.{at-append, or_none, none_or}
 
-or_cond : {V : Type 0} (b : Bool) (v : V) (x y : Option V) → cond b (Some v) (option_or x y) ≡ option_or (cond b (Some v) x) y
-or_cond true v x y = refl
-or_cond false v x y = refl
-
--- a look-up in entries behind others
-at-append : {K V : Type 0} (test : K → Bool) (a b : List (K × V)) → lookup test (a ++ b) ≡ option_or (lookup test a) (lookup test b)
-at-append test [] b = refl
-at-append test (e ∷ a) b = ap (cond (test e.0) (Some e.1)) (at-append test a b) ∙ or_cond (test e.0) e.1 (lookup test a) (lookup test b)
-
-or_none : {V : Type 0} (x y : Option V) → y ≡ None → option_or x y ≡ x
-or_none None y is = is
-or_none (Some v) y is = refl
-
-none_or : {V : Type 0} (x y : Option V) → x ≡ None → option_or x y ≡ y
-none_or x y is = ap (λ o. option_or o y) is
-
-some_or_none : {V : Type 0} (o : Option V) → (o ≡ None) ⊎ IsSome o
-some_or_none None = inl refl
-some_or_none (Some v) = inr refl
-
-the_map : {X : Type 0} (x y : X) → ◌≡◌ {A = Option X} (Some x) (Some y) → x ≡ y
-the_map x y is = cc is
-
-nothing_some : {V : Type 0} (o : Option V) → o ≡ None → IsSome o → ⊥
-nothing_some None is some = true≢false (sym some)
-nothing_some (Some v) is some = absurd (cc is)
-
-set_same : {X : Type 0} (xs : List X) (i : ℕ) (x y : X) → slice_get xs i ≡ Some x → slice_get (slice_set xs i y) i ≡ Some y
-set_same [] i x y is = absurd (cc is)
-set_same (z ∷ xs) zero x y is = refl
-set_same (z ∷ xs) (suc i) x y is = set_same xs i x y is
-
-set_other : {X : Type 0} (xs : List X) (i j : ℕ) (y : X) → (i ≡ j → ⊥) → slice_get (slice_set xs i y) j ≡ slice_get xs j
-set_other [] i j y other = refl
-set_other (z ∷ xs) zero zero y other = absurd (other refl)
-set_other (z ∷ xs) zero (suc j) y other = refl
-set_other (z ∷ xs) (suc i) zero y other = refl
-set_other (z ∷ xs) (suc i) (suc j) y other = set_other xs i j y (λ same. other (ap suc same))
+-- ---- many lists
 
 pub no_items : {X : Type 0} (xs : List X) → length xs ≡ 0 → xs ≡ []
 no_items [] none = refl
 no_items (x ∷ xs) none = absurd (cc none)
 
-pub within : {X : Type 0} (xs : List X) (i : ℕ) (d : X) → i < length xs → slice_get xs i ≡ Some (get_or xs i d)
-within [] i d low = absurd (omega arith)
-within (x ∷ xs) zero d low = refl
-within (x ∷ xs) (suc i) d low = within xs i d (omega arith)
-
 both_none : {X : Type 0} (a b : List X) → a ++ b ≡ [] → (a ≡ []) × (b ≡ [])
 both_none [] b is = (refl, is)
 both_none (x ∷ a) b is = absurd (cc is)
 
+module _ {K V : Type 0} where
+  -- the list that has changed, and another one
+  set_here : (lists : List (Vec (K × V))) (i : ℕ) (n : Vec (K × V)) → i < length lists → items_at (slice_set lists i n) i ≡ n.items
+  set_here [] i n low = absurd (omega arith)
+  set_here (l ∷ lists) zero n low = refl
+  set_here (l ∷ lists) (suc i) n low = set_here lists i n (omega arith)
+
+  set_elsewhere : (lists : List (Vec (K × V))) (i j : ℕ) (n : Vec (K × V)) → i ≢ j → items_at (slice_set lists i n) j ≡ items_at lists j
+  set_elsewhere [] i j n other = refl
+  set_elsewhere (l ∷ lists) zero zero n other = absurd (other refl)
+  set_elsewhere (l ∷ lists) zero (suc j) n other = refl
+  set_elsewhere (l ∷ lists) (suc i) zero n other = refl
+  set_elsewhere (l ∷ lists) (suc i) (suc j) n other = set_elsewhere lists i j n (λ same. other (ap suc same))
+
+  items_there : (lists : List (Vec (K × V))) (i : ℕ) (p : Vec (K × V)) → i < length lists → p ≡ get_or lists i p → items_at lists i ≡ p.items
+  items_there [] i p low is = absurd (omega arith)
+  items_there (l ∷ lists) zero p low is = ap (λ (v : Vec (K × V)). v.items) (sym is)
+  items_there (l ∷ lists) (suc i) p low is = items_there lists i p (omega arith) is
+
+  -- a list in whose place one with the same entries stands
+  same_joined : (lists : List (Vec (K × V))) (i : ℕ) (p n : Vec (K × V)) → i < length lists → p ≡ get_or lists i p → n.items ≡ p.items → joined (slice_set lists i n) ≡ joined lists
+  same_joined [] i p n low there same = absurd (omega arith)
+  same_joined (l ∷ lists) zero p n low there same = ap (λ (es : Entries K V). es ++ joined lists) (same ∙ ap (λ (v : Vec (K × V)). v.items) there)
+  same_joined (l ∷ lists) (suc i) p n low there same = ap (λ (es : Entries K V). l.items ++ es) (same_joined lists i p n (omega arith) there same)
+
+  -- each of lists that have no entries has none
+  pub nothing_at : (lists : List (Vec (K × V))) (i : ℕ) → joined lists ≡ [] → items_at lists i ≡ []
+  nothing_at [] i empty = refl
+  nothing_at (l ∷ lists) zero empty = (both_none l.items (joined lists) empty).0
+  nothing_at (l ∷ lists) (suc i) empty = nothing_at lists i (both_none l.items (joined lists) empty).1
+
+-- ---- what they have at a key
+
+some_or_none : {V : Type 0} (o : Option V) → (o ≡ None) ⊎ IsSome o
+some_or_none None = inl refl
+some_or_none (Some v) = inr refl
+
 module _ {K V : Type 0} (cmp : K → K → Ordering) where
-  -- what the shard with a number has at a key
-  abbrev value_in_shard : List (BTreeMap K V) → ℕ → K → Option V
-  value_in_shard shards index q = option_and_then (λ map. get cmp map q) (slice_get shards index)
+  -- where each list that has a key is the one with this number
+  abbrev IsAlone : List (Vec (K × V)) → ℕ → K → Type 0
+  IsAlone lists index q = (i : ℕ) → IsSome (value_at cmp (items_at lists i) q) → index ≡ i
 
-  -- where each shard that has a key is the one with this number
-  abbrev IsAlone : List (BTreeMap K V) → ℕ → K → Type 0
-  IsAlone shards index q = (i : ℕ) (map : BTreeMap K V) → slice_get shards i ≡ Some map → IsSome (get cmp map q) → index ≡ i
-
-  nowhere : (shards : List (BTreeMap K V)) (q : K) → ((i : ℕ) (map : BTreeMap K V) → slice_get shards i ≡ Some map → IsSome (get cmp map q) → ⊥)
-      → value_at cmp (entries_of shards) q ≡ None
+  nowhere : (lists : List (Vec (K × V))) (q : K) → ((i : ℕ) → IsSome (value_at cmp (items_at lists i) q) → ⊥) → value_at cmp (joined lists) q ≡ None
   nowhere [] q none = refl
-  nowhere (p ∷ shards) q none =
-      at-append (is_at (cmp q)) p.entries (entries_of shards)
-      ∙ none_or (get cmp p q) (value_at cmp (entries_of shards) q) (by (some_or_none (get cmp p q)))
-      ∙ nowhere shards q (λ i map is some. none (suc i) map is some)
+  nowhere (l ∷ lists) q none =
+      at-append (is_at (cmp q)) l.items (joined lists)
+      ∙ none_or (value_at cmp l.items q) (value_at cmp (joined lists) q) (by (some_or_none (value_at cmp l.items q)))
+      ∙ nowhere lists q (λ i some. none (suc i) some)
     where
-      by : (get cmp p q ≡ None) ⊎ IsSome (get cmp p q) → get cmp p q ≡ None
+      by : (value_at cmp l.items q ≡ None) ⊎ IsSome (value_at cmp l.items q) → value_at cmp l.items q ≡ None
       by (inl is) = is
-      by (inr some) = absurd (none zero p refl some)
+      by (inr some) = absurd (none zero some)
 
-  value_at_shard : (shards : List (BTreeMap K V)) (index : ℕ) (q : K) → IsAlone shards index q → value_at cmp (entries_of shards) q ≡ value_in_shard shards index q
-  value_at_shard [] index q alone = refl
-  value_at_shard (p ∷ shards) zero q alone =
-      at-append (is_at (cmp q)) p.entries (entries_of shards)
-      ∙ or_none (get cmp p q) (value_at cmp (entries_of shards) q) (nowhere shards q (λ i map is some. absurd (cc (alone (suc i) map is some))))
-  value_at_shard (p ∷ shards) (suc index) q alone =
-      at-append (is_at (cmp q)) p.entries (entries_of shards)
-      ∙ none_or (get cmp p q) (value_at cmp (entries_of shards) q) (by (some_or_none (get cmp p q)))
-      ∙ value_at_shard shards index q (λ i map is some. cc (alone (suc i) map is some))
+  at_list : (lists : List (Vec (K × V))) (index : ℕ) (q : K) → IsAlone lists index q → value_at cmp (joined lists) q ≡ value_at cmp (items_at lists index) q
+  at_list [] index q alone = refl
+  at_list (l ∷ lists) zero q alone =
+      at-append (is_at (cmp q)) l.items (joined lists)
+      ∙ or_none (value_at cmp l.items q) (value_at cmp (joined lists) q) (nowhere lists q (λ i some. absurd (cc (alone (suc i) some))))
+  at_list (l ∷ lists) (suc index) q alone =
+      at-append (is_at (cmp q)) l.items (joined lists)
+      ∙ none_or (value_at cmp l.items q) (value_at cmp (joined lists) q) (by (some_or_none (value_at cmp l.items q)))
+      ∙ at_list lists index q (λ i some. cc (alone (suc i) some))
     where
-      by : (get cmp p q ≡ None) ⊎ IsSome (get cmp p q) → get cmp p q ≡ None
+      by : (value_at cmp l.items q ≡ None) ⊎ IsSome (value_at cmp l.items q) → value_at cmp l.items q ≡ None
       by (inl is) = is
-      by (inr some) = absurd (cc (alone zero p refl some))
+      by (inr some) = absurd (cc (alone zero some))
 
-  same_entries : (shards : List (BTreeMap K V)) (i : ℕ) (p n : BTreeMap K V) → i < length shards → p ≡ get_or shards i p → n.entries ≡ p.entries
-      → entries_of (slice_set shards i n) ≡ entries_of shards
-  same_entries [] i p n low there same = absurd (omega arith)
-  same_entries (m ∷ shards) zero p n low there same = ap (λ (es : Entries K V). es ++ entries_of shards) (same ∙ ap (λ (m : BTreeMap K V). m.entries) there)
-  same_entries (m ∷ shards) (suc i) p n low there same = ap (λ (es : Entries K V). m.entries ++ es) (same_entries shards i p n (omega arith) there same)
-
-  pub more_empty : (shards : List (BTreeMap K V)) (p : BTreeMap K V) → entries_of shards ≡ [] → p.entries ≡ [] → entries_of (shards ++ p ∷ []) ≡ []
-  more_empty [] p empty none = ap (λ (es : Entries K V). es ++ []) none
-  more_empty (m ∷ shards) p empty none =
-      let two = both_none m.entries (entries_of shards) empty in
-      ap (λ (es : Entries K V). es ++ entries_of (shards ++ p ∷ [])) two.0 ∙ more_empty shards p two.1 none
-
-  nothing_in : (shards : List (BTreeMap K V)) (i : ℕ) (map : BTreeMap K V) → entries_of shards ≡ [] → slice_get shards i ≡ Some map → map.entries ≡ []
-  nothing_in [] i map empty is = absurd (cc is)
-  nothing_in (p ∷ shards) zero map empty is = ap (λ (m : BTreeMap K V). m.entries) (sym (the_map p map is)) ∙ (both_none p.entries (entries_of shards) empty).0
-  nothing_in (p ∷ shards) (suc i) map empty is = nothing_in shards i map (both_none p.entries (entries_of shards) empty).1 is
+  nothing_sound : IsSound {K = K} {V = V} cmp [] []
+  unfolding IsDistinct
+  nothing_sound = record { distinct = tt; apart = λ key some. refl }
 
   module _ (shard : K → ℕ) (count : ℕ) where
-    -- what shards have at a key is what its shard has
-    pub at_shard : (shards : List (BTreeMap K V)) → AreShards cmp shard count shards → (q : K) → value_at cmp (entries_of shards) q ≡ value_in_shard shards (shard q) q
-    at_shard shards are q = value_at_shard shards (shard q) q (λ i map is some. are.own i map q is some)
+    pub no_shards : (lists : List (Vec (K × V))) (others : Entries K V) → lists ≡ [] → others ≡ [] → AreShards cmp shard count lists others
+    no_shards lists others none nor =
+        subst (λ (ls : List (Vec (K × V))). AreShards cmp shard count ls others) (sym none)
+        (subst (λ (es : Entries K V). AreShards cmp shard count [] es) (sym nor)
+        (record {
+          all = λ some. absurd (omega (arith, some));
+          none = λ is. refl;
+          own = λ index key some. absurd (true≢false (sym some));
+          sound = λ index. nothing_sound;
+        }))
 
-    -- the shard in which a key stands, lent
-    pub lent_shard : (shards : List (BTreeMap K V)) → AreShards cmp shard count shards → (es : Entries K V) → entries_of shards ≡ es
-        → (key : K) (index : ℕ) → index ≡ shard key → (r : Option (Bor (BTreeMap K V)))
-        → is_some r ≡ nat_lt index (length shards) → IfSome r (λ map. map.now ≡ get_or shards index map.now)
-        → IfSome r (λ map. (q : K) → shard q ≡ shard key → get cmp map.now q ≡ value_at cmp es q)
-    lent_shard shards are es stand key index is None some there = tt
-    lent_shard shards are es stand key index is (Some r) some there = λ q same.
-        let map = within shards index r.now (low (sym some)) ∙ ap Some (sym there) in
-        sym (ap (option_and_then (λ map. get cmp map q)) (ap (slice_get shards) (same ∙ sym is) ∙ map)) ∙ sym (at_shard shards are q)
-        ∙ ap (λ (l : Entries K V). value_at cmp l q) stand
-      where
-        low : nat_lt index (length shards) ≡ true → index < length shards
-        low is = search (rules, tests)
+    module _ (lists : List (Vec (K × V))) (others : Entries K V) (are : AreShards cmp shard count lists others) where
+      -- what they have at a key is what its list has, or else the ordered map
+      at_shard : (q : K) → value_at cmp (entries_of lists others) q ≡ value_with cmp (items_at lists (shard q)) others q
+      at_shard q =
+          at-append (is_at (cmp q)) (joined lists) others
+          ∙ ap (λ v. option_or v (value_at cmp others q)) (at_list lists (shard q) q (λ i some. are.own i q some))
 
-    pub empty_shards : (shards : List (BTreeMap K V)) → length shards ≡ count → entries_of shards ≡ [] → AreShards cmp shard count shards
-    empty_shards shards whole empty = record {
-      none_or_all = inr whole;
-      own = λ i map q is some. absurd (nothing_some (get cmp map q) (ap (λ (es : Entries K V). lookup (is_at (cmp q)) es) (nothing_in shards i map empty is)) some);
-    }
+      -- lists that are alike, number by number
+      pub same_shards : (new : List (Vec (K × V))) → length new ≡ count → 0 < length new → ((i : ℕ) → items_at new i ≡ items_at lists i) → AreShards cmp shard count new others
+      same_shards new whole some same = record {
+        all = λ _. whole;
+        none = λ is. absurd (omega (arith, is, some));
+        own = λ i q is. are.own i q (subst (λ (es : Entries K V). IsSome (value_at cmp es q)) (same i) is);
+        sound = λ i. subst (λ (es : Entries K V). IsSound cmp es others) (sym (same i)) (are.sound i);
+      }
 
-    -- The shard with a number changes at a key of its own, and then has this value, or none, there.
-    module _ (alike : (a b : K) → is_eq (cmp a b) ≡ true → shard a ≡ shard b)
-        (shards : List (BTreeMap K V)) (are : AreShards cmp shard count shards) (key : K) (p n : BTreeMap K V) (w : Option V)
-        (there : slice_get shards (shard key) ≡ Some p)
-        (changes : (q : K) → get cmp n q ≡ cond (is_eq (cmp key q)) w (get cmp p q)) where
-      own_at : (i : ℕ) (map : BTreeMap K V) (q : K) → slice_get (slice_set shards (shard key) n) i ≡ Some map → IsSome (get cmp map q) → shard q ≡ i
-      own_at i map q is some = by (cases_eq (shard key) i) where
-        in_new : (b : Bool) → is_eq (cmp key q) ≡ b → IsSome (cond b w (get cmp p q)) → shard q ≡ shard key
-        in_new true same has = sym (alike key q same)
-        in_new false other has = are.own (shard key) p q there has
+      -- a value found in the list of its key, or else in the ordered map
+      module _ (es : Entries K V) (stand : entries_of lists others ≡ es) (key : K) (list : Entries K V) (there : list ≡ items_at lists (shard key)) where
+        its_value : (v : Option V) → v ≡ value_with cmp list others key → v ≡ value_at cmp es key
+        its_value v is =
+            is ∙ ap (λ (l : Entries K V). value_with cmp l others key) there ∙ sym (at_shard key)
+            ∙ ap (λ (l : Entries K V). value_at cmp l key) stand
 
-        by : (shard key ≡ i) ⊎ (shard key ≡ i → ⊥) → shard q ≡ i
-        by (inl same) =
-            let new : n ≡ map = the_map n map (sym (set_same shards (shard key) p n there) ∙ ap (slice_get (slice_set shards (shard key) n)) same ∙ is) in
-            in_new (is_eq (cmp key q)) refl (subst IsSome (changes q) (subst (λ (m : BTreeMap K V). IsSome (get cmp m q)) (sym new) some)) ∙ same
-        by (inr other) = are.own i map q (sym (set_other shards (shard key) i n other) ∙ is) some
+        pub got_in_list : (v : V) → Some v ≡ value_at cmp list key → Some v ≡ value_at cmp es key
+        got_in_list v is = its_value (Some v) (ap (λ o. option_or o (value_at cmp others key)) is)
 
-      pub changed_shards : AreShards cmp shard count (slice_set shards (shard key) n)
-      changed_shards = record { none_or_all = all; own = own_at } where
-        all : (slice_set shards (shard key) n ≡ []) ⊎ (length (slice_set shards (shard key) n) ≡ count)
-        all = by are.none_or_all where
-          by : (shards ≡ []) ⊎ (length shards ≡ count) → (slice_set shards (shard key) n ≡ []) ⊎ (length (slice_set shards (shard key) n) ≡ count)
-          by (inl none) = inl (ap (λ (l : List (BTreeMap K V)). slice_set l (shard key) n) none)
-          by (inr whole) = inr (length-set shards (shard key) n ∙ whole)
+        pub got_in_others : (v : Option V) → None ≡ value_at cmp list key → v ≡ value_at cmp others key → v ≡ value_at cmp es key
+        got_in_others v none is = its_value v (is ∙ sym (none_or (value_at cmp list key) (value_at cmp others key) (sym none)))
 
-      pub changed_at : (q : K) → value_at cmp (entries_of (slice_set shards (shard key) n)) q ≡ cond (is_eq (cmp key q)) w (value_at cmp (entries_of shards) q)
-      changed_at q =
-          at_shard (slice_set shards (shard key) n) changed_shards q ∙ by (cases_eq (shard key) (shard q))
-          ∙ ap (cond (is_eq (cmp key q)) w) (sym (at_shard shards are q))
-        where
-          apart : (b : Bool) → is_eq (cmp key q) ≡ b → (shard key ≡ shard q → ⊥) → value_in_shard shards (shard q) q ≡ cond b w (value_in_shard shards (shard q) q)
-          apart true same other = absurd (other (alike key q same))
-          apart false same other = refl
+      -- ---- one list changes
 
-          by : (shard key ≡ shard q) ⊎ (shard key ≡ shard q → ⊥) → value_in_shard (slice_set shards (shard key) n) (shard q) q ≡ cond (is_eq (cmp key q)) w (value_in_shard shards (shard q) q)
-          by (inl same) =
-              ap (λ i. value_in_shard (slice_set shards (shard key) n) i q) (sym same)
-              ∙ ap (option_and_then (λ map. get cmp map q)) (set_same shards (shard key) p n there)
-              ∙ changes q
-              ∙ ap (cond (is_eq (cmp key q)) w) (sym (ap (option_and_then (λ map. get cmp map q)) there) ∙ ap (λ i. value_in_shard shards i q) same)
-          by (inr other) =
-              ap (option_and_then (λ map. get cmp map q)) (set_other shards (shard key) (shard q) n other) ∙ apart (is_eq (cmp key q)) refl other
+      module _ (es : Entries K V) (stand : entries_of lists others ≡ es) (key : K) (index : ℕ) (is : index ≡ shard key) (p n : Vec (K × V)) (low : index < length lists) (there : p ≡ get_or lists index p) where
+        its_items : items_at lists (shard key) ≡ p.items
+        its_items = ap (items_at lists) (sym is) ∙ items_there lists index p low there
 
-    -- Of shards that stand for these entries the one of a key changes there, and the others stay.
-    module _ (alike : (a b : K) → is_eq (cmp a b) ≡ true → shard a ≡ shard b)
-        (shards : List (BTreeMap K V)) (are : AreShards cmp shard count shards) (es : Entries K V) (stand : entries_of shards ≡ es)
-        (key : K) (index : ℕ) (is : index ≡ shard key) (p n : BTreeMap K V) (low : index < length shards) (there : p ≡ get_or shards index p) where
-      its_shard : slice_get shards (shard key) ≡ Some p
-      its_shard = ap (slice_get shards) (sym is) ∙ within shards index p low ∙ ap Some (sym there)
+        pub held_at : (v : Option V) → v ≡ value_with cmp p.items others key → v ≡ value_at cmp es key
+        held_at = its_value es stand key p.items (sym its_items)
 
-      pub held_at : (v : Option V) → v ≡ get cmp p key → v ≡ value_at cmp es key
-      held_at v has = has ∙ sym (ap (option_and_then (λ map. get cmp map key)) its_shard) ∙ sym (at_shard shards are key) ∙ ap (λ (l : Entries K V). value_at cmp l key) stand
+        whole : length (slice_set lists index n) ≡ count
+        whole = length-set lists index n ∙ are.all (omega (arith, low))
 
-      pub put_at : (w : Option V) → ((q : K) → get cmp n q ≡ cond (is_eq (cmp key q)) w (get cmp p q))
-          → (q : K) → value_at cmp (entries_of (slice_set shards index n)) q ≡ cond (is_eq (cmp key q)) w (value_at cmp es q)
-      put_at w changes q =
-          ap (λ i. value_at cmp (entries_of (slice_set shards i n)) q) is
-          ∙ changed_at alike shards are key p n w its_shard changes q
-          ∙ ap (λ (l : Entries K V). cond (is_eq (cmp key q)) w (value_at cmp l q)) stand
+        some_lists : 0 < length (slice_set lists index n)
+        some_lists = subst (λ (l : ℕ). 0 < l) (sym (length-set lists index n)) (omega (arith, low))
 
-      pub left_as_is : n.entries ≡ p.entries → entries_of (slice_set shards index n) ≡ es
-      left_as_is same = same_entries shards index p n low there same ∙ stand
+        -- The list and the ordered map are as they were.
+        module _ (new_others : Entries K V) (same : n.items ≡ p.items) (too : new_others ≡ others) where
+          pub unchanged_shards : AreShards cmp shard count (slice_set lists index n) new_others
+          unchanged_shards = subst (λ (es : Entries K V). AreShards cmp shard count (slice_set lists index n) es) (sym too) (same_shards (slice_set lists index n) whole some_lists (λ i. by i (cases_eq index i))) where
+            by : (i : ℕ) → (index ≡ i) ⊎ (index ≢ i) → items_at (slice_set lists index n) i ≡ items_at lists i
+            by i (inl at) =
+                ap (items_at (slice_set lists index n)) (sym at) ∙ set_here lists index n low ∙ same
+                ∙ sym (items_there lists index p low there) ∙ ap (items_at lists) at
+            by i (inr other) = set_elsewhere lists index i n other
+
+          pub unchanged_entries : entries_of (slice_set lists index n) new_others ≡ es
+          unchanged_entries =
+              ap (λ (l : Entries K V). l ++ new_others) (same_joined lists index p n low there same)
+              ∙ ap (λ (l : Entries K V). joined lists ++ l) too ∙ stand
+
+        -- They have another value at the key, or none.
+        module _ (alike : (a b : K) → is_eq (cmp a b) ≡ true → shard a ≡ shard b) (new_others : Entries K V) (w : Option V) (change : Changes cmp p.items others n.items new_others key w) where
+          new_items : (i : ℕ) → index ≡ i → items_at (slice_set lists index n) i ≡ n.items
+          new_items i at = ap (items_at (slice_set lists index n)) (sym at) ∙ set_here lists index n low
+
+          old_items : (i : ℕ) → index ≡ i → items_at lists i ≡ p.items
+          old_items i at = ap (items_at lists) (sym at) ∙ items_there lists index p low there
+
+          -- a key of another shard is another key
+          another : (q : K) (i : ℕ) → shard q ≡ i → index ≢ i → is_eq (cmp key q) ≡ false
+          another q i at other = by (is_eq (cmp key q)) refl where
+            by : (b : Bool) → is_eq (cmp key q) ≡ b → b ≡ false
+            by true same = absurd (other (is ∙ alike key q same ∙ at))
+            by false same = refl
+
+          own_at : (i : ℕ) (q : K) → (index ≡ i) ⊎ (index ≢ i) → IsSome (value_at cmp (items_at (slice_set lists index n) i) q) → shard q ≡ i
+          own_at i q (inl at) some = by (is_eq (cmp key q)) refl where
+            by : (b : Bool) → is_eq (cmp key q) ≡ b → shard q ≡ i
+            by true same = sym (alike key q same) ∙ sym is ∙ at
+            by false other = are.own i q (subst IsSome (ap (λ (l : Entries K V). value_at cmp l q) (new_items i at) ∙ change.in_list q other ∙ sym (ap (λ (l : Entries K V). value_at cmp l q) (old_items i at))) some)
+          own_at i q (inr other) some = are.own i q (subst IsSome (ap (λ (l : Entries K V). value_at cmp l q) (set_elsewhere lists index i n other)) some)
+
+          sound_at : (i : ℕ) → (index ≡ i) ⊎ (index ≢ i) → IsSound cmp (items_at (slice_set lists index n) i) new_others
+          sound_at i (inl at) = subst (λ (l : Entries K V). IsSound cmp l new_others) (sym (new_items i at)) change.sound
+          sound_at i (inr other) = subst (λ (l : Entries K V). IsSound cmp l new_others) (sym (set_elsewhere lists index i n other)) (record {
+            distinct = (are.sound i).distinct;
+            apart = λ q some. change.in_others q (another q i (are.own i q some) other) ∙ (are.sound i).apart q some;
+          })
+
+          pub changed_shards : AreShards cmp shard count (slice_set lists index n) new_others
+          changed_shards = record {
+            all = λ _. whole;
+            none = λ none. absurd (omega (arith, none, some_lists));
+            own = λ i q some. own_at i q (cases_eq index i) some;
+            sound = λ i. sound_at i (cases_eq index i);
+          }
+
+-- ---- where a list and the ordered map have changed at a key
+
+module _ {K V : Type 0} (cmp : K → K → Ordering) (shard : K → ℕ) (count : ℕ) (lists : List (Vec (K × V))) (others : Entries K V) (are : AreShards cmp shard count lists others)
+    (es : Entries K V) (stand : entries_of lists others ≡ es) (key : K) (index : ℕ) (is : index ≡ shard key) (p n : Vec (K × V)) (low : index < length lists) (there : p ≡ get_or lists index p)
+    (alike : (a b : K) → is_eq (cmp a b) ≡ true → shard a ≡ shard b) (new_others : Entries K V) (w : Option V) where
+  pub changed_at : Changes cmp p.items others n.items new_others key w → (q : K) → value_at cmp (entries_of (slice_set lists index n) new_others) q ≡ cond (is_eq (cmp key q)) w (value_at cmp es q)
+  changed_at change q =
+      at_shard cmp shard count (slice_set lists index n) new_others (changed_shards cmp shard count lists others are es stand key index is p n low there alike new_others w change) q
+      ∙ by (cases_eq index (shard q)) (is_eq (cmp key q)) refl
+      ∙ ap (cond (is_eq (cmp key q)) w) (sym (at_shard cmp shard count lists others are q) ∙ ap (λ (l : Entries K V). value_at cmp l q) stand)
+    where
+      by : (index ≡ shard q) ⊎ (index ≢ shard q) → (b : Bool) → is_eq (cmp key q) ≡ b
+          → value_with cmp (items_at (slice_set lists index n) (shard q)) new_others q ≡ cond (is_eq (cmp key q)) w (value_with cmp (items_at lists (shard q)) others q)
+      by (inl at) true same =
+          ap (λ (l : Entries K V). value_with cmp l new_others q) (ap (items_at (slice_set lists index n)) (sym at) ∙ set_here lists index n low)
+          ∙ change.here q same
+          ∙ sym (ap (λ (b : Bool). cond b w (value_with cmp (items_at lists (shard q)) others q)) same)
+      by (inl at) false other =
+          ap (λ (l : Entries K V). value_with cmp l new_others q) (ap (items_at (slice_set lists index n)) (sym at) ∙ set_here lists index n low)
+          ∙ ap (λ v. option_or v (value_at cmp new_others q)) (change.in_list q other) ∙ ap (option_or (value_at cmp p.items q)) (change.in_others q other)
+          ∙ sym (ap (λ (l : Entries K V). value_with cmp l others q) (ap (items_at lists) (sym at) ∙ items_there lists index p low there))
+          ∙ sym (ap (λ (b : Bool). cond b w (value_with cmp (items_at lists (shard q)) others q)) other)
+      by (inr apart) true same = absurd (apart (is ∙ alike key q same))
+      by (inr apart) false other =
+          ap (λ (l : Entries K V). value_with cmp l new_others q) (set_elsewhere lists index (shard q) n apart)
+          ∙ ap (option_or (value_at cmp (items_at lists (shard q)) q)) (change.in_others q other)
+          ∙ sym (ap (λ (b : Bool). cond b w (value_with cmp (items_at lists (shard q)) others q)) other)
+
+  -- after a call that changes them, or fails and leaves them as they were
+  pub after_call : {A E : Type 0} (r : Result A E) → OnOk r (Changes cmp p.items others n.items new_others key w) → OnErr r ((n.items ≡ p.items) × (new_others ≡ others))
+      → AreShards cmp shard count (slice_set lists index n) new_others
+  after_call (Ok _) change same = changed_shards cmp shard count lists others are es stand key index is p n low there alike new_others w change
+  after_call (Err _) change same = unchanged_shards cmp shard count lists others are es stand key index is p n low there new_others same.0 same.1
+
+  -- where it fails, what stands there is the same
+  pub after_failure : {A E : Type 0} (r : Result A E) → OnErr r ((n.items ≡ p.items) × (new_others ≡ others)) → OnErr r (entries_of (slice_set lists index n) new_others ≡ es)
+  after_failure (Ok _) same = tt
+  after_failure (Err _) same = unchanged_entries cmp shard count lists others are es stand key index is p n low there new_others same.0 same.1

@@ -1,4 +1,5 @@
-//! A map over many ordered maps: a key says in which of them it stands, so that each is small.
+//! A map over many short lists: a key says in which of them it stands. Those that find their list
+//! full stand in one ordered map.
 #![tactic(auto)]
 
 mod keys;

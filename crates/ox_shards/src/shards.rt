@@ -1,31 +1,42 @@
 //! A map in shards.
 
-ghost use Rattle.std.specs.Prelude.{◌≡◌, [], None, Some, IfSome, IfNone, OnOk, OnErr, IfOk, IfErr};
+ghost use Rattle.std.specs.Prelude.{◌≡◌, ℕ, [], None, Some, OnOk, OnErr, IfOk, IfErr};
 ghost use Rattle.std.specs.Prelude.{if◌then◌else◌, length};
+ghost use Rattle.std.specs.List.{position};
+ghost use Rattle.std.specs.Map.{lookup};
 ghost use Rattle.std.specs.Ordering.{is_eq};
 ghost use Rattle.std.specs.Option.{option_copied};
-ghost use Rattle.std.specs.BTreeMap as tree;
-ghost use Rattle.ox_shards.specs.Shards.{Entries, AreShards, entries_of, value_at};
+ghost use Rattle.std.specs.BTreeMap.{is_at};
+ghost use Rattle.ox_shards.specs.Shards.{Entries, AreShards, IsSound, Changes, NoneOrAll};
+ghost use Rattle.ox_shards.specs.Shards.{entries_of, joined, items_at, value_at, value_with};
 
 use crate::keys::Sharded;
 use std::alloc::{AllocError, AllocFailed, Global};
 use std::collections::BTreeMap;
 use std::marker::Model;
+use std::mem;
 
-/// A map whose keys are spread over many ordered maps, each of which is small.
+/// So many entries stand in one list at most.
+const MOST: usize = 16;
+
+/// A map whose keys are spread over many short lists. A look-up goes through the keys of one list.
+/// Whoever chooses keys can choose them so that they fill one list; when it has 16 entries, those
+/// of further keys stand in one ordered map. So a look-up costs no more than a list and one in that
+/// map, whatever the keys. A key stands in its list or in the ordered map, never in both.
 #[derive(Drop)]
 pub struct Shards<K: Sharded, V> {
     alloc: Global,
     /// Empty until the first `insert`.
-    shards: Vec<BTreeMap<K, V>>,
+    lists: Vec<Vec<(K, V)>>,
+    others: BTreeMap<K, V>,
 }
 
 impl<K: Sharded, V> Model for Shards<K, V> {
     ghost Value = { Entries K V };
 
-    ghost view = { λ s. entries_of s.shards.items };
+    ghost view = { λ s. entries_of s.lists.items s.others.entries };
 
-    ghost invariant = { λ s. AreShards K.cmp K.shard K.SHARDS s.shards.items };
+    ghost invariant = { λ s. AreShards K.cmp K.shard K.SHARDS s.lists.items s.others.entries };
 }
 
 impl<K: Sharded, V> Shards<K, V> {
@@ -35,27 +46,18 @@ impl<K: Sharded, V> Shards<K, V> {
     {
         Shards {
             alloc,
-            shards: Vec::new(alloc),
+            lists: Vec::new(alloc),
+            others: BTreeMap::new(alloc),
         }
-    }
-
-    // The ordered map in which all keys of this one's shard stand. `None` comes only where no key
-    // has a value.
-    fn shard_of(&self, key: &K) -> Option<&BTreeMap<K, V>>
-        ensures some { IfSome result (λ map. (q : K) → K.shard q ≡ K.shard key.now
-            → tree.get K.cmp map.now q ≡ value_at K.cmp self.now q) }
-        ensures none { IfNone result ((q : K) → value_at K.cmp self.now q ≡ None) }
-    {
-        self.shards.get(key.shard())
     }
 
     /// The value at a key.
     pub fn get(&self, key: &K) -> Option<&V>
         ensures { option_copied result ≡ value_at K.cmp self.now key.now }
     {
-        match self.shard_of(key) {
-            Some(map) => map.get(key),
-            None => None,
+        match value_in(list_at(&self.lists, key.shard()), key) {
+            Some(value) => Some(value),
+            None => self.others.get(key),
         }
     }
 
@@ -68,12 +70,12 @@ impl<K: Sharded, V> Shards<K, V> {
         ensures handed_back { IfErr result (λ e. e.value ≡ (key, value)) }
         ensures err { OnErr result (self.new ≡ self.old) }
     {
-        if ensure_shards(&mut self.shards, self.alloc).is_err() {
+        if ensure_lists::<K, V>(&mut self.lists, self.alloc).is_err() {
             return Err(AllocFailed {
                 value: (key, value),
             });
         }
-        self.shards[key.shard()].insert(key, value)
+        put(&mut self.lists[key.shard()], &mut self.others, key, value)
     }
 
     /// Takes the value at a key out, and answers it.
@@ -83,44 +85,111 @@ impl<K: Sharded, V> Shards<K, V> {
             ≡ (if is_eq (K.cmp key.now q) then None else value_at K.cmp self.old q) }
     {
         let index = key.shard();
-        if index < self.shards.len() {
-            self.shards[index].remove(key)
+        if index < self.lists.len() {
+            take(&mut self.lists[index], &mut self.others, key)
         } else {
             None
         }
     }
 }
 
-// Makes the shards, if there are none. `AllocError` where there is no memory for them.
-fn ensure_shards<K: Sharded, V>(
-    shards: &mut Vec<BTreeMap<K, V>>,
+// The list with an index, or an empty one where there are no lists.
+fn list_at<K, V>(lists: &[Vec<(K, V)>], index: usize) -> &[(K, V)]
+    ensures { result.now ≡ items_at lists.now index }
+{
+    match lists.get(index) {
+        Some(list) => list.as_slice(),
+        None => &[],
+    }
+}
+
+// Where a key stands in a list.
+fn place_in<K: Sharded, V>(list: &[(K, V)], key: &K) -> Option<usize>
+    ensures { result ≡ position (λ entry. is_at (K.cmp key.now) entry.0) list.now }
+{
+    list.iter().position(|entry| key.cmp(&entry.0).is_eq())
+}
+
+// The value at a key in a list.
+fn value_in<'a, K: Sharded, V>(list: &'a [(K, V)], key: &K) -> Option<&'a V>
+    ensures { option_copied result ≡ lookup (is_at (K.cmp key.now)) list.now }
+{
+    match place_in(list, key) {
+        Some(place) => Some(&list[place].1),
+        None => None,
+    }
+}
+
+// Puts a value at a key where it stands, else into its list, or into the ordered map where that is
+// full.
+fn put<K: Sharded, V>(
+    list: &mut Vec<(K, V)>,
+    others: &mut BTreeMap<K, V>,
+    key: K,
+    value: V,
+) -> Result<Option<V>, AllocFailed<(K, V)>>
+    requires { IsSound K.cmp list.old.items others.old.entries }
+    ensures displaced { IfOk result (λ displaced. displaced
+        ≡ value_with K.cmp list.old.items others.old.entries key) }
+    ensures ok { OnOk result (Changes K.cmp list.old.items others.old.entries
+        list.new.items others.new.entries key (Some value)) }
+    ensures handed_back { IfErr result (λ e. e.value ≡ (key, value)) }
+    ensures err { OnErr result ((list.new.items ≡ list.old.items)
+        × (others.new.entries ≡ others.old.entries)) }
+{
+    if let Some(place) = place_in(list, &key) {
+        return Ok(Some(mem::replace(&mut list[place].1, value)));
+    }
+    if list.len() >= MOST || others.contains_key(&key) {
+        return others.insert(key, value);
+    }
+    list.push((key, value))?;
+    Ok(None)
+}
+
+// Takes the value at a key out of its list or out of the ordered map.
+fn take<K: Sharded, V>(list: &mut Vec<(K, V)>, others: &mut BTreeMap<K, V>, key: &K) -> Option<V>
+    requires { IsSound K.cmp list.old.items others.old.entries }
+    ensures taken { result ≡ value_with K.cmp list.old.items others.old.entries key.now }
+    ensures left { Changes K.cmp list.old.items others.old.entries
+        list.new.items others.new.entries key.now None }
+{
+    match place_in(list, key) {
+        Some(place) => Some(list.remove(place).1),
+        None => others.remove(key),
+    }
+}
+
+// Makes the lists, if there are none. `AllocError` where there is no memory for them.
+fn ensure_lists<K: Sharded, V>(
+    lists: &mut Vec<Vec<(K, V)>>,
     alloc: Global,
 ) -> Result<(), AllocError>
-    requires shards { AreShards K.cmp K.shard K.SHARDS shards.old.items }
-    ensures shards { AreShards K.cmp K.shard K.SHARDS shards.new.items }
-    ensures same { entries_of shards.new.items ≡ entries_of shards.old.items }
-    ensures all { OnOk result (length shards.new.items ≡ K.SHARDS) }
+    requires shards { NoneOrAll K.SHARDS lists.old.items }
+    ensures shards { NoneOrAll K.SHARDS lists.new.items }
+    ensures same { joined lists.new.items ≡ joined lists.old.items }
+    ensures each { (index : ℕ) → items_at lists.new.items index
+        ≡ items_at lists.old.items index }
+    ensures all { OnOk result (length lists.new.items ≡ K.SHARDS) }
+    ensures err { OnErr result (lists.new.items ≡ lists.old.items) }
 {
-    if shards.is_empty() {
-        make_shards(shards, alloc)?;
+    if lists.is_empty() {
+        make_lists::<K, V>(lists, alloc)?;
     }
     Ok(())
 }
 
-// Makes as many maps as there are shards, without a value. `AllocError` where there is no memory
+// Makes as many lists as there are shards, without an entry. `AllocError` where there is no memory
 // for them: there are none.
-fn make_shards<K: Sharded, V>(
-    shards: &mut Vec<BTreeMap<K, V>>,
-    alloc: Global,
-) -> Result<(), AllocError>
-    requires { shards.old.items ≡ [] }
-    ensures count { OnOk result (length shards.new.items ≡ K.SHARDS) }
-    ensures empty { entries_of shards.new.items ≡ [] }
-    ensures err { OnErr result (shards.new.items ≡ []) }
+fn make_lists<K: Sharded, V>(lists: &mut Vec<Vec<(K, V)>>, alloc: Global) -> Result<(), AllocError>
+    requires { lists.old.items ≡ [] }
+    ensures count { OnOk result (length lists.new.items ≡ K.SHARDS) }
+    ensures empty { joined lists.new.items ≡ [] }
+    ensures err { OnErr result (lists.new.items ≡ []) }
 {
-    shards.reserve_exact(K::SHARDS)?;
-    while shards.len() < K::SHARDS {
-        shards.push_reserved(BTreeMap::new(alloc));
+    lists.reserve_exact(K::SHARDS)?;
+    while lists.len() < K::SHARDS {
+        lists.push_reserved(Vec::new(alloc));
     }
     Ok(())
 }

@@ -83,12 +83,25 @@ fn outputs_of_a_transaction_are_told_apart(rt: HostRuntime) {
 }
 
 #[test]
-fn keys_of_one_shard_all_stand_in_it(rt: HostRuntime) {
+fn keys_of_one_shard_are_all_there(rt: HostRuntime) {
     let mut map = Shards::new(rt.alloc());
     for key in 0..1_000u32 {
         map.insert(key, u64::from(key)).expect(&rt, "memory");
     }
     assert!(rt; has(&map, 0, Some(0)) && has(&map, 999, Some(999)) && has(&map, 1_000, None));
+}
+
+#[test]
+fn a_key_behind_a_full_list_stands_once(rt: HostRuntime) {
+    let mut map = Shards::new(rt.alloc());
+    for key in 0..20u32 {
+        map.insert(key, u64::from(key)).expect(&rt, "memory");
+    }
+    assert!(rt; map.remove(&3) == Some(3) && has(&map, 3, None) && has(&map, 4, Some(4)));
+    assert!(rt; map.insert(19, 190).expect(&rt, "memory") == Some(19));
+    assert!(rt; map.remove(&19) == Some(190) && has(&map, 19, None));
+    assert!(rt; map.insert(20, 200).expect(&rt, "memory").is_none() && has(&map, 20, Some(200)));
+    assert!(rt; has(&map, 0, Some(0)) && has(&map, 15, Some(15)) && has(&map, 18, Some(18)));
 }
 
 #[test]
