@@ -2,7 +2,7 @@
 use Rattle.std.proofs.Common.{◌≡◌, ◌∙◌, ◌≤◌, ◌<◌, ℕ, ◌+◌, ◌^◌, List, [], ◌∷◌, ◌++◌, length, drop, get_or, refl, sym, ap, subst, append_assoc, length-append, arith, Option, Some}
 use Rattle.std.specs.Prelude.{reverse}
 use Rattle.std.specs.FinMap.{get, insert}
-use Rattle.std.proofs.lemmas.List.{drop_more, drop_all, append-nil, reverse-append}
+use Rattle.std.proofs.lemmas.List.{drop_more, drop_all, append-nil, reverse-append, length-reverse}
 use Rattle.std.proofs.lemmas.List.Concat.{flat_map-append}
 use Rattle.ox_block.specs.declared.block.Txid.{Txid}
 use Rattle.ox_block.specs.declared.block.OutPoint.{OutPoint}
@@ -83,3 +83,8 @@ pub fewer : (parts rest : List (List ℕ)) (part : List ℕ) (i all : ℕ) → p
 fewer parts rest part i all last is =
     let longer : length (reverse parts) ≡ length (part ∷ reverse rest) = ap length (popped parts rest part last) in
     omega (arith, is, longer)
+
+-- behind the last output no part is left
+pub none_left : (parts : List (List ℕ)) (i all : ℕ) → all ≤ i → length (reverse parts) + i ≡ all → parts ≡ []
+none_left [] i all done is = refl
+none_left (part ∷ parts) i all done is = absurd (omega (arith, done, is, length-reverse (part ∷ parts)))

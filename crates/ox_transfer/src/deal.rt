@@ -8,14 +8,6 @@ ghost use Rattle.ox_transfer.specs.Parts.{values};
 use ox_block::TxOut;
 use ox_range::Ranges;
 use ox_rules::Memory;
-use std::alloc::Global;
-
-/// The parts of the outputs, the last output's first, and what is left over.
-#[derive(Drop)]
-pub(crate) struct Dealt {
-    pub(crate) parts: Vec<Ranges>,
-    pub(crate) rest: Ranges,
-}
 
 /// The satoshis of all outputs together.
 pub(crate) fn value_sum(outputs: &[TxOut]) -> u64
@@ -25,25 +17,27 @@ pub(crate) fn value_sum(outputs: &[TxOut]) -> u64
     outputs.iter().map(|output| output.value).sum()
 }
 
-/// Deals satoshis to the outputs, which have `total` of them together. It goes from the last output
-/// to the first: what is split off is moved, and what stays isn't.
+/// Deals satoshis to the outputs, which have `total` of them together, and answers what is left
+/// over. The outputs' parts, the last output's first, take the place of what `parts` held. It goes
+/// from the last output to the first: what is split off is moved, and what stays isn't.
 pub(crate) fn deal_out(
-    alloc: Global,
     mut sats: Ranges,
     outputs: &[TxOut],
     total: u64,
-) -> Result<Dealt, Memory>
+    parts: &mut Vec<Ranges>,
+) -> Result<Ranges, Memory>
     requires whole { total ≡ sum (values outputs.now) }
     requires enough { total ≤ length sats }
     ensures { IfOk result
-        (λ dealt. deal sats (values outputs.now) ≡ Some (reverse dealt.parts.items, dealt.rest)) }
+        (λ rest. deal sats (values outputs.now) ≡ Some (reverse parts.new.items, rest)) }
 {
     let rest = sats.split_off(total)?;
-    let mut parts = Vec::with_capacity(alloc, outputs.len())?;
+    parts.clear();
+    parts.reserve(outputs.len())?;
     let mut place = total;
     for output in outputs.iter().rev() {
         place -= output.value;
         parts.push(sats.split_off(place)?)?;
     }
-    Ok(Dealt { parts, rest })
+    Ok(rest)
 }

@@ -50,17 +50,17 @@ fn claim_all<O: OutTable>(
             claimed: total,
         }));
     }
-    let dealt = deal_out(alloc, sats, outputs, total)?;
+    let rest = deal_out(sats, outputs, total, &mut work.parts)?;
     let displaced = place_outputs(
         alloc,
         table,
         height,
         id,
         outputs,
-        dealt.parts,
+        &mut work.parts,
         &mut work.lost,
     )?;
-    work.lost.join(&dealt.rest)?;
+    work.lost.join(&rest)?;
     let entry = MovedTx {
         txid: id,
         spent: SpentRows::from_vec(Vec::new(alloc)),

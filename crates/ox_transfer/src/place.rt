@@ -1,6 +1,6 @@
 //! The rows that a transaction makes.
 
-ghost use Rattle.std.specs.Prelude.{◌≡◌, ◌≤◌, ◌^◌, ◌++◌, length, reverse, IfOk, OnOk};
+ghost use Rattle.std.specs.Prelude.{◌≡◌, ◌≤◌, ◌^◌, ◌++◌, [], length, reverse, IfOk, OnOk};
 ghost use Rattle.std.specs.FinMap as map;
 ghost use Rattle.ox_block.specs.Spelling.{most_bytes};
 ghost use Rattle.ox_rules.specs.Outputs.{sats_of};
@@ -39,25 +39,27 @@ fn place_row<O: OutTable>(
 }
 
 /// Places the outputs of a transaction in order, each with its part of the satoshis, of which the
-/// last output's is the first. It answers the rows that are displaced, and their satoshis are lost.
+/// last output's is the first, and leaves no part. It answers the rows that are displaced, and their
+/// satoshis are lost.
 pub(crate) fn place_outputs<O: OutTable>(
     alloc: Global,
     table: &mut O,
     height: u32,
     txid: Txid,
     outputs: &[TxOut],
-    mut parts: Vec<Ranges>,
+    parts: &mut Vec<Ranges>,
     lost: &mut Ranges,
 ) -> Result<Vec<OutRow>, Memory>
     requires few { length outputs.now ≤ most_bytes }
-    requires each { length (reverse parts.items) ≡ length outputs.now }
+    requires each { length (reverse parts.old.items) ≡ length outputs.now }
     requires apart { Apart (2 ^ 63) (O.contents table.old)
-        (all_parts (reverse parts.items) ++ lost.old) }
+        (all_parts (reverse parts.old.items) ++ lost.old) }
     ensures rows { IfOk result
         (λ displaced.
-        place_rows height txid 0 outputs.now (reverse parts.items) (O.contents table.old)
+        place_rows height txid 0 outputs.now (reverse parts.old.items) (O.contents table.old)
         ≡ placed_of displaced.items (O.contents table.new)) }
     ensures lost { IfOk result (λ displaced. lost.new ≡ lost.old ++ sats_of displaced.items) }
+    ensures emptied { OnOk result (parts.new.items ≡ []) }
     ensures mark { O.marked table.new ≡ O.marked table.old }
 {
     let mut displaced = Vec::new(alloc);

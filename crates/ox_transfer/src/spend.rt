@@ -20,12 +20,13 @@ use ox_rules::{MovedTx, OutTable, Refusal, SpentRows};
 use std::alloc::Global;
 
 /// What transactions did so far: their entries, the satoshis that are lost by displacement, and the
-/// fees.
+/// fees. The room for the parts of one transaction's outputs serves each in turn.
 #[derive(Drop)]
 pub(crate) struct Work {
     pub(crate) moved: Vec<MovedTx>,
     pub(crate) lost: Ranges,
     pub(crate) fees: Ranges,
+    pub(crate) parts: Vec<Ranges>,
 }
 
 /// A transaction at a place of the block other than the coinbase's, with its id.
@@ -60,17 +61,17 @@ fn spend_tx<O: OutTable>(
         }));
     }
     let joined = taken.sats.copy(alloc)?;
-    let dealt = deal_out(alloc, taken.sats, outputs, total)?;
+    let rest = deal_out(taken.sats, outputs, total, &mut work.parts)?;
     let displaced = place_outputs(
         alloc,
         table,
         height,
         id,
         outputs,
-        dealt.parts,
+        &mut work.parts,
         &mut work.lost,
     )?;
-    work.fees.join(&dealt.rest)?;
+    work.fees.join(&rest)?;
     work.moved.push(MovedTx {
         txid: id,
         spent: SpentRows::from_vec(taken.rows),
@@ -97,9 +98,11 @@ pub(crate) fn spend_txs<O: OutTable>(
     ensures mark { O.marked table.new ≡ O.marked table.old }
 {
     let mut work = Work {
-        moved: Vec::new(alloc),
+        // The coinbase's entry has room too.
+        moved: Vec::with_capacity(alloc, txs.len() + 1)?,
         lost: Ranges::empty(alloc),
         fees: Ranges::empty(alloc),
+        parts: Vec::new(alloc),
     };
     for (index, tx) in txs.iter().enumerate() {
         let id = Txid(ids[index]);

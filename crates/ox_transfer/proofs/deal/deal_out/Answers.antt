@@ -7,7 +7,7 @@ use Rattle.ox_transfer.proofs.deal.deal_out.Goals as goal
 pub loop-output-init : goal.loop-output-init
 loop-output-init c =
     let all = ap (λ i. iter_rest (rev_source i)) c.into_iter-output-iterator.ensures.into_iter_gives ∙ (ap iter_rest c.rev-output-items.ensures.source ∙ c.iter.ensures.rest) in
-    backward_first c.args.outputs.now _ c.args.sats _ c.args.total _ all c.requires.whole c.requires.enough c.in_ok-rest.ensures.front c.in_ok-parts.ensures.items
+    backward_first c.args.outputs.now _ c.args.sats _ c.args.total _ all c.requires.whole c.requires.enough c.in_ok-rest.ensures.front (c.reserve.ensures.items ∙ c.clear.ensures.items)
 
 pub overflow_sub-place : goal.overflow_sub-place
 overflow_sub-place c = omega (arith, last_fits _ _ _ _ _ _ _ _ c.in-Some.output.now c.in-Some.ensures.steps c.loop-output.invariant)

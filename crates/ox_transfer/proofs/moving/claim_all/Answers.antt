@@ -29,24 +29,24 @@ pub place_outputs-requires : goal.place_outputs-requires
 place_outputs-requires g c =
     let new = minted _ _ _ _ c.in_ok-sats.sats c.in_ok-sats.ensures c.first.ensures.value c.subsidy.ensures.value in record {
       few = rw c.as_slice-outputs.ensures c.requires.counted.outputs;
-      each = as_many c.join.new.self _ _ _ c.in_ok-dealt.ensures ∙ length-values c.as_slice-outputs.result.now;
-      apart = apart_dealt _ c.join.new.self _ c.args.work.lost c.args.work.lost _ _ c.in_ok-dealt.ensures (λ sat. omega arith)
+      each = as_many c.join.new.self _ _ _ c.in_ok-rest.ensures ∙ length-values c.as_slice-outputs.result.now;
+      apart = apart_dealt _ c.join.new.self _ c.args.work.lost c.args.work.lost _ _ c.in_ok-rest.ensures (λ sat. omega arith)
           (apart_claimable c.args.p.now c.args.height (g.O.OutTable.contents c.args.table.now) c.args.work.lost c.args.work.fees c.in_ok-sats.sats c.join.new.self c.requires.known new c.in_ok-join.ensures.ok c.requires.apart);
     }
 
 pub join-requires-2 : goal.join-requires-2
 join-requires-2 g c =
     let new = minted _ _ _ _ c.in_ok-sats.sats c.in_ok-sats.ensures c.first.ensures.value c.subsidy.ensures.value in
-    rest_fits c.args.height c.args.id c.as_slice-outputs.result.now (g.O.OutTable.contents c.args.table.now) _ c.join.new.self _ c.args.work.lost c.place_outputs.new.lost _ _ c.in_ok-dealt.ensures c.in_ok-displaced.ensures.rows c.in_ok-displaced.ensures.lost
+    rest_fits c.args.height c.args.id c.as_slice-outputs.result.now (g.O.OutTable.contents c.args.table.now) _ c.join.new.self _ c.args.work.lost c.place_outputs.new.lost _ _ c.in_ok-rest.ensures c.in_ok-displaced.ensures.rows c.in_ok-displaced.ensures.lost
     (apart_claimable c.args.p.now c.args.height (g.O.OutTable.contents c.args.table.now) c.args.work.lost c.args.work.fees c.in_ok-sats.sats c.join.new.self c.requires.known new c.in_ok-join.ensures.ok c.requires.apart)
 
 pub returns-clause-claimed : goal.returns-clause-claimed
 returns-clause-claimed g c =
     let new = minted _ _ _ _ c.in_ok-sats.sats c.in_ok-sats.ensures c.first.ensures.value c.subsidy.ensures.value in
-    let dealt = rw c.as_slice-outputs.ensures at c.in_ok-dealt.ensures in
+    let dealt = rw c.as_slice-outputs.ensures at c.in_ok-rest.ensures in
     let placed = rw c.as_slice-outputs.ensures at c.in_ok-displaced.ensures.rows in
-    claimed_whole c.args.p.now c.args.height c.args.coinbase.now (g.O.OutTable.contents c.args.table.now) (g.O.OutTable.contents c.place_outputs.new.table) c.in_ok-displaced.displaced.items c.join.new.self c.in_ok-dealt.dealt.rest
-    c.args.work.lost c.place_outputs.new.lost c.join-2.new.self c.args.work.fees (reverse c.in_ok-dealt.dealt.parts.items) c.args.work.moved.items c.from_vec-3.result c.args.id c.from_vec.result c.empty.result
+    claimed_whole c.args.p.now c.args.height c.args.coinbase.now (g.O.OutTable.contents c.args.table.now) (g.O.OutTable.contents c.place_outputs.new.table) c.in_ok-displaced.displaced.items c.join.new.self c.in_ok-rest.rest
+    c.args.work.lost c.place_outputs.new.lost c.join-2.new.self c.args.work.fees (reverse c.deal_out.new.parts.items) c.args.work.moved.items c.from_vec-3.result c.args.id c.from_vec.result c.empty.result
     (claimable_is c.args.p.now c.args.height c.args.work.fees c.in_ok-sats.sats c.join.new.self new c.in_ok-join.ensures.ok) dealt c.requires.id placed c.in_ok-displaced.ensures.lost c.in_ok-join-2.ensures.ok
     (c.from_vec.ensures ∙ c.new.ensures.items) c.empty.ensures
     (c.from_vec-3.ensures ∙ (c.in_ok-insert.ensures.items ∙ λ i. record { txid = c.args.id; spent = c.from_vec.result; joined = c.empty.result; displaced = c.from_vec-2.ensures i } ∷ c.args.work.moved.items))

@@ -1,6 +1,6 @@
 use Rattle.std.proofs.Common.{◌∙◌, List, ℕ, refl, ap, arith}
 use Rattle.std.specs.FinMap as map
-use Rattle.ox_transfer.proofs.Places.{place_first, none_lost, fewer, place_more, place_done, lost_more, apart_next, apart_onward}
+use Rattle.ox_transfer.proofs.Places.{place_first, none_lost, none_left, fewer, place_more, place_done, lost_more, apart_next, apart_onward}
 use Rattle.ox_transfer.proofs.place.place_outputs.Goals as goal
 
 pub loop-index-init : goal.loop-index-init
@@ -31,5 +31,6 @@ pub returns : goal.returns
 returns g c = record {
   rows = place_done c.args.height c.args.txid c.loop-index.index c.args.outputs.now _ _ _ _ c.loop-index-test.false c.loop-index.invariant.so_far;
   lost = c.loop-index.invariant.gone;
+  emptied = none_left c.loop-index.parts.items c.loop-index.index _ c.loop-index-test.false c.loop-index.invariant.each;
   mark = c.loop-index.invariant.mark;
 }

@@ -10,7 +10,7 @@ use Rattle.ox_transfer.proofs.place.place_outputs.Given as goal
 -- the outputs so far, and what the rest gives
 abbrev pub invariant-loop-index : goal.invariant-loop-index
 invariant-loop-index g l = record {
-  so_far : place_rows l.height l.txid 0 l.outputs (reverse l.fn.parts.items) (g.O.OutTable.contents l.initial.table) ≡ behind_placed l.displaced.items (place_rows l.height l.txid l.index (drop l.index l.outputs) (reverse l.parts.items) (g.O.OutTable.contents l.table));
+  so_far : place_rows l.height l.txid 0 l.outputs (reverse l.initial.parts.items) (g.O.OutTable.contents l.initial.table) ≡ behind_placed l.displaced.items (place_rows l.height l.txid l.index (drop l.index l.outputs) (reverse l.parts.items) (g.O.OutTable.contents l.table));
   each : length (reverse l.parts.items) + l.index ≡ length l.outputs;
   gone : l.lost ≡ l.initial.lost ++ sats_of l.displaced.items;
   apart : Apart (2 ^ 63) (g.O.OutTable.contents l.table) (all_parts (reverse l.parts.items) ++ l.lost);
