@@ -1,6 +1,7 @@
 -- What a change of a slot leaves of the rows, and the spots of changes.
-use Rattle.std.proofs.Common.{◌≡◌, ◌∙◌, ◌<◌, ◌≤◌, length-append, get_or, zero, suc, arith, ℕ, Bool, true, false, cond, List, [], ◌∷◌, ◌++◌, length, refl, sym, ap, subst, Option, Some, None, Ordering}
-use Rattle.std.specs.Prelude.{IsSome, if◌then◌else◌}
+use Rattle.std.proofs.Common.{◌≡◌, ◌≢◌, ◌∙◌, ◌<◌, ◌≤◌, ⊎_elim, length-append, get_or, zero, suc, arith, ℕ, Bool, true, false, cond, List, [], ◌∷◌, ◌++◌, length, refl, sym, ap, subst, Option, Some, None, Ordering}
+use Rattle.std.specs.Prelude.{IsSome, if◌then◌else◌, ◌==◌, ◌||◌, is_some}
+use Rattle.std.proofs.lemmas.Bool.{cases_eq, eq-eqb, ne_eqb}
 use Rattle.std.specs.Ordering.{eq_by_cmp, is_eq}
 use Rattle.std.specs.declared.cmp.Ordering.TheVariants.{Less, Equal, Greater}
 use Rattle.std.specs.Cmp.{eq_by_cmp_equiv}
@@ -9,7 +10,8 @@ use Rattle.ox_block.specs.declared.block.OutPoint.{OutPoint}
 use Rattle.ox_rules.specs.declared.rows.OutRow.{OutRow}
 use Rattle.ox_rules.specs.Outputs.{Outputs, outpoint_cmp}
 use Rattle.ox_rules.proofs.Orders.{outpoints_total, outpoints_exact}
-use Rattle.ox_outputs.specs.Slots.{SlotList, outpoint_at, put_slot, undone, AreSpots}
+use Rattle.ox_outputs.specs.Slots.{SlotList, outpoint_at, slot_at, put_slot, undone, AreSpots, unless_empty, is_place_of, tidied_at, filled_before}
+use Rattle.ox_outputs.specs.declared.held.Slot.{Slot}
 use Rattle.ox_outputs.specs.declared.spot.Spot.{Spot}
 
 pub get-put_slot : (outs : Outputs) (at : OutPoint) (row : Option OutRow) (q : OutPoint) → get (put_slot outs at row) q ≡ cond (eq_by_cmp outpoint_cmp q at) row (get outs q)
@@ -137,3 +139,84 @@ known_more changed changed' spot old new is known there keeps = subst (λ (l : L
 -- the spots of the changes are slots still
 pub known_still : (changed changed' : List Spot) (old new : SlotList) → changed' ≡ changed → AreSpots changed old → Keep old new → AreSpots changed' new
 known_still changed changed' old new is known keeps = subst (λ (l : List Spot). AreSpots l new) (sym is) (spots_kept changed old new keeps known)
+
+-- ---- slots that are tidied
+
+or_true : (b : Bool) → (b || true) ≡ true
+or_true true = refl
+or_true false = refl
+
+-- the last of some spots is one of them
+last_place : (spots : List Spot) (spot : Spot) → is_place_of (spots ++ spot ∷ []) spot.place ≡ true
+last_place [] spot = ap (λ (b : Bool). b || false) (eq-eqb spot.place spot.place refl)
+last_place (s ∷ spots) spot = ap (λ (b : Bool). (s.place == spot.place) || b) (last_place spots spot) ∙ or_true (s.place == spot.place)
+
+-- and at other places it counts for nothing
+other_place : (spots : List Spot) (spot : Spot) (p : ℕ) → p ≢ spot.place → is_place_of (spots ++ spot ∷ []) p ≡ is_place_of spots p
+other_place [] spot p other = ap (λ (b : Bool). b || false) (ne_eqb spot.place p (λ same. other (sym same)))
+other_place (s ∷ spots) spot p other = ap (λ (b : Bool). (s.place == p) || b) (other_place spots spot p other)
+
+row_again : (slot : Slot) (b : Bool) → is_some slot.row ≡ b → unless_empty (cond b (Some slot) None) ≡ cond b (Some slot) None
+row_again slot true is = ap (λ (b : Bool). cond b (Some slot) None) is
+row_again slot false is = refl
+
+unless_empty_again : (slot : Option Slot) → unless_empty (unless_empty slot) ≡ unless_empty slot
+unless_empty_again None = refl
+unless_empty_again (Some slot) = row_again slot (is_some slot.row) refl
+
+either_way : (b : Bool) (slot : Option Slot) → cond b (unless_empty (unless_empty slot)) (unless_empty slot) ≡ unless_empty slot
+either_way true slot = unless_empty_again slot
+either_way false slot = refl
+
+-- the last of some spots is tidied first
+pub tidied_step : (spots rest : List Spot) (spot : Spot) (old new : SlotList) → spots ≡ rest ++ spot ∷ [] → slot_at new spot.place ≡ unless_empty (slot_at old spot.place)
+    → ((p : ℕ) → p ≢ spot.place → slot_at new p ≡ slot_at old p) → (p : ℕ) → tidied_at rest new p ≡ tidied_at spots old p
+tidied_step spots rest spot old new is here others p = ⊎_elim
+    (λ same.
+    ap (tidied_at rest new) same
+    ∙ ap (λ (s : Option Slot). cond (is_place_of rest spot.place) (unless_empty s) s) here
+    ∙ either_way (is_place_of rest spot.place) (slot_at old spot.place)
+    ∙ sym (ap (λ (b : Bool). cond b (unless_empty (slot_at old spot.place)) (slot_at old spot.place)) (ap (λ (l : List Spot). is_place_of l spot.place) is ∙ last_place rest spot))
+    ∙ sym (ap (tidied_at spots old) same))
+    (λ other.
+    ap (λ (s : Option Slot). cond (is_place_of rest p) (unless_empty s) s) (others p other)
+    ∙ sym (ap (λ (b : Bool). cond b (unless_empty (slot_at old p)) (slot_at old p)) (ap (λ (l : List Spot). is_place_of l p) is ∙ other_place rest spot p other)))
+    (cases_eq p spot.place)
+
+-- the newest change, before which a row stood
+filled_more : (changed : List Spot) (before : List (Option OutRow)) (spot : Spot) (row : OutRow) → length before ≡ length changed → filled_before (changed ++ spot ∷ []) (before ++ Some row ∷ []) ≡ filled_before changed before ++ spot ∷ []
+filled_more [] [] spot row same = refl
+filled_more (s ∷ changed) [] spot row same = absurd (cc same)
+filled_more [] (r ∷ before) spot row same = absurd (cc same)
+filled_more (s ∷ changed) (Some r ∷ before) spot row same = ap (λ (l : List Spot). s ∷ l) (filled_more changed before spot row (cc same))
+filled_more (s ∷ changed) (None ∷ before) spot row same = filled_more changed before spot row (cc same)
+
+-- the newest change, before which none did
+filled_still : (changed : List Spot) (before : List (Option OutRow)) (spot : Spot) → length before ≡ length changed → filled_before (changed ++ spot ∷ []) (before ++ None ∷ []) ≡ filled_before changed before
+filled_still [] [] spot same = refl
+filled_still (s ∷ changed) [] spot same = absurd (cc same)
+filled_still [] (r ∷ before) spot same = absurd (cc same)
+filled_still (s ∷ changed) (Some r ∷ before) spot same = ap (λ (l : List Spot). s ∷ l) (filled_still changed before spot (cc same))
+filled_still (s ∷ changed) (None ∷ before) spot same = filled_still changed before spot (cc same)
+
+-- the lists of changes and of what stood before, each with one less
+pub both_less : (changed rest : List Spot) (before rows : List (Option OutRow)) (spot : Spot) (row : Option OutRow) → changed ≡ rest ++ spot ∷ [] → before ≡ rows ++ row ∷ [] → length before ≡ length changed → length rows ≡ length rest
+both_less changed rest before rows spot row c b same = omega (arith, ap length c, ap length b, length-append rest (spot ∷ []), length-append rows (row ∷ []))
+
+pub filled_last : (changed rest : List Spot) (before rows : List (Option OutRow)) (spot : Spot) (row : OutRow) → changed ≡ rest ++ spot ∷ [] → before ≡ rows ++ Some row ∷ [] → length before ≡ length changed → filled_before changed before ≡ filled_before rest rows ++ spot ∷ []
+filled_last changed rest before rows spot row c b same =
+    ap (λ (l : List Spot). filled_before l before) c ∙ ap (filled_before (rest ++ spot ∷ [])) b
+    ∙ filled_more rest rows spot row (both_less changed rest before rows spot (Some row) c b same)
+
+pub unfilled_last : (changed rest : List Spot) (before rows : List (Option OutRow)) (spot : Spot) → changed ≡ rest ++ spot ∷ [] → before ≡ rows ++ None ∷ [] → length before ≡ length changed → filled_before changed before ≡ filled_before rest rows
+unfilled_last changed rest before rows spot c b same =
+    ap (λ (l : List Spot). filled_before l before) c ∙ ap (filled_before (rest ++ spot ∷ [])) b
+    ∙ filled_still rest rows spot (both_less changed rest before rows spot None c b same)
+
+-- and it is not among those that are tidied
+pub unfilled_step : (spots rest : List Spot) (slots : SlotList) → spots ≡ rest → (p : ℕ) → tidied_at rest slots p ≡ tidied_at spots slots p
+unfilled_step spots rest slots is p = sym (ap (λ (l : List Spot). tidied_at l slots p) is)
+
+-- where a change is left, what stood before it is too
+pub none_popped : (changed rest : List Spot) (before : List (Option OutRow)) (spot : Spot) → changed ≡ rest ++ spot ∷ [] → length before ≡ 0 → length before ≡ length changed → ⊥
+none_popped changed rest before spot c none same = absurd (omega (arith, none, same, ap length c, length-append rest (spot ∷ [])))

@@ -1,5 +1,7 @@
 -- Rows in slots, and what stood in them before.
-use Rattle.std.specs.Prelude.{◌≡◌, ℕ, List, [], ◌∷◌, map, Option, Some, None, slice_index_or}
+use Rattle.std.specs.Prelude.{◌≡◌, ℕ, ◌==◌, Bool, if◌then◌else◌, List, [], ◌∷◌, map, Option}
+use Rattle.std.specs.Prelude.{Some, None, is_some, slice_index_or}
+use Rattle.std.specs.List.{list_any}
 use Rattle.std.specs.Option.{option_map, option_and_then}
 use Rattle.std.specs.FinMap.{empty, insert, remove}
 use Rattle.ox_block.specs.declared.block.OutPoint.{OutPoint}
@@ -28,6 +30,10 @@ row_at slots place = option_and_then (λ slot. slot.row) (slot_at slots place)
 abbrev pub slot_with : Option Slot → Option OutRow → Option Slot
 slot_with slot row = option_map {T = Slot} (λ s. record { at = s.at; row = row }) slot
 
+-- the slot, if it holds a row
+abbrev pub unless_empty : Option Slot → Option Slot
+unless_empty slot = option_and_then (λ s. if is_some s.row then Some s else None) slot
+
 -- rows with what a slot holds at an outpoint: a row, or none
 abbrev pub put_slot : Outputs → OutPoint → Option OutRow → Outputs
 put_slot outs at None = remove outs at
@@ -49,3 +55,19 @@ undone before changed outs = outs
 abbrev pub AreSpots : List Spot → SlotList → Type 0
 AreSpots spots slots =
     map (λ spot. outpoint_at slots spot.place) spots ≡ map (λ spot. Some spot.at) spots
+
+-- whether a place is that of one of these spots
+abbrev pub is_place_of : List Spot → ℕ → Bool
+is_place_of spots place = list_any (λ spot. spot.place == place) spots
+
+-- the slot at a place when these spots are tidied: there it stays unless it is empty, and anywhere
+-- else it stays
+abbrev pub tidied_at : List Spot → SlotList → ℕ → Option Slot
+tidied_at spots slots place =
+    if is_place_of spots place then unless_empty (slot_at slots place) else slot_at slots place
+
+-- the spots of those changes before which a row stood
+abbrev pub filled_before : List Spot → List (Option OutRow) → List Spot
+filled_before (spot ∷ changed) (Some row ∷ before) = spot ∷ filled_before changed before
+filled_before (spot ∷ changed) (None ∷ before) = filled_before changed before
+filled_before changed before = []

@@ -10,7 +10,8 @@ ghost use Rattle.ox_rules.specs.Outputs.{MayStand};
 ghost use Rattle.ox_outputs.specs.Located.{AreRuns};
 ghost use Rattle.ox_outputs.specs.Locator.{live_at, kept_at};
 ghost use Rattle.ox_outputs.specs.Stretches.{stretch_at, stretches_of, is_among, firsts_of};
-ghost use Rattle.ox_outputs.specs.Slots.{outpoint_at, put_slot, rows_of, undone, AreSpots};
+ghost use Rattle.ox_outputs.specs.Slots.{outpoint_at, slot_at, put_slot, rows_of, undone, AreSpots};
+ghost use Rattle.ox_outputs.specs.Slots.{tidied_at, filled_before};
 
 use crate::locator::Locator;
 use crate::slots::Slots;
@@ -224,11 +225,14 @@ pub(crate) fn fill_twice(
     }
 }
 
-/// Forgets changes, and takes the slots away in which they left no row: no row is lost. Only where
-/// a row stood before is its slot looked at, since a change without one filled its slot, and a row
-/// that was taken since is another change.
+/// Forgets changes, and takes the slots away in which they left no row: no row is lost, and each
+/// other slot stays. Only where a row stood before is its slot looked at, since a change without
+/// one filled its slot, and a row that was taken since is another change.
 pub(crate) fn settle(slots: &mut Slots, changed: &mut Vec<Spot>, before: &mut Vec<Option<OutRow>>)
     ensures rows { rows_of slots.new ≡ rows_of slots.old }
+    ensures tidied { length before.old.items ≡ length changed.old.items → (p : ℕ)
+        → slot_at slots.new p
+        ≡ tidied_at (filled_before changed.old.items before.old.items) slots.old p }
     ensures none { changed.new.items ≡ [] }
 {
     while let Some(spot) = changed.pop() {
@@ -238,9 +242,10 @@ pub(crate) fn settle(slots: &mut Slots, changed: &mut Vec<Spot>, before: &mut Ve
     }
 }
 
-/// Takes the empty slots among these away: no row is lost.
+/// Takes the empty slots among these away: no row is lost, and each other slot stays.
 pub(crate) fn forget(slots: &mut Slots, changed: &mut Vec<Spot>)
     ensures rows { rows_of slots.new ≡ rows_of slots.old }
+    ensures tidied { (p : ℕ) → slot_at slots.new p ≡ tidied_at changed.old.items slots.old p }
     ensures none { changed.new.items ≡ [] }
 {
     while let Some(spot) = changed.pop() {

@@ -5,7 +5,7 @@ ghost use Rattle.std.specs.Prelude.{IfErr, OnOk, OnErr};
 ghost use Rattle.std.specs.Option.{option_copied};
 ghost use Rattle.std.specs.FinMap as map;
 ghost use Rattle.ox_block.specs.declared.block.OutPoint.{OutPoint};
-ghost use Rattle.ox_outputs.specs.Slots.{outpoint_at, slot_at, put_slot, rows_of};
+ghost use Rattle.ox_outputs.specs.Slots.{outpoint_at, slot_at, put_slot, rows_of, unless_empty};
 
 use crate::held::{Held, exchange_in, give_out, row_in, take_back, vacate};
 use crate::places::Places;
@@ -84,11 +84,11 @@ impl Slots {
         exchange_in(&mut self.held, place, row)
     }
 
-    /// Takes the slot at this place away if it is empty: no row is lost.
+    /// Takes the slot at this place away if it is empty: no row is lost, and each other slot stays.
     pub(crate) fn tidy(&mut self, place: u32)
         ensures rows { rows_of self.new ≡ rows_of self.old }
-        ensures gone { (at : OutPoint)
-            → slot_at self.new place ≢ Some (record { at = at; row = None }) }
+        ensures here { slot_at self.new place ≡ unless_empty (slot_at self.old place) }
+        ensures others { (p : ℕ) → p ≢ place → slot_at self.new p ≡ slot_at self.old p }
     {
         let Some(slot) = self.held.get(place as usize) else {
             return;
