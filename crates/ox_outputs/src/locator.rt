@@ -10,8 +10,7 @@ ghost use Rattle.ox_outputs.specs.Stretches.{AreKept, AreApart};
 ghost use Rattle.ox_outputs.specs.Finding.{Finds};
 
 use crate::stretches::{
-    Stretches, find, insert_runs, note_gone, put_over, remove_gone, remove_numbers, remove_runs,
-    settle,
+    Stretches, find, insert_runs, note_gone, put_over, remove_numbers, remove_runs, settle,
 };
 use ox_block::OutPoint;
 use ox_range::Ranges;
@@ -131,17 +130,17 @@ impl Locator {
         put
     }
 
-    /// Sets the mark at the runs as they are: those that went go out, and those that came go in.
-    /// `Memory` where there is none: no run has changed. It costs by the runs that changed, and by
-    /// the logarithm of all for each.
+    /// Sets the mark at the runs as they are: those that came go in, each in place of one that went
+    /// from its number, if one did, and the others that went go out. `Memory` where there is none:
+    /// no run has changed. It costs by the runs that changed, and by the logarithm of all once for
+    /// each number at which one came or went.
     pub(crate) fn begin(&mut self) -> Result<(), Memory>
         ensures live { (q : ℕ) → live_at self.new q ≡ live_at self.old q }
         ensures ok { OnOk result ((q : ℕ) → kept_at self.new q ≡ live_at self.old q) }
         ensures among { (q : ℕ) (s : Stretch) → kept_at self.new q ≡ Some s
             → live_at self.old q ≡ Some s }
     {
-        remove_gone(&mut self.runs, &mut self.gone);
-        settle(&mut self.runs, &mut self.came)
+        settle(&mut self.runs, &mut self.gone, &mut self.came)
     }
 
     /// Goes back to the runs at the mark. It takes no memory.

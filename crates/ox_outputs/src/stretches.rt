@@ -1,6 +1,6 @@
 //! Runs of satoshis by their first numbers, with where each of them is.
 
-ghost use Rattle.std.specs.Prelude.{◌≡◌, ℕ, ◌+◌, ◌^◌, ◌<◌, ◌≤◌, [], true, false, length};
+ghost use Rattle.std.specs.Prelude.{◌≡◌, ◌||◌, ℕ, ◌+◌, ◌^◌, ◌<◌, ◌≤◌, [], true, false, length};
 ghost use Rattle.std.specs.Prelude.{List, None, Some, IfOk, OnOk, OnErr, is_some, if◌then◌else◌};
 ghost use Rattle.std.specs.BTreeMap.{is_at};
 ghost use Rattle.std.specs.Option.{option_or};
@@ -8,7 +8,7 @@ ghost use Rattle.std.specs.Ordering.{nat_cmp};
 ghost use Rattle.ox_range.specs.Runs.{numbers_of, AreMaximal};
 ghost use Rattle.ox_outputs.specs.declared.stretch.Stretch.{Stretch};
 ghost use Rattle.ox_outputs.specs.Stretches.{stretch_at, stretches_of, is_among, firsts_of};
-ghost use Rattle.ox_outputs.specs.Stretches.{goes, AreNoted, AreApart, AreShort};
+ghost use Rattle.ox_outputs.specs.Stretches.{live_in, goes, AreNoted, AreApart, AreShort};
 ghost use Rattle.ox_outputs.specs.Finding.{FindsFrom};
 
 use crate::stretch::Stretch;
@@ -171,37 +171,47 @@ pub(crate) fn remove_numbers(numbers: &mut BTreeSet<u64>, others: &[u64])
     }
 }
 
-/// Takes the stretches away that begin with these numbers, and leaves no number.
-pub(crate) fn remove_gone(stretches: &mut Stretches, gone: &mut BTreeSet<u64>)
-    ensures stretches { (q : ℕ) → stretch_at stretches.new.entries q
-        ≡ (if is_among gone.old.keys q then None else stretch_at stretches.old.entries q) }
-    ensures none { gone.new.keys ≡ [] }
-{
-    for first in gone.iter() {
-        stretches.remove(first);
-    }
-    gone.clear();
-}
-
-/// Puts the stretches in that came, and leaves none there. Where there is no memory, all is as
-/// before.
-pub(crate) fn settle(stretches: &mut Stretches, came: &mut Stretches) -> Result<(), Memory>
-    requires once { (q : ℕ) (s : Stretch) → stretch_at came.old.entries q ≡ Some s
-        → stretch_at stretches.old.entries q ≡ None }
+/// Puts the stretches in that came, each in place of the one at its number, if there is one, and
+/// takes those away that went where none came. None is left in `came`, and no number in `gone`.
+/// Where there is no memory, the stretches at all these numbers are away, no number is left in
+/// `gone`, and `came` is as before.
+pub(crate) fn settle(
+    stretches: &mut Stretches,
+    gone: &mut BTreeSet<u64>,
+    came: &mut Stretches,
+) -> Result<(), Memory>
     ensures ok { OnOk result ((q : ℕ) → stretch_at stretches.new.entries q
-        ≡ option_or (stretch_at came.old.entries q) (stretch_at stretches.old.entries q)) }
+        ≡ live_in came.old.entries gone.old.keys stretches.old.entries q) }
     ensures none { OnOk result (came.new.entries ≡ []) }
     ensures err { OnErr result ((q : ℕ) → stretch_at stretches.new.entries q
-        ≡ stretch_at stretches.old.entries q) }
+        ≡ (if is_some (stretch_at came.old.entries q) || is_among gone.old.keys q then None
+        else stretch_at stretches.old.entries q)) }
     ensures still { OnErr result (came.new.entries ≡ came.old.entries) }
+    ensures gone { gone.new.keys ≡ [] }
 {
-    for (first, stretch) in came.iter() {
+    let put = insert_all(stretches, came);
+    remove_except(stretches, gone, came);
+    gone.clear();
+    put?;
+    came.clear();
+    Ok(())
+}
+
+// Puts these stretches in, each in place of the one at its number, if there is one. Where there is
+// no memory, the stretches at all their numbers are away.
+fn insert_all(stretches: &mut Stretches, others: &Stretches) -> Result<(), Memory>
+    ensures ok { OnOk result ((q : ℕ) → stretch_at stretches.new.entries q
+        ≡ option_or (stretch_at others.now.entries q) (stretch_at stretches.old.entries q)) }
+    ensures err { OnErr result ((q : ℕ) → stretch_at stretches.new.entries q
+        ≡ (if is_some (stretch_at others.now.entries q) then None
+        else stretch_at stretches.old.entries q)) }
+{
+    for (first, stretch) in others.iter() {
         if stretches.insert(*first, *stretch).is_err() {
-            remove_all(stretches, came);
+            remove_all(stretches, others);
             return Err(Memory);
         }
     }
-    came.clear();
     Ok(())
 }
 
@@ -213,6 +223,19 @@ fn remove_all(stretches: &mut Stretches, others: &Stretches)
 {
     for first in others.keys() {
         stretches.remove(first);
+    }
+}
+
+// Takes the stretches away that begin with these numbers, but for those that begin as others do.
+fn remove_except(stretches: &mut Stretches, numbers: &BTreeSet<u64>, others: &Stretches)
+    ensures { (q : ℕ) → stretch_at stretches.new.entries q
+        ≡ (if is_some (stretch_at others.now.entries q) then stretch_at stretches.old.entries q
+        else (if is_among numbers.now.keys q then None else stretch_at stretches.old.entries q)) }
+{
+    for first in numbers.iter() {
+        if !others.contains_key(first) {
+            stretches.remove(first);
+        }
     }
 }
 
