@@ -94,6 +94,7 @@ impl Parts {
     {
         self.shelf.begin();
         self.ledger.begin()?;
+        self.outputs.expect(block, ids);
         let moved = transfer(
             self.alloc,
             &mut self.outputs,

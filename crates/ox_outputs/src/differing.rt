@@ -35,8 +35,9 @@ pub(crate) fn differing(
         (record { gone = rows.0; came = rows.1 })) }
 {
     let places = oldest(alloc, changed)?;
-    let mut gone = TableRows::new(alloc);
-    let mut came = TableRows::new(alloc);
+    let (stood, stand) = counts(slots, changed, before, &places);
+    let mut gone = TableRows::from_vec(Vec::with_capacity(alloc, stood)?);
+    let mut came = TableRows::from_vec(Vec::with_capacity(alloc, stand)?);
     for (at, place) in places.iter() {
         let stood = row_before(before, *place);
         let stands = slots.row(changed[*place].place);
@@ -44,6 +45,31 @@ pub(crate) fn differing(
         push_unless(alloc, &mut came, at, stands, stood)?;
     }
     Ok((gone, came))
+}
+
+// How many rows stood before the changes at these places, and how many stand now. Room is taken by
+// these numbers, and the slots are read ahead.
+fn counts(
+    slots: &Slots,
+    changed: &[Spot],
+    before: &[Option<OutRow>],
+    places: &BTreeMap<OutPoint, usize>,
+) -> (usize, usize) {
+    let mut stood = 0usize;
+    let mut stand = 0usize;
+    for place in places.values() {
+        stood = stood.wrapping_add(usize::from(row_before(before, *place).is_some()));
+        stand = stand.wrapping_add(usize::from(stands(slots, changed, *place)));
+    }
+    (stood, stand)
+}
+
+// Whether a row stands where the change at this place was.
+fn stands(slots: &Slots, changed: &[Spot], place: usize) -> bool {
+    match changed.get(place) {
+        Some(spot) => slots.row(spot.place).is_some(),
+        None => false,
+    }
 }
 
 // What stood before the change at this place, if a row did.

@@ -1,6 +1,7 @@
 //! The unspent outputs in memory: rows by outpoint, with a mark to which they can go back.
 #![tactic(auto)]
 
+mod ahead;
 mod changes;
 mod differing;
 mod entry;

@@ -57,6 +57,26 @@ impl Places {
         }
     }
 
+    /// Reads a part of the list in which an outpoint's place would stand.
+    pub(crate) fn glance(&self, at: &OutPoint) -> u32 {
+        let list = self.list_of(at);
+        match (list.first(), list.last()) {
+            (Some(first), Some(last)) => first.tag.wrapping_add(last.tag),
+            _ => 0,
+        }
+    }
+
+    /// The first place, if any, that may be that of an outpoint's slot, which isn't looked at.
+    pub(crate) fn candidate(&self, at: &OutPoint) -> Option<u32> {
+        let tag = tag_of(at);
+        for entry in self.list_of(at) {
+            if entry.tag == tag {
+                return Some(entry.place);
+            }
+        }
+        None
+    }
+
     /// The place of the slot of an outpoint. It has to be among these, if there is such a slot.
     pub(crate) fn find(&self, held: &Held, at: &OutPoint) -> Option<u32>
         requires others { (place : ℕ) → other_at self.now at.now ≡ Some place

@@ -72,6 +72,24 @@ impl Slots {
         row_in(&self.held, place)
     }
 
+    /// Reads a part of what leads to the slot at this outpoint.
+    pub(crate) fn glance_at(&self, at: &OutPoint) -> u32 {
+        self.places.glance(at)
+    }
+
+    /// The first place, if any, that may be that of the slot at this outpoint, which isn't read.
+    pub(crate) fn candidate(&self, at: &OutPoint) -> Option<u32> {
+        self.places.candidate(at)
+    }
+
+    /// Reads a part of the slot at this place.
+    pub(crate) fn glance(&self, place: u32) -> u32 {
+        match self.held.get(place as usize) {
+            Some(slot) => slot.at.index.wrapping_add(part_of(slot.row.as_ref())),
+            None => 0,
+        }
+    }
+
     /// Changes what the slot at this place holds, and answers what it held.
     pub(crate) fn exchange(&mut self, place: u32, row: Option<OutRow>) -> Option<OutRow>
         requires { IsSome (outpoint_at self.old place) }
@@ -128,5 +146,13 @@ impl Slots {
                 None => unreachable!(),
             },
         }
+    }
+}
+
+// A part of what is read of a row.
+fn part_of(row: Option<&OutRow>) -> u32 {
+    match row {
+        Some(row) => row.height.wrapping_add(u32::from(row.sats.is_empty())),
+        None => 0,
     }
 }

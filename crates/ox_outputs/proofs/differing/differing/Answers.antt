@@ -21,8 +21,8 @@ loop-at-init c =
       can = tt;
       finite = tt;
       there = subst (λ (es : List (OutPoint × ℕ)). All (λ e. lookup (trees.is_at (outpoint_cmp e.0)) es ≡ Some e.1) es) (sym is) (all_there c.in_ok-places.places c.in_ok-places.ensures.ordered);
-      gone = ap (λ (l : List (OutPoint × OutRow)). l ++ rows_for (gone_at marked now) c.into_iter-at-iterator.result) c.new-gone.ensures;
-      came = ap (λ (l : List (OutPoint × OutRow)). l ++ rows_for (gone_at now marked) c.into_iter-at-iterator.result) c.new-came.ensures;
+      gone = ap (λ (l : List (OutPoint × OutRow)). l ++ rows_for (gone_at marked now) c.into_iter-at-iterator.result) (c.from_vec-gone.ensures ∙ c.in_ok-with_capacity.ensures.items);
+      came = ap (λ (l : List (OutPoint × OutRow)). l ++ rows_for (gone_at now marked) c.into_iter-at-iterator.result) (c.from_vec-came.ensures ∙ c.in_ok-with_capacity-2.ensures.items);
     }
 
 pub bounds-changed-place : goal.bounds-changed-place
