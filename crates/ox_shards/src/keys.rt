@@ -15,6 +15,9 @@ pub trait Sharded: Ord + Copy {
     /// How many shards there are.
     const SHARDS: usize;
 
+    /// So many keys of a shard stand in its list at most.
+    const MOST: usize;
+
     /// The shard in which a key stands, counted from 0.
     ghost shard: { Self → ℕ };
 
@@ -37,6 +40,8 @@ impl Sharded for OutPoint {
 
     const SHARDS: usize = 65_536;
 
+    const MOST: usize = 64;
+
     ghost shard = { outpoint_shard };
 
     fn shard(&self) -> usize {
@@ -47,12 +52,14 @@ impl Sharded for OutPoint {
     ghost alike = { outpoints_alike };
 }
 
-/// Runes are few: one shard.
+/// Runes are few: one shard, all of them in the ordered map.
 impl Sharded for RuneId {
     ghost SHARDS = { 1 };
 
     const SHARDS: usize = 1;
 
+    const MOST: usize = 0;
+
     ghost shard = { λ _. 0 };
 
     fn shard(&self) -> usize {
@@ -62,12 +69,14 @@ impl Sharded for RuneId {
     ghost alike = { λ _ _ _. refl };
 }
 
-/// Places of a list, which are few: one shard.
+/// Places of a list, which are few: one shard, all of them in the ordered map.
 impl Sharded for u32 {
     ghost SHARDS = { 1 };
 
     const SHARDS: usize = 1;
 
+    const MOST: usize = 0;
+
     ghost shard = { λ _. 0 };
 
     fn shard(&self) -> usize {
@@ -77,11 +86,13 @@ impl Sharded for u32 {
     ghost alike = { λ _ _ _. refl };
 }
 
-/// Names of runes, which are few: one shard.
+/// Names of runes, which are few: one shard, all of them in the ordered map.
 impl Sharded for u128 {
     ghost SHARDS = { 1 };
 
     const SHARDS: usize = 1;
+
+    const MOST: usize = 0;
 
     ghost shard = { λ _. 0 };
 

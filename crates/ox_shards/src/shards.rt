@@ -16,13 +16,11 @@ use std::collections::BTreeMap;
 use std::marker::Model;
 use std::mem;
 
-/// So many entries stand in one list at most.
-const MOST: usize = 16;
-
 /// A map whose keys are spread over many short lists. A look-up goes through the keys of one list.
-/// Whoever chooses keys can choose them so that they fill one list; when it has 16 entries, those
-/// of further keys stand in one ordered map. So a look-up costs no more than a list and one in that
-/// map, whatever the keys. A key stands in its list or in the ordered map, never in both.
+/// Whoever chooses keys can choose them so that they fill one list; when it has as many entries as
+/// the kind of key allows (`Sharded::MOST`), those of further keys stand in one ordered map. So a
+/// look-up costs no more than a list and one in that map, whatever the keys. A key stands in its
+/// list or in the ordered map, never in both.
 #[derive(Drop)]
 pub struct Shards<K: Sharded, V> {
     alloc: Global,
@@ -140,7 +138,7 @@ fn put<K: Sharded, V>(
     if let Some(place) = place_in(list, &key) {
         return Ok(Some(mem::replace(&mut list[place].1, value)));
     }
-    if list.len() >= MOST || others.contains_key(&key) {
+    if list.len() >= K::MOST || others.contains_key(&key) {
         return others.insert(key, value);
     }
     list.push((key, value))?;

@@ -91,17 +91,24 @@ fn keys_of_one_shard_are_all_there(rt: HostRuntime) {
     assert!(rt; has(&map, 0, Some(0)) && has(&map, 999, Some(999)) && has(&map, 1_000, None));
 }
 
+/// One of the outpoints of one shard, whose list has room for 64.
+fn of_one_shard(third: u8) -> OutPoint {
+    outpoint(7, 9, third, 0)
+}
+
 #[test]
 fn a_key_behind_a_full_list_stands_once(rt: HostRuntime) {
     let mut map = Shards::new(rt.alloc());
-    for key in 0..20u32 {
-        map.insert(key, u64::from(key)).expect(&rt, "memory");
+    for third in 0..70u8 {
+        map.insert(of_one_shard(third), u64::from(third))
+            .expect(&rt, "memory");
     }
-    assert!(rt; map.remove(&3) == Some(3) && has(&map, 3, None) && has(&map, 4, Some(4)));
-    assert!(rt; map.insert(19, 190).expect(&rt, "memory") == Some(19));
-    assert!(rt; map.remove(&19) == Some(190) && has(&map, 19, None));
-    assert!(rt; map.insert(20, 200).expect(&rt, "memory").is_none() && has(&map, 20, Some(200)));
-    assert!(rt; has(&map, 0, Some(0)) && has(&map, 15, Some(15)) && has(&map, 18, Some(18)));
+    let [first, last, new] = [of_one_shard(3), of_one_shard(69), of_one_shard(70)];
+    assert!(rt; map.remove(&first) == Some(3) && has(&map, first, None));
+    assert!(rt; map.insert(last, 190).expect(&rt, "memory") == Some(69));
+    assert!(rt; map.remove(&last) == Some(190) && has(&map, last, None));
+    assert!(rt; map.insert(new, 200).expect(&rt, "memory").is_none() && has(&map, new, Some(200)));
+    assert!(rt; has(&map, of_one_shard(0), Some(0)) && has(&map, of_one_shard(68), Some(68)));
 }
 
 #[test]

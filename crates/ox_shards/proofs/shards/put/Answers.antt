@@ -16,11 +16,11 @@ returns-in-Some-clause-ok g c =
     subst (λ (v : g.row.V.Denot). Changes g.K.Ord.cmp c.args.list.now.items c.args.others.now.entries (slice_set c.args.list.now.items c.in-Some.place (c.index_mut.result.now.0, c.replace.new.dest)) c.args.others.now.entries c.args.key (Some v)) c.replace.ensures.after
     (changed_in_list g.met.K.Ord.total c.args.list.now.items c.args.others.now.entries c.requires c.args.key c.in-Some.place c.index_mut.result.now c.replace.new.dest (ap (position _) (sym c.deref.ensures.value) ∙ sym c.in-Some.ensures) c.index_mut.ensures.value)
 
-pub returns-then-len-ge-MOST-clause-displaced : goal.returns-then-len-ge-MOST-clause-displaced
-returns-then-len-ge-MOST-clause-displaced g c = IfOk-weaker c.insert.result _ _ (λ v has. has ∙ sym (none_or _ _ (not_found (is_at (g.K.Ord.cmp c.args.key)) c.args.list.now.items (ap (position _) (sym c.deref.ensures.value) ∙ sym c.in_default.ensures)))) c.insert.ensures.old
+pub returns-then-len-MOST-clause-displaced : goal.returns-then-len-MOST-clause-displaced
+returns-then-len-MOST-clause-displaced g c = IfOk-weaker c.insert.result _ _ (λ v has. has ∙ sym (none_or _ _ (not_found (is_at (g.K.Ord.cmp c.args.key)) c.args.list.now.items (ap (position _) (sym c.deref.ensures.value) ∙ sym c.in_default.ensures)))) c.insert.ensures.old
 
-pub returns-then-len-ge-MOST-clause-ok : goal.returns-then-len-ge-MOST-clause-ok
-returns-then-len-ge-MOST-clause-ok g c = IfOk-weaker c.insert.result _ _ (λ _ has. changed_in_others g.met.K.Ord.total c.args.list.now.items c.args.others.now.entries c.requires c.args.key (not_found (is_at (g.K.Ord.cmp c.args.key)) c.args.list.now.items (ap (position _) (sym c.deref.ensures.value) ∙ sym c.in_default.ensures)) c.insert.new.self.entries (Some c.args.value) has.0) c.insert.ensures.updates
+pub returns-then-len-MOST-clause-ok : goal.returns-then-len-MOST-clause-ok
+returns-then-len-MOST-clause-ok g c = IfOk-weaker c.insert.result _ _ (λ _ has. changed_in_others g.met.K.Ord.total c.args.list.now.items c.args.others.now.entries c.requires c.args.key (not_found (is_at (g.K.Ord.cmp c.args.key)) c.args.list.now.items (ap (position _) (sym c.deref.ensures.value) ∙ sym c.in_default.ensures)) c.insert.new.self.entries (Some c.args.value) has.0) c.insert.ensures.updates
 
 pub returns-clause-displaced : goal.returns-clause-displaced
 returns-clause-displaced g c =
