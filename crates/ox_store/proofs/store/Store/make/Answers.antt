@@ -1,7 +1,7 @@
 use Rattle.std.proofs.Common.{◌∙◌, [], sym, ap}
 use Rattle.std.proofs.lemmas.Result.{err_from_is_err_and}
 use Rattle.std.specs.Prelude.{Ok}
-use Rattle.ox_outside.proofs.Calls.{leaves_then, leaves_weaker}
+use Rattle.ox_outside.proofs.Calls.{calls_then, leaves_then, leaves_weaker}
 use Rattle.ox_model.specs.Machine.{empty_machine, stack_of}
 use Rattle.ox_model.specs.Stack.{Stack}
 use Rattle.ox_sat.specs.declared.profiles.Profile.{Profile}
@@ -37,3 +37,11 @@ pub returns-in_err-tail-clause-wrote_nothing : goal.returns-in_err-tail-clause-w
 returns-in_err-tail-clause-wrote_nothing g c =
     let p = err_from_is_err_and c.from_residual-in_err-tail.result c.from_residual-in_err-tail.ensures.1 in
     λ other. absurd (the_disk_alone _ p.0 p.1 p.2 other)
+
+pub returns-clause-calls : goal.returns-clause-calls
+returns-clause-calls g c =
+    calls_then g.S.Site c.args.site.now c.are_empty.new.site c.make.new.site c.are_empty.ensures.looks.calls c.make.ensures.calls
+
+pub returns-in_err-tail-clause-calls : goal.returns-in_err-tail-clause-calls
+returns-in_err-tail-clause-calls g c =
+    calls_then g.S.Site c.args.site.now c.are_empty.new.site c.make.new.site c.are_empty.ensures.looks.calls c.make.ensures.calls
