@@ -127,3 +127,11 @@ returns-in_err-show_all-clause-calls g c =
     calls_then g.S.Site c.args.site.now c.next_carried.new.site c.show_all.new.site
     (calls_then g.S.Site c.args.site.now c.loop-lines.site c.next_carried.new.site c.loop-lines.invariant.1 c.next_carried.ensures.calls)
     (rw c.as_slice.ensures at c.show_all.ensures.talks).calls
+
+pub returns-in_err-carried-clause-calls : goal.returns-in_err-carried-clause-calls
+returns-in_err-carried-clause-calls g c =
+    calls_then g.S.Site c.args.site.now c.loop-lines.site c.next_carried.new.site c.loop-lines.invariant.1 c.next_carried.ensures.calls
+
+pub returns-clause-calls : goal.returns-clause-calls
+returns-clause-calls g c =
+    calls_then g.S.Site c.args.site.now c.loop-lines.site c.next_carried.new.site c.loop-lines.invariant.1 c.next_carried.ensures.calls

@@ -1,5 +1,5 @@
 use Rattle.std.proofs.Common.{◌∙◌}
-use Rattle.ox_app.proofs.Crashes.{during_carried, grows_line, stands_on}
+use Rattle.ox_app.proofs.Crashes.{during_carried, during_heard, grows_line, stands_on}
 use Rattle.ox_app.proofs.apply.next_carried.Goals as goal
 
 pub returns-clause-told : goal.returns-clause-told
@@ -16,3 +16,8 @@ returns-clause-during g c told stood =
     during_carried g.S.Site
     c.in_ok-line.line c.args.lines.now c.next.new.self c.args.store.stack c.args.site.now c.next.new.site c.carry_out.new.site
     c.next.ensures.talks holds.settled stood c.in_ok-line.ensures.told c.carry_out.ensures.log_stays (c.carry_out.ensures.any_moment told_mid stood_mid)
+
+pub returns-in_err-line-clause-during : goal.returns-in_err-line-clause-during
+returns-in_err-line-clause-during g c told stood =
+    during_heard g.S.Site c.args.lines.now c.next.new.self c.args.store.stack c.args.site.now c.next.new.site
+    c.next.ensures.talks (c.requires.holds told).settled stood
