@@ -1,4 +1,4 @@
-//! Reading ahead. Outpoints are spread over all of the memory, and one look-up after the other would
+//! Reading ahead. Outpoints are spread over all of memory, and one look-up after the other would
 //! wait for each of its places. So what a block will ask for is read before, some outpoints at a
 //! time and a little of each place: nothing there waits for what another place says, so that the
 //! processor fetches many side by side, and has them still at hand when they are asked for.

@@ -39,7 +39,7 @@ fn place_row<O: OutTable>(
 }
 
 /// Places the outputs of a transaction in order, each with its part of the satoshis, of which the
-/// last output's is the first, and leaves no part. It answers the rows that are displaced, and their
+/// last output's is the first, and leaves no part. It answers the rows that are displaced, whose
 /// satoshis are lost.
 pub(crate) fn place_outputs<O: OutTable>(
     alloc: Global,
