@@ -13,7 +13,6 @@ use Rattle.ox_block.specs.declared.block.TxOut.{TxOut}
 use Rattle.ox_block.specs.declared.block.Tx.{Tx}
 use Rattle.ox_block.specs.declared.block.Header.{Header}
 use Rattle.ox_block.specs.declared.block.Block.{Block}
-use Rattle.ox_block.specs.declared.block.OutPoint.{OutPoint}
 use Rattle.ox_block.specs.declared.fault.BlockFault.{BlockFault}
 use Rattle.ox_block.specs.declared.fault.BlockFault.TheVariants as BlockFaults
 use Rattle.ox_block.specs.Answer.{Gives, Tells}

@@ -4,3 +4,5 @@ pub mod Fields
 pub mod Answer
 pub mod Hashes
 pub mod Putting
+pub mod Script
+pub mod Few

@@ -1,6 +1,7 @@
 //! What a block is. In contracts it is plain data: byte strings and lists of fields are lists.
 
 use crate::lists::{Inputs, Outs, Txs, Witness};
+use crate::script::Script;
 use ox_bytes::Bytes;
 
 /// What names a transaction: SHA-256 twice over its form without witnesses, in serialized order. It
@@ -37,7 +38,7 @@ pub struct TxOut {
     /// How many satoshis.
     pub value: u64,
     /// The output's script.
-    pub script: Bytes,
+    pub script: Script,
 }
 
 /// A transaction.

@@ -3,12 +3,14 @@
 
 mod block;
 mod fault;
+mod few;
 mod hashing;
 mod lists;
 mod order;
 mod read;
 mod reading;
 mod roots;
+mod script;
 mod sink;
 mod spelling;
 mod txids;
@@ -16,9 +18,11 @@ mod write;
 
 pub use block::{Block, Header, OutPoint, Tx, TxIn, TxOut, Txid};
 pub use fault::BlockFault;
+pub use few::Few;
 pub use hashing::{hash, txid_of, wtxid_of};
 pub use lists::{Inputs, Outs, Txs, Witness};
 pub use read::{fields_agree_with_reading, read_block};
 pub use roots::{root, root_over, witness_root};
+pub use script::Script;
 pub use txids::{Txids, txids_of};
 pub use write::{write_block, written_reads_back};

@@ -1,16 +1,17 @@
 //! Lists of a block's parts.
 
 use crate::block::{Tx, TxIn, TxOut};
+use crate::few::Few;
 use ox_bytes::{Bytes, List};
 
 /// A witness stack: an input's byte strings.
 pub type Witness = List<Bytes>;
 
 /// A transaction's inputs.
-pub type Inputs = List<TxIn>;
+pub type Inputs = Few<TxIn>;
 
 /// A transaction's outputs.
-pub type Outs = List<TxOut>;
+pub type Outs = Few<TxOut>;
 
 /// A block's transactions.
 pub type Txs = List<Tx>;

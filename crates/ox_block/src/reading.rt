@@ -10,9 +10,11 @@ ghost use Rattle.ox_block.specs.Reading.{marker_at, maybe_witnesses_at, tx_at, h
 ghost use Rattle.ox_block.specs.Reading.{whole_of};
 
 use crate::block::{Block, Header, OutPoint, Tx, TxIn, TxOut, Txid};
+use crate::few::Form;
 use crate::lists::{Inputs, Outs, Txs, Witness};
+use crate::script::Script;
 use ox_bytes::{
-    Bytes, FieldFault, ReadError, compact_field, string_field, u32le_field, u64le_field,
+    Bytes, FieldFault, ReadError, compact_field, run_field, string_field, u32le_field, u64le_field,
 };
 use std::alloc::Global;
 
@@ -75,20 +77,11 @@ fn input_of(alloc: Global, bytes: &[u8]) -> Result<(TxIn, &[u8]), ReadError>
     Ok((input, rest))
 }
 
-/// How many inputs or outputs room is taken for before any is read. So few need no more than they
-/// fill, and a count that
-/// lies takes no more room than one of 4.
-fn room_for(count: u64) -> usize
-    ensures { result ≤ 4 }
-{
-    count.min(4) as usize
-}
-
 /// That many inputs.
-fn inputs_times(alloc: Global, count: u64, bytes: &[u8]) -> Result<(Vec<TxIn>, &[u8]), ReadError>
-    ensures { GivesOrMemory (λ x. (x.0.items, x.1.now)) result (times input_at count bytes.now) }
+fn inputs_times(alloc: Global, count: u64, bytes: &[u8]) -> Result<(Inputs, &[u8]), ReadError>
+    ensures { GivesOrMemory (λ x. (x.0, x.1.now)) result (times input_at count bytes.now) }
 {
-    let mut inputs = Vec::with_capacity(alloc, room_for(count))?;
+    let mut inputs = Inputs::new(alloc);
     let mut rest = bytes;
     for _ in 0..count {
         let (input, after) = input_of(alloc, rest)?;
@@ -99,11 +92,22 @@ fn inputs_times(alloc: Global, count: u64, bytes: &[u8]) -> Result<(Vec<TxIn>, &
 }
 
 #[tactic(auto, unfolding(crate::specs::Reading::inputs_at))]
-fn inputs_of(alloc: Global, bytes: &[u8]) -> Result<(Vec<TxIn>, &[u8]), ReadError>
-    ensures { GivesOrMemory (λ x. (x.0.items, x.1.now)) result (inputs_at bytes.now) }
+fn inputs_of(alloc: Global, bytes: &[u8]) -> Result<(Inputs, &[u8]), ReadError>
+    ensures { GivesOrMemory (λ x. (x.0, x.1.now)) result (inputs_at bytes.now) }
 {
     let (count, rest) = count_of(bytes)?;
     inputs_times(alloc, count, rest)
+}
+
+/// A script, copied: its length as a compact size, and its bytes. The length and the bytes are two
+/// fields.
+#[tactic(auto, unfolding(ox_bytes::specs::Reading::string_at))]
+fn script_of(alloc: Global, bytes: &[u8]) -> Result<(Script, &[u8]), ReadError>
+    ensures { GivesOrMemory (λ x. (x.0, x.1.now)) result (string_at bytes.now) }
+{
+    let (len, rest) = compact_field(bytes)?;
+    let (run, rest) = run_field(rest, len)?;
+    Ok((Script::copy(alloc, run)?, rest))
 }
 
 /// An output of at most that many satoshis.
@@ -115,7 +119,7 @@ fn output_of(alloc: Global, most: u64, bytes: &[u8]) -> Result<(TxOut, &[u8]), R
     if most < value {
         return Err(ReadError::Fault(FieldFault { left: bytes.len() }));
     }
-    let (script, rest) = string_field(alloc, rest)?;
+    let (script, rest) = script_of(alloc, rest)?;
     Ok((TxOut { value, script }, rest))
 }
 
@@ -125,10 +129,10 @@ fn outputs_times(
     count: u64,
     most: u64,
     bytes: &[u8],
-) -> Result<(Vec<TxOut>, &[u8]), ReadError>
-    ensures { GivesOrMemory (λ x. (x.0.items, x.1.now)) result (outputs_of count most bytes.now) }
+) -> Result<(Outs, &[u8]), ReadError>
+    ensures { GivesOrMemory (λ x. (x.0, x.1.now)) result (outputs_of count most bytes.now) }
 {
-    let mut outputs = Vec::with_capacity(alloc, room_for(count))?;
+    let mut outputs = Outs::new(alloc);
     let mut spare = most;
     let mut rest = bytes;
     for _ in 0..count {
@@ -141,8 +145,8 @@ fn outputs_times(
 }
 
 #[tactic(auto, unfolding(crate::specs::Reading::outputs_at))]
-fn outputs_of(alloc: Global, bytes: &[u8]) -> Result<(Vec<TxOut>, &[u8]), ReadError>
-    ensures { GivesOrMemory (λ x. (x.0.items, x.1.now)) result (outputs_at bytes.now) }
+fn outputs_of(alloc: Global, bytes: &[u8]) -> Result<(Outs, &[u8]), ReadError>
+    ensures { GivesOrMemory (λ x. (x.0, x.1.now)) result (outputs_at bytes.now) }
 {
     let (count, rest) = count_of(bytes)?;
     outputs_times(alloc, count, MOST_VALUE, rest)
@@ -188,6 +192,23 @@ fn stacks_into<'a>(
     Ok(rest)
 }
 
+/// Gives each input its stack, wherever the inputs are kept.
+#[tactic(auto, unfolding(crate::specs::Reading::stacks_of))]
+fn stacks_given<'a>(
+    alloc: Global,
+    inputs: &mut Inputs,
+    bytes: &'a [u8],
+) -> Result<&'a [u8], ReadError>
+    ensures { GivesOrMemory (λ x. (inputs.new, x.now)) result (stacks_of inputs.old bytes.now) }
+{
+    match &mut inputs.form {
+        Form::Empty => Ok(bytes),
+        Form::One(one) => stacks_into(alloc, one, bytes),
+        Form::Two(two) => stacks_into(alloc, two, bytes),
+        Form::Many(many) => stacks_into(alloc, many, bytes),
+    }
+}
+
 /// Whether an input has a witness.
 fn any_witness(inputs: &[TxIn]) -> bool
     ensures { result ≡ list_any has_witness inputs.now }
@@ -198,38 +219,38 @@ fn any_witness(inputs: &[TxIn]) -> bool
 /// The stacks, which may not all be empty. The marker has that many bytes from its place to the
 /// end.
 #[tactic(auto, unfolding(crate::specs::Reading::witnesses_at))]
-fn witnesses_of(
+fn witnesses_of<'a>(
     alloc: Global,
     marker: usize,
-    mut inputs: Vec<TxIn>,
-    bytes: &[u8],
-) -> Result<(Vec<TxIn>, &[u8]), ReadError>
-    ensures { GivesOrMemory (λ x. (x.0.items, x.1.now)) result
-        (witnesses_at marker inputs.items bytes.now) }
+    inputs: &mut Inputs,
+    bytes: &'a [u8],
+) -> Result<&'a [u8], ReadError>
+    ensures { GivesOrMemory (λ x. (inputs.new, x.now)) result
+        (witnesses_at marker inputs.old bytes.now) }
 {
-    let rest = stacks_into(alloc, &mut inputs, bytes)?;
-    if !any_witness(&inputs) {
+    let rest = stacks_given(alloc, inputs, bytes)?;
+    if !any_witness(inputs.as_slice()) {
         return Err(ReadError::Fault(FieldFault { left: marker }));
     }
-    Ok((inputs, rest))
+    Ok(rest)
 }
 
 /// What follows the outputs: where there is a marker, the stacks.
 #[tactic(auto, unfolding(crate::specs::Reading::maybe_witnesses_at))]
-fn maybe_witnesses_of(
+fn maybe_witnesses_of<'a>(
     alloc: Global,
     marked: bool,
     marker: usize,
-    inputs: Vec<TxIn>,
-    bytes: &[u8],
-) -> Result<(Vec<TxIn>, &[u8]), ReadError>
-    ensures { GivesOrMemory (λ x. (x.0.items, x.1.now)) result
-        (maybe_witnesses_at marked marker inputs.items bytes.now) }
+    inputs: &mut Inputs,
+    bytes: &'a [u8],
+) -> Result<&'a [u8], ReadError>
+    ensures { GivesOrMemory (λ x. (inputs.new, x.now)) result
+        (maybe_witnesses_at marked marker inputs.old bytes.now) }
 {
     if marked {
         witnesses_of(alloc, marker, inputs, bytes)
     } else {
-        Ok((inputs, bytes))
+        Ok(bytes)
     }
 }
 
@@ -251,15 +272,15 @@ fn tx_of(alloc: Global, bytes: &[u8]) -> Result<(Tx, &[u8]), ReadError>
 {
     let (version, behind_version) = u32le_field(bytes)?;
     let (marked, rest) = marker_of(behind_version)?;
-    let (bare, rest) = inputs_of(alloc, rest)?;
+    let (mut inputs, rest) = inputs_of(alloc, rest)?;
     let (outputs, rest) = outputs_of(alloc, rest)?;
-    let (inputs, rest) = maybe_witnesses_of(alloc, marked, behind_version.len(), bare, rest)?;
+    let rest = maybe_witnesses_of(alloc, marked, behind_version.len(), &mut inputs, rest)?;
     let (lock, rest) = u32le_field(rest)?;
     let tx = Tx {
         version,
         marked,
-        inputs: Inputs::from_vec(inputs),
-        outputs: Outs::from_vec(outputs),
+        inputs,
+        outputs,
         lock,
     };
     Ok((tx, rest))

@@ -43,11 +43,11 @@ fn put_size<S: Sink>(sink: &mut S, size: u64) -> Result<(), S::Fault>
     }
 }
 
-fn put_string<S: Sink>(sink: &mut S, bytes: &Bytes) -> Result<(), S::Fault>
+fn put_string<S: Sink>(sink: &mut S, bytes: &[u8]) -> Result<(), S::Fault>
     ensures { OnOk result (Puts S.holds (string bytes.now) sink.old sink.new) }
 {
     put_size(sink, bytes.len() as u64)?;
-    sink.put(bytes.as_slice())
+    sink.put(bytes)
 }
 
 fn put_input<S: Sink>(sink: &mut S, spent: &TxIn) -> Result<(), S::Fault>
@@ -55,7 +55,7 @@ fn put_input<S: Sink>(sink: &mut S, spent: &TxIn) -> Result<(), S::Fault>
 {
     sink.put(&spent.from.txid.0)?;
     put_u32(sink, spent.from.index)?;
-    put_string(sink, &spent.script)?;
+    put_string(sink, spent.script.as_slice())?;
     put_u32(sink, spent.sequence)
 }
 
@@ -80,7 +80,7 @@ fn put_output<S: Sink>(sink: &mut S, made: &TxOut) -> Result<(), S::Fault>
     ensures { OnOk result (Puts S.holds (output made.now) sink.old sink.new) }
 {
     put_u64(sink, made.value)?;
-    put_string(sink, &made.script)
+    put_string(sink, made.script.as_slice())
 }
 
 /// Each output, without a count.
@@ -105,7 +105,7 @@ fn put_string_run<S: Sink>(sink: &mut S, items: &[Bytes]) -> Result<(), S::Fault
     ensures { OnOk result (Puts S.holds (flat_map string items.now) sink.old sink.new) }
 {
     for bytes in items {
-        put_string(sink, bytes)?;
+        put_string(sink, bytes.as_slice())?;
     }
     Ok(())
 }

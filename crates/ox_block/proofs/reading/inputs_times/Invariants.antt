@@ -6,4 +6,4 @@ use Rattle.ox_block.proofs.reading.inputs_times.Given as goal
 
 -- those so far and those to come are all
 abbrev pub invariant-loop : goal.invariant-loop
-invariant-loop l = with_front l.inputs.items (times input_at (l.count - l.counter) l.rest) ≡ times input_at l.count l.bytes
+invariant-loop l = with_front l.inputs (times input_at (l.count - l.counter) l.rest) ≡ times input_at l.count l.bytes

@@ -5,4 +5,4 @@ use Rattle.ox_block.proofs.reading.outputs_times.Given as goal
 
 -- those so far and those to come are all
 abbrev pub invariant-loop : goal.invariant-loop
-invariant-loop l = with_front l.outputs.items (outputs_of (l.count - l.counter) l.spare l.rest) ≡ outputs_of l.count l.most l.bytes
+invariant-loop l = with_front l.outputs (outputs_of (l.count - l.counter) l.spare l.rest) ≡ outputs_of l.count l.most l.bytes
