@@ -286,11 +286,20 @@ fn tx_of(alloc: Global, bytes: &[u8]) -> Result<(Tx, &[u8]), ReadError>
     Ok((tx, rest))
 }
 
+/// The bytes of the shortest transaction, with one input and one output and no scripts.
+const LEAST_TX: usize = 60;
+
+/// How many transactions room is taken for before any is read: as many as are told, but no more
+/// than the bytes can hold, which a count that lies doesn't change.
+fn room_for_txs(count: u64, len: usize) -> usize {
+    count.min((len / LEAST_TX) as u64) as usize
+}
+
 /// That many transactions.
 fn txs_times(alloc: Global, count: u64, bytes: &[u8]) -> Result<(Vec<Tx>, &[u8]), ReadError>
     ensures { GivesOrMemory (λ x. (x.0.items, x.1.now)) result (times tx_at count bytes.now) }
 {
-    let mut txs = Vec::new(alloc);
+    let mut txs = Vec::with_capacity(alloc, room_for_txs(count, bytes.len()))?;
     let mut rest = bytes;
     for _ in 0..count {
         let (tx, after) = tx_of(alloc, rest)?;

@@ -6,7 +6,7 @@ use Rattle.ox_block.proofs.reading.txs_times.Goals as goal
 
 pub returns-in_err-tx : goal.returns-in_err-tx
 returns-in_err-tx c =
-    let p = err_from_is_err_and c.from_residual.result c.from_residual.ensures.1 in
+    let p = err_from_is_err_and c.from_residual-in_err-tx.result c.from_residual-in_err-tx.ensures.1 in
     rw (p.1, p.2) (ends tx_at c.in_err-tx.field-0.0 c.loop.txs.items c.args.count c.loop.counter c.loop.rest.now (times tx_at c.args.count c.args.bytes.now) c.loop-test.true c.in_err-tx.ensures c.loop.invariant)
 
 pub loop-preserved : goal.loop-preserved
