@@ -123,7 +123,7 @@ impl<T: Drop> Few<T> {
     }
 }
 
-// Appends to two values at most.
+/// Appends to two values at most.
 fn push_to_few<T: Drop>(alloc: Global, form: &mut Form<T>, value: T) -> Result<(), Memory>
     requires few { length (values_in form.old) ≤ 2 }
     requires form { IsForm form.old }
@@ -144,7 +144,7 @@ fn push_to_few<T: Drop>(alloc: Global, form: &mut Form<T>, value: T) -> Result<(
     Ok(())
 }
 
-// Moves two values and a third to memory of their own.
+/// Moves two values and a third to memory of their own.
 fn push_third<T: Drop>(
     alloc: Global,
     form: &mut Form<T>,

@@ -1,6 +1,6 @@
 //! Reading a block from left to right, one pass, each script copied once.
 
-ghost use Rattle.std.specs.Prelude.{◌≡◌, ◌≤◌, length, Ok, IfOk};
+ghost use Rattle.std.specs.Prelude.{◌≡◌, ◌*◌, ◌≤◌, length, Ok, IfOk};
 ghost use Rattle.ox_bytes.specs.Reading.{Gives, GivesOrMemory, run_at, times, string_at};
 ghost use Rattle.std.specs.List.{list_any};
 ghost use Rattle.ox_block.specs.Spelling.{has_witness};
@@ -77,8 +77,27 @@ fn input_of(alloc: Global, bytes: &[u8]) -> Result<(TxIn, &[u8]), ReadError>
     Ok((input, rest))
 }
 
-/// That many inputs.
-fn inputs_times(alloc: Global, count: u64, bytes: &[u8]) -> Result<(Inputs, &[u8]), ReadError>
+/// One input, kept in place.
+#[tactic(auto, unfolding(ox_bytes::specs::Reading::times))]
+fn one_input(alloc: Global, bytes: &[u8]) -> Result<(Inputs, &[u8]), ReadError>
+    ensures { GivesOrMemory (λ x. (x.0, x.1.now)) result (times input_at 1 bytes.now) }
+{
+    let (input, rest) = input_of(alloc, bytes)?;
+    Ok((Inputs::one(alloc, input), rest))
+}
+
+/// Two inputs, kept in place.
+#[tactic(auto, unfolding(ox_bytes::specs::Reading::times))]
+fn two_inputs(alloc: Global, bytes: &[u8]) -> Result<(Inputs, &[u8]), ReadError>
+    ensures { GivesOrMemory (λ x. (x.0, x.1.now)) result (times input_at 2 bytes.now) }
+{
+    let (first, rest) = input_of(alloc, bytes)?;
+    let (second, rest) = input_of(alloc, rest)?;
+    Ok((Inputs::two(alloc, first, second), rest))
+}
+
+/// Any number of inputs.
+fn inputs_pushed(alloc: Global, count: u64, bytes: &[u8]) -> Result<(Inputs, &[u8]), ReadError>
     ensures { GivesOrMemory (λ x. (x.0, x.1.now)) result (times input_at count bytes.now) }
 {
     let mut inputs = Inputs::new(alloc);
@@ -89,6 +108,17 @@ fn inputs_times(alloc: Global, count: u64, bytes: &[u8]) -> Result<(Inputs, &[u8
         rest = after;
     }
     Ok((inputs, rest))
+}
+
+/// That many inputs.
+fn inputs_times(alloc: Global, count: u64, bytes: &[u8]) -> Result<(Inputs, &[u8]), ReadError>
+    ensures { GivesOrMemory (λ x. (x.0, x.1.now)) result (times input_at count bytes.now) }
+{
+    match count {
+        1 => one_input(alloc, bytes),
+        2 => two_inputs(alloc, bytes),
+        _ => inputs_pushed(alloc, count, bytes),
+    }
 }
 
 #[tactic(auto, unfolding(crate::specs::Reading::inputs_at))]
@@ -123,8 +153,27 @@ fn output_of(alloc: Global, most: u64, bytes: &[u8]) -> Result<(TxOut, &[u8]), R
     Ok((TxOut { value, script }, rest))
 }
 
-/// That many outputs, of at most that many satoshis together.
-fn outputs_times(
+/// One output, kept in place.
+#[tactic(auto, unfolding(crate::specs::Reading::outputs_of))]
+fn one_output(alloc: Global, most: u64, bytes: &[u8]) -> Result<(Outs, &[u8]), ReadError>
+    ensures { GivesOrMemory (λ x. (x.0, x.1.now)) result (outputs_of 1 most bytes.now) }
+{
+    let (output, rest) = output_of(alloc, most, bytes)?;
+    Ok((Outs::one(alloc, output), rest))
+}
+
+/// Two outputs, kept in place.
+#[tactic(auto, unfolding(crate::specs::Reading::outputs_of))]
+fn two_outputs(alloc: Global, most: u64, bytes: &[u8]) -> Result<(Outs, &[u8]), ReadError>
+    ensures { GivesOrMemory (λ x. (x.0, x.1.now)) result (outputs_of 2 most bytes.now) }
+{
+    let (first, rest) = output_of(alloc, most, bytes)?;
+    let (second, rest) = output_of(alloc, most.saturating_sub(first.value), rest)?;
+    Ok((Outs::two(alloc, first, second), rest))
+}
+
+/// Any number of outputs.
+fn outputs_pushed(
     alloc: Global,
     count: u64,
     most: u64,
@@ -142,6 +191,22 @@ fn outputs_times(
         rest = after;
     }
     Ok((outputs, rest))
+}
+
+/// That many outputs, of at most that many satoshis together.
+fn outputs_times(
+    alloc: Global,
+    count: u64,
+    most: u64,
+    bytes: &[u8],
+) -> Result<(Outs, &[u8]), ReadError>
+    ensures { GivesOrMemory (λ x. (x.0, x.1.now)) result (outputs_of count most bytes.now) }
+{
+    match count {
+        1 => one_output(alloc, most, bytes),
+        2 => two_outputs(alloc, most, bytes),
+        _ => outputs_pushed(alloc, count, most, bytes),
+    }
 }
 
 #[tactic(auto, unfolding(crate::specs::Reading::outputs_at))]
@@ -289,9 +354,11 @@ fn tx_of(alloc: Global, bytes: &[u8]) -> Result<(Tx, &[u8]), ReadError>
 /// The bytes of the shortest transaction, with one input and one output and no scripts.
 const LEAST_TX: usize = 60;
 
-/// How many transactions room is taken for before any is read: as many as are told, but no more
-/// than the bytes can hold, which a count that lies doesn't change.
-fn room_for_txs(count: u64, len: usize) -> usize {
+/// How many transactions room is taken for before any is read: as many as the count says, and no
+/// more than that many bytes can hold, whatever the count says.
+fn room_for_txs(count: u64, len: usize) -> usize
+    ensures { result * 60 ≤ len }
+{
     count.min((len / LEAST_TX) as u64) as usize
 }
 

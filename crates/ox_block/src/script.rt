@@ -93,7 +93,7 @@ impl Script {
     }
 }
 
-// These bytes, inside a script.
+/// These bytes, inside a script.
 fn inside(bytes: &[u8]) -> Form
     requires { length bytes.now ≤ 36 }
     ensures bytes { bytes_in result ≡ bytes.now }

@@ -1,7 +1,7 @@
 use Rattle.std.proofs.Common.{◌≡◌, ◌-◌}
 use Rattle.ox_block.specs.Reading.{outputs_of}
 use Rattle.ox_bytes.proofs.TimesLoop.{with_front}
-use Rattle.ox_block.proofs.reading.outputs_times.Given as goal
+use Rattle.ox_block.proofs.reading.outputs_pushed.Given as goal
 
 -- those so far and those to come are all
 abbrev pub invariant-loop : goal.invariant-loop

@@ -2,7 +2,7 @@ use Rattle.std.proofs.lemmas.Result.{err_from_is_err_and}
 use Rattle.ox_bytes.specs.Reading.{times}
 use Rattle.ox_block.specs.Reading.{input_at}
 use Rattle.ox_bytes.proofs.TimesLoop.{goes_on, ends, is_done}
-use Rattle.ox_block.proofs.reading.inputs_times.Goals as goal
+use Rattle.ox_block.proofs.reading.inputs_pushed.Goals as goal
 
 pub returns-in_err-input : goal.returns-in_err-input
 returns-in_err-input c =

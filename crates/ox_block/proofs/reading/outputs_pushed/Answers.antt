@@ -1,7 +1,7 @@
 use Rattle.std.proofs.lemmas.Result.{err_from_is_err_and}
 use Rattle.ox_block.specs.Reading.{outputs_of}
 use Rattle.ox_block.proofs.ReadLoops.{outputs_go_on, outputs_end, outputs_done}
-use Rattle.ox_block.proofs.reading.outputs_times.Goals as goal
+use Rattle.ox_block.proofs.reading.outputs_pushed.Goals as goal
 
 pub returns-in_err-output : goal.returns-in_err-output
 returns-in_err-output c =
