@@ -1,6 +1,5 @@
 use super::*;
-use ox_block::TxOut;
-use ox_bytes::Bytes;
+use ox_block::{Script, TxOut};
 use ox_runestone::{Edict, RuneId};
 use std::alloc::Global;
 use std::process::Abort;
@@ -17,10 +16,9 @@ fn edict(id: RuneId, amount: u128, output: u32) -> Edict {
 }
 
 fn output(rt: &impl Abort, alloc: Global, script: &[u8]) -> TxOut {
-    let script = Vec::from_slice(alloc, script).expect(rt, "memory");
     TxOut {
         value: 546,
-        script: Bytes::from_vec(script),
+        script: Script::copy(alloc, script).expect(rt, "memory"),
     }
 }
 

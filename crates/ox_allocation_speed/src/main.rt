@@ -2,9 +2,9 @@
 //! (`one`, `all` or `pool`), how many edicts or runes there are, and how often it is done.
 #![tactic(auto)]
 
+use anyhow::Context;
 use ox_allocation::{Pool, allocate};
-use ox_block::TxOut;
-use ox_bytes::Bytes;
+use ox_block::{Script, TxOut};
 use ox_runestone::{Edict, RuneId};
 use std::alloc::Global;
 use std::env;
@@ -15,7 +15,7 @@ fn ten_outputs(alloc: Global) -> anyhow::Result<Vec<TxOut>> {
     for _ in 0..10 {
         outputs.push(TxOut {
             value: 546,
-            script: Bytes::empty(alloc),
+            script: Script::copy(alloc, &[]).ok().context("no memory")?,
         })?;
     }
     Ok(outputs)

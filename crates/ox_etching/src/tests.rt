@@ -225,11 +225,11 @@ fn row_of(rt: &impl Abort, alloc: Global, script: &[u8], height: u32) -> OutRow 
 
 /// What that transaction spends: by its second input an output with this script, made at height 4.
 fn rows_of(rt: &impl Abort, alloc: Global, script: &[u8]) -> SpentRows {
-    let mut rows = Vec::new(alloc);
+    let mut rows = SpentRows::new(alloc);
     rows.push(row_of(rt, alloc, TAPROOT, 0))
         .expect(rt, "memory");
     rows.push(row_of(rt, alloc, script, 4)).expect(rt, "memory");
-    SpentRows::from_vec(rows)
+    rows
 }
 
 /// Whether such a transaction in block 9 commits to a name.
@@ -430,7 +430,7 @@ fn names_below_the_least_and_reserved_ones(rt: HostRuntime) {
 fn a_coinbase_commits_to_nothing(rt: HostRuntime) {
     let alloc = rt.alloc();
     let body = body_of(&rt, alloc, &[PUSHES_IT, CONTROL]);
-    let spent = SpentRows::from_vec(Vec::new(alloc));
+    let spent = SpentRows::new(alloc);
     assert!(rt; !commits(&body, &spent, LABTESTS, 9));
 }
 

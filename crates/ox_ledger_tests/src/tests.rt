@@ -5,7 +5,7 @@ ghost use Rattle.ox_ledger.specs.Ledger.{mark_in, runes_in};
 ghost use Rattle.ox_ledger.specs.Moves.{Begins};
 ghost use Rattle.ox_ledger_tests.specs.Came.{Came};
 
-use ox_block::{Inputs, OutPoint, Outs, Tx, TxIn, TxOut, Txid, Witness};
+use ox_block::{Inputs, OutPoint, Outs, Script, Tx, TxIn, TxOut, Txid, Witness};
 use ox_bytes::Bytes;
 use ox_etching::RuneRow;
 use ox_ledger::{Counts, Ledger, RunePart};
@@ -66,10 +66,9 @@ fn lab(rt: &impl Abort, alloc: Global) -> Ledger
 }
 
 fn output(rt: &impl Abort, alloc: Global, script: &[u8]) -> TxOut {
-    let script = Vec::from_slice(alloc, script).expect(rt, "memory");
     TxOut {
         value: 546,
-        script: Bytes::from_vec(script),
+        script: Script::copy(alloc, script).expect(rt, "memory"),
     }
 }
 

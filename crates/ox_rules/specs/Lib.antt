@@ -5,4 +5,3 @@ pub mod Differences
 pub mod Where
 pub mod Newest
 pub mod Text
-pub mod Script

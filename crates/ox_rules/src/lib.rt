@@ -6,7 +6,6 @@ mod moved;
 mod place;
 mod refusal;
 mod rows;
-mod script;
 mod table;
 
 ghost use Rattle.std.specs.Prelude.{◌≡◌};
@@ -15,12 +14,12 @@ ghost use Rattle.ox_rules.specs.declared.rows.OutRow.{OutRow};
 ghost use Rattle.ox_rules.specs.Differences.{Differ, Difference, other_end, reverse_of};
 ghost use Rattle.ox_rules.specs.Outputs.{Outputs};
 
-pub use moved::{Moved, MovedTx, MovedTxs, SpentRows};
+pub use moved::{DisplacedRows, Moved, MovedTx, MovedTxs, SpentRows};
+pub use ox_block::Script;
 pub use ox_bytes::Memory;
 pub use place::Place;
 pub use refusal::{Refusal, hash_text, outpoint_text};
 pub use rows::OutRow;
-pub use script::Script;
 pub use table::{OutTable, TableRows, Unplaced};
 
 /// What differs between two tables of outputs: the rows that are gone and those that came, each by

@@ -1,12 +1,15 @@
 //! What a block's transactions did with satoshis.
 
 use crate::rows::OutRow;
-use ox_block::Txid;
+use ox_block::{Few, Txid};
 use ox_bytes::List;
 use ox_range::Ranges;
 
-/// Rows in order.
-pub type SpentRows = List<OutRow>;
+/// The rows that a transaction spent, in order.
+pub type SpentRows = Few<OutRow>;
+
+/// The rows that a transaction's outputs displaced, in order.
+pub type DisplacedRows = List<OutRow>;
 
 /// What one transaction did.
 #[derive(Debug, Drop)]
@@ -18,7 +21,7 @@ pub struct MovedTx {
     /// Their satoshis, joined in input order; none for the coinbase.
     pub joined: Ranges,
     /// The rows that its outputs displaced, in output order.
-    pub displaced: SpentRows,
+    pub displaced: DisplacedRows,
 }
 
 /// What transactions did, in block order.

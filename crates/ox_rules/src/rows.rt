@@ -2,7 +2,7 @@
 
 ghost use Rattle.std.specs.Prelude.{◌≡◌, IfOk};
 
-use crate::script::Script;
+use ox_block::Script;
 use ox_bytes::Memory;
 use ox_range::Ranges;
 use std::alloc::Global;
@@ -24,7 +24,7 @@ impl OutRow {
         ensures { IfOk result (λ row. row ≡ self.now) }
     {
         Ok(OutRow {
-            script: Script::copy(alloc, self.script.as_slice())?,
+            script: self.script.try_clone(alloc)?,
             height: self.height,
             sats: self.sats.copy(alloc)?,
         })

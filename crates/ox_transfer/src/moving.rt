@@ -17,7 +17,7 @@ use crate::place::place_outputs;
 use crate::spend::{Work, spend_txs};
 use ox_block::{Block, Tx, Txid, Txids};
 use ox_range::Ranges;
-use ox_rules::{Moved, MovedTx, MovedTxs, OutTable, Refusal, SpentRows};
+use ox_rules::{DisplacedRows, Moved, MovedTx, MovedTxs, OutTable, Refusal, SpentRows};
 use ox_sat::{Profile, first, subsidy};
 use std::alloc::Global;
 
@@ -63,9 +63,9 @@ fn claim_all<O: OutTable>(
     work.lost.join(&rest)?;
     let entry = MovedTx {
         txid: id,
-        spent: SpentRows::from_vec(Vec::new(alloc)),
+        spent: SpentRows::new(alloc),
         joined: Ranges::empty(alloc),
-        displaced: SpentRows::from_vec(displaced),
+        displaced: DisplacedRows::from_vec(displaced),
     };
     work.moved.insert(0, entry)?;
     Ok(Moved {

@@ -11,7 +11,7 @@ ghost use Rattle.ox_transfer.specs.Parts.{placed_of};
 
 use ox_block::{OutPoint, TxOut, Txid};
 use ox_range::Ranges;
-use ox_rules::{Memory, OutRow, OutTable, Script};
+use ox_rules::{Memory, OutRow, OutTable};
 use std::alloc::Global;
 
 /// Places a row. One that it displaces goes to the displaced ones, and its satoshis are lost.
@@ -68,7 +68,7 @@ pub(crate) fn place_outputs<O: OutTable>(
             unreachable!()
         };
         let row = OutRow {
-            script: Script::copy(alloc, output.script.as_slice())?,
+            script: output.script.try_clone(alloc)?,
             height,
             sats,
         };

@@ -16,7 +16,7 @@ use crate::place::place_outputs;
 use crate::take::take_inputs;
 use ox_block::{Tx, Txid};
 use ox_range::Ranges;
-use ox_rules::{MovedTx, OutTable, Refusal, SpentRows};
+use ox_rules::{DisplacedRows, MovedTx, OutTable, Refusal};
 use std::alloc::Global;
 
 /// What transactions did so far: their entries, the satoshis that are lost by displacement, and the
@@ -74,9 +74,9 @@ fn spend_tx<O: OutTable>(
     work.fees.join(&rest)?;
     work.moved.push(MovedTx {
         txid: id,
-        spent: SpentRows::from_vec(taken.rows),
+        spent: taken.rows,
         joined,
-        displaced: SpentRows::from_vec(displaced),
+        displaced: DisplacedRows::from_vec(displaced),
     })?;
     Ok(())
 }

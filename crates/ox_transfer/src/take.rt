@@ -12,13 +12,13 @@ ghost use Rattle.ox_transfer.specs.Parts.{taken_of};
 use crate::fault::TransferFault;
 use ox_block::{OutPoint, TxIn};
 use ox_range::Ranges;
-use ox_rules::{OutRow, OutTable, Refusal};
+use ox_rules::{OutRow, OutTable, Refusal, SpentRows};
 use std::alloc::Global;
 
 /// Rows that were taken out of the table, and their satoshis, joined.
 #[derive(Drop)]
 pub(crate) struct TakenRows {
-    pub(crate) rows: Vec<OutRow>,
+    pub(crate) rows: SpentRows,
     pub(crate) sats: Ranges,
 }
 
@@ -50,12 +50,12 @@ pub(crate) fn take_inputs<O: OutTable>(
 ) -> Result<TakenRows, TransferFault>
     requires few { length inputs.now ≤ most_bytes }
     requires apart { Apart (2 ^ 63) (O.contents table.old) [] }
-    ensures taken { Answers (λ taken. taken_of taken.rows.items (O.contents table.new)) result
+    ensures taken { Answers (λ taken. taken_of taken.rows (O.contents table.new)) result
         (take_rows tx 0 inputs.now (O.contents table.old)) }
-    ensures joined { IfOk result (λ taken. taken.sats ≡ sats_of taken.rows.items) }
+    ensures joined { IfOk result (λ taken. taken.sats ≡ sats_of taken.rows) }
     ensures mark { O.marked table.new ≡ O.marked table.old }
 {
-    let mut rows = Vec::with_capacity(alloc, inputs.len())?;
+    let mut rows = SpentRows::new(alloc);
     let mut sats = Ranges::empty(alloc);
     for (place, input) in inputs.iter().enumerate() {
         let row = take_row(table, tx, place as u32, &input.from)?;

@@ -46,7 +46,7 @@ returns-clause-claimed g c =
     let dealt = rw c.as_slice-outputs.ensures at c.in_ok-rest.ensures in
     let placed = rw c.as_slice-outputs.ensures at c.in_ok-displaced.ensures.rows in
     claimed_whole c.args.p.now c.args.height c.args.coinbase.now (g.O.OutTable.contents c.args.table.now) (g.O.OutTable.contents c.place_outputs.new.table) c.in_ok-displaced.displaced.items c.join.new.self c.in_ok-rest.rest
-    c.args.work.lost c.place_outputs.new.lost c.join-2.new.self c.args.work.fees (reverse c.deal_out.new.parts.items) c.args.work.moved.items c.from_vec-3.result c.args.id c.from_vec.result c.empty.result
+    c.args.work.lost c.place_outputs.new.lost c.join-2.new.self c.args.work.fees (reverse c.deal_out.new.parts.items) c.args.work.moved.items c.from_vec-2.result c.args.id c.new.result c.empty.result
     (claimable_is c.args.p.now c.args.height c.args.work.fees c.in_ok-sats.sats c.join.new.self new c.in_ok-join.ensures.ok) dealt c.requires.id placed c.in_ok-displaced.ensures.lost c.in_ok-join-2.ensures.ok
-    (c.from_vec.ensures ∙ c.new.ensures.items) c.empty.ensures
-    (c.from_vec-3.ensures ∙ (c.in_ok-insert.ensures.items ∙ λ i. record { txid = c.args.id; spent = c.from_vec.result; joined = c.empty.result; displaced = c.from_vec-2.ensures i } ∷ c.args.work.moved.items))
+    c.new.ensures c.empty.ensures
+    (c.from_vec-2.ensures ∙ (c.in_ok-insert.ensures.items ∙ λ i. record { txid = c.args.id; spent = c.new.result; joined = c.empty.result; displaced = c.from_vec.ensures i } ∷ c.args.work.moved.items))

@@ -20,7 +20,7 @@ place_row-requires g c = record {
 pub loop-index-preserved : goal.loop-index-preserved
 loop-index-preserved g c = record {
   so_far = place_more c.args.height c.args.txid c.loop-index.index c.args.outputs.now c.loop-index.parts.items c.pop.new.self.items _ _ _ _ c.index-outputs-index.result c.in-Some.sats _ c.loop-index-test.true c.index-outputs-index.is c.in-Some.ensures.items
-      (c.in_ok-place_row.ensures.table ∙ ap (λ (script : List ℕ). map.insert (g.O.OutTable.contents c.loop-index.table) (record { txid = c.args.txid; index = c.loop-index.index }) (record { script = script; height = c.args.height; sats = c.in-Some.sats })) (c.in_ok-copy.ensures.bytes ∙ c.as_slice.ensures)) c.in_ok-place_row.ensures.rows c.loop-index.invariant.so_far;
+      (c.in_ok-place_row.ensures.table ∙ ap (λ (script : List ℕ). map.insert (g.O.OutTable.contents c.loop-index.table) (record { txid = c.args.txid; index = c.loop-index.index }) (record { script = script; height = c.args.height; sats = c.in-Some.sats })) c.in_ok-try_clone.ensures.bytes) c.in_ok-place_row.ensures.rows c.loop-index.invariant.so_far;
   each = fewer c.loop-index.parts.items c.pop.new.self.items c.in-Some.sats _ _ c.in-Some.ensures.items c.loop-index.invariant.each;
   gone = lost_more _ _ _ _ _ _ c.in_ok-place_row.ensures.rows c.loop-index.invariant.gone c.in_ok-place_row.ensures.lost;
   apart = apart_onward _ _ _ _ c.loop-index.parts.items c.pop.new.self.items c.in-Some.sats _ _ c.in-Some.ensures.items refl c.in_ok-place_row.ensures.table c.in_ok-place_row.ensures.lost c.loop-index.invariant.apart;

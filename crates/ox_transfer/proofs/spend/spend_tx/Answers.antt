@@ -23,7 +23,7 @@ pub returns-then-held-total-clause-spent : goal.returns-then-held-total-clause-s
 returns-then-held-total-clause-spent g c =
     let took = rw c.as_slice.ensures at c.in_ok-taken.ensures.taken in
     let sum_is = rw c.as_slice-outputs.ensures at c.value_sum-total.ensures in
-    too_much c.args.height c.args.place c.args.tx.now (g.O.OutTable.contents c.args.table.now) _ (spent_of c.args.work.now (g.O.OutTable.contents c.args.table.now)) c.in_ok-taken.taken.rows.items c.in_ok-taken.taken.sats _ _ took c.in_ok-taken.ensures.joined c.len-held.ensures sum_is c.if-held-total.true
+    too_much c.args.height c.args.place c.args.tx.now (g.O.OutTable.contents c.args.table.now) _ (spent_of c.args.work.now (g.O.OutTable.contents c.args.table.now)) c.in_ok-taken.taken.rows c.in_ok-taken.taken.sats _ _ took c.in_ok-taken.ensures.joined c.len-held.ensures sum_is c.if-held-total.true
 
 pub place_outputs-requires : goal.place_outputs-requires
 place_outputs-requires g c =
@@ -32,24 +32,24 @@ place_outputs-requires g c =
       few = rw c.as_slice-outputs.ensures c.requires.counted.outputs;
       each = as_many c.in_ok-taken.taken.sats _ _ _ c.in_ok-rest.ensures ∙ length-values c.as_slice-outputs.result.now;
       apart = apart_dealt _ c.in_ok-taken.taken.sats _ hand c.args.work.now.lost _ _ c.in_ok-rest.ensures (λ sat. omega (arith, times-append sat c.args.work.now.lost c.args.work.now.fees))
-          (apart_taken c.args.place c.args.tx.now (g.O.OutTable.contents c.args.table.now) _ c.in_ok-taken.taken.rows.items c.in_ok-taken.taken.sats hand took c.in_ok-taken.ensures.joined c.requires.apart);
+          (apart_taken c.args.place c.args.tx.now (g.O.OutTable.contents c.args.table.now) _ c.in_ok-taken.taken.rows c.in_ok-taken.taken.sats hand took c.in_ok-taken.ensures.joined c.requires.apart);
     }
 
 pub join-requires : goal.join-requires
 join-requires g c =
     let took = rw c.as_slice.ensures at c.in_ok-taken.ensures.taken in
     fits_behind _ c.in_ok-taken.taken.sats _ c.args.work.now.fees c.args.work.now.lost _ _ c.in_ok-rest.ensures
-    (apart_taken c.args.place c.args.tx.now (g.O.OutTable.contents c.args.table.now) (g.O.OutTable.contents c.take_inputs.new.table) c.in_ok-taken.taken.rows.items c.in_ok-taken.taken.sats (c.args.work.now.lost ++ c.args.work.now.fees) took c.in_ok-taken.ensures.joined c.requires.apart)
+    (apart_taken c.args.place c.args.tx.now (g.O.OutTable.contents c.args.table.now) (g.O.OutTable.contents c.take_inputs.new.table) c.in_ok-taken.taken.rows c.in_ok-taken.taken.sats (c.args.work.now.lost ++ c.args.work.now.fees) took c.in_ok-taken.ensures.joined c.requires.apart)
 
 pub returns-clause-spent : goal.returns-clause-spent
 returns-clause-spent g c =
     let took = rw c.as_slice.ensures at c.in_ok-taken.ensures.taken in
     let dealt = rw c.as_slice-outputs.ensures at c.in_ok-rest.ensures in
     let placed = rw c.as_slice-outputs.ensures at c.in_ok-displaced.ensures.rows in
-    spent_whole c.args.height c.args.place c.args.tx.now (g.O.OutTable.contents c.args.table.now) (g.O.OutTable.contents c.take_inputs.new.table) (g.O.OutTable.contents c.place_outputs.new.table) c.in_ok-taken.taken.rows.items c.in_ok-displaced.displaced.items c.in_ok-taken.taken.sats c.in_ok-joined.joined c.in_ok-rest.rest
+    spent_whole c.args.height c.args.place c.args.tx.now (g.O.OutTable.contents c.args.table.now) (g.O.OutTable.contents c.take_inputs.new.table) (g.O.OutTable.contents c.place_outputs.new.table) c.in_ok-taken.taken.rows c.in_ok-displaced.displaced.items c.in_ok-taken.taken.sats c.in_ok-joined.joined c.in_ok-rest.rest
     c.args.work.now.lost c.place_outputs.new.lost c.args.work.now.fees c.join.new.self (reverse c.deal_out.new.parts.items) c.args.work.now.moved.items c.push.new.self.items c.args.id
     took c.in_ok-taken.ensures.joined dealt c.requires.id placed c.in_ok-joined.ensures c.in_ok-displaced.ensures.lost c.in_ok-join.ensures.ok
-    (c.in_ok-push.ensures.items ∙ λ i. c.args.work.now.moved.items ++ record { txid = c.args.id; spent = c.from_vec.ensures i; joined = c.in_ok-joined.joined; displaced = c.from_vec-2.ensures i } ∷ [])
+    (c.in_ok-push.ensures.items ∙ λ i. c.args.work.now.moved.items ++ record { txid = c.args.id; spent = c.in_ok-taken.taken.rows; joined = c.in_ok-joined.joined; displaced = c.from_vec.ensures i } ∷ [])
 
 pub returns-clause-apart : goal.returns-clause-apart
 returns-clause-apart g c = apart_spent c.args.height c.args.place c.args.tx.now (spent_of c.args.work.now (g.O.OutTable.contents c.args.table.now)) (spent_of (record { moved = c.push.new.self; lost = c.place_outputs.new.lost; fees = c.join.new.self; parts = c.place_outputs.new.parts }) (g.O.OutTable.contents c.place_outputs.new.table)) (returns-clause-spent g c) c.requires.apart

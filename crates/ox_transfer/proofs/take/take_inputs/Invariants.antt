@@ -8,8 +8,8 @@ use Rattle.ox_transfer.proofs.take.take_inputs.Given as goal
 -- the rows so far, and what the rest gives
 abbrev pub invariant-loop-place : goal.invariant-loop-place
 invariant-loop-place g l = record {
-  so_far : take_rows l.tx 0 l.inputs (g.O.OutTable.contents l.initial.table) ≡ behind_rows l.rows.items (take_rows l.tx l.place (drop l.place l.inputs) (g.O.OutTable.contents l.table));
-  joined : l.sats ≡ sats_of l.rows.items;
+  so_far : take_rows l.tx 0 l.inputs (g.O.OutTable.contents l.initial.table) ≡ behind_rows l.rows (take_rows l.tx l.place (drop l.place l.inputs) (g.O.OutTable.contents l.table));
+  joined : l.sats ≡ sats_of l.rows;
   apart : Apart (2 ^ 63) (g.O.OutTable.contents l.table) l.sats;
   mark : g.O.OutTable.marked l.table ≡ g.O.OutTable.marked l.initial.table;
 }
