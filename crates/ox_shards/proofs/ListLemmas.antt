@@ -4,13 +4,18 @@ use Rattle.std.specs.Prelude.{IsSome, not, ◌||◌}
 use Rattle.std.specs.Ordering.{is_eq, eq_by_cmp}
 use Rattle.std.specs.Cmp.{IsTotalOrder, IsEquivalence, eq_by_cmp_equiv}
 use Rattle.std.specs.Option.{option_or}
-use Rattle.std.specs.List.{AllByRecursion, IsDistinct, list_any, position, position_or_len, remove}
-use Rattle.std.specs.Map.{lookup, keys_of, set_value, remove_entry}
+use Rattle.std.specs.List.{AllByRecursion, Contains, IsDistinct, list_any, position, position_or_len}
+use Rattle.std.specs.List.Sorted.{IsPermutation}
+use Rattle.std.specs.Map.{lookup, keys_of, set_value}
 use Rattle.std.specs.BTreeMap.{is_at}
+use Rattle.std.proofs.lemmas.Bool.{le-ltb, lt-ltb}
 use Rattle.std.proofs.lemmas.List.{map-append}
 use Rattle.std.proofs.lemmas.List.Quantifiers.{position-Some}
-use Rattle.std.proofs.lemmas.Map.{lookup-set_value, lookup-remove_entry, keys-set_value}
-use Rattle.std.proofs.lemmas.Map.Keys.{IsDistinct-head, IsDistinct-tail, IsDistinct-cons, IsDistinct-push}
+use Rattle.std.proofs.lemmas.List.Sorted.{Contains-permutation, IsPermutation-map, IsPermutation-sym}
+use Rattle.std.proofs.lemmas.List.Sums.{position_or_len_is}
+use Rattle.std.proofs.lemmas.Map.{lookup-set_value, keys-set_value}
+use Rattle.std.proofs.lemmas.Map.Keys.{IsDistinct-head, IsDistinct-tail, IsDistinct-push, IsDistinct-IsPermutation}
+use Rattle.std.proofs.lemmas.Map.Views.{lookup-from_Contains}
 use Rattle.ox_shards.specs.Shards.{Entries, value_at, value_with, IsSound, Changes}
 
 equal : (r : Ordering) → is_eq r ≡ true → r ≡ Equal
@@ -74,21 +79,12 @@ module _ {K V : Type 0} (test : K → Bool) where
       value_there es i d (behind e es i at)
       ∙ sym (ap (λ (b : Bool). cond b (Some e.1) (lookup test es)) (at.before zero e (omega arith)))
 
-  value_set : (es : List (K × V)) (i : ℕ) (x : K × V) (w : V) → x ≡ get_or es i x → IsPlace es i → slice_set es i (x.0, w) ≡ set_value test es w
-  value_set [] i x w is at = absurd (omega (arith, at.low))
-  value_set (e ∷ es) zero x w is at =
-      ap (λ (y : K × V). (y.0, w) ∷ es) is
-      ∙ sym (ap (λ (b : Bool). cond b ((e.0, w) ∷ es) (e ∷ set_value test es w)) (at.passes e))
-  value_set (e ∷ es) (suc i) x w is at =
-      ap (λ (l : List (K × V)). e ∷ l) (value_set es i x w is (behind e es i at))
+  value_set : (es : List (K × V)) (i : ℕ) (d : K × V) (w : V) → IsPlace es i → slice_set es i ((get_or es i d).0, w) ≡ set_value test es w
+  value_set [] i d w at = absurd (omega (arith, at.low))
+  value_set (e ∷ es) zero d w at = sym (ap (λ (b : Bool). cond b ((e.0, w) ∷ es) (e ∷ set_value test es w)) (at.passes e))
+  value_set (e ∷ es) (suc i) d w at =
+      ap (λ (l : List (K × V)). e ∷ l) (value_set es i d w (behind e es i at))
       ∙ sym (ap (λ (b : Bool). cond b ((e.0, w) ∷ es) (e ∷ set_value test es w)) (at.before zero e (omega arith)))
-
-  entry_removed : (es : List (K × V)) (i : ℕ) → IsPlace es i → remove es i ≡ remove_entry test es
-  entry_removed [] i at = absurd (omega (arith, at.low))
-  entry_removed (e ∷ es) zero at = sym (ap (λ (b : Bool). cond b es (e ∷ remove_entry test es)) (at.passes e))
-  entry_removed (e ∷ es) (suc i) at =
-      ap (λ (l : List (K × V)). e ∷ l) (entry_removed es i (behind e es i at))
-      ∙ sym (ap (λ (b : Bool). cond b es (e ∷ remove_entry test es)) (at.before zero e (omega arith)))
 
   nowhere : (es : List (K × V)) → length es ≤ position_or_len (λ e. test e.0) es → lookup test es ≡ None
   nowhere [] high = refl
@@ -120,19 +116,60 @@ module _ {K V : Type 0} (test : K → Bool) where
     by true rest = refl
     by false rest = rest
 
-  fewer : (P : K → Type 0) (es : List (K × V)) → AllByRecursion P (keys_of es) → AllByRecursion P (keys_of (remove_entry test es))
-  fewer P [] all = tt
-  fewer P (e ∷ es) all = by (test e.0) (fewer P es all.1) where
-    by : (b : Bool) → AllByRecursion P (keys_of (remove_entry test es)) → AllByRecursion P (keys_of (cond b es (e ∷ remove_entry test es)))
-    by true rest = all.1
-    by false rest = (all.0, rest)
+  -- the first place that passes
+  pub first_place : (es : List (K × V)) (i : ℕ) (d : K × V) → i < length es → ((k : ℕ) → k < i → test (get_or es k d).0 ≡ false) → test (get_or es i d).0 ≡ true → Some i ≡ position (λ e. test e.0) es
+  first_place es i d low before passes =
+      let is : position_or_len (λ (e : K × V). test e.0) es ≡ i = position_or_len_is (λ (e : K × V). test e.0) es i d (omega (arith, low)) before (λ _. passes) in
+      subst (λ (n : ℕ). Some i ≡ cond (nat_lt n (length es)) (Some n) None) (sym is) (sym (ap (λ (b : Bool). cond b (Some i) None) (lt-ltb i (length es) low)))
 
-  still_distinct : (eq : K → K → Bool) (es : List (K × V)) → IsDistinct eq (keys_of es) → IsDistinct eq (keys_of (remove_entry test es))
-  still_distinct eq [] all = all
-  still_distinct eq (e ∷ es) all = by (test e.0) (still_distinct eq es (IsDistinct-tail eq e.0 (keys_of es) all)) where
-    by : (b : Bool) → IsDistinct eq (keys_of (remove_entry test es)) → IsDistinct eq (keys_of (cond b es (e ∷ remove_entry test es)))
-    by true rest = IsDistinct-tail eq e.0 (keys_of es) all
-    by false rest = IsDistinct-cons eq e.0 (keys_of (remove_entry test es)) (fewer (λ y. eq e.0 y ≡ false) es (IsDistinct-head eq e.0 (keys_of es) all)) rest
+  -- where none passes
+  pub no_place : (es : List (K × V)) → ((k : ℕ) → k < length es → (d : K × V) → test (get_or es k d).0 ≡ false) → None ≡ position (λ e. test e.0) es
+  no_place [] none = refl
+  no_place (e ∷ es) none =
+      let all = suc (length es) in
+      let is : position_or_len (λ (e : K × V). test e.0) (e ∷ es) ≡ all = position_or_len_is (λ (e : K × V). test e.0) (e ∷ es) all e (omega arith) (λ k low. none k low e) (λ low. absurd (omega (arith, low))) in
+      subst (λ (n : ℕ). None ≡ cond (nat_lt n all) (Some n) None) (sym is) (sym (ap (λ (b : Bool). cond b (Some all) None) (le-ltb all all (omega arith))))
+
+-- ---- entries in another order
+
+module _ {K V : Type 0} {eq : K → K → Bool} (laws : IsEquivalence eq) (q : K) where
+  -- an entry with an equal key and this value
+  record IsEntry (es : List (K × V)) (v : V) : Type 0 where
+    key : K
+    same : eq q key ≡ true
+    stands : Contains es (key, v)
+
+  found : (es : List (K × V)) (v : V) → lookup (eq q) es ≡ Some v → IsEntry es v
+  found [] v is = absurd (cc is)
+  found (e ∷ es) v is = by (eq q e.0) refl is (found es v) where
+    by : (b : Bool) → eq q e.0 ≡ b → cond b (Some e.1) (lookup (eq q) es) ≡ Some v → (lookup (eq q) es ≡ Some v → IsEntry es v) → IsEntry (e ∷ es) v
+    by true same is rest = record { key = e.0; same = same; stands = (zero, omega arith, ap (λ (w : V). (e.0, w)) (cc is)) }
+    by false other is rest =
+        let at = rest is in
+        record { key = at.key; same = at.same; stands = (suc at.stands.0, omega (arith, at.stands.1), at.stands.2) }
+
+  module _ (xs ys : List (K × V)) (moved : IsPermutation xs ys) (distinct : IsDistinct eq (keys_of xs)) where
+    pub still_distinct : IsDistinct eq (keys_of ys)
+    still_distinct = IsDistinct-IsPermutation eq laws.symm (keys_of xs) (keys_of ys) (IsPermutation-map (λ (e : K × V). e.0) xs ys moved) distinct
+
+    still_found : (v : V) → lookup (eq q) xs ≡ Some v → lookup (eq q) ys ≡ Some v
+    still_found v is =
+        let at = found xs v is in
+        ap (λ (test : K → Bool). lookup test ys) (λ i z. laws.congr q at.key z at.same i)
+        ∙ lookup-from_Contains laws at.key v ys still_distinct (Contains-permutation xs ys (at.key, v) moved at.stands)
+
+  -- a key has the same value, in whatever order the entries stand
+  pub same_value : (xs ys : List (K × V)) → IsPermutation xs ys → IsDistinct eq (keys_of xs) → lookup (eq q) xs ≡ lookup (eq q) ys
+  same_value xs ys moved distinct = by (lookup (eq q) xs) (lookup (eq q) ys) refl refl where
+    by : (a b : Option V) → lookup (eq q) xs ≡ a → lookup (eq q) ys ≡ b → a ≡ b
+    by None None is it = refl
+    by (Some v) b is it = sym (still_found xs ys moved distinct v is) ∙ it
+    by None (Some v) is it = sym is ∙ still_found ys xs (IsPermutation-sym xs ys moved) (still_distinct xs ys moved distinct) v it
+
+-- no key of entries passes
+none_passes : {K V : Type 0} (test : K → Bool) (es : List (K × V)) → AllByRecursion (λ k. test k ≡ false) (keys_of es) → lookup test es ≡ None
+none_passes test [] all = refl
+none_passes test (e ∷ es) all = ap (λ (b : Bool). cond b (Some e.1) (lookup test es)) all.0 ∙ none_passes test es all.1
 
 -- ---- changes at a key
 
@@ -148,10 +185,10 @@ module _ {K V : Type 0} {cmp : K → K → Ordering} (o : IsTotalOrder cmp) (lis
   one x y is = laws.congr key x y is
 
   -- the value at the place of the key is another one
-  pub changed_in_list : (i : ℕ) (x : K × V) (w : V) → position (λ e. is_at (cmp key) e.0) list ≡ Some i → x ≡ get_or list i x
-      → Changes cmp list others (slice_set list i (x.0, w)) others key (Some w)
-  changed_in_list i x w at is =
-      subst (λ (l : Entries K V). Changes cmp list others l others key (Some w)) (sym (value_set (is_at (cmp key)) list i x w is (is_place (is_at (cmp key)) list i at x)))
+  pub changed_in_list : (i : ℕ) (x : K × V) (w : V) → position (λ e. is_at (cmp key) e.0) list ≡ Some i
+      → Changes cmp list others (slice_set list i ((get_or list i x).0, w)) others key (Some w)
+  changed_in_list i x w at =
+      subst (λ (l : Entries K V). Changes cmp list others l others key (Some w)) (sym (value_set (is_at (cmp key)) list i x w (is_place (is_at (cmp key)) list i at x)))
       (record {
         sound = record {
           distinct = subst (IsDistinct (eq_by_cmp cmp)) (sym (keys-set_value (is_at (cmp key)) list w)) sound.distinct;
@@ -172,28 +209,41 @@ module _ {K V : Type 0} {cmp : K → K → Ordering} (o : IsTotalOrder cmp) (lis
       by q true same some = sound.apart q (subst IsSome (sym (alike list q same)) there)
       by q false other some = sound.apart q (subst IsSome (now q ∙ ap (λ (b : Bool). cond b (Some w) (value_at cmp list q)) other) some)
 
-  -- the entry at the place of the key is gone
-  pub gone_from_list : (i : ℕ) (x : K × V) → position (λ e. is_at (cmp key) e.0) list ≡ Some i → Changes cmp list others (remove list i) others key None
-  gone_from_list i x at =
-      subst (λ (l : Entries K V). Changes cmp list others l others key None) (sym (entry_removed (is_at (cmp key)) list i (is_place (is_at (cmp key)) list i at x)))
-      (record {
-        sound = record {
-          distinct = still_distinct (is_at (cmp key)) (eq_by_cmp cmp) list sound.distinct;
-          apart = λ q some. by q (is_eq (cmp key q)) refl some;
-        };
-        here = λ q same.
-            none_or _ _ (now q ∙ ap (λ (b : Bool). cond b None (value_at cmp list q)) same)
-            ∙ alike others q same ∙ sound.apart key (is_there (value_at cmp list key) _ (found_value (is_at (cmp key)) list i x at));
-        in_list = λ q other. now q ∙ ap (λ (b : Bool). cond b None (value_at cmp list q)) other;
-        in_others = λ q other. refl;
-      })
-    where
-      now : (q : K) → value_at cmp (remove_entry (is_at (cmp key)) list) q ≡ cond (is_eq (cmp key q)) None (value_at cmp list q)
-      now q = lookup-remove_entry laws (is_at (cmp key)) one q list sound.distinct
+  -- the entry at the place of the key is gone, and the others stand in some order
+  pub gone_from_list : (i : ℕ) (x : K × V) (new : Entries K V) → position (λ e. is_at (cmp key) e.0) list ≡ Some i → IsPermutation list (get_or list i x ∷ new) → Changes cmp list others new others key None
+  gone_from_list i x new at moved = record {
+    sound = record {
+      distinct = IsDistinct-tail (eq_by_cmp cmp) e.0 (keys_of new) all;
+      apart = λ q some. by q (is_eq (cmp key q)) refl some;
+    };
+    here = λ q same.
+        none_or _ _ (gone q same) ∙ alike others q same
+        ∙ sound.apart key (is_there (value_at cmp list key) _ (found_value (is_at (cmp key)) list i x at));
+    in_list = left;
+    in_others = λ q other. refl;
+  } where
+    e : K × V
+    e = get_or list i x
 
-      by : (q : K) (b : Bool) → is_eq (cmp key q) ≡ b → IsSome (value_at cmp (remove_entry (is_at (cmp key)) list) q) → value_at cmp others q ≡ None
-      by q true same some = absurd (no_value _ (now q ∙ ap (λ (b : Bool). cond b None (value_at cmp list q)) same) some)
-      by q false other some = sound.apart q (subst IsSome (now q ∙ ap (λ (b : Bool). cond b None (value_at cmp list q)) other) some)
+    its_key : is_at (cmp key) e.0 ≡ true
+    its_key = (is_place (is_at (cmp key)) list i at x).passes x
+
+    all : IsDistinct (eq_by_cmp cmp) (keys_of (e ∷ new))
+    all = still_distinct laws key list (e ∷ new) moved sound.distinct
+
+    gone : (q : K) → is_eq (cmp key q) ≡ true → value_at cmp new q ≡ None
+    gone q same =
+        alike new q same ∙ sym (alike new e.0 its_key)
+        ∙ none_passes (eq_by_cmp cmp e.0) new (IsDistinct-head (eq_by_cmp cmp) e.0 (keys_of new) all)
+
+    left : (q : K) → is_eq (cmp key q) ≡ false → value_at cmp new q ≡ value_at cmp list q
+    left q other =
+        sym (ap (λ (b : Bool). cond b (Some e.1) (value_at cmp new q)) (laws.symm q e.0 ∙ sym (laws.congr key e.0 q its_key) ∙ other))
+        ∙ sym (same_value laws q list (e ∷ new) moved sound.distinct)
+
+    by : (q : K) (b : Bool) → is_eq (cmp key q) ≡ b → IsSome (value_at cmp new q) → value_at cmp others q ≡ None
+    by q true same some = absurd (no_value _ (gone q same) some)
+    by q false other some = sound.apart q (subst IsSome (left q other) some)
 
   module _ (absent : value_at cmp list key ≡ None) where
     -- the key has this value in the ordered map now, or none

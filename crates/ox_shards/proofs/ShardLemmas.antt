@@ -3,7 +3,6 @@ use Rattle.std.proofs.Common.{◌≡◌, ◌≢◌, ◌∙◌, ℕ, zero, suc, �
 use Rattle.std.specs.Prelude.{◌⊎◌, IsSome, OnOk, OnErr}
 use Rattle.std.specs.declared.result.Result.{Result}
 use Rattle.std.specs.declared.result.Result.TheVariants.{Ok, Err}
-use Rattle.std.specs.Global.{Vec}
 use Rattle.std.specs.Ordering.{is_eq}
 use Rattle.std.specs.Option.{option_or}
 use Rattle.std.specs.List.{IsDistinct}
@@ -24,34 +23,34 @@ both_none (x ∷ a) b is = absurd (cc is)
 
 module _ {K V : Type 0} where
   -- the list that has changed, and another one
-  set_here : (lists : List (Vec (K × V))) (i : ℕ) (n : Vec (K × V)) → i < length lists → items_at (slice_set lists i n) i ≡ n.items
+  set_here : (lists : List (Entries K V)) (i : ℕ) (n : Entries K V) → i < length lists → items_at (slice_set lists i n) i ≡ n
   set_here [] i n low = absurd (omega arith)
   set_here (l ∷ lists) zero n low = refl
   set_here (l ∷ lists) (suc i) n low = set_here lists i n (omega arith)
 
-  set_elsewhere : (lists : List (Vec (K × V))) (i j : ℕ) (n : Vec (K × V)) → i ≢ j → items_at (slice_set lists i n) j ≡ items_at lists j
+  set_elsewhere : (lists : List (Entries K V)) (i j : ℕ) (n : Entries K V) → i ≢ j → items_at (slice_set lists i n) j ≡ items_at lists j
   set_elsewhere [] i j n other = refl
   set_elsewhere (l ∷ lists) zero zero n other = absurd (other refl)
   set_elsewhere (l ∷ lists) zero (suc j) n other = refl
   set_elsewhere (l ∷ lists) (suc i) zero n other = refl
   set_elsewhere (l ∷ lists) (suc i) (suc j) n other = set_elsewhere lists i j n (λ same. other (ap suc same))
 
-  items_there : (lists : List (Vec (K × V))) (i : ℕ) (p : Vec (K × V)) → i < length lists → p ≡ get_or lists i p → items_at lists i ≡ p.items
+  items_there : (lists : List (Entries K V)) (i : ℕ) (p : Entries K V) → i < length lists → p ≡ get_or lists i p → items_at lists i ≡ p
   items_there [] i p low is = absurd (omega arith)
-  items_there (l ∷ lists) zero p low is = ap (λ (v : Vec (K × V)). v.items) (sym is)
+  items_there (l ∷ lists) zero p low is = sym is
   items_there (l ∷ lists) (suc i) p low is = items_there lists i p (omega arith) is
 
   -- a list in whose place one with the same entries stands
-  same_joined : (lists : List (Vec (K × V))) (i : ℕ) (p n : Vec (K × V)) → i < length lists → p ≡ get_or lists i p → n.items ≡ p.items → joined (slice_set lists i n) ≡ joined lists
+  same_joined : (lists : List (Entries K V)) (i : ℕ) (p n : Entries K V) → i < length lists → p ≡ get_or lists i p → n ≡ p → joined (slice_set lists i n) ≡ joined lists
   same_joined [] i p n low there same = absurd (omega arith)
-  same_joined (l ∷ lists) zero p n low there same = ap (λ (es : Entries K V). es ++ joined lists) (same ∙ ap (λ (v : Vec (K × V)). v.items) there)
-  same_joined (l ∷ lists) (suc i) p n low there same = ap (λ (es : Entries K V). l.items ++ es) (same_joined lists i p n (omega arith) there same)
+  same_joined (l ∷ lists) zero p n low there same = ap (λ (es : Entries K V). es ++ joined lists) (same ∙ there)
+  same_joined (l ∷ lists) (suc i) p n low there same = ap (λ (es : Entries K V). l ++ es) (same_joined lists i p n (omega arith) there same)
 
   -- each of lists that have no entries has none
-  pub nothing_at : (lists : List (Vec (K × V))) (i : ℕ) → joined lists ≡ [] → items_at lists i ≡ []
+  pub nothing_at : (lists : List (Entries K V)) (i : ℕ) → joined lists ≡ [] → items_at lists i ≡ []
   nothing_at [] i empty = refl
-  nothing_at (l ∷ lists) zero empty = (both_none l.items (joined lists) empty).0
-  nothing_at (l ∷ lists) (suc i) empty = nothing_at lists i (both_none l.items (joined lists) empty).1
+  nothing_at (l ∷ lists) zero empty = (both_none l (joined lists) empty).0
+  nothing_at (l ∷ lists) (suc i) empty = nothing_at lists i (both_none l (joined lists) empty).1
 
 -- ---- what they have at a key
 
@@ -61,31 +60,31 @@ some_or_none (Some v) = inr refl
 
 module _ {K V : Type 0} (cmp : K → K → Ordering) where
   -- where each list that has a key is the one with this number
-  abbrev IsAlone : List (Vec (K × V)) → ℕ → K → Type 0
+  abbrev IsAlone : List (Entries K V) → ℕ → K → Type 0
   IsAlone lists index q = (i : ℕ) → IsSome (value_at cmp (items_at lists i) q) → index ≡ i
 
-  nowhere : (lists : List (Vec (K × V))) (q : K) → ((i : ℕ) → IsSome (value_at cmp (items_at lists i) q) → ⊥) → value_at cmp (joined lists) q ≡ None
+  nowhere : (lists : List (Entries K V)) (q : K) → ((i : ℕ) → IsSome (value_at cmp (items_at lists i) q) → ⊥) → value_at cmp (joined lists) q ≡ None
   nowhere [] q none = refl
   nowhere (l ∷ lists) q none =
-      at-append (is_at (cmp q)) l.items (joined lists)
-      ∙ none_or (value_at cmp l.items q) (value_at cmp (joined lists) q) (by (some_or_none (value_at cmp l.items q)))
+      at-append (is_at (cmp q)) l (joined lists)
+      ∙ none_or (value_at cmp l q) (value_at cmp (joined lists) q) (by (some_or_none (value_at cmp l q)))
       ∙ nowhere lists q (λ i some. none (suc i) some)
     where
-      by : (value_at cmp l.items q ≡ None) ⊎ IsSome (value_at cmp l.items q) → value_at cmp l.items q ≡ None
+      by : (value_at cmp l q ≡ None) ⊎ IsSome (value_at cmp l q) → value_at cmp l q ≡ None
       by (inl is) = is
       by (inr some) = absurd (none zero some)
 
-  at_list : (lists : List (Vec (K × V))) (index : ℕ) (q : K) → IsAlone lists index q → value_at cmp (joined lists) q ≡ value_at cmp (items_at lists index) q
+  at_list : (lists : List (Entries K V)) (index : ℕ) (q : K) → IsAlone lists index q → value_at cmp (joined lists) q ≡ value_at cmp (items_at lists index) q
   at_list [] index q alone = refl
   at_list (l ∷ lists) zero q alone =
-      at-append (is_at (cmp q)) l.items (joined lists)
-      ∙ or_none (value_at cmp l.items q) (value_at cmp (joined lists) q) (nowhere lists q (λ i some. absurd (cc (alone (suc i) some))))
+      at-append (is_at (cmp q)) l (joined lists)
+      ∙ or_none (value_at cmp l q) (value_at cmp (joined lists) q) (nowhere lists q (λ i some. absurd (cc (alone (suc i) some))))
   at_list (l ∷ lists) (suc index) q alone =
-      at-append (is_at (cmp q)) l.items (joined lists)
-      ∙ none_or (value_at cmp l.items q) (value_at cmp (joined lists) q) (by (some_or_none (value_at cmp l.items q)))
+      at-append (is_at (cmp q)) l (joined lists)
+      ∙ none_or (value_at cmp l q) (value_at cmp (joined lists) q) (by (some_or_none (value_at cmp l q)))
       ∙ at_list lists index q (λ i some. cc (alone (suc i) some))
     where
-      by : (value_at cmp l.items q ≡ None) ⊎ IsSome (value_at cmp l.items q) → value_at cmp l.items q ≡ None
+      by : (value_at cmp l q ≡ None) ⊎ IsSome (value_at cmp l q) → value_at cmp l q ≡ None
       by (inl is) = is
       by (inr some) = absurd (cc (alone zero some))
 
@@ -94,9 +93,9 @@ module _ {K V : Type 0} (cmp : K → K → Ordering) where
   nothing_sound = record { distinct = tt; apart = λ key some. refl }
 
   module _ (shard : K → ℕ) (count : ℕ) where
-    pub no_shards : (lists : List (Vec (K × V))) (others : Entries K V) → lists ≡ [] → others ≡ [] → AreShards cmp shard count lists others
+    pub no_shards : (lists : List (Entries K V)) (others : Entries K V) → lists ≡ [] → others ≡ [] → AreShards cmp shard count lists others
     no_shards lists others none nor =
-        subst (λ (ls : List (Vec (K × V))). AreShards cmp shard count ls others) (sym none)
+        subst (λ (ls : List (Entries K V)). AreShards cmp shard count ls others) (sym none)
         (subst (λ (es : Entries K V). AreShards cmp shard count [] es) (sym nor)
         (record {
           all = λ some. absurd (omega (arith, some));
@@ -105,7 +104,7 @@ module _ {K V : Type 0} (cmp : K → K → Ordering) where
           sound = λ index. nothing_sound;
         }))
 
-    module _ (lists : List (Vec (K × V))) (others : Entries K V) (are : AreShards cmp shard count lists others) where
+    module _ (lists : List (Entries K V)) (others : Entries K V) (are : AreShards cmp shard count lists others) where
       -- what they have at a key is what its list has, or else the ordered map
       at_shard : (q : K) → value_at cmp (entries_of lists others) q ≡ value_with cmp (items_at lists (shard q)) others q
       at_shard q =
@@ -113,7 +112,7 @@ module _ {K V : Type 0} (cmp : K → K → Ordering) where
           ∙ ap (λ v. option_or v (value_at cmp others q)) (at_list lists (shard q) q (λ i some. are.own i q some))
 
       -- lists that are alike, number by number
-      pub same_shards : (new : List (Vec (K × V))) → length new ≡ count → 0 < length new → ((i : ℕ) → items_at new i ≡ items_at lists i) → AreShards cmp shard count new others
+      pub same_shards : (new : List (Entries K V)) → length new ≡ count → 0 < length new → ((i : ℕ) → items_at new i ≡ items_at lists i) → AreShards cmp shard count new others
       same_shards new whole some same = record {
         all = λ _. whole;
         none = λ is. absurd (omega (arith, is, some));
@@ -136,12 +135,12 @@ module _ {K V : Type 0} (cmp : K → K → Ordering) where
 
       -- ---- one list changes
 
-      module _ (es : Entries K V) (stand : entries_of lists others ≡ es) (key : K) (index : ℕ) (is : index ≡ shard key) (p n : Vec (K × V)) (low : index < length lists) (there : p ≡ get_or lists index p) where
-        its_items : items_at lists (shard key) ≡ p.items
+      module _ (es : Entries K V) (stand : entries_of lists others ≡ es) (key : K) (index : ℕ) (is : index ≡ shard key) (p n : Entries K V) (low : index < length lists) (there : p ≡ get_or lists index p) where
+        its_items : items_at lists (shard key) ≡ p
         its_items = ap (items_at lists) (sym is) ∙ items_there lists index p low there
 
-        pub held_at : (v : Option V) → v ≡ value_with cmp p.items others key → v ≡ value_at cmp es key
-        held_at = its_value es stand key p.items (sym its_items)
+        pub held_at : (v : Option V) → v ≡ value_with cmp p others key → v ≡ value_at cmp es key
+        held_at = its_value es stand key p (sym its_items)
 
         whole : length (slice_set lists index n) ≡ count
         whole = length-set lists index n ∙ are.all (omega (arith, low))
@@ -150,7 +149,7 @@ module _ {K V : Type 0} (cmp : K → K → Ordering) where
         some_lists = subst (λ (l : ℕ). 0 < l) (sym (length-set lists index n)) (omega (arith, low))
 
         -- The list and the ordered map are as they were.
-        module _ (new_others : Entries K V) (same : n.items ≡ p.items) (too : new_others ≡ others) where
+        module _ (new_others : Entries K V) (same : n ≡ p) (too : new_others ≡ others) where
           pub unchanged_shards : AreShards cmp shard count (slice_set lists index n) new_others
           unchanged_shards = subst (λ (es : Entries K V). AreShards cmp shard count (slice_set lists index n) es) (sym too) (same_shards (slice_set lists index n) whole some_lists (λ i. by i (cases_eq index i))) where
             by : (i : ℕ) → (index ≡ i) ⊎ (index ≢ i) → items_at (slice_set lists index n) i ≡ items_at lists i
@@ -165,11 +164,11 @@ module _ {K V : Type 0} (cmp : K → K → Ordering) where
               ∙ ap (λ (l : Entries K V). joined lists ++ l) too ∙ stand
 
         -- They have another value at the key, or none.
-        module _ (alike : (a b : K) → is_eq (cmp a b) ≡ true → shard a ≡ shard b) (new_others : Entries K V) (w : Option V) (change : Changes cmp p.items others n.items new_others key w) where
-          new_items : (i : ℕ) → index ≡ i → items_at (slice_set lists index n) i ≡ n.items
+        module _ (alike : (a b : K) → is_eq (cmp a b) ≡ true → shard a ≡ shard b) (new_others : Entries K V) (w : Option V) (change : Changes cmp p others n new_others key w) where
+          new_items : (i : ℕ) → index ≡ i → items_at (slice_set lists index n) i ≡ n
           new_items i at = ap (items_at (slice_set lists index n)) (sym at) ∙ set_here lists index n low
 
-          old_items : (i : ℕ) → index ≡ i → items_at lists i ≡ p.items
+          old_items : (i : ℕ) → index ≡ i → items_at lists i ≡ p
           old_items i at = ap (items_at lists) (sym at) ∙ items_there lists index p low there
 
           -- a key of another shard is another key
@@ -203,10 +202,10 @@ module _ {K V : Type 0} (cmp : K → K → Ordering) where
 
 -- ---- where a list and the ordered map have changed at a key
 
-module _ {K V : Type 0} (cmp : K → K → Ordering) (shard : K → ℕ) (count : ℕ) (lists : List (Vec (K × V))) (others : Entries K V) (are : AreShards cmp shard count lists others)
-    (es : Entries K V) (stand : entries_of lists others ≡ es) (key : K) (index : ℕ) (is : index ≡ shard key) (p n : Vec (K × V)) (low : index < length lists) (there : p ≡ get_or lists index p)
+module _ {K V : Type 0} (cmp : K → K → Ordering) (shard : K → ℕ) (count : ℕ) (lists : List (Entries K V)) (others : Entries K V) (are : AreShards cmp shard count lists others)
+    (es : Entries K V) (stand : entries_of lists others ≡ es) (key : K) (index : ℕ) (is : index ≡ shard key) (p n : Entries K V) (low : index < length lists) (there : p ≡ get_or lists index p)
     (alike : (a b : K) → is_eq (cmp a b) ≡ true → shard a ≡ shard b) (new_others : Entries K V) (w : Option V) where
-  pub changed_at : Changes cmp p.items others n.items new_others key w → (q : K) → value_at cmp (entries_of (slice_set lists index n) new_others) q ≡ cond (is_eq (cmp key q)) w (value_at cmp es q)
+  pub changed_at : Changes cmp p others n new_others key w → (q : K) → value_at cmp (entries_of (slice_set lists index n) new_others) q ≡ cond (is_eq (cmp key q)) w (value_at cmp es q)
   changed_at change q =
       at_shard cmp shard count (slice_set lists index n) new_others (changed_shards cmp shard count lists others are es stand key index is p n low there alike new_others w change) q
       ∙ by (cases_eq index (shard q)) (is_eq (cmp key q)) refl
@@ -220,7 +219,7 @@ module _ {K V : Type 0} (cmp : K → K → Ordering) (shard : K → ℕ) (count 
           ∙ sym (ap (λ (b : Bool). cond b w (value_with cmp (items_at lists (shard q)) others q)) same)
       by (inl at) false other =
           ap (λ (l : Entries K V). value_with cmp l new_others q) (ap (items_at (slice_set lists index n)) (sym at) ∙ set_here lists index n low)
-          ∙ ap (λ v. option_or v (value_at cmp new_others q)) (change.in_list q other) ∙ ap (option_or (value_at cmp p.items q)) (change.in_others q other)
+          ∙ ap (λ v. option_or v (value_at cmp new_others q)) (change.in_list q other) ∙ ap (option_or (value_at cmp p q)) (change.in_others q other)
           ∙ sym (ap (λ (l : Entries K V). value_with cmp l others q) (ap (items_at lists) (sym at) ∙ items_there lists index p low there))
           ∙ sym (ap (λ (b : Bool). cond b w (value_with cmp (items_at lists (shard q)) others q)) other)
       by (inr apart) true same = absurd (apart (is ∙ alike key q same))
@@ -230,12 +229,12 @@ module _ {K V : Type 0} (cmp : K → K → Ordering) (shard : K → ℕ) (count 
           ∙ sym (ap (λ (b : Bool). cond b w (value_with cmp (items_at lists (shard q)) others q)) other)
 
   -- after a call that changes them, or fails and leaves them as they were
-  pub after_call : {A E : Type 0} (r : Result A E) → OnOk r (Changes cmp p.items others n.items new_others key w) → OnErr r ((n.items ≡ p.items) × (new_others ≡ others))
+  pub after_call : {A E : Type 0} (r : Result A E) → OnOk r (Changes cmp p others n new_others key w) → OnErr r ((n ≡ p) × (new_others ≡ others))
       → AreShards cmp shard count (slice_set lists index n) new_others
   after_call (Ok _) change same = changed_shards cmp shard count lists others are es stand key index is p n low there alike new_others w change
   after_call (Err _) change same = unchanged_shards cmp shard count lists others are es stand key index is p n low there new_others same.0 same.1
 
   -- where it fails, what stands there is the same
-  pub after_failure : {A E : Type 0} (r : Result A E) → OnErr r ((n.items ≡ p.items) × (new_others ≡ others)) → OnErr r (entries_of (slice_set lists index n) new_others ≡ es)
+  pub after_failure : {A E : Type 0} (r : Result A E) → OnErr r ((n ≡ p) × (new_others ≡ others)) → OnErr r (entries_of (slice_set lists index n) new_others ≡ es)
   after_failure (Ok _) same = tt
   after_failure (Err _) same = unchanged_entries cmp shard count lists others are es stand key index is p n low there new_others same.0 same.1

@@ -1,13 +1,12 @@
 -- A map in shards.
 use Rattle.std.specs.Prelude.{◌≡◌, ℕ, ◌<◌, true, false, List, [], ◌++◌, flat_map, length}
-use Rattle.std.specs.Prelude.{Option, None, IsSome, slice_get}
+use Rattle.std.specs.Prelude.{Option, None, IsSome, slice_get, unwrap_or}
 use Rattle.std.specs.declared.cmp.Ordering.{Ordering}
 use Rattle.std.specs.Ordering.{is_eq, eq_by_cmp}
-use Rattle.std.specs.Option.{option_or, option_map_or}
+use Rattle.std.specs.Option.{option_or}
 use Rattle.std.specs.List.{IsDistinct}
 use Rattle.std.specs.Map.{lookup, keys_of}
 use Rattle.std.specs.BTreeMap.{is_at}
-use Rattle.std.specs.Global.{Vec}
 
 -- keys with their values: list by list, and then those of the ordered map
 abbrev pub Entries : Type 0 → Type 0 → Type 0
@@ -18,19 +17,19 @@ abbrev pub value_at : {K V : Type 0} → (K → K → Ordering) → Entries K V 
 value_at cmp entries key = lookup (is_at (cmp key)) entries
 
 -- what stands in some lists
-abbrev pub joined : {K V : Type 0} → List (Vec (K × V)) → Entries K V
-joined lists = flat_map (λ list. list.items) lists
+abbrev pub joined : {K V : Type 0} → List (Entries K V) → Entries K V
+joined lists = flat_map (λ list. list) lists
 
 -- what stands in some lists and in the ordered map
-abbrev pub entries_of : {K V : Type 0} → List (Vec (K × V)) → Entries K V → Entries K V
+abbrev pub entries_of : {K V : Type 0} → List (Entries K V) → Entries K V → Entries K V
 entries_of lists others = joined lists ++ others
 
 -- the list with this index, or an empty one
-abbrev pub items_at : {K V : Type 0} → List (Vec (K × V)) → ℕ → Entries K V
-items_at lists index = option_map_or (λ list. list.items) (slice_get lists index) []
+abbrev pub items_at : {K V : Type 0} → List (Entries K V) → ℕ → Entries K V
+items_at lists index = unwrap_or (slice_get lists index) []
 
 -- there are no lists, or `count` of them
-abbrev pub NoneOrAll : {K V : Type 0} → ℕ → List (Vec (K × V)) → Type 0
+abbrev pub NoneOrAll : {K V : Type 0} → ℕ → List (Entries K V) → Type 0
 NoneOrAll count lists = 0 < length lists → length lists ≡ count
 
 module _ {K V : Type 0} (cmp : K → K → Ordering) where
@@ -56,7 +55,7 @@ module _ {K V : Type 0} (cmp : K → K → Ordering) where
   -- There are no lists yet, and nothing in the ordered map, or `count` lists, and each has only
   -- keys that stand in it, and none twice.
   module _ (shard : K → ℕ) (count : ℕ) where
-    pub record AreShards (lists : List (Vec (K × V))) (others : Entries K V) : Type 0 where
+    pub record AreShards (lists : List (Entries K V)) (others : Entries K V) : Type 0 where
       pub all : NoneOrAll count lists
       pub none : length lists ≡ 0 → others ≡ []
       pub own : (index : ℕ) (key : K) → IsSome (value_at cmp (items_at lists index) key)

@@ -26,15 +26,26 @@ pub trait Sharded: Ord + Copy {
         ensures value { result ≡ shard self.now }
         ensures in_range { result < SHARDS };
 
+    /// A part of a key that tells it from most others of its shard.
+    ghost tag: { Self → ℕ };
+
+    /// A part of this key that tells it from most others of its shard.
+    fn tag(&self) -> u32
+        ensures { result ≡ tag self.now };
+
     /// Equal keys stand in one shard.
     ghost alike: { (a b : Self) → is_eq (Self.cmp a b) ≡ true → shard a ≡ shard b };
+
+    /// Equal keys have one tag.
+    ghost same_tag: { (a b : Self) → is_eq (Self.cmp a b) ≡ true → tag a ≡ tag b };
 }
 
 /// By the first two bytes of the transaction's id, which is a hash, and the index, so that a
-/// transaction's outputs stand in as many shards.
+/// transaction's outputs stand in as many shards. The tag is the next four bytes, and the index
+/// too.
 impl Sharded for OutPoint {
-    ghost use Rattle.ox_shards.specs.Keys.{outpoint_shard};
-    ghost use Rattle.ox_shards.specs.Laws.{outpoints_alike};
+    ghost use Rattle.ox_shards.specs.Keys.{outpoint_shard, outpoint_tag};
+    ghost use Rattle.ox_shards.specs.Laws.{outpoints_alike, outpoints_tagged};
 
     ghost SHARDS = { 65536 };
 
@@ -50,6 +61,15 @@ impl Sharded for OutPoint {
     }
 
     ghost alike = { outpoints_alike };
+
+    ghost tag = { outpoint_tag };
+
+    fn tag(&self) -> u32 {
+        let id = &self.txid.0;
+        u32::from_le_bytes([id[2], id[3], id[4], id[5]]).wrapping_add(self.index)
+    }
+
+    ghost same_tag = { outpoints_tagged };
 }
 
 /// Runes are few: one shard, all of them in the ordered map.
@@ -67,6 +87,14 @@ impl Sharded for RuneId {
     }
 
     ghost alike = { λ _ _ _. refl };
+
+    ghost tag = { λ _. 0 };
+
+    fn tag(&self) -> u32 {
+        0
+    }
+
+    ghost same_tag = { λ _ _ _. refl };
 }
 
 /// Places of a list, which are few: one shard, all of them in the ordered map.
@@ -84,6 +112,14 @@ impl Sharded for u32 {
     }
 
     ghost alike = { λ _ _ _. refl };
+
+    ghost tag = { λ _. 0 };
+
+    fn tag(&self) -> u32 {
+        0
+    }
+
+    ghost same_tag = { λ _ _ _. refl };
 }
 
 /// Names of runes, which are few: one shard, all of them in the ordered map.
@@ -101,4 +137,12 @@ impl Sharded for u128 {
     }
 
     ghost alike = { λ _ _ _. refl };
+
+    ghost tag = { λ _. 0 };
+
+    fn tag(&self) -> u32 {
+        0
+    }
+
+    ghost same_tag = { λ _ _ _. refl };
 }

@@ -3,6 +3,7 @@
 #![tactic(auto)]
 
 mod keys;
+mod shard;
 mod shards;
 
 pub use keys::Sharded;

@@ -11,21 +11,22 @@ ghost use Rattle.ox_shards.specs.Shards.{Entries, AreShards, IsSound, Changes, N
 ghost use Rattle.ox_shards.specs.Shards.{entries_of, joined, items_at, value_at, value_with};
 
 use crate::keys::Sharded;
+use crate::shard::Shard;
 use std::alloc::{AllocError, AllocFailed, Global};
 use std::collections::BTreeMap;
 use std::marker::Model;
-use std::mem;
 
-/// A map whose keys are spread over many short lists. A look-up goes through the keys of one list.
-/// Whoever chooses keys can choose them so that they fill one list; when it has as many entries as
-/// the kind of key allows (`Sharded::MOST`), those of further keys stand in one ordered map. So a
-/// look-up costs no more than a list and one in that map, whatever the keys. A key stands in its
-/// list or in the ordered map, never in both.
+/// A map whose keys are spread over many short lists. A look-up goes through the tags of one list,
+/// and compares those keys alone whose tag is the same. Whoever chooses keys can choose them so
+/// that they fill one list; when it has as many entries as the kind of key allows
+/// (`Sharded::MOST`), those of further keys stand in one ordered map. So a look-up costs no more
+/// than a list and one in that map, whatever the keys. A key stands in its list or in the ordered
+/// map, never in both.
 #[derive(Drop)]
 pub struct Shards<K: Sharded, V> {
     alloc: Global,
     /// Empty until the first `insert`.
-    lists: Vec<Vec<(K, V)>>,
+    lists: Vec<Shard<K, V>>,
     others: BTreeMap<K, V>,
 }
 
@@ -53,9 +54,18 @@ impl<K: Sharded, V> Shards<K, V> {
     pub fn get(&self, key: &K) -> Option<&V>
         ensures { option_copied result ≡ value_at K.cmp self.now key.now }
     {
-        match value_in(list_at(&self.lists, key.shard()), key) {
+        match value_in(&self.lists, key) {
             Some(value) => Some(value),
             None => self.others.get(key),
+        }
+    }
+
+    /// Reads a little of the list in which a key would stand, so that the processor fetches it.
+    /// What it answers says nothing.
+    pub fn glance(&self, key: &K) -> u32 {
+        match self.lists.get(key.shard()) {
+            Some(list) => list.glance(),
+            None => 0,
         }
     }
 
@@ -91,76 +101,57 @@ impl<K: Sharded, V> Shards<K, V> {
     }
 }
 
-// The list with an index, or an empty one where there are no lists.
-fn list_at<K, V>(lists: &[Vec<(K, V)>], index: usize) -> &[(K, V)]
-    ensures { result.now ≡ items_at lists.now index }
+// The value at a key in its list.
+fn value_in<'a, K: Sharded, V>(lists: &'a [Shard<K, V>], key: &K) -> Option<&'a V>
+    ensures { option_copied result
+        ≡ value_at K.cmp (items_at lists.now (K.shard key.now)) key.now }
 {
-    match lists.get(index) {
-        Some(list) => list.as_slice(),
-        None => &[],
-    }
-}
-
-// Where a key stands in a list.
-fn place_in<K: Sharded, V>(list: &[(K, V)], key: &K) -> Option<usize>
-    ensures { result ≡ position (λ entry. is_at (K.cmp key.now) entry.0) list.now }
-{
-    list.iter().position(|entry| key.cmp(&entry.0).is_eq())
-}
-
-// The value at a key in a list.
-fn value_in<'a, K: Sharded, V>(list: &'a [(K, V)], key: &K) -> Option<&'a V>
-    ensures { option_copied result ≡ lookup (is_at (K.cmp key.now)) list.now }
-{
-    match place_in(list, key) {
-        Some(place) => Some(&list[place].1),
-        None => None,
-    }
+    lists.get(key.shard())?.get(key)
 }
 
 // Puts a value at a key where it stands, else into its list, or into the ordered map where that is
 // full.
 fn put<K: Sharded, V>(
-    list: &mut Vec<(K, V)>,
+    list: &mut Shard<K, V>,
     others: &mut BTreeMap<K, V>,
     key: K,
     value: V,
 ) -> Result<Option<V>, AllocFailed<(K, V)>>
-    requires { IsSound K.cmp list.old.items others.old.entries }
+    requires { IsSound K.cmp list.old others.old.entries }
     ensures displaced { IfOk result (λ displaced. displaced
-        ≡ value_with K.cmp list.old.items others.old.entries key) }
-    ensures ok { OnOk result (Changes K.cmp list.old.items others.old.entries
-        list.new.items others.new.entries key (Some value)) }
+        ≡ value_with K.cmp list.old others.old.entries key) }
+    ensures ok { OnOk result (Changes K.cmp list.old others.old.entries
+        list.new others.new.entries key (Some value)) }
     ensures handed_back { IfErr result (λ e. e.value ≡ (key, value)) }
-    ensures err { OnErr result ((list.new.items ≡ list.old.items)
+    ensures err { OnErr result ((list.new ≡ list.old)
         × (others.new.entries ≡ others.old.entries)) }
 {
-    if let Some(place) = place_in(list, &key) {
-        return Ok(Some(mem::replace(&mut list[place].1, value)));
+    if let Some(place) = list.find(&key) {
+        return Ok(Some(list.replace(place, value)));
     }
     if list.len() >= K::MOST || others.contains_key(&key) {
         return others.insert(key, value);
     }
-    list.push((key, value))?;
+    list.push(key, value)?;
     Ok(None)
 }
 
 // Takes the value at a key out of its list or out of the ordered map.
-fn take<K: Sharded, V>(list: &mut Vec<(K, V)>, others: &mut BTreeMap<K, V>, key: &K) -> Option<V>
-    requires { IsSound K.cmp list.old.items others.old.entries }
-    ensures taken { result ≡ value_with K.cmp list.old.items others.old.entries key.now }
-    ensures left { Changes K.cmp list.old.items others.old.entries
-        list.new.items others.new.entries key.now None }
+fn take<K: Sharded, V>(list: &mut Shard<K, V>, others: &mut BTreeMap<K, V>, key: &K) -> Option<V>
+    requires { IsSound K.cmp list.old others.old.entries }
+    ensures taken { result ≡ value_with K.cmp list.old others.old.entries key.now }
+    ensures left { Changes K.cmp list.old others.old.entries
+        list.new others.new.entries key.now None }
 {
-    match place_in(list, key) {
-        Some(place) => Some(list.remove(place).1),
+    match list.find(key) {
+        Some(place) => Some(list.take(place)),
         None => others.remove(key),
     }
 }
 
 // Makes the lists, if there are none. `AllocError` where there is no memory for them.
 fn ensure_lists<K: Sharded, V>(
-    lists: &mut Vec<Vec<(K, V)>>,
+    lists: &mut Vec<Shard<K, V>>,
     alloc: Global,
 ) -> Result<(), AllocError>
     requires shards { NoneOrAll K.SHARDS lists.old.items }
@@ -179,7 +170,7 @@ fn ensure_lists<K: Sharded, V>(
 
 // Makes as many lists as there are shards, without an entry. `AllocError` where there is no memory
 // for them: there are none.
-fn make_lists<K: Sharded, V>(lists: &mut Vec<Vec<(K, V)>>, alloc: Global) -> Result<(), AllocError>
+fn make_lists<K: Sharded, V>(lists: &mut Vec<Shard<K, V>>, alloc: Global) -> Result<(), AllocError>
     requires { lists.old.items ≡ [] }
     ensures count { OnOk result (length lists.new.items ≡ K.SHARDS) }
     ensures empty { joined lists.new.items ≡ [] }
@@ -187,7 +178,7 @@ fn make_lists<K: Sharded, V>(lists: &mut Vec<Vec<(K, V)>>, alloc: Global) -> Res
 {
     lists.reserve_exact(K::SHARDS)?;
     while lists.len() < K::SHARDS {
-        lists.push_reserved(Vec::new(alloc));
+        lists.push_reserved(Shard::new(alloc));
     }
     Ok(())
 }

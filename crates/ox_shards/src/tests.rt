@@ -83,6 +83,29 @@ fn outputs_of_a_transaction_are_told_apart(rt: HostRuntime) {
 }
 
 #[test]
+fn keys_of_one_tag_are_told_apart(rt: HostRuntime) {
+    let mut map = Shards::new(rt.alloc());
+    let (one, other) = (outpoint(7, 9, 2, 0), outpoint(7, 8, 1, 1));
+    assert!(rt; one.shard() == other.shard() && one.tag() == other.tag());
+    map.insert(one, 10).expect(&rt, "memory");
+    assert!(rt; has(&map, one, Some(10)) && has(&map, other, None));
+    map.insert(other, 11).expect(&rt, "memory");
+    assert!(rt; has(&map, one, Some(10)) && map.remove(&other) == Some(11));
+    assert!(rt; has(&map, one, Some(10)) && has(&map, other, None));
+}
+
+#[test]
+fn a_list_is_read_ahead_where_there_is_one(rt: HostRuntime) {
+    let key = outpoint(7, 9, 1, 0);
+    let mut map = Shards::new(rt.alloc());
+    map.glance(&key);
+    map.insert(key, 10).expect(&rt, "memory");
+    map.glance(&key);
+    map.glance(&outpoint(7, 10, 1, 0));
+    assert!(rt; has(&map, key, Some(10)));
+}
+
+#[test]
 fn keys_of_one_shard_are_all_there(rt: HostRuntime) {
     let mut map = Shards::new(rt.alloc());
     for key in 0..1_000u32 {

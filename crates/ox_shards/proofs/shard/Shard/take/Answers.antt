@@ -1,0 +1,14 @@
+use Rattle.std.proofs.Common.{arith, ◌∷◌, List, IsPermutation, get_or, length, ap, subst}
+use Rattle.ox_shards.proofs.TagLemmas.{tags_left, left_after}
+use Rattle.ox_shards.proofs.shard.Shard.take.Goals as goal
+
+pub invariant_of-self : goal.invariant_of-self
+invariant_of-self g c =
+    tags_left g.K.Sharded.tag c.self.inside.tags.items c.swap_remove.new.self.items c.self.inside.entries.items c.swap_remove-2.new.self.items c.args.place c.swap_remove.result c.swap_remove-2.result
+    (omega (arith, c.requires, ap length c.self.view_is)) c.self.invariant c.swap_remove.ensures.items c.swap_remove-2.ensures.items
+
+pub returns-clause-left : goal.returns-clause-left
+returns-clause-left g c = λ d.
+    subst (λ (l : List (g.row.K.Denot × g.row.V.Denot)). IsPermutation l (get_or l c.args.place d ∷ c.swap_remove-2.new.self.items)) c.self.view_is
+    (left_after c.self.inside.entries.items c.swap_remove-2.new.self.items c.args.place c.swap_remove-2.result d
+    (omega (arith, c.requires, ap length c.self.view_is)) c.swap_remove-2.ensures.value c.swap_remove-2.ensures.items)

@@ -1,0 +1,127 @@
+//! One list of a map in shards.
+
+ghost use Rattle.std.specs.Prelude.{◌≡◌, ◌<◌, ℕ, [], ◌∷◌, ◌++◌, Some, OnOk, OnErr, IfErr, IfSome};
+ghost use Rattle.std.specs.Prelude.{length, map, option_map, slice_get, slice_index_or, slice_set};
+ghost use Rattle.std.specs.Prelude.{IsPermutation};
+ghost use Rattle.std.specs.List.{position};
+ghost use Rattle.std.specs.Option.{option_copied};
+ghost use Rattle.std.specs.BTreeMap.{is_at};
+ghost use Rattle.ox_shards.specs.Shards.{Entries, value_at};
+
+use crate::keys::Sharded;
+use std::alloc::{AllocFailed, Global};
+use std::marker::Model;
+use std::mem;
+
+/// Keys with their values. The tags of the keys stand in front, so that a look-up reads four bytes
+/// of each key, and the whole of those keys alone whose tag is the same.
+#[derive(Drop)]
+pub(crate) struct Shard<K: Sharded, V> {
+    tags: Vec<u32>,
+    entries: Vec<(K, V)>,
+}
+
+impl<K: Sharded, V> Model for Shard<K, V> {
+    ghost Value = { Entries K V };
+
+    ghost view = { λ s. s.entries.items };
+
+    ghost invariant = { λ s. s.tags.items ≡ map (λ entry. K.tag entry.0) s.entries.items };
+}
+
+impl<K: Sharded, V> Shard<K, V> {
+    /// No keys. It takes no memory.
+    pub(crate) fn new(alloc: Global) -> Shard<K, V>
+        ensures { result ≡ [] }
+    {
+        Shard {
+            tags: Vec::new(alloc),
+            entries: Vec::new(alloc),
+        }
+    }
+
+    /// How many keys there are.
+    pub(crate) fn len(&self) -> usize
+        ensures { result ≡ length self.now }
+    {
+        self.entries.len()
+    }
+
+    /// Reads the first tag, or answers 0 where there is none.
+    pub(crate) fn glance(&self) -> u32 {
+        match self.tags.first() {
+            Some(tag) => *tag,
+            None => 0,
+        }
+    }
+
+    /// Where a key stands.
+    pub(crate) fn find(&self, key: &K) -> Option<usize>
+        ensures { result ≡ position (λ entry. is_at (K.cmp key.now) entry.0) self.now }
+    {
+        place_in(&self.tags, &self.entries, key)
+    }
+
+    /// The value at a key.
+    pub(crate) fn get(&self, key: &K) -> Option<&V>
+        ensures { option_copied result ≡ value_at K.cmp self.now key.now }
+    {
+        match self.find(key) {
+            Some(place) => Some(&self.entries[place].1),
+            None => None,
+        }
+    }
+
+    /// Puts a value at the key that stands at a place, and answers the one that it displaces.
+    pub(crate) fn replace(&mut self, place: usize, value: V) -> V
+        requires { place < length self.old }
+        ensures displaced { (d : K × V) → result ≡ (slice_index_or self.old place d).1 }
+        ensures replaced { (d : K × V) → self.new
+            ≡ slice_set self.old place ((slice_index_or self.old place d).0, value) }
+    {
+        mem::replace(&mut self.entries[place].1, value)
+    }
+
+    /// Puts a key with its value behind the others. Where there is no memory, both are handed back,
+    /// and nothing has changed.
+    pub(crate) fn push(&mut self, key: K, value: V) -> Result<(), AllocFailed<(K, V)>>
+        ensures ok { OnOk result (self.new ≡ self.old ++ (key, value) ∷ []) }
+        ensures handed_back { IfErr result (λ e. e.value ≡ (key, value)) }
+        ensures err { OnErr result (self.new ≡ self.old) }
+    {
+        if self.tags.reserve(1).is_err() || self.entries.reserve(1).is_err() {
+            return Err(AllocFailed {
+                value: (key, value),
+            });
+        }
+        self.tags.push_reserved(key.tag());
+        self.entries.push_reserved((key, value));
+        Ok(())
+    }
+
+    /// Takes the key that stands at a place out, and answers its value. The last one comes to its
+    /// place.
+    pub(crate) fn take(&mut self, place: usize) -> V
+        requires { place < length self.old }
+        ensures taken { (d : K × V) → result ≡ (slice_index_or self.old place d).1 }
+        ensures left { (d : K × V) → IsPermutation self.old
+            (slice_index_or self.old place d ∷ self.new) }
+    {
+        self.tags.swap_remove(place);
+        self.entries.swap_remove(place).1
+    }
+}
+
+// Where a key stands among keys that have these tags.
+fn place_in<K: Sharded, V>(tags: &[u32], entries: &[(K, V)], key: &K) -> Option<usize>
+    requires { tags.now ≡ map (λ entry. K.tag entry.0) entries.now }
+    ensures { result ≡ position (λ entry. is_at (K.cmp key.now) entry.0) entries.now }
+{
+    let tag = key.tag();
+    for (place, other) in tags.iter().enumerate() {
+        if *other == tag && *key == entries[place].0 {
+            return Some(place);
+        }
+    }
+    None
+}
