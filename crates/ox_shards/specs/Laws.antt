@@ -1,16 +1,17 @@
 -- The laws of keys that stand in shards.
-use Rattle.std.proofs.Common.{◌≡◌, true, ap, refl, Ordering}
+use Rattle.std.proofs.Common.{◌≡◌, ◌∙◌, ℕ, List, true, ap, refl, Ordering}
 use Rattle.std.specs.Ordering.{is_eq, nat_cmp, ordering_then}
 use Rattle.std.specs.declared.cmp.Ordering.TheVariants.{Less, Equal, Greater}
 use Rattle.std.specs.Cmp.Lexicographic.{slice_cmp}
 use Rattle.std.specs.FinMap.{nat_cmp-IsAntisymmetric, slice_cmp-IsAntisymmetric}
 use Rattle.ox_block.specs.declared.block.OutPoint.{OutPoint}
-use Rattle.ox_shards.specs.Keys.{outpoint_shard, outpoint_tag}
+use Rattle.ox_envelope.specs.declared.id.InsId.{InsId}
+use Rattle.ox_shards.specs.Keys.{shard_of, tag_of, outpoint_shard, outpoint_tag}
+use Rattle.ox_shards.specs.Keys.{inscription_shard, inscription_tag}
 
--- the order of outpoints: by the bytes of the transaction's id, and then by the index
-abbrev outpoint_order : OutPoint → OutPoint → Ordering
-outpoint_order a b =
-    ordering_then (slice_cmp nat_cmp a.txid.0 b.txid.0) (nat_cmp a.index b.index)
+-- the order of a transaction's id and an index: by the bytes of the id, and then by the index
+abbrev order : List ℕ → List ℕ → ℕ → ℕ → Ordering
+order a b i j = ordering_then (slice_cmp nat_cmp a b) (nat_cmp i j)
 
 left_tie : (r s : Ordering) → is_eq (ordering_then r s) ≡ true → r ≡ Equal
 left_tie Less s is = absurd (cc is)
@@ -24,21 +25,29 @@ right_tie Equal Equal is = refl
 right_tie Equal Greater is = absurd (cc is)
 right_tie Greater s is = absurd (cc is)
 
-same_outpoint : (a b : OutPoint) → a.txid.0 ≡ b.txid.0 → a.index ≡ b.index → a ≡ b
-same_outpoint a b txid index i = record { txid = record { 0 = txid i }; index = index i }
-
--- outpoints that compare equal are one
-same : (a b : OutPoint) → is_eq (outpoint_order a b) ≡ true → a ≡ b
-same a b equal = same_outpoint a b
-    (slice_cmp-IsAntisymmetric nat_cmp-IsAntisymmetric a.txid.0 b.txid.0 (left_tie _ _ equal))
-    (nat_cmp-IsAntisymmetric a.index b.index (right_tie _ _ equal))
+-- what such a pair gives is the same where it compares equal
+alike : (f : List ℕ → ℕ → ℕ) (a b : List ℕ) (i j : ℕ) → is_eq (order a b i j) ≡ true
+    → f a i ≡ f b j
+alike f a b i j same =
+    ap (λ id. f id i) (slice_cmp-IsAntisymmetric nat_cmp-IsAntisymmetric a b (left_tie _ _ same))
+    ∙ ap (f b) (nat_cmp-IsAntisymmetric i j (right_tie _ _ same))
 
 -- outpoints that are equal stand in one shard
-pub outpoints_alike : (a b : OutPoint) → is_eq (outpoint_order a b) ≡ true
+pub outpoints_alike : (a b : OutPoint) → is_eq (order a.txid.0 b.txid.0 a.index b.index) ≡ true
     → outpoint_shard a ≡ outpoint_shard b
-outpoints_alike a b equal = ap outpoint_shard (same a b equal)
+outpoints_alike a b = alike shard_of a.txid.0 b.txid.0 a.index b.index
 
 -- outpoints that are equal have one tag
-pub outpoints_tagged : (a b : OutPoint) → is_eq (outpoint_order a b) ≡ true
+pub outpoints_tagged : (a b : OutPoint) → is_eq (order a.txid.0 b.txid.0 a.index b.index) ≡ true
     → outpoint_tag a ≡ outpoint_tag b
-outpoints_tagged a b equal = ap outpoint_tag (same a b equal)
+outpoints_tagged a b = alike tag_of a.txid.0 b.txid.0 a.index b.index
+
+-- inscriptions' ids that are equal stand in one shard
+pub inscriptions_alike : (a b : InsId) → is_eq (order a.txid b.txid a.index b.index) ≡ true
+    → inscription_shard a ≡ inscription_shard b
+inscriptions_alike a b = alike shard_of a.txid b.txid a.index b.index
+
+-- inscriptions' ids that are equal have one tag
+pub inscriptions_tagged : (a b : InsId) → is_eq (order a.txid b.txid a.index b.index) ≡ true
+    → inscription_tag a ≡ inscription_tag b
+inscriptions_tagged a b = alike tag_of a.txid b.txid a.index b.index

@@ -1,5 +1,6 @@
 use super::*;
 use ox_block::{OutPoint, Txid};
+use ox_envelope::InsId;
 use std::alloc::Global;
 use std::process::Abort;
 
@@ -80,6 +81,19 @@ fn outputs_of_a_transaction_are_told_apart(rt: HostRuntime) {
     assert!(rt; has(&map, outpoint(7, 9, 1, 65_536), Some(65_536)));
     assert!(rt; has(&map, outpoint(7, 9, 1, u32::MAX), Some(u64::from(u32::MAX))));
     assert!(rt; has(&map, outpoint(7, 9, 1, 2), None) && has(&map, outpoint(7, 10, 1, 0), None));
+}
+
+#[test]
+fn inscriptions_of_a_transaction_are_told_apart(rt: HostRuntime) {
+    let mut map = Shards::new(rt.alloc());
+    let txid = [7; 32];
+    for index in 0..100u32 {
+        map.insert(InsId { txid, index }, u64::from(index))
+            .expect(&rt, "memory");
+    }
+    assert!(rt; has(&map, InsId { txid, index: 0 }, Some(0)));
+    assert!(rt; has(&map, InsId { txid, index: 99 }, Some(99)));
+    assert!(rt; has(&map, InsId { txid, index: 100 }, None));
 }
 
 #[test]
