@@ -12,6 +12,7 @@ use Rattle.ox_envelope.specs.declared.id.InsId.{InsId}
 use Rattle.ox_inscribe.specs.Inscriptions.{find, has_parent, numbers_where, on}
 use Rattle.ox_inscribe.specs.declared.keys.Keys.{Keys}
 use Rattle.ox_inscribe.specs.declared.row.InsRow.{InsRow}
+use Rattle.ox_shards.specs.Shards.{value_at}
 
 -- the rows, and those at the mark, if one is set
 pub record Shelved : Type 0 where
@@ -101,14 +102,15 @@ none_if is_it number first = if is_it && is_first number first then None else fi
 
 -- the maps say where these rows are
 pub record AreKeys (rows : List InsRow) (keys : Keys) : Type 0 where
-  pub firsts : (id : InsId) → get id_cmp keys.ids id ≡ find rows id
+  pub firsts : (id : InsId) → value_at id_cmp keys.ids id ≡ find rows id
   pub sats : (sat : ℕ) → at nat_cmp keys.sats sat ≡ on rows sat
   pub parents : (id : InsId) → at id_cmp keys.parents id ≡ numbers_where (has_parent id) 0 rows
 
 -- at each key the maps say where these rows are, or where these and one more are
 pub record AreKeysUpTo (rows : List InsRow) (row : InsRow) (keys : Keys) : Type 0 where
   pub firsts :
-      (id : InsId) → IsEither (find rows id) (find (rows ++ row ∷ []) id) (get id_cmp keys.ids id)
+      (id : InsId) → IsEither (find rows id) (find (rows ++ row ∷ []) id)
+      (value_at id_cmp keys.ids id)
   pub sats :
       (sat : ℕ) → IsEither (on rows sat) (on (rows ++ row ∷ []) sat) (at nat_cmp keys.sats sat)
   pub parents :

@@ -2,17 +2,18 @@
 
 ghost use Rattle.std.specs.Prelude.{◌≡◌, ◌≤◌, ◌<◌, List, [], ◌∷◌, ◌++◌, length, OnOk, OnErr};
 ghost use Rattle.std.specs.Prelude.{option_map};
-ghost use Rattle.std.specs.BTreeMap.{get};
 ghost use Rattle.std.specs.Ordering.{is_eq, nat_cmp};
 ghost use Rattle.ox_envelope.specs.declared.id.InsId.{InsId};
 ghost use Rattle.ox_inscribe.specs.declared.row.InsRow.{InsRow};
 ghost use Rattle.ox_inscribe.specs.Shelved.{AreKeys, AreKeysUpTo, at, first_if, id_cmp, is_first};
 ghost use Rattle.ox_inscribe.specs.Shelved.{none_if, starts_below, IsNextBelow, IsNextOf};
+ghost use Rattle.ox_shards.specs.Shards.{value_at};
 
 use crate::numbers::{Numbers, add_numbers, drop_numbers, numbers_at};
 use crate::row::InsRow;
 use ox_bytes::Memory;
 use ox_envelope::InsId;
+use ox_shards::Shards;
 use std::alloc::Global;
 use std::collections::BTreeMap;
 use std::ops::Bound;
@@ -21,17 +22,18 @@ use std::ops::Bound;
 #[derive(Drop)]
 pub(crate) struct Keys {
     alloc: Global,
-    /// The first row with an id.
-    ids: BTreeMap<InsId, u32>,
+    /// The first row with an id. Ids begin with hashes, so that they spread over the shards.
+    ids: Shards<InsId, u32>,
     sats: BTreeMap<u64, Numbers>,
     parents: BTreeMap<InsId, Numbers>,
 }
 
 /// Puts a number at an id that has none.
-fn add_first(ids: &mut BTreeMap<InsId, u32>, id: InsId, number: u32) -> Result<(), Memory>
-    ensures ok { OnOk result ((q : InsId) → get id_cmp ids.new q
-        ≡ first_if (is_eq (id_cmp id q)) number (get id_cmp ids.old q)) }
-    ensures err { OnErr result ((q : InsId) → get id_cmp ids.new q ≡ get id_cmp ids.old q) }
+fn add_first(ids: &mut Shards<InsId, u32>, id: InsId, number: u32) -> Result<(), Memory>
+    ensures ok { OnOk result ((q : InsId) → value_at id_cmp ids.new q
+        ≡ first_if (is_eq (id_cmp id q)) number (value_at id_cmp ids.old q)) }
+    ensures err { OnErr result ((q : InsId)
+        → value_at id_cmp ids.new q ≡ value_at id_cmp ids.old q) }
 {
     match ids.get(&id) {
         Some(_) => Ok(()),
@@ -43,8 +45,8 @@ fn add_first(ids: &mut BTreeMap<InsId, u32>, id: InsId, number: u32) -> Result<(
 }
 
 /// Whether an id has this number.
-fn has_first(ids: &BTreeMap<InsId, u32>, id: &InsId, number: u32) -> bool
-    ensures { result ≡ is_first number (get id_cmp ids.now id.now) }
+fn has_first(ids: &Shards<InsId, u32>, id: &InsId, number: u32) -> bool
+    ensures { result ≡ is_first number (value_at id_cmp ids.now id.now) }
 {
     match ids.get(id) {
         Some(first) => *first == number,
@@ -53,9 +55,9 @@ fn has_first(ids: &BTreeMap<InsId, u32>, id: &InsId, number: u32) -> bool
 }
 
 /// Takes an id away that has this number.
-fn drop_first(ids: &mut BTreeMap<InsId, u32>, id: &InsId, number: u32)
-    ensures { (q : InsId) → get id_cmp ids.new q
-        ≡ none_if (is_eq (id_cmp id.now q)) number (get id_cmp ids.old q) }
+fn drop_first(ids: &mut Shards<InsId, u32>, id: &InsId, number: u32)
+    ensures { (q : InsId) → value_at id_cmp ids.new q
+        ≡ none_if (is_eq (id_cmp id.now q)) number (value_at id_cmp ids.old q) }
 {
     if has_first(ids, id, number) {
         ids.remove(id);
@@ -98,7 +100,7 @@ impl Keys {
     {
         Keys {
             alloc,
-            ids: BTreeMap::new(alloc),
+            ids: Shards::new(alloc),
             sats: BTreeMap::new(alloc),
             parents: BTreeMap::new(alloc),
         }
@@ -106,7 +108,7 @@ impl Keys {
 
     /// The first row with an id.
     pub(crate) fn find(&self, id: &InsId) -> Option<u32>
-        ensures { result ≡ get id_cmp self.now.ids id.now }
+        ensures { result ≡ value_at id_cmp self.now.ids id.now }
     {
         self.ids.get(id).copied()
     }
