@@ -5,4 +5,4 @@ pub mod ListLemmas
 pub mod PlaceLemmas
 pub mod RowLemmas
 pub mod SlotLemmas
-pub mod StretchLemmas
+pub mod StartLemmas

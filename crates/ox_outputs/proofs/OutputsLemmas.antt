@@ -6,13 +6,11 @@ use Rattle.std.specs.FinMap.{empty, get, get-empty, insert}
 use Rattle.ox_block.specs.declared.block.OutPoint.{OutPoint}
 use Rattle.ox_rules.specs.declared.rows.OutRow.{OutRow}
 use Rattle.ox_rules.specs.Outputs.{Outputs, MayStand, outpoint_cmp}
-use Rattle.ox_outputs.specs.declared.stretch.Stretch.{Stretch}
-use Rattle.ox_outputs.specs.Stretches.{AreApart}
 use Rattle.ox_outputs.specs.Slots.{SlotList, put_slot, undone, AreSpots}
 use Rattle.ox_outputs.specs.declared.spot.Spot.{Spot}
-use Rattle.ox_outputs.specs.Located.{StandOnce, AreRuns, stretch_in}
+use Rattle.ox_outputs.specs.Located.{StandOnce, AreRuns, AreClear}
 use Rattle.ox_outputs.proofs.SlotLemmas.{get-put_slot}
-use Rattle.ox_outputs.proofs.RowLemmas.{once_taken, once_placed, once_alike, runs_alike, held_in}
+use Rattle.ox_outputs.proofs.RowLemmas.{once_taken, once_placed, once_alike, begun_in}
 
 pub undone_none : (before : List (Option OutRow)) (changed : List Spot) (outs : Outputs) → changed ≡ [] → undone before changed outs ≡ outs
 undone_none [] changed outs none = refl
@@ -42,19 +40,18 @@ none_once outs none = once_alike empty outs (record {
   none_there : (at : OutPoint) (row : OutRow) → get (empty {X = OutRow} {R = outpoint_cmp}) at ≡ Some row → ⊥
   none_there at row is = absurd (cc (is, get-empty {X = OutRow} outpoint_cmp at))
 
-pub none_runs : (live : ℕ → Option Stretch) (outs : Outputs) → ((q : ℕ) → live q ≡ None) → outs ≡ empty → AreRuns live outs
-none_runs live outs none is = runs_alike live live empty outs (record {
-  sound = λ f s there. absurd (cc (there, none f));
-  complete = λ f s at there. absurd (none_in at f s there);
-}) (λ q. refl) is where
-  none_in : (at : OutPoint) (f : ℕ) (s : Stretch) → stretch_in empty at f ≡ Some s → ⊥
-  none_in at f s there = let h = held_in empty at f s there in absurd (cc (h.there, get-empty {X = OutRow} outpoint_cmp at))
+pub none_runs : (live : ℕ → Option ℕ) (slots : SlotList) (outs : Outputs) → ((q : ℕ) → live q ≡ None) → outs ≡ empty → AreRuns live slots outs
+none_runs live slots outs none is = record {
+  sound = λ f place there. absurd (cc (there, none f));
+  complete = λ f at begun. absurd (let b = begun_in outs at f begun in none_in b.row (sym (get-empty {X = OutRow} outpoint_cmp at) ∙ ap (λ (o : Outputs). get o at) (sym is) ∙ b.there));
+} where
+  none_in : (row : OutRow) → ◌≡◌ {A = Option OutRow} None (Some row) → ⊥
+  none_in row is = absurd (cc is)
 
-pub none_apart : (live : ℕ → Option Stretch) → ((q : ℕ) → live q ≡ None) → AreApart live
-none_apart live none = record { before = λ f g s t is js low. absurd (cc (is, none f)) }
-
-pub apart_among : (live live' : ℕ → Option Stretch) → AreApart live → ((q : ℕ) (s : Stretch) → live' q ≡ Some s → live q ≡ Some s) → AreApart live'
-apart_among live live' apart among = record { before = λ f g s t is js low. apart.before f g s t (among f s is) (among g t js) low }
+pub none_clear : (came kept : ℕ → Option ℕ) (outs : Outputs) → outs ≡ empty → AreClear came kept outs
+none_clear came kept outs is = record { within = λ at row first sat there held new. absurd (none_in row (sym (get-empty {X = OutRow} outpoint_cmp at) ∙ ap (λ (o : Outputs). get o at) (sym is) ∙ there)) } where
+  none_in : (row : OutRow) → ◌≡◌ {A = Option OutRow} None (Some row) → ⊥
+  none_in row is = absurd (cc is)
 
 pub known_none : (spots : List Spot) (slots : SlotList) → spots ≡ [] → AreSpots spots slots
 known_none [] slots none = refl

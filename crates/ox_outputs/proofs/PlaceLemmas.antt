@@ -226,6 +226,16 @@ removed s t place at apart is u = record {
   alone = λ p other too. other (apart at p place too is);
 }
 
+-- but a slot with a row stays
+pub stays : (s t : Slab Slot) (place p : ℕ) (at : OutPoint) (row : OutRow) → AreApart s.slots → row_at s.slots place ≡ None → Updates s t place None → outpoint_at s.slots p ≡ Some at → get (rows_of s.slots) at ≡ Some row → outpoint_at t.slots p ≡ Some at
+stays s t place p at row apart none u is there = ⊎_elim
+    (λ same. absurd (no_row row (sym none ∙ ap (row_at s.slots) (sym same) ∙ sym (get-at_place s.slots p at apart is) ∙ there)))
+    (λ other. ap (option_map (λ (s : Slot). s.at)) (u.others p other) ∙ is)
+    (cases_eq p place)
+  where
+    no_row : (row : OutRow) → ◌≡◌ {A = Option OutRow} None (Some row) → ⊥
+    no_row row is = absurd (cc is)
+
 -- a slot is made
 pub made : (s t : Slab Slot) (place : ℕ) (slot : Slot) → AreApart s.slots → IsNowhere s.slots slot.at → slab.get s place ≡ None → Updates s t place (Some slot) → Changes s t place slot.at (Some slot)
 made s t place slot apart none free u = record {

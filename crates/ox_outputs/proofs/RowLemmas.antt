@@ -1,13 +1,13 @@
 -- The runs of outputs, where each of their satoshis stands once.
-use Rattle.std.proofs.Common.{◌≡◌, ◌≢◌, ◌∙◌, ℕ, zero, suc, ◌+◌, ◌-◌, ◌<◌, ◌≤◌, ◌==◌, Bool, true, false, cond, List, [], ◌∷◌, ◌++◌, length, refl, sym, ap, subst, arith, Option, Some, None, true≢false, inl, inr, ⊎_elim, Ordering, nat_lt, zero-add, T}
-use Rattle.std.specs.Prelude.{◌⊎◌, ◌&&◌, if◌then◌else◌, IsSomeAnd}
+use Rattle.std.proofs.Common.{◌≡◌, ◌≢◌, ◌∙◌, ℕ, ◌+◌, ◌<◌, ◌≤◌, ◌==◌, Bool, true, false, cond, List, [], ◌∷◌, length, refl, sym, ap, subst, arith, Option, Some, None, true≢false, inl, inr, ⊎_elim, Ordering, nat_lt, T}
+use Rattle.std.specs.Prelude.{◌⊎◌, ◌&&◌, ◌||◌, nat_le, if◌then◌else◌, IsSomeAnd}
 use Rattle.std.specs.Ordering.{nat_cmp, is_eq, is_lt, eq_by_cmp}
 use Rattle.std.specs.declared.cmp.Ordering.TheVariants.{Less, Equal, Greater}
 use Rattle.std.specs.Cmp.{eq_by_cmp_equiv}
 use Rattle.std.specs.BTreeMap.{is_at}
 use Rattle.std.specs.List.{position_or_len}
-use Rattle.std.specs.Option.{option_and_then, option_map_or, option_or}
-use Rattle.std.specs.FinMap.{entries, entries_sorted, get, get-entries, find, is_sorted, nat_cmp-IsAntisymmetric}
+use Rattle.std.specs.Option.{option_and_then, option_map_or, option_map}
+use Rattle.std.specs.FinMap.{entries, entries_sorted, get, get-entries, find, is_sorted}
 use Rattle.std.specs.FinMap.Entries.{below_all, find_tied}
 use Rattle.std.proofs.lemmas.Bool.{cases_lt, cases_eq, ne_eqb, eq-eqb}
 use Rattle.std.proofs.lemmas.Bool.Decides.{nat_tests}
@@ -25,13 +25,12 @@ use Rattle.ox_rules.specs.Where.{place_in, place_among}
 use Rattle.ox_rules.proofs.Orders.{outpoints_total, outpoints_exact}
 use Rattle.ox_rules.proofs.Conservation.{times-append}
 use Rattle.ox_rules.proofs.Transfers.{counts_numbers}
-use Rattle.ox_outputs.specs.declared.stretch.Stretch.{Stretch}
-use Rattle.ox_outputs.specs.Stretches.{stretch_at, stretches_of, is_among, firsts_of, AreApart}
-use Rattle.ox_outputs.specs.Finding.{Finds}
-use Rattle.ox_outputs.specs.Located.{StandOnce, AreRuns, stretch_in}
+use Rattle.ox_outputs.specs.Slots.{SlotList, outpoint_at}
+use Rattle.ox_outputs.specs.Starts.{is_among, firsts_of, BeginsLast}
+use Rattle.ox_outputs.specs.Located.{StandOnce, AreRuns, AreClear, begins, has_from, place_held}
 use Rattle.ox_outputs.proofs.SlotLemmas.{equal}
 use Rattle.ox_outputs.proofs.PlaceLemmas.{is_same, same_or_not, not_both}
-use Rattle.ox_outputs.proofs.StretchLemmas.{some_same, some_begins, begins_some, none_begins, made_of, either_is}
+use Rattle.ox_outputs.proofs.StartLemmas.{either_true, same_as}
 
 -- ---- runs have numbers
 
@@ -72,243 +71,193 @@ within_one x first count low high = one_here _ x first (first + count) (counts_n
 one_within : (x first count : ℕ) → 1 ≤ times x (numbers_from first count) → (first ≤ x) × (x < first + count)
 one_within x first count some = (low_here _ x first (first + count) (counts_numbers x first count) some, high_here _ x first (first + count) (counts_numbers x first count) some)
 
-none_within : (x first count : ℕ) → times x (numbers_from first count) ≡ 0 → (x < first) ⊎ (first + count ≤ x)
-none_within x first count none = ⊎_elim
-    (λ below. inl below)
-    (λ low. ⊎_elim (λ high. absurd (let one = within_one x first count low high in omega (arith, one, none))) (λ above. inr above) (cases_lt x (first + count)))
-    (cases_lt x first)
-
--- ---- the number that a stretch begins with
-
-pub same_number : (a b : ℕ) → is_at (nat_cmp a) b ≡ true → a ≡ b
-same_number a b is = nat_cmp-IsAntisymmetric a b (equal _ is)
+-- ---- the numbers of a run
 
 number_itself : (a : ℕ) → is_at (nat_cmp a) a ≡ true
 number_itself a = (eq_by_cmp_equiv nat_cmp_total).refl a
 
--- a number of a stretch is one of the runs'
-hit_first : (b : Bool) (at : OutPoint) (place x f : ℕ) (run : Run) (runs : List Run) (s : Stretch) (rest : Option Stretch) → is_at (nat_cmp f) run.first ≡ b → (rest ≡ Some s → 1 ≤ times x (numbers_of runs)) → cond b (Some (record { count = run.count; outpoint = at; place = place })) rest ≡ Some s → f ≤ x → x < f + s.count → 1 ≤ times x (numbers_of (run ∷ runs))
-hit_first true at place x f run runs s rest same more is low high =
-    let first = same_number f run.first same in
-    let count = ap (λ (y : Stretch). y.count) (some_same _ s is) in
-    let one = within_one x run.first run.count (omega (arith, first, low)) (omega (arith, first, count, high)) in
-    omega (arith, one, times_cons x run runs)
-hit_first false at place x f run runs s rest other more is low high = omega (arith, more is, times_cons x run runs)
+behind : (a b : Bool) → b ≡ true → (a || b) ≡ true
+behind true b is = refl
+behind false b is = is
 
-pub hit : (at : OutPoint) (place x f : ℕ) (runs : List Run) (s : Stretch) → stretch_at (stretches_of at place runs) f ≡ Some s → f ≤ x → x < f + s.count → 1 ≤ times x (numbers_of runs)
-hit at place x f [] s is low high = absurd (cc is)
-hit at place x f (run ∷ runs) s is low high = hit_first (is_at (nat_cmp f) run.first) at place x f run runs s (stretch_at (stretches_of at (place + run.count) runs) f) refl (λ more. hit at (place + run.count) x f runs s more low high) is low high
+-- a number that a run begins with stands in the runs
+pub hit : (f : ℕ) (runs : List Run) → AreSome runs → is_among (firsts_of runs) f ≡ true → 1 ≤ times f (numbers_of runs)
+hit f [] some is = absurd (cc is)
+hit f (run ∷ runs) some is = ⊎_elim
+    (λ here. let first = same_as f run.first here in
+    let one = within_one f run.first run.count (omega (arith, first)) (omega (arith, first, some.0)) in
+    omega (arith, one, times_cons f run runs))
+    (λ more. omega (arith, hit f runs some.1 more, times_cons f run runs))
+    (either_true (is_at (nat_cmp f) run.first) (is_among (firsts_of runs) f) is)
 
-made_first : (b : Bool) (at : OutPoint) (place : ℕ) (run : Run) (s : Stretch) (rest : Option Stretch) → 0 < run.count → (rest ≡ Some s → 0 < s.count) → cond b (Some (record { count = run.count; outpoint = at; place = place })) rest ≡ Some s → 0 < s.count
-made_first true at place run s rest some more is = let count = ap (λ (y : Stretch). y.count) (some_same _ s is) in omega (arith, count, some)
-made_first false at place run s rest some more is = more is
+record IsFrom (run : Run) (first sat : ℕ) : Type 0 where
+  pub same : run.first ≡ first
+  pub low : first ≤ sat
+  pub high : sat < first + run.count
 
-pub made_some : (at : OutPoint) (place f : ℕ) (runs : List Run) (s : Stretch) → AreSome runs → stretch_at (stretches_of at place runs) f ≡ Some s → 0 < s.count
-made_some at place f [] s some is = absurd (cc is)
-made_some at place f (run ∷ runs) s some is = made_first (is_at (nat_cmp f) run.first) at place run s (stretch_at (stretches_of at (place + run.count) runs) f) some.0 (made_some at (place + run.count) f runs s some.1) is
-
--- two stretches that both have a number have it twice
-two_first : (b d : Bool) (at bt : OutPoint) (place qlace x f g : ℕ) (run : Run) (runs : List Run) (s t : Stretch) (rest sest : Option Stretch) → is_at (nat_cmp f) run.first ≡ b → is_at (nat_cmp g) run.first ≡ d → f ≢ g → (rest ≡ Some s → sest ≡ Some t → 2 ≤ times x (numbers_of runs)) → (rest ≡ Some s → 1 ≤ times x (numbers_of runs)) → (sest ≡ Some t → 1 ≤ times x (numbers_of runs)) → cond b (Some (record { count = run.count; outpoint = at; place = place })) rest ≡ Some s → cond d (Some (record { count = run.count; outpoint = bt; place = qlace })) sest ≡ Some t → f ≤ x → x < f + s.count → g ≤ x → x < g + t.count → 2 ≤ times x (numbers_of (run ∷ runs))
-two_first true true at bt place qlace x f g run runs s t rest sest same too other both one two is js fl fh gl gh = absurd (other (same_number f run.first same ∙ sym (same_number g run.first too)))
-two_first true false at bt place qlace x f g run runs s t rest sest same too other both one two is js fl fh gl gh =
-    let first = same_number f run.first same in
-    let count = ap (λ (y : Stretch). y.count) (some_same _ s is) in
-    let here = within_one x run.first run.count (omega (arith, first, fl)) (omega (arith, first, count, fh)) in
-    omega (arith, here, two js, times_cons x run runs)
-two_first false true at bt place qlace x f g run runs s t rest sest same too other both one two is js fl fh gl gh =
-    let first = same_number g run.first too in
-    let count = ap (λ (y : Stretch). y.count) (some_same _ t js) in
-    let here = within_one x run.first run.count (omega (arith, first, gl)) (omega (arith, first, count, gh)) in
-    omega (arith, here, one is, times_cons x run runs)
-two_first false false at bt place qlace x f g run runs s t rest sest same too other both one two is js fl fh gl gh = omega (arith, both is js, times_cons x run runs)
-
-pub two : (at bt : OutPoint) (place qlace x f g : ℕ) (runs : List Run) (s t : Stretch) → f ≢ g → stretch_at (stretches_of at place runs) f ≡ Some s → stretch_at (stretches_of bt qlace runs) g ≡ Some t → f ≤ x → x < f + s.count → g ≤ x → x < g + t.count → 2 ≤ times x (numbers_of runs)
-two at bt place qlace x f g [] s t other is js fl fh gl gh = absurd (cc is)
-two at bt place qlace x f g (run ∷ runs) s t other is js fl fh gl gh =
-    two_first (is_at (nat_cmp f) run.first) (is_at (nat_cmp g) run.first) at bt place qlace x f g run runs s t (stretch_at (stretches_of at (place + run.count) runs) f) (stretch_at (stretches_of bt (qlace + run.count) runs) g) refl refl other
-    (λ more moret. two at bt (place + run.count) (qlace + run.count) x f g runs s t other more moret fl fh gl gh)
-    (λ more. hit at (place + run.count) x f runs s more fl fh)
-    (λ moret. hit bt (qlace + run.count) x g runs t moret gl gh)
-    is js fl fh gl gh
-
--- ---- a number's place
-
-place_inside : (first count x : ℕ) (rest : List ℕ) → first ≤ x → x < first + count → position_or_len (λ n. n == x) (numbers_from first count ++ rest) + first ≡ x
-unfolding numbers_from
-place_inside first zero x rest low high = absurd (omega (arith, low, high))
-place_inside first (suc count) x rest low high = ⊎_elim
-    (λ below.
-    let other : (first == x) ≡ false = ne_eqb first x (λ e. absurd (omega (arith, e, below))) in
-    let more : position_or_len (λ n. n == x) (numbers_from (first + 1) count ++ rest) + (first + 1) ≡ x = place_inside (first + 1) count x rest (omega arith) (omega (arith, high)) in
-    rw other (omega (arith, more)))
-    (λ here.
-    let same : (first == x) ≡ true = eq-eqb first x (omega (arith, here, low)) in
-    rw same (omega (arith, here, low)))
-    (cases_lt first x)
-
-place_behind : (first count x : ℕ) (rest : List ℕ) → (x < first) ⊎ (first + count ≤ x) → position_or_len (λ n. n == x) (numbers_from first count ++ rest) ≡ count + position_or_len (λ n. n == x) rest
-unfolding numbers_from
-place_behind first zero x rest out = sym (zero-add _)
-place_behind first (suc count) x rest out =
-    let other : (first == x) ≡ false = ne_eqb first x (λ e. ⊎_elim (λ below. absurd (omega (arith, e, below))) (λ above. absurd (omega (arith, e, above))) out) in
-    let more : position_or_len (λ n. n == x) (numbers_from (first + 1) count ++ rest) ≡ count + position_or_len (λ n. n == x) rest = place_behind (first + 1) count x rest (⊎_elim (λ below. inl (omega (arith, below))) (λ above. inr (omega (arith, above))) out) in
-    rw other (omega (arith, more))
-
-placed_first : (b : Bool) (at : OutPoint) (place x f : ℕ) (run : Run) (runs : List Run) (s : Stretch) (rest : Option Stretch) → is_at (nat_cmp f) run.first ≡ b → (rest ≡ Some s → position_or_len (λ n. n == x) (numbers_of runs) + (place + run.count) ≡ s.place + (x - f)) → (rest ≡ Some s → 1 ≤ times x (numbers_of runs)) → cond b (Some (record { count = run.count; outpoint = at; place = place })) rest ≡ Some s → f ≤ x → x < f + s.count → times x (numbers_of (run ∷ runs)) ≤ 1 → position_or_len (λ n. n == x) (numbers_of (run ∷ runs)) + place ≡ s.place + (x - f)
-placed_first true at place x f run runs s rest same more some is low high once =
-    let first = same_number f run.first same in
-    let one = some_same _ s is in
-    let count = ap (λ (y : Stretch). y.count) one in
-    let begins = ap (λ (y : Stretch). y.place) one in
-    let inside = place_inside run.first run.count x (numbers_of runs) (omega (arith, first, low)) (omega (arith, first, count, high)) in
-    let whole = ap (position_or_len (λ n. n == x)) (numbers-cons run runs) in
-    omega (arith, first, begins, inside, whole, low)
-placed_first false at place x f run runs s rest other more some is low high once =
-    let sum = times_cons x run runs in
-    let out = none_within x run.first run.count (omega (arith, sum, some is, once)) in
-    let behind = place_behind run.first run.count x (numbers_of runs) out in
-    let whole = ap (position_or_len (λ n. n == x)) (numbers-cons run runs) in
-    omega (arith, more is, behind, whole)
-
-pub placed : (at : OutPoint) (place x f : ℕ) (runs : List Run) (s : Stretch) → stretch_at (stretches_of at place runs) f ≡ Some s → f ≤ x → x < f + s.count → times x (numbers_of runs) ≤ 1 → position_or_len (λ n. n == x) (numbers_of runs) + place ≡ s.place + (x - f)
-placed at place x f [] s is low high once = absurd (cc is)
-placed at place x f (run ∷ runs) s is low high once =
-    placed_first (is_at (nat_cmp f) run.first) at place x f run runs s (stretch_at (stretches_of at (place + run.count) runs) f) refl
-    (λ more. placed at (place + run.count) x f runs s more low high (let sum = times_cons x run runs in omega (arith, sum, once)))
-    (λ more. hit at (place + run.count) x f runs s more low high)
-    is low high once
-
-times_same : (x y : ℕ) (ys : List ℕ) → (y == x) ≡ true → times x (y ∷ ys) ≡ 1 + times x ys
-times_same x y ys is =
-    let one : times x (y ∷ []) ≡ 1 = ap (λ (b : Bool). 0 + (if b then 1 else 0)) is in
-    omega (arith, times-append x (y ∷ []) ys, one)
-
-times_other : (x y : ℕ) (ys : List ℕ) → (y == x) ≡ false → times x (y ∷ ys) ≡ times x ys
-times_other x y ys is =
-    let zero : times x (y ∷ []) ≡ 0 = ap (λ (b : Bool). 0 + (if b then 1 else 0)) is in
-    omega (arith, times-append x (y ∷ []) ys, zero)
-
-absent_place : (x : ℕ) (xs : List ℕ) → times x xs ≡ 0 → position_or_len (λ n. n == x) xs ≡ length xs
-absent_place x [] none = refl
-absent_place x (y ∷ ys) none = ⊎_elim
-    (λ same. absurd (let one = times_same x y ys (eq-eqb y x same) in omega (arith, one, none)))
-    (λ other. let differ = ne_eqb y x other in
-    let rest = times_other x y ys differ in
-    let more = absent_place x ys (omega (arith, rest, none)) in
-    rw differ (omega (arith, more)))
-    (cases_eq y x)
-
-present_place : (x : ℕ) (xs : List ℕ) → 1 ≤ times x xs → position_or_len (λ n. n == x) xs < length xs
-present_place x [] some = absurd (omega (arith, some))
-present_place x (y ∷ ys) some = ⊎_elim
-    (λ same. rw (eq-eqb y x same) (omega arith))
-    (λ other. let differ = ne_eqb y x other in
-    let rest = times_other x y ys differ in
-    let more = present_place x ys (omega (arith, rest, some)) in
-    rw differ (omega (arith, more)))
-    (cases_eq y x)
-
-pub absent_from : (sats : List ℕ) (sat : ℕ) → times sat sats ≡ 0 → place_in sats sat ≡ None
-absent_from sats sat none = sym (position_none sats sat (absent_place sat sats none))
-
--- ---- a number of runs is in one of their stretches
-
-pub record Met (at : OutPoint) (place x : ℕ) (runs : List Run) : Type 0 where
-  pub first : ℕ
-  pub stretch : Stretch
-  pub is : stretch_at (stretches_of at place runs) first ≡ Some stretch
-  pub low : first ≤ x
-  pub high : x < first + stretch.count
-
-met_here : (at : OutPoint) (place x : ℕ) (run : Run) (runs : List Run) → run.first ≤ x → x < run.first + run.count → Met at place x (run ∷ runs)
-met_here at place x run runs low high = record {
-  first = run.first;
-  stretch = record { count = run.count; outpoint = at; place = place };
-  is = ap (λ (b : Bool). cond b (Some (record { count = run.count; outpoint = at; place = place })) (stretch_at (stretches_of at (place + run.count) runs) run.first)) (number_itself run.first);
-  low = low;
-  high = high;
+from_tests : (run : Run) (first sat : ℕ) → ((run.first == first) && (nat_le first sat && nat_lt sat (first + run.count))) ≡ true → IsFrom run first sat
+from_tests run first sat is = record {
+  same = grind (arith, nat_tests);
+  low = grind (arith, nat_tests);
+  high = grind (arith, nat_tests);
 }
 
-met_behind : (b : Bool) (at : OutPoint) (place x : ℕ) (run : Run) (runs : List Run) → 0 < run.count → ((y : ℕ) → times y (numbers_of (run ∷ runs)) ≤ 1) → (m : Met at (place + run.count) x runs) → is_at (nat_cmp m.first) run.first ≡ b → Met at place x (run ∷ runs)
-met_behind true at place x run runs some once m same = absurd (
-    let first = same_number m.first run.first same in
-    let here = within_one m.first run.first run.count (omega (arith, first)) (omega (arith, first, some)) in
-    let there = hit at (place + run.count) m.first m.first runs m.stretch m.is (omega arith) (omega (arith, m.low, m.high)) in
-    let sum = times_cons m.first run runs in
-    let most = once m.first in
-    omega (arith, here, there, sum, most))
-met_behind false at place x run runs some once m other = record {
-  first = m.first;
-  stretch = m.stretch;
-  is = ap (λ (b : Bool). cond b (Some (record { count = run.count; outpoint = at; place = place })) (stretch_at (stretches_of at (place + run.count) runs) m.first)) other ∙ m.is;
-  low = m.low;
-  high = m.high;
-}
+tests_from : (run : Run) (sat : ℕ) → run.first ≤ sat → sat < run.first + run.count → ((run.first == run.first) && (nat_le run.first sat && nat_lt sat (run.first + run.count))) ≡ true
+tests_from run sat low high = grind (arith, nat_tests)
 
-pub met : (at : OutPoint) (place x : ℕ) (runs : List Run) → AreSome runs → ((y : ℕ) → times y (numbers_of runs) ≤ 1) → 1 ≤ times x (numbers_of runs) → Met at place x runs
-met at place x [] some once is = absurd (let none = ap (times x) numbers-none in omega (arith, none, is))
-met at place x (run ∷ runs) some once is = ⊎_elim
-    (λ here. let within = one_within x run.first run.count (omega (arith, here)) in met_here at place x run runs within.0 within.1)
-    (λ there. let sum = times_cons x run runs in
-    let m = met at (place + run.count) x runs some.1 (λ y. let sum = times_cons y run runs in let most = once y in omega (arith, sum, most)) (omega (arith, there, sum, is)) in
-    met_behind (is_at (nat_cmp m.first) run.first) at place x run runs some.0 once m refl)
-    (cases_lt 0 (times x (numbers_from run.first run.count)))
+from_either : (run : Run) (runs : List Run) (first sat : ℕ) → has_from (run ∷ runs) first sat ≡ true → IsFrom run first sat ⊎ (has_from runs first sat ≡ true)
+from_either run runs first sat is = ⊎_elim
+    (λ here. inl (from_tests run first sat here))
+    (λ more. inr more)
+    (either_true _ _ is)
+
+-- the run begins at its satoshi or before
+pub from_low : (runs : List Run) (first sat : ℕ) → has_from runs first sat ≡ true → first ≤ sat
+from_low [] first sat is = absurd (cc is)
+from_low (run ∷ runs) first sat is = ⊎_elim (λ here. here.low) (λ more. from_low runs first sat more) (from_either run runs first sat is)
+
+-- and is one of the runs
+pub from_among : (runs : List Run) (first sat : ℕ) → has_from runs first sat ≡ true → is_among (firsts_of runs) first ≡ true
+from_among [] first sat is = absurd (cc is)
+from_among (run ∷ runs) first sat is = ⊎_elim
+    (λ here. ap (λ (b : Bool). b || is_among (firsts_of runs) first) (ap (is_at (nat_cmp first)) here.same ∙ number_itself first))
+    (λ more. behind (is_at (nat_cmp first) run.first) (is_among (firsts_of runs) first) (from_among runs first sat more))
+    (from_either run runs first sat is)
+
+-- all numbers in between stand there
+pub from_within : (runs : List Run) (first sat g : ℕ) → has_from runs first sat ≡ true → first ≤ g → g ≤ sat → 1 ≤ times g (numbers_of runs)
+from_within [] first sat g is low high = absurd (cc is)
+from_within (run ∷ runs) first sat g is low high = ⊎_elim
+    (λ here. let one = within_one g run.first run.count (omega (arith, here.same, low)) (omega (arith, here.same, here.high, high)) in
+    omega (arith, one, times_cons g run runs))
+    (λ more. omega (arith, from_within runs first sat g more low high, times_cons g run runs))
+    (from_either run runs first sat is)
+
+-- so a number with which another run begins would stand there twice
+pub from_twice : (runs : List Run) (first sat g : ℕ) → AreSome runs → has_from runs first sat ≡ true → first < g → g ≤ sat → is_among (firsts_of runs) g ≡ true → 2 ≤ times g (numbers_of runs)
+from_twice [] first sat g some is low high among = absurd (cc is)
+from_twice (run ∷ runs) first sat g some is low high among = ⊎_elim
+    (λ here. ⊎_elim
+    (λ is. absurd (let same = same_as g run.first is in omega (arith, same, here.same, low)))
+    (λ other. let one = within_one g run.first run.count (omega (arith, here.same, low)) (omega (arith, here.same, here.high, high)) in
+    omega (arith, one, hit g runs some.1 other, times_cons g run runs))
+    begun)
+    (λ more. ⊎_elim
+    (λ is. let same = same_as g run.first is in
+    let one = within_one g run.first run.count (omega (arith, same)) (omega (arith, same, some.0)) in
+    omega (arith, one, from_within runs first sat g more (omega (arith, low)) high, times_cons g run runs))
+    (λ other. omega (arith, from_twice runs first sat g some.1 more low high other, times_cons g run runs))
+    begun)
+    (from_either run runs first sat is)
+  where
+    begun : (is_at (nat_cmp g) run.first ≡ true) ⊎ (is_among (firsts_of runs) g ≡ true)
+    begun = either_true (is_at (nat_cmp g) run.first) (is_among (firsts_of runs) g) among
+
+-- a number of runs stands in one of them
+pub met : (sat : ℕ) (runs : List Run) → 1 ≤ times sat (numbers_of runs) → (first : ℕ) × (has_from runs first sat ≡ true)
+met sat [] is = absurd (let none = ap (times sat) numbers-none in omega (arith, none, is))
+met sat (run ∷ runs) is = ⊎_elim
+    (λ here. let within = one_within sat run.first run.count (omega (arith, here)) in
+    (run.first, ap (λ (b : Bool). b || has_from runs run.first sat) (tests_from run sat within.0 within.1)))
+    (λ there. let more = met sat runs (omega (arith, there, times_cons sat run runs, is)) in
+    (more.0, behind _ _ more.1))
+    (cases_lt 0 (times sat (numbers_from run.first run.count)))
 
 -- ---- the runs of a row
 
 pub times_row : (sat : ℕ) (sats : List ℕ) → times sat (numbers_of (runs_of sats)) ≡ times sat sats
 times_row sat sats = ap (times sat) (numbers_of-runs_of sats)
 
--- the row that a stretch is of
-pub record IsHeld (outs : Outputs) (at : OutPoint) (f : ℕ) (s : Stretch) : Type 0 where
+-- the row of which a run begins so
+pub record IsBegun (outs : Outputs) (at : OutPoint) (f : ℕ) : Type 0 where
   pub row : OutRow
   pub there : get outs at ≡ Some row
-  pub is : stretch_at (stretches_of at 0 (runs_of row.sats)) f ≡ Some s
+  pub is : is_among (firsts_of (runs_of row.sats)) f ≡ true
 
-pub held_in : (outs : Outputs) (at : OutPoint) (f : ℕ) (s : Stretch) → stretch_in outs at f ≡ Some s → IsHeld outs at f s
-held_in outs at f s is = by_row (get outs at) refl is where
-  by_row : (o : Option OutRow) → get outs at ≡ o → option_and_then (λ (row : OutRow). stretch_at (stretches_of at 0 (runs_of row.sats)) f) o ≡ Some s → IsHeld outs at f s
+pub begun_in : (outs : Outputs) (at : OutPoint) (f : ℕ) → begins outs at f ≡ true → IsBegun outs at f
+begun_in outs at f is = by_row (get outs at) refl is where
+  by_row : (o : Option OutRow) → get outs at ≡ o → option_map_or (λ (row : OutRow). is_among (firsts_of (runs_of row.sats)) f) o false ≡ true → IsBegun outs at f
   by_row None none is = absurd (cc is)
   by_row (Some row) there is = record { row = row; there = there; is = is }
 
-pub in_row : (outs : Outputs) (at : OutPoint) (row : OutRow) (f : ℕ) → get outs at ≡ Some row → stretch_in outs at f ≡ stretch_at (stretches_of at 0 (runs_of row.sats)) f
-in_row outs at row f there = ap (option_and_then (λ (row : OutRow). stretch_at (stretches_of at 0 (runs_of row.sats)) f)) there
+pub in_row : (outs : Outputs) (at : OutPoint) (row : OutRow) (f : ℕ) → get outs at ≡ Some row → begins outs at f ≡ is_among (firsts_of (runs_of row.sats)) f
+in_row outs at row f there = ap (λ (o : Option OutRow). option_map_or (λ (row : OutRow). is_among (firsts_of (runs_of row.sats)) f) o false) there
 
--- what a stretch of a row says of it
-held_times : (outs : Outputs) (at : OutPoint) (f x : ℕ) (s : Stretch) → (h : IsHeld outs at f s) → f ≤ x → x < f + s.count → 1 ≤ times x h.row.sats
-held_times outs at f x s h low high = let one = hit at 0 x f (runs_of h.row.sats) s h.is low high in omega (arith, one, times_row x h.row.sats)
-
-held_some : (outs : Outputs) (at : OutPoint) (f : ℕ) (s : Stretch) → IsHeld outs at f s → 0 < s.count
-held_some outs at f s h = made_some at 0 f (runs_of h.row.sats) s (some_runs h.row.sats) h.is
-
-held_outpoint : (outs : Outputs) (at : OutPoint) (f : ℕ) (s : Stretch) → IsHeld outs at f s → s.outpoint ≡ at
-held_outpoint outs at f s h = (made_of at 0 f (runs_of h.row.sats) s h.is).outpoint
+begun_times : (outs : Outputs) (at : OutPoint) (f : ℕ) → (b : IsBegun outs at f) → 1 ≤ times f b.row.sats
+begun_times outs at f b = omega (arith, hit f (runs_of b.row.sats) (some_runs b.row.sats) b.is, times_row f b.row.sats)
 
 one_row : (outs : Outputs) (a b : OutPoint) (r q : OutRow) → a ≡ b → get outs a ≡ Some r → get outs b ≡ Some q → r ≡ q
 one_row outs a b r q same one two = let both : Some r ≡ Some q = sym one ∙ ap (get outs) same ∙ two in cc both
 
--- so no two overlap
-pub apart_runs : (live : ℕ → Option Stretch) (outs : Outputs) → AreRuns live outs → StandOnce outs → AreApart live
-apart_runs live outs runs once = record { before = before } where
-  both_have : (f g : ℕ) (s t : Stretch) → IsHeld outs s.outpoint f s → IsHeld outs t.outpoint g t → f < g → g < f + s.count → ⊥
-  both_have f g s t a b low over =
-      let one = held_times outs s.outpoint f g s a (omega (arith, low)) over in
-      let some = held_some outs t.outpoint g t b in
-      let other = held_times outs t.outpoint g g t b (omega arith) (omega (arith, some)) in ⊎_elim
-      (λ same. let row = one_row outs s.outpoint t.outpoint a.row b.row same a.there b.there in
-      let is = ap (λ (r : OutRow). stretch_at (stretches_of t.outpoint 0 (runs_of r.sats)) g) row ∙ b.is in
-      let twice = two s.outpoint t.outpoint 0 0 g f g (runs_of a.row.sats) s t (λ e. absurd (omega (arith, e, low))) a.is is (omega (arith, low)) over (omega arith) (omega (arith, some)) in
-      let most = once.alone s.outpoint a.row g a.there in
-      omega (arith, twice, most, times_row g a.row.sats))
-      (λ differ. let most = once.apart s.outpoint t.outpoint a.row b.row g (λ e. not_both s.outpoint t.outpoint e differ) a.there b.there in
-      omega (arith, most, one, other))
-      (same_or_not s.outpoint t.outpoint)
+-- the output that a start is of
+pub record IsOf (outs : Outputs) (slots : SlotList) (place f : ℕ) : Type 0 where
+  pub at : OutPoint
+  pub slot : outpoint_at slots place ≡ Some at
+  pub is : begins outs at f ≡ true
 
-  before : (f g : ℕ) (s t : Stretch) → live f ≡ Some s → live g ≡ Some t → f < g → f + s.count ≤ g
-  before f g s t is js low = ⊎_elim
-      (λ over. absurd (both_have f g s t (held_in outs s.outpoint f s (runs.sound f s is)) (held_in outs t.outpoint g t (runs.sound g t js)) low over))
+of_output : (outs : Outputs) (slots : SlotList) (place f : ℕ) → option_map_or (λ (at : OutPoint). begins outs at f) (outpoint_at slots place) false ≡ true → IsOf outs slots place f
+of_output outs slots place f is = by_slot (outpoint_at slots place) refl is where
+  by_slot : (o : Option OutPoint) → outpoint_at slots place ≡ o → option_map_or (λ (at : OutPoint). begins outs at f) o false ≡ true → IsOf outs slots place f
+  by_slot None none is = absurd (cc is)
+  by_slot (Some at) slot is = record { at = at; slot = slot; is = is }
+
+pub of_start : (starts : ℕ → Option ℕ) (slots : SlotList) (outs : Outputs) → AreRuns starts slots outs → (f place : ℕ) → starts f ≡ Some place → IsOf outs slots place f
+of_start starts slots outs runs f place is = of_output outs slots place f (runs.sound f place is)
+
+-- and the other way round
+is_of : (outs : Outputs) (slots : SlotList) (place f : ℕ) (at : OutPoint) → outpoint_at slots place ≡ Some at → begins outs at f ≡ true → option_map_or (λ (at : OutPoint). begins outs at f) (outpoint_at slots place) false ≡ true
+is_of outs slots place f at slot is = ap (λ (o : Option OutPoint). option_map_or (λ (at : OutPoint). begins outs at f) o false) slot ∙ is
+
+-- the start of a run of an output
+pub record IsAt (starts : ℕ → Option ℕ) (slots : SlotList) (at : OutPoint) (f : ℕ) : Type 0 where
+  pub place : ℕ
+  pub is : starts f ≡ Some place
+  pub slot : outpoint_at slots place ≡ Some at
+
+pub start_of : (starts : ℕ → Option ℕ) (slots : SlotList) (outs : Outputs) → AreRuns starts slots outs → (f : ℕ) (at : OutPoint) → begins outs at f ≡ true → IsAt starts slots at f
+start_of starts slots outs runs f at begun = by_start (starts f) refl (runs.complete f at begun) where
+  by_start : (o : Option ℕ) → starts f ≡ o → option_and_then (λ (place : ℕ). outpoint_at slots place) o ≡ Some at → IsAt starts slots at f
+  by_start None none is = absurd (cc is)
+  by_start (Some place) is slot = record { place = place; is = is; slot = slot }
+
+is_at_start : (starts : ℕ → Option ℕ) (slots : SlotList) (at : OutPoint) (f place : ℕ) → starts f ≡ Some place → outpoint_at slots place ≡ Some at → option_and_then (λ (place : ℕ). outpoint_at slots place) (starts f) ≡ Some at
+is_at_start starts slots at f place is slot = ap (option_and_then (λ (place : ℕ). outpoint_at slots place)) is ∙ slot
+
+-- no two outputs have a run that begins so
+one_output : (starts : ℕ → Option ℕ) (slots : SlotList) (outs : Outputs) → AreRuns starts slots outs → (f : ℕ) (a b : OutPoint) → begins outs a f ≡ true → begins outs b f ≡ true → a ≡ b
+one_output starts slots outs runs f a b one two = let both : Some a ≡ Some b = sym (runs.complete f a one) ∙ runs.complete f b two in cc both
+
+-- ---- no run begins within another
+
+within_none : (outs : Outputs) (at other : OutPoint) (row : OutRow) (first sat f : ℕ) → StandOnce outs → get outs at ≡ Some row → has_from (runs_of row.sats) first sat ≡ true → IsBegun outs other f → first < f → f ≤ sat → ⊥
+within_none outs at other row first sat f once there held b low high = ⊎_elim
+    (λ same. let is : is_among (firsts_of (runs_of row.sats)) f ≡ true = ap (λ (r : OutRow). is_among (firsts_of (runs_of r.sats)) f) (sym (one_row outs other at b.row row same b.there there)) ∙ b.is in
+    let twice = from_twice (runs_of row.sats) first sat f (some_runs row.sats) held low high is in
+    omega (arith, twice, once.alone at row f there, times_row f row.sats))
+    (λ differ. let one = from_within (runs_of row.sats) first sat f held (omega (arith, low)) high in
+    let most = once.apart other at b.row row f (λ e. not_both other at e differ) b.there there in
+    omega (arith, one, most, begun_times outs other f b, times_row f row.sats))
+    (same_or_not other at)
+
+-- so the run that has a satoshi begins last of those that begin before it
+pub begins_last : (starts : ℕ → Option ℕ) (slots : SlotList) (outs : Outputs) → AreRuns starts slots outs → StandOnce outs → (at : OutPoint) (row : OutRow) (first sat : ℕ) → get outs at ≡ Some row → has_from (runs_of row.sats) first sat ≡ true → BeginsLast starts first sat
+begins_last starts slots outs runs once at row first sat there held = (from_low (runs_of row.sats) first sat held, last) where
+  last : (f slot : ℕ) → starts f ≡ Some slot → f ≤ sat → f ≤ first
+  last f slot is high = ⊎_elim
+      (λ low. absurd (let o = of_start starts slots outs runs f slot is in within_none outs at o.at row first sat f once there held (begun_in outs o.at f o.is) low high))
       (λ fine. fine)
-      (cases_lt g (f + s.count))
+      (cases_lt first f)
+
+-- the runs are clear of each other, and of some of them
+pub clear_begun : (came starts fewer : ℕ → Option ℕ) (slots : SlotList) (outs outs' : Outputs) → AreRuns starts slots outs → StandOnce outs → ((q slot : ℕ) → fewer q ≡ Some slot → starts q ≡ Some slot) → outs' ≡ outs → AreClear came fewer outs'
+clear_begun came starts fewer slots outs outs' runs once among same = subst (AreClear came fewer) (sym same) (record {
+  within = λ at row first sat there held new. let last = begins_last starts slots outs runs once at row first sat there held in (last.0, λ f slot is high. last.1 f slot (among f slot is) high);
+})
+
+pub clear_alike : (came came' starts starts' : ℕ → Option ℕ) (outs outs' : Outputs) → AreClear came starts outs → ((q : ℕ) → came' q ≡ came q) → ((q : ℕ) → starts' q ≡ starts q) → outs' ≡ outs → AreClear came' starts' outs'
+clear_alike came came' starts starts' outs outs' clear same still is = subst (AreClear came' starts') (sym is) (record {
+  within = λ at row first sat there held new. let last = clear.within at row first sat there held (sym (same first) ∙ new) in (last.0, λ f slot is high. last.1 f slot (sym (still f) ∙ is) high);
+})
 
 -- ---- a row goes, and one comes
 
@@ -321,108 +270,123 @@ same_itself a = (eq_by_cmp_equiv outpoints_total).refl a
 none_is : {A : Type 0} (x : A) → ◌≡◌ {A = Option A} None (Some x) → ⊥
 none_is x is = absurd (cc is)
 
-less_is : (b : Bool) (o : Option Stretch) (s : Stretch) → cond b None o ≡ Some s → (b ≡ false) × (o ≡ Some s)
-less_is true o s is = absurd (cc is)
-less_is false o s is = (refl, is)
+less : {A : Type 0} (b : Bool) (o : Option A) (s : A) → cond b None o ≡ Some s → (b ≡ false) × (o ≡ Some s)
+less true o s is = absurd (cc is)
+less false o s is = (refl, is)
 
-less_row : (b : Bool) (o : Option OutRow) (r : OutRow) → cond b None o ≡ Some r → (b ≡ false) × (o ≡ Some r)
-less_row true o r is = absurd (cc is)
-less_row false o r is = (refl, is)
-
-keeps : (b : Bool) (o : Option Stretch) (s : Stretch) → o ≡ Some s → (b ≡ true → ⊥) → cond b None o ≡ Some s
+keeps : (b : Bool) (o : Option ℕ) (s : ℕ) → o ≡ Some s → (b ≡ true → ⊥) → cond b None o ≡ Some s
 keeps true o s is never = absurd (never refl)
 keeps false o s is never = is
+
+no_less : (b : Bool) (o : Option ℕ) → cond b None o ≡ None → (b ≡ true → ⊥) → o ≡ None
+no_less true o is never = absurd (never refl)
+no_less false o is never = is
 
 -- which outpoint it is
 which : (q at : OutPoint) → (q ≡ at) ⊎ (is_same q at ≡ false)
 which q at = same_or_not q at
 
-elsewhere : (outs outs' : Outputs) (q at : OutPoint) (f : ℕ) (new : Option OutRow) → get outs' q ≡ cond (is_same q at) new (get outs q) → is_same q at ≡ false → stretch_in outs' q f ≡ stretch_in outs q f
-elsewhere outs outs' q at f new is other = ap (option_and_then (λ (row : OutRow). stretch_at (stretches_of q 0 (runs_of row.sats)) f)) (is ∙ tested (is_same q at) false new (get outs q) other)
+elsewhere : (outs outs' : Outputs) (q at : OutPoint) (f : ℕ) (new : Option OutRow) → get outs' q ≡ cond (is_same q at) new (get outs q) → is_same q at ≡ false → begins outs' q f ≡ begins outs q f
+elsewhere outs outs' q at f new is other = ap (λ (o : Option OutRow). option_map_or (λ (row : OutRow). is_among (firsts_of (runs_of row.sats)) f) o false) (is ∙ tested (is_same q at) false new (get outs q) other)
 
 here_is : (outs outs' : Outputs) (at : OutPoint) (new : Option OutRow) → get outs' at ≡ cond (is_same at at) new (get outs at) → get outs' at ≡ new
 here_is outs outs' at new is = is ∙ tested (is_same at at) true new (get outs at) (same_itself at)
 
-pub leave_rows : (live live' : ℕ → Option Stretch) (outs outs' : Outputs) (at : OutPoint) (row : OutRow) → AreRuns live outs → get outs at ≡ Some row → ((q : ℕ) → live' q ≡ cond (is_among (firsts_of (runs_of row.sats)) q) None (live q)) → ((q : OutPoint) → get outs' q ≡ cond (is_same q at) None (get outs q)) → AreRuns live' outs'
-leave_rows live live' outs outs' at row runs there goes gets = record { sound = sound; complete = complete } where
-  stays : (f : ℕ) (s : Stretch) → is_among (firsts_of (runs_of row.sats)) f ≡ false → live f ≡ Some s → (s.outpoint ≡ at) → ⊥
-  stays f s none is same =
-      let held = ap (λ (a : OutPoint). stretch_in outs a f) (sym same) ∙ runs.sound f s is in
-      let here = sym (in_row outs at row f there) ∙ held in
-      true≢false (sym (begins_some at 0 f (runs_of row.sats) s here) ∙ none)
+module _ (live live' : ℕ → Option ℕ) (slots : SlotList) (outs outs' : Outputs) (at : OutPoint) (row : OutRow) (runs : AreRuns live slots outs) (there : get outs at ≡ Some row) (gets : (q : OutPoint) → get outs' q ≡ cond (is_same q at) None (get outs q)) where
+  -- a run of another output doesn't go
+  gone_there : (f : ℕ) (q : OutPoint) → is_same q at ≡ false → begins outs q f ≡ true → is_among (firsts_of (runs_of row.sats)) f ≡ true → ⊥
+  gone_there f q other is among = not_both q at (one_output live slots outs runs f q at is (in_row outs at row f there ∙ among)) other
 
-  sound : (f : ℕ) (s : Stretch) → live' f ≡ Some s → stretch_in outs' s.outpoint f ≡ Some s
-  sound f s is =
-      let was = less_is (is_among (firsts_of (runs_of row.sats)) f) (live f) s (sym (goes f) ∙ is) in ⊎_elim
-      (λ same. absurd (stays f s was.0 was.1 same))
-      (λ other. elsewhere outs outs' s.outpoint at f None (gets s.outpoint) other ∙ runs.sound f s was.1)
-      (which s.outpoint at)
+  pub leave_rows : ((q : ℕ) → live' q ≡ cond (is_among (firsts_of (runs_of row.sats)) q) None (live q)) → AreRuns live' slots outs'
+  leave_rows goes = record { sound = sound; complete = complete } where
+    sound : (f place : ℕ) → live' f ≡ Some place → option_map_or (λ (at : OutPoint). begins outs' at f) (outpoint_at slots place) false ≡ true
+    sound f place is =
+        let was = less (is_among (firsts_of (runs_of row.sats)) f) (live f) place (sym (goes f) ∙ is) in
+        let o = of_start live slots outs runs f place was.1 in ⊎_elim
+        (λ same. absurd (true≢false (sym o.is ∙ ap (λ (a : OutPoint). begins outs a f) same ∙ in_row outs at row f there ∙ was.0)))
+        (λ other. is_of outs' slots place f o.at o.slot (elsewhere outs outs' o.at at f None (gets o.at) other ∙ o.is))
+        (which o.at at)
 
-  gone_there : (f : ℕ) (s : Stretch) (q : OutPoint) → is_same q at ≡ false → stretch_in outs q f ≡ Some s → is_among (firsts_of (runs_of row.sats)) f ≡ true → ⊥
-  gone_there f s q other is among =
-      let begun = some_begins at 0 f (runs_of row.sats) among in
-      let held = in_row outs at row f there ∙ begun.1 in
-      let both : Some s ≡ Some begun.0 = sym (runs.complete f s q is) ∙ runs.complete f begun.0 at held in
-      let one = some_same s begun.0 both in
-      let here = held_outpoint outs at f begun.0 (held_in outs at f begun.0 held) in
-      let mine = held_outpoint outs q f s (held_in outs q f s is) in
-      not_both q at (sym mine ∙ ap (λ (y : Stretch). y.outpoint) one ∙ here) other
+    complete : (f : ℕ) (q : OutPoint) → begins outs' q f ≡ true → option_and_then (λ (place : ℕ). outpoint_at slots place) (live' f) ≡ Some q
+    complete f q is = ⊎_elim
+        (λ same. absurd (let b = begun_in outs' q f is in none_is b.row (sym (ap (get outs') same ∙ here_is outs outs' at None (gets at)) ∙ b.there)))
+        (λ other. let was = sym (elsewhere outs outs' q at f None (gets q) other) ∙ is in
+        let s = start_of live slots outs runs f q was in
+        is_at_start live' slots q f s.place (goes f ∙ keeps (is_among (firsts_of (runs_of row.sats)) f) (live f) s.place s.is (gone_there f q other was)) s.slot)
+        (which q at)
 
-  complete : (f : ℕ) (s : Stretch) (q : OutPoint) → stretch_in outs' q f ≡ Some s → live' f ≡ Some s
-  complete f s q is = ⊎_elim
-      (λ same. absurd (none_is s (sym (ap (option_and_then (λ (row : OutRow). stretch_at (stretches_of q 0 (runs_of row.sats)) f)) (ap (get outs') same ∙ here_is outs outs' at None (gets at))) ∙ is)))
-      (λ other. let was = sym (elsewhere outs outs' q at f None (gets q) other) ∙ is in
-      goes f ∙ keeps (is_among (firsts_of (runs_of row.sats)) f) (live f) s (runs.complete f s q was) (gone_there f s q other was))
-      (which q at)
+  pub leave_clear : (came came' kept : ℕ → Option ℕ) → AreClear came kept outs → ((q : ℕ) → came' q ≡ cond (is_among (firsts_of (runs_of row.sats)) q) None (came q)) → AreClear came' kept outs'
+  leave_clear came came' kept clear goes = record { within = within } where
+    within : (q : OutPoint) (r : OutRow) (first sat : ℕ) → get outs' q ≡ Some r → has_from (runs_of r.sats) first sat ≡ true → came' first ≡ None → BeginsLast kept first sat
+    within q r first sat is held new =
+        let was = less (is_same q at) (get outs q) r (sym (gets q) ∙ is) in
+        let begun = in_row outs q r first was.1 ∙ from_among (runs_of r.sats) first sat held in
+        clear.within q r first sat was.1 held (no_less (is_among (firsts_of (runs_of row.sats)) first) (came first) (sym (goes first) ∙ new) (gone_there first q was.0 begun))
 
 -- no run begins yet as those of satoshis that may stand do
-pub fresh_runs : (live : ℕ → Option Stretch) (outs : Outputs) (at : OutPoint) (sats : List ℕ) (q : ℕ) → AreRuns live outs → get outs at ≡ None → MayStand at sats outs → is_among (firsts_of (runs_of sats)) q ≡ true → live q ≡ None
-fresh_runs live outs at sats q runs none may among = by_live (live q) refl where
-  by_live : (o : Option Stretch) → live q ≡ o → live q ≡ None
+pub fresh_runs : (live : ℕ → Option ℕ) (slots : SlotList) (outs : Outputs) (at : OutPoint) (sats : List ℕ) (q : ℕ) → AreRuns live slots outs → get outs at ≡ None → MayStand at sats outs → is_among (firsts_of (runs_of sats)) q ≡ true → live q ≡ None
+fresh_runs live slots outs at sats q runs none may among = by_live (live q) refl where
+  by_live : (o : Option ℕ) → live q ≡ o → live q ≡ None
   by_live None is = is
-  by_live (Some s) is = absurd (
-      let h = held_in outs s.outpoint q s (runs.sound q s is) in
-      let some = held_some outs s.outpoint q s h in
-      let one = held_times outs s.outpoint q q s h (omega arith) (omega (arith, some)) in
-      let begun = some_begins at 0 q (runs_of sats) among in
-      let more = made_some at 0 q (runs_of sats) begun.0 (some_runs sats) begun.1 in
-      let other = hit at 0 q q (runs_of sats) begun.0 begun.1 (omega arith) (omega (arith, more)) in
-      let most = may.apart s.outpoint h.row q (λ same. none_is h.row (sym none ∙ ap (get outs) (sym same) ∙ h.there)) h.there in
-      omega (arith, one, other, most, times_row q sats))
+  by_live (Some place) is = absurd (
+      let o = of_start live slots outs runs q place is in
+      let b = begun_in outs o.at q o.is in
+      let other = hit q (runs_of sats) (some_runs sats) among in
+      let most = may.apart o.at b.row q (λ same. none_is b.row (sym none ∙ ap (get outs) (sym same) ∙ b.there)) b.there in
+      omega (arith, begun_times outs o.at q b, other, most, times_row q sats))
 
-pub arrive_rows : (live live' : ℕ → Option Stretch) (outs outs' : Outputs) (at : OutPoint) (row : OutRow) → AreRuns live outs → get outs at ≡ None → MayStand at row.sats outs → ((q : ℕ) → live' q ≡ option_or (stretch_at (stretches_of at 0 (runs_of row.sats)) q) (live q)) → ((q : OutPoint) → get outs' q ≡ cond (is_same q at) (Some row) (get outs q)) → AreRuns live' outs'
-arrive_rows live live' outs outs' at row runs none may comes gets = record { sound = sound; complete = complete } where
-  there : get outs' at ≡ Some row
-  there = here_is outs outs' at (Some row) (gets at)
+new_or_was : (b : Bool) (place p : ℕ) (o : Option ℕ) → cond b (Some place) o ≡ Some p → ((b ≡ true) × (place ≡ p)) ⊎ (o ≡ Some p)
+new_or_was true place p o is = inl (refl, cc is)
+new_or_was false place p o is = inr is
 
-  sound : (f : ℕ) (s : Stretch) → live' f ≡ Some s → stretch_in outs' s.outpoint f ≡ Some s
-  sound f s is = ⊎_elim
-      (λ new. let mine = (made_of at 0 f (runs_of row.sats) s new).outpoint in
-      ap (λ (a : OutPoint). stretch_in outs' a f) mine ∙ in_row outs' at row f there ∙ new)
-      (λ old. let h = held_in outs s.outpoint f s (runs.sound f s old) in ⊎_elim
-      (λ same. absurd (none_is h.row (sym none ∙ ap (get outs) (sym same) ∙ h.there)))
-      (λ other. elsewhere outs outs' s.outpoint at f (Some row) (gets s.outpoint) other ∙ runs.sound f s old)
-      (which s.outpoint at))
-      (either_is (stretch_at (stretches_of at 0 (runs_of row.sats)) f) (live f) s (sym (comes f) ∙ is))
+no_new : (b : Bool) (place : ℕ) (o : Option ℕ) → cond b (Some place) o ≡ None → (b ≡ false) × (o ≡ None)
+no_new true place o is = absurd (cc is)
+no_new false place o is = (refl, is)
 
-  was : (f : ℕ) (s : Stretch) → live f ≡ Some s → (b : Bool) → is_among (firsts_of (runs_of row.sats)) f ≡ b → option_or (stretch_at (stretches_of at 0 (runs_of row.sats)) f) (live f) ≡ Some s
-  was f s old true among = absurd (none_is s (sym (fresh_runs live outs at row.sats f runs none may among) ∙ old))
-  was f s old false other = ap (λ (o : Option Stretch). option_or o (live f)) (none_begins at 0 f (runs_of row.sats) other) ∙ old
+module _ (live live' : ℕ → Option ℕ) (slots : SlotList) (outs outs' : Outputs) (at : OutPoint) (row : OutRow) (place : ℕ) (gets : (q : OutPoint) → get outs' q ≡ cond (is_same q at) (Some row) (get outs q)) where
+  stands : get outs' at ≡ Some row
+  stands = here_is outs outs' at (Some row) (gets at)
 
-  complete : (f : ℕ) (s : Stretch) (q : OutPoint) → stretch_in outs' q f ≡ Some s → live' f ≡ Some s
-  complete f s q is = ⊎_elim
-      (λ same. let new = sym (in_row outs' at row f there) ∙ ap (λ (a : OutPoint). stretch_in outs' a f) (sym same) ∙ is in
-      comes f ∙ ap (λ (o : Option Stretch). option_or o (live f)) new)
-      (λ other. let old = runs.complete f s q (sym (elsewhere outs outs' q at f (Some row) (gets q) other) ∙ is) in
-      comes f ∙ was f s old (is_among (firsts_of (runs_of row.sats)) f) refl)
-      (which q at)
+  pub arrive_rows : AreRuns live slots outs → outpoint_at slots place ≡ Some at → get outs at ≡ None → MayStand at row.sats outs → ((q : ℕ) → live' q ≡ cond (is_among (firsts_of (runs_of row.sats)) q) (Some place) (live q)) → AreRuns live' slots outs'
+  arrive_rows runs slot none may comes = record { sound = sound; complete = complete } where
+    sound : (f p : ℕ) → live' f ≡ Some p → option_map_or (λ (at : OutPoint). begins outs' at f) (outpoint_at slots p) false ≡ true
+    sound f p is = ⊎_elim
+        (λ new. is_of outs' slots p f at (ap (outpoint_at slots) (sym new.1) ∙ slot) (in_row outs' at row f stands ∙ new.0))
+        (λ old. let o = of_start live slots outs runs f p old in ⊎_elim
+        (λ same. absurd (let b = begun_in outs o.at f o.is in none_is b.row (sym none ∙ ap (get outs) (sym same) ∙ b.there)))
+        (λ other. is_of outs' slots p f o.at o.slot (elsewhere outs outs' o.at at f (Some row) (gets o.at) other ∙ o.is))
+        (which o.at at))
+        (new_or_was (is_among (firsts_of (runs_of row.sats)) f) place p (live f) (sym (comes f) ∙ is))
+
+    was : (f p : ℕ) → live f ≡ Some p → (b : Bool) → is_among (firsts_of (runs_of row.sats)) f ≡ b → cond (is_among (firsts_of (runs_of row.sats)) f) (Some place) (live f) ≡ Some p
+    was f p old true among = absurd (none_is p (sym (fresh_runs live slots outs at row.sats f runs none may among) ∙ old))
+    was f p old false other = tested (is_among (firsts_of (runs_of row.sats)) f) false (Some place) (live f) other ∙ old
+
+    complete : (f : ℕ) (q : OutPoint) → begins outs' q f ≡ true → option_and_then (λ (place : ℕ). outpoint_at slots place) (live' f) ≡ Some q
+    complete f q is = ⊎_elim
+        (λ same. let new = sym (in_row outs' at row f stands) ∙ ap (λ (a : OutPoint). begins outs' a f) (sym same) ∙ is in
+        is_at_start live' slots q f place (comes f ∙ tested (is_among (firsts_of (runs_of row.sats)) f) true (Some place) (live f) new) (slot ∙ ap (λ (a : OutPoint). Some a) (sym same)))
+        (λ other. let s = start_of live slots outs runs f q (sym (elsewhere outs outs' q at f (Some row) (gets q) other) ∙ is) in
+        is_at_start live' slots q f s.place (comes f ∙ was f s.place s.is (is_among (firsts_of (runs_of row.sats)) f) refl) s.slot)
+        (which q at)
+
+  pub arrive_clear : (came came' kept : ℕ → Option ℕ) → AreClear came kept outs → ((q : ℕ) → came' q ≡ cond (is_among (firsts_of (runs_of row.sats)) q) (Some place) (came q)) → AreClear came' kept outs'
+  arrive_clear came came' kept clear comes = record { within = within } where
+    within : (q : OutPoint) (r : OutRow) (first sat : ℕ) → get outs' q ≡ Some r → has_from (runs_of r.sats) first sat ≡ true → came' first ≡ None → BeginsLast kept first sat
+    within q r first sat is held new =
+        let old = no_new (is_among (firsts_of (runs_of row.sats)) first) place (came first) (sym (comes first) ∙ new) in ⊎_elim
+        (λ same. absurd (
+        let one = one_row outs' q at r row same is stands in
+        true≢false (sym (from_among (runs_of r.sats) first sat held) ∙ ap (λ (r : OutRow). is_among (firsts_of (runs_of r.sats)) first) one ∙ old.0)))
+        (λ other. clear.within q r first sat (sym (gets q ∙ tested (is_same q at) false (Some row) (get outs q) other) ∙ is) held old.1)
+        (which q at)
 
 -- ---- no satoshi stands twice
 
 pub once_taken : (outs outs' : Outputs) (at : OutPoint) → StandOnce outs → ((q : OutPoint) → get outs' q ≡ cond (is_same q at) None (get outs q)) → StandOnce outs'
 once_taken outs outs' at once gets = record {
-  alone = λ q row sat is. once.alone q row sat (less_row (is_same q at) (get outs q) row (sym (gets q) ∙ is)).1;
-  apart = λ a b r q sat differ is js. once.apart a b r q sat differ (less_row (is_same a at) (get outs a) r (sym (gets a) ∙ is)).1 (less_row (is_same b at) (get outs b) q (sym (gets b) ∙ js)).1;
+  alone = λ q row sat is. once.alone q row sat (less (is_same q at) (get outs q) row (sym (gets q) ∙ is)).1;
+  apart = λ a b r q sat differ is js. once.apart a b r q sat differ (less (is_same a at) (get outs a) r (sym (gets a) ∙ is)).1 (less (is_same b at) (get outs b) q (sym (gets b) ∙ js)).1;
 }
 
 -- what stands at an outpoint after a row was put at one
@@ -460,6 +424,48 @@ once_placed outs outs' at row once may gets = record { alone = alone; apart = ap
       (after outs outs' at a row r (gets a) is)
 
 -- ---- where a satoshi is
+
+times_same : (x y : ℕ) (ys : List ℕ) → (y == x) ≡ true → times x (y ∷ ys) ≡ 1 + times x ys
+times_same x y ys is =
+    let one : times x (y ∷ []) ≡ 1 = ap (λ (b : Bool). 0 + (if b then 1 else 0)) is in
+    omega (arith, times-append x (y ∷ []) ys, one)
+
+times_other : (x y : ℕ) (ys : List ℕ) → (y == x) ≡ false → times x (y ∷ ys) ≡ times x ys
+times_other x y ys is =
+    let zero : times x (y ∷ []) ≡ 0 = ap (λ (b : Bool). 0 + (if b then 1 else 0)) is in
+    omega (arith, times-append x (y ∷ []) ys, zero)
+
+absent_place : (x : ℕ) (xs : List ℕ) → times x xs ≡ 0 → position_or_len (λ n. n == x) xs ≡ length xs
+absent_place x [] none = refl
+absent_place x (y ∷ ys) none = ⊎_elim
+    (λ same. absurd (let one = times_same x y ys (eq-eqb y x same) in omega (arith, one, none)))
+    (λ other. let differ = ne_eqb y x other in
+    let rest = times_other x y ys differ in
+    let more = absent_place x ys (omega (arith, rest, none)) in
+    rw differ (omega (arith, more)))
+    (cases_eq y x)
+
+present_place : (x : ℕ) (xs : List ℕ) → 1 ≤ times x xs → position_or_len (λ n. n == x) xs < length xs
+present_place x [] some = absurd (omega (arith, some))
+present_place x (y ∷ ys) some = ⊎_elim
+    (λ same. rw (eq-eqb y x same) (omega arith))
+    (λ other. let differ = ne_eqb y x other in
+    let rest = times_other x y ys differ in
+    let more = present_place x ys (omega (arith, rest, some)) in
+    rw differ (omega (arith, more)))
+    (cases_eq y x)
+
+place_some : (sats : List ℕ) (sat : ℕ) → 1 ≤ times sat sats → (offset : ℕ) × (place_in sats sat ≡ Some offset)
+place_some sats sat some = (position_or_len (λ n. n == sat) sats, sym (position_some sats sat (position_or_len (λ n. n == sat) sats) refl (present_place sat sats some)))
+
+absent_from : (sats : List ℕ) (sat : ℕ) → times sat sats ≡ 0 → place_in sats sat ≡ None
+absent_from sats sat none = sym (position_none sats sat (absent_place sat sats none))
+
+present_in : (sats : List ℕ) (sat offset : ℕ) → place_in sats sat ≡ Some offset → 1 ≤ times sat sats
+present_in sats sat offset is = ⊎_elim
+    (λ some. omega (arith, some))
+    (λ zero. absurd (none_is offset (sym (absent_from sats sat (omega (arith, zero))) ∙ is)))
+    (cases_lt 0 (times sat sats))
 
 first_true : (a b : Bool) → T (a && b) → T a
 first_true true b p = tt
@@ -513,49 +519,75 @@ one_among (e ∷ es) sat at row offset sorted is holds none =
     one_first (eq_by_cmp outpoint_cmp at e.0) e es sat at row offset refl is holds (none e.0 e.1 (found_front e es))
     (λ more. one_among es sat at row offset (second_true _ _ sorted) more holds (λ k x found. none k x (found_behind e es k x sorted found)))
 
--- where its stretch says
-place_held : (outs : Outputs) (f sat : ℕ) (s : Stretch) → StandOnce outs → (h : IsHeld outs s.outpoint f s) → f ≤ sat → sat < f + s.count → place_in h.row.sats sat ≡ Some (s.place + (sat - f))
-place_held outs f sat s once h low high =
-    let most = once.alone s.outpoint h.row sat h.there in
-    let at = placed s.outpoint 0 sat f (runs_of h.row.sats) s h.is low high (omega (arith, most, times_row sat h.row.sats)) in
-    let numbers = ap (position_or_len (λ n. n == sat)) (numbers_of-runs_of h.row.sats) in
-    let here : position_or_len (λ n. n == sat) h.row.sats ≡ s.place + (sat - f) = omega (arith, at, numbers) in
-    let within = present_place sat h.row.sats (held_times outs s.outpoint f sat s h low high) in
-    sym (position_some h.row.sats sat (s.place + (sat - f)) here (omega (arith, here, within)))
+not_held : (sats : List ℕ) (sat : ℕ) → place_in sats sat ≡ None → 1 ≤ times sat sats → ⊥
+not_held sats sat none some = let m = place_some sats sat some in none_is m.0 (sym none ∙ m.1)
 
--- a row that has a satoshi has a stretch with it
-met_row : (live : ℕ → Option Stretch) (outs : Outputs) (sat : ℕ) (k : OutPoint) (x : OutRow) → AreRuns live outs → StandOnce outs → Finds live sat None → get outs k ≡ Some x → place_in x.sats sat ≡ None
-met_row live outs sat k x runs once none there = ⊎_elim
-    (λ some. absurd (
-    let m = met k 0 sat (runs_of x.sats) (some_runs x.sats) (λ y. let most = once.alone k x y there in omega (arith, most, times_row y x.sats)) (omega (arith, some, times_row sat x.sats)) in
-    none m.first m.stretch (Out m.stretch.outpoint (m.stretch.place + (sat - m.first))) (runs.complete m.first m.stretch k (in_row outs k x m.first there ∙ m.is)) (record { low = m.low; high = m.high; place = refl })))
-    (λ zero. absent_from x.sats sat (omega (arith, zero)))
-    (cases_lt 0 (times sat x.sats))
+-- what is found is the slot of the run that begins last, if it may hold the satoshi
+abbrev pub FindsLast : (ℕ → Option ℕ) → (ℕ → Option ℕ) → (ℕ → Option ℕ) → ℕ → Option ℕ → Type 0
+FindsLast live came kept sat found = (first slot : ℕ) → live first ≡ Some slot → BeginsLast live first sat
+    → (came first ≡ None → BeginsLast kept first sat) → found ≡ Some slot
 
--- the only output that holds a satoshi is the first
-pub found_exact : (live : ℕ → Option Stretch) (outs : Outputs) (sat : ℕ) (r : Option Place) → AreRuns live outs → StandOnce outs → Finds live sat r → r ≡ place_among (entries outs) sat
-found_exact live outs sat None runs once none = sym (none_among (entries outs) sat (entries_sorted outs) (λ k x is. met_row live outs sat k x runs once none (get-entries outs k ∙ is)))
-found_exact live outs sat (Some place) runs once found =
-    let f = found.0 in
-    let s = found.1 in
-    let holds = found.3 in
-    let h = held_in outs s.outpoint f s (runs.sound f s found.2) in
-    let here = place_held outs f sat s once h holds.low holds.high in
-    let one = held_times outs s.outpoint f sat s h holds.low holds.high in
-    ap (λ (p : Place). Some p) holds.place
-    ∙ sym (one_among (entries outs) sat s.outpoint h.row (s.place + (sat - f)) (entries_sorted outs) (sym (get-entries outs s.outpoint) ∙ h.there) here
-    (λ k x is differ. let most = once.apart k s.outpoint x h.row sat differ (get-entries outs k ∙ is) h.there in absent_from x.sats sat (omega (arith, most, one))))
+module _ (live came kept : ℕ → Option ℕ) (slots : SlotList) (outs : Outputs) (sat : ℕ) (found : Option ℕ) (runs : AreRuns live slots outs) (once : StandOnce outs) (clear : AreClear came kept outs) (last : FindsLast live came kept sat found) where
+  -- the slot of the output that holds it
+  found_of : (k : OutPoint) (x : OutRow) → get outs k ≡ Some x → 1 ≤ times sat x.sats → (slot : ℕ) × (found ≡ Some slot) × (outpoint_at slots slot ≡ Some k)
+  found_of k x there some =
+      let m = met sat (runs_of x.sats) (omega (arith, some, times_row sat x.sats)) in
+      let s = start_of live slots outs runs m.0 k (in_row outs k x m.0 there ∙ from_among (runs_of x.sats) m.0 sat m.1) in
+      (s.place, last m.0 s.place s.is (begins_last live slots outs runs once k x m.0 sat there m.1) (λ new. clear.within k x m.0 sat there m.1 new), s.slot)
+
+  pub found_none : found ≡ None → place_among (entries outs) sat ≡ None
+  found_none none = none_among (entries outs) sat (entries_sorted outs) (λ k x is. ⊎_elim
+      (λ some. absurd (let f = found_of k x (get-entries outs k ∙ is) (omega (arith, some)) in none_is f.0 (sym none ∙ f.1)))
+      (λ zero. absent_from x.sats sat (omega (arith, zero)))
+      (cases_lt 0 (times sat x.sats)))
+
+  -- the output whose slot is found holds it, or none does
+  only_there : (slot : ℕ) (at : OutPoint) (row : OutRow) → found ≡ Some slot → outpoint_at slots slot ≡ Some at → get outs at ≡ Some row → (o : Option ℕ) → place_in row.sats sat ≡ o → option_map (λ (offset : ℕ). Out at offset) o ≡ place_among (entries outs) sat
+  only_there slot at row is here there (Some offset) held =
+      sym (one_among (entries outs) sat at row offset (entries_sorted outs) (sym (get-entries outs at) ∙ there) held
+      (λ k x found differ. let most = once.apart k at x row sat differ (get-entries outs k ∙ found) there in absent_from x.sats sat (omega (arith, most, present_in row.sats sat offset held))))
+  only_there slot at row is here there None held = sym (none_among (entries outs) sat (entries_sorted outs) (λ k x found. ⊎_elim
+      (λ some. absurd (
+      let f = found_of k x (get-entries outs k ∙ found) (omega (arith, some)) in
+      let one : Some f.0 ≡ Some slot = sym f.1 ∙ is in
+      let same : Some k ≡ Some at = sym f.2 ∙ ap (outpoint_at slots) (cc one) ∙ here in
+      let row_is = one_row outs k at x row (cc same) (get-entries outs k ∙ found) there in
+      not_held row.sats sat held (omega (arith, some, times_as sat x row row_is))))
+      (λ zero. absent_from x.sats sat (omega (arith, zero)))
+      (cases_lt 0 (times sat x.sats))))
+
+  pub found_exact : (slot : ℕ) (r : Option Place) → found ≡ Some slot → (first : ℕ) × (first ≤ sat) × (live first ≡ Some slot) → ((at : OutPoint) → outpoint_at slots slot ≡ Some at → r ≡ place_held at (get outs at) sat) → r ≡ place_among (entries outs) sat
+  found_exact slot r is at held =
+      let o = of_start live slots outs runs at.0 slot at.2 in
+      let b = begun_in outs o.at at.0 o.is in
+      held o.at o.slot ∙ ap (λ (x : Option OutRow). place_held o.at x sat) b.there
+      ∙ only_there slot o.at b.row is o.slot b.there (place_in b.row.sats sat) refl
 
 -- ---- the same runs, the same rows
 
-pub runs_alike : (live live' : ℕ → Option Stretch) (outs outs' : Outputs) → AreRuns live outs → ((q : ℕ) → live' q ≡ live q) → outs' ≡ outs → AreRuns live' outs'
-runs_alike live live' outs outs' runs same is = subst (AreRuns live') (sym is) (record {
-  sound = λ f s there. runs.sound f s (sym (same f) ∙ there);
-  complete = λ f s at there. same f ∙ runs.complete f s at there;
-})
+-- each slot that holds one of these rows is there still
+abbrev pub Stay : Outputs → SlotList → SlotList → Type 0
+Stay outs old new = (place : ℕ) (at : OutPoint) (row : OutRow) → outpoint_at old place ≡ Some at → get outs at ≡ Some row → outpoint_at new place ≡ Some at
 
-pub apart_alike : (live live' : ℕ → Option Stretch) → AreApart live → ((q : ℕ) → live' q ≡ live q) → AreApart live'
-apart_alike live live' apart same = record { before = λ f g s t is js low. apart.before f g s t (sym (same f) ∙ is) (sym (same g) ∙ js) low }
+pub stay_same : (outs : Outputs) (old new : SlotList) → ((p : ℕ) → outpoint_at new p ≡ outpoint_at old p) → Stay outs old new
+stay_same outs old new same p at row is there = same p ∙ is
+
+pub stay_kept : (outs : Outputs) (old new : SlotList) → ((p : ℕ) (q : OutPoint) → outpoint_at old p ≡ Some q → outpoint_at new p ≡ Some q) → Stay outs old new
+stay_kept outs old new keeps p at row is there = keeps p at is
+
+pub runs_alike : (live live' : ℕ → Option ℕ) (slots slots' : SlotList) (outs outs' : Outputs) → AreRuns live slots outs → ((q : ℕ) → live' q ≡ live q) → Stay outs slots slots' → outs' ≡ outs → AreRuns live' slots' outs'
+runs_alike live live' slots slots' outs outs' runs same stay is = subst (AreRuns live' slots') (sym is) (record { sound = sound; complete = complete }) where
+  sound : (f place : ℕ) → live' f ≡ Some place → option_map_or (λ (at : OutPoint). begins outs at f) (outpoint_at slots' place) false ≡ true
+  sound f place there =
+      let o = of_start live slots outs runs f place (sym (same f) ∙ there) in
+      let b = begun_in outs o.at f o.is in
+      is_of outs slots' place f o.at (stay place o.at b.row o.slot b.there) o.is
+
+  complete : (f : ℕ) (at : OutPoint) → begins outs at f ≡ true → option_and_then (λ (place : ℕ). outpoint_at slots' place) (live' f) ≡ Some at
+  complete f at begun =
+      let s = start_of live slots outs runs f at begun in
+      let b = begun_in outs at f begun in
+      is_at_start live' slots' at f s.place (same f ∙ s.is) (stay s.place at b.row s.slot b.there)
 
 pub once_alike : (outs outs' : Outputs) → StandOnce outs → outs' ≡ outs → StandOnce outs'
 once_alike outs outs' once is = subst StandOnce (sym is) once
@@ -566,7 +598,7 @@ may_alike at sats sats' outs outs' may is same = subst (λ (l : List ℕ). MaySt
 pub may_less : (at : OutPoint) (sats : List ℕ) (outs outs' : Outputs) → MayStand at sats outs → ((q : OutPoint) → get outs' q ≡ cond (is_same q at) None (get outs q)) → MayStand at sats outs'
 may_less at sats outs outs' may gets = record {
   once = may.once;
-  apart = λ other row sat differ is. may.apart other row sat differ (less_row (is_same other at) (get outs other) row (sym (gets other) ∙ is)).1;
+  apart = λ other row sat differ is. may.apart other row sat differ (less (is_same other at) (get outs other) row (sym (gets other) ∙ is)).1;
 }
 
 -- a row with these satoshis
@@ -585,5 +617,5 @@ pub elsewhere_is : {A : Type 0} (b : Bool) (x y : A) → b ≡ false → cond b 
 elsewhere_is b x y is = tested b false x y is
 
 -- where nothing was live but what goes
-pub stays_none : (b : Bool) (o : Option Stretch) → cond b None o ≡ None → b ≡ false → o ≡ None
+pub stays_none : (b : Bool) (o : Option ℕ) → cond b None o ≡ None → b ≡ false → o ≡ None
 stays_none b o is stays = sym (tested b false None o stays) ∙ is

@@ -10,7 +10,7 @@ use Rattle.ox_block.specs.declared.block.OutPoint.{OutPoint}
 use Rattle.ox_rules.specs.declared.rows.OutRow.{OutRow}
 use Rattle.ox_rules.specs.Outputs.{Outputs, outpoint_cmp}
 use Rattle.ox_rules.proofs.Orders.{outpoints_total, outpoints_exact}
-use Rattle.ox_outputs.specs.Slots.{SlotList, outpoint_at, slot_at, put_slot, undone, AreSpots, unless_empty, is_place_of, tidied_at, filled_before}
+use Rattle.ox_outputs.specs.Slots.{SlotList, KeepRows, outpoint_at, slot_at, rows_of, put_slot, undone, AreSpots, unless_empty, is_place_of, tidied_at, filled_before}
 use Rattle.ox_outputs.specs.declared.held.Slot.{Slot}
 use Rattle.ox_outputs.specs.declared.spot.Spot.{Spot}
 
@@ -141,6 +141,11 @@ pub known_still : (changed changed' : List Spot) (old new : SlotList) → change
 known_still changed changed' old new is known keeps = subst (λ (l : List Spot). AreSpots l new) (sym is) (spots_kept changed old new keeps known)
 
 -- ---- slots that are tidied
+
+-- the slots with rows stay at each step
+pub rows_still : (old mid new : SlotList) → rows_of mid ≡ rows_of old → KeepRows old mid → KeepRows mid new → KeepRows old new
+rows_still old mid new same first second p at row is there =
+    second p at row (first p at row is there) (ap (λ (o : Outputs). get o at) same ∙ there)
 
 or_true : (b : Bool) → (b || true) ≡ true
 or_true true = refl

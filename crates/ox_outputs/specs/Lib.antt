@@ -1,9 +1,8 @@
-pub mod Finding
 pub mod Located
 pub mod Locator
 pub mod Lists
 pub mod Places
 pub mod Slots
-pub mod Stretches
+pub mod Starts
 pub mod Table
 pub mod Differing

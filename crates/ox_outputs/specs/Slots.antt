@@ -3,7 +3,7 @@ use Rattle.std.specs.Prelude.{◌≡◌, ℕ, ◌==◌, Bool, if◌then◌else�
 use Rattle.std.specs.Prelude.{Some, None, is_some, slice_index_or}
 use Rattle.std.specs.List.{list_any}
 use Rattle.std.specs.Option.{option_map, option_and_then}
-use Rattle.std.specs.FinMap.{empty, insert, remove}
+use Rattle.std.specs.FinMap.{empty, get, insert, remove}
 use Rattle.ox_block.specs.declared.block.OutPoint.{OutPoint}
 use Rattle.ox_rules.specs.declared.rows.OutRow.{OutRow}
 use Rattle.ox_rules.specs.Outputs.{Outputs}
@@ -44,6 +44,11 @@ abbrev pub rows_of : SlotList → Outputs
 rows_of [] = empty
 rows_of (None ∷ slots) = rows_of slots
 rows_of (Some slot ∷ slots) = put_slot (rows_of slots) slot.at slot.row
+
+-- each slot that holds one of the rows is there as before
+abbrev pub KeepRows : SlotList → SlotList → Type 0
+KeepRows old new = (place : ℕ) (at : OutPoint) (row : OutRow) → outpoint_at old place ≡ Some at
+    → get (rows_of old) at ≡ Some row → outpoint_at new place ≡ Some at
 
 -- the rows without some changes, of which the oldest comes first: what stood at each outpoint is
 -- put back there

@@ -2,16 +2,16 @@
 
 ghost use Rattle.std.specs.Prelude.{◌≡◌, ℕ, true, false, Option, Some, None, IfOk, IfErr};
 ghost use Rattle.std.specs.Prelude.{OnOk, OnErr, [], length, if◌then◌else◌, IfSome, IsSomeAnd};
-ghost use Rattle.std.specs.Option.{option_map, option_or};
+ghost use Rattle.std.specs.Option.{option_map};
 ghost use Rattle.std.specs.FinMap as map;
 ghost use Rattle.ox_block.specs.declared.block.OutPoint.{OutPoint};
 ghost use Rattle.ox_range.specs.Runs.{runs_of};
 ghost use Rattle.ox_rules.specs.Outputs.{MayStand};
-ghost use Rattle.ox_outputs.specs.Located.{AreRuns};
-ghost use Rattle.ox_outputs.specs.Locator.{live_at, kept_at};
-ghost use Rattle.ox_outputs.specs.Stretches.{stretch_at, stretches_of, is_among, firsts_of};
+ghost use Rattle.ox_outputs.specs.Located.{AreRuns, AreClear};
+ghost use Rattle.ox_outputs.specs.Locator.{live_at, kept_at, came_at};
+ghost use Rattle.ox_outputs.specs.Starts.{is_among, firsts_of};
 ghost use Rattle.ox_outputs.specs.Slots.{outpoint_at, slot_at, put_slot, rows_of, undone, AreSpots};
-ghost use Rattle.ox_outputs.specs.Slots.{tidied_at, filled_before};
+ghost use Rattle.ox_outputs.specs.Slots.{tidied_at, filled_before, KeepRows};
 
 use crate::locator::Locator;
 use crate::slots::Slots;
@@ -26,7 +26,10 @@ fn leave_copied(locator: &mut Locator, row: &OutRow, alloc: Global) -> Result<Ou
     ensures copy { IfOk result (λ copy. copy ≡ row.now) }
     ensures ok { OnOk result ((q : ℕ) → live_at locator.new q
         ≡ (if is_among (firsts_of (runs_of row.now.sats)) q then None else live_at locator.old q)) }
+    ensures came { OnOk result ((q : ℕ) → came_at locator.new q
+        ≡ (if is_among (firsts_of (runs_of row.now.sats)) q then None else came_at locator.old q)) }
     ensures err { OnErr result ((q : ℕ) → live_at locator.new q ≡ live_at locator.old q) }
+    ensures came_err { OnErr result ((q : ℕ) → came_at locator.new q ≡ came_at locator.old q) }
     ensures kept { (q : ℕ) → kept_at locator.new q ≡ kept_at locator.old q }
 {
     let copy = row.copy(alloc)?;
@@ -53,7 +56,8 @@ pub(crate) fn take_twice(
     at: &OutPoint,
     alloc: Global,
 ) -> Result<Option<Taken>, Memory>
-    requires runs { AreRuns (live_at locator.old) (rows_of slots.old) }
+    requires runs { AreRuns (live_at locator.old) slots.old (rows_of slots.old) }
+    requires clear { AreClear (came_at locator.old) (kept_at locator.old) (rows_of slots.old) }
     ensures row { IfOk result
         (λ taken. option_map (λ t. t.row) taken ≡ map.get (rows_of slots.old) at.now) }
     ensures kept { IfOk result
@@ -64,7 +68,8 @@ pub(crate) fn take_twice(
         (rows_of slots.new ≡ put_slot (rows_of slots.old) at.now None) }
     ensures places { (p : ℕ) → outpoint_at slots.new p ≡ outpoint_at slots.old p }
     ensures err { OnErr result (rows_of slots.new ≡ rows_of slots.old) }
-    ensures runs { AreRuns (live_at locator.new) (rows_of slots.new) }
+    ensures runs { AreRuns (live_at locator.new) slots.new (rows_of slots.new) }
+    ensures clear { AreClear (came_at locator.new) (kept_at locator.new) (rows_of slots.new) }
     ensures same { (q : ℕ) → kept_at locator.new q ≡ kept_at locator.old q }
 {
     let Some(place) = slots.find(at) else {
@@ -82,12 +87,12 @@ pub(crate) fn take_twice(
     }
 }
 
-// Copies a row whose satoshis leave the locator, and those of the row come that displaces it.
-// `Memory` where there is none: the locator is as before.
+// Copies a row whose satoshis leave the locator, and those of the row come that displaces it in the
+// slot at this place. `Memory` where there is none: the locator is as before.
 fn displace_copied(
     locator: &mut Locator,
     row: &OutRow,
-    at: &OutPoint,
+    place: u32,
     sats: &Ranges,
     alloc: Global,
 ) -> Result<OutRow, Memory>
@@ -95,13 +100,19 @@ fn displace_copied(
         → is_among (firsts_of (runs_of row.now.sats)) q ≡ false → live_at locator.old q ≡ None }
     ensures copy { IfOk result (λ copy. copy ≡ row.now) }
     ensures ok { OnOk result ((q : ℕ) → live_at locator.new q
-        ≡ option_or (stretch_at (stretches_of at.now 0 (runs_of sats.now)) q)
-        (if is_among (firsts_of (runs_of row.now.sats)) q then None else live_at locator.old q)) }
+        ≡ (if is_among (firsts_of (runs_of sats.now)) q then Some place
+        else (if is_among (firsts_of (runs_of row.now.sats)) q then None
+        else live_at locator.old q))) }
+    ensures came { OnOk result ((q : ℕ) → came_at locator.new q
+        ≡ (if is_among (firsts_of (runs_of sats.now)) q then Some place
+        else (if is_among (firsts_of (runs_of row.now.sats)) q then None
+        else came_at locator.old q))) }
     ensures err { OnErr result ((q : ℕ) → live_at locator.new q ≡ live_at locator.old q) }
+    ensures came_err { OnErr result ((q : ℕ) → came_at locator.new q ≡ came_at locator.old q) }
     ensures kept { (q : ℕ) → kept_at locator.new q ≡ kept_at locator.old q }
 {
     let copy = row.copy(alloc)?;
-    locator.displace(&row.sats, at, sats)?;
+    locator.displace(&row.sats, place, sats)?;
     Ok(copy)
 }
 
@@ -127,7 +138,10 @@ fn arrive_at(
     requires spot { outpoint_at slots.old spot.place ≡ Some spot.at }
     requires stands { IsSomeAnd (map.get (rows_of slots.old) spot.at)
         (λ row. row.sats ≡ sats.now) }
-    requires runs { AreRuns (live_at locator.old) (map.remove (rows_of slots.old) spot.at) }
+    requires runs { AreRuns (live_at locator.old) slots.old
+        (map.remove (rows_of slots.old) spot.at) }
+    requires clear { AreClear (came_at locator.old) (kept_at locator.old)
+        (map.remove (rows_of slots.old) spot.at) }
     requires may { MayStand spot.at sats.now (map.remove (rows_of slots.old) spot.at) }
     ensures none { IfOk result
         (λ held. held ≡ record { place = spot.place; row = None; kept = None }) }
@@ -135,10 +149,11 @@ fn arrive_at(
     ensures places { (p : ℕ) → outpoint_at slots.new p ≡ outpoint_at slots.old p }
     ensures handed_back { IfErr result (λ e. Some e.row ≡ map.get (rows_of slots.old) spot.at) }
     ensures err { OnErr result (rows_of slots.new ≡ map.remove (rows_of slots.old) spot.at) }
-    ensures runs { AreRuns (live_at locator.new) (rows_of slots.new) }
+    ensures runs { AreRuns (live_at locator.new) slots.new (rows_of slots.new) }
+    ensures clear { AreClear (came_at locator.new) (kept_at locator.new) (rows_of slots.new) }
     ensures same { (q : ℕ) → kept_at locator.new q ≡ kept_at locator.old q }
 {
-    match locator.arrive(&spot.at, sats) {
+    match locator.arrive(spot.place, sats) {
         Ok(()) => Ok(Displaced {
             place: spot.place,
             row: None,
@@ -165,7 +180,10 @@ fn displace_at(
     requires spot { outpoint_at slots.old spot.place ≡ Some spot.at }
     requires stands { IsSomeAnd (map.get (rows_of slots.old) spot.at)
         (λ row. row.sats ≡ sats.now) }
-    requires runs { AreRuns (live_at locator.old) (map.insert (rows_of slots.old) spot.at other) }
+    requires runs { AreRuns (live_at locator.old) slots.old
+        (map.insert (rows_of slots.old) spot.at other) }
+    requires clear { AreClear (came_at locator.old) (kept_at locator.old)
+        (map.insert (rows_of slots.old) spot.at other) }
     requires may { MayStand spot.at sats.now (map.insert (rows_of slots.old) spot.at other) }
     ensures twice { IfOk result
         (λ held. held ≡ record { place = spot.place; row = Some other; kept = Some other }) }
@@ -174,10 +192,11 @@ fn displace_at(
     ensures handed_back { IfErr result (λ e. Some e.row ≡ map.get (rows_of slots.old) spot.at) }
     ensures err { OnErr result
         (rows_of slots.new ≡ map.insert (rows_of slots.old) spot.at other) }
-    ensures runs { AreRuns (live_at locator.new) (rows_of slots.new) }
+    ensures runs { AreRuns (live_at locator.new) slots.new (rows_of slots.new) }
+    ensures clear { AreClear (came_at locator.new) (kept_at locator.new) (rows_of slots.new) }
     ensures same { (q : ℕ) → kept_at locator.new q ≡ kept_at locator.old q }
 {
-    match displace_copied(locator, &other, &spot.at, sats, alloc) {
+    match displace_copied(locator, &other, spot.place, sats, alloc) {
         Ok(kept) => Ok(Displaced {
             place: spot.place,
             row: Some(other),
@@ -200,7 +219,8 @@ pub(crate) fn fill_twice(
     row: OutRow,
     alloc: Global,
 ) -> Result<Displaced, Unplaced>
-    requires runs { AreRuns (live_at locator.old) (rows_of slots.old) }
+    requires runs { AreRuns (live_at locator.old) slots.old (rows_of slots.old) }
+    requires clear { AreClear (came_at locator.old) (kept_at locator.old) (rows_of slots.old) }
     requires may { MayStand at row.sats (rows_of slots.old) }
     ensures held { IfOk result (λ held. held.row ≡ map.get (rows_of slots.old) at) }
     ensures twice { IfOk result (λ held. held.kept ≡ map.get (rows_of slots.old) at) }
@@ -211,7 +231,8 @@ pub(crate) fn fill_twice(
         → outpoint_at slots.new p ≡ Some q }
     ensures handed_back { IfErr result (λ e. e.row ≡ row) }
     ensures err { OnErr result (rows_of slots.new ≡ rows_of slots.old) }
-    ensures runs { AreRuns (live_at locator.new) (rows_of slots.new) }
+    ensures runs { AreRuns (live_at locator.new) slots.new (rows_of slots.new) }
+    ensures clear { AreClear (came_at locator.new) (kept_at locator.new) (rows_of slots.new) }
     ensures same { (q : ℕ) → kept_at locator.new q ≡ kept_at locator.old q }
 {
     let Ok(sats) = row.sats.copy(alloc) else {
@@ -233,6 +254,7 @@ pub(crate) fn settle(slots: &mut Slots, changed: &mut Vec<Spot>, before: &mut Ve
     ensures tidied { length before.old.items ≡ length changed.old.items → (p : ℕ)
         → slot_at slots.new p
         ≡ tidied_at (filled_before changed.old.items before.old.items) slots.old p }
+    ensures filled { KeepRows slots.old slots.new }
     ensures none { changed.new.items ≡ [] }
 {
     while let Some(spot) = changed.pop() {
@@ -246,6 +268,7 @@ pub(crate) fn settle(slots: &mut Slots, changed: &mut Vec<Spot>, before: &mut Ve
 pub(crate) fn forget(slots: &mut Slots, changed: &mut Vec<Spot>)
     ensures rows { rows_of slots.new ≡ rows_of slots.old }
     ensures tidied { (p : ℕ) → slot_at slots.new p ≡ tidied_at changed.old.items slots.old p }
+    ensures filled { KeepRows slots.old slots.new }
     ensures none { changed.new.items ≡ [] }
 {
     while let Some(spot) = changed.pop() {
@@ -260,6 +283,7 @@ pub(crate) fn go_back(slots: &mut Slots, changed: &[Spot], before: &mut Vec<Opti
     ensures rows { rows_of slots.new
         ≡ undone before.old.items changed.now (rows_of slots.old) }
     ensures known { AreSpots changed.now slots.new }
+    ensures places { (p : ℕ) → outpoint_at slots.new p ≡ outpoint_at slots.old p }
     ensures none { before.new.items ≡ [] }
 {
     while let Some(row) = before.pop() {

@@ -3,10 +3,12 @@
 ghost use Rattle.std.specs.Prelude.{◌≡◌, ◌↔◌, Some, None, IsTrue, IsSome, IfOk, IfErr, OnErr};
 ghost use Rattle.std.specs.Option.{option_copied};
 ghost use Rattle.slab.specs.Slab.{get, Updates};
+ghost use Rattle.ox_block.specs.declared.block.OutPoint.{OutPoint};
+ghost use Rattle.ox_outputs.specs.Located.{place_held};
 ghost use Rattle.ox_outputs.specs.Slots.{row_at, outpoint_at, slot_with};
 
 use ox_block::OutPoint;
-use ox_rules::{OutRow, Unplaced};
+use ox_rules::{OutRow, Place, Unplaced};
 use slab::Slab;
 use std::mem;
 
@@ -28,6 +30,19 @@ pub(crate) fn row_in(held: &Held, place: u32) -> Option<&OutRow>
         Some(slot) => slot.row.as_ref(),
         None => None,
     }
+}
+
+/// Where a satoshi is in the row of the slot at this place, if it is there.
+pub(crate) fn locate_in(held: &Held, place: u32, sat: u64) -> Option<Place>
+    ensures { (at : OutPoint) → outpoint_at held.now.slots place ≡ Some at
+        → result ≡ place_held at (row_at held.now.slots place) sat }
+{
+    let slot = held.get(place as usize)?;
+    let offset = slot.row.as_ref()?.sats.place_of(sat)?;
+    Some(Place::Out {
+        outpoint: slot.at,
+        offset,
+    })
 }
 
 /// Whether the slot at this place is that of an outpoint.

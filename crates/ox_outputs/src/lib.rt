@@ -11,7 +11,6 @@ mod outputs;
 mod places;
 mod slots;
 mod spot;
-mod stretch;
-mod stretches;
+mod starts;
 
 pub use outputs::Outputs;

@@ -1,35 +1,30 @@
-//! Where each satoshi is.
+//! Which slot holds each satoshi.
 
-ghost use Rattle.std.specs.Prelude.{◌≡◌, ℕ, true, false, None, Some, OnOk, OnErr};
+ghost use Rattle.std.specs.Prelude.{◌≡◌, ◌≤◌, ℕ, true, false, None, Some, OnOk, OnErr, IfSome};
 ghost use Rattle.std.specs.Prelude.{if◌then◌else◌};
-ghost use Rattle.std.specs.Option.{option_or};
 ghost use Rattle.ox_range.specs.Runs.{runs_of};
-ghost use Rattle.ox_outputs.specs.declared.stretch.Stretch.{Stretch};
-ghost use Rattle.ox_outputs.specs.Stretches.{stretch_at, stretches_of, is_among, firsts_of};
-ghost use Rattle.ox_outputs.specs.Stretches.{AreKept, AreApart};
-ghost use Rattle.ox_outputs.specs.Finding.{Finds};
+ghost use Rattle.ox_outputs.specs.Starts.{is_among, firsts_of, AreKept, BeginsLast, IsLastLeft};
 
-use crate::stretches::{
-    Stretches, find, insert_runs, note_gone, put_over, remove_numbers, remove_runs, settle,
+use crate::starts::{
+    Starts, insert_runs, last_start, note_gone, put_over, remove_numbers, remove_runs, settle,
 };
-use ox_block::OutPoint;
 use ox_range::Ranges;
-use ox_rules::{Memory, Place};
+use ox_rules::Memory;
 use std::alloc::Global;
 use std::collections::{BTreeMap, BTreeSet};
 
-/// Where each satoshi of some outputs is: an entry for each run of satoshis that stand side by side
-/// in an output, by its first number. The runs at the mark stay as they are, and what changed since
-/// lies over them. So a change costs by the runs that changed since alone, and to go back takes no
-/// memory. The next mark puts the changes in.
+/// Which slot holds each satoshi of some outputs: an entry for each run of satoshis that stand side
+/// by side in an output, by its first number. The runs at the mark stay as they are, and what
+/// changed since lies over them. So a change costs by the runs that changed since alone, and to go
+/// back takes no memory. The next mark puts the changes in.
 #[derive(Drop)]
 pub(crate) struct Locator {
     /// The runs at the mark.
-    runs: Stretches,
+    runs: Starts,
     /// The first numbers of the runs at the mark that went since.
     gone: BTreeSet<u64>,
     /// The runs that came since, and stand.
-    came: Stretches,
+    came: Starts,
     /// The numbers that the last change put into `gone`, which it takes out again where it lacks
     /// memory. They are kept for their room alone.
     noted: Vec<u64>,
@@ -37,12 +32,13 @@ pub(crate) struct Locator {
 }
 
 impl Locator {
-    ghost use Rattle.ox_outputs.specs.Locator.{live_at, kept_at};
+    ghost use Rattle.ox_outputs.specs.Locator.{live_at, kept_at, came_at};
 
     /// No satoshi. It takes no memory until a run comes.
     pub(crate) fn new(alloc: Global) -> Locator
         ensures live { (q : ℕ) → live_at result q ≡ None }
         ensures kept { (q : ℕ) → kept_at result q ≡ None }
+        ensures came { (q : ℕ) → came_at result q ≡ None }
     {
         Locator {
             runs: BTreeMap::new(alloc),
@@ -52,21 +48,31 @@ impl Locator {
         }
     }
 
-    /// Where a satoshi is. A run that holds it is the last that begins at it or before, of those
-    /// that came since the mark or of those at the mark.
-    pub(crate) fn find(&self, sat: u64) -> Option<Place>
-        requires live { AreApart (live_at self.now) }
-        requires kept { AreApart (kept_at self.now) }
-        ensures { Finds (live_at self.now) sat result }
+    /// The slot of the run that begins last of those that begin at a satoshi or before: the only
+    /// slot that may hold it, where no runs overlap, neither now nor at the mark.
+    pub(crate) fn find(&self, sat: u64) -> Option<u32>
+        ensures live { IfSome result
+            (λ slot. (first : ℕ) × (first ≤ sat) × (live_at self.now first ≡ Some slot)) }
+        ensures last { (first slot : ℕ) → live_at self.now first ≡ Some slot
+            → BeginsLast (live_at self.now) first sat
+            → (came_at self.now first ≡ None → BeginsLast (kept_at self.now) first sat)
+            → result ≡ Some slot }
     {
-        if let Some((_, place)) = find(&self.came, sat) {
-            return Some(place);
-        }
-        let (first, place) = find(&self.runs, sat)?;
+        let came = last_start(&self.came, sat);
+        let (_, slot) = came.max(self.last_kept(sat))?;
+        Some(slot)
+    }
+
+    // The run that begins last of those at the mark that begin at a satoshi or before, if it didn't
+    // go since.
+    fn last_kept(&self, sat: u64) -> Option<(u64, u32)>
+        ensures { IsLastLeft (kept_at self.now) self.now.gone.keys sat result }
+    {
+        let (first, slot) = last_start(&self.runs, sat)?;
         if self.gone.contains(&first) {
             return None;
         }
-        Some(place)
+        Some((first, slot))
     }
 
     /// The runs of these satoshis go. `Memory` where there is none: all is as before. For a run at
@@ -74,7 +80,10 @@ impl Locator {
     pub(crate) fn leave(&mut self, sats: &Ranges) -> Result<(), Memory>
         ensures ok { OnOk result ((q : ℕ) → live_at self.new q
             ≡ (if is_among (firsts_of (runs_of sats.now)) q then None else live_at self.old q)) }
+        ensures came { OnOk result ((q : ℕ) → came_at self.new q
+            ≡ (if is_among (firsts_of (runs_of sats.now)) q then None else came_at self.old q)) }
         ensures err { OnErr result ((q : ℕ) → live_at self.new q ≡ live_at self.old q) }
+        ensures came_err { OnErr result ((q : ℕ) → came_at self.new q ≡ came_at self.old q) }
         ensures kept { (q : ℕ) → kept_at self.new q ≡ kept_at self.old q }
     {
         let runs = sats.runs();
@@ -84,46 +93,49 @@ impl Locator {
         Ok(())
     }
 
-    /// The runs of an output's satoshis come. `Memory` where there is none: all is as before.
-    pub(crate) fn arrive(&mut self, outpoint: &OutPoint, sats: &Ranges) -> Result<(), Memory>
+    /// The runs of a slot's satoshis come. `Memory` where there is none: all is as before.
+    pub(crate) fn arrive(&mut self, slot: u32, sats: &Ranges) -> Result<(), Memory>
         requires fresh { (q : ℕ) → is_among (firsts_of (runs_of sats.now)) q ≡ true
             → live_at self.old q ≡ None }
         ensures ok { OnOk result ((q : ℕ) → live_at self.new q
-            ≡ option_or (stretch_at (stretches_of outpoint.now 0 (runs_of sats.now)) q)
-            (live_at self.old q)) }
+            ≡ (if is_among (firsts_of (runs_of sats.now)) q then Some slot
+            else live_at self.old q)) }
+        ensures came { OnOk result ((q : ℕ) → came_at self.new q
+            ≡ (if is_among (firsts_of (runs_of sats.now)) q then Some slot
+            else came_at self.old q)) }
         ensures err { OnErr result ((q : ℕ) → live_at self.new q ≡ live_at self.old q) }
+        ensures came_err { OnErr result ((q : ℕ) → came_at self.new q ≡ came_at self.old q) }
         ensures kept { (q : ℕ) → kept_at self.new q ≡ kept_at self.old q }
     {
-        insert_runs(&mut self.came, outpoint, sats.runs(), sats.len())
+        insert_runs(&mut self.came, slot, sats.runs())
     }
 
-    /// The runs of an output's satoshis come in place of those of other ones, which were there.
+    /// The runs of a slot's satoshis come in place of those of other ones, which were there.
     /// `Memory` where there is none: all is as before. Where some of the others came since the
     /// mark, all that came since is copied for it.
     pub(crate) fn displace(
         &mut self,
         others: &Ranges,
-        outpoint: &OutPoint,
+        slot: u32,
         sats: &Ranges,
     ) -> Result<(), Memory>
         requires fresh { (q : ℕ) → is_among (firsts_of (runs_of sats.now)) q ≡ true
             → is_among (firsts_of (runs_of others.now)) q ≡ false → live_at self.old q ≡ None }
         ensures ok { OnOk result ((q : ℕ) → live_at self.new q
-            ≡ option_or (stretch_at (stretches_of outpoint.now 0 (runs_of sats.now)) q)
-            (if is_among (firsts_of (runs_of others.now)) q then None else live_at self.old q)) }
+            ≡ (if is_among (firsts_of (runs_of sats.now)) q then Some slot
+            else (if is_among (firsts_of (runs_of others.now)) q then None
+            else live_at self.old q))) }
+        ensures came { OnOk result ((q : ℕ) → came_at self.new q
+            ≡ (if is_among (firsts_of (runs_of sats.now)) q then Some slot
+            else (if is_among (firsts_of (runs_of others.now)) q then None
+            else came_at self.old q))) }
         ensures err { OnErr result ((q : ℕ) → live_at self.new q ≡ live_at self.old q) }
+        ensures came_err { OnErr result ((q : ℕ) → came_at self.new q ≡ came_at self.old q) }
         ensures kept { (q : ℕ) → kept_at self.new q ≡ kept_at self.old q }
     {
         let gone = others.runs();
         let some_came = note_gone(&mut self.gone, &mut self.noted, &self.came, gone)?;
-        let put = put_over(
-            &mut self.came,
-            some_came,
-            gone,
-            outpoint,
-            sats.runs(),
-            sats.len(),
-        );
+        let put = put_over(&mut self.came, some_came, gone, slot, sats.runs());
         if put.is_err() {
             remove_numbers(&mut self.gone, &self.noted);
         }
@@ -137,8 +149,9 @@ impl Locator {
     pub(crate) fn begin(&mut self) -> Result<(), Memory>
         ensures live { (q : ℕ) → live_at self.new q ≡ live_at self.old q }
         ensures ok { OnOk result ((q : ℕ) → kept_at self.new q ≡ live_at self.old q) }
-        ensures among { (q : ℕ) (s : Stretch) → kept_at self.new q ≡ Some s
-            → live_at self.old q ≡ Some s }
+        ensures among { (q slot : ℕ) → kept_at self.new q ≡ Some slot
+            → live_at self.old q ≡ Some slot }
+        ensures came { OnOk result ((q : ℕ) → came_at self.new q ≡ None) }
     {
         settle(&mut self.runs, &mut self.gone, &mut self.came)
     }
@@ -147,6 +160,7 @@ impl Locator {
     pub(crate) fn cancel(&mut self)
         ensures live { (q : ℕ) → live_at self.new q ≡ kept_at self.old q }
         ensures kept { (q : ℕ) → kept_at self.new q ≡ kept_at self.old q }
+        ensures came { (q : ℕ) → came_at self.new q ≡ None }
     {
         self.gone.clear();
         self.came.clear();

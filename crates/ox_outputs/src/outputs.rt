@@ -5,9 +5,8 @@ ghost use Rattle.std.specs.Prelude.{length, if◌then◌else◌, Some, None};
 ghost use Rattle.std.specs.Option.{option_copied};
 ghost use Rattle.std.specs.FinMap as map;
 ghost use Rattle.ox_outputs.specs.Slots.{rows_of, undone, AreSpots};
-ghost use Rattle.ox_outputs.specs.Located.{StandOnce, AreRuns};
-ghost use Rattle.ox_outputs.specs.Locator.{live_at, kept_at};
-ghost use Rattle.ox_outputs.specs.Stretches.{AreApart};
+ghost use Rattle.ox_outputs.specs.Located.{StandOnce, AreRuns, AreClear};
+ghost use Rattle.ox_outputs.specs.Locator.{live_at, kept_at, came_at};
 
 use crate::ahead::Ahead;
 use crate::changes::{Displaced, Taken, fill_twice, forget, go_back, settle, take_twice};
@@ -21,7 +20,7 @@ use std::alloc::Global;
 
 /// The unspent outputs: rows by outpoint, in memory. With a mark set, the rows that were taken or
 /// displaced since are kept until the next mark, so that to go back takes no memory. Beside them
-/// stands where each satoshi is.
+/// stands which slot holds each satoshi.
 #[derive(Drop)]
 pub struct Outputs {
     alloc: Global,
@@ -37,10 +36,10 @@ pub struct Outputs {
     ghost unmarked: { marked ≡ false → changed.items ≡ [] },
     ghost once: { StandOnce (rows_of slots) },
     ghost once_before: { StandOnce (undone before.items changed.items (rows_of slots)) },
-    ghost runs: { AreRuns (live_at locator) (rows_of slots) },
+    ghost runs: { AreRuns (live_at locator) slots (rows_of slots) },
     ghost runs_before: { marked ≡ true
-        → AreRuns (kept_at locator) (undone before.items changed.items (rows_of slots)) },
-    ghost apart: { AreApart (kept_at locator) },
+        → AreRuns (kept_at locator) slots (undone before.items changed.items (rows_of slots)) },
+    ghost clear: { AreClear (came_at locator) (kept_at locator) (rows_of slots) },
 }
 
 impl Outputs {
@@ -66,11 +65,12 @@ impl Outputs {
 
     /// The output that holds a satoshi, and its place there: the first such output in the order of
     /// outpoints, which is the only one. `None` exactly where no output holds it. It costs by the
-    /// logarithm of the runs of satoshis.
+    /// logarithm of the runs of satoshis, and by the runs of the one output that may hold it.
     pub fn locate(&self, sat: u64) -> Option<Place>
         ensures { result ≡ place_among (map.entries (rows_in self.now)) sat }
     {
-        self.locator.find(sat)
+        let place = self.locator.find(sat)?;
+        self.slots.locate(place, sat)
     }
 
     /// Says which block comes next, with the ids of its transactions, in order. It is a hint, by

@@ -6,11 +6,13 @@ ghost use Rattle.std.specs.Option.{option_copied};
 ghost use Rattle.std.specs.FinMap as map;
 ghost use Rattle.ox_block.specs.declared.block.OutPoint.{OutPoint};
 ghost use Rattle.ox_outputs.specs.Slots.{outpoint_at, slot_at, put_slot, rows_of, unless_empty};
+ghost use Rattle.ox_outputs.specs.Slots.{KeepRows};
+ghost use Rattle.ox_outputs.specs.Located.{place_held};
 
-use crate::held::{Held, exchange_in, give_out, row_in, take_back, vacate};
+use crate::held::{Held, exchange_in, give_out, locate_in, row_in, take_back, vacate};
 use crate::places::Places;
 use ox_block::OutPoint;
-use ox_rules::{OutRow, Unplaced};
+use ox_rules::{OutRow, Place, Unplaced};
 use slab::Slab;
 use std::alloc::Global;
 use std::marker::Model;
@@ -72,6 +74,15 @@ impl Slots {
         row_in(&self.held, place)
     }
 
+    /// Where a satoshi is in the row of the slot at this place. `None` where the row doesn't hold
+    /// it, or where there is no row. It costs by the row's runs.
+    pub(crate) fn locate(&self, place: u32, sat: u64) -> Option<Place>
+        ensures { (at : OutPoint) → outpoint_at self.now place ≡ Some at
+            → result ≡ place_held at (map.get (rows_of self.now) at) sat }
+    {
+        locate_in(&self.held, place, sat)
+    }
+
     /// Reads a part of what leads to the slot at this outpoint.
     pub(crate) fn glance_at(&self, at: &OutPoint) -> u32 {
         self.places.glance(at)
@@ -107,6 +118,7 @@ impl Slots {
         ensures rows { rows_of self.new ≡ rows_of self.old }
         ensures here { slot_at self.new place ≡ unless_empty (slot_at self.old place) }
         ensures others { (p : ℕ) → p ≢ place → slot_at self.new p ≡ slot_at self.old p }
+        ensures filled { KeepRows self.old self.new }
     {
         let Some(slot) = self.held.get(place as usize) else {
             return;

@@ -20,6 +20,7 @@ loop-row-preserved-in-Some c =
       rows = undo_step _ c.loop-row.before.items c.pop.new.self.items c.in-Some.row c.args.changed.now _ _ _ c.len.result popped c.loop-row.invariant.short at (c.exchange-changed.ensures.rows _ spot) c.loop-row.invariant.rows;
       short = short;
       known = spots_kept c.args.changed.now c.loop-row.slots c.exchange-changed.new.self (keep_same c.loop-row.slots c.exchange-changed.new.self c.exchange-changed.ensures.places) c.loop-row.invariant.known;
+      places = λ p. c.exchange-changed.ensures.places p ∙ c.loop-row.invariant.places p;
     }
 
 pub loop-row-preserved : goal.loop-row-preserved
@@ -32,6 +33,7 @@ loop-row-preserved c =
       rows = undo_step _ c.loop-row.before.items c.pop.new.self.items c.in-Some.row c.args.changed.now _ _ _ c.len.result popped c.loop-row.invariant.short at (c.exchange-changed.ensures.rows _ spot) c.loop-row.invariant.rows;
       short = short;
       known = spots_kept c.args.changed.now c.loop-row.slots c.exchange-changed.new.self (keep_same c.loop-row.slots c.exchange-changed.new.self c.exchange-changed.ensures.places) c.loop-row.invariant.known;
+      places = λ p. c.exchange-changed.ensures.places p ∙ c.loop-row.invariant.places p;
     }
 
 pub loop-row-preserved-in-Some-2 : goal.loop-row-preserved-in-Some-2
@@ -44,6 +46,7 @@ loop-row-preserved-in-Some-2 c =
       rows = undo_step _ c.loop-row.before.items c.pop.new.self.items c.in-Some.row c.args.changed.now _ _ _ c.len.result popped c.loop-row.invariant.short at (c.exchange-changed.ensures.rows _ spot) c.loop-row.invariant.rows;
       short = short;
       known = spots_kept c.args.changed.now c.loop-row.slots c.exchange-changed.new.self (keep_same c.loop-row.slots c.exchange-changed.new.self c.exchange-changed.ensures.places) c.loop-row.invariant.known;
+      places = λ p. c.exchange-changed.ensures.places p ∙ c.loop-row.invariant.places p;
     }
 
 pub returns-clause-rows : goal.returns-clause-rows

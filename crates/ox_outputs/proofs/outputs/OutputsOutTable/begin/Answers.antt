@@ -1,8 +1,8 @@
 use Rattle.std.proofs.Common.{◌≡◌, ◌∙◌, ap, arith, length, []}
-use Rattle.ox_outputs.specs.Locator.{live_at, kept_at}
+use Rattle.ox_outputs.specs.Locator.{live_at, kept_at, came_at}
 use Rattle.ox_outputs.specs.Slots.{rows_of, undone}
-use Rattle.ox_outputs.proofs.RowLemmas.{runs_alike, once_alike, apart_runs}
-use Rattle.ox_outputs.proofs.OutputsLemmas.{apart_among, known_none, undone_none}
+use Rattle.ox_outputs.proofs.RowLemmas.{runs_alike, once_alike, clear_begun}
+use Rattle.ox_outputs.proofs.OutputsLemmas.{known_none, undone_none}
 use Rattle.ox_outputs.proofs.outputs.OutputsOutTable.begin.Goals as goal
 
 pub invariant_of-self : goal.invariant_of-self
@@ -19,9 +19,9 @@ invariant_of-self c =
       unmarked = λ is. none;
       once = once_alike (rows_of self.slots) rows self.once c.settle.ensures.rows;
       once_before = once_alike (rows_of self.slots) (undone before changed rows) self.once same;
-      runs = runs_alike (live_at self.locator) (live_at c.begin.new.self) (rows_of self.slots) rows self.runs c.begin.ensures.live c.settle.ensures.rows;
+      runs = runs_alike (live_at self.locator) (live_at c.begin.new.self) self.slots c.settle.new.slots (rows_of self.slots) rows self.runs c.begin.ensures.live c.settle.ensures.filled c.settle.ensures.rows;
       runs_before = λ is. absurd (cc is);
-      apart = apart_among (live_at self.locator) (kept_at c.begin.new.self) (apart_runs (live_at self.locator) (rows_of self.slots) self.runs self.once) c.begin.ensures.among;
+      clear = clear_begun (came_at c.begin.new.self) (live_at self.locator) (kept_at c.begin.new.self) self.slots (rows_of self.slots) rows self.runs self.once c.begin.ensures.among c.settle.ensures.rows;
     }
 
 pub invariant_of-self-2 : goal.invariant_of-self-2
@@ -38,7 +38,7 @@ invariant_of-self-2 c =
       unmarked = λ is. none;
       once = once_alike (rows_of self.slots) rows self.once c.settle.ensures.rows;
       once_before = once_alike (rows_of self.slots) (undone before changed rows) self.once same;
-      runs = runs_alike (live_at self.locator) (live_at c.begin.new.self) (rows_of self.slots) rows self.runs c.begin.ensures.live c.settle.ensures.rows;
-      runs_before = λ is. runs_alike (live_at self.locator) (kept_at c.begin.new.self) (rows_of self.slots) (undone before changed rows) self.runs c.in_ok-begin.ensures.ok same;
-      apart = apart_among (live_at self.locator) (kept_at c.begin.new.self) (apart_runs (live_at self.locator) (rows_of self.slots) self.runs self.once) c.begin.ensures.among;
+      runs = runs_alike (live_at self.locator) (live_at c.begin.new.self) self.slots c.settle.new.slots (rows_of self.slots) rows self.runs c.begin.ensures.live c.settle.ensures.filled c.settle.ensures.rows;
+      runs_before = λ is. runs_alike (live_at self.locator) (kept_at c.begin.new.self) self.slots c.settle.new.slots (rows_of self.slots) (undone before changed rows) self.runs c.in_ok-begin.ensures.ok c.settle.ensures.filled same;
+      clear = clear_begun (came_at c.begin.new.self) (live_at self.locator) (kept_at c.begin.new.self) self.slots (rows_of self.slots) rows self.runs self.once c.begin.ensures.among c.settle.ensures.rows;
     }

@@ -4,8 +4,8 @@ use Rattle.ox_outputs.specs.declared.spot.Spot.{Spot}
 use Rattle.ox_outputs.specs.Locator.{kept_at}
 use Rattle.ox_outputs.specs.Slots.{rows_of, undone}
 use Rattle.ox_outputs.proofs.SlotLemmas.{known_more, known_still, both_grown, both_still, mark_kept, mark_still, same_mark}
-use Rattle.ox_outputs.proofs.RowLemmas.{runs_alike, apart_alike, once_alike}
-use Rattle.ox_outputs.proofs.StretchLemmas.{either_way}
+use Rattle.ox_outputs.proofs.RowLemmas.{runs_alike, once_alike, stay_kept}
+use Rattle.ox_outputs.proofs.StartLemmas.{either_way}
 use Rattle.ox_outputs.proofs.OutputsLemmas.{undone_none, once_more}
 use Rattle.ox_outputs.proofs.outputs.OutputsOutTable.place.Goals as goal
 
@@ -23,7 +23,7 @@ invariant_of-self c =
       once_before = once_alike rows (undone self.before.items self.changed.items rows) once (undone_none self.before.items self.changed.items rows (self.unmarked c.if-not-self.true));
       runs = c.fill_twice.ensures.runs;
       runs_before = λ is. absurd (cc (is, c.if-not-self.true));
-      apart = apart_alike (kept_at self.locator) (kept_at c.fill_twice.new.locator) self.apart c.fill_twice.ensures.same;
+      clear = c.fill_twice.ensures.clear;
     }
 
 pub invariant_of-self-in-Break-branch-2 : goal.invariant_of-self-in-Break-branch-2
@@ -38,8 +38,8 @@ invariant_of-self-in-Break-branch-2 c =
       once = once_alike (rows_of self.slots) rows self.once same;
       once_before = once_alike (undone self.before.items self.changed.items (rows_of self.slots)) _ self.once_before mark;
       runs = c.fill_twice-2.ensures.runs;
-      runs_before = λ is. runs_alike (kept_at self.locator) (kept_at c.fill_twice-2.new.locator) (undone self.before.items self.changed.items (rows_of self.slots)) _ (self.runs_before is) c.fill_twice-2.ensures.same mark;
-      apart = apart_alike (kept_at self.locator) (kept_at c.fill_twice-2.new.locator) self.apart c.fill_twice-2.ensures.same;
+      runs_before = λ is. runs_alike (kept_at self.locator) (kept_at c.fill_twice-2.new.locator) self.slots c.fill_twice-2.new.slots (undone self.before.items self.changed.items (rows_of self.slots)) _ (self.runs_before is) c.fill_twice-2.ensures.same (stay_kept _ self.slots c.fill_twice-2.new.slots c.fill_twice-2.ensures.places) mark;
+      clear = c.fill_twice-2.ensures.clear;
     }
 
 pub invariant_of-self-2 : goal.invariant_of-self-2
@@ -56,8 +56,8 @@ invariant_of-self-2 c =
       once = once_more (rows_of self.slots) rows c.args.at.now c.args.row self.once c.requires c.in_ok-place.ensures.rows;
       once_before = once_alike (undone self.before.items self.changed.items (rows_of self.slots)) _ self.once_before mark;
       runs = c.fill_twice-2.ensures.runs;
-      runs_before = λ is. runs_alike (kept_at self.locator) (kept_at c.fill_twice-2.new.locator) (undone self.before.items self.changed.items (rows_of self.slots)) _ (self.runs_before is) c.fill_twice-2.ensures.same mark;
-      apart = apart_alike (kept_at self.locator) (kept_at c.fill_twice-2.new.locator) self.apart c.fill_twice-2.ensures.same;
+      runs_before = λ is. runs_alike (kept_at self.locator) (kept_at c.fill_twice-2.new.locator) self.slots c.fill_twice-2.new.slots (undone self.before.items self.changed.items (rows_of self.slots)) _ (self.runs_before is) c.fill_twice-2.ensures.same (stay_kept _ self.slots c.fill_twice-2.new.slots c.fill_twice-2.ensures.places) mark;
+      clear = c.fill_twice-2.ensures.clear;
     }
 
 pub returns-clause-mark : goal.returns-clause-mark

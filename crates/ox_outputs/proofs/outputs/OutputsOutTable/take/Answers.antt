@@ -6,7 +6,7 @@ use Rattle.ox_outputs.specs.declared.spot.Spot.{Spot}
 use Rattle.ox_outputs.specs.Locator.{kept_at}
 use Rattle.ox_outputs.specs.Slots.{outpoint_at, rows_of, undone}
 use Rattle.ox_outputs.proofs.SlotLemmas.{put_none, keep_same, known_more, known_still, both_grown, both_still, mark_kept, mark_still, same_mark}
-use Rattle.ox_outputs.proofs.RowLemmas.{runs_alike, apart_alike, once_alike}
+use Rattle.ox_outputs.proofs.RowLemmas.{runs_alike, once_alike, stay_same}
 use Rattle.ox_outputs.proofs.OutputsLemmas.{mapped_none, mapped_some, once_less, so_of_some}
 use Rattle.ox_outputs.proofs.outputs.OutputsOutTable.take.Goals as goal
 
@@ -23,8 +23,8 @@ invariant_of-self-in_default c =
       once = once_alike (rows_of self.slots) rows self.once same;
       once_before = once_alike (undone self.before.items self.changed.items (rows_of self.slots)) _ self.once_before mark;
       runs = c.take_twice.ensures.runs;
-      runs_before = λ is. runs_alike (kept_at self.locator) (kept_at c.take_twice.new.locator) (undone self.before.items self.changed.items (rows_of self.slots)) _ (self.runs_before is) c.take_twice.ensures.same mark;
-      apart = apart_alike (kept_at self.locator) (kept_at c.take_twice.new.locator) self.apart c.take_twice.ensures.same;
+      runs_before = λ is. runs_alike (kept_at self.locator) (kept_at c.take_twice.new.locator) self.slots c.take_twice.new.slots (undone self.before.items self.changed.items (rows_of self.slots)) _ (self.runs_before is) c.take_twice.ensures.same (stay_same _ self.slots c.take_twice.new.slots c.take_twice.ensures.places) mark;
+      clear = c.take_twice.ensures.clear;
     }
 
 pub returns-in_default-clause-mark : goal.returns-in_default-clause-mark
@@ -51,8 +51,8 @@ invariant_of-self-2 c =
       once = once_less (rows_of self.slots) rows c.args.at.now self.once c.in_ok-taken.ensures.rows;
       once_before = once_alike (undone self.before.items self.changed.items (rows_of self.slots)) _ self.once_before mark;
       runs = c.take_twice.ensures.runs;
-      runs_before = λ is. runs_alike (kept_at self.locator) (kept_at c.take_twice.new.locator) (undone self.before.items self.changed.items (rows_of self.slots)) _ (self.runs_before is) c.take_twice.ensures.same mark;
-      apart = apart_alike (kept_at self.locator) (kept_at c.take_twice.new.locator) self.apart c.take_twice.ensures.same;
+      runs_before = λ is. runs_alike (kept_at self.locator) (kept_at c.take_twice.new.locator) self.slots c.take_twice.new.slots (undone self.before.items self.changed.items (rows_of self.slots)) _ (self.runs_before is) c.take_twice.ensures.same (stay_same _ self.slots c.take_twice.new.slots c.take_twice.ensures.places) mark;
+      clear = c.take_twice.ensures.clear;
     }
 
 pub returns-clause-mark : goal.returns-clause-mark

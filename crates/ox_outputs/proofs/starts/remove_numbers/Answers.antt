@@ -1,8 +1,8 @@
 use Rattle.std.proofs.Common.{◌∙◌, ◌+◌, drop, get_or}
 use Rattle.std.proofs.lemmas.List.{drop_more}
-use Rattle.ox_outputs.specs.Stretches.{is_among}
-use Rattle.ox_outputs.proofs.StretchLemmas.{removed_number}
-use Rattle.ox_outputs.proofs.stretches.remove_numbers.Goals as goal
+use Rattle.ox_outputs.specs.Starts.{is_among}
+use Rattle.ox_outputs.proofs.StartLemmas.{removed_number}
+use Rattle.ox_outputs.proofs.starts.remove_numbers.Goals as goal
 
 pub loop-other-preserved : goal.loop-other-preserved
 loop-other-preserved c = λ q.

@@ -3,10 +3,10 @@ use Rattle.std.proofs.lemmas.List.{drop_more, drop_all}
 use Rattle.std.specs.BTreeSet.{BTreeSet}
 use Rattle.ox_range.proofs.RunLemmas.{zero_run}
 use Rattle.ox_range.specs.declared.runs.Run.{Run}
-use Rattle.ox_outputs.specs.Stretches.{stretch_at, is_among, firsts_of, goes}
-use Rattle.ox_outputs.proofs.StretchLemmas.{came_goes, number_goes, none_goes, none_at, noted_still, first_or_rest}
-use Rattle.ox_outputs.proofs.stretches.note_each.Goals.{then-contains_key, else-contains_key+in_ok-note_one}
-use Rattle.ox_outputs.proofs.stretches.note_each.Goals as goal
+use Rattle.ox_outputs.specs.Starts.{slot_from, is_among, firsts_of, goes}
+use Rattle.ox_outputs.proofs.StartLemmas.{came_goes, number_goes, none_goes, none_at, noted_still, first_or_rest}
+use Rattle.ox_outputs.proofs.starts.note_each.Goals.{then-contains_key, else-contains_key+in_ok-note_one}
+use Rattle.ox_outputs.proofs.starts.note_each.Goals as goal
 
 pub loop-run-preserved : goal.loop-run-preserved
 loop-run-preserved c =
@@ -20,7 +20,7 @@ loop-run-preserved c =
     let numbers : BTreeSet ℕ → List ℕ = λ g. g.keys in
     let items : Vec ℕ Global → List ℕ = λ v. v.items in elim c.if-contains_key.branch [
       | then-contains_key w ↦ record {
-        ok = λ q. ap (λ (g : List ℕ). goes (stretch_at came q) (firsts_of rest) g q) (ap numbers w.gone-is)
+        ok = λ q. ap (λ (g : List ℕ). goes (slot_from came q) (firsts_of rest) g q) (ap numbers w.gone-is)
             ∙ came_goes q run (drop index runs) rest came c.loop-run.gone.keys split (sym c.contains_key.ensures ∙ w.if-contains_key.true) ∙ was.ok q;
         came = λ none. absurd (true≢false (sym w.some_came-is ∙ none));
         noted = noted_still c.loop-run.noted.items c.if-contains_key.noted.items c.args.gone.now.keys c.loop-run.gone.keys c.if-contains_key.gone.keys (ap items w.noted-is) (ap numbers w.gone-is) was.noted;
@@ -38,7 +38,7 @@ loop-run-preserved c =
     ]
 
 pub returns-clause-ok : goal.returns-clause-ok
-returns-clause-ok c = λ q. sym (none_goes (stretch_at c.args.came.now.entries q) (drop c.loop-run.run-index c.args.runs.now) c.loop-run.gone.keys q (drop_all c.loop-run.run-index c.args.runs.now c.loop-run-test.false)) ∙ c.loop-run.invariant.ok q
+returns-clause-ok c = λ q. sym (none_goes (slot_from c.args.came.now.entries q) (drop c.loop-run.run-index c.args.runs.now) c.loop-run.gone.keys q (drop_all c.loop-run.run-index c.args.runs.now c.loop-run-test.false)) ∙ c.loop-run.invariant.ok q
 
 pub returns-clause-came : goal.returns-clause-came
 returns-clause-came c = λ none q among. ⊎_elim

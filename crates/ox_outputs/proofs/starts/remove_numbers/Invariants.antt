@@ -1,7 +1,7 @@
 use Rattle.std.proofs.Common.{◌≡◌, ℕ, drop, false}
 use Rattle.std.specs.Prelude.{if◌then◌else◌}
-use Rattle.ox_outputs.specs.Stretches.{is_among}
-use Rattle.ox_outputs.proofs.stretches.remove_numbers.Given as goal
+use Rattle.ox_outputs.specs.Starts.{is_among}
+use Rattle.ox_outputs.proofs.starts.remove_numbers.Given as goal
 
 abbrev pub invariant-loop-other : goal.invariant-loop-other
 invariant-loop-other l = (q : ℕ) →

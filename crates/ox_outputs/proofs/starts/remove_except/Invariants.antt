@@ -1,0 +1,11 @@
+use Rattle.std.proofs.Common.{◌≡◌, ℕ}
+use Rattle.std.specs.Prelude.{None, is_some, if◌then◌else◌}
+use Rattle.ox_outputs.specs.Starts.{slot_from, is_among}
+use Rattle.ox_outputs.proofs.starts.remove_except.Given as goal
+
+abbrev pub invariant-loop-first : goal.invariant-loop-first
+invariant-loop-first l = (q : ℕ) →
+    (if is_some (slot_from l.others.entries q) then slot_from l.starts.entries q
+    else (if is_among l.first-iterator q then None else slot_from l.starts.entries q))
+    ≡ (if is_some (slot_from l.others.entries q) then slot_from l.initial.starts.entries q
+    else (if is_among l.numbers.keys q then None else slot_from l.initial.starts.entries q))
