@@ -8,6 +8,7 @@ use Rattle.ox_app.proofs.Crashes.{grows_owing_store, grows_stopped_store, grows_
 use Rattle.ox_app.specs.declared.stop.Stop.TheVariants.{Memory}
 use Rattle.ox_app.proofs.FeedState.{HasAnswered}
 use Rattle.ox_outside.proofs.Calls.{calls_then, no_call}
+use Rattle.ox_outside.proofs.Counts.{then_rose}
 use Rattle.ox_app.proofs.apply.follow.Goals as goal
 
 pub loop-lines-init : goal.loop-lines-init
@@ -121,6 +122,13 @@ returns-in_err-carried-clause-out_of_memory g c told stood is =
     (g.S.Site.log c.args.site.now) (g.S.Site.log c.loop-lines.site) (g.S.Site.log c.next_carried.new.site)
     (c.in_err-carried.ensures.out_of_memory (kept.1.as_told ∙ told) (kept.3 told stood) (ap Err (same_stop c.in_err-carried.field-0.0 Memory (rw (p.1, p.2) at is))))
     kept.0 c.in_err-carried.ensures.told
+
+pub returns-in_err-show_all-clause-show_fault : goal.returns-in_err-show_all-clause-show_fault
+returns-in_err-show_all-clause-show_fault g c is =
+    let counts = g.S.Site.counts in
+    let so_far = calls_then g.S.Site c.args.site.now c.loop-lines.site c.next_carried.new.site c.loop-lines.invariant.1 c.next_carried.ensures.calls in
+    then_rose ((counts c.args.site.now).show 0) ((counts c.next_carried.new.site).show 0) ((counts c.show_all.new.site).show 0)
+    (so_far.none_fell.show 0) c.in_err-show_all.ensures.failed
 
 pub returns-in_err-show_all-clause-calls : goal.returns-in_err-show_all-clause-calls
 returns-in_err-show_all-clause-calls g c =

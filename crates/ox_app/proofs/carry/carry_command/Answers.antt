@@ -52,3 +52,24 @@ returns-in-Ok-clause-any_moment g c told stood =
     subst (λ (after : Stack). LeavesOnly g.S.Site c.args.site.now c.commit.new.site (λ r. StandsForEither before after r.files))
     (sym (ap (after_turn before) prepared.after))
     (c.commit.ensures.any_moment told before stood (record { command = c.args.command.now; payload = prepared.payload; after = prepared.after }))
+
+pub returns-in_err-store-in-Ok-clause-log_stays : goal.returns-in_err-store-in-Ok-clause-log_stays
+returns-in_err-store-in-Ok-clause-log_stays g c = c.commit.ensures.log_stays
+
+pub returns-in_err-store-in-Ok-clause-logged : goal.returns-in_err-store-in-Ok-clause-logged
+returns-in_err-store-in-Ok-clause-logged g c = c.commit.ensures.logged
+
+pub returns-in_err-store-in-Ok-clause-calls : goal.returns-in_err-store-in-Ok-clause-calls
+returns-in_err-store-in-Ok-clause-calls g c = c.commit.ensures.calls
+
+pub returns-in-Ok-clause-log_stays : goal.returns-in-Ok-clause-log_stays
+returns-in-Ok-clause-log_stays g c = c.commit.ensures.log_stays
+
+pub returns-in-Ok-clause-logged : goal.returns-in-Ok-clause-logged
+returns-in-Ok-clause-logged g c = c.commit.ensures.logged
+
+pub returns-in-Ok-clause-calls : goal.returns-in-Ok-clause-calls
+returns-in-Ok-clause-calls g c = c.commit.ensures.calls
+
+pub returns-in-Ok-clause-out_of_memory : goal.returns-in-Ok-clause-out_of_memory
+returns-in-Ok-clause-out_of_memory g c is = absurd (cc is)

@@ -18,7 +18,7 @@ loop-chain-init g c =
     let first = stack_of (empty_machine c.args.p.now fold_depth) in
     let log = g.S.Site.log c.args.site.now in (
       subst (λ (l : Feed). Grows (HasAnswered first l (stack_in c.in_ok-chain.chain)) log log) (sym c.new-lines.ensures)
-          (subst (λ (s : Stack). Grows (HasAnswered first new_feed s) log log) (sym c.in_ok-chain.ensures) (carried_none first log)),
+          (subst (λ (s : Stack). Grows (HasAnswered first new_feed s) log log) {x = first} (sym {b = first} c.in_ok-chain.ensures) (carried_none first log)),
       talks_none g.S.Site g.met.S.Site.only_now g.met.S.Site.logs_now Anything c.args.site.now tt,
     )
 
