@@ -1,5 +1,4 @@
 pub mod DifferingRows
-pub mod LocatorLemmas
 pub mod OutputsLemmas
 pub mod ListLemmas
 pub mod PlaceLemmas

@@ -8,7 +8,7 @@ use Rattle.ox_rules.specs.declared.rows.OutRow.{OutRow}
 use Rattle.ox_rules.specs.Outputs.{Outputs, MayStand, outpoint_cmp}
 use Rattle.ox_outputs.specs.Slots.{SlotList, put_slot, undone, AreSpots}
 use Rattle.ox_outputs.specs.declared.spot.Spot.{Spot}
-use Rattle.ox_outputs.specs.Located.{StandOnce, AreRuns, AreClear}
+use Rattle.ox_outputs.specs.Located.{StandOnce, AreRuns}
 use Rattle.ox_outputs.proofs.SlotLemmas.{get-put_slot}
 use Rattle.ox_outputs.proofs.RowLemmas.{once_taken, once_placed, once_alike, begun_in}
 
@@ -45,11 +45,6 @@ none_runs live slots outs none is = record {
   sound = λ f place there. absurd (cc (there, none f));
   complete = λ f at begun. absurd (let b = begun_in outs at f begun in none_in b.row (sym (get-empty {X = OutRow} outpoint_cmp at) ∙ ap (λ (o : Outputs). get o at) (sym is) ∙ b.there));
 } where
-  none_in : (row : OutRow) → ◌≡◌ {A = Option OutRow} None (Some row) → ⊥
-  none_in row is = absurd (cc is)
-
-pub none_clear : (came kept : ℕ → Option ℕ) (outs : Outputs) → outs ≡ empty → AreClear came kept outs
-none_clear came kept outs is = record { within = λ at row first sat there held new. absurd (none_in row (sym (get-empty {X = OutRow} outpoint_cmp at) ∙ ap (λ (o : Outputs). get o at) (sym is) ∙ there)) } where
   none_in : (row : OutRow) → ◌≡◌ {A = Option OutRow} None (Some row) → ⊥
   none_in row is = absurd (cc is)
 

@@ -5,7 +5,7 @@ use Rattle.std.specs.Ordering.{nat_cmp, is_eq, is_lt, eq_by_cmp}
 use Rattle.std.specs.declared.cmp.Ordering.TheVariants.{Less, Equal, Greater}
 use Rattle.std.specs.Cmp.{eq_by_cmp_equiv}
 use Rattle.std.specs.BTreeMap.{is_at}
-use Rattle.std.specs.List.{position_or_len}
+use Rattle.std.specs.List.{position_or_len, list_any}
 use Rattle.std.specs.Option.{option_and_then, option_map_or, option_map}
 use Rattle.std.specs.FinMap.{entries, entries_sorted, get, get-entries, find, is_sorted}
 use Rattle.std.specs.FinMap.Entries.{below_all, find_tied}
@@ -27,7 +27,7 @@ use Rattle.ox_rules.proofs.Conservation.{times-append}
 use Rattle.ox_rules.proofs.Transfers.{counts_numbers}
 use Rattle.ox_outputs.specs.Slots.{SlotList, outpoint_at}
 use Rattle.ox_outputs.specs.Starts.{is_among, firsts_of, BeginsLast}
-use Rattle.ox_outputs.specs.Located.{StandOnce, AreRuns, AreClear, begins, has_from, place_held}
+use Rattle.ox_outputs.specs.Located.{StandOnce, AreRuns, begins, place_held}
 use Rattle.ox_outputs.proofs.SlotLemmas.{equal}
 use Rattle.ox_outputs.proofs.PlaceLemmas.{is_same, same_or_not, not_both}
 use Rattle.ox_outputs.proofs.StartLemmas.{either_true, same_as}
@@ -89,6 +89,12 @@ hit f (run ∷ runs) some is = ⊎_elim
     omega (arith, one, times_cons f run runs))
     (λ more. omega (arith, hit f runs some.1 more, times_cons f run runs))
     (either_true (is_at (nat_cmp f) run.first) (is_among (firsts_of runs) f) is)
+
+-- whether the run of these that begins with this number has this satoshi
+abbrev pub has_from : List Run → ℕ → ℕ → Bool
+has_from runs first sat =
+    list_any (λ run. (run.first == first) && (nat_le first sat && nat_lt sat (first + run.count)))
+    runs
 
 record IsFrom (run : Run) (first sat : ℕ) : Type 0 where
   pub same : run.first ≡ first
@@ -248,17 +254,6 @@ begins_last starts slots outs runs once at row first sat there held = (from_low 
       (λ fine. fine)
       (cases_lt first f)
 
--- the runs are clear of each other, and of some of them
-pub clear_begun : (came starts fewer : ℕ → Option ℕ) (slots : SlotList) (outs outs' : Outputs) → AreRuns starts slots outs → StandOnce outs → ((q slot : ℕ) → fewer q ≡ Some slot → starts q ≡ Some slot) → outs' ≡ outs → AreClear came fewer outs'
-clear_begun came starts fewer slots outs outs' runs once among same = subst (AreClear came fewer) (sym same) (record {
-  within = λ at row first sat there held new. let last = begins_last starts slots outs runs once at row first sat there held in (last.0, λ f slot is high. last.1 f slot (among f slot is) high);
-})
-
-pub clear_alike : (came came' starts starts' : ℕ → Option ℕ) (outs outs' : Outputs) → AreClear came starts outs → ((q : ℕ) → came' q ≡ came q) → ((q : ℕ) → starts' q ≡ starts q) → outs' ≡ outs → AreClear came' starts' outs'
-clear_alike came came' starts starts' outs outs' clear same still is = subst (AreClear came' starts') (sym is) (record {
-  within = λ at row first sat there held new. let last = clear.within at row first sat there held (sym (same first) ∙ new) in (last.0, λ f slot is high. last.1 f slot (sym (still f) ∙ is) high);
-})
-
 -- ---- a row goes, and one comes
 
 tested : {A : Type 0} (b c : Bool) (x y : A) → b ≡ c → cond b x y ≡ cond c x y
@@ -277,10 +272,6 @@ less false o s is = (refl, is)
 keeps : (b : Bool) (o : Option ℕ) (s : ℕ) → o ≡ Some s → (b ≡ true → ⊥) → cond b None o ≡ Some s
 keeps true o s is never = absurd (never refl)
 keeps false o s is never = is
-
-no_less : (b : Bool) (o : Option ℕ) → cond b None o ≡ None → (b ≡ true → ⊥) → o ≡ None
-no_less true o is never = absurd (never refl)
-no_less false o is never = is
 
 -- which outpoint it is
 which : (q at : OutPoint) → (q ≡ at) ⊎ (is_same q at ≡ false)
@@ -315,16 +306,8 @@ module _ (live live' : ℕ → Option ℕ) (slots : SlotList) (outs outs' : Outp
         is_at_start live' slots q f s.place (goes f ∙ keeps (is_among (firsts_of (runs_of row.sats)) f) (live f) s.place s.is (gone_there f q other was)) s.slot)
         (which q at)
 
-  pub leave_clear : (came came' kept : ℕ → Option ℕ) → AreClear came kept outs → ((q : ℕ) → came' q ≡ cond (is_among (firsts_of (runs_of row.sats)) q) None (came q)) → AreClear came' kept outs'
-  leave_clear came came' kept clear goes = record { within = within } where
-    within : (q : OutPoint) (r : OutRow) (first sat : ℕ) → get outs' q ≡ Some r → has_from (runs_of r.sats) first sat ≡ true → came' first ≡ None → BeginsLast kept first sat
-    within q r first sat is held new =
-        let was = less (is_same q at) (get outs q) r (sym (gets q) ∙ is) in
-        let begun = in_row outs q r first was.1 ∙ from_among (runs_of r.sats) first sat held in
-        clear.within q r first sat was.1 held (no_less (is_among (firsts_of (runs_of row.sats)) first) (came first) (sym (goes first) ∙ new) (gone_there first q was.0 begun))
-
 -- no run begins yet as those of satoshis that may stand do
-pub fresh_runs : (live : ℕ → Option ℕ) (slots : SlotList) (outs : Outputs) (at : OutPoint) (sats : List ℕ) (q : ℕ) → AreRuns live slots outs → get outs at ≡ None → MayStand at sats outs → is_among (firsts_of (runs_of sats)) q ≡ true → live q ≡ None
+fresh_runs : (live : ℕ → Option ℕ) (slots : SlotList) (outs : Outputs) (at : OutPoint) (sats : List ℕ) (q : ℕ) → AreRuns live slots outs → get outs at ≡ None → MayStand at sats outs → is_among (firsts_of (runs_of sats)) q ≡ true → live q ≡ None
 fresh_runs live slots outs at sats q runs none may among = by_live (live q) refl where
   by_live : (o : Option ℕ) → live q ≡ o → live q ≡ None
   by_live None is = is
@@ -338,10 +321,6 @@ fresh_runs live slots outs at sats q runs none may among = by_live (live q) refl
 new_or_was : (b : Bool) (place p : ℕ) (o : Option ℕ) → cond b (Some place) o ≡ Some p → ((b ≡ true) × (place ≡ p)) ⊎ (o ≡ Some p)
 new_or_was true place p o is = inl (refl, cc is)
 new_or_was false place p o is = inr is
-
-no_new : (b : Bool) (place : ℕ) (o : Option ℕ) → cond b (Some place) o ≡ None → (b ≡ false) × (o ≡ None)
-no_new true place o is = absurd (cc is)
-no_new false place o is = (refl, is)
 
 module _ (live live' : ℕ → Option ℕ) (slots : SlotList) (outs outs' : Outputs) (at : OutPoint) (row : OutRow) (place : ℕ) (gets : (q : OutPoint) → get outs' q ≡ cond (is_same q at) (Some row) (get outs q)) where
   stands : get outs' at ≡ Some row
@@ -368,17 +347,6 @@ module _ (live live' : ℕ → Option ℕ) (slots : SlotList) (outs outs' : Outp
         is_at_start live' slots q f place (comes f ∙ tested (is_among (firsts_of (runs_of row.sats)) f) true (Some place) (live f) new) (slot ∙ ap (λ (a : OutPoint). Some a) (sym same)))
         (λ other. let s = start_of live slots outs runs f q (sym (elsewhere outs outs' q at f (Some row) (gets q) other) ∙ is) in
         is_at_start live' slots q f s.place (comes f ∙ was f s.place s.is (is_among (firsts_of (runs_of row.sats)) f) refl) s.slot)
-        (which q at)
-
-  pub arrive_clear : (came came' kept : ℕ → Option ℕ) → AreClear came kept outs → ((q : ℕ) → came' q ≡ cond (is_among (firsts_of (runs_of row.sats)) q) (Some place) (came q)) → AreClear came' kept outs'
-  arrive_clear came came' kept clear comes = record { within = within } where
-    within : (q : OutPoint) (r : OutRow) (first sat : ℕ) → get outs' q ≡ Some r → has_from (runs_of r.sats) first sat ≡ true → came' first ≡ None → BeginsLast kept first sat
-    within q r first sat is held new =
-        let old = no_new (is_among (firsts_of (runs_of row.sats)) first) place (came first) (sym (comes first) ∙ new) in ⊎_elim
-        (λ same. absurd (
-        let one = one_row outs' q at r row same is stands in
-        true≢false (sym (from_among (runs_of r.sats) first sat held) ∙ ap (λ (r : OutRow). is_among (firsts_of (runs_of r.sats)) first) one ∙ old.0)))
-        (λ other. clear.within q r first sat (sym (gets q ∙ tested (is_same q at) false (Some row) (get outs q) other) ∙ is) held old.1)
         (which q at)
 
 -- ---- no satoshi stands twice
@@ -522,18 +490,17 @@ one_among (e ∷ es) sat at row offset sorted is holds none =
 not_held : (sats : List ℕ) (sat : ℕ) → place_in sats sat ≡ None → 1 ≤ times sat sats → ⊥
 not_held sats sat none some = let m = place_some sats sat some in none_is m.0 (sym none ∙ m.1)
 
--- what is found is the slot of the run that begins last, if it may hold the satoshi
-abbrev pub FindsLast : (ℕ → Option ℕ) → (ℕ → Option ℕ) → (ℕ → Option ℕ) → ℕ → Option ℕ → Type 0
-FindsLast live came kept sat found = (first slot : ℕ) → live first ≡ Some slot → BeginsLast live first sat
-    → (came first ≡ None → BeginsLast kept first sat) → found ≡ Some slot
+-- what is found is the slot of the run that begins last
+abbrev pub FindsLast : (ℕ → Option ℕ) → ℕ → Option ℕ → Type 0
+FindsLast live sat found = (first slot : ℕ) → live first ≡ Some slot → BeginsLast live first sat → found ≡ Some slot
 
-module _ (live came kept : ℕ → Option ℕ) (slots : SlotList) (outs : Outputs) (sat : ℕ) (found : Option ℕ) (runs : AreRuns live slots outs) (once : StandOnce outs) (clear : AreClear came kept outs) (last : FindsLast live came kept sat found) where
+module _ (live : ℕ → Option ℕ) (slots : SlotList) (outs : Outputs) (sat : ℕ) (found : Option ℕ) (runs : AreRuns live slots outs) (once : StandOnce outs) (last : FindsLast live sat found) where
   -- the slot of the output that holds it
   found_of : (k : OutPoint) (x : OutRow) → get outs k ≡ Some x → 1 ≤ times sat x.sats → (slot : ℕ) × (found ≡ Some slot) × (outpoint_at slots slot ≡ Some k)
   found_of k x there some =
       let m = met sat (runs_of x.sats) (omega (arith, some, times_row sat x.sats)) in
       let s = start_of live slots outs runs m.0 k (in_row outs k x m.0 there ∙ from_among (runs_of x.sats) m.0 sat m.1) in
-      (s.place, last m.0 s.place s.is (begins_last live slots outs runs once k x m.0 sat there m.1) (λ new. clear.within k x m.0 sat there m.1 new), s.slot)
+      (s.place, last m.0 s.place s.is (begins_last live slots outs runs once k x m.0 sat there m.1), s.slot)
 
   pub found_none : found ≡ None → place_among (entries outs) sat ≡ None
   found_none none = none_among (entries outs) sat (entries_sorted outs) (λ k x is. ⊎_elim
@@ -615,7 +582,3 @@ gets_again rows outs at row there others q = ⊎_elim
 
 pub elsewhere_is : {A : Type 0} (b : Bool) (x y : A) → b ≡ false → cond b x y ≡ y
 elsewhere_is b x y is = tested b false x y is
-
--- where nothing was live but what goes
-pub stays_none : (b : Bool) (o : Option ℕ) → cond b None o ≡ None → b ≡ false → o ≡ None
-stays_none b o is stays = sym (tested b false None o stays) ∙ is

@@ -1,21 +1,31 @@
 -- Starts of runs by their first numbers: what changes of them leave.
-use Rattle.std.proofs.Common.{◌≡◌, ◌∙◌, ℕ, ◌<◌, ◌≤◌, Bool, true, false, cond, List, [], ◌∷◌, ◌++◌, take, zero, suc, Result, Ok, Err, refl, sym, ap, subst, arith, Option, Some, None, true≢false, inl, inr, ⊎_elim, Ordering}
-use Rattle.std.specs.Prelude.{◌||◌, ◌⊎◌, OnOk, OnErr, is_some}
-use Rattle.std.specs.Result.{is_err}
+use Rattle.std.proofs.Common.{◌≡◌, ◌∙◌, ℕ, ◌<◌, ◌≤◌, Bool, true, false, cond, List, [], ◌∷◌, ◌++◌, refl, sym, ap, subst, arith, Option, Some, None, Ordering, Result, Ok, Err, drop, length, inl, inr, true≢false}
+use Rattle.std.specs.Prelude.{◌||◌, ◌⊎◌, not, OnOk, OnErr, IsSome, IfSome, is_some}
+use Rattle.std.specs.List.{AllByRecursion, filter}
+use Rattle.std.specs.List.Sorted.{IsStrictlySortedBy}
+use Rattle.std.specs.Option.{option_and_then}
 use Rattle.std.specs.Ordering.{nat_cmp, is_eq, is_gt, is_lt, MatchOrdering}
 use Rattle.std.specs.declared.cmp.Ordering.TheVariants.{Less, Equal, Greater}
+use Rattle.std.specs.declared.ops.Bound.TheVariants.{Included, Unbounded}
 use Rattle.std.specs.FinMap.{nat_cmp-IsAntisymmetric}
+use Rattle.std.specs.Map.{lookup, keys_of}
+use Rattle.std.specs.BTreeMap.{is_at}
+use Rattle.std.specs.BTreeMap.Range.{range_contains}
+use Rattle.std.proofs.lemmas.Map.Entries.{lookup-filter-keys}
+use Rattle.std.proofs.lemmas.Bool.{cond_both}
 use Rattle.std.specs.Cmp.{eq_by_cmp_equiv}
 use Rattle.std.proofs.lemmas.Cmp.{nat_cmp_total, ranked}
-use Rattle.std.specs.Option.{option_or}
-use Rattle.std.specs.BTreeMap.{is_at}
-use Rattle.std.specs.Map.{keys_of}
+use Rattle.std.proofs.lemmas.List.{append_assoc}
+use Rattle.std.proofs.lemmas.List.Elements.{All-push, All-same, All-weaker}
 use Rattle.ox_range.specs.declared.runs.Run.{Run}
-use Rattle.ox_outputs.specs.Starts.{StartList, slot_from, is_among, firsts_of, goes, AreNoted}
+use Rattle.ox_outputs.specs.Starts.{StartList, slot_from, is_among, firsts_of, before_in, AreNoted, AreLogged, BeginsLast}
+use Rattle.ox_outputs.specs.declared.starts.Before.{Before}
 
 -- which number it is, seen from either
 pub same_first : (a b : ℕ) → is_at (nat_cmp a) b ≡ is_at (nat_cmp b) a
 same_first a b = (eq_by_cmp_equiv nat_cmp_total).symm a b
+
+-- ---- runs go and come
 
 none_twice : (a b : Bool) (n o : Option ℕ) → n ≡ cond a None o → cond b None n ≡ cond (a || b) None o
 none_twice true true n o is = refl
@@ -46,61 +56,7 @@ added_run q slot run runs runs' n m o split is was =
     some_twice (is_at (nat_cmp q) run.first) (is_among (firsts_of runs) q) slot n m o (is ∙ ap (λ (b : Bool). cond b (Some slot) m) (same_first run.first q)) was
     ∙ sym (ap (λ (b : Bool). cond b (Some slot) o) (ap (λ (rs : List Run). is_among (firsts_of rs) q) split ∙ among_last q run runs))
 
--- runs that were added and are taken away again
-pub all_removed : (a : Bool) (slot : ℕ) (n m o : Option ℕ) → n ≡ cond a None m → m ≡ cond a (Some slot) o → (a ≡ true → o ≡ None) → n ≡ o
-all_removed true slot n m o is was fresh = is ∙ sym (fresh refl)
-all_removed false slot n m o is was fresh = is ∙ was
-
-pub some_same : (x y : ℕ) → Some x ≡ Some y → x ≡ y
-some_same x y is = cc
-
-pub second_same : (x y : ℕ × ℕ) → Some x ≡ Some y → Some x.1 ≡ Some y.1
-second_same x y is = cc
-
--- ---- the last start
-
-not_gt : (a b : ℕ) (r : Ordering) → MatchOrdering r (a < b) (a ≡ b) (b < a) → a ≤ b → is_gt r ≡ false
-not_gt a b Less is low = refl
-not_gt a b Equal is low = refl
-not_gt a b Greater is low = absurd (omega (arith, is, low))
-
-gt_low : (a b : ℕ) (r : Ordering) → MatchOrdering r (a < b) (a ≡ b) (b < a) → is_gt r ≡ false → a ≤ b
-gt_low a b Less is low = omega (arith, is)
-gt_low a b Equal is low = omega (arith, is)
-gt_low a b Greater is low = absurd (true≢false low)
-
-lt_low : (a b : ℕ) (r : Ordering) → MatchOrdering r (a < b) (a ≡ b) (b < a) → is_lt r ≡ false → b ≤ a
-lt_low a b Less is low = absurd (true≢false low)
-lt_low a b Equal is low = omega (arith, is)
-lt_low a b Greater is low = omega (arith, is)
-
-pub up_to : (a b : ℕ) → a ≤ b → is_gt (nat_cmp a b) ≡ false
-up_to a b low = not_gt a b (nat_cmp a b) (ranked a b (nat_cmp a b) refl) low
-
-pub not_above : (a b : ℕ) → is_gt (nat_cmp a b) ≡ false → a ≤ b
-not_above a b is = gt_low a b (nat_cmp a b) (ranked a b (nat_cmp a b) refl) is
-
-pub not_below : (a b : ℕ) → is_lt (nat_cmp a b) ≡ false → b ≤ a
-not_below a b is = lt_low a b (nat_cmp a b) (ranked a b (nat_cmp a b) refl) is
-
-or_more : (a b c : Bool) → (b ≡ true → c ≡ true) → (a || b) ≡ true → (a || c) ≡ true
-or_more true b c more is = refl
-or_more false b c more is = more is
-
-pub among_take : (q i : ℕ) (runs : List Run) → is_among (firsts_of (take i runs)) q ≡ true → is_among (firsts_of runs) q ≡ true
-among_take q zero runs is = absurd (true≢false (sym is))
-among_take q (suc i) [] is = is
-among_take q (suc i) (run ∷ runs) is = or_more (is_at (nat_cmp q) run.first) _ _ (among_take q i runs) is
-
--- ---- outcomes
-
-pub on_err : {A E P : Type 0} (r : Result A E) → is_err r ≡ true → OnErr r P → P
-on_err (Ok x) is p = absurd (true≢false (sym is))
-on_err (Err e) is p = p
-
-pub on_ok : {A E P : Type 0} (r : Result A E) → is_err r ≡ false → OnOk r P → P
-on_ok (Ok x) is p = p
-on_ok (Err e) is p = absurd (true≢false is)
+-- ---- outcomes and tests
 
 pub either_way : {A E P Q R : Type 0} (r : Result A E) → OnOk r P → OnErr r Q → (P → R) → (Q → R) → R
 either_way (Ok x) p q f g = f p
@@ -112,98 +68,189 @@ either_true false b is = inr is
 
 -- ---- what is noted
 
+-- what stood at a number before depends on what stands there alone
+before_same : (changes : List Before) (s t : ℕ → Option ℕ) (q : ℕ) → s q ≡ t q → before_in changes s q ≡ before_in changes t q
+before_same [] s t q same = same
+before_same (change ∷ changes) s t q same = ap (cond (is_at (nat_cmp q) change.first) change.slot) (before_same changes s t q same)
+
+before_append : (changes more : List Before) (s : ℕ → Option ℕ) (q : ℕ) → before_in (changes ++ more) s q ≡ before_in changes (before_in more s) q
+before_append [] more s q = refl
+before_append (change ∷ changes) more s q = ap (cond (is_at (nat_cmp q) change.first) change.slot) (before_append changes more s q)
+
+-- changes that were noted, and further ones
+pub noted_more : (a b c : List Before) (s t u : ℕ → Option ℕ) → AreNoted a b s t → AreNoted b c t u → AreNoted a c s u
+noted_more a b c s t u one two = record {
+  added = one.added ++ two.added;
+  behind = two.behind ∙ ap (λ (l : List Before). l ++ two.added) one.behind ∙ append_assoc a one.added two.added;
+  back = λ q. before_append one.added two.added u q
+      ∙ before_same one.added (before_in two.added u) t q (two.back q)
+      ∙ one.back q;
+}
+
+-- what stood before all changes stays where further ones are noted
+pub noted_kept : (a b : List Before) (s t : ℕ → Option ℕ) (q : ℕ) → AreNoted a b s t → before_in b t q ≡ before_in a s q
+noted_kept a b s t q noted =
+    ap (λ (l : List Before). before_in l t q) noted.behind
+    ∙ before_append a noted.added t q
+    ∙ before_same a (before_in noted.added t) s q (noted.back q)
+
+twice_one : (b : Bool) (slot n m o : Option ℕ) → (n ≡ o → m ≡ o) → n ≡ cond b slot o → cond b slot m ≡ cond b slot o
+twice_one true slot n m o rest is = refl
+twice_one false slot n m o rest is = rest is
+
+before_twice : (changes : List Before) (s t : ℕ → Option ℕ) (q : ℕ) → s q ≡ before_in changes t q → before_in changes s q ≡ before_in changes t q
+before_twice [] s t q is = is
+before_twice (change ∷ changes) s t q is = twice_one (is_at (nat_cmp q) change.first) change.slot (s q) (before_in changes s q) (before_in changes t q) (before_twice changes s t q) is
+
+behind_all : (xs ys : List Before) → drop (length xs) (xs ++ ys) ≡ ys
+behind_all [] ys = refl
+behind_all (x ∷ xs) ys = behind_all xs ys
+
+-- and where all that came behind is put back, too
+pub noted_back : (a b : List Before) (s t u : ℕ → Option ℕ) (q from : ℕ) (all : List Before) → AreNoted a b s t → from ≡ length a → all ≡ b → u q ≡ before_in (drop from all) t q → before_in b u q ≡ before_in a s q
+noted_back a b s t u q from all noted begins same is =
+    let back : before_in (drop from all) t q ≡ before_in noted.added t q =
+    ap (λ (n : ℕ). before_in (drop n all) t q) begins
+    ∙ ap (λ (l : List Before). before_in (drop (length a) l) t q) (same ∙ noted.behind)
+    ∙ ap (λ (l : List Before). before_in l t q) (behind_all a noted.added) in
+    ap (λ (l : List Before). before_in l u q) noted.behind
+    ∙ before_append a noted.added u q
+    ∙ before_same a (before_in noted.added u) s q (before_twice noted.added u t q (is ∙ back) ∙ noted.back q)
+
+-- ---- each number that changed stands among the starts
+
+some_still : (b : Bool) (v : Option ℕ) (n o : Option (Option ℕ)) → n ≡ cond b (Some v) o → IsSome o → IsSome n
+some_still true v n o is there = subst IsSome (sym is) refl
+some_still false v n o is there = subst IsSome (sym is) there
+
+at_itself : (a : ℕ) → is_at (nat_cmp a) a ≡ true
+at_itself a = (eq_by_cmp_equiv nat_cmp_total).refl a
+
+-- a change is noted, at whose number something is put
+pub logged_more : (changes changes' : List Before) (change : Before) (starts starts' : StartList) (v : Option ℕ) → changes' ≡ changes ++ change ∷ [] → ((q : ℕ) → lookup (is_at (nat_cmp q)) starts' ≡ cond (is_at (nat_cmp change.first) q) (Some v) (lookup (is_at (nat_cmp q)) starts)) → AreLogged changes starts → AreLogged changes' starts'
+logged_more changes changes' change starts starts' v pushed put logged =
+    let Stands = λ (one : Before). IsSome (lookup (is_at (nat_cmp one.first)) starts') in
+    All-same Stands changes' (changes ++ change ∷ []) pushed (All-push Stands changes change
+    (All-weaker (λ (one : Before). IsSome (lookup (is_at (nat_cmp one.first)) starts)) Stands
+    (λ one there. some_still (is_at (nat_cmp change.first) one.first) v _ _ (put one.first) there) changes logged)
+    (subst IsSome (sym (put change.first ∙ ap (λ (b : Bool). cond b (Some v) (lookup (is_at (nat_cmp change.first)) starts)) (at_itself change.first))) refl))
+
+-- ---- the last start
+
+is_equal : (r : Ordering) → is_eq r ≡ true → r ≡ Equal
+is_equal Less is = absurd (true≢false (sym is))
+is_equal Equal is = refl
+is_equal Greater is = absurd (true≢false (sym is))
+
 pub same_as : (a b : ℕ) → is_at (nat_cmp a) b ≡ true → a ≡ b
-same_as a b is = nat_cmp-IsAntisymmetric a b (is_equal (nat_cmp a b) is) where
-  is_equal : (r : Ordering) → is_eq r ≡ true → r ≡ Equal
-  is_equal Less is = absurd (true≢false (sym is))
-  is_equal Equal is = refl
-  is_equal Greater is = absurd (true≢false (sym is))
+same_as a b is = nat_cmp-IsAntisymmetric a b (is_equal (nat_cmp a b) is)
 
--- a run that is among those from a place on is the first of them or behind it
-pub first_or_rest : (q : ℕ) (run : Run) (runs all : List Run) → all ≡ run ∷ runs → is_among (firsts_of all) q ≡ true → (is_at (nat_cmp run.first) q ≡ true) ⊎ (is_among (firsts_of runs) q ≡ true)
-first_or_rest q run runs all split some = ⊎_elim
-    (λ here. inl (same_first run.first q ∙ here))
-    (λ rest. inr rest)
-    (either_true (is_at (nat_cmp q) run.first) (is_among (firsts_of runs) q) (sym (ap (λ (rs : List Run). is_among (firsts_of rs) q) split) ∙ some))
+gt_low : (a b : ℕ) (r : Ordering) → MatchOrdering r (a < b) (a ≡ b) (b < a) → is_gt r ≡ false → a ≤ b
+gt_low a b Less is low = omega (arith, is)
+gt_low a b Equal is low = omega (arith, is)
+gt_low a b Greater is low = absurd (true≢false low)
 
--- a number's start is taken away
-pub removed_gone : (q first : ℕ) (gone rest : List ℕ) (n o : Option ℕ) → gone ≡ first ∷ rest → n ≡ cond (is_at (nat_cmp first) q) None o → cond (is_among rest q) None n ≡ cond (is_among gone q) None o
-removed_gone q first gone rest n o split is = none_twice (is_at (nat_cmp q) first) (is_among rest q) n o (is ∙ ap (λ (b : Bool). cond b None o) (same_first first q)) ∙ ap (λ (l : List ℕ). cond (is_among l q) None o) (sym split)
+pub not_above : (a b : ℕ) → is_gt (nat_cmp a b) ≡ false → a ≤ b
+not_above a b is = gt_low a b (nat_cmp a b) (ranked a b (nat_cmp a b) refl) is
 
-false_twice : (a b n o : Bool) → n ≡ cond a false o → cond b false n ≡ cond (a || b) false o
-false_twice true true n o is = refl
-false_twice true false n o is = is
-false_twice false true n o is = refl
-false_twice false false n o is = is
+not_lt : (a b : ℕ) (r : Ordering) → MatchOrdering r (a < b) (a ≡ b) (b < a) → b ≤ a → is_lt r ≡ false
+not_lt a b Less is high = absurd (omega (arith, is, high))
+not_lt a b Equal is high = refl
+not_lt a b Greater is high = refl
 
--- a number is taken out
-pub removed_number : (q first : ℕ) (others rest : List ℕ) (n o : Bool) → others ≡ first ∷ rest → n ≡ cond (is_at (nat_cmp first) q) false o → cond (is_among rest q) false n ≡ cond (is_among others q) false o
-removed_number q first others rest n o split is = false_twice (is_at (nat_cmp q) first) (is_among rest q) n o (is ∙ ap (λ (b : Bool). cond b false o) (same_first first q)) ∙ ap (λ (l : List ℕ). cond (is_among l q) false o) (sym split)
+less_low : (a b : ℕ) (r : Ordering) → MatchOrdering r (a < b) (a ≡ b) (b < a) → r ≡ Less → a ≤ b
+less_low a b Less is less = omega (arith, is)
+less_low a b Equal is less = omega (arith, is)
+less_low a b Greater is less = absurd (cc less)
 
--- no more numbers go
-pub none_goes : (came : Option ℕ) (runs : List Run) (gone : List ℕ) (q : ℕ) → runs ≡ [] → goes came (firsts_of runs) gone q ≡ is_among gone q
-none_goes came runs gone q none = ap (λ (rs : List Run). goes came (firsts_of rs) gone q) none ∙ by_came (is_some came) where
-  by_came : (b : Bool) → cond b (is_among gone q) (is_among gone q) ≡ is_among gone q
-  by_came true = refl
-  by_came false = refl
+low_by_less : (a b : ℕ) → nat_cmp a b ≡ Less → a ≤ b
+low_by_less a b less = less_low a b (nat_cmp a b) (ranked a b (nat_cmp a b) refl) less
 
-came_one : (b some rest gone : Bool) → (b ≡ true → some ≡ true) → cond some gone (rest || gone) ≡ cond some gone ((b || rest) || gone)
-came_one true true rest gone is = refl
-came_one true false rest gone is = absurd (true≢false (sym (is refl)))
-came_one false some rest gone is = refl
+-- this stands among the starts, up to a number
+abbrev pub StandsTo : ℕ → StartList → ℕ × Option ℕ → Type 0
+StandsTo number starts e = (e.0 ≤ number) × (lookup (is_at (nat_cmp e.0)) starts ≡ Some e.1)
 
--- a run came, so that its number needn't go
-pub came_goes : (q : ℕ) (run : Run) (runs rest : List Run) (came : StartList) (gone : List ℕ) → runs ≡ run ∷ rest → is_some (slot_from came run.first) ≡ true → goes (slot_from came q) (firsts_of rest) gone q ≡ goes (slot_from came q) (firsts_of runs) gone q
-came_goes q run runs rest came gone split some =
-    came_one (is_at (nat_cmp q) run.first) (is_some (slot_from came q)) (is_among (firsts_of rest) q) (is_among gone q) (λ same. ap (λ (f : ℕ). is_some (slot_from came f)) (same_as q run.first same) ∙ some)
-    ∙ ap (λ (rs : List Run). goes (slot_from came q) (firsts_of rs) gone q) (sym split)
+-- the starts up to a number
+abbrev pub starts_to : ℕ → StartList → StartList
+starts_to number starts = filter (λ e. range_contains nat_cmp Unbounded (Included number) e.0) starts
 
-gone_one : (b some rest gone gone' : Bool) → (b ≡ true → some ≡ false) → gone' ≡ cond b true gone → cond some gone' (rest || gone') ≡ cond some gone ((b || rest) || gone)
-gone_one b some rest gone gone' is put = ap (λ (g : Bool). cond some g (rest || g)) put ∙ by_cases b some rest is where
-  by_cases : (b some rest : Bool) → (b ≡ true → some ≡ false) → cond some (cond b true gone) (rest || cond b true gone) ≡ cond some gone ((b || rest) || gone)
-  by_cases true true rest is = absurd (true≢false (is refl))
-  by_cases true false true is = refl
-  by_cases true false false is = refl
-  by_cases false some rest is = refl
+pub to_found : (number q : ℕ) (starts : StartList) → q ≤ number → slot_from (starts_to number starts) q ≡ slot_from starts q
+to_found number q starts low =
+    ap (option_and_then (λ (slot : Option ℕ). slot))
+    (lookup-filter-keys (is_at (nat_cmp q)) (range_contains nat_cmp Unbounded (Included number)) true
+    (λ k same. ap not (not_lt number k (nat_cmp number k) (ranked number k (nat_cmp number k) refl) (subst (λ (n : ℕ). n ≤ number) (same_as q k same) low))) starts)
 
--- a number goes
-pub number_goes : (q : ℕ) (run : Run) (runs rest : List Run) (came : StartList) (gone gone' : List ℕ) → runs ≡ run ∷ rest → is_some (slot_from came run.first) ≡ false → is_among gone' q ≡ cond (is_at (nat_cmp run.first) q) true (is_among gone q) → goes (slot_from came q) (firsts_of rest) gone' q ≡ goes (slot_from came q) (firsts_of runs) gone q
-number_goes q run runs rest came gone gone' split none put =
-    gone_one (is_at (nat_cmp q) run.first) (is_some (slot_from came q)) (is_among (firsts_of rest) q) (is_among gone q) (is_among gone' q) (λ same. ap (λ (f : ℕ). is_some (slot_from came f)) (same_as q run.first same) ∙ none) (put ∙ ap (λ (b : Bool). cond b true (is_among gone q)) (same_first run.first q))
-    ∙ ap (λ (rs : List Run). goes (slot_from came q) (firsts_of rs) gone q) (sym split)
+all_filter : (p : ℕ → Bool) (P : ℕ → Type 0) (es : StartList) → AllByRecursion P (keys_of es) → AllByRecursion P (keys_of (filter (λ e. p e.0) es))
+all_filter p P [] all = tt
+all_filter p P (e ∷ es) all = cond_both (p e.0) (e ∷ filter (λ e. p e.0) es) (filter (λ e. p e.0) es) (λ (l : StartList). AllByRecursion P (keys_of l)) (λ _. (all.0, all_filter p P es all.1)) (λ _. all_filter p P es all.1)
+
+sorted_filter : (p : ℕ → Bool) (es : StartList) → IsStrictlySortedBy nat_cmp (keys_of es) → IsStrictlySortedBy nat_cmp (keys_of (filter (λ e. p e.0) es))
+unfolding IsStrictlySortedBy
+sorted_filter p [] sorted = tt
+sorted_filter p (e ∷ es) sorted =
+    let rest = sorted_filter p es sorted.1 in
+    cond_both (p e.0) (e ∷ filter (λ e. p e.0) es) (filter (λ e. p e.0) es) (λ (l : StartList). IsStrictlySortedBy nat_cmp (keys_of l)) (λ _. (all_filter p (λ k. nat_cmp e.0 k ≡ Less) es sorted.0, rest)) (λ _. rest)
+
+pub to_sorted : (number : ℕ) (starts : StartList) → IsStrictlySortedBy nat_cmp (keys_of starts) → IsStrictlySortedBy nat_cmp (keys_of (starts_to number starts))
+to_sorted number starts sorted = sorted_filter (range_contains nat_cmp Unbounded (Included number)) starts sorted
+
+all_front : (P : ℕ → Type 0) (es : StartList) (e : ℕ × Option ℕ) → AllByRecursion P (keys_of (es ++ e ∷ [])) → AllByRecursion P (keys_of es) × P e.0
+all_front P [] e all = (tt, all.0)
+all_front P (one ∷ es) e all = let rest = all_front P es e all.1 in ((all.0, rest.0), rest.1)
+
+-- without the last start
+pub front_sorted : (es : StartList) (e : ℕ × Option ℕ) → IsStrictlySortedBy nat_cmp (keys_of (es ++ e ∷ [])) → IsStrictlySortedBy nat_cmp (keys_of es)
+unfolding IsStrictlySortedBy
+front_sorted [] e sorted = tt
+front_sorted (one ∷ es) e sorted = ((all_front (λ k. nat_cmp one.0 k ≡ Less) es e sorted.0).0, front_sorted es e sorted.1)
+
+one_found : (b : Bool) (slot : Option ℕ) (n o : Option (Option ℕ)) → option_and_then (λ (s : Option ℕ). s) n ≡ option_and_then (λ (s : Option ℕ). s) o → option_and_then (λ (s : Option ℕ). s) (cond b (Some slot) n) ≡ option_and_then (λ (s : Option ℕ). s) (cond b (Some slot) o)
+one_found true slot n o is = refl
+one_found false slot n o is = is
+
+none_found : (b : Bool) → option_and_then (λ (s : Option ℕ). s) (cond b (Some None) None) ≡ None
+none_found true = refl
+none_found false = refl
+
+-- a number at which no run stands behind the others
+pub none_last : (es : StartList) (first q : ℕ) → slot_from (es ++ (first, None) ∷ []) q ≡ slot_from es q
+none_last [] first q = none_found (is_at (nat_cmp q) first)
+none_last (one ∷ es) first q = one_found (is_at (nat_cmp q) one.0) one.1 (lookup (is_at (nat_cmp q)) (es ++ (first, None) ∷ [])) (lookup (is_at (nat_cmp q)) es) (none_last es first q)
+
+only_found : (b : Bool) (slot : Option ℕ) (s : ℕ) → option_and_then (λ (s : Option ℕ). s) (cond b (Some slot) None) ≡ Some s → b ≡ true
+only_found true slot s is = refl
+only_found false slot s is = absurd (cc is)
+
+first_found : (b : Bool) (slot : Option ℕ) (o : Option (Option ℕ)) (s : ℕ) (P : Type 0) → option_and_then (λ (s : Option ℕ). s) (cond b (Some slot) o) ≡ Some s → (b ≡ true → P) → (option_and_then (λ (s : Option ℕ). s) o ≡ Some s → P) → P
+first_found true slot o s P is here behind = here refl
+first_found false slot o s P is here behind = behind is
+
+-- none stands behind the last
+pub at_most_last : (es : StartList) (e : ℕ × Option ℕ) (q s : ℕ) → IsStrictlySortedBy nat_cmp (keys_of (es ++ e ∷ [])) → slot_from (es ++ e ∷ []) q ≡ Some s → q ≤ e.0
+unfolding IsStrictlySortedBy
+at_most_last [] e q s sorted is = let same = same_as q e.0 (only_found (is_at (nat_cmp q) e.0) e.1 s is) in omega (arith, same)
+at_most_last (one ∷ es) e q s sorted is =
+    first_found (is_at (nat_cmp q) one.0) one.1 (lookup (is_at (nat_cmp q)) (es ++ e ∷ [])) s (q ≤ e.0) is
+    (λ here. let same = same_as q one.0 here in let low = low_by_less one.0 e.0 (all_front (λ k. nat_cmp one.0 k ≡ Less) es e sorted.0).1 in omega (arith, same, low))
+    (λ behind. at_most_last es e q s sorted.1 behind)
+
+-- the slot that stands at a number up to another
+pub some_found : (slot : Option ℕ) (first number : ℕ) (starts : StartList) → first ≤ number → lookup (is_at (nat_cmp first)) starts ≡ Some slot → IfSome slot (λ s. (f : ℕ) × (f ≤ number) × (slot_from starts f ≡ Some s))
+some_found None first number starts low is = tt
+some_found (Some s) first number starts low is = (first, low, ap (option_and_then (λ (s : Option ℕ). s)) is)
+
+-- a start that none follows up to a number is the last in front of it
+pub last_found : (es starts : StartList) (e : ℕ × Option ℕ) (first slot number : ℕ) → IsStrictlySortedBy nat_cmp (keys_of (es ++ e ∷ [])) → e.0 ≤ number → lookup (is_at (nat_cmp e.0)) starts ≡ Some e.1 → is_some e.1 ≡ true → slot_from (es ++ e ∷ []) first ≡ Some slot → slot_from starts first ≡ Some slot → BeginsLast (slot_from starts) first number → e.1 ≡ Some slot
+last_found es starts e first slot number sorted low here some among there last =
+    let at : slot_from starts e.0 ≡ e.1 = ap (option_and_then (λ (s : Option ℕ). s)) here in
+    let below : first ≤ e.0 = at_most_last es e first slot sorted among in
+    let same : e.0 ≡ first = is_first e.1 refl at below in
+    sym at ∙ ap (slot_from starts) same ∙ there
+  where
+    is_first : (o : Option ℕ) → e.1 ≡ o → slot_from starts e.0 ≡ e.1 → first ≤ e.0 → e.0 ≡ first
+    is_first None is at below = absurd (true≢false (sym some ∙ ap is_some is))
+    is_first (Some s) is at below = let over : e.0 ≤ first = last.1 e.0 s (at ∙ is) low in omega (arith, over, below)
 
 pub none_there : (o : Option ℕ) → is_some o ≡ false → o ≡ None
 none_there None none = refl
 none_there (Some s) none = absurd (true≢false none)
-
--- a number that isn't that of a start that came
-pub none_at : (q first : ℕ) (came : StartList) → is_some (slot_from came first) ≡ false → is_at (nat_cmp first) q ≡ true → slot_from came q ≡ None
-none_at q first came none same = ap (slot_from came) (sym (same_as first q same)) ∙ none_there (slot_from came first) none
-
-pub noted_still : (noted noted' was is is' : List ℕ) → noted' ≡ noted → is' ≡ is → AreNoted noted was is → AreNoted noted' was is'
-noted_still noted noted' was is is' same still made = subst (λ (l : List ℕ). AreNoted l was is') (sym same) (subst (AreNoted noted was) (sym still) made)
-
--- the numbers with which starts stand
-pub among_keys : (q : ℕ) (l : StartList) → is_among (keys_of l) q ≡ is_some (slot_from l q)
-among_keys q [] = refl
-among_keys q (one ∷ l) = ap (λ (b : Bool). is_at (nat_cmp q) one.0 || b) (among_keys q l) ∙ by_test (is_at (nat_cmp q) one.0) where
-  by_test : (b : Bool) → (b || is_some (slot_from l q)) ≡ is_some (cond b (Some one.1) (slot_from l q))
-  by_test true = refl
-  by_test false = refl
-
--- ---- those that came are put in
-
-pub put_all : (first q : ℕ) (came : StartList) (s : ℕ) (run was run' : Option ℕ) → slot_from came first ≡ Some s → run' ≡ cond (is_at (nat_cmp first) q) (Some s) run → option_or (slot_from came q) run ≡ option_or (slot_from came q) was → option_or (slot_from came q) run' ≡ option_or (slot_from came q) was
-put_all first q came s run was run' there put all = by_test (is_at (nat_cmp first) q) refl where
-  by_test : (b : Bool) → is_at (nat_cmp first) q ≡ b → option_or (slot_from came q) run' ≡ option_or (slot_from came q) was
-  by_test true same = let is = sym (ap (slot_from came) (same_as first q same)) ∙ there in ap (λ (o : Option ℕ). option_or o run') is ∙ sym (ap (λ (o : Option ℕ). option_or o was) is)
-  by_test false differ = ap (option_or (slot_from came q)) (put ∙ ap (λ (b : Bool). cond b (Some s) run) differ) ∙ all
-
-pub put_done : (first q : ℕ) (came rest rest' : StartList) (s t : ℕ) (run run' : Option ℕ) → rest ≡ (first, s) ∷ rest' → slot_from came first ≡ Some s → slot_from came q ≡ Some t → run' ≡ cond (is_at (nat_cmp first) q) (Some s) run → (is_some (slot_from rest q) ≡ true) ⊎ (run ≡ Some t) → (is_some (slot_from rest' q) ≡ true) ⊎ (run' ≡ Some t)
-put_done first q came rest rest' s t run run' split there is put done = by_test (is_at (nat_cmp first) q) refl where
-  by_test : (b : Bool) → is_at (nat_cmp first) q ≡ b → (is_some (slot_from rest' q) ≡ true) ⊎ (run' ≡ Some t)
-  by_test true same = inr (put ∙ ap (λ (b : Bool). cond b (Some s) run) same ∙ sym there ∙ ap (slot_from came) (same_as first q same) ∙ is)
-  by_test false differ = ⊎_elim
-      (λ ahead. inl (sym (ap (λ (l : StartList). is_some (slot_from l q)) split ∙ ap (λ (b : Bool). is_some (cond b (Some s) (slot_from rest' q))) (same_first q first ∙ differ)) ∙ ahead))
-      (λ was. inr (put ∙ ap (λ (b : Bool). cond b (Some s) run) differ ∙ was))
-      done

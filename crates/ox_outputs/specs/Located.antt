@@ -1,11 +1,8 @@
 -- Where the satoshis of outputs are, run by run.
-use Rattle.std.specs.Prelude.{◌≡◌, ◌≢◌, ℕ, ◌+◌, ◌≤◌, ◌==◌, ◌&&◌, nat_le, nat_lt, Bool}
-use Rattle.std.specs.Prelude.{true, false, List, Option, Some, None}
+use Rattle.std.specs.Prelude.{◌≡◌, ◌≢◌, ℕ, ◌+◌, ◌≤◌, Bool, true, false, Option, Some}
 use Rattle.std.specs.FinMap.{get}
-use Rattle.std.specs.List.{list_any}
 use Rattle.std.specs.Option.{option_map, option_map_or, option_and_then}
 use Rattle.ox_block.specs.declared.block.OutPoint.{OutPoint}
-use Rattle.ox_range.specs.declared.runs.Run.{Run}
 use Rattle.ox_range.specs.Runs.{runs_of}
 use Rattle.ox_rules.specs.declared.place.Place.{Place}
 use Rattle.ox_rules.specs.declared.place.Place.TheVariants.{Out}
@@ -13,7 +10,7 @@ use Rattle.ox_rules.specs.declared.rows.OutRow.{OutRow}
 use Rattle.ox_rules.specs.Outputs.{Outputs, times}
 use Rattle.ox_rules.specs.Where.{place_in}
 use Rattle.ox_outputs.specs.Slots.{SlotList, outpoint_at}
-use Rattle.ox_outputs.specs.Starts.{is_among, firsts_of, BeginsLast}
+use Rattle.ox_outputs.specs.Starts.{is_among, firsts_of}
 
 -- no satoshi stands twice
 pub record StandOnce (outs : Outputs) : Type 0 where
@@ -34,18 +31,6 @@ pub record AreRuns (starts : ℕ → Option ℕ) (slots : SlotList) (outs : Outp
       → option_map_or (λ at. begins outs at first) (outpoint_at slots place) false ≡ true
   pub complete : (first : ℕ) (at : OutPoint) → begins outs at first ≡ true
       → option_and_then (λ place. outpoint_at slots place) (starts first) ≡ Some at
-
--- whether the run of these that begins with this number has this satoshi
-abbrev pub has_from : List Run → ℕ → ℕ → Bool
-has_from runs first sat =
-    list_any (λ run. (run.first == first) && (nat_le first sat && nat_lt sat (first + run.count)))
-    runs
-
--- No start of these lies within a run of the outputs, unless the run came.
-pub record AreClear (came starts : ℕ → Option ℕ) (outs : Outputs) : Type 0 where
-  pub within : (at : OutPoint) (row : OutRow) (first sat : ℕ) → get outs at ≡ Some row
-      → has_from (runs_of row.sats) first sat ≡ true → came first ≡ None
-      → BeginsLast starts first sat
 
 -- where a satoshi is in the row of the output at this outpoint, if it has one
 abbrev pub place_held : OutPoint → Option OutRow → ℕ → Option Place

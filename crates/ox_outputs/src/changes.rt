@@ -1,14 +1,14 @@
 //! Changes of slots, which can be taken back.
 
-ghost use Rattle.std.specs.Prelude.{◌≡◌, ℕ, true, false, Option, Some, None, IfOk, IfErr};
+ghost use Rattle.std.specs.Prelude.{◌≡◌, ℕ, Option, Some, None, IfOk, IfErr};
 ghost use Rattle.std.specs.Prelude.{OnOk, OnErr, [], length, if◌then◌else◌, IfSome, IsSomeAnd};
 ghost use Rattle.std.specs.Option.{option_map};
 ghost use Rattle.std.specs.FinMap as map;
 ghost use Rattle.ox_block.specs.declared.block.OutPoint.{OutPoint};
 ghost use Rattle.ox_range.specs.Runs.{runs_of};
 ghost use Rattle.ox_rules.specs.Outputs.{MayStand};
-ghost use Rattle.ox_outputs.specs.Located.{AreRuns, AreClear};
-ghost use Rattle.ox_outputs.specs.Locator.{live_at, kept_at, came_at};
+ghost use Rattle.ox_outputs.specs.Located.{AreRuns};
+ghost use Rattle.ox_outputs.specs.Locator.{live_at, kept_at};
 ghost use Rattle.ox_outputs.specs.Starts.{is_among, firsts_of};
 ghost use Rattle.ox_outputs.specs.Slots.{outpoint_at, slot_at, put_slot, rows_of, undone, AreSpots};
 ghost use Rattle.ox_outputs.specs.Slots.{tidied_at, filled_before, KeepRows};
@@ -26,10 +26,7 @@ fn leave_copied(locator: &mut Locator, row: &OutRow, alloc: Global) -> Result<Ou
     ensures copy { IfOk result (λ copy. copy ≡ row.now) }
     ensures ok { OnOk result ((q : ℕ) → live_at locator.new q
         ≡ (if is_among (firsts_of (runs_of row.now.sats)) q then None else live_at locator.old q)) }
-    ensures came { OnOk result ((q : ℕ) → came_at locator.new q
-        ≡ (if is_among (firsts_of (runs_of row.now.sats)) q then None else came_at locator.old q)) }
     ensures err { OnErr result ((q : ℕ) → live_at locator.new q ≡ live_at locator.old q) }
-    ensures came_err { OnErr result ((q : ℕ) → came_at locator.new q ≡ came_at locator.old q) }
     ensures kept { (q : ℕ) → kept_at locator.new q ≡ kept_at locator.old q }
 {
     let copy = row.copy(alloc)?;
@@ -57,7 +54,6 @@ pub(crate) fn take_twice(
     alloc: Global,
 ) -> Result<Option<Taken>, Memory>
     requires runs { AreRuns (live_at locator.old) slots.old (rows_of slots.old) }
-    requires clear { AreClear (came_at locator.old) (kept_at locator.old) (rows_of slots.old) }
     ensures row { IfOk result
         (λ taken. option_map (λ t. t.row) taken ≡ map.get (rows_of slots.old) at.now) }
     ensures kept { IfOk result
@@ -69,7 +65,6 @@ pub(crate) fn take_twice(
     ensures places { (p : ℕ) → outpoint_at slots.new p ≡ outpoint_at slots.old p }
     ensures err { OnErr result (rows_of slots.new ≡ rows_of slots.old) }
     ensures runs { AreRuns (live_at locator.new) slots.new (rows_of slots.new) }
-    ensures clear { AreClear (came_at locator.new) (kept_at locator.new) (rows_of slots.new) }
     ensures same { (q : ℕ) → kept_at locator.new q ≡ kept_at locator.old q }
 {
     let Some(place) = slots.find(at) else {
@@ -96,19 +91,12 @@ fn displace_copied(
     sats: &Ranges,
     alloc: Global,
 ) -> Result<OutRow, Memory>
-    requires fresh { (q : ℕ) → is_among (firsts_of (runs_of sats.now)) q ≡ true
-        → is_among (firsts_of (runs_of row.now.sats)) q ≡ false → live_at locator.old q ≡ None }
     ensures copy { IfOk result (λ copy. copy ≡ row.now) }
     ensures ok { OnOk result ((q : ℕ) → live_at locator.new q
         ≡ (if is_among (firsts_of (runs_of sats.now)) q then Some place
         else (if is_among (firsts_of (runs_of row.now.sats)) q then None
         else live_at locator.old q))) }
-    ensures came { OnOk result ((q : ℕ) → came_at locator.new q
-        ≡ (if is_among (firsts_of (runs_of sats.now)) q then Some place
-        else (if is_among (firsts_of (runs_of row.now.sats)) q then None
-        else came_at locator.old q))) }
     ensures err { OnErr result ((q : ℕ) → live_at locator.new q ≡ live_at locator.old q) }
-    ensures came_err { OnErr result ((q : ℕ) → came_at locator.new q ≡ came_at locator.old q) }
     ensures kept { (q : ℕ) → kept_at locator.new q ≡ kept_at locator.old q }
 {
     let copy = row.copy(alloc)?;
@@ -140,8 +128,6 @@ fn arrive_at(
         (λ row. row.sats ≡ sats.now) }
     requires runs { AreRuns (live_at locator.old) slots.old
         (map.remove (rows_of slots.old) spot.at) }
-    requires clear { AreClear (came_at locator.old) (kept_at locator.old)
-        (map.remove (rows_of slots.old) spot.at) }
     requires may { MayStand spot.at sats.now (map.remove (rows_of slots.old) spot.at) }
     ensures none { IfOk result
         (λ held. held ≡ record { place = spot.place; row = None; kept = None }) }
@@ -150,7 +136,6 @@ fn arrive_at(
     ensures handed_back { IfErr result (λ e. Some e.row ≡ map.get (rows_of slots.old) spot.at) }
     ensures err { OnErr result (rows_of slots.new ≡ map.remove (rows_of slots.old) spot.at) }
     ensures runs { AreRuns (live_at locator.new) slots.new (rows_of slots.new) }
-    ensures clear { AreClear (came_at locator.new) (kept_at locator.new) (rows_of slots.new) }
     ensures same { (q : ℕ) → kept_at locator.new q ≡ kept_at locator.old q }
 {
     match locator.arrive(spot.place, sats) {
@@ -182,8 +167,6 @@ fn displace_at(
         (λ row. row.sats ≡ sats.now) }
     requires runs { AreRuns (live_at locator.old) slots.old
         (map.insert (rows_of slots.old) spot.at other) }
-    requires clear { AreClear (came_at locator.old) (kept_at locator.old)
-        (map.insert (rows_of slots.old) spot.at other) }
     requires may { MayStand spot.at sats.now (map.insert (rows_of slots.old) spot.at other) }
     ensures twice { IfOk result
         (λ held. held ≡ record { place = spot.place; row = Some other; kept = Some other }) }
@@ -193,7 +176,6 @@ fn displace_at(
     ensures err { OnErr result
         (rows_of slots.new ≡ map.insert (rows_of slots.old) spot.at other) }
     ensures runs { AreRuns (live_at locator.new) slots.new (rows_of slots.new) }
-    ensures clear { AreClear (came_at locator.new) (kept_at locator.new) (rows_of slots.new) }
     ensures same { (q : ℕ) → kept_at locator.new q ≡ kept_at locator.old q }
 {
     match displace_copied(locator, &other, spot.place, sats, alloc) {
@@ -220,7 +202,6 @@ pub(crate) fn fill_twice(
     alloc: Global,
 ) -> Result<Displaced, Unplaced>
     requires runs { AreRuns (live_at locator.old) slots.old (rows_of slots.old) }
-    requires clear { AreClear (came_at locator.old) (kept_at locator.old) (rows_of slots.old) }
     requires may { MayStand at row.sats (rows_of slots.old) }
     ensures held { IfOk result (λ held. held.row ≡ map.get (rows_of slots.old) at) }
     ensures twice { IfOk result (λ held. held.kept ≡ map.get (rows_of slots.old) at) }
@@ -232,7 +213,6 @@ pub(crate) fn fill_twice(
     ensures handed_back { IfErr result (λ e. e.row ≡ row) }
     ensures err { OnErr result (rows_of slots.new ≡ rows_of slots.old) }
     ensures runs { AreRuns (live_at locator.new) slots.new (rows_of slots.new) }
-    ensures clear { AreClear (came_at locator.new) (kept_at locator.new) (rows_of slots.new) }
     ensures same { (q : ℕ) → kept_at locator.new q ≡ kept_at locator.old q }
 {
     let Ok(sats) = row.sats.copy(alloc) else {

@@ -5,8 +5,8 @@ ghost use Rattle.std.specs.Prelude.{length, if◌then◌else◌, Some, None};
 ghost use Rattle.std.specs.Option.{option_copied};
 ghost use Rattle.std.specs.FinMap as map;
 ghost use Rattle.ox_outputs.specs.Slots.{rows_of, undone, AreSpots};
-ghost use Rattle.ox_outputs.specs.Located.{StandOnce, AreRuns, AreClear};
-ghost use Rattle.ox_outputs.specs.Locator.{live_at, kept_at, came_at};
+ghost use Rattle.ox_outputs.specs.Located.{StandOnce, AreRuns};
+ghost use Rattle.ox_outputs.specs.Locator.{live_at, kept_at};
 
 use crate::ahead::Ahead;
 use crate::changes::{Displaced, Taken, fill_twice, forget, go_back, settle, take_twice};
@@ -39,7 +39,6 @@ pub struct Outputs {
     ghost runs: { AreRuns (live_at locator) slots (rows_of slots) },
     ghost runs_before: { marked ≡ true
         → AreRuns (kept_at locator) slots (undone before.items changed.items (rows_of slots)) },
-    ghost clear: { AreClear (came_at locator) (kept_at locator) (rows_of slots) },
 }
 
 impl Outputs {
@@ -65,7 +64,8 @@ impl Outputs {
 
     /// The output that holds a satoshi, and its place there: the first such output in the order of
     /// outpoints, which is the only one. `None` exactly where no output holds it. It costs by the
-    /// logarithm of the runs of satoshis, and by the runs of the one output that may hold it.
+    /// logarithm of the runs of satoshis, by the runs of the one output that may hold it, and by
+    /// the runs that went since the mark and begin right before the satoshi.
     pub fn locate(&self, sat: u64) -> Option<Place>
         ensures { result ≡ place_among (map.entries (rows_in self.now)) sat }
     {
@@ -178,8 +178,7 @@ impl OutTable for Outputs {
             .read_changed(&self.slots, &self.changed, &self.before);
         settle(&mut self.slots, &mut self.changed, &mut self.before);
         self.before.clear();
-        self.marked = false;
-        self.locator.begin()?;
+        self.locator.begin();
         self.marked = true;
         Ok(())
     }

@@ -1,18 +1,12 @@
 use Rattle.std.proofs.Common.{◌∙◌, sym, ap, refl, cond, None, Some, List, ℕ}
 use Rattle.std.specs.FinMap as map
 use Rattle.ox_range.specs.Runs.{runs_of}
-use Rattle.ox_outputs.specs.Locator.{live_at, kept_at, came_at}
+use Rattle.ox_outputs.specs.Locator.{live_at}
 use Rattle.ox_outputs.specs.Slots.{rows_of, put_slot}
 use Rattle.ox_outputs.specs.Starts.{is_among, firsts_of}
 use Rattle.ox_outputs.proofs.SlotLemmas.{get-put_slot, get-put_slot_same}
-use Rattle.ox_outputs.proofs.RowLemmas.{fresh_runs, arrive_rows, arrive_clear, clear_alike, the_row, gets_again, elsewhere_is, may_alike}
+use Rattle.ox_outputs.proofs.RowLemmas.{arrive_rows, the_row, gets_again, elsewhere_is, may_alike}
 use Rattle.ox_outputs.proofs.changes.arrive_at.Goals as goal
-
-pub arrive-requires : goal.arrive-requires
-arrive-requires c =
-    let rows = rows_of c.args.slots.now in record {
-      fresh = λ q among. fresh_runs (live_at c.args.locator.now) c.args.slots.now (put_slot rows c.args.spot.at None) c.args.spot.at c.args.sats.now q c.requires.runs (get-put_slot_same rows c.args.spot.at None) c.requires.may among;
-    }
 
 pub returns-in-Ok-clause-runs : goal.returns-in-Ok-clause-runs
 returns-in-Ok-clause-runs c =
@@ -25,17 +19,3 @@ returns-in-Ok-clause-runs c =
     c.requires.runs c.requires.spot (get-put_slot_same rows at None)
     (may_alike at c.args.sats.now row.0.sats outs outs c.requires.may row.2 refl)
     (λ q. c.in-Ok.ensures.ok q ∙ ap (λ (l : List ℕ). cond (is_among (firsts_of (runs_of l)) q) (Some c.args.spot.place) (live_at c.args.locator.now q)) (sym row.2))
-
-pub returns-in-Ok-clause-clear : goal.returns-in-Ok-clause-clear
-returns-in-Ok-clause-clear c =
-    let at = c.args.spot.at in
-    let rows = rows_of c.args.slots.now in
-    let outs = put_slot rows at None in
-    let row = the_row (map.get rows at) c.args.sats.now c.requires.stands in
-    let came = came_at c.arrive.new.self in
-    let kept = kept_at c.args.locator.now in
-    let clear = arrive_clear (live_at c.args.locator.now) (live_at c.arrive.new.self) c.args.slots.now outs rows at row.0 c.args.spot.place
-    (gets_again rows outs at row.0 row.1 (λ q other. get-put_slot rows at None q ∙ elsewhere_is _ None (map.get rows q) other))
-    (came_at c.args.locator.now) came kept c.requires.clear
-    (λ q. c.in-Ok.ensures.came q ∙ ap (λ (l : List ℕ). cond (is_among (firsts_of (runs_of l)) q) (Some c.args.spot.place) (came_at c.args.locator.now q)) (sym row.2)) in
-    clear_alike came came kept (kept_at c.arrive.new.self) rows rows clear (λ q. refl) c.arrive.ensures.kept refl

@@ -3,10 +3,10 @@ use Rattle.std.specs.FinMap as map
 use Rattle.ox_block.specs.declared.block.OutPoint.{OutPoint}
 use Rattle.ox_rules.specs.declared.rows.OutRow.{OutRow}
 use Rattle.ox_rules.specs.Outputs.{Outputs}
-use Rattle.ox_outputs.specs.Locator.{live_at, kept_at, came_at}
+use Rattle.ox_outputs.specs.Locator.{live_at}
 use Rattle.ox_outputs.specs.Slots.{rows_of, put_slot}
 use Rattle.ox_outputs.proofs.SlotLemmas.{get-put_slot_same, put_slot-put_slot}
-use Rattle.ox_outputs.proofs.RowLemmas.{runs_alike, clear_alike, may_alike, stay_kept}
+use Rattle.ox_outputs.proofs.RowLemmas.{runs_alike, may_alike, stay_kept}
 use Rattle.ox_outputs.proofs.OutputsLemmas.{err_so, some_and}
 use Rattle.ox_outputs.proofs.changes.fill_twice.Goals as goal
 
@@ -42,13 +42,6 @@ arrive_at-requires-clause-runs c =
     (stay_kept rows c.args.slots.now c.fill.new.self c.fill.ensures.places)
     (before rows filled c.args.at c.args.row c.in_ok-place.earlier None c.in_ok-place.ensures.rows c.in_ok-place.ensures.held c.in-None.is)
 
-pub arrive_at-requires-clause-clear : goal.arrive_at-requires-clause-clear
-arrive_at-requires-clause-clear c =
-    let rows = rows_of c.args.slots.now in
-    let filled = rows_of c.fill.new.self in
-    clear_alike (came_at c.args.locator.now) (came_at c.args.locator.now) (kept_at c.args.locator.now) (kept_at c.args.locator.now) rows (put_slot filled c.args.at None) c.requires.clear (λ q. refl) (λ q. refl)
-    (before rows filled c.args.at c.args.row c.in_ok-place.earlier None c.in_ok-place.ensures.rows c.in_ok-place.ensures.held c.in-None.is)
-
 pub arrive_at-requires-clause-may : goal.arrive_at-requires-clause-may
 arrive_at-requires-clause-may c =
     let rows = rows_of c.args.slots.now in
@@ -77,13 +70,6 @@ displace_at-requires-clause-runs c =
     let filled = rows_of c.fill.new.self in
     runs_alike (live_at c.args.locator.now) (live_at c.args.locator.now) c.args.slots.now c.fill.new.self rows (put_slot filled c.args.at (Some c.in-Some.other)) c.requires.runs (λ q. refl)
     (stay_kept rows c.args.slots.now c.fill.new.self c.fill.ensures.places)
-    (before rows filled c.args.at c.args.row c.in_ok-place.earlier (Some c.in-Some.other) c.in_ok-place.ensures.rows c.in_ok-place.ensures.held c.in-Some.is)
-
-pub displace_at-requires-clause-clear : goal.displace_at-requires-clause-clear
-displace_at-requires-clause-clear c =
-    let rows = rows_of c.args.slots.now in
-    let filled = rows_of c.fill.new.self in
-    clear_alike (came_at c.args.locator.now) (came_at c.args.locator.now) (kept_at c.args.locator.now) (kept_at c.args.locator.now) rows (put_slot filled c.args.at (Some c.in-Some.other)) c.requires.clear (λ q. refl) (λ q. refl)
     (before rows filled c.args.at c.args.row c.in_ok-place.earlier (Some c.in-Some.other) c.in_ok-place.ensures.rows c.in_ok-place.ensures.held c.in-Some.is)
 
 pub displace_at-requires-clause-may : goal.displace_at-requires-clause-may

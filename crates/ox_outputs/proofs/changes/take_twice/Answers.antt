@@ -1,10 +1,10 @@
 use Rattle.std.proofs.Common.{◌∙◌, sym, ap, refl, None, Some}
 use Rattle.std.specs.FinMap as map
 use Rattle.ox_rules.specs.Outputs.{Outputs}
-use Rattle.ox_outputs.specs.Locator.{live_at, kept_at, came_at}
+use Rattle.ox_outputs.specs.Locator.{live_at}
 use Rattle.ox_outputs.specs.Slots.{rows_of}
 use Rattle.ox_outputs.proofs.SlotLemmas.{put_again, put_none, get-put_slot}
-use Rattle.ox_outputs.proofs.RowLemmas.{leave_rows, leave_clear, runs_alike, clear_alike, stay_same}
+use Rattle.ox_outputs.proofs.RowLemmas.{leave_rows, runs_alike, stay_same}
 use Rattle.ox_outputs.proofs.changes.take_twice.Goals as goal
 
 pub returns-in_default-clause-rows : goal.returns-in_default-clause-rows
@@ -18,15 +18,6 @@ returns-in_default-exchange-clause-runs c =
     runs_alike live live c.args.slots.now c.exchange.new.self rows (rows_of c.exchange.new.self) c.requires.runs (λ q. refl) (stay_same rows c.args.slots.now c.exchange.new.self c.exchange.ensures.places)
     (c.exchange.ensures.rows c.args.at.now here ∙ put_none rows c.args.at.now (sym (c.in_default-exchange.ensures.held c.args.at.now here)))
 
-pub returns-in_default-exchange-clause-clear : goal.returns-in_default-exchange-clause-clear
-returns-in_default-exchange-clause-clear c =
-    let here = c.in-Some.ensures.some in
-    let came = came_at c.args.locator.now in
-    let kept = kept_at c.args.locator.now in
-    let rows = rows_of c.args.slots.now in
-    clear_alike came came kept kept rows (rows_of c.exchange.new.self) c.requires.clear (λ q. refl) (λ q. refl)
-    (c.exchange.ensures.rows c.args.at.now here ∙ put_none rows c.args.at.now (sym (c.in_default-exchange.ensures.held c.args.at.now here)))
-
 pub returns-in-Ok-clause-runs : goal.returns-in-Ok-clause-runs
 returns-in-Ok-clause-runs c =
     let here = c.in-Some.ensures.some in
@@ -37,19 +28,6 @@ returns-in-Ok-clause-runs c =
     (sym (c.in-Some-exchange.ensures.held c.args.at.now here))
     (λ q. ap (λ (o : Outputs). map.get o q) (c.exchange.ensures.rows c.args.at.now here) ∙ get-put_slot rows c.args.at.now None q) c.in-Ok.ensures.ok in
     runs_alike live live c.args.slots.now c.exchange.new.self less less left (λ q. refl) (stay_same less c.args.slots.now c.exchange.new.self c.exchange.ensures.places) refl
-
-pub returns-in-Ok-clause-clear : goal.returns-in-Ok-clause-clear
-returns-in-Ok-clause-clear c =
-    let here = c.in-Some.ensures.some in
-    let rows = rows_of c.args.slots.now in
-    let less = rows_of c.exchange.new.self in
-    let came = came_at c.leave_copied.new.locator in
-    let kept = kept_at c.args.locator.now in
-    let left = leave_clear (live_at c.args.locator.now) (live_at c.leave_copied.new.locator) c.args.slots.now rows less c.args.at.now c.in-Some-exchange.row c.requires.runs
-    (sym (c.in-Some-exchange.ensures.held c.args.at.now here))
-    (λ q. ap (λ (o : Outputs). map.get o q) (c.exchange.ensures.rows c.args.at.now here) ∙ get-put_slot rows c.args.at.now None q)
-    (came_at c.args.locator.now) came kept c.requires.clear c.in-Ok.ensures.came in
-    clear_alike came came kept (kept_at c.leave_copied.new.locator) less less left (λ q. refl) c.leave_copied.ensures.kept refl
 
 pub returns-in-Err-clause-err : goal.returns-in-Err-clause-err
 returns-in-Err-clause-err c =
@@ -65,14 +43,5 @@ returns-in-Err-clause-runs c =
     let rows = rows_of c.args.slots.now in
     runs_alike (live_at c.args.locator.now) (live_at c.leave_copied.new.locator) c.args.slots.now c.exchange-empty.new.self rows (rows_of c.exchange-empty.new.self) c.requires.runs c.in-Err.ensures.err
     (stay_same rows c.args.slots.now c.exchange-empty.new.self (λ p. c.exchange-empty.ensures.places p ∙ c.exchange.ensures.places p))
-    (put_again rows (rows_of c.exchange.new.self) (rows_of c.exchange-empty.new.self) c.args.at.now None (Some c.in-Some-exchange.row)
-    (c.exchange.ensures.rows c.args.at.now here) (c.in-Some-exchange.ensures.held c.args.at.now here) (c.exchange-empty.ensures.rows c.args.at.now still))
-
-pub returns-in-Err-clause-clear : goal.returns-in-Err-clause-clear
-returns-in-Err-clause-clear c =
-    let here = c.in-Some.ensures.some in
-    let still = c.exchange.ensures.places c.in-Some.place ∙ here in
-    let rows = rows_of c.args.slots.now in
-    clear_alike (came_at c.args.locator.now) (came_at c.leave_copied.new.locator) (kept_at c.args.locator.now) (kept_at c.leave_copied.new.locator) rows (rows_of c.exchange-empty.new.self) c.requires.clear c.in-Err.ensures.came_err c.leave_copied.ensures.kept
     (put_again rows (rows_of c.exchange.new.self) (rows_of c.exchange-empty.new.self) c.args.at.now None (Some c.in-Some-exchange.row)
     (c.exchange.ensures.rows c.args.at.now here) (c.in-Some-exchange.ensures.held c.args.at.now here) (c.exchange-empty.ensures.rows c.args.at.now still))

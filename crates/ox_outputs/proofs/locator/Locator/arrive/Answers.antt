@@ -1,16 +1,17 @@
-use Rattle.std.proofs.Common.{◌∙◌, ap, sym, refl, List}
-use Rattle.ox_range.specs.declared.runs.Run.{Run}
-use Rattle.ox_outputs.specs.Starts.{is_among, firsts_of}
-use Rattle.ox_outputs.proofs.StartLemmas.{either_way}
-use Rattle.ox_outputs.proofs.LocatorLemmas.{kept_alike, kept_arrived}
+use Rattle.std.proofs.Common.{rules}
+use Rattle.ox_outputs.specs.Starts.{slot_from}
+use Rattle.ox_outputs.proofs.StartLemmas.{noted_back, noted_kept}
 use Rattle.ox_outputs.proofs.locator.Locator.arrive.Goals as goal
 
-pub invariant_of-self : goal.invariant_of-self
-invariant_of-self c =
-    let self = c.args.self.now in
-    let runs = c.runs.result.now in
-    let came = c.insert_runs.new.starts.entries in record {
-      kept = either_way c.insert_runs.result c.insert_runs.ensures.ok c.insert_runs.ensures.err
-          (λ ok. kept_arrived self.kept came c.args.slot (firsts_of runs) (λ q among. c.requires.fresh q (ap (λ (rs : List Run). is_among (firsts_of rs) q) (sym c.runs.ensures.exact) ∙ among)) ok)
-          (λ err. kept_alike self.kept came self.gone.keys err (λ q. refl));
-    }
+pub returns-in-Ok-clause-kept : goal.returns-in-Ok-clause-kept
+returns-in-Ok-clause-kept c =
+    let old = c.args.self.now in
+    let new = c.put_runs.new in
+    λ q. noted_kept old.changes.items new.changes.items (slot_from old.starts.entries) (slot_from new.starts.entries) q c.put_runs.ensures.noted
+
+pub returns-in-Err-clause-kept : goal.returns-in-Err-clause-kept
+returns-in-Err-clause-kept c =
+    let old = c.args.self.now in
+    let new = c.put_runs.new in
+    λ q. noted_back old.changes.items new.changes.items (slot_from old.starts.entries) (slot_from new.starts.entries) (slot_from c.restore.new.starts.entries) q _ _
+    c.put_runs.ensures.noted (search rules) c.deref.ensures.value (c.restore.ensures.slots q)

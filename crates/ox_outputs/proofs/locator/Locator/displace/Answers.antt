@@ -1,16 +1,17 @@
-use Rattle.std.proofs.Common.{◌∙◌, ap, sym, List}
-use Rattle.ox_range.specs.declared.runs.Run.{Run}
-use Rattle.ox_outputs.specs.Starts.{is_among, firsts_of}
-use Rattle.ox_outputs.proofs.LocatorLemmas.{kept_displaced}
-use Rattle.ox_outputs.proofs.StartLemmas.{on_ok}
+use Rattle.std.proofs.Common.{rules}
+use Rattle.ox_outputs.specs.Starts.{slot_from}
+use Rattle.ox_outputs.proofs.StartLemmas.{noted_back, noted_kept}
 use Rattle.ox_outputs.proofs.locator.Locator.displace.Goals as goal
 
-pub invariant_of-self-else-is_err : goal.invariant_of-self-else-is_err
-invariant_of-self-else-is_err c =
-    let self = c.args.self.now in
-    let gone = c.runs-gone.result.now in
-    let runs = c.runs.result.now in record {
-      kept = kept_displaced self.kept c.put_over-put.new.starts.entries c.note_gone.new.gone.keys (firsts_of gone) (firsts_of runs) c.args.slot c.in_ok-some_came.ensures.ok
-          (on_ok c.put_over-put.result (sym c.is_err.ensures.value ∙ c.if-is_err.false) c.put_over-put.ensures.ok)
-          (λ q among stays. c.requires.fresh q (ap (λ (rs : List Run). is_among (firsts_of rs) q) (sym c.runs.ensures.exact) ∙ among) (ap (λ (rs : List Run). is_among (firsts_of rs) q) (sym c.runs-gone.ensures.exact) ∙ stays));
-    }
+pub returns-in-Ok-clause-kept : goal.returns-in-Ok-clause-kept
+returns-in-Ok-clause-kept c =
+    let old = c.args.self.now in
+    let new = c.replace_runs.new in
+    λ q. noted_kept old.changes.items new.changes.items (slot_from old.starts.entries) (slot_from new.starts.entries) q c.replace_runs.ensures.noted
+
+pub returns-in-Err-clause-kept : goal.returns-in-Err-clause-kept
+returns-in-Err-clause-kept c =
+    let old = c.args.self.now in
+    let new = c.replace_runs.new in
+    λ q. noted_back old.changes.items new.changes.items (slot_from old.starts.entries) (slot_from new.starts.entries) (slot_from c.restore.new.starts.entries) q _ _
+    c.replace_runs.ensures.noted (search rules) c.deref.ensures.value (c.restore.ensures.slots q)

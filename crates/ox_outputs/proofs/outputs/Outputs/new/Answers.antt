@@ -1,8 +1,8 @@
 use Rattle.std.proofs.Common.{◌≡◌, ◌∙◌, ap, arith, length}
 use Rattle.std.specs.FinMap as map
-use Rattle.ox_outputs.specs.Locator.{live_at, kept_at, came_at}
+use Rattle.ox_outputs.specs.Locator.{live_at}
 use Rattle.ox_outputs.specs.Slots.{rows_of, undone}
-use Rattle.ox_outputs.proofs.OutputsLemmas.{none_once, none_runs, none_clear, known_none, undone_none}
+use Rattle.ox_outputs.proofs.OutputsLemmas.{none_once, none_runs, known_none, undone_none}
 use Rattle.ox_outputs.proofs.outputs.Outputs.new.Goals as goal
 
 pub invariant_of-result : goal.invariant_of-result
@@ -18,5 +18,4 @@ invariant_of-result c =
       once_before = none_once (undone before changed (rows_of c.new.result)) (undone_none before changed (rows_of c.new.result) none ∙ rows);
       runs = none_runs (live_at c.new-4.result) c.new.result (rows_of c.new.result) c.new-4.ensures.live rows;
       runs_before = λ is. absurd (cc is);
-      clear = none_clear (came_at c.new-4.result) (kept_at c.new-4.result) (rows_of c.new.result) rows;
     }

@@ -1,7 +1,7 @@
 use Rattle.std.proofs.Common.{◌∙◌, refl}
-use Rattle.ox_outputs.specs.Locator.{live_at, kept_at, came_at}
+use Rattle.ox_outputs.specs.Locator.{live_at}
 use Rattle.ox_outputs.specs.Slots.{rows_of, undone}
-use Rattle.ox_outputs.proofs.RowLemmas.{clear_alike, once_alike, runs_alike}
+use Rattle.ox_outputs.proofs.RowLemmas.{once_alike, runs_alike}
 use Rattle.ox_outputs.proofs.OutputsLemmas.{known_none, undone_none, once_less}
 use Rattle.ox_outputs.proofs.outputs.Outputs.take_away.Goals as goal
 
@@ -18,7 +18,6 @@ invariant_of-self-in-Some c =
       once_before = once_alike rows (undone self.before.items self.changed.items rows) once (undone_none self.before.items self.changed.items rows none);
       runs = runs_alike (live_at c.take_twice.new.locator) (live_at c.take_twice.new.locator) c.take_twice.new.slots c.tidy.new.self (rows_of c.take_twice.new.slots) rows c.take_twice.ensures.runs (λ q. refl) c.tidy.ensures.filled c.tidy.ensures.rows;
       runs_before = λ is. absurd (cc (is, c.requires));
-      clear = clear_alike (came_at c.take_twice.new.locator) (came_at c.take_twice.new.locator) (kept_at c.take_twice.new.locator) (kept_at c.take_twice.new.locator) (rows_of c.take_twice.new.slots) rows c.take_twice.ensures.clear (λ q. refl) (λ q. refl) c.tidy.ensures.rows;
     }
 
 pub invariant_of-self-in-None : goal.invariant_of-self-in-None
@@ -34,5 +33,4 @@ invariant_of-self-in-None c =
       once_before = once_alike rows (undone self.before.items self.changed.items rows) once (undone_none self.before.items self.changed.items rows none);
       runs = c.take_twice.ensures.runs;
       runs_before = λ is. absurd (cc (is, c.requires));
-      clear = c.take_twice.ensures.clear;
     }

@@ -1,7 +1,7 @@
 use Rattle.std.proofs.Common.{◌≡◌, ◌∙◌, ap, arith, length, []}
-use Rattle.ox_outputs.specs.Locator.{live_at, kept_at, came_at}
+use Rattle.ox_outputs.specs.Locator.{live_at, kept_at}
 use Rattle.ox_outputs.specs.Slots.{rows_of, undone}
-use Rattle.ox_outputs.proofs.RowLemmas.{runs_alike, once_alike, clear_begun}
+use Rattle.ox_outputs.proofs.RowLemmas.{runs_alike, once_alike}
 use Rattle.ox_outputs.proofs.OutputsLemmas.{known_none, undone_none}
 use Rattle.ox_outputs.proofs.outputs.OutputsOutTable.begin.Goals as goal
 
@@ -20,25 +20,5 @@ invariant_of-self c =
       once = once_alike (rows_of self.slots) rows self.once c.settle.ensures.rows;
       once_before = once_alike (rows_of self.slots) (undone before changed rows) self.once same;
       runs = runs_alike (live_at self.locator) (live_at c.begin.new.self) self.slots c.settle.new.slots (rows_of self.slots) rows self.runs c.begin.ensures.live c.settle.ensures.filled c.settle.ensures.rows;
-      runs_before = λ is. absurd (cc is);
-      clear = clear_begun (came_at c.begin.new.self) (live_at self.locator) (kept_at c.begin.new.self) self.slots (rows_of self.slots) rows self.runs self.once c.begin.ensures.among c.settle.ensures.rows;
-    }
-
-pub invariant_of-self-2 : goal.invariant_of-self-2
-invariant_of-self-2 c =
-    let self = c.args.self.now in
-    let rows = rows_of c.settle.new.slots in
-    let changed = c.settle.new.changed.items in
-    let before = c.clear.new.self.items in
-    let none = c.settle.ensures.none in
-    let cleared : before ≡ [] = c.clear.ensures.items in
-    let same = undone_none before changed rows none ∙ c.settle.ensures.rows in record {
-      known = known_none changed c.settle.new.slots none;
-      paired = omega (arith, ap length none, ap length cleared);
-      unmarked = λ is. none;
-      once = once_alike (rows_of self.slots) rows self.once c.settle.ensures.rows;
-      once_before = once_alike (rows_of self.slots) (undone before changed rows) self.once same;
-      runs = runs_alike (live_at self.locator) (live_at c.begin.new.self) self.slots c.settle.new.slots (rows_of self.slots) rows self.runs c.begin.ensures.live c.settle.ensures.filled c.settle.ensures.rows;
-      runs_before = λ is. runs_alike (live_at self.locator) (kept_at c.begin.new.self) self.slots c.settle.new.slots (rows_of self.slots) (undone before changed rows) self.runs c.in_ok-begin.ensures.ok c.settle.ensures.filled same;
-      clear = clear_begun (came_at c.begin.new.self) (live_at self.locator) (kept_at c.begin.new.self) self.slots (rows_of self.slots) rows self.runs self.once c.begin.ensures.among c.settle.ensures.rows;
+      runs_before = λ is. runs_alike (live_at self.locator) (kept_at c.begin.new.self) self.slots c.settle.new.slots (rows_of self.slots) (undone before changed rows) self.runs c.begin.ensures.kept c.settle.ensures.filled same;
     }

@@ -1,11 +1,11 @@
-use Rattle.std.proofs.Common.{◌≡◌, ◌∙◌, refl, ap, sym, arith, length, List, Bool, true, false, Some, None}
+use Rattle.std.proofs.Common.{◌≡◌, ◌∙◌, refl, ap, arith, length, List, Bool, true, false, Some, None}
 use Rattle.std.specs.Prelude.{IsSome, if◌then◌else◌}
 use Rattle.std.specs.FinMap as map
 use Rattle.ox_rules.specs.Outputs.{Outputs as Rows}
 use Rattle.ox_outputs.specs.declared.spot.Spot.{Spot}
-use Rattle.ox_outputs.specs.Locator.{live_at, kept_at, came_at}
+use Rattle.ox_outputs.specs.Locator.{live_at, kept_at}
 use Rattle.ox_outputs.specs.Slots.{rows_of, undone}
-use Rattle.ox_outputs.proofs.RowLemmas.{Stay, runs_alike, once_alike, clear_begun}
+use Rattle.ox_outputs.proofs.RowLemmas.{Stay, runs_alike, once_alike}
 use Rattle.ox_outputs.proofs.OutputsLemmas.{known_none, undone_none}
 use Rattle.ox_outputs.proofs.outputs.OutputsOutTable.cancel.Goals as goal
 
@@ -33,5 +33,4 @@ invariant_of-self c =
       once_before = once_alike was (undone before changed rows) self.once_before (undone_none before changed rows none ∙ same);
       runs = runs_alike (kept_at self.locator) (live_at c.cancel.new.self) self.slots slots was rows runs c.cancel.ensures.live stay same;
       runs_before = λ is. absurd (cc is);
-      clear = clear_begun (came_at c.cancel.new.self) (kept_at self.locator) (kept_at c.cancel.new.self) self.slots was rows runs self.once_before (λ q slot is. sym (c.cancel.ensures.kept q) ∙ is) same;
     }

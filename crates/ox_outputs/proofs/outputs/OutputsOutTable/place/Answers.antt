@@ -23,7 +23,6 @@ invariant_of-self c =
       once_before = once_alike rows (undone self.before.items self.changed.items rows) once (undone_none self.before.items self.changed.items rows (self.unmarked c.if-not-self.true));
       runs = c.fill_twice.ensures.runs;
       runs_before = λ is. absurd (cc (is, c.if-not-self.true));
-      clear = c.fill_twice.ensures.clear;
     }
 
 pub invariant_of-self-in-Break-branch-2 : goal.invariant_of-self-in-Break-branch-2
@@ -39,7 +38,6 @@ invariant_of-self-in-Break-branch-2 c =
       once_before = once_alike (undone self.before.items self.changed.items (rows_of self.slots)) _ self.once_before mark;
       runs = c.fill_twice-2.ensures.runs;
       runs_before = λ is. runs_alike (kept_at self.locator) (kept_at c.fill_twice-2.new.locator) self.slots c.fill_twice-2.new.slots (undone self.before.items self.changed.items (rows_of self.slots)) _ (self.runs_before is) c.fill_twice-2.ensures.same (stay_kept _ self.slots c.fill_twice-2.new.slots c.fill_twice-2.ensures.places) mark;
-      clear = c.fill_twice-2.ensures.clear;
     }
 
 pub invariant_of-self-2 : goal.invariant_of-self-2
@@ -57,7 +55,6 @@ invariant_of-self-2 c =
       once_before = once_alike (undone self.before.items self.changed.items (rows_of self.slots)) _ self.once_before mark;
       runs = c.fill_twice-2.ensures.runs;
       runs_before = λ is. runs_alike (kept_at self.locator) (kept_at c.fill_twice-2.new.locator) self.slots c.fill_twice-2.new.slots (undone self.before.items self.changed.items (rows_of self.slots)) _ (self.runs_before is) c.fill_twice-2.ensures.same (stay_kept _ self.slots c.fill_twice-2.new.slots c.fill_twice-2.ensures.places) mark;
-      clear = c.fill_twice-2.ensures.clear;
     }
 
 pub returns-clause-mark : goal.returns-clause-mark

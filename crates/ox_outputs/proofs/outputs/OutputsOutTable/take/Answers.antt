@@ -24,7 +24,6 @@ invariant_of-self-in_default c =
       once_before = once_alike (undone self.before.items self.changed.items (rows_of self.slots)) _ self.once_before mark;
       runs = c.take_twice.ensures.runs;
       runs_before = λ is. runs_alike (kept_at self.locator) (kept_at c.take_twice.new.locator) self.slots c.take_twice.new.slots (undone self.before.items self.changed.items (rows_of self.slots)) _ (self.runs_before is) c.take_twice.ensures.same (stay_same _ self.slots c.take_twice.new.slots c.take_twice.ensures.places) mark;
-      clear = c.take_twice.ensures.clear;
     }
 
 pub returns-in_default-clause-mark : goal.returns-in_default-clause-mark
@@ -52,7 +51,6 @@ invariant_of-self-2 c =
       once_before = once_alike (undone self.before.items self.changed.items (rows_of self.slots)) _ self.once_before mark;
       runs = c.take_twice.ensures.runs;
       runs_before = λ is. runs_alike (kept_at self.locator) (kept_at c.take_twice.new.locator) self.slots c.take_twice.new.slots (undone self.before.items self.changed.items (rows_of self.slots)) _ (self.runs_before is) c.take_twice.ensures.same (stay_same _ self.slots c.take_twice.new.slots c.take_twice.ensures.places) mark;
-      clear = c.take_twice.ensures.clear;
     }
 
 pub returns-clause-mark : goal.returns-clause-mark

@@ -1,0 +1,20 @@
+use Rattle.std.proofs.Common.{◌≡◌, ◌≤◌, ℕ, length}
+use Rattle.std.specs.List.{All}
+use Rattle.std.specs.List.Sorted.{IsStrictlySortedBy}
+use Rattle.std.specs.Map.{keys_of, lookup}
+use Rattle.std.specs.BTreeMap.{is_at}
+use Rattle.std.specs.Ordering.{nat_cmp}
+use Rattle.std.specs.Prelude.{Some}
+use Rattle.ox_outputs.specs.Starts.{slot_from}
+use Rattle.ox_outputs.proofs.starts.last_slot.Given as goal
+
+-- the starts up to the number, but for some behind, where none stands
+abbrev pub invariant-loop-slot : goal.invariant-loop-slot
+invariant-loop-slot l = record {
+  ordered : IsStrictlySortedBy nat_cmp (keys_of l.range);
+  within : All (λ e. (e.0 ≤ l.number) × (lookup (is_at (nat_cmp e.0)) l.starts.entries ≡ Some e.1)) l.range;
+  found : (q : ℕ) → q ≤ l.number → slot_from l.range q ≡ slot_from l.starts.entries q;
+}
+
+abbrev pub decreases-loop-slot : goal.decreases-loop-slot
+decreases-loop-slot l = length l.range

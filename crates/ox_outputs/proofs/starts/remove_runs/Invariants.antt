@@ -1,9 +1,0 @@
-use Rattle.std.proofs.Common.{◌≡◌, ℕ, drop}
-use Rattle.std.specs.Prelude.{None, if◌then◌else◌}
-use Rattle.ox_outputs.specs.Starts.{slot_from, is_among, firsts_of}
-use Rattle.ox_outputs.proofs.starts.remove_runs.Given as goal
-
-abbrev pub invariant-loop-run : goal.invariant-loop-run
-invariant-loop-run l = (q : ℕ) →
-    (if is_among (firsts_of (drop l.run-index l.runs)) q then None else slot_from l.starts.entries q)
-    ≡ (if is_among (firsts_of l.runs) q then None else slot_from l.initial.starts.entries q)
