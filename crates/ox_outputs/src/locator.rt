@@ -20,8 +20,8 @@ pub(crate) struct Locator {
     /// What stood at the numbers that changed since the mark, the oldest change first.
     changes: Vec<Before>,
     /// How many entries there are at most where a run went since the mark and none came, or where
-    /// one came and there was no memory for the next. It says nothing, but where it is 0 no entry is
-    /// looked for that may be taken away.
+    /// one came and there was no memory for the next. It says nothing, but where it is 0 no entry
+    /// is looked for that may be taken away.
     gone: usize,
     ghost logged: { AreLogged changes.items starts.entries },
 }
