@@ -14,10 +14,20 @@ const ROOM: usize = 4;
 
 /// Values in an order, of which one or two take no memory of their own. Contracts see the list of
 /// them.
-#[derive(Debug, Drop)]
+#[derive(Debug)]
 pub struct Few<T> {
     alloc: Global,
     pub(crate) form: Form<T>,
+}
+
+// By hand, so that whoever drops a list makes one call, and proves nothing of its forms.
+impl<T: Drop> Drop for Few<T> {
+    fn drop(self) {
+        let Few {
+            alloc: _alloc,
+            form: _form,
+        } = self;
+    }
 }
 
 /// What values are kept as.
