@@ -9,15 +9,21 @@ ghost use Rattle.std.specs.BTreeMap.{is_at};
 ghost use Rattle.ox_shards.specs.Shards.{Entries, value_at};
 
 use crate::keys::Sharded;
+use smallvec::SmallVec;
 use std::alloc::{AllocFailed, Global};
 use std::marker::Model;
 use std::mem;
 
+// So many tags stand in the shard itself.
+const INSIDE: usize = 4;
+
 /// Keys with their values. The tags of the keys stand in front, so that a look-up reads four bytes
-/// of each key, and the whole of those keys alone whose tag is the same.
+/// of each key, and the whole of those keys alone whose tag is the same. The tags of up to four
+/// keys stand in the shard itself, so that a look-up that finds no such tag reads nothing else. A
+/// shard that has had more keys keeps its tags in memory of their own.
 #[derive(Drop)]
 pub(crate) struct Shard<K: Sharded, V> {
-    tags: Vec<u32>,
+    tags: SmallVec<u32, INSIDE>,
     entries: Vec<(K, V)>,
 }
 
@@ -35,7 +41,7 @@ impl<K: Sharded, V> Shard<K, V> {
         ensures { result ≡ [] }
     {
         Shard {
-            tags: Vec::new(alloc),
+            tags: SmallVec::new(alloc),
             entries: Vec::new(alloc),
         }
     }
@@ -89,12 +95,11 @@ impl<K: Sharded, V> Shard<K, V> {
         ensures handed_back { IfErr result (λ e. e.value ≡ (key, value)) }
         ensures err { OnErr result (self.new ≡ self.old) }
     {
-        if self.tags.reserve(1).is_err() || self.entries.reserve(1).is_err() {
+        if self.entries.reserve(1).is_err() || self.tags.push(key.tag()).is_err() {
             return Err(AllocFailed {
                 value: (key, value),
             });
         }
-        self.tags.push_reserved(key.tag());
         self.entries.push_reserved((key, value));
         Ok(())
     }

@@ -133,6 +133,49 @@ fn of_one_shard(third: u8) -> OutPoint {
     outpoint(7, 9, third, 0)
 }
 
+/// Whether a map has those of seven outpoints of one shard that are named, and no other of them.
+fn has_just(map: &Shards<OutPoint, u64>, thirds: &[u8]) -> bool {
+    for third in 0..7u8 {
+        let value = if thirds.contains(&third) {
+            Some(u64::from(third))
+        } else {
+            None
+        };
+        if !has(map, of_one_shard(third), value) {
+            return false;
+        }
+    }
+    true
+}
+
+/// Whether a new map has just the outpoints that it should at each step: these are put in, and
+/// taken out in another order.
+fn come_and_go(rt: &impl Abort, alloc: Global, coming: &[u8], going: &[u8]) -> bool {
+    let mut map = Shards::new(alloc);
+    for (count, third) in coming.iter().enumerate() {
+        if !has_just(&map, &coming[..count]) {
+            return false;
+        }
+        map.insert(of_one_shard(*third), u64::from(*third))
+            .expect(rt, "memory");
+    }
+    for (count, third) in going.iter().enumerate() {
+        let taken = map.remove(&of_one_shard(*third));
+        if taken != Some(u64::from(*third)) || !has_just(&map, &going[count + 1..]) {
+            return false;
+        }
+    }
+    has_just(&map, &[])
+}
+
+#[test]
+fn a_few_keys_of_one_shard_come_and_go(rt: HostRuntime) {
+    assert!(rt; come_and_go(&rt, rt.alloc(), &[3], &[3]));
+    assert!(rt; come_and_go(&rt, rt.alloc(), &[3, 0], &[3, 0]));
+    assert!(rt; come_and_go(&rt, rt.alloc(), &[0, 1, 2, 3, 4], &[2, 4, 0, 1, 3]));
+    assert!(rt; come_and_go(&rt, rt.alloc(), &[0, 1, 2, 3, 4, 5], &[4, 0, 5, 3, 1, 2]));
+}
+
 #[test]
 fn a_key_behind_a_full_list_stands_once(rt: HostRuntime) {
     let mut map = Shards::new(rt.alloc());
