@@ -2,7 +2,7 @@
 
 ghost use Rattle.std.specs.Prelude.{◌≡◌, ◌<◌, ℕ, [], ◌∷◌, ◌++◌, Some, OnOk, OnErr, IfErr, IfSome};
 ghost use Rattle.std.specs.Prelude.{length, map, option_map, slice_get, slice_index_or, slice_set};
-ghost use Rattle.std.specs.Prelude.{IsPermutation};
+ghost use Rattle.std.specs.Prelude.{IsPermutation, vec_len, vec_capacity};
 ghost use Rattle.std.specs.List.{position};
 ghost use Rattle.std.specs.Option.{option_copied};
 ghost use Rattle.std.specs.BTreeMap.{is_at};
@@ -10,7 +10,7 @@ ghost use Rattle.ox_shards.specs.Shards.{Entries, value_at};
 
 use crate::keys::Sharded;
 use smallvec::SmallVec;
-use std::alloc::{AllocFailed, Global};
+use std::alloc::{AllocError, AllocFailed, Global};
 use std::marker::Model;
 use std::mem;
 
@@ -95,7 +95,7 @@ impl<K: Sharded, V> Shard<K, V> {
         ensures handed_back { IfErr result (λ e. e.value ≡ (key, value)) }
         ensures err { OnErr result (self.new ≡ self.old) }
     {
-        if self.entries.reserve(1).is_err() || self.tags.push(key.tag()).is_err() {
+        if reserve_one(&mut self.entries).is_err() || self.tags.push(key.tag()).is_err() {
             return Err(AllocFailed {
                 value: (key, value),
             });
@@ -114,6 +114,20 @@ impl<K: Sharded, V> Shard<K, V> {
     {
         self.tags.swap_remove(place);
         self.entries.swap_remove(place).1
+    }
+}
+
+// Makes room for one more entry. A first one takes room for itself alone, since shards are many,
+// and most have few. `AllocError` where there is no memory for it.
+fn reserve_one<T>(entries: &mut Vec<T>) -> Result<(), AllocError>
+    ensures items { entries.new.items ≡ entries.old.items }
+    ensures ok { OnOk result (vec_len entries.new < vec_capacity entries.new) }
+    ensures first { OnOk result (vec_capacity entries.old ≡ 0 → vec_capacity entries.new ≡ 1) }
+{
+    if entries.is_empty() {
+        entries.reserve_exact(1)
+    } else {
+        entries.reserve(1)
     }
 }
 
