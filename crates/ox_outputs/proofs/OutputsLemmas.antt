@@ -1,7 +1,6 @@
 -- What a change of the outputs leaves of their facts.
-use Rattle.std.proofs.Common.{◌≡◌, ◌∙◌, ℕ, refl, ap, sym, subst, List, [], ◌∷◌, Option, Some, None, Result, Ok, Err}
-use Rattle.std.specs.Prelude.{IfErr, IfSome, IsSomeAnd}
-use Rattle.std.specs.Option.{option_map}
+use Rattle.std.proofs.Common.{◌≡◌, ◌∙◌, ℕ, Bool, true, false, refl, ap, sym, subst, List, [], ◌∷◌, Option, Some, None, Result, Ok, Err}
+use Rattle.std.specs.Prelude.{IfErr, IsSome, IsSomeAnd, if◌then◌else◌}
 use Rattle.std.specs.FinMap.{empty, get, get-empty, insert}
 use Rattle.ox_block.specs.declared.block.OutPoint.{OutPoint}
 use Rattle.ox_rules.specs.declared.rows.OutRow.{OutRow}
@@ -52,13 +51,8 @@ pub known_none : (spots : List Spot) (slots : SlotList) → spots ≡ [] → Are
 known_none [] slots none = refl
 known_none (spot ∷ spots) slots none = absurd (cc none)
 
--- ---- what was taken, if anything was
+-- ---- the mark
 
-pub mapped_none : {X Y : Type 0} (f : X → Y) (o : Option X) (y : Option Y) → o ≡ None → option_map f o ≡ y → y ≡ None
-mapped_none f o y none is = sym is ∙ ap (option_map f) none
-
-pub mapped_some : {X Y : Type 0} (f : X → Y) (o : Option X) (x : X) (y : Option Y) → o ≡ Some x → option_map f o ≡ y → Some (f x) ≡ y
-mapped_some f o x y some is = sym (ap (option_map f) some) ∙ is
-
-pub so_of_some : {X : Type 0} (P : X → Type 0) (o : Option X) (x : X) → o ≡ Some x → IfSome o P → P x
-so_of_some P o x some is = subst (λ (o : Option _). IfSome o P) some is
+pub has_mark : (marked : Bool) (rows : Outputs) → IsSome (if marked then Some rows else None) → marked ≡ true
+has_mark true rows some = refl
+has_mark false rows some = absurd (cc some)

@@ -1,8 +1,7 @@
 //! Changes of slots, which can be taken back.
 
 ghost use Rattle.std.specs.Prelude.{◌≡◌, ℕ, Option, Some, None, IfOk, IfErr};
-ghost use Rattle.std.specs.Prelude.{OnOk, OnErr, [], length, if◌then◌else◌, IfSome, IsSomeAnd};
-ghost use Rattle.std.specs.Option.{option_map};
+ghost use Rattle.std.specs.Prelude.{OnOk, OnErr, [], length, if◌then◌else◌, IsSomeAnd};
 ghost use Rattle.std.specs.FinMap as map;
 ghost use Rattle.ox_block.specs.declared.block.OutPoint.{OutPoint};
 ghost use Rattle.ox_range.specs.Runs.{runs_of};
@@ -21,62 +20,30 @@ use ox_range::Ranges;
 use ox_rules::{Memory, OutRow, Unplaced};
 use std::alloc::Global;
 
-// Copies a row whose satoshis leave the locator. `Memory` where there is none: none has left.
-fn leave_copied(locator: &mut Locator, row: &OutRow, alloc: Global) -> Result<OutRow, Memory>
-    ensures copy { IfOk result (λ copy. copy ≡ row.now) }
-    ensures ok { OnOk result ((q : ℕ) → live_at locator.new q
-        ≡ (if is_among (firsts_of (runs_of row.now.sats)) q then None else live_at locator.old q)) }
-    ensures err { OnErr result ((q : ℕ) → live_at locator.new q ≡ live_at locator.old q) }
-    ensures kept { (q : ℕ) → kept_at locator.new q ≡ kept_at locator.old q }
-{
-    let copy = row.copy(alloc)?;
-    locator.leave(&row.sats)?;
-    Ok(copy)
-}
-
-/// A row that was taken.
-#[derive(Drop)]
-pub(crate) struct Taken {
-    /// The place of its slot, which is empty now.
-    pub(crate) place: u32,
-    /// What stood there.
-    pub(crate) row: OutRow,
-    /// The row once more.
-    pub(crate) kept: OutRow,
-}
-
-/// Empties the slot at this outpoint, if it holds a row, and answers the row twice. Its satoshis
-/// leave the locator. `Memory` where there is none: all is as before.
-pub(crate) fn take_twice(
+/// Takes the row out of the slot at this spot, if it holds one, and answers it. Its satoshis leave
+/// the locator. `Memory` where there is none: all is as before.
+pub(crate) fn take_from(
     slots: &mut Slots,
     locator: &mut Locator,
-    at: &OutPoint,
-    alloc: Global,
-) -> Result<Option<Taken>, Memory>
+    spot: Spot,
+) -> Result<Option<OutRow>, Memory>
+    requires spot { outpoint_at slots.old spot.place ≡ Some spot.at }
     requires runs { AreRuns (live_at locator.old) slots.old (rows_of slots.old) }
-    ensures row { IfOk result
-        (λ taken. option_map (λ t. t.row) taken ≡ map.get (rows_of slots.old) at.now) }
-    ensures kept { IfOk result
-        (λ taken. option_map (λ t. t.kept) taken ≡ map.get (rows_of slots.old) at.now) }
-    ensures place { IfOk result
-        (λ taken. IfSome taken (λ t. outpoint_at slots.new t.place ≡ Some at.now)) }
+    ensures row { IfOk result (λ row. row ≡ map.get (rows_of slots.old) spot.at) }
     ensures rows { OnOk result
-        (rows_of slots.new ≡ put_slot (rows_of slots.old) at.now None) }
+        (rows_of slots.new ≡ put_slot (rows_of slots.old) spot.at None) }
     ensures places { (p : ℕ) → outpoint_at slots.new p ≡ outpoint_at slots.old p }
     ensures err { OnErr result (rows_of slots.new ≡ rows_of slots.old) }
     ensures runs { AreRuns (live_at locator.new) slots.new (rows_of slots.new) }
     ensures same { (q : ℕ) → kept_at locator.new q ≡ kept_at locator.old q }
 {
-    let Some(place) = slots.find(at) else {
+    let Some(row) = slots.exchange(spot.place, None) else {
         return Ok(None);
     };
-    let Some(row) = slots.exchange(place, None) else {
-        return Ok(None);
-    };
-    match leave_copied(locator, &row, alloc) {
-        Ok(kept) => Ok(Some(Taken { place, row, kept })),
+    match locator.leave(&row.sats) {
+        Ok(()) => Ok(Some(row)),
         Err(e) => {
-            let _empty = slots.exchange(place, Some(row));
+            let _empty = slots.exchange(spot.place, Some(row));
             Err(e)
         }
     }

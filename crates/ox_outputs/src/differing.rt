@@ -7,7 +7,7 @@ ghost use Rattle.std.specs.List.{position_from};
 ghost use Rattle.std.specs.Ordering.{eq_by_cmp};
 ghost use Rattle.std.specs.BTreeMap as trees;
 ghost use Rattle.ox_block.specs.declared.block.OutPoint.{OutPoint};
-ghost use Rattle.ox_rules.specs.Differences.{Differ, without_rows, with_rows};
+ghost use Rattle.ox_rules.specs.Differences.{Differ, with_rows};
 ghost use Rattle.ox_rules.specs.Outputs.{Outputs, outpoint_cmp};
 ghost use Rattle.ox_outputs.specs.Differing.{row_at, row_unless, FitIn};
 ghost use Rattle.ox_outputs.specs.Slots.{rows_of, undone, AreSpots};
@@ -130,21 +130,6 @@ fn are_same(sats: &Ranges, others: &Ranges) -> bool
     ensures { IsTrue result ↔ (sats.now ≡ others.now) }
 {
     sats.runs() == others.runs()
-}
-
-/// Takes the rows at the outpoints of these out of a table. After `Memory` some of them may be out.
-pub(crate) fn take_out<O: OutTable>(table: &mut O, rows: &TableRows) -> Result<(), Memory>
-    ensures ok { OnOk result
-        (O.contents table.new ≡ without_rows (O.contents table.old) rows.now) }
-    ensures mark { O.marked table.new ≡ O.marked table.old }
-{
-    let list = rows.as_slice();
-    let mut left = list.len();
-    while left > 0 {
-        left -= 1;
-        let _taken = table.take(&list[left].0)?;
-    }
-    Ok(())
 }
 
 /// Places these rows in a table, where together with its own they hold no satoshi twice. After

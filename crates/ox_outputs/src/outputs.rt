@@ -4,13 +4,13 @@ ghost use Rattle.std.specs.Prelude.{◌≡◌, true, false, [], IsSome, IfOk, On
 ghost use Rattle.std.specs.Prelude.{length, if◌then◌else◌, Some, None};
 ghost use Rattle.std.specs.Option.{option_copied};
 ghost use Rattle.std.specs.FinMap as map;
-ghost use Rattle.ox_outputs.specs.Slots.{rows_of, undone, AreSpots};
+ghost use Rattle.ox_outputs.specs.Slots.{outpoint_at, rows_of, undone, AreSpots};
 ghost use Rattle.ox_outputs.specs.Located.{StandOnce, AreRuns};
 ghost use Rattle.ox_outputs.specs.Locator.{live_at, kept_at};
 
 use crate::ahead::Ahead;
-use crate::changes::{Displaced, Taken, fill_twice, forget, go_back, settle, take_twice};
-use crate::differing::{differing, place_all, take_out};
+use crate::changes::{Displaced, fill_twice, forget, go_back, settle, take_from};
+use crate::differing::{differing, place_all};
 use crate::locator::Locator;
 use crate::slots::Slots;
 use crate::spot::Spot;
@@ -43,7 +43,7 @@ pub struct Outputs {
 
 impl Outputs {
     ghost use Rattle.ox_rules.specs.Where.{place_among};
-    ghost use Rattle.ox_rules.specs.Differences.{Differ, other_end};
+    ghost use Rattle.ox_rules.specs.Differences.{Differ, other_end, without_rows};
     ghost use Rattle.ox_rules.specs.Outputs.{Outputs as Rows};
     ghost use Rattle.ox_outputs.specs.Table.{rows_in, marked_in, EndsIn};
 
@@ -83,20 +83,64 @@ impl Outputs {
         self.ahead.expect_block(block, ids);
     }
 
-    // Takes a row where there is no mark, so that nothing of it is kept.
-    fn take_away(&mut self, at: &OutPoint) -> Result<Option<OutRow>, Memory>
-        requires { self.old.marked ≡ false }
-        ensures row { IfOk result (λ row. row ≡ map.get (rows_in self.old) at.now) }
-        ensures ok { OnOk result (rows_in self.new ≡ map.remove (rows_in self.old) at.now) }
+    // Takes the row out of a slot where there is no mark, so that nothing of it is kept.
+    fn take_away(&mut self, spot: Spot) -> Result<Option<OutRow>, Memory>
+        requires unmarked { self.old.marked ≡ false }
+        requires spot { outpoint_at self.old.slots spot.place ≡ Some spot.at }
+        ensures row { IfOk result (λ row. row ≡ map.get (rows_in self.old) spot.at) }
+        ensures ok { OnOk result (rows_in self.new ≡ map.remove (rows_in self.old) spot.at) }
         ensures err { OnErr result (rows_in self.new ≡ rows_in self.old) }
         ensures unmarked { self.new.marked ≡ false }
     {
-        match take_twice(&mut self.slots, &mut self.locator, at, self.alloc)? {
-            Some(taken) => {
-                self.slots.tidy(taken.place);
-                Ok(Some(taken.row))
-            }
-            None => Ok(None),
+        let taken = take_from(&mut self.slots, &mut self.locator, spot)?;
+        self.slots.tidy(spot.place);
+        Ok(taken)
+    }
+
+    // Takes the row out of a slot, and keeps it for the way back to the mark. `Memory` where there
+    // is none: all is as before.
+    fn set_aside(&mut self, spot: Spot) -> Result<(), Memory>
+        requires marked { self.old.marked ≡ true }
+        requires spot { outpoint_at self.old.slots spot.place ≡ Some spot.at }
+        ensures ok { OnOk result (rows_in self.new ≡ map.remove (rows_in self.old) spot.at) }
+        ensures err { OnErr result (rows_in self.new ≡ rows_in self.old) }
+        ensures mark { marked_in self.new ≡ marked_in self.old }
+    {
+        self.changed.reserve(1)?;
+        self.before.reserve(1)?;
+        let taken = take_from(&mut self.slots, &mut self.locator, spot)?;
+        self.changed.push_reserved(spot);
+        self.before.push_reserved(taken);
+        Ok(())
+    }
+
+    // Takes the rows at the outpoints of these out, the last first. After `Memory` some of them may
+    // be out.
+    fn take_out(&mut self, rows: &TableRows) -> Result<(), Memory>
+        requires { IsSome (marked_in self.old) }
+        ensures ok { OnOk result (rows_in self.new ≡ without_rows (rows_in self.old) rows.now) }
+        ensures mark { marked_in self.new ≡ marked_in self.old }
+    {
+        let list = rows.as_slice();
+        let mut left = list.len();
+        while left > 0 {
+            left -= 1;
+            self.take_one(&list[left].0)?;
+        }
+        Ok(())
+    }
+
+    // Takes the row at an outpoint out, if there is one, and keeps it for the way back to the mark.
+    // `Memory` where there is none: all is as before.
+    fn take_one(&mut self, at: &OutPoint) -> Result<(), Memory>
+        requires { IsSome (marked_in self.old) }
+        ensures ok { OnOk result (rows_in self.new ≡ map.remove (rows_in self.old) at.now) }
+        ensures mark { marked_in self.new ≡ marked_in self.old }
+    {
+        self.ahead.step(&self.slots);
+        match self.slots.find(at) {
+            Some(place) => self.set_aside(Spot { at: *at, place }),
+            None => Ok(()),
         }
     }
 
@@ -121,7 +165,7 @@ impl Outputs {
         ensures mark { marked_in self.new ≡ marked_in self.old }
     {
         self.ahead.expect_rows(came, gone);
-        take_out(self, came)?;
+        self.take_out(came)?;
         place_all(self.alloc, self, gone)
     }
 }
@@ -140,17 +184,18 @@ impl OutTable for Outputs {
 
     fn take(&mut self, at: &OutPoint) -> Result<Option<OutRow>, Memory> {
         self.ahead.step(&self.slots);
-        if !self.marked {
-            return self.take_away(at);
-        }
-        self.changed.reserve(1)?;
-        self.before.reserve(1)?;
-        let taken = take_twice(&mut self.slots, &mut self.locator, at, self.alloc)?;
-        let Some(Taken { place, row, kept }) = taken else {
+        let Some(place) = self.slots.find(at) else {
             return Ok(None);
         };
-        self.changed.push_reserved(Spot { at: *at, place });
-        self.before.push_reserved(Some(kept));
+        let spot = Spot { at: *at, place };
+        if !self.marked {
+            return self.take_away(spot);
+        }
+        let Some(row) = self.slots.row(place) else {
+            return Ok(None);
+        };
+        let row = row.copy(self.alloc)?;
+        self.set_aside(spot)?;
         Ok(Some(row))
     }
 

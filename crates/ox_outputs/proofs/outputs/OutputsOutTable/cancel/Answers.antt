@@ -1,17 +1,12 @@
-use Rattle.std.proofs.Common.{◌≡◌, ◌∙◌, refl, ap, arith, length, List, Bool, true, false, Some, None}
-use Rattle.std.specs.Prelude.{IsSome, if◌then◌else◌}
+use Rattle.std.proofs.Common.{◌≡◌, ◌∙◌, ap, arith, length, List}
 use Rattle.std.specs.FinMap as map
 use Rattle.ox_rules.specs.Outputs.{Outputs as Rows}
 use Rattle.ox_outputs.specs.declared.spot.Spot.{Spot}
 use Rattle.ox_outputs.specs.Locator.{live_at, kept_at}
 use Rattle.ox_outputs.specs.Slots.{rows_of, undone}
 use Rattle.ox_outputs.proofs.RowLemmas.{Stay, runs_alike, once_alike}
-use Rattle.ox_outputs.proofs.OutputsLemmas.{known_none, undone_none}
+use Rattle.ox_outputs.proofs.OutputsLemmas.{has_mark, known_none, undone_none}
 use Rattle.ox_outputs.proofs.outputs.OutputsOutTable.cancel.Goals as goal
-
-has_mark : (marked : Bool) (rows : Rows) → IsSome (if marked then Some rows else None) → marked ≡ true
-has_mark true rows some = refl
-has_mark false rows some = absurd (cc some)
 
 pub invariant_of-self : goal.invariant_of-self
 invariant_of-self c =
