@@ -26,8 +26,11 @@ pub err_so : {A E : Type 0} {P Q : E → Type 0} (r : Result A E) → ((e : E) �
 err_so (Ok x) more is = tt
 err_so (Err e) more is = more e is
 
-pub some_and : (o : Option OutRow) (row : OutRow) (sats : List ℕ) → o ≡ Some row → row.sats ≡ sats → IsSomeAnd o (λ row. row.sats ≡ sats)
-some_and o row sats is same = subst (λ (o : Option OutRow). IsSomeAnd o (λ row. row.sats ≡ sats)) (sym is) same
+pub some_and : {X : Type 0} (P : X → Type 0) (o : Option X) (x : X) → o ≡ Some x → P x → IsSomeAnd o P
+some_and P o x is holds = subst (λ (o : Option _). IsSomeAnd o P) (sym is) holds
+
+pub and_so : {X : Type 0} (P : X → Type 0) (o : Option X) (x : X) → o ≡ Some x → IsSomeAnd o P → P x
+and_so P o x is holds = subst (λ (o : Option _). IsSomeAnd o P) is holds
 
 -- ---- no outputs, and no changes
 

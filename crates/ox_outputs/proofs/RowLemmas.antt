@@ -1,6 +1,6 @@
 -- The runs of outputs, where each of their satoshis stands once.
 use Rattle.std.proofs.Common.{◌≡◌, ◌≢◌, ◌∙◌, ℕ, ◌+◌, ◌<◌, ◌≤◌, ◌==◌, Bool, true, false, cond, List, [], ◌∷◌, length, refl, sym, ap, subst, arith, Option, Some, None, true≢false, inl, inr, ⊎_elim, Ordering, nat_lt, T}
-use Rattle.std.specs.Prelude.{◌⊎◌, ◌&&◌, ◌||◌, nat_le, if◌then◌else◌, IsSomeAnd}
+use Rattle.std.specs.Prelude.{◌⊎◌, ◌&&◌, ◌||◌, nat_le, if◌then◌else◌}
 use Rattle.std.specs.Ordering.{nat_cmp, is_eq, is_lt, eq_by_cmp}
 use Rattle.std.specs.declared.cmp.Ordering.TheVariants.{Less, Equal, Greater}
 use Rattle.std.specs.Cmp.{eq_by_cmp_equiv}
@@ -559,19 +559,11 @@ runs_alike live live' slots slots' outs outs' runs same stay is = subst (AreRuns
 pub once_alike : (outs outs' : Outputs) → StandOnce outs → outs' ≡ outs → StandOnce outs'
 once_alike outs outs' once is = subst StandOnce (sym is) once
 
-pub may_alike : (at : OutPoint) (sats sats' : List ℕ) (outs outs' : Outputs) → MayStand at sats outs → sats' ≡ sats → outs' ≡ outs → MayStand at sats' outs'
-may_alike at sats sats' outs outs' may is same = subst (λ (l : List ℕ). MayStand at l outs') (sym is) (subst (MayStand at sats) (sym same) may)
-
 pub may_less : (at : OutPoint) (sats : List ℕ) (outs outs' : Outputs) → MayStand at sats outs → ((q : OutPoint) → get outs' q ≡ cond (is_same q at) None (get outs q)) → MayStand at sats outs'
 may_less at sats outs outs' may gets = record {
   once = may.once;
   apart = λ other row sat differ is. may.apart other row sat differ (less (is_same other at) (get outs other) row (sym (gets other) ∙ is)).1;
 }
-
--- a row with these satoshis
-pub the_row : (o : Option OutRow) (sats : List ℕ) → IsSomeAnd o (λ row. row.sats ≡ sats) → (row : OutRow) × (o ≡ Some row) × (row.sats ≡ sats)
-the_row None sats none = absurd none
-the_row (Some row) sats is = (row, refl, is)
 
 -- rows seen from those that differ at one outpoint
 pub gets_again : (rows outs : Outputs) (at : OutPoint) (row : OutRow) → get rows at ≡ Some row → ((q : OutPoint) → is_same q at ≡ false → get outs q ≡ get rows q) → (q : OutPoint) → get rows q ≡ cond (is_same q at) (Some row) (get outs q)

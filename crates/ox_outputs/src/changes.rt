@@ -84,18 +84,12 @@ pub(crate) struct Displaced {
 
 // The satoshis of a row that now stands where none did come into the locator. Where there is no
 // memory, the row is handed back, and its slot is empty.
-fn arrive_at(
-    slots: &mut Slots,
-    locator: &mut Locator,
-    spot: Spot,
-    sats: &Ranges,
-) -> Result<Displaced, Unplaced>
+fn arrive_at(slots: &mut Slots, locator: &mut Locator, spot: Spot) -> Result<Displaced, Unplaced>
     requires spot { outpoint_at slots.old spot.place ≡ Some spot.at }
-    requires stands { IsSomeAnd (map.get (rows_of slots.old) spot.at)
-        (λ row. row.sats ≡ sats.now) }
     requires runs { AreRuns (live_at locator.old) slots.old
         (map.remove (rows_of slots.old) spot.at) }
-    requires may { MayStand spot.at sats.now (map.remove (rows_of slots.old) spot.at) }
+    requires may { IsSomeAnd (map.get (rows_of slots.old) spot.at)
+        (λ row. MayStand spot.at row.sats (map.remove (rows_of slots.old) spot.at)) }
     ensures none { IfOk result
         (λ held. held ≡ record { place = spot.place; row = None; kept = None }) }
     ensures rows { OnOk result (rows_of slots.new ≡ rows_of slots.old) }
@@ -105,7 +99,10 @@ fn arrive_at(
     ensures runs { AreRuns (live_at locator.new) slots.new (rows_of slots.new) }
     ensures same { (q : ℕ) → kept_at locator.new q ≡ kept_at locator.old q }
 {
-    match locator.arrive(spot.place, sats) {
+    let Some(row) = slots.row(spot.place) else {
+        unreachable!()
+    };
+    match locator.arrive(spot.place, &row.sats) {
         Ok(()) => Ok(Displaced {
             place: spot.place,
             row: None,
@@ -126,15 +123,13 @@ fn displace_at(
     locator: &mut Locator,
     spot: Spot,
     other: OutRow,
-    sats: &Ranges,
     alloc: Global,
 ) -> Result<Displaced, Unplaced>
     requires spot { outpoint_at slots.old spot.place ≡ Some spot.at }
-    requires stands { IsSomeAnd (map.get (rows_of slots.old) spot.at)
-        (λ row. row.sats ≡ sats.now) }
     requires runs { AreRuns (live_at locator.old) slots.old
         (map.insert (rows_of slots.old) spot.at other) }
-    requires may { MayStand spot.at sats.now (map.insert (rows_of slots.old) spot.at other) }
+    requires may { IsSomeAnd (map.get (rows_of slots.old) spot.at)
+        (λ row. MayStand spot.at row.sats (map.insert (rows_of slots.old) spot.at other)) }
     ensures twice { IfOk result
         (λ held. held ≡ record { place = spot.place; row = Some other; kept = Some other }) }
     ensures rows { OnOk result (rows_of slots.new ≡ rows_of slots.old) }
@@ -145,7 +140,10 @@ fn displace_at(
     ensures runs { AreRuns (live_at locator.new) slots.new (rows_of slots.new) }
     ensures same { (q : ℕ) → kept_at locator.new q ≡ kept_at locator.old q }
 {
-    match displace_copied(locator, &other, spot.place, sats, alloc) {
+    let Some(row) = slots.row(spot.place) else {
+        unreachable!()
+    };
+    match displace_copied(locator, &other, spot.place, &row.sats, alloc) {
         Ok(kept) => Ok(Displaced {
             place: spot.place,
             row: Some(other),
@@ -182,14 +180,11 @@ pub(crate) fn fill_twice(
     ensures runs { AreRuns (live_at locator.new) slots.new (rows_of slots.new) }
     ensures same { (q : ℕ) → kept_at locator.new q ≡ kept_at locator.old q }
 {
-    let Ok(sats) = row.sats.copy(alloc) else {
-        return Err(Unplaced { row });
-    };
     let (place, earlier) = slots.fill(at, row)?;
     let spot = Spot { at, place };
     match earlier {
-        None => arrive_at(slots, locator, spot, &sats),
-        Some(other) => displace_at(slots, locator, spot, other, &sats, alloc),
+        None => arrive_at(slots, locator, spot),
+        Some(other) => displace_at(slots, locator, spot, other, alloc),
     }
 }
 

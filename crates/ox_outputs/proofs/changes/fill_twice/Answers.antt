@@ -1,12 +1,12 @@
-use Rattle.std.proofs.Common.{◌≡◌, ◌∙◌, sym, ap, refl, None, Some, Option}
+use Rattle.std.proofs.Common.{◌≡◌, ◌∙◌, sym, ap, subst, refl, None, Some, Option}
 use Rattle.std.specs.FinMap as map
 use Rattle.ox_block.specs.declared.block.OutPoint.{OutPoint}
 use Rattle.ox_rules.specs.declared.rows.OutRow.{OutRow}
-use Rattle.ox_rules.specs.Outputs.{Outputs}
+use Rattle.ox_rules.specs.Outputs.{MayStand, Outputs}
 use Rattle.ox_outputs.specs.Locator.{live_at}
 use Rattle.ox_outputs.specs.Slots.{rows_of, put_slot}
 use Rattle.ox_outputs.proofs.SlotLemmas.{get-put_slot_same, put_slot-put_slot}
-use Rattle.ox_outputs.proofs.RowLemmas.{runs_alike, may_alike, stay_kept}
+use Rattle.ox_outputs.proofs.RowLemmas.{runs_alike, stay_kept}
 use Rattle.ox_outputs.proofs.OutputsLemmas.{err_so, some_and}
 use Rattle.ox_outputs.proofs.changes.fill_twice.Goals as goal
 
@@ -30,10 +30,6 @@ returns-in_err-place-clause-runs c =
     runs_alike (live_at c.args.locator.now) (live_at c.args.locator.now) c.args.slots.now c.fill.new.self rows (rows_of c.fill.new.self) c.requires.runs (λ q. refl)
     (stay_kept rows c.args.slots.now c.fill.new.self c.fill.ensures.places) c.in_err-place.ensures.err
 
-pub arrive_at-requires-clause-stands : goal.arrive_at-requires-clause-stands
-arrive_at-requires-clause-stands c =
-    some_and (map.get (rows_of c.fill.new.self) c.args.at) c.args.row c.in-Ok.sats (there (rows_of c.args.slots.now) (rows_of c.fill.new.self) c.args.at c.args.row c.in_ok-place.ensures.rows) (sym c.in-Ok.ensures)
-
 pub arrive_at-requires-clause-runs : goal.arrive_at-requires-clause-runs
 arrive_at-requires-clause-runs c =
     let rows = rows_of c.args.slots.now in
@@ -46,8 +42,9 @@ pub arrive_at-requires-clause-may : goal.arrive_at-requires-clause-may
 arrive_at-requires-clause-may c =
     let rows = rows_of c.args.slots.now in
     let filled = rows_of c.fill.new.self in
-    may_alike c.args.at c.args.row.sats c.in-Ok.sats rows (put_slot filled c.args.at None) c.requires.may c.in-Ok.ensures
-    (before rows filled c.args.at c.args.row c.in_ok-place.earlier None c.in_ok-place.ensures.rows c.in_ok-place.ensures.held c.in-None.is)
+    let others = put_slot filled c.args.at None in
+    some_and (λ (row : OutRow). MayStand c.args.at row.sats others) (map.get filled c.args.at) c.args.row (there rows filled c.args.at c.args.row c.in_ok-place.ensures.rows)
+    (subst (MayStand c.args.at c.args.row.sats) (sym (before rows filled c.args.at c.args.row c.in_ok-place.earlier None c.in_ok-place.ensures.rows c.in_ok-place.ensures.held c.in-None.is)) c.requires.may)
 
 pub returns-in-None-clause-handed_back : goal.returns-in-None-clause-handed_back
 returns-in-None-clause-handed_back c =
@@ -59,10 +56,6 @@ returns-in-None-clause-err c =
     let rows = rows_of c.args.slots.now in
     let filled = rows_of c.fill.new.self in
     err_so c.arrive_at.result (λ e is. is ∙ before rows filled c.args.at c.args.row c.in_ok-place.earlier None c.in_ok-place.ensures.rows c.in_ok-place.ensures.held c.in-None.is) c.arrive_at.ensures.err
-
-pub displace_at-requires-clause-stands : goal.displace_at-requires-clause-stands
-displace_at-requires-clause-stands c =
-    some_and (map.get (rows_of c.fill.new.self) c.args.at) c.args.row c.in-Ok.sats (there (rows_of c.args.slots.now) (rows_of c.fill.new.self) c.args.at c.args.row c.in_ok-place.ensures.rows) (sym c.in-Ok.ensures)
 
 pub displace_at-requires-clause-runs : goal.displace_at-requires-clause-runs
 displace_at-requires-clause-runs c =
@@ -76,16 +69,17 @@ pub displace_at-requires-clause-may : goal.displace_at-requires-clause-may
 displace_at-requires-clause-may c =
     let rows = rows_of c.args.slots.now in
     let filled = rows_of c.fill.new.self in
-    may_alike c.args.at c.args.row.sats c.in-Ok.sats rows (put_slot filled c.args.at (Some c.in-Some.other)) c.requires.may c.in-Ok.ensures
-    (before rows filled c.args.at c.args.row c.in_ok-place.earlier (Some c.in-Some.other) c.in_ok-place.ensures.rows c.in_ok-place.ensures.held c.in-Some.is)
+    let others = put_slot filled c.args.at (Some c.in-Some.other) in
+    some_and (λ (row : OutRow). MayStand c.args.at row.sats others) (map.get filled c.args.at) c.args.row (there rows filled c.args.at c.args.row c.in_ok-place.ensures.rows)
+    (subst (MayStand c.args.at c.args.row.sats) (sym (before rows filled c.args.at c.args.row c.in_ok-place.earlier (Some c.in-Some.other) c.in_ok-place.ensures.rows c.in_ok-place.ensures.held c.in-Some.is)) c.requires.may)
 
-pub returns-clause-handed_back : goal.returns-clause-handed_back
-returns-clause-handed_back c =
+pub returns-in-Some-clause-handed_back : goal.returns-in-Some-clause-handed_back
+returns-in-Some-clause-handed_back c =
     let stands = there (rows_of c.args.slots.now) (rows_of c.fill.new.self) c.args.at c.args.row c.in_ok-place.ensures.rows in
     err_so c.displace_at.result (λ e is. back (map.get (rows_of c.fill.new.self) c.args.at) e.row c.args.row is stands) c.displace_at.ensures.handed_back
 
-pub returns-clause-err : goal.returns-clause-err
-returns-clause-err c =
+pub returns-in-Some-clause-err : goal.returns-in-Some-clause-err
+returns-in-Some-clause-err c =
     let rows = rows_of c.args.slots.now in
     let filled = rows_of c.fill.new.self in
     err_so c.displace_at.result (λ e is. is ∙ before rows filled c.args.at c.args.row c.in_ok-place.earlier (Some c.in-Some.other) c.in_ok-place.ensures.rows c.in_ok-place.ensures.held c.in-Some.is) c.displace_at.ensures.err
