@@ -21,7 +21,8 @@ pub(crate) struct Locator {
     changes: Vec<Before>,
     /// How many entries there are at most where a run went since the mark and none came, or where
     /// one came and there was no memory for the next. It says nothing, but where it is 0 no entry
-    /// is looked for that may be taken away.
+    /// is looked for that may be taken away. After want of memory it may come to be too low, and
+    /// an entry where no run stands is left, which counts for nothing.
     gone: usize,
     ghost logged: { AreLogged changes.items starts.entries },
 }
@@ -126,14 +127,14 @@ impl Locator {
         }
     }
 
-    /// Sets the mark at the runs as they are. It takes no memory, and costs a look-up a change
-    /// where a run went in whose place none came, and else nothing.
+    /// Sets the mark at the runs as they are. It takes no memory, and costs a look-up for each run
+    /// that went since the mark, if one went in whose place none came, and else nothing.
     pub(crate) fn begin(&mut self)
         ensures live { (q : ℕ) → live_at self.new q ≡ live_at self.old q }
         ensures kept { (q : ℕ) → kept_at self.new q ≡ live_at self.old q }
     {
         if self.gone > 0 {
-            sweep(&mut self.starts, &self.changes);
+            sweep(&mut self.starts, &self.changes, true);
             self.gone = 0;
         }
         self.changes.clear();
@@ -145,7 +146,7 @@ impl Locator {
         ensures kept { (q : ℕ) → kept_at self.new q ≡ kept_at self.old q }
     {
         restore(&mut self.starts, &self.changes, 0);
-        sweep(&mut self.starts, &self.changes);
+        sweep(&mut self.starts, &self.changes, false);
         self.gone = 0;
         self.changes.clear();
     }

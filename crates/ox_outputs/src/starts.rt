@@ -165,12 +165,15 @@ pub(crate) fn restore(starts: &mut Starts, changes: &[Before], from: usize)
     }
 }
 
-/// Takes the entries away where no run stands, of those that changed.
-pub(crate) fn sweep(starts: &mut Starts, changes: &[Before])
+/// Takes the entries away where no run stands, of the numbers at which a run stood before a change,
+/// or of those at which none did. Which of them it is says where an entry without a run can be: a
+/// run goes only where one stood, and what came goes back only where none stood. Where there was no
+/// memory for a run to come, an entry without one may be left, which counts for nothing.
+pub(crate) fn sweep(starts: &mut Starts, changes: &[Before], stood: bool)
     ensures { (q : ℕ) → slot_from starts.new.entries q ≡ slot_from starts.old.entries q }
 {
     for change in changes {
-        if starts.get(&change.first) == Some(&None) {
+        if change.slot.is_some() == stood && starts.get(&change.first) == Some(&None) {
             starts.remove(&change.first);
         }
     }
