@@ -13,6 +13,11 @@ use std::alloc::Global;
 /// So many outpoints are read at a time.
 const BATCH: usize = 32;
 
+/// With fewer slots than this nothing is read ahead: they, their rows and the lists of their places
+/// come to some 20 megabytes at most, which stay in the processor's cache, so that hardly a look-up
+/// waits for memory, and to read ahead costs more than it saves.
+const WORTHWHILE: usize = 65_536;
+
 /// The outpoints that will be asked for, in order. It is a hint: where others are asked for, or
 /// where there was no memory for these, all is as it would be without it, but slower.
 #[derive(Drop)]
@@ -35,18 +40,20 @@ impl Ahead {
     }
 
     /// What a block asks for whose transactions have these ids, in order: the outputs that each
-    /// transaction spends and those that it makes, and those of the coinbase last.
-    pub(crate) fn expect_block(&mut self, block: &Block, ids: &Txids) {
+    /// transaction spends and those that it makes, and those of the coinbase last. Nothing where
+    /// there are few slots.
+    pub(crate) fn expect_block(&mut self, slots: &Slots, block: &Block, ids: &Txids) {
         self.forget();
-        if self.list_block(block, ids).is_err() {
+        if are_many(slots) && self.list_block(block, ids).is_err() {
             self.forget();
         }
     }
 
     /// What is asked for to take some rows out, the last first, and then to place others so.
-    pub(crate) fn expect_rows(&mut self, out: &TableRows, placed: &TableRows) {
+    /// Nothing where there are few slots.
+    pub(crate) fn expect_rows(&mut self, slots: &Slots, out: &TableRows, placed: &TableRows) {
         self.forget();
-        if self.list_rows(out).is_err() || self.list_rows(placed).is_err() {
+        if are_many(slots) && self.list_both(out, placed).is_err() {
             self.forget();
         }
     }
@@ -85,6 +92,11 @@ impl Ahead {
         Ok(())
     }
 
+    fn list_both(&mut self, out: &TableRows, placed: &TableRows) -> Result<(), Memory> {
+        self.list_rows(out)?;
+        self.list_rows(placed)
+    }
+
     fn list_rows(&mut self, rows: &TableRows) -> Result<(), Memory> {
         for (at, _) in rows.as_slice().iter().rev() {
             self.wanted.push(*at)?;
@@ -94,6 +106,9 @@ impl Ahead {
 
     /// Now the next one is asked for. Before the first of some, these are read.
     pub(crate) fn step(&mut self, slots: &Slots) {
+        if self.asked >= self.wanted.len() {
+            return;
+        }
         if self.asked % BATCH == 0 {
             let batch = batch_from(self.wanted.as_slice(), self.asked);
             self.sum = self.sum.wrapping_add(read(slots, batch));
@@ -102,13 +117,16 @@ impl Ahead {
     }
 
     /// Reads the slots that changes left, and what leads to them, of those changes before which a
-    /// row stood.
+    /// row stood. Nothing where there are few slots.
     pub(crate) fn read_changed(
         &mut self,
         slots: &Slots,
         changed: &[Spot],
         before: &[Option<OutRow>],
     ) {
+        if !are_many(slots) {
+            return;
+        }
         for (spot, row) in changed.iter().zip(before) {
             if row.is_some() {
                 let list = slots.glance_at(&spot.at);
@@ -117,6 +135,11 @@ impl Ahead {
             }
         }
     }
+}
+
+// Whether there are so many slots that it is worthwhile to read ahead.
+fn are_many(slots: &Slots) -> bool {
+    slots.len() >= WORTHWHILE
 }
 
 // The outpoints from one on, as many as are read at a time.

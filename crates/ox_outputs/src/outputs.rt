@@ -75,12 +75,12 @@ impl Outputs {
 
     /// Says which block comes next, with the ids of its transactions, in order. It is a hint, by
     /// which the outputs that the block spends and makes are read ahead, so that it is moved
-    /// faster. No row changes.
+    /// faster. No row changes, and where there are few rows nothing is read.
     pub fn expect(&mut self, block: &Block, ids: &Txids)
         ensures rows { rows_in self.new ≡ rows_in self.old }
         ensures mark { marked_in self.new ≡ marked_in self.old }
     {
-        self.ahead.expect_block(block, ids);
+        self.ahead.expect_block(&self.slots, block, ids);
     }
 
     // Takes the row out of a slot where there is no mark, so that nothing of it is kept.
@@ -164,7 +164,7 @@ impl Outputs {
             ≡ other_end (rows_in self.old) (record { gone = gone.now; came = came.now })) }
         ensures mark { marked_in self.new ≡ marked_in self.old }
     {
-        self.ahead.expect_rows(came, gone);
+        self.ahead.expect_rows(&self.slots, came, gone);
         self.take_out(came)?;
         place_all(self.alloc, self, gone)
     }

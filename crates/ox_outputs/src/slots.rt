@@ -48,6 +48,11 @@ impl Slots {
         }
     }
 
+    /// How many slots there are, by which reading ahead is decided. It costs one step.
+    pub(crate) fn len(&self) -> usize {
+        self.held.len()
+    }
+
     /// The place of the slot at this outpoint. Where there is none, no row stands there.
     pub(crate) fn find(&self, at: &OutPoint) -> Option<u32>
         ensures some { IfSome result (λ place. outpoint_at self.now place ≡ Some at.now) }
