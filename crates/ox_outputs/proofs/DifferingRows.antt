@@ -3,20 +3,22 @@ use Rattle.std.proofs.Common.{◌≡◌, ◌≢◌, ◌∙◌, ◌≤◌, ◌<�
 use Rattle.std.specs.Prelude.{◌⊎◌, ◌&&◌, ◌==◌, All, IsTrue, is_some, if◌then◌else◌}
 use Rattle.std.specs.Prelude.{Result, Ok, Err, IfOk}
 use Rattle.std.specs.Bool.{Decides}
-use Rattle.std.specs.List.{AllByRecursion, position_from}
-use Rattle.std.specs.List.Sorted.{IsStrictlySortedBy}
+use Rattle.std.specs.List.{AllByRecursion, dedup, dedup_from, filter, position_from}
+use Rattle.std.specs.List.Sorted.{IsSorted, IsStable, IsStrictlySortedBy}
 use Rattle.std.specs.Map.{keys_of, lookup}
-use Rattle.std.specs.BTreeMap.{BTreeMap, is_at}
-use Rattle.std.specs.BTreeMap as trees
+use Rattle.std.specs.BTreeMap.{is_at}
 use Rattle.std.specs.Ordering.{is_eq, is_lt}
 use Rattle.std.specs.Cmp.{eq_by_cmp_equiv}
 use Rattle.std.specs.FinMap.{find, get, get-remove, is_sorted, remove}
 use Rattle.std.specs.FinMap.Entries.{below_all}
 use Rattle.std.specs.declared.cmp.Ordering.TheVariants.{Less, Equal, Greater}
 use Rattle.std.proofs.lemmas.Bool.Decides.{Decides-and, Decides-eqb, Decides-like}
-use Rattle.std.proofs.lemmas.List.{append_assoc, append-nil, drop_more}
+use Rattle.std.proofs.lemmas.List.{append_assoc, append-nil, drop_all, drop_more}
 use Rattle.std.proofs.lemmas.List.Elements.{All-nil, All-cons, All-drop, All-head, All-tail}
-use Rattle.std.proofs.lemmas.Map.Entries.{btree_map_get_place}
+use Rattle.std.proofs.lemmas.Cmp.{on_total}
+use Rattle.std.proofs.lemmas.List.Kept.{IsStrictlySortedBy-dedup}
+use Rattle.std.proofs.lemmas.Map.Entries.{lookup-filter-keys, lookup_from_place}
+use Rattle.std.proofs.lemmas.Map.Keys.{IsDistinct-from_sorted}
 use Rattle.std.proofs.lemmas.Option.{slice_get-get_or}
 use Rattle.ox_block.specs.declared.block.OutPoint.{OutPoint}
 use Rattle.ox_range.specs.declared.runs.Run.{Run}
@@ -27,12 +29,12 @@ use Rattle.ox_rules.proofs.Conservation.{times_held}
 use Rattle.ox_rules.proofs.DifferenceLemmas.{differs, get-with_rows, get-without_rows, has_gone, or_else, same_row, same_row-Decides}
 use Rattle.ox_rules.proofs.MapSums.{total_remove}
 use Rattle.ox_rules.proofs.Orders.{outpoints_total, outpoints_exact}
-use Rattle.ox_outputs.specs.Differing.{FitIn, gone_at, row_at, row_unless, rows_for}
+use Rattle.ox_outputs.specs.Differing.{FitIn, gone_at, numbered_from, row_at, row_unless, rows_for}
 use Rattle.ox_outputs.specs.Slots.{SlotList, outpoint_at, undone, AreSpots}
 use Rattle.ox_outputs.specs.Table.{EndsIn}
 use Rattle.ox_outputs.specs.declared.spot.Spot.{Spot}
 use Rattle.ox_outputs.proofs.PlaceLemmas.{is_same, same_or_not}
-use Rattle.ox_outputs.proofs.SlotLemmas.{get-put_slot, spot_known}
+use Rattle.ox_outputs.proofs.SlotLemmas.{equal, get-put_slot, spot_known}
 
 some_is : {X : Type 0} (x y : X) → Some x ≡ Some y → x ≡ y
 some_is x y is = cc
@@ -58,13 +60,64 @@ same_run-Decides a b =
 abbrev pub is_of : OutPoint → Spot → Bool
 is_of at spot = is_same at spot.at
 
-pub oldest_step : (changed : List Spot) (d : Spot) (left k : ℕ) (before : Option ℕ) (at : OutPoint) → k + 1 ≡ left → k < length changed
-    → before ≡ position_from (is_of at) left (drop left changed)
-    → cond (is_same (get_or changed k d).at at) (Some k) before ≡ position_from (is_of at) k (drop k changed)
-oldest_step changed d left k before at next less is =
-    ap (λ (b : Bool). cond b (Some k) before) ((eq_by_cmp_equiv outpoints_total).symm (get_or changed k d).at at)
-    ∙ ap (cond (is_same at (get_or changed k d).at) (Some k)) (is ∙ ap (λ (n : ℕ). position_from (is_of at) n (drop n changed)) (sym next))
-    ∙ sym (ap (position_from (is_of at) k) (drop_more changed k d less))
+-- the first that is numbered at an outpoint
+pub found_numbered : (at : OutPoint) (n : ℕ) (changed : List Spot) → lookup (is_at (outpoint_cmp at)) (numbered_from n changed) ≡ position_from (is_of at) n changed
+found_numbered at n [] = refl
+found_numbered at n (spot ∷ changed) = ap (cond (is_same at spot.at) (Some n)) (found_numbered at (n + 1) changed)
+
+-- no order between outpoints that are the same
+ties_same : (at k : OutPoint) → is_same at k ≡ true → (not (is_lt (outpoint_cmp at k)) && not (is_lt (outpoint_cmp k at))) ≡ true
+ties_same at k same =
+    let here : outpoint_cmp at k ≡ Equal = equal _ same in
+    let back : outpoint_cmp k at ≡ Equal = equal _ ((eq_by_cmp_equiv outpoints_total).symm k at ∙ same) in
+    λ i. not (is_lt (here i)) && not (is_lt (back i))
+
+-- the first at an outpoint stays the first where those of one outpoint keep their order
+pub found_sorted : (xs ys : List (OutPoint × ℕ)) → IsStable (λ a b. outpoint_cmp a.0 b.0) xs ys → (at : OutPoint) → lookup (is_at (outpoint_cmp at)) ys ≡ lookup (is_at (outpoint_cmp at)) xs
+found_sorted xs ys stable at = sym (kept ys) ∙ ap (lookup (is_at (outpoint_cmp at))) (stable (at, 0)) ∙ kept xs where
+  kept : (es : List (OutPoint × ℕ)) → lookup (is_at (outpoint_cmp at)) (filter (λ e. not (is_lt (outpoint_cmp at e.0)) && not (is_lt (outpoint_cmp e.0 at))) es) ≡ lookup (is_at (outpoint_cmp at)) es
+  kept es = lookup-filter-keys (is_at (outpoint_cmp at)) (λ k. not (is_lt (outpoint_cmp at k)) && not (is_lt (outpoint_cmp k at))) true (ties_same at) es
+
+-- whether two have one outpoint
+abbrev pub have_one : OutPoint × ℕ → OutPoint × ℕ → Bool
+have_one a b = is_same a.0 b.0
+
+found_from : (at : OutPoint) (k : OutPoint × ℕ) (xs : List (OutPoint × ℕ)) → lookup (is_at (outpoint_cmp at)) (dedup_from have_one k xs) ≡ lookup (is_at (outpoint_cmp at)) (k ∷ xs)
+found_from at k [] = refl
+found_from at k (x ∷ xs) = by_same (found_from at k xs) (found_from at x xs) (same_or_not x.0 k.0) where
+  over : (b : Bool) (s t rest : Option ℕ) → cond b s rest ≡ cond b s (cond b t rest)
+  over true s t rest = refl
+  over false s t rest = refl
+
+  by_same : lookup (is_at (outpoint_cmp at)) (dedup_from have_one k xs) ≡ lookup (is_at (outpoint_cmp at)) (k ∷ xs)
+      → lookup (is_at (outpoint_cmp at)) (dedup_from have_one x xs) ≡ lookup (is_at (outpoint_cmp at)) (x ∷ xs)
+      → (x.0 ≡ k.0) ⊎ (is_same x.0 k.0 ≡ false) → lookup (is_at (outpoint_cmp at)) (dedup_from have_one k (x ∷ xs)) ≡ lookup (is_at (outpoint_cmp at)) (k ∷ x ∷ xs)
+  by_same first second (inl same) =
+      let here : is_same x.0 k.0 ≡ true = ap (is_same x.0) (sym same) ∙ same_itself x.0 in
+      ap (λ (b : Bool). lookup (is_at (outpoint_cmp at)) (cond b (dedup_from have_one k xs) (k ∷ dedup_from have_one x xs))) here
+      ∙ first
+      ∙ over (is_same at k.0) (Some k.1) (Some x.1) (lookup (is_at (outpoint_cmp at)) xs)
+      ∙ ap (λ (q : OutPoint). cond (is_same at k.0) (Some k.1) (cond (is_same at q) (Some x.1) (lookup (is_at (outpoint_cmp at)) xs))) (sym same)
+  by_same first second (inr other) =
+      ap (λ (b : Bool). lookup (is_at (outpoint_cmp at)) (cond b (dedup_from have_one k xs) (k ∷ dedup_from have_one x xs))) other
+      ∙ ap (cond (is_same at k.0) (Some k.1)) second
+
+-- the first at an outpoint stays where those behind it go
+pub found_first : (at : OutPoint) (xs : List (OutPoint × ℕ)) → lookup (is_at (outpoint_cmp at)) (dedup have_one xs) ≡ lookup (is_at (outpoint_cmp at)) xs
+found_first at [] = refl
+found_first at (x ∷ xs) = found_from at x xs
+
+keys_below : (k : OutPoint) (xs : List (OutPoint × ℕ)) → AllByRecursion (λ x. outpoint_cmp k x.0 ≡ Less) xs → AllByRecursion (λ x. outpoint_cmp k x ≡ Less) (keys_of xs)
+keys_below k [] all = tt
+keys_below k (x ∷ xs) all = (all.0, keys_below k xs all.1)
+
+keys_sorted : (xs : List (OutPoint × ℕ)) → IsStrictlySortedBy (λ a b. outpoint_cmp a.0 b.0) xs → IsStrictlySortedBy outpoint_cmp (keys_of xs)
+unfolding IsStrictlySortedBy
+keys_sorted [] sorted = tt
+keys_sorted (x ∷ xs) sorted = (keys_below x.0 xs sorted.0, keys_sorted xs sorted.1)
+
+pub first_sorted : (xs : List (OutPoint × ℕ)) → IsSorted (λ a b. outpoint_cmp a.0 b.0) xs → IsStrictlySortedBy outpoint_cmp (keys_of (dedup have_one xs))
+first_sorted xs sorted = keys_sorted (dedup have_one xs) (IsStrictlySortedBy-dedup {R = λ (a b : OutPoint × ℕ). outpoint_cmp a.0 b.0} (on_total (λ (a : OutPoint × ℕ). a.0) outpoints_total) {E = have_one} (λ x y. refl) xs sorted)
 
 pub place_within : (at : OutPoint) (changed : List Spot) (n place : ℕ) → position_from (is_of at) n changed ≡ Some place → (n ≤ place) × (place < n + length changed)
 place_within at [] n place is = absurd (cc is)
@@ -183,62 +236,61 @@ module _ {X : Type 0} (row : OutPoint → Option OutRow) where
   rows_for-sorted (e ∷ entries) sorted = sorted_row e entries (row e.0) (below-rows_for e.0 entries sorted.0) (rows_for-sorted entries sorted.1)
 
 -- at the outpoints of all changes these are the rows that are gone
-pub are_gone : (before after : Outputs) (places : BTreeMap OutPoint ℕ) → trees.IsOrdered outpoint_cmp places
-    → ((q : OutPoint) → trees.get outpoint_cmp places q ≡ None → get before q ≡ get after q)
-    → AreGone before after (rows_for (gone_at before after) places.entries)
+pub are_gone : (before after : Outputs) (places : List (OutPoint × ℕ)) → IsStrictlySortedBy outpoint_cmp (keys_of places)
+    → ((q : OutPoint) → lookup (is_at (outpoint_cmp q)) places ≡ None → get before q ≡ get after q)
+    → AreGone before after (rows_for (gone_at before after) places)
 are_gone before after places ordered stays = record {
-  rising = rows_for-sorted (gone_at before after) places.entries ordered;
+  rising = rows_for-sorted (gone_at before after) places ordered;
   rows = λ at row.
-      let found : find outpoint_cmp at (rows_for (gone_at before after) places.entries) ≡ cond (differs same_row (get before at) (get after at)) (get before at) None =
-      find-rows_for (gone_at before after) places.entries at ∙ by_place at (trees.get outpoint_cmp places at) refl ∙ unless_differs (get before at) (get after at) in
+      let found : find outpoint_cmp at (rows_for (gone_at before after) places) ≡ cond (differs same_row (get before at) (get after at)) (get before at) None =
+      find-rows_for (gone_at before after) places at ∙ by_place at (lookup (is_at (outpoint_cmp at)) places) refl ∙ unless_differs (get before at) (get after at) in
       rw found (has_gone outpoints_total outpoints_exact same_row same_row-Decides (get before at) (get after at) row);
 } where
-  by_place : (at : OutPoint) (place : Option ℕ) → trees.get outpoint_cmp places at ≡ place → cond (is_some place) (gone_at before after at) None ≡ gone_at before after at
+  by_place : (at : OutPoint) (place : Option ℕ) → lookup (is_at (outpoint_cmp at)) places ≡ place → cond (is_some place) (gone_at before after at) None ≡ gone_at before after at
   by_place at (Some place) is = refl
   by_place at None is = sym (ap (row_unless (get before at)) (sym (stays at is)) ∙ unless_itself (get before at))
 
--- each entry is the one at its outpoint
-pub all_there : (places : BTreeMap OutPoint ℕ) → trees.IsOrdered outpoint_cmp places → All (λ e. trees.get outpoint_cmp places e.0 ≡ Some e.1) places.entries
-all_there places ordered = λ k d less.
-    btree_map_get_place outpoints_total places k (get_or places.entries k d).0 (get_or places.entries k d).1 ordered (slice_get-get_or places.entries k d less)
+-- each place among these is that of the oldest change at its outpoint
+oldest_there : (changed : List Spot) (places : List (OutPoint × ℕ)) (k : ℕ) (d : OutPoint × ℕ) → IsStrictlySortedBy outpoint_cmp (keys_of places)
+    → ((at : OutPoint) → lookup (is_at (outpoint_cmp at)) places ≡ position_from (is_of at) 0 changed) → k < length places
+    → position_from (is_of (get_or places k d).0) 0 changed ≡ Some (get_or places k d).1
+oldest_there changed places k d ordered found less =
+    let e : OutPoint × ℕ = get_or places k d in
+    sym (found e.0) ∙ lookup_from_place (eq_by_cmp_equiv outpoints_total) places k e.0 e.1 (IsDistinct-from_sorted outpoint_cmp (keys_of places) ordered) (slice_get-get_or places k d less)
 
-pub stays_stood : (before : List (Option OutRow)) (changed : List Spot) (outs : Outputs) (at : OutPoint) (place : ℕ) (entries iterator : List (OutPoint × ℕ)) → length before ≡ length changed
-    → iterator ≡ entries → lookup (is_at (outpoint_cmp at)) iterator ≡ Some place → lookup (is_at (outpoint_cmp at)) entries ≡ position_from (is_of at) 0 changed
-    → get_or before place None ≡ get (undone before changed outs) at
-stays_stood before changed outs at place entries iterator many is there found =
-    let oldest : position_from (is_of at) 0 changed ≡ Some place = sym found ∙ ap (λ (es : List (OutPoint × ℕ)). lookup (is_at (outpoint_cmp at)) es) (sym is) ∙ there in
-    let same : place - 0 ≡ place = omega arith in
-    sym (stood_at before changed outs at 0 place many oldest ∙ ap (λ (k : ℕ). get_or before k None) same)
+pub stays_stood : (before : List (Option OutRow)) (changed : List Spot) (outs : Outputs) (places : List (OutPoint × ℕ)) (k : ℕ) (d : OutPoint × ℕ) → length before ≡ length changed
+    → IsStrictlySortedBy outpoint_cmp (keys_of places) → ((at : OutPoint) → lookup (is_at (outpoint_cmp at)) places ≡ position_from (is_of at) 0 changed) → k < length places
+    → get_or before (get_or places k d).1 None ≡ get (undone before changed outs) (get_or places k d).0
+stays_stood before changed outs places k d many ordered found less =
+    let e : OutPoint × ℕ = get_or places k d in
+    let same : e.1 - 0 ≡ e.1 = omega arith in
+    sym (stood_at before changed outs e.0 0 e.1 many (oldest_there changed places k d ordered found less) ∙ ap (λ (n : ℕ). get_or before n None) same)
 
--- the place among the changes that an entry gives is that of a spot of its outpoint
-pub stays_spot : (d : Spot) (changed : List Spot) (slots : SlotList) (at : OutPoint) (place : ℕ) (entries iterator : List (OutPoint × ℕ)) → AreSpots changed slots
-    → iterator ≡ entries → lookup (is_at (outpoint_cmp at)) iterator ≡ Some place → lookup (is_at (outpoint_cmp at)) entries ≡ position_from (is_of at) 0 changed
-    → (place < length changed) × (outpoint_at slots (get_or changed place d).place ≡ Some at)
-stays_spot d changed slots at place entries iterator known is there found =
-    let oldest : position_from (is_of at) 0 changed ≡ Some place = sym found ∙ ap (λ (es : List (OutPoint × ℕ)). lookup (is_at (outpoint_cmp at)) es) (sym is) ∙ there in
-    let within : place < length changed = let bounds = place_within at changed 0 place oldest in omega (arith, bounds.1) in
-    let same : place - 0 ≡ place = omega arith in
-    let here : at ≡ (get_or changed place d).at = place_of d at changed 0 place oldest ∙ ap (λ (k : ℕ). (get_or changed k d).at) same in
-    (within, spot_known d changed slots place within known ∙ ap Some (sym here))
-
-pub first_of_all : {X : Type 0} (P : X → Type 0) (iterator : List X) (e : X) (next : List X) → iterator ≡ e ∷ next → All P iterator → P e
-first_of_all P iterator e next is all = All-head P e next (subst (All P) is all)
-
-pub rest_of_all : {X : Type 0} (P : X → Type 0) (iterator : List X) (e : X) (next : List X) → iterator ≡ e ∷ next → All P iterator → All P next
-rest_of_all P iterator e next is all = All-tail P e next (subst (All P) is all)
+-- and that of a spot of its outpoint
+pub stays_spot : (s : Spot) (changed : List Spot) (slots : SlotList) (places : List (OutPoint × ℕ)) (k : ℕ) (d : OutPoint × ℕ) → AreSpots changed slots
+    → IsStrictlySortedBy outpoint_cmp (keys_of places) → ((at : OutPoint) → lookup (is_at (outpoint_cmp at)) places ≡ position_from (is_of at) 0 changed) → k < length places
+    → ((get_or places k d).1 < length changed) × (outpoint_at slots (get_or changed (get_or places k d).1 s).place ≡ Some (get_or places k d).0)
+stays_spot s changed slots places k d known ordered found less =
+    let e : OutPoint × ℕ = get_or places k d in
+    let oldest = oldest_there changed places k d ordered found less in
+    let within : e.1 < length changed = let bounds = place_within e.0 changed 0 e.1 oldest in omega (arith, bounds.1) in
+    let same : e.1 - 0 ≡ e.1 = omega arith in
+    let here : e.0 ≡ (get_or changed e.1 s).at = place_of s e.0 changed 0 e.1 oldest ∙ ap (λ (n : ℕ). (get_or changed n s).at) same in
+    (within, spot_known s changed slots e.1 within known ∙ ap Some (sym here))
 
 -- one row more, or none
-pub one_more : {X : Type 0} (row : OutPoint → Option OutRow) (rows rows' all : List (OutPoint × OutRow)) (iterator next : List (OutPoint × X)) (at : OutPoint) (x : X) (r : Option OutRow)
-    → iterator ≡ (at, x) ∷ next → r ≡ row at → rows' ≡ rows ++ row_at at r → rows ++ rows_for row iterator ≡ all → rows' ++ rows_for row next ≡ all
-one_more {X = X} row rows rows' all iterator next at x r steps is pushed so_far =
-    ap (λ (l : List (OutPoint × OutRow)). l ++ rows_for row next) pushed ∙ append_assoc rows (row_at at r) (rows_for row next)
-    ∙ ap (λ (o : Option OutRow). rows ++ (row_at at o ++ rows_for row next)) is
-    ∙ ap (λ (l : List (OutPoint × X)). rows ++ rows_for row l) (sym steps) ∙ so_far
+pub one_more : (row : OutPoint → Option OutRow) (rows rows' all : List (OutPoint × OutRow)) (places : List (OutPoint × ℕ)) (k : ℕ) (d : OutPoint × ℕ) (r : Option OutRow)
+    → k < length places → r ≡ row (get_or places k d).0 → rows' ≡ rows ++ row_at (get_or places k d).0 r → rows ++ rows_for row (drop k places) ≡ all → rows' ++ rows_for row (drop (k + 1) places) ≡ all
+one_more row rows rows' all places k d r less is pushed so_far =
+    let at : OutPoint = (get_or places k d).0 in
+    ap (λ (l : List (OutPoint × OutRow)). l ++ rows_for row (drop (k + 1) places)) pushed ∙ append_assoc rows (row_at at r) (rows_for row (drop (k + 1) places))
+    ∙ ap (λ (o : Option OutRow). rows ++ (row_at at o ++ rows_for row (drop (k + 1) places))) is
+    ∙ ap (λ (l : List (OutPoint × ℕ)). rows ++ rows_for row l) (sym (drop_more places k d less)) ∙ so_far
 
-pub all_rows : {X : Type 0} (row : OutPoint → Option OutRow) (rows : List (OutPoint × OutRow)) (iterator entries first : List (OutPoint × X)) → iterator ≡ [] → first ≡ entries
-    → rows ++ rows_for row iterator ≡ rows_for row first → rows_for row entries ≡ rows
-all_rows {X = X} row rows iterator entries first none is so_far =
-    ap (λ (l : List (OutPoint × X)). rows_for row l) (sym is) ∙ sym so_far ∙ ap (λ (l : List (OutPoint × X)). rows ++ rows_for row l) none ∙ append-nil rows
+-- all of them, where none is left
+pub all_rows : (row : OutPoint → Option OutRow) (rows : List (OutPoint × OutRow)) (places : List (OutPoint × ℕ)) (k : ℕ) → length places ≤ k → rows ++ rows_for row (drop k places) ≡ rows_for row places → rows_for row places ≡ rows
+all_rows row rows places k all so_far =
+    sym so_far ∙ ap (λ (l : List (OutPoint × ℕ)). rows ++ rows_for row l) (drop_all k places all) ∙ append-nil rows
 
 -- ---- rows that are placed back
 

@@ -1,10 +1,11 @@
 -- The rows in which two tables differ, of some outpoints.
-use Rattle.std.specs.Prelude.{◌≡◌, ℕ, ◌≤◌, Bool, List, [], ◌∷◌, ◌++◌, All, Option, Some, None}
+use Rattle.std.specs.Prelude.{◌≡◌, ℕ, ◌+◌, ◌≤◌, Bool, List, [], ◌∷◌, ◌++◌, All, Option, Some, None}
 use Rattle.std.specs.Prelude.{bytes_eq, ◌==◌, ◌&&◌, if◌then◌else◌}
 use Rattle.std.specs.FinMap.{get}
 use Rattle.ox_block.specs.declared.block.OutPoint.{OutPoint}
 use Rattle.ox_rules.specs.declared.rows.OutRow.{OutRow}
 use Rattle.ox_rules.specs.Outputs.{Outputs, sats_held, times}
+use Rattle.ox_outputs.specs.declared.spot.Spot.{Spot}
 
 -- whether two rows are the same
 abbrev pub is_same_row : OutRow → OutRow → Bool
@@ -17,6 +18,11 @@ row_unless None other = None
 row_unless (Some row) None = Some row
 row_unless (Some row) (Some other) =
     if is_same_row row other then None else Some row
+
+-- the outpoints of spots, numbered from here on
+abbrev pub numbered_from : ℕ → List Spot → List (OutPoint × ℕ)
+numbered_from n [] = []
+numbered_from n (spot ∷ spots) = (spot.at, n) ∷ numbered_from (n + 1) spots
 
 -- a row with its outpoint
 abbrev pub row_at : OutPoint → Option OutRow → List (OutPoint × OutRow)

@@ -3,13 +3,15 @@
 ghost use Rattle.std.specs.Prelude.{◌≡◌, ◌++◌, ◌↔◌, length, slice_index_or, None};
 ghost use Rattle.std.specs.Prelude.{IsTrue, IfOk, OnOk};
 ghost use Rattle.std.specs.Option.{option_copied};
-ghost use Rattle.std.specs.List.{position_from};
+ghost use Rattle.std.specs.List.{dedup, position_from};
+ghost use Rattle.std.specs.List.Sorted.{IsSorted, IsStable, IsStrictlySortedBy};
 ghost use Rattle.std.specs.Ordering.{eq_by_cmp};
-ghost use Rattle.std.specs.BTreeMap as trees;
+ghost use Rattle.std.specs.BTreeMap.{is_at};
+ghost use Rattle.std.specs.Map.{keys_of, lookup};
 ghost use Rattle.ox_block.specs.declared.block.OutPoint.{OutPoint};
 ghost use Rattle.ox_rules.specs.Differences.{Differ, with_rows};
 ghost use Rattle.ox_rules.specs.Outputs.{Outputs, outpoint_cmp};
-ghost use Rattle.ox_outputs.specs.Differing.{row_at, row_unless, FitIn};
+ghost use Rattle.ox_outputs.specs.Differing.{numbered_from, row_at, row_unless, FitIn};
 ghost use Rattle.ox_outputs.specs.Slots.{rows_of, undone, AreSpots};
 
 use crate::slots::Slots;
@@ -18,7 +20,6 @@ use ox_block::OutPoint;
 use ox_range::Ranges;
 use ox_rules::{Memory, OutRow, OutTable, TableRows};
 use std::alloc::Global;
-use std::collections::BTreeMap;
 
 /// The rows that stood before some changes, of which the oldest comes first, and don't stand so
 /// now, and the other way round, each by rising outpoint. `Memory` where there is none for them.
@@ -38,7 +39,7 @@ pub(crate) fn differing(
     let (stood, stand) = counts(slots, changed, before, &places);
     let mut gone = TableRows::from_vec(Vec::with_capacity(alloc, stood)?);
     let mut came = TableRows::from_vec(Vec::with_capacity(alloc, stand)?);
-    for (at, place) in places.iter() {
+    for (at, place) in &places {
         let stood = row_before(before, *place);
         let stands = slots.row(changed[*place].place);
         push_unless(alloc, &mut gone, at, stood, stands)?;
@@ -53,11 +54,11 @@ fn counts(
     slots: &Slots,
     changed: &[Spot],
     before: &[Option<OutRow>],
-    places: &BTreeMap<OutPoint, usize>,
+    places: &[(OutPoint, usize)],
 ) -> (usize, usize) {
     let mut stood = 0usize;
     let mut stand = 0usize;
-    for place in places.values() {
+    for (_, place) in places {
         stood = stood.wrapping_add(usize::from(row_before(before, *place).is_some()));
         stand = stand.wrapping_add(usize::from(stands(slots, changed, *place)));
     }
@@ -82,20 +83,54 @@ fn row_before(before: &[Option<OutRow>], place: usize) -> Option<&OutRow>
     }
 }
 
-// The place of the oldest change at each outpoint.
-fn oldest(alloc: Global, changed: &[Spot]) -> Result<BTreeMap<OutPoint, usize>, Memory>
-    ensures places { IfOk result (λ places. (at : OutPoint) → trees.get outpoint_cmp places at
+// The place of the oldest change at each outpoint, by rising outpoint.
+fn oldest(alloc: Global, changed: &[Spot]) -> Result<Vec<(OutPoint, usize)>, Memory>
+    ensures places { IfOk result (λ places. (at : OutPoint)
+        → lookup (is_at (outpoint_cmp at)) places.items
         ≡ position_from (λ spot. eq_by_cmp outpoint_cmp at spot.at) 0 changed.now) }
-    ensures ordered { IfOk result (trees.IsOrdered outpoint_cmp) }
+    ensures ordered { IfOk result
+        (λ places. IsStrictlySortedBy outpoint_cmp (keys_of places.items)) }
 {
-    // Of those at one outpoint the map keeps the last, which is the oldest.
-    let mut newest_first = Vec::with_capacity(alloc, changed.len())?;
-    let mut left = changed.len();
-    while left > 0 {
-        left -= 1;
-        newest_first.push_reserved((changed[left].at, left));
+    let mut places = numbered(alloc, changed)?;
+    sort(&mut places)?;
+    keep_first(&mut places);
+    Ok(places)
+}
+
+// The outpoint of each change, with its place.
+fn numbered(alloc: Global, changed: &[Spot]) -> Result<Vec<(OutPoint, usize)>, Memory>
+    ensures { IfOk result (λ places. places.items ≡ numbered_from 0 changed.now) }
+{
+    let mut places = Vec::with_capacity(alloc, changed.len())?;
+    for spot in changed {
+        let place = places.len();
+        places.push_reserved((spot.at, place));
     }
-    Ok(BTreeMap::from_iter(alloc, newest_first)?)
+    Ok(places)
+}
+
+// Sorts these by outpoint. Those of one outpoint keep their order.
+fn sort(places: &mut Vec<(OutPoint, usize)>) -> Result<(), Memory>
+    ensures sorted { OnOk result (IsSorted (λ a b. outpoint_cmp a.0 b.0) places.new.items) }
+    ensures stable { OnOk result
+        (IsStable (λ a b. outpoint_cmp a.0 b.0) places.old.items places.new.items) }
+{
+    Ok(places.sort_by(|a, b| a.0.cmp(&b.0))?)
+}
+
+// Keeps the first of those that stand side by side and have one outpoint.
+fn keep_first(places: &mut Vec<(OutPoint, usize)>)
+    ensures { places.new.items
+        ≡ dedup (λ a b. eq_by_cmp outpoint_cmp a.0 b.0) places.old.items }
+{
+    places.dedup_by(|later, kept| have_one(later, kept));
+}
+
+// Whether two have one outpoint.
+fn have_one(a: &(OutPoint, usize), b: &(OutPoint, usize)) -> bool
+    ensures { result ≡ eq_by_cmp outpoint_cmp a.now.0 b.now.0 }
+{
+    a.0.cmp(&b.0).is_eq()
 }
 
 // Puts a row behind the others, where there is one and the other one isn't the same.
