@@ -1,6 +1,6 @@
 -- Telling the pushes of an envelope apart, push by push.
 use Rattle.std.proofs.Common.{◌≡◌, ℕ, ◌+◌, Bool, true, false, List, [], ◌∷◌, ◌++◌, map, Option, Some, None, refl, sym, ap, ◌∙◌}
-use Rattle.std.proofs.Common.{◌||◌, ap₂, cond}
+use Rattle.std.proofs.Common.{◌||◌, ap₂, arith, cond, if◌then◌else◌}
 use Rattle.std.specs.Prelude.{bytes_eq}
 use Rattle.std.specs.List.{list_any}
 use Rattle.std.specs.Ordering.{is_eq, nat_cmp}
@@ -54,6 +54,16 @@ pub is_incomplete-end : (tag : Option (Bor (List ℕ))) (pushes : List (Bor (Lis
 is_incomplete-end tag pushes at next all = sym (is_incomplete-nil (texts (drop (at + 1) pushes))) ∙ ap is_incomplete (sym next.all) ∙ all
 
 -- ---- a tag that stands twice
+
+none_twice : (single : Bool) (tag : List ℕ) → false ≡ has_repeat (if single then tag ∷ [] else [])
+none_twice true tag = refl
+none_twice false tag = refl
+
+-- one field, or none, repeats no tag
+pub no_repeat : (all : List declared.Field) → length all < 2 → false ≡ has_repeat (single_tags (map seen_field all))
+no_repeat [] few = refl
+no_repeat (field ∷ []) few = none_twice (is_single (seen_field field).tag) (seen_field field).tag
+no_repeat (field ∷ other ∷ all) few = absurd (omega (arith, few))
 
 -- a tag of these is known, or stands there again
 abbrev pub repeats_with : List (Bor (List ℕ)) → List (List ℕ) → Bool

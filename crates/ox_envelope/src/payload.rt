@@ -183,8 +183,19 @@ fn add_tag<'a>(known: &mut BTreeSet<&'a [u8]>, tag: &'a [u8]) -> Result<bool, Me
     Ok(known.insert(tag)?)
 }
 
-/// Whether one of the tags other than 3 and 5 has two values.
+/// Whether one of the tags other than 3 and 5 has two values. Most envelopes have one field, which
+/// costs nothing.
 pub(crate) fn has_repeat(alloc: Global, fields: &[Field<'_>]) -> Result<bool, Memory>
+    ensures { IfOk result (λ repeats. repeats ≡ has_repeat (single_tags (seen_fields fields.now))) }
+{
+    match fields {
+        [] | [_] => Ok(false),
+        _ => repeats_among(alloc, fields),
+    }
+}
+
+/// The same of any fields.
+fn repeats_among(alloc: Global, fields: &[Field<'_>]) -> Result<bool, Memory>
     ensures { IfOk result (λ repeats. repeats ≡ has_repeat (single_tags (seen_fields fields.now))) }
 {
     let mut known = BTreeSet::new(alloc);
