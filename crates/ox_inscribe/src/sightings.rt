@@ -1,6 +1,6 @@
 //! The envelopes of a transaction, in order.
 
-ghost use Rattle.std.specs.Prelude.{◌≡◌, ◌<◌, ◌++◌, [], length, unwrap_or, All, IfOk, OnOk};
+ghost use Rattle.std.specs.Prelude.{◌≡◌, ◌<◌, ◌++◌, ◌∷◌, [], length, unwrap_or, All, IfOk, OnOk};
 ghost use Rattle.ox_script.specs.Witness.{tapscript};
 ghost use Rattle.ox_rules.specs.Outputs.{sats_of};
 ghost use Rattle.ox_inscribe.specs.Reveal.{said_by, sightings_from, sightings_in, sources_of};
@@ -38,6 +38,18 @@ fn tapscript_of(input: &TxIn) -> &[u8]
     }
 }
 
+/// Puts an envelope behind those that were seen before. Most transactions have one alone, which is
+/// some 300 bytes, so the first takes room for no more.
+fn push_seen(seen: &mut Vec<Sighting>, one: Sighting) -> Result<(), Memory>
+    ensures { OnOk result (seen.new.items ≡ seen.old.items ++ one ∷ []) }
+{
+    if seen.is_empty() {
+        seen.reserve_exact(1)?;
+    }
+    seen.push(one)?;
+    Ok(())
+}
+
 /// Puts the envelopes of an input behind those that were seen before.
 fn see_envelopes(
     alloc: Global,
@@ -54,13 +66,14 @@ fn see_envelopes(
     let envelopes = found.as_slice();
     for (place, envelope) in envelopes.iter().enumerate() {
         let says = parse(alloc, envelope)?;
-        seen.push(Sighting {
+        let one = Sighting {
             says,
             input,
             place,
             before,
             sats,
-        })?;
+        };
+        push_seen(seen, one)?;
     }
     Ok(())
 }

@@ -15,7 +15,7 @@ loop-place-init c =
 pub loop-place-preserved : goal.loop-place-preserved
 loop-place-preserved c =
     see_more c.loop-place.seen.items _ _ c.args.input c.args.before c.args.sats c.loop-place.place c.as_slice-envelopes.result.now c.index-envelopes-place.result c.loop-place-test.true c.index-envelopes-place.is
-    (c.in_ok-push.ensures.items
+    (c.in_ok-push_seen.ensures
     ∙ ap (λ (says : Inscribed). c.loop-place.seen.items ++ (record { says = says; input = c.args.input; place = c.loop-place.place; before = c.args.before; sats = c.args.sats }) ∷ []) c.in_ok-says.ensures)
     c.loop-place.invariant
 
