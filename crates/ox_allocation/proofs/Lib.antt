@@ -2,6 +2,7 @@ pub mod Amounts
 pub mod BalanceLemmas
 pub mod Counting
 pub mod Dealt
+pub mod FormLemmas
 pub mod Giving
 pub mod Handing
 pub mod Holders

@@ -1,4 +1,5 @@
 pub mod Allocation
+pub mod Amounts
 pub mod Balances
 pub mod Dealing
 pub mod Gifts

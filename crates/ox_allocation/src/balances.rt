@@ -4,11 +4,11 @@ ghost use Rattle.std.specs.Prelude.{◌≡◌, ◌==◌, ◌+◌, ◌^◌, ◌<�
 ghost use Rattle.ox_allocation.specs.Balances.{amount_in, with_more};
 ghost use Rattle.ox_allocation.specs.Dealing.{IsPool};
 
+use crate::rune_amounts::Amounts;
 use ox_bytes::Memory;
 use ox_runestone::RuneId;
 use smallvec::SmallVec;
 use std::alloc::Global;
-use std::collections::BTreeMap;
 use std::marker::Model;
 
 /// The runes that an output holds: ids and amounts, ids rising, no amount 0. One rune takes no
@@ -70,11 +70,12 @@ impl Balances {
     }
 }
 
-/// The runes that a transaction has to give: those of its inputs, its mint and its etching.
-/// Contracts see the list of ids and amounts, ids rising, no amount 0.
+/// The runes that a transaction has to give: those of its inputs, its mint and its etching. One
+/// rune takes no memory of its own. Contracts see the list of ids and amounts, ids rising, no
+/// amount 0.
 #[derive(Debug, Drop)]
 pub struct Pool {
-    amounts: BTreeMap<RuneId, u128>,
+    amounts: Amounts,
 }
 
 impl Model for Pool {
@@ -84,9 +85,9 @@ impl Model for Pool {
 
     ghost Value = { List Balance };
 
-    ghost view = { λ pool. pool.amounts.entries };
+    ghost view = { λ pool. pool.amounts };
 
-    ghost invariant = { λ pool. IsPool pool.amounts.entries };
+    ghost invariant = { λ pool. IsPool pool.amounts };
 }
 
 impl Pool {
@@ -96,7 +97,7 @@ impl Pool {
         ensures { result ≡ [] }
     {
         Pool {
-            amounts: BTreeMap::new(alloc),
+            amounts: Amounts::new(alloc),
         }
     }
 
@@ -111,7 +112,7 @@ impl Pool {
     pub fn amount(&self, id: RuneId) -> u128
         ensures { result ≡ amount_in self.now id }
     {
-        self.amounts.get(&id).copied().unwrap_or(0)
+        self.amounts.amount(id)
     }
 
     /// So much more of a rune. `Memory` where there is none left, and then nothing has changed.
@@ -120,18 +121,13 @@ impl Pool {
         ensures ok { OnOk result (self.new ≡ with_more self.old id amount) }
         ensures err { OnErr result (self.new ≡ self.old) }
     {
-        if amount == 0 {
-            return Ok(());
-        }
-        let held = self.amount(id);
-        self.amounts.insert(id, held + amount)?;
-        Ok(())
+        self.amounts.add(id, amount)
     }
 
-    /// The amounts as a map.
-    pub(crate) fn into_map(self) -> BTreeMap<RuneId, u128>
-        ensures entries { result.entries ≡ self }
-        ensures lawful { IsPool result.entries }
+    /// The amounts, not copied.
+    pub(crate) fn into_amounts(self) -> Amounts
+        ensures amounts { result ≡ self }
+        ensures lawful { IsPool result }
     {
         self.amounts
     }
@@ -140,8 +136,9 @@ impl Pool {
     pub fn into_balances(self, alloc: Global) -> Result<Balances, Memory>
         ensures { IfOk result (λ balances. balances ≡ self) }
     {
-        let mut items = SmallVec::with_capacity(alloc, self.amounts.len())?;
-        for balance in self.amounts {
+        let mut amounts = self.amounts;
+        let mut items = SmallVec::with_capacity(alloc, amounts.len())?;
+        while let Some(balance) = amounts.pop_first() {
             items.push(balance)?;
         }
         Ok(Balances { items })

@@ -2,21 +2,21 @@
 
 ghost use Rattle.std.specs.Prelude.{◌≡◌, ◌≤◌, ◌<◌, [], ◌∷◌, length, OnOk, IfOk};
 ghost use Rattle.std.specs.Option.{ForSome};
-ghost use Rattle.ox_allocation.specs.Balances.{amount_in, ids_of};
+ghost use Rattle.ox_allocation.specs.Balances.{amount_in};
 ghost use Rattle.std.specs.List.{AllByRecursion};
-ghost use Rattle.ox_allocation.specs.Dealing.{empty_hands, Gives, less, with_rest};
+ghost use Rattle.ox_allocation.specs.Dealing.{empty_hands, Gives, with_rest};
 ghost use Rattle.ox_allocation.specs.Gifts.{gifts_by, gifts_to, holders as holders_in, parts_of};
 ghost use Rattle.ox_allocation.specs.Gifts.{rune_of};
 
 use crate::balances::Pool;
 use crate::hands::Hands;
 use crate::parts::Parts;
+use crate::rune_amounts::Amounts;
 use ox_block::TxOut;
 use ox_bytes::Memory;
 use ox_runestone::{Edict, RuneId};
 use ox_script::is_return;
 use std::alloc::Global;
-use std::collections::BTreeMap;
 use std::marker::Model;
 
 /// The places of the outputs that can hold runes, which those that begin with OP_RETURN can't.
@@ -43,21 +43,10 @@ fn rune_of(etched: Option<RuneId>, id: RuneId) -> Option<RuneId>
     }
 }
 
-/// Takes so much of a rune from what is left.
-fn spend(left: &mut BTreeMap<RuneId, u128>, id: RuneId, amount: u128)
-    requires { amount ≤ amount_in left.old.entries id }
-    ensures left { amount_in left.new.entries ≡ less left.old.entries id amount }
-    ensures ids { ids_of left.new.entries ≡ ids_of left.old.entries }
-{
-    if let Some(left) = left.get_mut(&id) {
-        *left -= amount;
-    }
-}
-
 /// A pool while it is dealt: what is left of each rune, and what has been given.
 #[derive(Drop)]
 pub(crate) struct Deal {
-    left: BTreeMap<RuneId, u128>,
+    left: Amounts,
     hands: Hands,
 }
 
@@ -67,9 +56,9 @@ impl Model for Deal {
 
     ghost Value = { Stage };
 
-    ghost view = { λ deal. record { left = deal.left.entries; hands = deal.hands } };
+    ghost view = { λ deal. record { left = deal.left; hands = deal.hands } };
 
-    ghost invariant = { λ deal. Fits (amount_in deal.left.entries) deal.hands };
+    ghost invariant = { λ deal. Fits (amount_in deal.left) deal.hands };
 }
 
 impl Deal {
@@ -80,7 +69,7 @@ impl Deal {
         ensures hands { result.hands ≡ hands }
     {
         Deal {
-            left: pool.into_map(),
+            left: pool.into_amounts(),
             hands,
         }
     }
@@ -89,7 +78,7 @@ impl Deal {
     fn left(&self, id: RuneId) -> u128
         ensures { result ≡ amount_in self.now.left id }
     {
-        self.left.get(&id).copied().unwrap_or(0)
+        self.left.amount(id)
     }
 
     /// Gives so much of a rune to the output at a place.
@@ -107,7 +96,7 @@ impl Deal {
             (record { output = place; id = id; amount = amount } ∷ [])) }
     {
         self.hands.give(outputs, place, id, amount)?;
-        spend(&mut self.left, id, amount);
+        self.left.spend(id, amount);
         Ok(())
     }
 

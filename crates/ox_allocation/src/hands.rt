@@ -7,12 +7,12 @@ ghost use Rattle.ox_allocation.specs.Dealing.{with_gift, with_gifts};
 
 use crate::allocation::Allocated;
 use crate::balances::Pool;
+use crate::rune_amounts::Amounts;
 use ox_block::TxOut;
 use ox_bytes::{List, Memory};
 use ox_runestone::RuneId;
 use ox_script::is_return;
 use std::alloc::Global;
-use std::collections::BTreeMap;
 use std::marker::Model;
 
 /// The runes that the outputs have been given so far, and those that are burned. Contracts see the
@@ -75,27 +75,27 @@ impl Hands {
         &mut self,
         outputs: &[TxOut],
         place: usize,
-        runes: BTreeMap<RuneId, u128>,
+        mut runes: Amounts,
     ) -> Result<(), Memory>
         requires place { place < length outputs.now }
         requires count { length self.old.given ≡ length outputs.now }
-        requires fits { Fits (amount_in runes.entries) self.old }
+        requires fits { Fits (amount_in runes) self.old }
         ensures { OnOk result (self.new ≡
-            with_gifts outputs.now self.old (gifts_for place runes.entries)) }
+            with_gifts outputs.now self.old (gifts_for place runes)) }
     {
-        for (id, amount) in runes {
+        while let Some((id, amount)) = runes.pop_first() {
             self.give(outputs, place, id, amount)?;
         }
         Ok(())
     }
 
     /// Burns these runes.
-    pub(crate) fn burn_all(&mut self, runes: BTreeMap<RuneId, u128>) -> Result<(), Memory>
-        requires { Fits (amount_in runes.entries) self.old }
+    pub(crate) fn burn_all(&mut self, mut runes: Amounts) -> Result<(), Memory>
+        requires { Fits (amount_in runes) self.old }
         ensures { OnOk result (self.new ≡
-            record self.old { burned = with_all self.old.burned runes.entries }) }
+            record self.old { burned = with_all self.old.burned runes }) }
     {
-        for (id, amount) in runes {
+        while let Some((id, amount)) = runes.pop_first() {
             self.burned.add(id, amount)?;
         }
         Ok(())

@@ -12,5 +12,6 @@ mod deal;
 mod hands;
 mod laws;
 mod parts;
+mod rune_amounts;
 #[cfg(test)]
 mod tests;

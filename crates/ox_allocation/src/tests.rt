@@ -6,6 +6,9 @@ use std::process::Abort;
 
 const RUNE: RuneId = RuneId { block: 3, tx: 1 };
 
+/// A rune whose id is below the other's.
+const LOWER: RuneId = RuneId { block: 2, tx: 9 };
+
 const NO_RUNE: RuneId = RuneId { block: 0, tx: 0 };
 
 /// Every output.
@@ -210,4 +213,55 @@ fn a_pool_becomes_balances(rt: HostRuntime) {
     let pool = hundred(&rt, rt.alloc());
     let balances = pool.into_balances(rt.alloc()).expect(&rt, "memory");
     assert!(rt; is_hundred(&balances));
+}
+
+/// Whether these are the runes and amounts of an output, in this order.
+fn holds(balances: &Balances, amounts: &[(RuneId, u128)]) -> bool {
+    let mut all = balances.len() == amounts.len();
+    for (balance, amount) in balances.as_slice().iter().zip(amounts) {
+        all = all && balance.0 == amount.0 && balance.1 == amount.1;
+    }
+    all
+}
+
+/// A pool of no rune, to which one comes, and then a second below it.
+fn two_runes(rt: &impl Abort, alloc: Global) -> Pool {
+    let mut pool = Pool::new(alloc);
+    assert!(rt; pool.is_empty() && pool.amount(RUNE) == 0);
+    pool.add(RUNE, 7).expect(rt, "memory");
+    pool.add(RUNE, 3).expect(rt, "memory");
+    assert!(rt; !pool.is_empty() && pool.amount(RUNE) == 10 && pool.amount(LOWER) == 0);
+    pool.add(LOWER, 5).expect(rt, "memory");
+    assert!(rt; pool.amount(RUNE) == 10 && pool.amount(LOWER) == 5);
+    pool
+}
+
+/// What two runes come to: the first output gets what is left of one, the second both, the third
+/// nothing, and one is burned.
+fn two_are_dealt(allocated: &Allocated) -> bool {
+    match allocated.given.as_slice() {
+        [first, second, third, fourth] => {
+            holds(first, &[(RUNE, 4)])
+                && holds(second, &[(LOWER, 5), (RUNE, 2)])
+                && third.is_empty()
+                && fourth.is_empty()
+                && holds(&allocated.burned, &[(RUNE, 4)])
+        }
+        _ => false,
+    }
+}
+
+#[test]
+fn a_second_rune_comes_and_goes(rt: HostRuntime) {
+    let outputs = four_outputs(&rt, rt.alloc(), &[0x51]);
+    let pool = two_runes(&rt, rt.alloc());
+    let edicts = [edict(LOWER, 0, 1), edict(RUNE, 2, 1), edict(RUNE, 4, 3)];
+    let allocated = allocate(rt.alloc(), pool, &edicts, None, None, outputs.as_slice());
+    assert!(rt; two_are_dealt(&allocated.expect(&rt, "memory")));
+}
+
+#[test]
+fn one_rune_becomes_balances(rt: HostRuntime) {
+    let balances = pool_of(&rt, rt.alloc(), 10).into_balances(rt.alloc());
+    assert!(rt; holds(&balances.expect(&rt, "memory"), &[(RUNE, 10)]));
 }

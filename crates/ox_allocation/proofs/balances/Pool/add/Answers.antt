@@ -1,14 +1,9 @@
-use Rattle.std.proofs.Common.{arith}
-use Rattle.ox_allocation.proofs.BalanceLemmas.{one_changed, small_changed}
+use Rattle.std.proofs.Common.{◌+◌, ◌^◌, ◌<◌, List, subst, sym}
+use Rattle.ox_allocation.specs.Balances.{Balance, amount_in}
+use Rattle.ox_allocation.proofs.BalanceLemmas.{pool_still}
 use Rattle.ox_allocation.proofs.balances.Pool.add.Goals as goal
 
--- src/balances.rt:92:5
-pub invariant_of-self-2 : goal.invariant_of-self-2
-invariant_of-self-2 c =
-    let e = c.in_ok-insert.ensures in
-    let held = c.amount-held.ensures in
-    let small = c.requires in
-    record {
-      lawful = one_changed _ _ _ _ (grind (arith, c.if-amount-eq0.false)) c.self.invariant.lawful e.entries e.ordered;
-      small = small_changed _ _ _ _ (omega (arith, small, held)) c.self.invariant.small e.entries;
-    }
+pub invariant_of-self : goal.invariant_of-self
+invariant_of-self c =
+    let sum = subst (λ (pool : List Balance). amount_in pool c.args.id + c.args.amount < 2 ^ 128) (sym c.self.view_is) c.requires in
+    pool_still c.add.result c.self.inside.amounts c.add.new.self c.args.id c.args.amount c.self.invariant sum c.add.ensures.ok c.add.ensures.err

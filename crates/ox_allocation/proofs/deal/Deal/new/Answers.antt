@@ -2,4 +2,4 @@ use Rattle.ox_allocation.proofs.Handing.{fits_at_first}
 use Rattle.ox_allocation.proofs.deal.Deal.new.Goals as goal
 
 pub invariant_of-result : goal.invariant_of-result
-invariant_of-result c = fits_at_first _ c.args.hands _ c.requires c.into_map.ensures.lawful.small
+invariant_of-result c = fits_at_first _ c.args.hands _ c.requires c.into_amounts.ensures.lawful.small

@@ -1,4 +1,4 @@
-use Rattle.std.proofs.Common.{◌∙◌, ap, sym, List, subst}
+use Rattle.std.proofs.Common.{sym, List, subst}
 use Rattle.ox_allocation.specs.Balances.{Balance}
 use Rattle.ox_allocation.specs.Dealing.{with_all}
 use Rattle.ox_allocation.proofs.Rests.{IsBurning, burned_fits, burns_all, burns_on}
@@ -6,21 +6,20 @@ use Rattle.ox_allocation.proofs.hands.Hands.burn_all.Goals as goal
 
 pub add-requires : goal.add-requires
 add-requires c =
-    burned_fits _ (c.in-Some.id, c.in-Some.amount) c.next.new.self c.loop-id.self-inside.burned
-    (subst (λ (rest : List Balance). IsBurning (with_all c.self.inside.burned c.into_iter-id-iterator.result) rest c.loop-id.self-inside.burned) c.in-Some.ensures.steps c.loop-id.invariant.burning)
+    burned_fits _ (c.in-Some.id, c.in-Some.amount) c.pop_first.new.self c.loop-id.self-inside.burned
+    (subst (λ (rest : List Balance). IsBurning (with_all c.self.inside.burned c.args.runes) rest c.loop-id.self-inside.burned) c.in-Some.ensures.first (c.loop-id.invariant.burning c.pop_first.ensures.rising))
 
 pub loop-id-preserved : goal.loop-id-preserved
 loop-id-preserved c = record {
-  burning =
-      burns_on _ (c.in-Some.id, c.in-Some.amount) c.next.new.self c.loop-id.self-inside.burned c.add.new.self
-      (subst (λ (rest : List Balance). IsBurning (with_all c.self.inside.burned c.into_iter-id-iterator.result) rest c.loop-id.self-inside.burned) c.in-Some.ensures.steps c.loop-id.invariant.burning) c.in_ok-add.ensures.ok;
+  burning = λ _.
+      burns_on _ (c.in-Some.id, c.in-Some.amount) c.pop_first.new.self c.loop-id.self-inside.burned c.add.new.self
+      (subst (λ (rest : List Balance). IsBurning (with_all c.self.inside.burned c.args.runes) rest c.loop-id.self-inside.burned) c.in-Some.ensures.first (c.loop-id.invariant.burning c.pop_first.ensures.rising)) c.in_ok-add.ensures.ok;
   given = c.loop-id.invariant.given;
 }
 
 pub returns : goal.returns
 returns c =
     let burned =
-    burns_all _ c.loop-id.self-inside.burned (subst (λ (rest : List Balance). IsBurning (with_all c.self.inside.burned c.into_iter-id-iterator.result) rest c.loop-id.self-inside.burned) c.in-None.ensures.steps.0 c.loop-id.invariant.burning)
-    ∙ ap (λ entries. with_all c.self.inside.burned entries) c.into_iter-id-iterator.ensures.into_iter_gives.0
+    burns_all _ c.loop-id.self-inside.burned (subst (λ (rest : List Balance). IsBurning (with_all c.self.inside.burned c.args.runes) rest c.loop-id.self-inside.burned) c.in_default.ensures.first.0 (c.loop-id.invariant.burning c.pop_first.ensures.rising))
     in
     rw (sym c.self.view_is) (λ i. record { given = (c.loop-id.invariant.given i).items; burned = burned i })

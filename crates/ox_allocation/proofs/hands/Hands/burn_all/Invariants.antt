@@ -1,10 +1,16 @@
-use Rattle.std.proofs.Common.{◌≡◌}
+use Rattle.std.proofs.Common.{◌≡◌, length}
+use Rattle.std.specs.List.Sorted.{IsStrictlySortedBy}
+use Rattle.ox_allocation.specs.Balances.{id_cmp, ids_of}
 use Rattle.ox_allocation.specs.Dealing.{with_all}
 use Rattle.ox_allocation.proofs.Rests.{IsBurning}
 use Rattle.ox_allocation.proofs.hands.Hands.burn_all.Given as goal
 
+-- where the ids rise, as taking the first out says
 abbrev pub invariant-loop-id : goal.invariant-loop-id
 invariant-loop-id l = record {
-  burning : IsBurning (with_all l.initial.self-inside.burned l.initial.id-iterator) l.id-iterator l.self-inside.burned;
+  burning : IsStrictlySortedBy id_cmp (ids_of l.runes) → IsBurning (with_all l.initial.self-inside.burned l.initial.runes) l.runes l.self-inside.burned;
   given : l.self-inside.given ≡ l.initial.self-inside.given;
 }
+
+abbrev pub decreases-loop-id : goal.decreases-loop-id
+decreases-loop-id l = length l.runes
