@@ -106,7 +106,7 @@ impl Hands {
         ensures given { IfOk result (λ allocated. allocated.given ≡ self.given) }
         ensures burned { IfOk result (λ allocated. allocated.burned ≡ self.burned) }
     {
-        let mut given = List::new(alloc);
+        let mut given = List::from_vec(Vec::with_capacity(alloc, self.given.len())?);
         for pool in self.given {
             given.push(pool.into_balances(alloc)?)?;
         }
