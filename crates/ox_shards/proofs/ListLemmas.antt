@@ -1,6 +1,6 @@
 -- A list of keys with their values: where a key stands, and what a change at a key leaves.
 use Rattle.std.proofs.Common.{rules, tests, ◌≡◌, ◌∙◌, ℕ, zero, suc, ◌+◌, ◌<◌, ◌≤◌, Bool, true, false, cond, List, [], ◌∷◌, ◌++◌, length, get_or, slice_set, is_some, nat_lt, Option, Some, None, Ordering, Less, Equal, Greater, refl, sym, ap, subst, true≢false, arith}
-use Rattle.std.specs.Prelude.{IsSome, not, ◌||◌}
+use Rattle.std.specs.Prelude.{IsSome, not, ◌||◌, Result, Ok, Err, OnErr, IsOk}
 use Rattle.std.specs.Ordering.{is_eq, eq_by_cmp}
 use Rattle.std.specs.Cmp.{IsTotalOrder, IsEquivalence, eq_by_cmp_equiv}
 use Rattle.std.specs.Option.{option_or}
@@ -23,13 +23,18 @@ equal Less h = absurd (true≢false (sym h))
 equal Equal h = refl
 equal Greater h = absurd (true≢false (sym h))
 
-no_value : {V : Type 0} (o : Option V) → o ≡ None → IsSome o → ⊥
+pub no_value : {V : Type 0} (o : Option V) → o ≡ None → IsSome o → ⊥
 no_value None is some = true≢false (sym some)
 no_value (Some v) is some = absurd (cc is)
 
 pub not_some : {V : Type 0} (o : Option V) → is_some o ≡ false → o ≡ None
 not_some None is = refl
 not_some (Some v) is = absurd (true≢false is)
+
+-- what is refused only where there is no value isn't where there is one
+pub ok_there : {A E V : Type 0} (r : Result A E) (o : Option V) → OnErr r (o ≡ None) → IsSome o → IsOk r
+ok_there (Ok x) o none some = refl
+ok_there (Err e) o none some = absurd (no_value o none some)
 
 is_there : {V : Type 0} (o : Option V) (v : V) → Some v ≡ o → IsSome o
 is_there o v is = sym (ap is_some is)

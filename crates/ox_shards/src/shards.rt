@@ -1,6 +1,7 @@
 //! A map in shards.
 
-ghost use Rattle.std.specs.Prelude.{◌≡◌, ℕ, [], None, Some, OnOk, OnErr, IfOk, IfErr};
+ghost use Rattle.std.specs.Prelude.{◌≡◌, ◌<◌, ℕ, [], None, Some, OnOk, OnErr, IfOk, IfErr};
+ghost use Rattle.std.specs.Prelude.{IsOk, IsSome};
 ghost use Rattle.std.specs.Prelude.{if◌then◌else◌, length};
 ghost use Rattle.std.specs.List.{position};
 ghost use Rattle.std.specs.Map.{lookup};
@@ -70,13 +71,14 @@ impl<K: Sharded, V> Shards<K, V> {
     }
 
     /// Puts a value at a key, and answers the one that it displaces. Where there is no memory, both
-    /// are handed back, and nothing has changed.
+    /// are handed back, and nothing has changed. At a key that has a value it takes none.
     pub fn insert(&mut self, key: K, value: V) -> Result<Option<V>, AllocFailed<(K, V)>>
         ensures displaced { IfOk result (λ displaced. displaced ≡ value_at K.cmp self.old key) }
         ensures ok { OnOk result ((q : K) → value_at K.cmp self.new q
             ≡ (if is_eq (K.cmp key q) then Some value else value_at K.cmp self.old q)) }
         ensures handed_back { IfErr result (λ e. e.value ≡ (key, value)) }
         ensures err { OnErr result (self.new ≡ self.old) }
+        ensures present { IsSome (value_at K.cmp self.old key) → IsOk result }
     {
         if ensure_lists::<K, V>(&mut self.lists, self.alloc).is_err() {
             return Err(AllocFailed {
@@ -125,6 +127,7 @@ fn put<K: Sharded, V>(
     ensures handed_back { IfErr result (λ e. e.value ≡ (key, value)) }
     ensures err { OnErr result ((list.new ≡ list.old)
         × (others.new.entries ≡ others.old.entries)) }
+    ensures present { IsSome (value_with K.cmp list.old others.old.entries key) → IsOk result }
 {
     if let Some(place) = list.find(&key) {
         return Ok(Some(list.replace(place, value)));
@@ -161,6 +164,7 @@ fn ensure_lists<K: Sharded, V>(
         ≡ items_at lists.old.items index }
     ensures all { OnOk result (length lists.new.items ≡ K.SHARDS) }
     ensures err { OnErr result (lists.new.items ≡ lists.old.items) }
+    ensures present { 0 < length lists.old.items → IsOk result }
 {
     if lists.is_empty() {
         make_lists::<K, V>(lists, alloc)?;

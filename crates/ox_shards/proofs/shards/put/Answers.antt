@@ -1,8 +1,9 @@
 use Rattle.std.proofs.Common.{rules, ◌∙◌, ap, subst, sym, Some}
+use Rattle.std.specs.Prelude.{IsSome}
 use Rattle.std.specs.BTreeMap.{is_at}
 use Rattle.std.proofs.lemmas.Result.{IfOk-weaker}
 use Rattle.ox_shards.specs.Shards.{value_at, Changes}
-use Rattle.ox_shards.proofs.ListLemmas.{held_in_list, changed_in_list, not_found, none_or, not_some, changed_in_others, added_to_list}
+use Rattle.ox_shards.proofs.ListLemmas.{held_in_list, changed_in_list, not_found, none_or, not_some, changed_in_others, added_to_list, no_value, ok_there}
 use Rattle.ox_shards.proofs.shards.put.Goals as goal
 
 pub returns-in-Some-clause-displaced : goal.returns-in-Some-clause-displaced
@@ -32,3 +33,13 @@ returns-clause-ok g c =
     (added_to_list g.met.K.Ord.total c.args.list.now c.args.others.now.entries c.requires c.args.key
     (not_found (is_at (g.K.Ord.cmp c.args.key)) c.args.list.now (sym c.in_default.ensures)) c.args.value
     (not_some (value_at g.K.Ord.cmp c.args.others.now.entries c.args.key) (search rules)))
+
+pub returns-then-len-MOST-clause-present : goal.returns-then-len-MOST-clause-present
+returns-then-len-MOST-clause-present g c = λ some.
+    ok_there c.insert.result (value_at g.K.Ord.cmp c.args.others.now.entries c.args.key) c.insert.ensures.absent
+    (subst IsSome (none_or _ _ (not_found (is_at (g.K.Ord.cmp c.args.key)) c.args.list.now (sym c.in_default.ensures))) some)
+
+pub returns-in_err-push-clause-present : goal.returns-in_err-push-clause-present
+returns-in_err-push-clause-present g c = λ some.
+    absurd (no_value _ (none_or _ _ (not_found (is_at (g.K.Ord.cmp c.args.key)) c.args.list.now (sym c.in_default.ensures))
+    ∙ not_some (value_at g.K.Ord.cmp c.args.others.now.entries c.args.key) (search rules)) some)

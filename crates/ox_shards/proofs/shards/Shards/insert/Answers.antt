@@ -1,4 +1,5 @@
-use Rattle.std.proofs.Common.{rules, arith, ◌≡◌, ◌∙◌, ◌++◌, ◌<◌, ap, length, Some}
+use Rattle.std.proofs.Common.{rules, arith, ◌≡◌, ◌∙◌, ◌++◌, ◌<◌, ap, length, refl, subst, sym, Some}
+use Rattle.std.specs.Prelude.{IsSome}
 use Rattle.std.proofs.lemmas.Result.{IfOk-weaker}
 use Rattle.ox_shards.specs.Shards.{Entries, AreShards, entries_of}
 use Rattle.ox_shards.proofs.ShardLemmas.{same_shards, held_at, changed_at, after_call, after_failure}
@@ -38,3 +39,8 @@ pub returns-clause-err : goal.returns-clause-err
 returns-clause-err g c =
     let p = (goal.at.returns-clause-err g c).After-put in
     after_failure g.K.Ord.cmp g.K.Sharded.shard g.K.Sharded.SHARDS c.ensure_lists.new.lists.items c.self.inside.others.entries (are g p) c.args.self.now (stand g p) c.args.key c.shard.result c.shard.ensures.value c.index_mut.result.now c.put.new.list (low g p) c.index_mut.ensures.value g.met.K.Sharded.alike c.put.new.others.entries (Some c.args.value) c.put.result c.put.ensures.err
+
+pub returns-clause-present : goal.returns-clause-present
+returns-clause-present g c = λ some.
+    let p = (goal.at.returns-clause-present g c).After-put in
+    c.put.ensures.present (subst IsSome (sym (held_at g.K.Ord.cmp g.K.Sharded.shard g.K.Sharded.SHARDS c.ensure_lists.new.lists.items c.self.inside.others.entries (are g p) c.args.self.now (stand g p) c.args.key c.shard.result c.shard.ensures.value c.index_mut.result.now c.put.new.list (low g p) c.index_mut.ensures.value _ refl)) some)
