@@ -1,2 +1,1 @@
-pub mod ChangedKeys
-pub mod Settled
+pub mod LogLemmas

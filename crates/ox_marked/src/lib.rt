@@ -1,4 +1,4 @@
-//! A map that goes back to a mark: what changed since lies over a map that stays as it was.
+//! A map that goes back to a mark: what stood where something was put since is kept in a log.
 #![tactic(auto)]
 
 mod marked;

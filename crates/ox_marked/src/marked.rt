@@ -1,39 +1,48 @@
 //! A map with a mark.
 
-ghost use Rattle.std.specs.Prelude.{◌≡◌, IsSome, Some, None, OnOk, OnErr, IfOk};
-ghost use Rattle.std.specs.Prelude.{if◌then◌else◌, true, false};
+ghost use Rattle.std.specs.Prelude.{◌≡◌, IsSome, IsTrue, None, OnOk, OnErr, IfOk, All};
+ghost use Rattle.std.specs.Prelude.{if◌then◌else◌, Some, true, false};
 ghost use Rattle.std.specs.List.{list_any};
 ghost use Rattle.std.specs.List.Sorted.{IsStrictlySortedBy};
+ghost use Rattle.std.specs.Map.{keys_of, lookup};
 ghost use Rattle.std.specs.Ordering.{is_eq};
-ghost use Rattle.std.specs.Option.{option_copied, IfSome, IsSomeAnd};
-ghost use Rattle.ox_marked.specs.Marked.{Layers, content_in, mark_in, is_changed};
+ghost use Rattle.std.specs.Option.{option_copied, option_map, IfSome, IsSomeAnd};
+ghost use Rattle.std.specs.BTreeMap as trees;
+ghost use Rattle.ox_marked.specs.Marked.{Logged, content_in, mark_in, is_changed};
+ghost use Rattle.ox_marked.specs.Marked.{standing, before_in, AreLogged};
 ghost use Rattle.ox_shards.specs.Shards.{value_at};
 
 use ox_bytes::Memory;
 use ox_shards::{Sharded, Shards};
-use std::alloc::{AllocFailed, Global};
+use std::alloc::Global;
 use std::collections::BTreeMap;
 use std::marker::Model;
 
-/// A map that goes back to a mark. What was put since the mark lies over a map that stays as it was
-/// then, so that to go back takes no memory.
+/// A map that goes back to a mark. Values change in place, and what stood where something was put
+/// since the mark is kept, so that to go back takes no memory: the entry of a key at which nothing
+/// stands any more isn't taken away before the next mark.
 #[derive(Drop)]
 pub struct Marked<K: Sharded, V> {
     alloc: Global,
-    below: Shards<K, V>,
-    /// What was put: a value, or `None` where one was taken out.
-    changes: BTreeMap<K, Option<V>>,
+    /// A value at each key, or `None` where it was taken out since the mark.
+    entries: Shards<K, Option<V>>,
+    /// What stood at each key at which something was put since the mark, the oldest first.
+    log: Vec<(K, Option<V>)>,
+    /// At how many keys there is an entry and no value. Where it is 0 no such entry is looked for.
+    gone: usize,
     marked: bool,
 }
 
 impl<K: Sharded, V> Model for Marked<K, V> {
-    ghost Value = { Layers K V };
+    ghost Value = { Logged K V };
 
     ghost view = { λ m. record {
-      changes = m.changes.entries;
-      below = m.below;
+      entries = m.entries;
+      log = m.log.items;
       marked = m.marked;
     } };
+
+    ghost invariant = { λ m. AreLogged K.cmp m.log.items m.entries };
 }
 
 impl<K: Sharded, V> Marked<K, V> {
@@ -45,24 +54,25 @@ impl<K: Sharded, V> Marked<K, V> {
     {
         Marked {
             alloc,
-            below: Shards::new(alloc),
-            changes: BTreeMap::new(alloc),
+            entries: Shards::new(alloc),
+            log: Vec::new(alloc),
+            gone: 0,
             marked: false,
         }
     }
 
-    /// The value at a key.
+    /// The value at a key. It costs one look-up.
     pub fn get(&self, key: &K) -> Option<&V>
         ensures { option_copied result ≡ content_in K.cmp self.now key.now }
     {
-        match self.changes.get(key) {
+        match self.entries.get(key) {
             Some(value) => value.as_ref(),
-            None => self.below.get(key),
+            None => None,
         }
     }
 
     /// Puts a value at a key, or takes the value there out. `Memory` where there is none for it:
-    /// nothing has changed then.
+    /// nothing has changed then. It costs one look-up.
     pub fn put(&mut self, key: K, value: Option<V>) -> Result<(), Memory>
     where
         V: Drop,
@@ -73,32 +83,36 @@ impl<K: Sharded, V> Marked<K, V> {
         ensures mark { mark_in K.cmp self.new ≡ mark_in K.cmp self.old }
         ensures err { OnErr result (self.new ≡ self.old) }
     {
-        self.changes.insert(key, value)?;
+        self.log.reserve(1)?;
+        let goes = usize::from(value.is_none());
+        let stood = self.entries.insert(key, value)?;
+        let went = usize::from(is_empty(&stood));
+        self.gone = self.gone.wrapping_add(goes).wrapping_sub(went);
+        self.log.push_reserved((key, stood.flatten()));
         Ok(())
     }
 
-    /// Sets the mark at the map as it is, in place of an earlier one. `Memory` where there is none
-    /// for what was put: the map is as it was, and has no mark.
-    pub fn begin(&mut self) -> Result<(), Memory>
+    /// Sets the mark at the map as it is, in place of an earlier one. It takes no memory, and costs
+    /// a look-up or two a change where a value was taken out since the earlier mark, and else
+    /// nothing.
+    pub fn begin(&mut self)
     where
         V: Drop,
         ensures content { (q : K) → content_in K.cmp self.new q ≡ content_in K.cmp self.old q }
-        ensures mark { OnOk result (IsSomeAnd (mark_in K.cmp self.new)
-            (λ at. (q : K) → at q ≡ content_in K.cmp self.new q)) }
-        ensures changed { OnOk result ((q : K) → is_changed K.cmp self.new q ≡ false) }
-        ensures err { OnErr result (mark_in K.cmp self.new ≡ None) }
+        ensures mark { IsSomeAnd (mark_in K.cmp self.new)
+            (λ at. (q : K) → at q ≡ content_in K.cmp self.new q) }
+        ensures changed { (q : K) → is_changed K.cmp self.new q ≡ false }
     {
-        self.marked = false;
-        while let Some(mut change) = self.changes.first_entry() {
-            settle(&mut self.below, *change.key(), change.get_mut())?;
-            change.remove();
+        if self.gone > 0 {
+            sweep(&mut self.entries, &self.log);
+            self.gone = 0;
         }
+        self.log.clear();
         self.marked = true;
-        Ok(())
     }
 
-    /// Drops what was put since the mark: the map has again what it had at the mark, which is
-    /// spent.
+    /// Puts back what stood since the mark: the map has again what it had at the mark, which is
+    /// spent. It takes no memory.
     pub fn cancel(&mut self)
     where
         V: Drop,
@@ -108,11 +122,11 @@ impl<K: Sharded, V> Marked<K, V> {
         ensures mark { mark_in K.cmp self.new ≡ None }
         ensures changed { (q : K) → is_changed K.cmp self.new q ≡ false }
     {
-        self.changes.clear();
+        self.restore();
         self.marked = false;
     }
 
-    /// Drops what was put since the mark, as `cancel` does, but the mark stays.
+    /// Puts back what stood since the mark, as `cancel` does, but the mark stays.
     pub fn restore(&mut self)
     where
         V: Drop,
@@ -122,50 +136,103 @@ impl<K: Sharded, V> Marked<K, V> {
         ensures mark { mark_in K.cmp self.new ≡ mark_in K.cmp self.old }
         ensures changed { (q : K) → is_changed K.cmp self.new q ≡ false }
     {
-        self.changes = BTreeMap::new(self.alloc);
-    }
-
-    /// The value that there was at a key at the mark.
-    pub fn at_mark(&self, key: &K) -> Option<&V>
-        requires { IsSome (mark_in K.cmp self.now) }
-        ensures { IfSome (mark_in K.cmp self.now) (λ at. option_copied result ≡ at key.now) }
-    {
-        self.below.get(key)
+        put_back(&mut self.entries, &mut self.log);
+        sweep(&mut self.entries, &self.log);
+        self.gone = 0;
+        self.log.clear();
     }
 
     /// The keys that were put since the mark, in order, whether or not their values differ from
-    /// those at the mark. `Memory` where there is none for the keys.
-    pub fn changed(&self) -> Result<Vec<K>, Memory>
-        ensures rising { IfOk result (λ keys. IsStrictlySortedBy K.cmp keys.items) }
-        ensures put { IfOk result (λ keys. (q : K)
-            → list_any (λ key. is_eq (K.cmp q key)) keys.items ≡ is_changed K.cmp self.now q) }
+    /// those at the mark, each with the value that there was at the mark. `Memory` where there is
+    /// none for them.
+    pub fn changed(&self) -> Result<Vec<(K, Option<&V>)>, Memory>
+        ensures rising { IfOk result (λ changes. IsStrictlySortedBy K.cmp (keys_of changes.items)) }
+        ensures put { IfOk result (λ changes. (q : K)
+            → list_any (λ key. is_eq (K.cmp q key)) (keys_of changes.items)
+            ≡ is_changed K.cmp self.now q) }
+        ensures before { IfOk result (λ changes. IfSome (mark_in K.cmp self.now)
+            (λ at. All (λ change. option_copied change.1 ≡ at change.0) changes.items)) }
         ensures others { IfSome (mark_in K.cmp self.now) (λ at. (q : K)
             → is_changed K.cmp self.now q ≡ false → content_in K.cmp self.now q ≡ at q) }
     {
-        Ok(self.changes.keys().copied().collect(self.alloc)?)
+        let changes = oldest(self.alloc, &self.log)?;
+        Ok(changes.into_iter().collect(self.alloc)?)
     }
 }
 
-// Puts a change at a key into what lies below. Where there is no memory, both are as they were.
-fn settle<K: Sharded, V: Drop>(
-    below: &mut Shards<K, V>,
-    key: K,
-    change: &mut Option<V>,
-) -> Result<(), Memory>
-    ensures ok { OnOk result ((q : K) → value_at K.cmp below.new q
-        ≡ (if is_eq (K.cmp key q) then change.old else value_at K.cmp below.old q)) }
-    ensures below { OnErr result (below.new ≡ below.old) }
-    ensures change { OnErr result (change.new ≡ change.old) }
+// Whether there is an entry without a value.
+fn is_empty<V>(entry: &Option<Option<V>>) -> bool {
+    match entry {
+        Some(value) => value.is_none(),
+        None => false,
+    }
+}
+
+// Puts back what stood before some changes, the newest first. It takes no memory.
+fn put_back<K: Sharded, V: Drop>(
+    entries: &mut Shards<K, Option<V>>,
+    log: &mut [(K, Option<V>)],
+)
+    requires { AreLogged K.cmp log.old entries.old }
+    ensures { (q : K) → standing K.cmp entries.new q
+        ≡ before_in K.cmp log.old (standing K.cmp entries.old) q }
 {
-    let Some(value) = change.take() else {
-        below.remove(&key);
-        return Ok(());
-    };
-    match below.insert(key, value) {
-        Ok(_) => Ok(()),
-        Err(AllocFailed { value: (_, value) }) => {
-            *change = Some(value);
-            Err(Memory)
+    let mut left = log.len();
+    while left > 0 {
+        left -= 1;
+        let (key, value) = &mut log[left];
+        set(entries, *key, value.take());
+    }
+}
+
+// Puts a value, or none, in the place of what stands at a key. It takes no memory.
+fn set<K: Sharded, V: Drop>(entries: &mut Shards<K, Option<V>>, key: K, value: Option<V>)
+    requires { IsSome (value_at K.cmp entries.old key) }
+    ensures { (q : K) → value_at K.cmp entries.new q
+        ≡ (if is_eq (K.cmp key q) then Some value else value_at K.cmp entries.old q) }
+{
+    // only a key that isn't there could lack memory
+    let _stood = entries.insert(key, value);
+}
+
+// Takes the entries without a value away, of those that changed.
+fn sweep<K: Sharded, V: Drop>(entries: &mut Shards<K, Option<V>>, log: &[(K, Option<V>)])
+    ensures { (q : K) → standing K.cmp entries.new q ≡ standing K.cmp entries.old q }
+{
+    for (key, _) in log {
+        if is_gone(entries, key) {
+            entries.remove(key);
         }
     }
+}
+
+// Whether a key has an entry, and no value.
+fn is_gone<K: Sharded, V>(entries: &Shards<K, Option<V>>, key: &K) -> bool
+    ensures { IsTrue result → standing K.cmp entries.now key.now ≡ None }
+{
+    match entries.get(key) {
+        Some(value) => value.is_none(),
+        None => false,
+    }
+}
+
+// What the oldest change at each key says.
+fn oldest<'a, K: Sharded, V>(
+    alloc: Global,
+    log: &'a [(K, Option<V>)],
+) -> Result<BTreeMap<K, Option<&'a V>>, Memory>
+    ensures values { IfOk result (λ changes. (q : K)
+        → option_map option_copied (trees.get K.cmp changes q)
+        ≡ lookup (trees.is_at (K.cmp q)) log.now) }
+    ensures ordered { IfOk result (trees.IsOrdered K.cmp) }
+{
+    // Of those at one key the map keeps the last, which is the oldest.
+    let mut newest_first = Vec::with_capacity(alloc, log.len())?;
+    let mut left = log.len();
+    while left > 0 {
+        left -= 1;
+        let (key, value) = &log[left];
+        newest_first.push_reserved((*key, value.as_ref()));
+    }
+    Ok(BTreeMap::from_iter(alloc, newest_first)?)
 }

@@ -1,4 +1,4 @@
-ghost use Rattle.std.specs.Prelude.{IsSome};
+ghost use Rattle.std.specs.Prelude.{◌≡◌, IsSome};
 ghost use Rattle.std.specs.Ordering.{nat_cmp};
 ghost use Rattle.ox_marked.specs.Marked.{mark_in};
 
@@ -15,7 +15,7 @@ fn two(rt: &impl Abort, alloc: Global) -> Amounts
     let mut map = Marked::new(alloc);
     map.put(1, Some(10)).expect(rt, "memory");
     map.put(2, Some(20)).expect(rt, "memory");
-    map.begin().expect(rt, "memory");
+    map.begin();
     map
 }
 
@@ -29,7 +29,9 @@ fn thousand(rt: &impl Abort, alloc: Global) -> Amounts {
 }
 
 /// Takes the value out at each even key below a thousand.
-fn take_even(rt: &impl Abort, map: &mut Amounts) {
+fn take_even(rt: &impl Abort, map: &mut Amounts)
+    ensures { mark_in nat_cmp map.new ≡ mark_in nat_cmp map.old }
+{
     for half in 0..500u32 {
         map.put(half * 2, None).expect(rt, "memory");
     }
@@ -40,9 +42,9 @@ fn has(map: &Amounts, key: u32, value: Option<u64>) -> bool {
     map.get(&key).copied() == value
 }
 
-/// Whether these are the keys that were put since the mark.
-fn has_changed(rt: &impl Abort, map: &Amounts, keys: &[u32]) -> bool {
-    map.changed().expect(rt, "memory").as_slice() == keys
+/// Whether these are the keys that were put since the mark, with the values that there were then.
+fn has_changed(rt: &impl Abort, map: &Amounts, changes: &[(u32, Option<&u64>)]) -> bool {
+    map.changed().expect(rt, "memory").as_slice() == changes
 }
 
 #[test]
@@ -50,8 +52,7 @@ fn a_key_changed_twice_goes_back(rt: HostRuntime) {
     let mut map = two(&rt, rt.alloc());
     map.put(1, Some(11)).expect(&rt, "memory");
     map.put(1, Some(12)).expect(&rt, "memory");
-    assert!(rt; has(&map, 1, Some(12)) && has_changed(&rt, &map, &[1]));
-    assert!(rt; map.at_mark(&1).copied() == Some(10));
+    assert!(rt; has(&map, 1, Some(12)) && has_changed(&rt, &map, &[(1, Some(&10))]));
     map.cancel();
     assert!(rt; has(&map, 1, Some(10)) && has(&map, 2, Some(20)));
     assert!(rt; has_changed(&rt, &map, &[]));
@@ -61,10 +62,10 @@ fn a_key_changed_twice_goes_back(rt: HostRuntime) {
 fn a_key_taken_and_put_again_goes_back(rt: HostRuntime) {
     let mut map = two(&rt, rt.alloc());
     map.put(2, None).expect(&rt, "memory");
-    assert!(rt; has(&map, 2, None) && map.at_mark(&2).copied() == Some(20));
-    map.put(2, Some(21)).expect(&rt, "memory");
+    assert!(rt; has(&map, 2, None) && has_changed(&rt, &map, &[(2, Some(&20))]));
     map.put(3, Some(30)).expect(&rt, "memory");
-    assert!(rt; has(&map, 2, Some(21)) && has_changed(&rt, &map, &[2, 3]));
+    map.put(2, Some(21)).expect(&rt, "memory");
+    assert!(rt; has(&map, 2, Some(21)) && has_changed(&rt, &map, &[(2, Some(&20)), (3, None)]));
     map.cancel();
     assert!(rt; has(&map, 2, Some(20)) && has(&map, 3, None));
 }
@@ -76,7 +77,7 @@ fn a_new_mark_stands_where_changes_led(rt: HostRuntime) {
     map.cancel();
     map.put(2, None).expect(&rt, "memory");
     map.put(3, Some(30)).expect(&rt, "memory");
-    map.begin().expect(&rt, "memory");
+    map.begin();
     assert!(rt; has_changed(&rt, &map, &[]));
     map.put(3, None).expect(&rt, "memory");
     map.cancel();
@@ -84,13 +85,25 @@ fn a_new_mark_stands_where_changes_led(rt: HostRuntime) {
 }
 
 #[test]
-fn a_thousand_keys_settle(rt: HostRuntime) {
+fn a_thousand_keys_go_back(rt: HostRuntime) {
     let mut map = thousand(&rt, rt.alloc());
-    map.begin().expect(&rt, "memory");
+    map.begin();
     take_even(&rt, &mut map);
     assert!(rt; map.changed().expect(&rt, "memory").len() == 500);
     assert!(rt; has(&map, 998, None) && has(&map, 999, Some(9_990)));
-    map.begin().expect(&rt, "memory");
+    map.restore();
+    assert!(rt; has(&map, 998, Some(9_980)) && has_changed(&rt, &map, &[]));
+    take_even(&rt, &mut map);
+    map.cancel();
+    assert!(rt; has(&map, 998, Some(9_980)) && has(&map, 999, Some(9_990)));
+}
+
+#[test]
+fn what_a_thousand_keys_lost_stays_lost(rt: HostRuntime) {
+    let mut map = thousand(&rt, rt.alloc());
+    take_even(&rt, &mut map);
+    map.begin();
+    assert!(rt; has(&map, 998, None) && has_changed(&rt, &map, &[]));
     map.put(999, None).expect(&rt, "memory");
     assert!(rt; has(&map, 999, None));
     map.cancel();
