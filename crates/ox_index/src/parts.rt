@@ -93,7 +93,7 @@ impl Parts {
         ensures profile { self.new.profile ≡ self.old.profile }
     {
         self.shelf.begin();
-        self.ledger.begin()?;
+        self.ledger.begin();
         self.outputs.expect(block, ids);
         let moved = transfer(
             self.alloc,
@@ -232,7 +232,7 @@ impl Parts {
         ensures profile { self.new.profile ≡ self.old.profile }
     {
         self.shelf.begin();
-        self.ledger.begin()?;
+        self.ledger.begin();
         self.outputs.begin()
     }
 

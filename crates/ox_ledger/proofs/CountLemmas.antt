@@ -1,8 +1,9 @@
 -- The counts of runes that changed since a mark.
-use Rattle.std.proofs.Common.{◌≡◌, ◌∙◌, ℕ, suc, ◌+◌, ◌-◌, ◌<◌, ◌≤◌, Bool, true, false, true≢false, cond, List, [], ◌∷◌, ◌++◌, length, refl, sym, ap, Option, Some, None, arith, append_assoc, append-nil, drop}
-use Rattle.std.specs.Prelude.{◌==◌, ◌||◌, slice_get, slice_index_or}
-use Rattle.std.specs.Option.{IfSome}
-use Rattle.std.proofs.lemmas.List.{at_drop_all, at_drop_more}
+use Rattle.std.proofs.Common.{◌≡◌, ◌∙◌, ℕ, suc, ◌+◌, ◌-◌, ◌<◌, ◌≤◌, Bool, true, false, true≢false, cond, List, [], ◌∷◌, ◌++◌, length, refl, sym, ap, subst, Option, Some, None, Bor, arith, append_assoc, append-nil, drop}
+use Rattle.std.specs.Prelude.{◌==◌, ◌||◌, All, slice_get, slice_index_or}
+use Rattle.std.specs.Map.{keys_of}
+use Rattle.std.specs.Option.{IfSome, option_copied}
+use Rattle.std.proofs.lemmas.List.{at_drop_all, at_drop_more, get_or-map, length-map}
 use Rattle.std.proofs.lemmas.Option.{slice_get_past, slice_get_within}
 use Rattle.ox_ledger.specs.Indexed.{indexed_by}
 use Rattle.std.specs.List.{AllByRecursion, list_any}
@@ -203,3 +204,25 @@ change_all (Some before) now places i counts past rising so_far others =
     sym (append-nil counts) ∙ ap (λ (l : List ℕ). counts ++ changes_among 0 before now l) (sym (at_drop_all (λ l. l) places i past)) ∙ so_far
     ∙ all_changes before now places rising
     (λ k old new was is none. same_rows old new (slice_get before k) (slice_get now k) was is (others k (slice_get_within now k new is) (slice_get_within before k old was) none))
+
+-- ---- places with the runes that there were at the mark
+
+abbrev pub Pairs : Type 0
+Pairs = List (ℕ × Option (Bor RuneRow))
+
+abbrev pub Then : List RuneRow → ℕ × Option (Bor RuneRow) → Type 0
+Then list pair = pair.0 < length list → slice_get list pair.0 ≡ option_copied pair.1
+
+pub then_at : (mark : Option (List RuneRow)) (pairs : Pairs) (i : ℕ) (d : ℕ × Option (Bor RuneRow)) → i < length pairs → IfSome mark (λ list. All (Then list) pairs) → IfSome mark (λ list. Then list (slice_index_or pairs i d))
+then_at None pairs i d less all = tt
+then_at (Some list) pairs i d less all = all i d less
+
+pub pair_next : (mark : Option (List RuneRow)) (now : List RuneRow) (pairs : Pairs) (i : ℕ) (d : ℕ × Option (Bor RuneRow)) (counts new : List CountChange) → i < length pairs
+    → IfSome mark (λ before. counts ++ changes_among 0 before now (drop i (keys_of pairs)) ≡ changes_among 0 before now (keys_of pairs))
+    → IfSome mark (λ before. new ≡ counts ++ change_in (slice_index_or pairs i d).0 (slice_get before (slice_index_or pairs i d).0) (slice_get now (slice_index_or pairs i d).0))
+    → IfSome mark (λ before. new ++ changes_among 0 before now (drop (i + 1) (keys_of pairs)) ≡ changes_among 0 before now (keys_of pairs))
+pair_next mark now pairs i d counts new less so_far more =
+    let at : slice_index_or (keys_of pairs) i d.0 ≡ (slice_index_or pairs i d).0 = get_or-map (λ e. e.0) pairs i d d.0 less in
+    let long = length-map pairs (λ e. e.0) in
+    change_next mark now (keys_of pairs) i d.0 counts new (omega (arith, less, long)) so_far
+    (subst (λ (k : ℕ). IfSome mark (λ before. new ≡ counts ++ change_in k (slice_get before k) (slice_get now k))) (sym at) more)

@@ -1,15 +1,15 @@
 -- What differs of the balances of outputs since a mark.
-use Rattle.std.proofs.Common.{◌≡◌, ◌≢◌, ◌∙◌, Bool, true, false, true≢false, cond, not, ℕ, ◌+◌, ◌<◌, ◌≤◌, List, [], ◌∷◌, ◌++◌, append_assoc, append-nil, drop, length, refl, sym, ap, subst, Option, Some, None, Ordering}
+use Rattle.std.proofs.Common.{◌≡◌, ◌≢◌, ◌∙◌, Bool, true, false, true≢false, cond, not, ℕ, ◌+◌, ◌<◌, ◌≤◌, List, [], ◌∷◌, ◌++◌, append_assoc, append-nil, drop, length, refl, sym, ap, subst, Option, Some, None, Bor, Ordering, arith}
 use Rattle.std.specs.Prelude.{IsSome, ◌&&◌, ◌||◌, ◌↔◌, if◌then◌else◌}
-use Rattle.std.specs.Prelude.{slice_index_or}
+use Rattle.std.specs.Prelude.{All, slice_index_or}
 use Rattle.std.proofs.lemmas.List.{at_drop_all, at_drop_more}
 use Rattle.std.specs.List.{AllByRecursion, list_any}
 use Rattle.std.specs.List.Sorted.{IsStrictlySortedBy}
-use Rattle.std.specs.Option.{IfSome, option_map}
+use Rattle.std.specs.Option.{IfSome, option_copied, option_map}
 use Rattle.std.specs.Ordering.{eq_by_cmp, is_eq, is_lt}
-use Rattle.std.specs.FinMap.{find, from_entries, get, get-from_entries, is_sorted}
-use Rattle.std.specs.Map.{lookup}
-use Rattle.std.specs.BTreeMap.{is_at}
+use Rattle.std.specs.FinMap.{find, get, is_sorted}
+use Rattle.std.specs.Map.{keys_of}
+use Rattle.std.proofs.lemmas.List.{get_or-map, length-map}
 use Rattle.std.specs.FinMap.Entries.{below_all}
 use Rattle.std.specs.declared.cmp.Ordering.TheVariants.{Less, Equal, Greater}
 use Rattle.ox_block.specs.declared.block.OutPoint.{OutPoint}
@@ -22,7 +22,7 @@ use Rattle.ox_rules.proofs.Orders.{outpoints_total, outpoints_exact}
 use Rattle.ox_allocation.specs.Balances.{Balance}
 use Rattle.ox_ledger.specs.Runes.{BalanceMap, Placement}
 use Rattle.ox_ledger.specs.Shown.{held_in, held_then}
-use Rattle.ox_ledger.proofs.HolderLemmas.{Held, get-held_in}
+use Rattle.ox_ledger.proofs.HolderLemmas.{Held, get-held_before, get-held_in, held_before, values_before}
 use Rattle.ox_ledger.proofs.TablesLemmas.{is_marked}
 use Rattle.ox_ledger.proofs.PartLemmas.{same_balances, same_balances-Decides}
 
@@ -144,7 +144,7 @@ are_gone before after was now keys at_was at_now rising others = record {
 
 -- what an output held at the mark
 abbrev pub value_then : Held → Values
-value_then map q = lookup (is_at (outpoint_cmp q)) map.below
+value_then map = values_before map
 
 abbrev pub value_now : Held → Values
 value_now map q = content_in outpoint_cmp map q
@@ -156,19 +156,19 @@ at_the_mark map P some is = by_mark map.marked some is where
   by_mark true some is = is
   by_mark false some is = absurd (true≢false (sym some))
 
-then_by : (b : Bool) (xs : List (OutPoint × List Balance)) (P : BalanceMap → Type 0) → P (from_entries xs) → IfSome {T = BalanceMap} (if b then Some (from_entries xs) else None) P
-then_by true xs P is = is
-then_by false xs P is = tt
+then_by : (b : Bool) (m : BalanceMap) (P : BalanceMap → Type 0) → P m → IfSome {T = BalanceMap} (if b then Some m else None) P
+then_by true m P is = is
+then_by false m P is = tt
 
 pub differ : (map : Held) (keys : List OutPoint) (gone came : List Placement) → IsStrictlySortedBy outpoint_cmp keys
     → ((q : OutPoint) → list_any (λ k. is_eq (outpoint_cmp q k)) keys ≡ false → value_now map q ≡ value_then map q)
     → gone ≡ gone_among (value_then map) (value_now map) keys → came ≡ gone_among (value_now map) (value_then map) keys
     → IfSome (held_then map) (λ before. Differ before (held_in map) (record { gone = gone; came = came }))
-differ map keys gone came rising others went comes = then_by map.marked map.below (λ before. Differ before (held_in map) (record { gone = gone; came = came })) (record {
-  gone = subst (λ (l : List Placement). AreGone (from_entries map.below) (held_in map) l) (sym went)
-      (are_gone (from_entries map.below) (held_in map) (value_then map) (value_now map) keys (get-from_entries outpoints_total map.below) (get-held_in map) rising (λ q none. sym (others q none)));
-  came = subst (λ (l : List Placement). AreGone (held_in map) (from_entries map.below) l) (sym comes)
-      (are_gone (held_in map) (from_entries map.below) (value_now map) (value_then map) keys (get-held_in map) (get-from_entries outpoints_total map.below) rising others);
+differ map keys gone came rising others went comes = then_by map.marked (held_before map) (λ before. Differ before (held_in map) (record { gone = gone; came = came })) (record {
+  gone = subst (λ (l : List Placement). AreGone (held_before map) (held_in map) l) (sym went)
+      (are_gone (held_before map) (held_in map) (value_then map) (value_now map) keys (get-held_before map) (get-held_in map) rising (λ q none. sym (others q none)));
+  came = subst (λ (l : List Placement). AreGone (held_in map) (held_before map) l) (sym comes)
+      (are_gone (held_in map) (held_before map) (value_now map) (value_then map) keys (get-held_in map) (get-held_before map) rising others);
 })
 
 -- ---- one outpoint more
@@ -202,3 +202,30 @@ pub beside : (map : Held) (keys put_keys : List OutPoint) → keys ≡ put_keys 
     → ((q : OutPoint) → is_changed outpoint_cmp map q ≡ false → value_now map q ≡ value_then map q)
     → (q : OutPoint) → list_any (λ k. is_eq (outpoint_cmp q k)) keys ≡ false → value_now map q ≡ value_then map q
 beside map keys put_keys same put others q none = others q (sym (put q) ∙ sym (ap (λ (l : List OutPoint). list_any (λ k. is_eq (outpoint_cmp q k)) l) same) ∙ none)
+
+-- ---- outpoints with what they held at the mark
+
+abbrev pub Pairs : Type 0
+Pairs = List (OutPoint × Option (Bor (List Balance)))
+
+abbrev Then : Values → OutPoint × Option (Bor (List Balance)) → Type 0
+Then f pair = option_copied pair.1 ≡ f pair.0
+
+-- each is with what it held
+pub held_with : (map : Held) (pairs items : Pairs) → pairs ≡ items → IsSome (held_then map) → IfSome (mark_in outpoint_cmp map) (λ f. All (Then f) items)
+    → (i : ℕ) (pair : OutPoint × Option (Bor (List Balance))) → i < length pairs → pair ≡ slice_index_or pairs i pair → option_copied pair.1 ≡ value_then map pair.0
+held_with map pairs items same some before i pair less is =
+    subst (Then (value_then map)) (sym is)
+    (subst (λ (l : Pairs). All (Then (value_then map)) l) (sym same) (at_the_mark map (λ (f : Values). All (Then f) items) (marked_from map some) before) i pair less)
+
+pub pair_next : (was now : Values) (pairs : Pairs) (i : ℕ) (pair : OutPoint × Option (Bor (List Balance))) (old new all : List Placement) (then_is now_is : Value) → i < length pairs
+    → pair ≡ slice_index_or pairs i pair → then_is ≡ was pair.0 → now_is ≡ now pair.0 → old ++ gone_among was now (drop i (keys_of pairs)) ≡ all
+    → (then_is ≢ now_is → new ≡ old ++ entry_of pair.0 then_is) → (then_is ≡ now_is → new ≡ old) → new ++ gone_among was now (drop (i + 1) (keys_of pairs)) ≡ all
+pair_next was now pairs i pair old new all then_is now_is less is here here_now whole differ same =
+    let at : pair.0 ≡ slice_index_or (keys_of pairs) i pair.0 = ap (λ (e : OutPoint × Option (Bor (List Balance))). e.0) is ∙ sym (get_or-map (λ e. e.0) pairs i pair pair.0 less) in
+    let long = length-map pairs (λ e. e.0) in
+    gone_next was now (keys_of pairs) i pair.0 old new all then_is now_is (omega (arith, less, long)) (here ∙ ap was at) (here_now ∙ ap now at) whole
+    (λ other. differ other ∙ ap (λ (k : OutPoint). old ++ entry_of k then_is) at) same
+
+pub pairs_all : (was now : Values) (pairs : Pairs) (i : ℕ) (old all : List Placement) → length pairs ≤ i → old ++ gone_among was now (drop i (keys_of pairs)) ≡ all → old ≡ all
+pairs_all was now pairs i old all past whole = let long = length-map pairs (λ e. e.0) in gone_all was now (keys_of pairs) i old all (omega (arith, past, long)) whole

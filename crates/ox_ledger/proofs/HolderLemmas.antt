@@ -7,9 +7,9 @@ use Rattle.std.specs.Map.{lookup}
 use Rattle.std.specs.BTreeMap.{is_at}
 use Rattle.std.specs.declared.cmp.Ordering.TheVariants.{Less, Equal, Greater}
 use Rattle.std.specs.Cmp.{eq_by_cmp_equiv}
-use Rattle.std.specs.FinMap.{from_entries, get, get-from_entries, get-insert, get-remove, remove, same_map}
+use Rattle.std.specs.FinMap.{empty, get, get-empty, get-insert, get-remove, remove, same_map}
 use Rattle.ox_block.specs.declared.block.OutPoint.{OutPoint}
-use Rattle.ox_marked.specs.Marked.{Layers, content_in, mark_in}
+use Rattle.ox_marked.specs.Marked.{Logged, before_in, content_in, mark_in}
 use Rattle.ox_rules.specs.Outputs.{outpoint_cmp}
 use Rattle.ox_rules.proofs.Orders.{outpoints_total, outpoints_exact}
 use Rattle.std.proofs.lemmas.Bool.{cases_lt}
@@ -28,10 +28,7 @@ use Rattle.ox_ledger.proofs.Held.{amount_held_in, held-remove}
 use Rattle.ox_ledger.specs.Shown.{held_in, held_then, with_change, with_changes}
 
 abbrev pub Held : Type 0
-Held = Layers OutPoint (List Balance)
-
-abbrev Entries : Type 0
-Entries = List (OutPoint × List Balance)
+Held = Logged OutPoint (List Balance)
 
 abbrev Changes : Type 0
 Changes = List (OutPoint × Option (List Balance))
@@ -45,15 +42,24 @@ change_first : (b : Bool) (value : Option (List Balance)) (later : Option (Optio
 change_first true value later below rest is = refl
 change_first false value later below rest is = is
 
-get-with_changes : (below : Entries) (changes : Changes) (q : OutPoint)
-    → get (with_changes (from_entries below) changes) q ≡ unwrap_or (lookup (is_at (outpoint_cmp q)) changes) (lookup (is_at (outpoint_cmp q)) below)
-get-with_changes below [] q = get-from_entries outpoints_total below q
-get-with_changes below (change ∷ changes) q =
-    get-with_change (with_changes (from_entries below) changes) change.0 change.1 q
-    ∙ change_first (eq_by_cmp outpoint_cmp q change.0) change.1 (lookup (is_at (outpoint_cmp q)) changes) (lookup (is_at (outpoint_cmp q)) below) _ (get-with_changes below changes q)
+pub get-with_changes : (bal : BalanceMap) (changes : Changes) (q : OutPoint) → get (with_changes bal changes) q ≡ unwrap_or (lookup (is_at (outpoint_cmp q)) changes) (get bal q)
+get-with_changes bal [] q = refl
+get-with_changes bal (change ∷ changes) q =
+    get-with_change (with_changes bal changes) change.0 change.1 q
+    ∙ change_first (eq_by_cmp outpoint_cmp q change.0) change.1 (lookup (is_at (outpoint_cmp q)) changes) (get bal q) _ (get-with_changes bal changes q)
 
 pub get-held_in : (map : Held) (q : OutPoint) → get (held_in map) q ≡ content_in outpoint_cmp map q
-get-held_in map q = get-with_changes map.below map.changes q
+get-held_in map q = get-with_changes empty map.entries q ∙ ap (unwrap_or (lookup (is_at (outpoint_cmp q)) map.entries)) (get-empty outpoint_cmp q)
+
+-- the balances before what was put, and what they show
+abbrev pub held_before : Held → BalanceMap
+held_before map = with_changes (held_in map) map.log
+
+abbrev pub values_before : Held → OutPoint → Option (List Balance)
+values_before map = before_in outpoint_cmp map.log (content_in outpoint_cmp map)
+
+pub get-held_before : (map : Held) (q : OutPoint) → get (held_before map) q ≡ values_before map q
+get-held_before map q = get-with_changes (held_in map) map.log q ∙ ap (unwrap_or (lookup (is_at (outpoint_cmp q)) map.log)) (get-held_in map q)
 
 -- a map in which something was put at an outpoint
 pub held_put : (old new : Held) (at : OutPoint) (value : Option (List Balance))
@@ -79,38 +85,39 @@ remove_none bal at none = same_map outpoints_total outpoints_exact bal (remove b
   by_test q true is = ap (get bal) (outpoints_exact q at (equal (outpoint_cmp q at) is)) ∙ none
   by_test q false is = refl
 
-same_entries : (xs ys : Entries) → ((q : OutPoint) → lookup (is_at (outpoint_cmp q)) xs ≡ lookup (is_at (outpoint_cmp q)) ys) → from_entries {R = outpoint_cmp} xs ≡ from_entries ys
-same_entries xs ys is = same_map outpoints_total outpoints_exact (from_entries xs) (from_entries ys) (λ q. get-from_entries outpoints_total xs q ∙ is q ∙ sym (get-from_entries outpoints_total ys q))
-
 abbrev Values : Type 0
 Values = OutPoint → Option (List Balance)
 
-by_marks : (a b : Bool) (xs ys : Entries)
-    → ◌≡◌ {A = Option Values} (if a then Some (λ q. lookup (is_at (outpoint_cmp q)) xs) else None) (if b then Some (λ q. lookup (is_at (outpoint_cmp q)) ys) else None)
-    → ◌≡◌ {A = Option BalanceMap} (if a then Some (from_entries xs) else None) (if b then Some (from_entries ys) else None)
-by_marks true true xs ys is = ap Some (same_entries xs ys (λ q. ap (λ (o : Option Values). unwrap_or o (λ k. None) q) is))
-by_marks true false xs ys is = absurd (true≢false (ap is_some is))
-by_marks false true xs ys is = absurd (true≢false (sym (ap is_some is)))
-by_marks false false xs ys is = refl
+-- what a map shows
+abbrev Shows : BalanceMap → Values → Type 0
+Shows bal f = (q : OutPoint) → get bal q ≡ f q
+
+abbrev mark_by : Bool → Values → Option Values
+mark_by b f = if b then Some f else None
+
+abbrev balances_by_mark : Bool → BalanceMap → Option BalanceMap
+balances_by_mark b bal = if b then Some bal else None
+
+by_marks : (a b : Bool) (f g : Values) (m n : BalanceMap) → Shows m f → Shows n g → mark_by a f ≡ mark_by b g → balances_by_mark a m ≡ balances_by_mark b n
+by_marks true true f g m n shows too is = ap Some (same_map outpoints_total outpoints_exact m n (λ q. shows q ∙ ap (λ (o : Option Values). unwrap_or o (λ k. None) q) is ∙ sym (too q)))
+by_marks true false f g m n shows too is = absurd (true≢false (ap is_some is))
+by_marks false true f g m n shows too is = absurd (true≢false (sym (ap is_some is)))
+by_marks false false f g m n shows too is = refl
 
 -- the balances at a mark that stays
 pub then_same : (old new : Held) → mark_in outpoint_cmp new ≡ mark_in outpoint_cmp old → held_then new ≡ held_then old
-then_same old new is = by_marks new.marked old.marked new.below old.below is
+then_same old new is = by_marks new.marked old.marked _ _ (held_before new) (held_before old) (get-held_before new) (get-held_before old) is
 
-then_none_by : (b : Bool) (xs : Entries) → ◌≡◌ {A = Option Values} (if b then Some (λ q. lookup (is_at (outpoint_cmp q)) xs) else None) None → ◌≡◌ {A = Option BalanceMap} (if b then Some (from_entries xs) else None) None
-then_none_by true xs is = absurd (true≢false (ap is_some is))
-then_none_by false xs is = refl
+then_none_by : (b : Bool) (f : Values) (m : BalanceMap) → mark_by b f ≡ None → balances_by_mark b m ≡ None
+then_none_by true f m is = absurd (true≢false (ap is_some is))
+then_none_by false f m is = refl
 
 pub then_none : (map : Held) → mark_in outpoint_cmp map ≡ None → held_then map ≡ None
-then_none map is = then_none_by map.marked map.below is
+then_none map is = then_none_by map.marked _ (held_before map) is
 
-abbrev mark_by : Bool → Entries → Option Values
-mark_by b xs = if b then Some (λ q. lookup (is_at (outpoint_cmp q)) xs) else None
-
-then_is_by : (b : Bool) (xs : Entries) (bal : BalanceMap) → IsSome (mark_by b xs) → IfSome (mark_by b xs) (λ at. (q : OutPoint) → get bal q ≡ at q)
-    → ◌≡◌ {A = Option BalanceMap} (if b then Some (from_entries xs) else None) (Some bal)
-then_is_by true xs bal some is = ap Some (same_map outpoints_total outpoints_exact (from_entries xs) bal (λ q. get-from_entries outpoints_total xs q ∙ sym (is q)))
-then_is_by false xs bal some is = absurd (true≢false (sym some))
+then_is_by : (b : Bool) (f : Values) (m bal : BalanceMap) → Shows m f → IsSome (mark_by b f) → IfSome (mark_by b f) (λ at. (q : OutPoint) → get bal q ≡ at q) → balances_by_mark b m ≡ Some bal
+then_is_by true f m bal shows some is = ap Some (same_map outpoints_total outpoints_exact m bal (λ q. shows q ∙ sym (is q)))
+then_is_by false f m bal shows some is = absurd (true≢false (sym some))
 
 if_some : {A : Type 0} (o : Option A) (P Q : A → Type 0) → ((a : A) → P a → Q a) → IfSome o P → IfSome o Q
 if_some None P Q step is = is
@@ -119,8 +126,8 @@ if_some (Some a) P Q step is = step a is
 -- balances that are those at a mark
 pub then_is : (old new : Held) → IsSome (mark_in outpoint_cmp old) → IfSome (mark_in outpoint_cmp old) (λ at. (q : OutPoint) → content_in outpoint_cmp new q ≡ at q) → held_then old ≡ Some (held_in new)
 then_is old new some is =
-    then_is_by old.marked old.below (held_in new) some
-    (if_some (mark_by old.marked old.below) (λ at. (q : OutPoint) → content_in outpoint_cmp new q ≡ at q) (λ at. (q : OutPoint) → get (held_in new) q ≡ at q) (λ at at_is q. get-held_in new q ∙ at_is q) is)
+    then_is_by old.marked (values_before old) (held_before old) (held_in new) (get-held_before old) some
+    (if_some (mark_by old.marked (values_before old)) (λ at. (q : OutPoint) → content_in outpoint_cmp new q ≡ at q) (λ at. (q : OutPoint) → get (held_in new) q ≡ at q) (λ at at_is q. get-held_in new q ∙ at_is q) is)
 
 -- what is said of an Ok
 pub on_ok : {T E : Type 0} {P Q : Type 0} (r : Result T E) → (P → Q) → OnOk r P → OnOk r Q
@@ -162,6 +169,11 @@ pub joins_all : (start pool balances : List Balance) (i : ℕ) → length balanc
 joins_all start pool balances i past joins =
     burns_all (with_all start balances) pool (subst (λ (rest : List Balance). Joins (with_all start balances) rest pool) (at_drop_all (λ l. l) balances i past) joins)
     ∙ sym (joined_is start balances)
+
+-- nothing joins where an output holds nothing
+pub none_joins : (pool : List Balance) (bal : BalanceMap) (at : OutPoint) → get bal at ≡ None → pool ≡ joined_with pool (balances_at bal at)
+unfolding joined_with
+none_joins pool bal at none = sym (ap (λ (o : Option (List Balance)). joined_with pool (unwrap_or o [])) none)
 
 -- ---- inputs that bring balances
 

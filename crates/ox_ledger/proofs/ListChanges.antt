@@ -1,10 +1,11 @@
 -- Values of a list stay where nothing was put since a mark.
-use Rattle.std.proofs.Common.{◌≡◌, ◌≢◌, ◌∙◌, ℕ, ◌<◌, Bool, true, false, true≢false, List, [], ◌∷◌, length, refl, sym, ap, subst, Option, Some, None, arith}
-use Rattle.std.specs.Prelude.{◌==◌, ◌||◌, IfOk, Result, Ok, Err, slice_get}
+use Rattle.std.proofs.Common.{◌≡◌, ◌≢◌, ◌∙◌, ℕ, ◌<◌, Bool, true, false, true≢false, List, [], ◌∷◌, length, refl, sym, ap, subst, Option, Some, None, Bor, arith}
+use Rattle.std.specs.Prelude.{◌==◌, ◌||◌, All, IfOk, Result, Ok, Err, slice_get}
 use Rattle.std.specs.List.{list_any}
-use Rattle.std.specs.Option.{IfSome, option_map}
+use Rattle.std.specs.Option.{IfSome, option_copied, option_map}
 use Rattle.std.specs.Ordering.{is_eq, nat_cmp}
 use Rattle.std.proofs.lemmas.Bool.Decides.{Decides-eqb}
+use Rattle.std.proofs.lemmas.List.Elements.{All-weaker}
 use Rattle.ox_ledger.specs.Marks.{IsFull, WithMark, listed}
 use Rattle.ox_ledger.proofs.ListLemmas.{get-listed, length-listed, not_tied}
 
@@ -41,3 +42,11 @@ module _ {A : Type 0} where
   stays_beside at mark n n_then changed places shown is full full_then same put =
       subst (λ (s : WithMark (List A)). IfSome s.mark (λ list. (place : ℕ) → place < length s.now → place < length list → list_any (λ p. p == place) places ≡ false → slice_get s.now place ≡ slice_get list place)) is
       (there at mark n n_then changed places full full_then same put)
+
+  -- what stood at the mark, seen in the list
+  pub values_then : (mark : Option (ℕ → Option A)) (n_then : ℕ) (changes : List (ℕ × Option (Bor A))) → IfSome mark (λ f. IsFull f n_then) → IfSome mark (λ f. All (λ change. option_copied change.1 ≡ f change.0) changes)
+      → IfSome (option_map (λ f. listed f n_then) mark) (λ list. All (λ change. change.0 < length list → slice_get list change.0 ≡ option_copied change.1) changes)
+  values_then None n_then changes full before = tt
+  values_then (Some f) n_then changes full before =
+      All-weaker (λ (change : ℕ × Option (Bor A)). option_copied change.1 ≡ f change.0) (λ (change : ℕ × Option (Bor A)). change.0 < length (listed f n_then) → slice_get (listed f n_then) change.0 ≡ option_copied change.1)
+      (λ change is less. get-listed f n_then change.0 full (below f n_then change.0 full less) ∙ sym is) changes before

@@ -204,13 +204,3 @@ module _ {A : Type 0} where
   pub then_length : (mark : Option (ℕ → Option A)) (n : ℕ) → IfSome mark (λ at. IsFull at n) → IfSome (listed_then mark n) (λ list. n ≡ length list)
   then_length None n full = tt
   then_length (Some at) n full = sym (length-listed at n full)
-
-  pub then_value : (mark : Option (ℕ → Option A)) (n place : ℕ) (value : Option A) → IfSome mark (λ at. IsFull at n) → IfSome (listed_then mark n) (λ list. place < length list)
-      → IfSome mark (λ at. value ≡ at place) → IfSome (listed_then mark n) (λ list. slice_get list place ≡ value)
-  then_value None n place value full less is = tt
-  then_value (Some at) n place value full less is = get_value at n place (listed at n) value full refl less is
-
-  pub then_some : (mark : Option (ℕ → Option A)) (n place : ℕ) → IfSome mark (λ at. IsFull at n) → IsSome (listed_then mark n) → IfSome (listed_then mark n) (λ list. place < length list)
-      → IfSome mark (λ at. None ≡ at place) → ⊥
-  then_some None n place full some less is = true≢false (sym some)
-  then_some (Some at) n place full some less is = get_some at n place (listed at n) full refl less is

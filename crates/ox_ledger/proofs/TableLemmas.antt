@@ -6,7 +6,7 @@ use Rattle.std.specs.Ordering.{is_eq, nat_cmp}
 use Rattle.std.specs.declared.cmp.Ordering.TheVariants.{Less, Equal, Greater}
 use Rattle.std.specs.FinMap.{nat_cmp-IsAntisymmetric}
 use Rattle.std.proofs.lemmas.Option.{slice_get_within}
-use Rattle.ox_marked.specs.Marked.{Layers, content_in, mark_in}
+use Rattle.ox_marked.specs.Marked.{Logged, content_in, mark_in}
 use Rattle.ox_runestone.specs.declared.stone.RuneId.{RuneId}
 use Rattle.ox_allocation.specs.Balances.{id_cmp}
 use Rattle.ox_allocation.proofs.Ids.{same_id}
@@ -136,10 +136,10 @@ abbrev pub Rows : Type 0
 Rows = WithMark (List RuneRow)
 
 abbrev pub Ids : Type 0
-Ids = Layers RuneId ℕ
+Ids = Logged RuneId ℕ
 
 abbrev pub Names : Type 0
-Names = Layers ℕ ℕ
+Names = Logged ℕ ℕ
 
 abbrev ids_of : Ids → RuneId → Option ℕ
 ids_of ids = content_in id_cmp ids
@@ -154,10 +154,6 @@ no_mark_of_names : (runes : Option (List RuneRow)) (ids : Option (RuneId → Opt
 no_mark_of_names None ids = tt
 no_mark_of_names (Some r) None = tt
 no_mark_of_names (Some r) (Some i) = tt
-
-no_mark_of_ids : (runes : Option (List RuneRow)) (names : Option (ℕ → Option ℕ)) → MarkIndexed runes None names
-no_mark_of_ids None names = tt
-no_mark_of_ids (Some r) names = tt
 
 mark_from : (runes : List RuneRow) (ids : RuneId → Option ℕ) (names : ℕ → Option ℕ) (i : Option (RuneId → Option ℕ)) (n : Option (ℕ → Option ℕ)) → AreIndexed runes ids names
     → IfSome i (λ at. (q : RuneId) → at q ≡ ids q) → IfSome n (λ at. (q : ℕ) → at q ≡ names q) → MarkIndexed (Some runes) i n
@@ -241,13 +237,6 @@ same_now runes new ids new_ids names new_names is same_ids same_names are = subs
   names = finds_same (λ row. row.name) runes (names_of names) (names_of new_names) same_names are.names;
 })
 
-pub indexed_half : (rows new : Rows) (ids new_ids : Ids) (names : Names) → new.now ≡ rows.now → ((q : RuneId) → content_in id_cmp new_ids q ≡ content_in id_cmp ids q)
-    → mark_in id_cmp new_ids ≡ None → AreAllIndexed rows ids names → AreAllIndexed new new_ids names
-indexed_half rows new ids new_ids names is same_ids none are = record {
-  now = same_now rows.now new.now ids new_ids names names is same_ids (λ q. refl) are.now;
-  mark = subst (λ (m : Option (RuneId → Option ℕ)). MarkIndexed new.mark m (mark_in nat_cmp names)) (sym none) (no_mark_of_ids new.mark (mark_in nat_cmp names));
-}
-
 pub some_as : {B : Type 0} {P Q : B → Type 0} (o : Option B) → IsSome o → IfSome o P → ((b : B) → P b → Q b) → IfSome o Q
 some_as None some is step = absurd (true≢false (sym some))
 some_as (Some b) some is step = step b is
@@ -287,10 +276,6 @@ mark_stays rows new ids new_ids names new_names m i n are =
 pub if_from_and : {B : Type 0} (P : B → Type 0) (o : Option B) → IsSomeAnd o P → IfSome o P
 if_from_and P None is = absurd is
 if_from_and P (Some b) is = is
-
-pub if_from_none : {B : Type 0} (P : B → Type 0) (o : Option B) → o ≡ None → IfSome o P
-if_from_none P None is = tt
-if_from_none P (Some b) is = absurd (cc is)
 
 pub none_anyhow : {B : Type 0} {P : Type 0} (o : Option B) → P → IfNone o P
 none_anyhow None p = p

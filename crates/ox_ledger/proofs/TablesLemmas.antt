@@ -2,7 +2,7 @@
 use Rattle.std.proofs.Common.{◌≡◌, ◌≢◌, ◌∙◌, ℕ, zero, suc, ◌+◌, ◌<◌, ◌≤◌, Bool, true, false, true≢false, List, [], ◌∷◌, ◌++◌, length, map, take, drop, refl, sym, ap, subst, Option, Some, None, is_some, arith, append_assoc, append-nil}
 use Rattle.std.specs.Prelude.{IsSome, slice_get, unwrap_or, ◌==◌, if◌then◌else◌}
 use Rattle.std.specs.Option.{IfSome, IsSomeAnd, option_map}
-use Rattle.std.specs.FinMap.{empty, from_entries, get, get-empty, same_map}
+use Rattle.std.specs.FinMap.{empty, get, get-empty, same_map}
 use Rattle.ox_block.specs.declared.block.OutPoint.{OutPoint}
 use Rattle.ox_block.specs.declared.block.Tx.{Tx}
 use Rattle.ox_block.specs.declared.block.TxOut.{TxOut}
@@ -26,7 +26,7 @@ use Rattle.ox_ledger.specs.Shown.{IsAbsent, held_in, held_then}
 use Rattle.ox_ledger.specs.Steps.{CanPlace, CanPlaceAll}
 use Rattle.ox_ledger.specs.Tables.{runes_then}
 use Rattle.ox_ledger.proofs.Held.{amount_held-cons}
-use Rattle.ox_ledger.proofs.HolderLemmas.{Held, get-held_in, held_same, remove_none, then_is}
+use Rattle.ox_ledger.proofs.HolderLemmas.{Held, get-held_in, held_before, held_same, remove_none, then_is}
 use Rattle.ox_ledger.proofs.TableLemmas.{value_in}
 
 -- ---- marks
@@ -49,34 +49,18 @@ marks_in (Some x) (Some y) (Some z) some = (refl, refl, refl)
 pub no_holders_mark : (a : Bals) (b : Rows) (c : Dues) → a ≡ None → runes_then a b c ≡ None
 no_holders_mark a b c none = ap (λ (o : Bals). runes_then o b c) none
 
-no_rows_by : (a : Bals) (c : Dues) → runes_then a None c ≡ None
-no_rows_by None c = refl
-no_rows_by (Some x) c = refl
-
-pub no_rows_mark : (a : Bals) (b : Rows) (c : Dues) → b ≡ None → runes_then a b c ≡ None
-no_rows_mark a b c none = ap (λ (o : Rows). runes_then a o c) none ∙ no_rows_by a c
-
-no_due_by : (a : Bals) (b : Rows) → runes_then a b None ≡ None
-no_due_by None b = refl
-no_due_by (Some x) None = refl
-no_due_by (Some x) (Some y) = refl
-
-pub no_due_mark : (a : Bals) (b : Rows) (c : Dues) → c ≡ None → runes_then a b c ≡ None
-no_due_mark a b c none = ap (λ (o : Dues). runes_then a b o) none ∙ no_due_by a b
-
 pub all_marks : (a : Bals) (b : Rows) (c : Dues) (state : Runes) → a ≡ Some state.bal → b ≡ Some state.runes → c ≡ Some state.due → runes_then a b c ≡ Some state
 all_marks a b c state first second third = λ i. runes_then (first i) (second i) (third i)
 
 pub same_marks : (a a' : Bals) (b b' : Rows) (c c' : Dues) → a' ≡ a → b' ≡ b → c' ≡ c → runes_then a' b' c' ≡ runes_then a b c
 same_marks a a' b b' c c' first second third = λ i. runes_then (first i) (second i) (third i)
 
-marked_by : (b : Bool) (xs : List (OutPoint × List Balance)) (f : OutPoint → Option (List Balance)) → IsSome {T = BalanceMap} (if b then Some (from_entries xs) else None)
-    → IsSome {T = OutPoint → Option (List Balance)} (if b then Some f else None)
-marked_by true xs f some = refl
-marked_by false xs f some = absurd (true≢false (sym some))
+marked_by : (b : Bool) (m : BalanceMap) (f : OutPoint → Option (List Balance)) → IsSome {T = BalanceMap} (if b then Some m else None) → IsSome {T = OutPoint → Option (List Balance)} (if b then Some f else None)
+marked_by true m f some = refl
+marked_by false m f some = absurd (true≢false (sym some))
 
 pub is_marked : (map : Held) → IsSome (held_then map) → IsSome (mark_in outpoint_cmp map)
-is_marked map some = marked_by map.marked map.below _ some
+is_marked map some = marked_by map.marked (held_before map) _ some
 
 -- ---- no runes
 
@@ -249,10 +233,14 @@ burn_none (row ∷ runes) =
     let rest = burn_none runes in
     λ i. first i ∷ rest i
 
+-- nothing burns where an output holds nothing
+pub burn_at_none : (bal : BalanceMap) (at : OutPoint) (runes : List RuneRow) → get bal at ≡ None → burn (balances_at bal at) runes ≡ runes
+burn_at_none bal at runes none = ap (λ (o : Option (List Balance)). burn (unwrap_or o []) runes) none ∙ burn_none runes
+
 -- an output without runes where nothing stands changes nothing
 pub place_none : (state : Runes) (at : OutPoint) → get state.bal at ≡ None → place state (at, []) ≡ state
 place_none state at none =
-    let burned : burn (balances_at state.bal at) state.runes ≡ state.runes = ap (λ (o : Option (List Balance)). burn (unwrap_or o []) state.runes) none ∙ burn_none state.runes in
+    let burned = burn_at_none state.bal at state.runes none in
     let bal : with_balances state.bal at [] ≡ state.bal = sym (remove_none state.bal at none) in
     λ i. record { bal = bal i; runes = burned i; due = state.due }
 

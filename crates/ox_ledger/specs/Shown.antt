@@ -2,9 +2,9 @@
 use Rattle.std.specs.Prelude.{◌≡◌, ℕ, List, [], ◌∷◌, Option, Some, None, slice_get}
 use Rattle.std.specs.Prelude.{if◌then◌else◌}
 use Rattle.std.specs.Option.{option_map}
-use Rattle.std.specs.FinMap.{from_entries, insert, remove}
+use Rattle.std.specs.FinMap.{empty, insert, remove}
 use Rattle.ox_block.specs.declared.block.OutPoint.{OutPoint}
-use Rattle.ox_marked.specs.Marked.{Layers}
+use Rattle.ox_marked.specs.Marked.{Logged}
 use Rattle.ox_runestone.specs.declared.stone.RuneId.{RuneId}
 use Rattle.ox_allocation.specs.Balances.{Balance}
 use Rattle.ox_etching.specs.declared.row.RuneRow.{RuneRow}
@@ -15,19 +15,19 @@ abbrev pub with_change : BalanceMap → OutPoint → Option (List Balance) → B
 with_change bal at None = remove bal at
 with_change bal at (Some balances) = insert bal at balances
 
--- balances with all that was put
+-- balances with all that was put, of which the first at an outpoint counts
 abbrev pub with_changes : BalanceMap → List (OutPoint × Option (List Balance)) → BalanceMap
 with_changes bal [] = bal
 with_changes bal (change ∷ changes) =
     with_change (with_changes bal changes) change.0 change.1
 
 -- the balances that a map with a mark shows
-abbrev pub held_in : Layers OutPoint (List Balance) → BalanceMap
-held_in map = with_changes (from_entries map.below) map.changes
+abbrev pub held_in : Logged OutPoint (List Balance) → BalanceMap
+held_in map = with_changes empty map.entries
 
 -- those at its mark, if there is one
-abbrev pub held_then : Layers OutPoint (List Balance) → Option BalanceMap
-held_then map = if map.marked then Some (from_entries map.below) else None
+abbrev pub held_then : Logged OutPoint (List Balance) → Option BalanceMap
+held_then map = if map.marked then Some (with_changes (held_in map) map.log) else None
 
 -- the rune at a place has this
 abbrev pub HasAt : {A : Type 0} → (RuneRow → A) → List RuneRow → ℕ → A → Type 0

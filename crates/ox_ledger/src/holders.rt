@@ -48,17 +48,14 @@ pub(crate) fn amount_in(balances: &[(RuneId, u128)], id: RuneId) -> u128
     0
 }
 
-/// Takes away what an output holds. `Memory` where there is none to say so: nothing has changed
-/// then.
+/// Takes away what an output holds. `Memory` where there is none to keep it until the next mark:
+/// nothing has changed then.
 pub(crate) fn empty(holders: &mut Holders, at: &OutPoint) -> Result<(), Memory>
     ensures ok { OnOk result (held_in holders.new ≡ map.remove (held_in holders.old) at.now) }
     ensures mark { held_then holders.new ≡ held_then holders.old }
     ensures err { OnErr result (holders.new ≡ holders.old) }
 {
-    match holders.get(at) {
-        Some(_) => holders.put(*at, None),
-        None => Ok(()),
-    }
+    holders.put(*at, None)
 }
 
 /// Gives an output these runes in place of what it holds. `Memory` where there is none for them:
@@ -71,6 +68,25 @@ pub(crate) fn fill(holders: &mut Holders, at: OutPoint, balances: Balances) -> R
 {
     if balances.is_empty() {
         return empty(holders, &at);
+    }
+    holders.put(at, Some(balances))
+}
+
+/// Gives an output that holds nothing these runes. `Memory` where there is none for them: nothing
+/// has changed then.
+pub(crate) fn fill_free(
+    holders: &mut Holders,
+    at: OutPoint,
+    balances: Balances,
+) -> Result<(), Memory>
+    requires { map.get (held_in holders.old) at ≡ None }
+    ensures ok { OnOk result
+        (held_in holders.new ≡ with_balances (held_in holders.old) at balances) }
+    ensures mark { held_then holders.new ≡ held_then holders.old }
+    ensures err { OnErr result (holders.new ≡ holders.old) }
+{
+    if balances.is_empty() {
+        return Ok(());
     }
     holders.put(at, Some(balances))
 }
@@ -98,7 +114,10 @@ fn bring(holders: &mut Holders, at: &OutPoint, pool: &mut Pool) -> Result<(), Me
     ensures left { OnOk result (held_in holders.new ≡ map.remove (held_in holders.old) at.now) }
     ensures mark { held_then holders.new ≡ held_then holders.old }
 {
-    join(pool, balances_at(holders, at))?;
+    let Some(balances) = holders.get(at) else {
+        return Ok(());
+    };
+    join(pool, balances.as_slice())?;
     empty(holders, at)
 }
 
@@ -193,12 +212,11 @@ pub(crate) fn changed(alloc: Global, holders: &Holders) -> Result<Exchange, Memo
 {
     let mut gone = List::new(alloc);
     let mut came = List::new(alloc);
-    let keys = holders.changed()?;
-    for at in &keys {
-        let then = holders.at_mark(at);
+    let changes = holders.changed()?;
+    for (at, then) in &changes {
         let now = holders.get(at);
-        push_gone(alloc, &mut gone, *at, then, now)?;
-        push_gone(alloc, &mut came, *at, now, then)?;
+        push_gone(alloc, &mut gone, *at, *then, now)?;
+        push_gone(alloc, &mut came, *at, now, *then)?;
     }
     Ok(Exchange { gone, came })
 }

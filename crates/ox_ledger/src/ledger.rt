@@ -238,17 +238,14 @@ impl Ledger {
         }
     }
 
-    /// Sets the mark at the runes as they are, in place of an earlier one. `Memory` where there is
-    /// none: the runes are as they were, and there is no mark.
-    pub fn begin(&mut self) -> Result<(), Memory>
+    /// Sets the mark at the runes as they are, in place of an earlier one. It takes no memory.
+    pub fn begin(&mut self)
         ensures runes { runes_in self.new ≡ runes_in self.old }
-        ensures ok { OnOk result (mark_in self.new ≡ Some (runes_in self.old)) }
-        ensures err { OnErr result (mark_in self.new ≡ None) }
+        ensures mark { mark_in self.new ≡ Some (runes_in self.old) }
         ensures profile { self.new.profile ≡ self.old.profile }
     {
-        let begun = self.tables.begin();
-        self.marked = begun.is_ok();
-        begun
+        self.tables.begin();
+        self.marked = true;
     }
 
     /// Goes back to the runes at the mark, which is spent. It takes no memory.

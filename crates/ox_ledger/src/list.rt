@@ -1,10 +1,12 @@
 //! A list with a mark.
 
 ghost use Rattle.std.specs.Prelude.{◌≡◌, ◌==◌, ◌++◌, ◌∷◌, ◌<◌, ◌≤◌, ℕ, [], false, length, take};
-ghost use Rattle.std.specs.Prelude.{slice_get, slice_set, IsSome, Some, None, IfOk, OnOk, OnErr};
+ghost use Rattle.std.specs.Prelude.{slice_get, slice_set, All, IsSome, Some, None, IfOk};
+ghost use Rattle.std.specs.Prelude.{OnOk, OnErr};
 ghost use Rattle.std.specs.List.{list_any};
 ghost use Rattle.std.specs.List.Sorted.{IsStrictlySortedBy};
-ghost use Rattle.std.specs.Option.{IfSome};
+ghost use Rattle.std.specs.Map.{keys_of};
+ghost use Rattle.std.specs.Option.{option_copied, IfSome};
 ghost use Rattle.std.specs.Ordering.{nat_cmp};
 
 use ox_bytes::Memory;
@@ -77,29 +79,22 @@ impl<T> MarkedList<T> {
     {
         self.len_then
     }
-
-    /// The value that there was at a place at the mark.
-    pub(crate) fn get_then(&self, place: u32) -> &T
-        requires mark { IsSome self.now.mark }
-        requires place { IfSome self.now.mark (λ list. place < length list) }
-        ensures { IfSome self.now.mark (λ list. slice_get list place ≡ Some result.now) }
-    {
-        match self.items.at_mark(&place) {
-            Some(value) => value,
-            None => unreachable!(),
-        }
-    }
 }
 
 impl<T> MarkedList<T> {
     /// The places at which a value was put since the mark, in order; perhaps also some behind the
-    /// last value. `Memory` where there is none for them.
-    pub(crate) fn changed(&self) -> Result<Vec<u32>, Memory>
+    /// last value. Each with the value that there was at the mark, if there was one. `Memory` where
+    /// there is none for them.
+    pub(crate) fn changed(&self) -> Result<Vec<(u32, Option<&T>)>, Memory>
         requires { IsSome self.now.mark }
-        ensures rising { IfOk result (λ places. IsStrictlySortedBy nat_cmp places.items) }
-        ensures others { IfOk result (λ places. IfSome self.now.mark (λ list. (place : ℕ)
+        ensures rising { IfOk result (λ changes.
+            IsStrictlySortedBy nat_cmp (keys_of changes.items)) }
+        ensures then { IfOk result (λ changes. IfSome self.now.mark (λ list.
+            All (λ change. change.0 < length list
+            → slice_get list change.0 ≡ option_copied change.1) changes.items)) }
+        ensures others { IfOk result (λ changes. IfSome self.now.mark (λ list. (place : ℕ)
             → place < length self.now.now → place < length list
-            → list_any (λ p. p == place) places.items ≡ false
+            → list_any (λ p. p == place) (keys_of changes.items) ≡ false
             → slice_get self.now.now place ≡ slice_get list place)) }
     {
         self.items.changed()
@@ -141,16 +136,13 @@ impl<T: Drop> MarkedList<T> {
         self.len = len;
     }
 
-    /// Sets the mark at the list as it is. `Memory` where there is none: the list is as it was, and
-    /// has no mark.
-    pub(crate) fn begin(&mut self) -> Result<(), Memory>
+    /// Sets the mark at the list as it is.
+    pub(crate) fn begin(&mut self)
         ensures now { self.new.now ≡ self.old.now }
-        ensures ok { OnOk result (self.new.mark ≡ Some self.old.now) }
-        ensures err { OnErr result (self.new.mark ≡ None) }
+        ensures mark { self.new.mark ≡ Some self.old.now }
     {
-        self.items.begin()?;
+        self.items.begin();
         self.len_then = self.len;
-        Ok(())
     }
 
     /// Goes back to the mark, which is spent.

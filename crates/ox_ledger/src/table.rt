@@ -225,16 +225,26 @@ impl RuneTable {
     }
 
     /// Appends the change of the counts of the rune at a place, if there were other counts of it at
-    /// the mark.
-    fn push_change(&self, counts: &mut List<CountChange>, place: u32) -> Result<(), Memory>
-        requires { IsSome self.now.mark }
+    /// the mark. The rune that there was at the place then, if there was one, is at hand.
+    fn push_change(
+        &self,
+        counts: &mut List<CountChange>,
+        place: u32,
+        then: Option<&RuneRow>,
+    ) -> Result<(), Memory>
+        requires mark { IsSome self.now.mark }
+        requires then { IfSome self.now.mark (λ list. place < length list
+            → slice_get list place ≡ option_copied then) }
         ensures { OnOk result (IfSome self.now.mark (λ then. counts.new ≡ counts.old
             ++ change_in place (slice_get then place) (slice_get self.now.now place))) }
     {
         if place >= self.rows.len_then() || place >= self.rows.len() {
             return Ok(());
         }
-        let before = counts_of(self.rows.get_then(place));
+        let Some(then) = then else {
+            return Ok(());
+        };
+        let before = counts_of(then);
         let after = counts_of(self.rows.get(place));
         if before != after {
             counts.push(CountChange {
@@ -253,9 +263,9 @@ impl RuneTable {
             (λ then. counts ≡ changes_from 0 then self.now.now)) }
     {
         let mut counts = List::new(alloc);
-        let places = self.rows.changed()?;
-        for place in &places {
-            self.push_change(&mut counts, *place)?;
+        let changes = self.rows.changed()?;
+        for (place, then) in &changes {
+            self.push_change(&mut counts, *place, *then)?;
         }
         Ok(counts)
     }
@@ -345,16 +355,14 @@ impl RuneTable {
         self.names.put(row.name, None)
     }
 
-    /// Sets the mark at the runes as they are. `Memory` where there is none: the runes are as they
-    /// were, and there is no mark.
-    pub(crate) fn begin(&mut self) -> Result<(), Memory>
+    /// Sets the mark at the runes as they are.
+    pub(crate) fn begin(&mut self)
         ensures now { self.new.now ≡ self.old.now }
-        ensures ok { OnOk result (self.new.mark ≡ Some self.old.now) }
-        ensures err { OnErr result (self.new.mark ≡ None) }
+        ensures mark { self.new.mark ≡ Some self.old.now }
     {
-        self.rows.begin()?;
-        self.ids.begin()?;
-        self.names.begin()
+        self.rows.begin();
+        self.ids.begin();
+        self.names.begin();
     }
 
     /// Goes back to the mark, which is spent.

@@ -19,7 +19,7 @@ ghost use Rattle.ox_ledger.specs.Tables.{mark_of, nothing, runes_of};
 
 use crate::artifact::{artifact_at, count_of, etching_by, mint_by};
 use crate::holders::{
-    Holders, Placement, amount_in, are_free, balances_at, changed, empty, fill, gather,
+    Holders, Placement, amount_in, are_free, balances_at, changed, empty, fill, fill_free, gather,
 };
 use crate::list::MarkedList;
 use crate::part::RunePart;
@@ -55,16 +55,14 @@ impl Tables {
         }
     }
 
-    /// Sets the mark at the tables as they are. `Memory` where there is none: they are as they
-    /// were, and have no mark.
-    pub(crate) fn begin(&mut self) -> Result<(), Memory>
+    /// Sets the mark at the tables as they are.
+    pub(crate) fn begin(&mut self)
         ensures now { runes_of self.new ≡ runes_of self.old }
-        ensures ok { OnOk result (mark_of self.new ≡ Some (runes_of self.old)) }
-        ensures err { OnErr result (mark_of self.new ≡ None) }
+        ensures mark { mark_of self.new ≡ Some (runes_of self.old) }
     {
-        self.holders.begin()?;
-        self.runes.begin()?;
-        self.due.begin()
+        self.holders.begin();
+        self.runes.begin();
+        self.due.begin();
     }
 
     /// Goes back to the mark, which is spent.
@@ -129,7 +127,10 @@ impl Tables {
             (runes_of self.new ≡ place (runes_of self.old) (at, balances)) }
         ensures mark { mark_of self.new ≡ mark_of self.old }
     {
-        self.runes.burn(balances_at(&self.holders, &at))?;
+        let Some(displaced) = self.holders.get(&at) else {
+            return fill_free(&mut self.holders, at, balances);
+        };
+        self.runes.burn(displaced.as_slice())?;
         fill(&mut self.holders, at, balances)
     }
 

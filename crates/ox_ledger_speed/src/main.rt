@@ -104,7 +104,7 @@ fn turn_all(ledger: &mut Ledger, height: u32, given: &Given) -> Result<(), Memor
 fn connect(ledger: &mut Ledger, height: u32, given: &Given) -> Result<(), Memory>
     ensures { OnOk result (IsSome (mark_in ledger.new)) }
 {
-    ledger.begin()?;
+    ledger.begin();
     turn_all(ledger, height, given)?;
     ledger.end()
 }

@@ -61,7 +61,7 @@ fn lab(rt: &impl Abort, alloc: Global) -> Ledger
 {
     let p = profile_of(ProfileName::Lab);
     let mut ledger = Ledger::new(alloc, &p).expect(rt, "memory");
-    ledger.begin().expect(rt, "memory");
+    ledger.begin();
     ledger
 }
 
@@ -141,7 +141,7 @@ fn etched(rt: &impl Abort, alloc: Global, stone: &[u8]) -> Ledger
     let mut ledger = lab(rt, alloc);
     let body = tx(rt, alloc, &[], &[PLAIN, stone]);
     turn(rt, &mut ledger, alloc, (3, 1, 1), &body);
-    ledger.begin().expect(rt, "memory");
+    ledger.begin();
     ledger
 }
 
@@ -229,7 +229,7 @@ fn comes_back(
     scripts: &[&[u8]],
 ) -> bool {
     let body = tx(rt, alloc, from, scripts);
-    ledger.begin().expect(rt, "memory");
+    ledger.begin();
     let before = state_of(ledger);
     turn(rt, ledger, alloc, spot, &body);
     let after = state_of(ledger);

@@ -169,10 +169,7 @@ fn is_empty<V>(entry: &Option<Option<V>>) -> bool {
 }
 
 // Puts back what stood before some changes, the newest first. It takes no memory.
-fn put_back<K: Sharded, V: Drop>(
-    entries: &mut Shards<K, Option<V>>,
-    log: &mut [(K, Option<V>)],
-)
+fn put_back<K: Sharded, V: Drop>(entries: &mut Shards<K, Option<V>>, log: &mut [(K, Option<V>)])
     requires { AreLogged K.cmp log.old entries.old }
     ensures { (q : K) → standing K.cmp entries.new q
         ≡ before_in K.cmp log.old (standing K.cmp entries.old) q }
