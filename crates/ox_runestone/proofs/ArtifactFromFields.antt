@@ -53,14 +53,10 @@ artifact_from_stone fields outputs list lone edicts some all is all-is whole sou
 
 -- ---- the script
 
-pub silent_payload : (script : List ℕ) (outputs : ℕ) → payload_of script ≡ None → Cenotaph None None ≡ artifact_of script outputs
+pub silent : (script : List ℕ) (outputs : ℕ) → option_and_then integers_of (payload_of script) ≡ None → Cenotaph None None ≡ artifact_of script outputs
 unfolding artifact_of
-silent_payload script outputs none = sym (ap (λ p. of_integers outputs (option_and_then integers_of p)) none)
+silent script outputs none = sym (ap (of_integers outputs) none)
 
-pub silent_integers : (script payload : List ℕ) (outputs : ℕ) → payload_of script ≡ Some payload → integers_of payload ≡ None → Cenotaph None None ≡ artifact_of script outputs
+pub speaks : (script integers : List ℕ) (outputs : ℕ) → option_and_then integers_of (payload_of script) ≡ Some integers → of_message outputs (message_of integers) ≡ artifact_of script outputs
 unfolding artifact_of
-silent_integers script payload outputs is none = sym (ap (λ p. of_integers outputs (option_and_then integers_of p)) is ∙ ap (of_integers outputs) none)
-
-pub speaks : (script payload integers : List ℕ) (outputs : ℕ) → payload_of script ≡ Some payload → integers_of payload ≡ Some integers → of_message outputs (message_of integers) ≡ artifact_of script outputs
-unfolding artifact_of
-speaks script payload integers outputs is read = sym (ap (λ p. of_integers outputs (option_and_then integers_of p)) is ∙ ap (of_integers outputs) read)
+speaks script integers outputs is = sym (ap (of_integers outputs) is)

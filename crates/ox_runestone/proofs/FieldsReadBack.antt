@@ -1,6 +1,6 @@
 -- What is written is deciphered as the same: the fields.
 use Rattle.std.proofs.Common.{◌≡◌, ◌≢◌, ℕ, ◌+◌, ◌-◌, ◌/◌, ◌%◌, ◌^◌, ◌<◌, ◌≤◌, List, [], ◌∷◌, ◌++◌, length, Bool, true, false, cond, eqb, ltb, leb, ◌&&◌, ◌||◌, Option, Some, None, refl, sym, ap, ◌∙◌, append-nil, lit<, lit≤, arith, inl, inr}
-use Rattle.std.specs.Prelude.{slice_get, is_some, IfSome}
+use Rattle.std.specs.Prelude.{slice_get, is_some, IfSome, option_and_then}
 use Rattle.std.specs.List.{list_any, AllByRecursion}
 use Rattle.std.proofs.lemmas.Bool.{cases_Bool, cases_lt, lt-ltb, le-ltb, le-leb, leb-true, and_parts, cond-true, cond-false, true≢false}
 use Rattle.ox_runestone.specs.declared.stone.RuneId.{RuneId}
@@ -13,6 +13,7 @@ use Rattle.ox_runestone.specs.declared.stone.Edict.{Edict}
 use Rattle.ox_runestone.specs.declared.stone.Artifact.TheVariants.{Stone}
 use Rattle.ox_runestone.specs.Artifact.{mint_in, are_flawed, artifact_from, of_message, artifact_of}
 use Rattle.ox_runestone.proofs.PayloadReadsBack.{id_back, payload_back, integers_back, message_back, edicts_back}
+use Rattle.ox_runestone.specs.Payload.{integers_of}
 use Rattle.ox_runestone.proofs.ArtifactFromFields.{speaks}
 use Rattle.ox_runestone.proofs.EvenTagsLeft.{leaves_tag}
 use Rattle.ox_runestone.specs.Spelling.{pair, terms_pairs, flags_for, etching_pairs, mint_pairs, fields_of, tags_and_values, deltas, body_for, integers_for, payload_for, Spells, IsId, AreTerms, IsEtching, IsEdict, CanCome, DontFall}
@@ -533,7 +534,7 @@ artifact_back script stone outputs few can rising spells =
     let integers = integers_back (integers_for stone) (integers_small stone outputs few can) in
     let message = message_back (fields_of stone) stone.edicts (tags_of (fields_of stone) (fields_small stone outputs few can)) in
     let edicts = edicts_back outputs stone.edicts can.edicts rising in
-    sym (speaks script (payload_for stone) (integers_for stone) outputs payload integers)
+    sym (speaks script (integers_for stone) outputs (ap (option_and_then integers_of) payload ∙ integers))
     ∙ ap (of_message outputs) message
     ∙ ap (artifact_from outputs (fields_of stone) false) edicts
     ∙ artifact_from_back (fields_of stone) stone outputs (fields_back stone outputs can)

@@ -1,5 +1,7 @@
 -- The loops that join pushes and read integers.
 use Rattle.std.proofs.Common.{◌≡◌, ℕ, zero, suc, ◌-◌, ◌<◌, List, [], ◌∷◌, ◌++◌, length, drop, Bool, true, false, cond, ◌≢◌, Option, Some, None, Ok, Err, refl, sym, ap, ◌∙◌, append_assoc, append-nil, arith}
+use Rattle.std.specs.Prelude.{is_some}
+use Rattle.std.proofs.lemmas.Bool.{true≢false}
 use Rattle.std.proofs.lemmas.List.{drop-drop, nil_from_length}
 use Rattle.ox_script.specs.declared.instructions.Item.{Item}
 use Rattle.ox_script.specs.Script.{Push, Op, Reading, GivesItem, items_of, is_cut}
@@ -62,6 +64,18 @@ unfolding payload_of
 joins_all script payload items joins left whole =
     let all : Some (payload ++ []) ≡ joined_pushes (drop 2 (items_of script)) = sym (ap (λ i. before payload (joined_pushes i)) left) ∙ joins.all in
     rw whole (ap Some (sym (append-nil payload)) ∙ all)
+
+-- where no item is given, the end is met
+end_met : (old : Reading) (item : Option Item) (new : Reading) → is_some item ≡ false → GivesItem old item new → (old.left ≡ []) × (new.met_cut ≡ old.ends_cut)
+end_met old None new none gives = (gives.0, gives.3)
+end_met old (Some item) new none gives = absurd (true≢false none)
+
+-- a push behind the first two items, and nothing else
+pub pushed_alone : (script bytes : List ℕ) (start one two three four : Reading) (a b d : Option Item) → start.left ≡ items_of script → start.ends_cut ≡ is_cut script → GivesItem start a one → GivesItem one b two → two.left ≡ Push bytes ∷ three.left → three.ends_cut ≡ two.ends_cut → GivesItem three d four → is_some d ≡ false → four.met_cut ≡ false → payload_of script ≡ Some bytes
+pushed_alone script bytes start one two three four a b d left ends first second push same last none whole =
+    let joins = joins_push script [] bytes two three (joins_none script two (after_two script start one two a b left ends first second)) push same in
+    let end = end_met three d four none last in
+    sym (joins_all script bytes three joins end.0 (sym joins.ends ∙ sym end.1 ∙ whole))
 
 -- ---- integers
 

@@ -11,7 +11,7 @@ ghost use Rattle.ox_runestone.specs.FieldsKept.{IsCenotaphOf, IsArtifactOf, Says
 
 use crate::fields::overflows;
 use crate::message::{Fields, edicts_of, message_of};
-use crate::payload::{integers_of, payload_of};
+use crate::payload::integers_in;
 use crate::stone::{Artifact, Edict, Edicts, Etching, Runestone};
 use ox_bytes::Memory;
 use std::alloc::Global;
@@ -88,10 +88,7 @@ pub fn decipher(alloc: Global, script: &[u8], outputs: u32) -> Result<Artifact, 
     ensures possible { IfOk result (StoneCanCome outputs) }
     ensures rising { IfOk result EdictsDontFall }
 {
-    let Some(payload) = payload_of(alloc, script)? else {
-        return Ok(SILENT);
-    };
-    let Some(integers) = integers_of(alloc, payload.as_slice())? else {
+    let Some(integers) = integers_in(alloc, script)? else {
         return Ok(SILENT);
     };
     let message = message_of(integers.as_slice());

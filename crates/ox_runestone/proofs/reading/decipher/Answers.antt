@@ -1,39 +1,31 @@
 use Rattle.std.proofs.Common.{ap, subst, sym, ◌∙◌}
 use Rattle.std.specs.Option.{option_map}
-use Rattle.ox_runestone.specs.Payload.{integers_of}
 use Rattle.ox_runestone.specs.Message.{message_of, edicts_of}
 use Rattle.ox_runestone.specs.Artifact.{artifact_from, of_message}
-use Rattle.ox_runestone.proofs.ArtifactFromFields.{silent_payload, silent_integers, speaks}
+use Rattle.ox_runestone.proofs.ArtifactFromFields.{silent, speaks}
 use Rattle.ox_runestone.proofs.ArtifactCanCome.{artifact_can}
 use Rattle.ox_runestone.proofs.EdictIdsDontFall.{rising_of}
 use Rattle.ox_runestone.specs.Spelling.{EdictsDontFall}
 use Rattle.ox_runestone.proofs.reading.decipher.Goals as goal
 
 pub returns-in_default-clause-exact : goal.returns-in_default-clause-exact
-returns-in_default-clause-exact c = silent_payload c.args.script.now c.args.outputs (sym c.in_ok-payload.ensures ∙ ap (option_map (λ v. v.items)) c.in_default.is)
-
-pub returns-in_default-2-clause-exact : goal.returns-in_default-2-clause-exact
-returns-in_default-2-clause-exact c =
-    silent_integers c.args.script.now c.in-Some.payload.items c.args.outputs
-    (sym c.in_ok-payload.ensures ∙ ap (option_map (λ v. v.items)) c.in-Some.is)
-    (ap integers_of (sym c.as_slice.ensures.value) ∙ sym c.in_ok-integers.ensures ∙ ap (option_map (λ v. v.items)) c.in_default-2.is)
+returns-in_default-clause-exact c = silent c.args.script.now c.args.outputs (sym c.in_ok-integers.ensures ∙ ap (option_map (λ v. v.items)) c.in_default.is)
 
 pub returns-clause-exact : goal.returns-clause-exact
 returns-clause-exact c =
-    c.judge.ensures (message_of c.as_slice-2.result.now).fields c.message_of-message.ensures.fields
-    ∙ ap (λ l. artifact_from c.args.outputs (message_of c.as_slice-2.result.now).fields l (option_map (λ v. v.items) c.in_ok-edicts.edicts)) c.message_of-message.ensures.lone
-    ∙ ap (artifact_from c.args.outputs (message_of c.as_slice-2.result.now).fields (message_of c.as_slice-2.result.now).lone) (c.in_ok-edicts.ensures ∙ ap (edicts_of c.args.outputs) c.message_of-message.ensures.body)
-    ∙ ap (λ i. of_message c.args.outputs (message_of i)) c.as_slice-2.ensures.value
-    ∙ speaks c.args.script.now c.in-Some.payload.items c.in-Some-2.integers.items c.args.outputs
-    (sym c.in_ok-payload.ensures ∙ ap (option_map (λ v. v.items)) c.in-Some.is)
-    (ap integers_of (sym c.as_slice.ensures.value) ∙ sym c.in_ok-integers.ensures ∙ ap (option_map (λ v. v.items)) c.in-Some-2.is)
+    c.judge.ensures (message_of c.as_slice.result.now).fields c.message_of-message.ensures.fields
+    ∙ ap (λ l. artifact_from c.args.outputs (message_of c.as_slice.result.now).fields l (option_map (λ v. v.items) c.in_ok-edicts.edicts)) c.message_of-message.ensures.lone
+    ∙ ap (artifact_from c.args.outputs (message_of c.as_slice.result.now).fields (message_of c.as_slice.result.now).lone) (c.in_ok-edicts.ensures ∙ ap (edicts_of c.args.outputs) c.message_of-message.ensures.body)
+    ∙ ap (λ i. of_message c.args.outputs (message_of i)) c.as_slice.ensures.value
+    ∙ speaks c.args.script.now c.in-Some.integers.items c.args.outputs
+    (sym c.in_ok-integers.ensures ∙ ap (option_map (λ v. v.items)) c.in-Some.is)
 
 pub returns-clause-possible : goal.returns-clause-possible
 returns-clause-possible c =
-    artifact_can c.args.outputs c.as_slice-2.result.now c.judge.result c.message_of-message.ensures.small
-    (c.judge.ensures (message_of c.as_slice-2.result.now).fields c.message_of-message.ensures.fields
-    ∙ ap (λ l. artifact_from c.args.outputs (message_of c.as_slice-2.result.now).fields l (option_map (λ v. v.items) c.in_ok-edicts.edicts)) c.message_of-message.ensures.lone
-    ∙ ap (artifact_from c.args.outputs (message_of c.as_slice-2.result.now).fields (message_of c.as_slice-2.result.now).lone) (c.in_ok-edicts.ensures ∙ ap (edicts_of c.args.outputs) c.message_of-message.ensures.body))
+    artifact_can c.args.outputs c.as_slice.result.now c.judge.result c.message_of-message.ensures.small
+    (c.judge.ensures (message_of c.as_slice.result.now).fields c.message_of-message.ensures.fields
+    ∙ ap (λ l. artifact_from c.args.outputs (message_of c.as_slice.result.now).fields l (option_map (λ v. v.items) c.in_ok-edicts.edicts)) c.message_of-message.ensures.lone
+    ∙ ap (artifact_from c.args.outputs (message_of c.as_slice.result.now).fields (message_of c.as_slice.result.now).lone) (c.in_ok-edicts.ensures ∙ ap (edicts_of c.args.outputs) c.message_of-message.ensures.body))
 
 pub returns-clause-rising : goal.returns-clause-rising
 returns-clause-rising c = subst EdictsDontFall (sym (returns-clause-exact c)) (rising_of c.args.script.now c.args.outputs)
