@@ -8,10 +8,10 @@ use Rattle.ox_runestone.specs.declared.stone.Edict.{Edict}
 use Rattle.ox_runestone.specs.declared.stone.Artifact.TheVariants.{Stone, Cenotaph}
 use Rattle.ox_runestone.specs.Payload.{payload_of, integers_of}
 use Rattle.ox_runestone.specs.Message.{Field, message_of}
-use Rattle.ox_runestone.specs.ValuesKept.{values_at, IsKeptOf}
-use Rattle.ox_runestone.specs.Fields.{first_of, field_of, mint_of, etching_of, has_strange_flag, leaves_even, overflows}
+use Rattle.ox_runestone.specs.ValuesKept.{IsKeptOf}
+use Rattle.ox_runestone.specs.Fields.{first_of, field_of, etching_of, has_strange_flag, leaves_even, overflows}
 use Rattle.ox_runestone.specs.Artifact.{mint_in, are_flawed, cenotaph_of, artifact_from, of_message, of_integers, artifact_of}
-use Rattle.ox_runestone.specs.FieldsKept.{firsts_in}
+use Rattle.ox_runestone.specs.FieldsKept.{firsts_in, mint_kept}
 use Rattle.ox_runestone.proofs.EvenTagsLeft.{strange-same, etching-same, mint-same, field-same}
 
 or_true : (b : Bool) → (b || true) ≡ true
@@ -46,7 +46,7 @@ artifact_from_flawed outputs list lone edicts some is whole flawed =
 stone-parts : (e e' : Option Etching) (m m' : Option RuneId) (p p' : Option ℕ) (d d' : List Edict) → e ≡ e' → m ≡ m' → p ≡ p' → d ≡ d' → Stone (record { etching = e; mint = m; pointer = p; edicts = d }) ≡ Stone (record { etching = e'; mint = m'; pointer = p'; edicts = d' })
 stone-parts e e' m m' p p' d d' x y z w = cc
 
-pub artifact_from_stone : (fields : Fields) (outputs : ℕ) (list : List Field) (lone : Bool) (edicts : Option (List Edict)) (some all : List Edict) → edicts ≡ Some some → all ≡ some → lone ≡ false → are_flawed outputs list ≡ false → IsKeptOf fields list → Stone (record { etching = etching_of (firsts_in fields); mint = mint_of (values_at fields 20).first (values_at fields 20).second; pointer = field_of (firsts_in fields) outputs 22; edicts = all }) ≡ artifact_from outputs list lone edicts
+pub artifact_from_stone : (fields : Fields) (outputs : ℕ) (list : List Field) (lone : Bool) (edicts : Option (List Edict)) (some all : List Edict) → edicts ≡ Some some → all ≡ some → lone ≡ false → are_flawed outputs list ≡ false → IsKeptOf fields list → Stone (record { etching = etching_of (firsts_in fields); mint = mint_kept fields; pointer = field_of (firsts_in fields) outputs 22; edicts = all }) ≡ artifact_from outputs list lone edicts
 artifact_from_stone fields outputs list lone edicts some all is all-is whole sound h =
     stone-parts _ _ _ _ _ _ _ _ (etching-same fields list h) (mint-same fields list h) (field-same fields list outputs 22 h (lit< tt)) all-is
     ∙ sym (ap (λ b. artifact_from outputs list b edicts) whole ∙ ap (artifact_from outputs list false) is ∙ rw sound refl)

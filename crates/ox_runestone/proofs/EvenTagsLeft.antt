@@ -1,15 +1,15 @@
 -- Values of even tags that aren't taken: by a list of tags and values, and by what is kept of it.
-use Rattle.std.proofs.Common.{◌≡◌, ◌≢◌, ℕ, zero, suc, ◌*◌, ◌/◌, ◌%◌, ◌<◌, ◌≤◌, List, [], ◌∷◌, length, Bool, true, false, cond, eqb, ltb, leb, ◌&&◌, ◌||◌, Option, Some, None, refl, sym, ap, subst, ◌∙◌, lit<, arith, inl, inr}
-use Rattle.std.specs.Prelude.{is_some}
+use Rattle.std.proofs.Common.{◌≡◌, ◌≢◌, ℕ, ◌*◌, ◌/◌, ◌%◌, ◌<◌, ◌≤◌, List, [], ◌∷◌, length, Bool, true, false, cond, eqb, ltb, leb, ◌&&◌, ◌||◌, Option, Some, None, refl, sym, ap, subst, ◌∙◌, lit<, arith, inl, inr}
+use Rattle.std.specs.Prelude.{is_some, slice_get}
 use Rattle.std.specs.List.{list_any}
 use Rattle.std.proofs.lemmas.Bool.{cases_lt, cases_eq, cases_Bool, lt-ltb, le-leb, eq-eqb, ne_eqb, eqb-true, and_parts, leb-true, ltb-true, cond_both, true≢false, false≢true}
 use Rattle.ox_runestone.specs.declared.message.Values.{Values}
 use Rattle.ox_runestone.specs.declared.message.Fields.{Fields}
 use Rattle.ox_runestone.specs.declared.stone.RuneId.{RuneId}
 use Rattle.ox_runestone.specs.Message.{Field, values}
-use Rattle.ox_runestone.specs.ValuesKept.{values_kept, values_at, leaves_in, is_strange, IsKeptOf}
+use Rattle.ox_runestone.specs.ValuesKept.{values_kept, first_kept, second_kept, values_at, leaves_in, is_strange, IsKeptOf}
 use Rattle.ox_runestone.specs.Fields.{Firsts, first_of, takes, only, taken_of, field_of, mint_of, count_taken, leaves_even, etching_of, has_strange_flag, is_etching, has_terms, is_turbo}
-use Rattle.ox_runestone.specs.FieldsKept.{firsts_in}
+use Rattle.ox_runestone.specs.FieldsKept.{firsts_in, mint_kept}
 use Rattle.ox_runestone.specs.declared.stone.Terms.{Terms}
 use Rattle.ox_runestone.specs.declared.stone.Etching.{Etching}
 use Rattle.ox_runestone.specs.declared.stone.Artifact.TheVariants.{Cenotaph}
@@ -17,11 +17,26 @@ use Rattle.ox_runestone.specs.Artifact.{mint_in, name_in, cenotaph_of}
 
 -- ---- what is kept, and what it is kept of
 
-pub firsts-same : (fields : Fields) (list : List Field) (tag : ℕ) → IsKeptOf fields list → tag < 23 → firsts_in fields tag ≡ first_of list tag
-firsts-same fields list tag h lt = ap (λ (v : Values). v.first) (h.known tag lt)
+first_kept-is : (list : List ℕ) → first_kept (values_kept list) ≡ slice_get list 0
+first_kept-is [] = refl
+first_kept-is (a ∷ []) = refl
+first_kept-is (a ∷ b ∷ []) = refl
+first_kept-is (a ∷ b ∷ c ∷ list) = refl
 
-pub mint-same : (fields : Fields) (list : List Field) → IsKeptOf fields list → mint_of (values_at fields 20).first (values_at fields 20).second ≡ mint_in list
-mint-same fields list h = ap (λ (v : Values). mint_of v.first v.second) (h.known 20 (lit< tt))
+second_kept-is : (list : List ℕ) → second_kept (values_kept list) ≡ slice_get list 1
+second_kept-is [] = refl
+second_kept-is (a ∷ []) = refl
+second_kept-is (a ∷ b ∷ []) = refl
+second_kept-is (a ∷ b ∷ c ∷ list) = refl
+
+pub firsts-same : (fields : Fields) (list : List Field) (tag : ℕ) → IsKeptOf fields list → tag < 23 → firsts_in fields tag ≡ first_of list tag
+firsts-same fields list tag h lt = ap first_kept (h.known tag lt) ∙ first_kept-is (values list tag)
+
+pub mint-same : (fields : Fields) (list : List Field) → IsKeptOf fields list → mint_kept fields ≡ mint_in list
+mint-same fields list h =
+    ap (λ (v : Values). mint_of (first_kept v) (second_kept v)) (h.known 20 (lit< tt))
+    ∙ ap (λ f. mint_of f (second_kept (values_kept (values list 20)))) (first_kept-is (values list 20))
+    ∙ ap (mint_of (slice_get (values list 20) 0)) (second_kept-is (values list 20))
 
 takes-same : (fields : Fields) (list : List Field) (outputs tag value : ℕ) → IsKeptOf fields list → takes (firsts_in fields) outputs tag value ≡ takes (first_of list) outputs tag value
 takes-same fields list outputs tag value h = let e = firsts-same fields list 2 h (lit< tt) in rw e refl
@@ -33,19 +48,16 @@ taken-same fields list outputs tag (Some value) h = ap (λ b. only b value) (tak
 pub field-same : (fields : Fields) (list : List Field) (outputs tag : ℕ) → IsKeptOf fields list → tag < 23 → field_of (firsts_in fields) outputs tag ≡ field_of (first_of list) outputs tag
 field-same fields list outputs tag h lt = taken-same fields list outputs tag (firsts_in fields tag) h ∙ ap (taken_of (first_of list) outputs tag) (firsts-same fields list tag h lt)
 
-pub count-same : (fields : Fields) (list : List Field) (outputs tag : ℕ) → IsKeptOf fields list → tag < 23 → count_taken (firsts_in fields) (mint_of (values_at fields 20).first (values_at fields 20).second) outputs tag ≡ count_taken (first_of list) (mint_in list) outputs tag
+pub count-same : (fields : Fields) (list : List Field) (outputs tag : ℕ) → IsKeptOf fields list → tag < 23 → count_taken (firsts_in fields) (mint_kept fields) outputs tag ≡ count_taken (first_of list) (mint_in list) outputs tag
 count-same fields list outputs tag h lt = rw (mint-same fields list h, field-same fields list outputs tag h lt) refl
 
 -- ---- how many values there are
 
 leaves-values_kept : (list : List ℕ) (taken : ℕ) → taken ≤ 2 → leaves_in (values_kept list) taken ≡ ltb taken (length list)
-leaves-values_kept [] zero le = refl
-leaves-values_kept [] (suc zero) le = refl
-leaves-values_kept (a ∷ list) zero le = sym (lt-ltb 0 _ (omega arith))
-leaves-values_kept (a ∷ []) (suc zero) le = refl
-leaves-values_kept (a ∷ b ∷ list) (suc zero) le = sym (lt-ltb 1 _ (omega arith))
-leaves-values_kept list (suc (suc zero)) le = refl
-leaves-values_kept list (suc (suc (suc n))) le = absurd (omega arith)
+leaves-values_kept [] taken le = refl
+leaves-values_kept (a ∷ []) taken le = refl
+leaves-values_kept (a ∷ b ∷ []) taken le = refl
+leaves-values_kept (a ∷ b ∷ c ∷ list) taken le = lt-ltb taken 3 (omega arith) ∙ sym (lt-ltb taken _ (omega arith))
 
 pub leaves-same : (fields : Fields) (list : List Field) (tag taken : ℕ) → IsKeptOf fields list → tag < 23 → taken ≤ 2 → leaves_in (values_at fields tag) taken ≡ ltb taken (length (values list tag))
 leaves-same fields list tag taken h lt le = ap (λ v. leaves_in v taken) (h.known tag lt) ∙ leaves-values_kept (values list tag) taken le
@@ -165,7 +177,7 @@ longer n [] is = absurd (omega (arith, ltb-true n 0 is))
 longer n (a ∷ list) is = omega arith
 
 -- a known tag has more values than are taken
-pub leaves_known : (fields : Fields) (outputs half count : ℕ) (list : List Field) → half < 12 → count ≤ 2 → count ≡ count_taken (firsts_in fields) (mint_of (values_at fields 20).first (values_at fields 20).second) outputs (2 * half) → leaves_in (values_at fields (2 * half)) count ≡ true → IsKeptOf fields list → true ≡ leaves_even (first_of list) (mint_in list) outputs list
+pub leaves_known : (fields : Fields) (outputs half count : ℕ) (list : List Field) → half < 12 → count ≤ 2 → count ≡ count_taken (firsts_in fields) (mint_kept fields) outputs (2 * half) → leaves_in (values_at fields (2 * half)) count ≡ true → IsKeptOf fields list → true ≡ leaves_even (first_of list) (mint_in list) outputs list
 leaves_known fields outputs half count list low small is leaves h =
     let lt : 2 * half < 23 = omega arith in
     let even : 2 * half % 2 ≡ 0 = omega arith in
@@ -177,7 +189,7 @@ leaves_known fields outputs half count list low small is leaves h =
 -- no tag below has more values than are taken
 abbrev pub NoneLeft : Fields → ℕ → ℕ → Type 0
 NoneLeft fields outputs half =
-    (k : ℕ) → k < half → leaves_in (values_at fields (2 * k)) (count_taken (firsts_in fields) (mint_of (values_at fields 20).first (values_at fields 20).second) outputs (2 * k)) ≡ false
+    (k : ℕ) → k < half → leaves_in (values_at fields (2 * k)) (count_taken (firsts_in fields) (mint_kept fields) outputs (2 * k)) ≡ false
 
 pub leaves_none : (fields : Fields) (outputs half : ℕ) (list : List Field) → fields.strange ≡ false → 12 ≤ half → NoneLeft fields outputs half → IsKeptOf fields list → false ≡ leaves_even (first_of list) (mint_in list) outputs list
 leaves_none fields outputs half list strange all none h =
@@ -189,9 +201,9 @@ leaves_none fields outputs half list strange all none h =
                 let k : ℕ = tag / 2 in
                 let zero-rest : tag % 2 ≡ 0 = eqb-true (tag % 2) 0 even in
                 let twice : 2 * (tag / 2) ≡ tag = omega arith in
-                let K : ℕ → Type 0 = λ (t : ℕ). leaves_in (values_at fields t) (count_taken (firsts_in fields) (mint_of (values_at fields 20).first (values_at fields 20).second) outputs t) ≡ false in
+                let K : ℕ → Type 0 = λ (t : ℕ). leaves_in (values_at fields t) (count_taken (firsts_in fields) (mint_kept fields) outputs t) ≡ false in
                 let here : K tag = subst K twice (none (tag / 2) (omega arith)) in
-                let same = leaves-same fields list tag (count_taken (firsts_in fields) (mint_of (values_at fields 20).first (values_at fields 20).second) outputs tag) h low (count-small (firsts_in fields) (mint_of (values_at fields 20).first (values_at fields 20).second) outputs tag) in
+                let same = leaves-same fields list tag (count_taken (firsts_in fields) (mint_kept fields) outputs tag) h low (count-small (firsts_in fields) (mint_kept fields) outputs tag) in
                 let more : ltb (count_taken (first_of list) (mint_in list) outputs tag) (length (values list tag)) ≡ false = ap (λ n. ltb n (length (values list tag))) (sym (count-same fields list outputs tag h low)) ∙ sym same ∙ here in
                 rw (even, more) refl
             | inr high ↦ absurd (true≢false (sym even ∙ no_strange_tag list tag (sym h.strange ∙ strange) high some))
@@ -237,5 +249,5 @@ etching-same fields list h =
 pub strange-same : (fields : Fields) (list : List Field) → IsKeptOf fields list → has_strange_flag (firsts_in fields) ≡ has_strange_flag (first_of list)
 strange-same fields list h = let flags = firsts-same fields list 2 h (lit< tt) in rw flags refl
 
-pub cenotaph-same : (fields : Fields) (list : List Field) → IsKeptOf fields list → Cenotaph (mint_of (values_at fields 20).first (values_at fields 20).second) (name_in (etching_of (firsts_in fields))) ≡ cenotaph_of list
+pub cenotaph-same : (fields : Fields) (list : List Field) → IsKeptOf fields list → Cenotaph (mint_kept fields) (name_in (etching_of (firsts_in fields))) ≡ cenotaph_of list
 cenotaph-same fields list h = ap (λ m. Cenotaph m (name_in (etching_of (firsts_in fields)))) (mint-same fields list h) ∙ ap (λ e. Cenotaph (mint_in list) (name_in e)) (etching-same fields list h)

@@ -1,8 +1,8 @@
 -- The loops over tags and values, and over edicts.
-use Rattle.std.proofs.Common.{◌≡◌, ◌≢◌, ℕ, suc, ◌%◌, ◌<◌, ◌≤◌, List, [], ◌∷◌, ◌++◌, length, drop, get_or, set, Bool, true, false, cond, eqb, ltb, leb, ◌&&◌, ◌||◌, Option, Some, None, refl, sym, ap, subst, ◌∙◌, append_assoc, append-nil, arith, inl, inr}
+use Rattle.std.proofs.Common.{◌≡◌, ◌≢◌, ℕ, ◌%◌, ◌<◌, ◌≤◌, List, [], ◌∷◌, ◌++◌, length, drop, get_or, set, Bool, true, false, cond, eqb, leb, ◌&&◌, ◌||◌, Option, Some, None, refl, sym, ap, subst, ◌∙◌, append_assoc, append-nil, arith, inl, inr}
 use Rattle.std.specs.List.{list_any}
 use Rattle.std.proofs.lemmas.Bool.{cases_lt, cases_eq, cases_Bool, lt-ltb, le-ltb, lt-leb, le-leb, eq-eqb, ne_eqb}
-use Rattle.std.proofs.lemmas.List.{get_or-set_same, get_or-set_other, length-set, length-append}
+use Rattle.std.proofs.lemmas.List.{get_or-set_same, get_or-set_other, length-set}
 use Rattle.ox_runestone.specs.declared.message.Values.{Values}
 use Rattle.ox_runestone.specs.declared.message.Fields.{Fields}
 use Rattle.ox_runestone.specs.declared.stone.RuneId.{RuneId}
@@ -23,9 +23,8 @@ values-append (field ∷ list) own value tag =
 values_kept-push : (list : List ℕ) (value : ℕ) → with_value (values_kept list) value ≡ values_kept (list ++ value ∷ [])
 values_kept-push [] value = refl
 values_kept-push (a ∷ []) value = refl
-values_kept-push (a ∷ b ∷ list) value =
-    let more : ltb 2 (suc (suc (length (list ++ value ∷ [])))) ≡ true = lt-ltb 2 _ (omega (arith, length-append list (value ∷ []))) in
-    rw more refl
+values_kept-push (a ∷ b ∷ []) value = refl
+values_kept-push (a ∷ b ∷ c ∷ list) value = refl
 
 or-last : (b : Bool) → (b || false) ≡ (false || b)
 or-last true = refl

@@ -4,7 +4,7 @@ use Rattle.std.specs.Prelude.{if◌then◌else◌}
 use Rattle.ox_runestone.specs.declared.message.Fields.{Fields}
 use Rattle.ox_runestone.specs.declared.stone.Etching.{Etching}
 use Rattle.ox_runestone.specs.Message.{Field}
-use Rattle.ox_runestone.specs.ValuesKept.{values_at, IsKeptOf}
+use Rattle.ox_runestone.specs.ValuesKept.{first_kept, second_kept, values_at, IsKeptOf}
 use Rattle.ox_runestone.specs.Tags.{mint_tag}
 use Rattle.ox_runestone.specs.declared.stone.RuneId.{RuneId}
 use Rattle.ox_runestone.specs.Fields.{mint_of, Firsts, first_of, mintable, leaves_even}
@@ -14,10 +14,11 @@ use Rattle.ox_runestone.specs.Artifact.{mint_in, are_flawed, cenotaph_of, artifa
 
 -- the mint by the first two values of its tag
 abbrev pub mint_kept : Fields → Option RuneId
-mint_kept fields = mint_of (values_at fields mint_tag).first (values_at fields mint_tag).second
+mint_kept fields =
+    mint_of (first_kept (values_at fields mint_tag)) (second_kept (values_at fields mint_tag))
 
 abbrev pub firsts_in : Fields → Firsts
-firsts_in fields tag = (values_at fields tag).first
+firsts_in fields tag = first_kept (values_at fields tag)
 
 -- what an etching gives in all, if that is an amount
 abbrev pub supply_of : Etching → Option ℕ

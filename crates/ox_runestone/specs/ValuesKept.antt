@@ -1,37 +1,44 @@
 -- What one pass over tags and values keeps of them.
-use Rattle.std.specs.Prelude.{◌≡◌, ℕ, zero, suc, ◌<◌, ◌%◌, Bool, true, List, [], length, Option}
-use Rattle.std.specs.Prelude.{Some, None, is_some, slice_get, slice_index_or, slice_set, ◌==◌}
+use Rattle.std.specs.Prelude.{◌≡◌, ℕ, ◌<◌, ◌%◌, Bool, List, [], ◌∷◌, length, Option}
+use Rattle.std.specs.Prelude.{Some, None, slice_index_or, slice_set, ◌==◌}
 use Rattle.std.specs.Prelude.{◌&&◌, ◌||◌, nat_lt, nat_le, if◌then◌else◌}
 use Rattle.std.specs.List.{list_any}
 use Rattle.ox_runestone.specs.declared.message.Values.{Values}
 use Rattle.ox_runestone.specs.declared.message.Fields.{Fields}
 use Rattle.ox_runestone.specs.Message.{Field, values}
 
+-- how many values there are, at most 3
+abbrev pub count_kept : List ℕ → ℕ
+count_kept [] = 0
+count_kept (first ∷ []) = 1
+count_kept (first ∷ second ∷ []) = 2
+count_kept (first ∷ second ∷ third ∷ rest) = 3
+
 -- what is kept of a list of values
 abbrev pub values_kept : List ℕ → Values
 values_kept list = record {
-  first = slice_get list 0;
-  second = slice_get list 1;
-  more = nat_lt 2 (length list);
+  first = slice_index_or list 0 0;
+  second = slice_index_or list 1 0;
+  count = count_kept list;
 }
 
-abbrev pub with_value_after : Option ℕ → Option ℕ → Bool → ℕ → Values
-with_value_after None second more value =
-    record { first = Some value; second = second; more = more }
-with_value_after (Some first) None more value =
-    record { first = Some first; second = Some value; more = more }
-with_value_after (Some first) (Some second) more value =
-    record { first = Some first; second = Some second; more = true }
+-- the first two values, where there are so many
+abbrev pub first_kept : Values → Option ℕ
+first_kept list = if nat_lt 0 list.count then Some list.first else None
+
+abbrev pub second_kept : Values → Option ℕ
+second_kept list = if nat_lt 1 list.count then Some list.second else None
 
 -- one value more
 abbrev pub with_value : Values → ℕ → Values
-with_value old value = with_value_after old.first old.second old.more value
+with_value old value =
+    if old.count == 0 then record { first = value; second = old.second; count = 1 }
+    else (if old.count == 1 then record { first = old.first; second = value; count = 2 }
+    else record { first = old.first; second = old.second; count = 3 })
 
--- whether there are more values than so many
+-- whether there are more values than so many, which are at most two
 abbrev pub leaves_in : Values → ℕ → Bool
-leaves_in list zero = is_some list.first
-leaves_in list (suc zero) = is_some list.second
-leaves_in list _ = list.more
+leaves_in list taken = nat_lt taken list.count
 
 -- the values of a tag with a field
 abbrev pub values_at : Fields → ℕ → Values

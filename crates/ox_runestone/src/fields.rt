@@ -82,7 +82,7 @@ impl Fields {
         requires { tag < 23 }
         ensures { result ≡ firsts_in self.now tag }
     {
-        self.values[tag].first
+        self.values[tag].first()
     }
 
     fn flags(&self) -> u128
@@ -153,10 +153,10 @@ impl Fields {
 
     /// The rune that is minted.
     pub(crate) fn mint(&self) -> Option<RuneId>
-        ensures { result ≡ mint_of (values_at self.now 20).first (values_at self.now 20).second }
+        ensures { result ≡ mint_kept self.now }
     {
-        let values = self.values[MINT];
-        id_of(values.first?, values.second?)
+        let values = &self.values[MINT];
+        id_of(values.first()?, values.second()?)
     }
 
     /// The output that gets what is left.

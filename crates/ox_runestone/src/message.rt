@@ -3,7 +3,8 @@
 ghost use Rattle.std.specs.Prelude.{◌≡◌, ◌≤◌, ◌<◌, ◌^◌, [], length, All, IfOk};
 ghost use Rattle.std.specs.Option.{option_map};
 ghost use Rattle.ox_runestone.specs.Message.{message_of, id_of, id_after, edicts_of};
-ghost use Rattle.ox_runestone.specs.ValuesKept.{with_value, with_field, leaves_in, IsKeptOf};
+ghost use Rattle.ox_runestone.specs.ValuesKept.{first_kept, second_kept, with_value, with_field};
+ghost use Rattle.ox_runestone.specs.ValuesKept.{leaves_in, IsKeptOf};
 
 use crate::stone::{Edict, RuneId};
 use ox_bytes::Memory;
@@ -12,55 +13,66 @@ use std::alloc::Global;
 /// One more than the greatest tag with a field.
 const TAGS: usize = 23;
 
-/// What is kept of a tag's values: the first two, and whether there are more.
+/// What is kept of a tag's values: the first two, 0 where there is none, and how many there are,
+/// where 3 stands for more than two.
 #[derive(Clone, Copy)]
 pub(crate) struct Values {
-    pub(crate) first: Option<u128>,
-    pub(crate) second: Option<u128>,
-    pub(crate) more: bool,
+    first: u128,
+    second: u128,
+    count: u8,
 }
 
 impl Values {
     /// No value.
     const NONE: Values = Values {
-        first: None,
-        second: None,
-        more: false,
+        first: 0,
+        second: 0,
+        count: 0,
     };
 
-    /// These and another.
-    fn with(self, value: u128) -> Values
-        ensures { result ≡ with_value self value }
+    /// Adds a value.
+    fn add(&mut self, value: u128)
+        ensures { self.new ≡ with_value self.old value }
     {
-        match (self.first, self.second) {
-            (None, _) => Values {
-                first: Some(value),
-                second: self.second,
-                more: self.more,
-            },
-            (_, None) => Values {
-                first: self.first,
-                second: Some(value),
-                more: self.more,
-            },
-            _ => Values {
-                first: self.first,
-                second: self.second,
-                more: true,
-            },
+        if self.count == 0 {
+            self.first = value;
+            self.count = 1;
+        } else if self.count == 1 {
+            self.second = value;
+            self.count = 2;
+        } else {
+            self.count = 3;
+        }
+    }
+
+    /// The first value.
+    pub(crate) fn first(&self) -> Option<u128>
+        ensures { result ≡ first_kept self.now }
+    {
+        if self.count > 0 {
+            Some(self.first)
+        } else {
+            None
+        }
+    }
+
+    /// The second value.
+    pub(crate) fn second(&self) -> Option<u128>
+        ensures { result ≡ second_kept self.now }
+    {
+        if self.count > 1 {
+            Some(self.second)
+        } else {
+            None
         }
     }
 
     /// Whether there are more values than so many, which are at most two.
-    pub(crate) fn outnumber(self, taken: usize) -> bool
+    pub(crate) fn outnumber(&self, taken: usize) -> bool
         requires { taken ≤ 2 }
-        ensures { result ≡ leaves_in self taken }
+        ensures { result ≡ leaves_in self.now taken }
     {
-        match taken {
-            0 => self.first.is_some(),
-            1 => self.second.is_some(),
-            _ => self.more,
-        }
+        self.count as usize > taken
     }
 }
 
@@ -87,8 +99,7 @@ impl Fields {
         ensures { self.new ≡ with_field self.old tag value }
     {
         if tag < TAGS as u128 {
-            let place = tag as usize;
-            self.values[place] = self.values[place].with(value);
+            self.values[tag as usize].add(value);
         } else {
             self.strange = self.strange || tag % 2 == 0;
         }
