@@ -85,7 +85,7 @@ pub(crate) struct Fields {
 
 impl Fields {
     /// No values.
-    fn none() -> Fields
+    pub(crate) fn none() -> Fields
         ensures { IsKeptOf result [] }
     {
         Fields {
@@ -106,40 +106,33 @@ impl Fields {
     }
 }
 
-/// The tags with their values, and what follows them.
+/// What follows the tags with their values.
 #[derive(Drop)]
-pub(crate) struct Message<'a> {
-    /// The tags with their values.
-    pub(crate) fields: Fields,
-    /// Whether a tag without a value follows them.
+pub(crate) struct Rest<'a> {
+    /// Whether a tag without a value does.
     pub(crate) lone: bool,
     /// What follows the tag 0.
     pub(crate) body: &'a [u128],
 }
 
-/// Reads tags and values in turn, up to the tag 0.
-pub(crate) fn message_of(integers: &[u128]) -> Message<'_>
-    ensures fields { IsKeptOf result.fields (message_of integers.now).fields }
+/// Reads tags and values in turn, up to the tag 0, into fields that have no values.
+pub(crate) fn read_message<'a>(fields: &mut Fields, integers: &'a [u128]) -> Rest<'a>
+    requires { IsKeptOf fields.old [] }
+    ensures fields { IsKeptOf fields.new (message_of integers.now).fields }
     ensures lone { result.lone ≡ (message_of integers.now).lone }
     ensures body { result.body.now ≡ (message_of integers.now).body }
     ensures small { All (λ n. n < 2 ^ 128) integers.now }
 {
-    let mut fields = Fields::none();
     let mut rest = integers;
     while let [tag, value, behind @ ..] = rest {
         if *tag == 0 {
             let (_, body) = rest.split_at(1);
-            return Message {
-                fields,
-                lone: false,
-                body,
-            };
+            return Rest { lone: false, body };
         }
         fields.add(*tag, *value);
         rest = behind;
     }
-    Message {
-        fields,
+    Rest {
         lone: is_tag(rest),
         body: &[],
     }

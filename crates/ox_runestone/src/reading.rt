@@ -10,7 +10,7 @@ ghost use Rattle.ox_runestone.specs.Spelling.{EdictsDontFall, StoneCanCome};
 ghost use Rattle.ox_runestone.specs.FieldsKept.{IsCenotaphOf, IsArtifactOf, SaysWhetherFlawed};
 
 use crate::fields::overflows;
-use crate::message::{Fields, edicts_of, message_of};
+use crate::message::{Fields, edicts_of, read_message};
 use crate::payload::integers_in;
 use crate::stone::{Artifact, Edict, Edicts, Etching, Runestone};
 use ox_bytes::Memory;
@@ -91,7 +91,8 @@ pub fn decipher(alloc: Global, script: &[u8], outputs: u32) -> Result<Artifact, 
     let Some(integers) = integers_in(alloc, script)? else {
         return Ok(SILENT);
     };
-    let message = message_of(integers.as_slice());
-    let edicts = edicts_of(alloc, outputs, message.body)?;
-    Ok(judge(&message.fields, message.lone, edicts, outputs))
+    let mut fields = Fields::none();
+    let rest = read_message(&mut fields, integers.as_slice());
+    let edicts = edicts_of(alloc, outputs, rest.body)?;
+    Ok(judge(&fields, rest.lone, edicts, outputs))
 }

@@ -2,10 +2,10 @@ use Rattle.std.proofs.lemmas.List.Elements.{All-from_get_or}
 use Rattle.std.proofs.Common.{◌<◌, ◌^◌, ◌∙◌, arith}
 use Rattle.std.proofs.lemmas.List.{take_rest}
 use Rattle.ox_runestone.proofs.MessageLoops.{passed_none, passed_more, ends_at_body, ends_at_end}
-use Rattle.ox_runestone.proofs.message.message_of.Goals as goal
+use Rattle.ox_runestone.proofs.message.read_message.Goals as goal
 
 pub loop-rest-init : goal.loop-rest-init
-loop-rest-init c = passed_none c.args.integers.now c.none-fields.result c.none-fields.ensures
+loop-rest-init c = passed_none c.args.integers.now c.args.fields.now c.requires
 
 pub loop-rest-preserved : goal.loop-rest-preserved
 loop-rest-preserved c = rw c.add.ensures (passed_more c.args.integers.now c.loop-rest.rest.now _ c.loop-rest.fields c.loop-rest.invariant (omega arith) (omega arith) (take_rest c.loop-rest.rest.now 2))

@@ -1,6 +1,6 @@
 use Rattle.std.proofs.Common.{length}
 use Rattle.ox_runestone.proofs.MessageLoops.{Passed}
-use Rattle.ox_runestone.proofs.message.message_of.Given as goal
+use Rattle.ox_runestone.proofs.message.read_message.Given as goal
 
 abbrev pub invariant-loop-rest : goal.invariant-loop-rest
 invariant-loop-rest l = Passed l.integers l.rest l.fields
