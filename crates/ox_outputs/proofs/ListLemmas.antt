@@ -1,29 +1,32 @@
 -- Lists of places: what an entry more, and places fewer, leave.
-use Rattle.std.proofs.Common.{rules, tests, ◌≡◌, ◌≢◌, ◌∙◌, ℕ, zero, suc, ◌<◌, Bool, true, false, cond, List, [], ◌∷◌, ◌++◌, length, get_or, slice_set, refl, sym, ap, inl, inr, ⊎_elim, arith}
-use Rattle.std.specs.Prelude.{◌⊎◌, ◌==◌, ◌&&◌, ◌||◌, not}
-use Rattle.std.specs.Global.{Vec}
-use Rattle.std.proofs.lemmas.Bool.{cases_eq}
+use Rattle.std.proofs.Common.{rules, tests, ◌≡◌, ◌≢◌, ◌∙◌, ℕ, zero, suc, ◌+◌, ◌-◌, ◌<◌, ◌≤◌, Bool, true, false, List, [], ◌∷◌, ◌++◌, length, get_or, slice_set, swap_remove, refl, sym, ap, inl, inr, ⊎_elim, arith}
+use Rattle.std.specs.Prelude.{◌⊎◌, ◌==◌, ◌&&◌, ◌||◌}
+use Rattle.smallvec.specs.SmallVec.{SmallVec}
+use Rattle.std.proofs.lemmas.Bool.{cases_eq, ne_eqb}
+use Rattle.std.proofs.lemmas.Grind.{get_or-set_at}
+use Rattle.std.proofs.lemmas.List.{get_or-take, get_or-set_other}
+use Rattle.std.proofs.lemmas.List.Sorted.{IsPermutation-swap_remove, list_any-IsPermutation}
 use Rattle.ox_outputs.specs.declared.entry.Entry.{Entry}
-use Rattle.ox_outputs.specs.Lists.{items_at, is_in, without}
+use Rattle.ox_outputs.specs.Lists.{items_at, is_in}
 
 -- ---- many lists
 
 -- the list that has changed, and another one
-pub set_here : (lists : List (Vec Entry)) (i : ℕ) (v : Vec Entry) → i < length lists → items_at (slice_set lists i v) i ≡ v.items
+pub set_here : (lists : List (SmallVec Entry)) (i : ℕ) (v : SmallVec Entry) → i < length lists → items_at (slice_set lists i v) i ≡ v.items
 set_here [] i v low = absurd (omega arith)
 set_here (l ∷ lists) zero v low = refl
 set_here (l ∷ lists) (suc i) v low = set_here lists i v (omega arith)
 
-pub set_elsewhere : (lists : List (Vec Entry)) (i j : ℕ) (v : Vec Entry) → i ≢ j → items_at (slice_set lists i v) j ≡ items_at lists j
+pub set_elsewhere : (lists : List (SmallVec Entry)) (i j : ℕ) (v : SmallVec Entry) → i ≢ j → items_at (slice_set lists i v) j ≡ items_at lists j
 set_elsewhere [] i j v other = refl
 set_elsewhere (l ∷ lists) zero zero v other = absurd (other refl)
 set_elsewhere (l ∷ lists) zero (suc j) v other = refl
 set_elsewhere (l ∷ lists) (suc i) zero v other = refl
 set_elsewhere (l ∷ lists) (suc i) (suc j) v other = set_elsewhere lists i j v (λ same. other (ap suc same))
 
-pub items_there : (lists : List (Vec Entry)) (i : ℕ) (v : Vec Entry) → i < length lists → v ≡ get_or lists i v → items_at lists i ≡ v.items
+pub items_there : (lists : List (SmallVec Entry)) (i : ℕ) (v : SmallVec Entry) → i < length lists → v ≡ get_or lists i v → items_at lists i ≡ v.items
 items_there [] i v low is = absurd (omega arith)
-items_there (l ∷ lists) zero v low is = ap (λ (v : Vec Entry). v.items) (sym is)
+items_there (l ∷ lists) zero v low is = ap (λ (v : SmallVec Entry). v.items) (sym is)
 items_there (l ∷ lists) (suc i) v low is = items_there lists i v (omega arith) is
 
 -- ---- one list
@@ -67,28 +70,6 @@ still_in (x ∷ list) e tag place is = ⊎_elim
     (λ behind. in_either _ _ (still_in list e tag place behind))
     (either _ _ is)
 
-without_first : (e : Entry) (list : List Entry) (tag place other : ℕ) (b : Bool) → (e.place == place) ≡ b → is_in (without place (e ∷ list)) tag other ≡ is_in (cond (not b) (e ∷ without place list) (without place list)) tag other
-without_first e list tag place other b test = ap (λ (b : Bool). is_in (cond (not b) (e ∷ without place list) (without place list)) tag other) test
-
--- a place that is taken out isn't there
-pub filtered_out : (list : List Entry) (tag place : ℕ) → is_in (without place list) tag place ≡ false
-filtered_out [] tag place = refl
-filtered_out (e ∷ list) tag place = by_test (e.place == place) refl (filtered_out list tag place) where
-  by_test : (b : Bool) → (e.place == place) ≡ b → is_in (without place list) tag place ≡ false → is_in (without place (e ∷ list)) tag place ≡ false
-  by_test true test rest = without_first e list tag place place true test ∙ rest
-  by_test false test rest = without_first e list tag place place false test ∙ neither _ _ (right_false _ _ test) rest
-
--- and the others still are
-pub filtered_in : (list : List Entry) (tag place other : ℕ) → other ≢ place → is_in list tag other ≡ true → is_in (without place list) tag other ≡ true
-filtered_in [] tag place other differs is = is
-filtered_in (e ∷ list) tag place other differs is = by_test (e.place == place) refl (either _ _ is) (filtered_in list tag place other differs) where
-  by_test : (b : Bool) → (e.place == place) ≡ b → (((e.tag == tag) && (e.place == other)) ≡ true) ⊎ (is_in list tag other ≡ true)
-      → (is_in list tag other ≡ true → is_in (without place list) tag other ≡ true) → is_in (without place (e ∷ list)) tag other ≡ true
-  by_test true test (inl here) rest = absurd (differs (sym (same_number e.place other (both _ _ here).1) ∙ same_number e.place place test))
-  by_test true test (inr behind) rest = without_first e list tag place other true test ∙ rest behind
-  by_test false test (inl here) rest = without_first e list tag place other false test ∙ ap (λ (a : Bool). a || is_in (without place list) tag other) here
-  by_test false test (inr behind) rest = without_first e list tag place other false test ∙ in_either _ _ (rest behind)
-
 -- where an entry stands
 pub stands_at : (list : List Entry) (tag place : ℕ) → is_in list tag place ≡ true → (k : ℕ) × (k < length list) × ((d : Entry) → ((get_or list k d).tag ≡ tag) × ((get_or list k d).place ≡ place))
 stands_at [] tag place is = absurd (cc is)
@@ -97,10 +78,44 @@ stands_at (e ∷ list) tag place is = ⊎_elim
     (λ behind. let at = stands_at list tag place behind in (suc at.0, omega (arith, at.1), at.2))
     (either _ _ is)
 
+-- entries of other places than one, from a number on
+abbrev pub AreOthers : ℕ → ℕ → List Entry → Type 0
+AreOthers place from list = (k : ℕ) (d : Entry) → from ≤ k → k < length list → (get_or list k d).place ≢ place
+
+-- an entry goes, and the last one, which is of another place, comes to where it was
+pub others_less : (list new : List Entry) (place from i : ℕ) (x : Entry) → from ≤ i + 1 → i < length list → length new + 1 ≡ length list → new ≡ swap_remove list i x → AreOthers place from list → AreOthers place i new
+others_less list new place from i x next within less is others k d low high here =
+    let last : ℕ = length list - 1 in
+    let set = slice_set list i (get_or list last x) in
+    let at : get_or new k d ≡ get_or set k d = ap (λ (l : List Entry). get_or l k d) is ∙ get_or-take last set k d (omega (arith, less, high)) in
+    ⊎_elim
+    (λ same. others last x (omega (arith, next, less, low, high)) (omega (arith, within))
+    (ap (λ (e : Entry). e.place) (sym (at ∙ get_or-set_at list i k (get_or list last x) d same within)) ∙ here))
+    (λ other. others k d (omega (arith, next, low, other)) (omega (arith, less, high))
+    (ap (λ (e : Entry). e.place) (sym (at ∙ get_or-set_other list i k (get_or list last x) d other)) ∙ here))
+    (cases_eq k i)
+
+-- and no entry of a further place goes with it
+pub left_in : (list new : List Entry) (place i : ℕ) (x : Entry) (tag other : ℕ) → i < length list → x ≡ get_or list i x → x.place ≡ place → new ≡ swap_remove list i x → other ≢ place → is_in new tag other ≡ is_in list tag other
+left_in list new place i x tag other within at here is differs =
+    ap (λ (l : List Entry). is_in l tag other) is
+    ∙ sym (ap (λ (b : Bool). b || is_in (swap_remove list i x) tag other) (right_false (x.tag == tag) (x.place == other) (ne_eqb x.place other (λ same. differs (sym same ∙ here)))))
+    ∙ sym (list_any-IsPermutation (λ (e : Entry). (e.tag == tag) && (e.place == other)) list (x ∷ swap_remove list i x) (IsPermutation-swap_remove list i x within at))
+
+-- a place of which no entry is left isn't there
+pub others_out : (list : List Entry) (place tag : ℕ) → AreOthers place 0 list → is_in list tag place ≡ false
+others_out list place tag others = by_test (is_in list tag place) refl where
+  by_test : (b : Bool) → is_in list tag place ≡ b → is_in list tag place ≡ false
+  by_test false is = is
+  by_test true is =
+      let at = stands_at list tag place is in
+      let e : Entry = record { tag = 0; place = 0 } in
+      absurd (others at.0 e (omega arith) at.1 (at.2 e).1)
+
 -- ---- one of many lists
 
 -- an entry more in one list: it is there
-pub pushed_here : (lists : List (Vec Entry)) (i j : ℕ) (old : List Entry) (v : Vec Entry) (e tag place : ℕ) → i < length lists → i ≡ j → e ≡ tag → v.items ≡ old ++ record { tag = e; place = place } ∷ []
+pub pushed_here : (lists : List (SmallVec Entry)) (i j : ℕ) (old : List Entry) (v : SmallVec Entry) (e tag place : ℕ) → i < length lists → i ≡ j → e ≡ tag → v.items ≡ old ++ record { tag = e; place = place } ∷ []
     → is_in (items_at (slice_set lists i v) j) tag place ≡ true
 pushed_here lists i j old v e tag place low is tagged items =
     ap (λ (l : List Entry). is_in l tag place)
@@ -108,7 +123,7 @@ pushed_here lists i j old v e tag place low is tagged items =
     ∙ added_is_in old tag place
 
 -- and the others still are
-pub pushed_still : (lists : List (Vec Entry)) (i j : ℕ) (x v : Vec Entry) (e : Entry) (tag place : ℕ) → i < length lists → x ≡ get_or lists i x → v.items ≡ x.items ++ e ∷ []
+pub pushed_still : (lists : List (SmallVec Entry)) (i j : ℕ) (x v : SmallVec Entry) (e : Entry) (tag place : ℕ) → i < length lists → x ≡ get_or lists i x → v.items ≡ x.items ++ e ∷ []
     → is_in (items_at lists j) tag place ≡ true → is_in (items_at (slice_set lists i v) j) tag place ≡ true
 pushed_still lists i j x v e tag place low there items is = ⊎_elim
     (λ same.
@@ -118,7 +133,7 @@ pushed_still lists i j x v e tag place low there items is = ⊎_elim
     (cases_eq i j)
 
 -- a list that is written back as it was
-pub set_again : (lists : List (Vec Entry)) (i j : ℕ) (x : Vec Entry) → i < length lists → x ≡ get_or lists i x → items_at (slice_set lists i x) j ≡ items_at lists j
+pub set_again : (lists : List (SmallVec Entry)) (i j : ℕ) (x : SmallVec Entry) → i < length lists → x ≡ get_or lists i x → items_at (slice_set lists i x) j ≡ items_at lists j
 set_again lists i j x low there = ⊎_elim
     (λ same. ap (items_at (slice_set lists i x)) (sym same) ∙ set_here lists i x low ∙ sym (items_there lists i x low there) ∙ ap (items_at lists) same)
     (λ other. set_elsewhere lists i j x other)

@@ -1,11 +1,11 @@
 //! The places of slots, by outpoint.
 
 ghost use Rattle.std.specs.Prelude.{◌≡◌, ◌≢◌, ◌⊎◌, ℕ, Some, None, IfSome, IfNone, OnOk, OnErr};
-ghost use Rattle.std.specs.Prelude.{true, if◌then◌else◌, length};
+ghost use Rattle.std.specs.Prelude.{true, false, if◌then◌else◌, length};
 ghost use Rattle.std.specs.BTreeMap.{is_at};
 ghost use Rattle.ox_rules.specs.Outputs.{outpoint_cmp};
 ghost use Rattle.ox_block.specs.declared.block.OutPoint.{OutPoint};
-ghost use Rattle.ox_outputs.specs.Lists.{tag, items_at, is_in, without, NoneOrAll};
+ghost use Rattle.ox_outputs.specs.Lists.{tag, items_at, is_in, NoneOrAll};
 ghost use Rattle.ox_outputs.specs.Slots.{outpoint_at};
 
 use crate::entry::Entry;
@@ -13,22 +13,31 @@ use crate::held::{Held, is_slot_of};
 use ox_block::OutPoint;
 use ox_rules::Memory;
 use ox_shards::Sharded;
+use smallvec::SmallVec;
 use std::alloc::Global;
 use std::collections::BTreeMap;
 
 /// So many places stand in one list at most.
 const MOST: usize = 1_024;
 
+/// So many places stand in the list itself; further ones move all into memory of their own.
+const INSIDE: usize = 2;
+
+/// Places with a part of their outpoints.
+type List = SmallVec<Entry, INSIDE>;
+
 /// The places of slots, in as many lists as there are shards of outpoints. The outpoints stand in
 /// the slots alone: a look-up goes through the tags of one list, and to the slot whose tag is the
 /// same. Ids are hashes, so the lists are of about one length. Whoever makes transactions can
 /// choose ids that fill one list; when it has 1,024 places, those of further outpoints stand in an
-/// ordered map. So a look-up costs no more than a list and one in that map, whatever the ids.
+/// ordered map. So a look-up costs no more than a list and one in that map, whatever the ids. Up to
+/// two places stand in a list itself: while there are few for each list, most look-ups read a list
+/// and a slot and nothing between them.
 #[derive(Drop)]
 pub(crate) struct Places {
     alloc: Global,
     /// Empty until the first place is added.
-    lists: Vec<Vec<Entry>>,
+    lists: Vec<List>,
     others: BTreeMap<OutPoint, u32>,
     ghost shards: { NoneOrAll lists.items },
 }
@@ -153,27 +162,38 @@ fn place_in(list: &[Entry], held: &Held, at: &OutPoint) -> Option<u32>
 }
 
 // Takes a place out of the list with this index, if there is one.
-fn take_out(lists: &mut Vec<Vec<Entry>>, index: usize, place: u32)
-    ensures taken { items_at lists.new.items index
-        ≡ without place (items_at lists.old.items index) }
+fn take_out(lists: &mut Vec<List>, index: usize, place: u32)
+    ensures gone { (tag : ℕ) → is_in (items_at lists.new.items index) tag place ≡ false }
+    ensures left { (tag other : ℕ) → other ≢ place
+        → is_in (items_at lists.new.items index) tag other
+        ≡ is_in (items_at lists.old.items index) tag other }
     ensures others { (other : ℕ) → other ≢ index
         → items_at lists.new.items other ≡ items_at lists.old.items other }
     ensures len { length lists.new.items ≡ length lists.old.items }
 {
     if let Some(list) = lists.get_mut(index) {
-        keep_others(list, place);
+        drop_entries(list, place);
     }
 }
 
-// Keeps the entries of other places.
-fn keep_others(list: &mut Vec<Entry>, place: u32)
-    ensures { list.new.items ≡ without place list.old.items }
+// Drops the entries of a place. The order of a list says nothing, so the last entry comes to where
+// one went.
+fn drop_entries(list: &mut List, place: u32)
+    ensures gone { (tag : ℕ) → is_in list.new.items tag place ≡ false }
+    ensures left { (tag other : ℕ) → other ≢ place
+        → is_in list.new.items tag other ≡ is_in list.old.items tag other }
 {
-    list.retain(|entry| entry.place != place);
+    let mut left = list.len();
+    while left > 0 {
+        left -= 1;
+        if list[left].place == place {
+            list.swap_remove(left);
+        }
+    }
 }
 
 // Makes the lists, if there are none. `Memory` where there is none for them.
-fn ensure_lists(lists: &mut Vec<Vec<Entry>>, alloc: Global) -> Result<(), Memory>
+fn ensure_lists(lists: &mut Vec<List>, alloc: Global) -> Result<(), Memory>
     requires shards { NoneOrAll lists.old.items }
     ensures shards { NoneOrAll lists.new.items }
     ensures all { OnOk result (length lists.new.items ≡ 65536) }
@@ -183,7 +203,7 @@ fn ensure_lists(lists: &mut Vec<Vec<Entry>>, alloc: Global) -> Result<(), Memory
     if lists.is_empty() {
         lists.reserve_exact(OutPoint::SHARDS)?;
         while lists.len() < OutPoint::SHARDS {
-            lists.push_reserved(Vec::new(alloc));
+            lists.push_reserved(SmallVec::new(alloc));
         }
     }
     Ok(())

@@ -8,11 +8,11 @@ use Rattle.ox_outputs.proofs.PlaceLemmas.{same_or_not, same_itself, is_same}
 use Rattle.ox_outputs.proofs.places.Places.add.Goals as goal
 
 pub returns-in_ok-push-clause-added : goal.returns-in_ok-push-clause-added
-returns-in_ok-push-clause-added c = inl (pushed_here c.ensure_lists.new.lists.items c.shard.result _ c.index_mut-list.result.now.items c.push.new.self c.tag_of-tag.result _ c.args.place (search (rules, arith)) c.shard.ensures.value c.tag_of-tag.ensures c.in_ok-push.ensures.items)
+returns-in_ok-push-clause-added c = inl (pushed_here c.ensure_lists.new.lists.items c.shard.result _ c.index_mut-list.result.now.items c.push.new.self c.tag_of-tag.result _ c.args.place (search (rules, arith)) c.shard.ensures.value c.tag_of-tag.ensures c.in_ok-push.ensures.ok)
 
 pub returns-in_ok-push-clause-before : goal.returns-in_ok-push-clause-before
 returns-in_ok-push-clause-before c = λ q p has other. ⊎_elim
-    (λ is. inl (pushed_still c.ensure_lists.new.lists.items c.shard.result (outpoint_shard q) c.index_mut-list.result.now c.push.new.self _ (tag q) p (search (rules, arith)) c.index_mut-list.ensures.value c.in_ok-push.ensures.items
+    (λ is. inl (pushed_still c.ensure_lists.new.lists.items c.shard.result (outpoint_shard q) c.index_mut-list.result.now c.push.new.self _ (tag q) p (search (rules, arith)) c.index_mut-list.ensures.value c.in_ok-push.ensures.ok
     (ap (λ (l : List Entry). is_in l (tag q) p) (c.ensure_lists.ensures.same (outpoint_shard q)) ∙ is)))
     (λ is. inr is)
     has
