@@ -1,7 +1,8 @@
 -- What a change of a slot leaves of the rows, and the spots of changes.
-use Rattle.std.proofs.Common.{◌≡◌, ◌≢◌, ◌∙◌, ◌<◌, ◌≤◌, ⊎_elim, length-append, get_or, zero, suc, arith, ℕ, Bool, true, false, cond, List, [], ◌∷◌, ◌++◌, length, refl, sym, ap, subst, Option, Some, None, Ordering}
-use Rattle.std.specs.Prelude.{IsSome, if◌then◌else◌, ◌==◌, ◌||◌, is_some}
+use Rattle.std.proofs.Common.{◌≡◌, ◌≢◌, ◌∙◌, ◌<◌, ◌≤◌, ⊎_elim, length-append, drop, get_or, zero, suc, inl, inr, arith, ℕ, Bool, true, false, cond, List, [], ◌∷◌, ◌++◌, length, refl, sym, ap, subst, Option, Some, None, Ordering}
+use Rattle.std.specs.Prelude.{◌⊎◌, IsSome, if◌then◌else◌, ◌==◌, ◌||◌, is_some}
 use Rattle.std.proofs.lemmas.Bool.{cases_eq, eq-eqb, ne_eqb}
+use Rattle.std.proofs.Math.Seq.{drop-cons}
 use Rattle.std.specs.Ordering.{eq_by_cmp, is_eq}
 use Rattle.std.specs.declared.cmp.Ordering.TheVariants.{Less, Equal, Greater}
 use Rattle.std.specs.Cmp.{eq_by_cmp_equiv}
@@ -188,40 +189,45 @@ tidied_step spots rest spot old new is here others p = ⊎_elim
     ∙ sym (ap (λ (b : Bool). cond b (unless_empty (slot_at old p)) (slot_at old p)) (ap (λ (l : List Spot). is_place_of l p) is ∙ other_place rest spot p other)))
     (cases_eq p spot.place)
 
--- the newest change, before which a row stood
-filled_more : (changed : List Spot) (before : List (Option OutRow)) (spot : Spot) (row : OutRow) → length before ≡ length changed → filled_before (changed ++ spot ∷ []) (before ++ Some row ∷ []) ≡ filled_before changed before ++ spot ∷ []
-filled_more [] [] spot row same = refl
-filled_more (s ∷ changed) [] spot row same = absurd (cc same)
-filled_more [] (r ∷ before) spot row same = absurd (cc same)
-filled_more (s ∷ changed) (Some r ∷ before) spot row same = ap (λ (l : List Spot). s ∷ l) (filled_more changed before spot row (cc same))
-filled_more (s ∷ changed) (None ∷ before) spot row same = filled_more changed before spot row (cc same)
+-- the first of some spots is tidied first
+pub tidied_first : (rest : List Spot) (spot : Spot) (old new : SlotList) → slot_at new spot.place ≡ unless_empty (slot_at old spot.place)
+    → ((p : ℕ) → p ≢ spot.place → slot_at new p ≡ slot_at old p) → (p : ℕ) → tidied_at rest new p ≡ tidied_at (spot ∷ rest) old p
+tidied_first rest spot old new here others p = ⊎_elim
+    (λ same.
+    ap (tidied_at rest new) same
+    ∙ ap (λ (s : Option Slot). cond (is_place_of rest spot.place) (unless_empty s) s) here
+    ∙ either_way (is_place_of rest spot.place) (slot_at old spot.place)
+    ∙ sym (ap (λ (b : Bool). cond (b || is_place_of rest spot.place) (unless_empty (slot_at old spot.place)) (slot_at old spot.place)) (eq-eqb spot.place spot.place refl))
+    ∙ sym (ap (tidied_at (spot ∷ rest) old) same))
+    (λ other.
+    ap (λ (s : Option Slot). cond (is_place_of rest p) (unless_empty s) s) (others p other)
+    ∙ sym (ap (λ (b : Bool). cond (b || is_place_of rest p) (unless_empty (slot_at old p)) (slot_at old p)) (ne_eqb spot.place p (λ same. other (sym same)))))
+    (cases_eq p spot.place)
 
--- the newest change, before which none did
-filled_still : (changed : List Spot) (before : List (Option OutRow)) (spot : Spot) → length before ≡ length changed → filled_before (changed ++ spot ∷ []) (before ++ None ∷ []) ≡ filled_before changed before
-filled_still [] [] spot same = refl
-filled_still (s ∷ changed) [] spot same = absurd (cc same)
-filled_still [] (r ∷ before) spot same = absurd (cc same)
-filled_still (s ∷ changed) (Some r ∷ before) spot same = ap (λ (l : List Spot). s ∷ l) (filled_still changed before spot (cc same))
-filled_still (s ∷ changed) (None ∷ before) spot same = filled_still changed before spot (cc same)
+-- the changes from one on, and what stood before them
+module _ (changed : List Spot) (before : List (Option OutRow)) (n : ℕ) (spot : Spot) (row : Option OutRow) (low : n < length changed) (too : n < length before) (is : (d : Spot) → spot ≡ get_or changed n d) (stood : (d : Option OutRow) → row ≡ get_or before n d) where
+  from_here : filled_before (drop n changed) (drop n before) ≡ filled_before (spot ∷ drop (suc n) changed) (row ∷ drop (suc n) before)
+  from_here =
+      ap (λ (l : List Spot). filled_before l (drop n before)) (drop-cons changed n spot low ∙ ap (λ (s : Spot). s ∷ drop (suc n) changed) (sym (is spot)))
+      ∙ ap (filled_before (spot ∷ drop (suc n) changed)) (drop-cons before n row too ∙ ap (λ (r : Option OutRow). r ∷ drop (suc n) before) (sym (stood row)))
 
--- the lists of changes and of what stood before, each with one less
-pub both_less : (changed rest : List Spot) (before rows : List (Option OutRow)) (spot : Spot) (row : Option OutRow) → changed ≡ rest ++ spot ∷ [] → before ≡ rows ++ row ∷ [] → length before ≡ length changed → length rows ≡ length rest
-both_less changed rest before rows spot row c b same = omega (arith, ap length c, ap length b, length-append rest (spot ∷ []), length-append rows (row ∷ []))
+  -- a row stood before this one
+  pub filled_here : is_some row ≡ true → filled_before (drop n changed) (drop n before) ≡ spot ∷ filled_before (drop (suc n) changed) (drop (suc n) before)
+  filled_here some = from_here ∙ by_row row some where
+    by_row : (r : Option OutRow) → is_some r ≡ true → filled_before (spot ∷ drop (suc n) changed) (r ∷ drop (suc n) before) ≡ spot ∷ filled_before (drop (suc n) changed) (drop (suc n) before)
+    by_row (Some r) some = refl
+    by_row None some = absurd (cc some)
 
-pub filled_last : (changed rest : List Spot) (before rows : List (Option OutRow)) (spot : Spot) (row : OutRow) → changed ≡ rest ++ spot ∷ [] → before ≡ rows ++ Some row ∷ [] → length before ≡ length changed → filled_before changed before ≡ filled_before rest rows ++ spot ∷ []
-filled_last changed rest before rows spot row c b same =
-    ap (λ (l : List Spot). filled_before l before) c ∙ ap (filled_before (rest ++ spot ∷ [])) b
-    ∙ filled_more rest rows spot row (both_less changed rest before rows spot (Some row) c b same)
+  -- none stood before it
+  pub empty_here : is_some row ≡ false → filled_before (drop n changed) (drop n before) ≡ filled_before (drop (suc n) changed) (drop (suc n) before)
+  empty_here none = from_here ∙ by_row row none where
+    by_row : (r : Option OutRow) → is_some r ≡ false → filled_before (spot ∷ drop (suc n) changed) (r ∷ drop (suc n) before) ≡ filled_before (drop (suc n) changed) (drop (suc n) before)
+    by_row (Some r) none = absurd (cc none)
+    by_row None none = refl
 
-pub unfilled_last : (changed rest : List Spot) (before rows : List (Option OutRow)) (spot : Spot) → changed ≡ rest ++ spot ∷ [] → before ≡ rows ++ None ∷ [] → length before ≡ length changed → filled_before changed before ≡ filled_before rest rows
-unfilled_last changed rest before rows spot c b same =
-    ap (λ (l : List Spot). filled_before l before) c ∙ ap (filled_before (rest ++ spot ∷ [])) b
-    ∙ filled_still rest rows spot (both_less changed rest before rows spot None c b same)
-
--- and it is not among those that are tidied
-pub unfilled_step : (spots rest : List Spot) (slots : SlotList) → spots ≡ rest → (p : ℕ) → tidied_at rest slots p ≡ tidied_at spots slots p
-unfilled_step spots rest slots is p = sym (ap (λ (l : List Spot). tidied_at l slots p) is)
-
--- where a change is left, what stood before it is too
-pub none_popped : (changed rest : List Spot) (before : List (Option OutRow)) (spot : Spot) → changed ≡ rest ++ spot ∷ [] → length before ≡ 0 → length before ≡ length changed → ⊥
-none_popped changed rest before spot c none same = absurd (omega (arith, none, same, ap length c, length-append rest (spot ∷ [])))
+-- behind the last change, or the last of what stood before, nothing is left
+pub none_left : (changed : List Spot) (before : List (Option OutRow)) → (changed ≡ []) ⊎ (before ≡ []) → filled_before changed before ≡ []
+none_left [] before none = refl
+none_left (s ∷ changed) [] none = refl
+none_left (s ∷ changed) (r ∷ before) (inl none) = absurd (cc none)
+none_left (s ∷ changed) (r ∷ before) (inr none) = absurd (cc none)

@@ -198,9 +198,22 @@ pub(crate) fn settle(slots: &mut Slots, changed: &mut Vec<Spot>, before: &mut Ve
         ≡ tidied_at (filled_before changed.old.items before.old.items) slots.old p }
     ensures filled { KeepRows slots.old slots.new }
     ensures none { changed.new.items ≡ [] }
+    ensures none_before { before.new.items ≡ [] }
 {
-    while let Some(spot) = changed.pop() {
-        if let Some(Some(_)) = before.pop() {
+    tidy_filled(slots, changed, before);
+    changed.clear();
+    before.clear();
+}
+
+// Takes the slots away in which changes left no row, of those changes before which one stood.
+fn tidy_filled(slots: &mut Slots, changed: &[Spot], before: &[Option<OutRow>])
+    ensures rows { rows_of slots.new ≡ rows_of slots.old }
+    ensures tidied { (p : ℕ) → slot_at slots.new p
+        ≡ tidied_at (filled_before changed.now before.now) slots.old p }
+    ensures filled { KeepRows slots.old slots.new }
+{
+    for (spot, row) in changed.iter().zip(before) {
+        if row.is_some() {
             slots.tidy(spot.place);
         }
     }

@@ -222,7 +222,6 @@ impl OutTable for Outputs {
         self.ahead
             .read_changed(&self.slots, &self.changed, &self.before);
         settle(&mut self.slots, &mut self.changed, &mut self.before);
-        self.before.clear();
         self.locator.begin();
         self.marked = true;
         Ok(())
