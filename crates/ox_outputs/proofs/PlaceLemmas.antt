@@ -1,6 +1,6 @@
 -- Slots that each have an outpoint of their own: what a change at one place leaves.
-use Rattle.std.proofs.Common.{◌≡◌, ◌≢◌, ◌∙◌, ℕ, zero, suc, Bool, true, false, cond, [], ◌∷◌, refl, sym, ap, Option, Some, None, true≢false, inl, inr, ⊎_elim}
-use Rattle.std.specs.Prelude.{◌⊎◌}
+use Rattle.std.proofs.Common.{◌≡◌, ◌≢◌, ◌∙◌, ℕ, zero, suc, Bool, true, false, cond, [], ◌∷◌, refl, sym, ap, subst, Option, Some, None, true≢false, inl, inr, ⊎_elim}
+use Rattle.std.specs.Prelude.{◌⊎◌, IfSome}
 use Rattle.std.specs.Ordering.{eq_by_cmp}
 use Rattle.std.specs.Cmp.{eq_by_cmp_equiv}
 use Rattle.std.specs.Option.{option_map, option_and_then}
@@ -268,6 +268,28 @@ rows_alike s t apart same = same_map outpoints_total outpoints_exact (rows_of t.
     apart_too q p r one two = apart q p r (sym (outpoint p) ∙ one) (sym (outpoint r) ∙ two)
 
 -- ---- the places of slots
+
+-- where what a slot holds changes
+pub outpoints_stay : (s t : Slab Slot) (place : ℕ) (row : Option OutRow) → Updates s t place (slot_with (slab.get s place) row) → (p : ℕ) → outpoint_at t.slots p ≡ outpoint_at s.slots p
+outpoints_stay s t place row u p = ⊎_elim
+    (λ same. ap (outpoint_at t.slots) same ∙ ap (option_map (λ (s : Slot). s.at)) u.changed ∙ outpoint_with (slab.get s place) ∙ ap (outpoint_at s.slots) (sym same))
+    (λ other. ap (option_map (λ (s : Slot). s.at)) (u.others p other))
+    (cases_eq p place)
+  where
+    outpoint_with : (slot : Option Slot) → option_map (λ s. s.at) (slot_with slot row) ≡ option_map (λ s. s.at) slot
+    outpoint_with None = refl
+    outpoint_with (Some x) = refl
+
+pub placed_same : (m : Places) (s t : SlotList) → ArePlaced m s → ((p : ℕ) → outpoint_at t p ≡ outpoint_at s p) → ArePlaced m t
+placed_same m s t h same = record {
+  among = λ q p found. h.among q p (sym (same p) ∙ found);
+  others = λ q p found. same p ∙ h.others q p found;
+  apart = λ q p r one two. h.apart q p r (sym (same p) ∙ one) (sym (same r) ∙ two);
+}
+
+-- what is known of the place that was found
+pub found_so : (P : ℕ → Type 0) (found : Option ℕ) (place : ℕ) → IfSome found P → found ≡ Some place → P place
+found_so P found place holds is = subst (λ (o : Option ℕ). IfSome o P) is holds
 
 -- where a slot is taken away
 pub placed_less : (m n : Places) (s t : Slab Slot) (place : ℕ) (at : OutPoint) → ArePlaced m s.slots → outpoint_at s.slots place ≡ Some at → Updates s t place None

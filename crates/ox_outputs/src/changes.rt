@@ -1,7 +1,8 @@
 //! Changes of slots, which can be taken back.
 
 ghost use Rattle.std.specs.Prelude.{◌≡◌, ℕ, Option, Some, None, IfOk, IfErr};
-ghost use Rattle.std.specs.Prelude.{OnOk, OnErr, [], length, if◌then◌else◌, IsSomeAnd};
+ghost use Rattle.std.specs.Prelude.{OnOk, OnErr, [], length, if◌then◌else◌, IsSome, IsSomeAnd};
+ghost use Rattle.std.specs.Prelude.{◌≢◌, IfSome, IfNone};
 ghost use Rattle.std.specs.FinMap as map;
 ghost use Rattle.ox_block.specs.declared.block.OutPoint.{OutPoint};
 ghost use Rattle.ox_range.specs.Runs.{runs_of};
@@ -71,27 +72,15 @@ fn displace_copied(
     Ok(copy)
 }
 
-/// What stood where a row now stands.
-#[derive(Drop)]
-pub(crate) struct Displaced {
-    /// The place of the slot.
-    pub(crate) place: u32,
-    /// The row that stood there, if one did.
-    pub(crate) row: Option<OutRow>,
-    /// The same once more.
-    pub(crate) kept: Option<OutRow>,
-}
-
-// The satoshis of a row that now stands where none did come into the locator. Where there is no
-// memory, the row is handed back, and its slot is empty.
-fn arrive_at(slots: &mut Slots, locator: &mut Locator, spot: Spot) -> Result<Displaced, Unplaced>
+// The satoshis of a row that now stands where none did come into the locator. It answers the place
+// of the row's slot. Where there is no memory, the row is handed back, and its slot is empty.
+fn arrive_at(slots: &mut Slots, locator: &mut Locator, spot: Spot) -> Result<u32, Unplaced>
     requires spot { outpoint_at slots.old spot.place ≡ Some spot.at }
     requires runs { AreRuns (live_at locator.old) slots.old
         (map.remove (rows_of slots.old) spot.at) }
     requires may { IsSomeAnd (map.get (rows_of slots.old) spot.at)
         (λ row. MayStand spot.at row.sats (map.remove (rows_of slots.old) spot.at)) }
-    ensures none { IfOk result
-        (λ held. held ≡ record { place = spot.place; row = None; kept = None }) }
+    ensures place { IfOk result (λ place. place ≡ spot.place) }
     ensures rows { OnOk result (rows_of slots.new ≡ rows_of slots.old) }
     ensures places { (p : ℕ) → outpoint_at slots.new p ≡ outpoint_at slots.old p }
     ensures handed_back { IfErr result (λ e. Some e.row ≡ map.get (rows_of slots.old) spot.at) }
@@ -103,11 +92,7 @@ fn arrive_at(slots: &mut Slots, locator: &mut Locator, spot: Spot) -> Result<Dis
         unreachable!()
     };
     match locator.arrive(spot.place, &row.sats) {
-        Ok(()) => Ok(Displaced {
-            place: spot.place,
-            row: None,
-            kept: None,
-        }),
+        Ok(()) => Ok(spot.place),
         Err(_) => match slots.exchange(spot.place, None) {
             Some(row) => Err(Unplaced { row }),
             None => unreachable!(),
@@ -115,62 +100,22 @@ fn arrive_at(slots: &mut Slots, locator: &mut Locator, spot: Spot) -> Result<Dis
     }
 }
 
-// The satoshis of a row that now stands where another did come into the locator, in place of the
-// other's, which is answered twice. Where there is no memory, the row is handed back, and its slot
-// holds the other again.
-fn displace_at(
-    slots: &mut Slots,
-    locator: &mut Locator,
-    spot: Spot,
-    other: OutRow,
-    alloc: Global,
-) -> Result<Displaced, Unplaced>
-    requires spot { outpoint_at slots.old spot.place ≡ Some spot.at }
-    requires runs { AreRuns (live_at locator.old) slots.old
-        (map.insert (rows_of slots.old) spot.at other) }
-    requires may { IsSomeAnd (map.get (rows_of slots.old) spot.at)
-        (λ row. MayStand spot.at row.sats (map.insert (rows_of slots.old) spot.at other)) }
-    ensures twice { IfOk result
-        (λ held. held ≡ record { place = spot.place; row = Some other; kept = Some other }) }
-    ensures rows { OnOk result (rows_of slots.new ≡ rows_of slots.old) }
-    ensures places { (p : ℕ) → outpoint_at slots.new p ≡ outpoint_at slots.old p }
-    ensures handed_back { IfErr result (λ e. Some e.row ≡ map.get (rows_of slots.old) spot.at) }
-    ensures err { OnErr result
-        (rows_of slots.new ≡ map.insert (rows_of slots.old) spot.at other) }
-    ensures runs { AreRuns (live_at locator.new) slots.new (rows_of slots.new) }
-    ensures same { (q : ℕ) → kept_at locator.new q ≡ kept_at locator.old q }
-{
-    let Some(row) = slots.row(spot.place) else {
-        unreachable!()
-    };
-    match displace_copied(locator, &other, spot.place, &row.sats, alloc) {
-        Ok(kept) => Ok(Displaced {
-            place: spot.place,
-            row: Some(other),
-            kept: Some(kept),
-        }),
-        Err(_) => match slots.exchange(spot.place, Some(other)) {
-            Some(row) => Err(Unplaced { row }),
-            None => unreachable!(),
-        },
-    }
-}
-
-/// Fills the slot at this outpoint, as `fill` does, and answers what it held twice. The row's
-/// satoshis come into the locator, in place of those of the row that it displaces. Where there is
-/// no memory, the row is handed back and all is as before.
-pub(crate) fn fill_twice(
+/// Fills the slot at this outpoint, where no row stands, as `fill` does, and answers its place. The
+/// row's satoshis come into the locator. Where there is no memory, the row is handed back and all
+/// is as before.
+pub(crate) fn fill_empty(
     slots: &mut Slots,
     locator: &mut Locator,
     at: OutPoint,
+    found: Option<u32>,
     row: OutRow,
-    alloc: Global,
-) -> Result<Displaced, Unplaced>
+) -> Result<u32, Unplaced>
+    requires found { IfSome found (λ place. outpoint_at slots.old place ≡ Some at) }
+    requires nowhere { IfNone found ((place : ℕ) → outpoint_at slots.old place ≢ Some at) }
+    requires none { map.get (rows_of slots.old) at ≡ None }
     requires runs { AreRuns (live_at locator.old) slots.old (rows_of slots.old) }
     requires may { MayStand at row.sats (rows_of slots.old) }
-    ensures held { IfOk result (λ held. held.row ≡ map.get (rows_of slots.old) at) }
-    ensures twice { IfOk result (λ held. held.kept ≡ map.get (rows_of slots.old) at) }
-    ensures place { IfOk result (λ held. outpoint_at slots.new held.place ≡ Some at) }
+    ensures place { IfOk result (λ place. outpoint_at slots.new place ≡ Some at) }
     ensures rows { OnOk result
         (rows_of slots.new ≡ map.insert (rows_of slots.old) at row) }
     ensures places { (p : ℕ) (q : OutPoint) → outpoint_at slots.old p ≡ Some q
@@ -180,11 +125,53 @@ pub(crate) fn fill_twice(
     ensures runs { AreRuns (live_at locator.new) slots.new (rows_of slots.new) }
     ensures same { (q : ℕ) → kept_at locator.new q ≡ kept_at locator.old q }
 {
-    let (place, earlier) = slots.fill(at, row)?;
-    let spot = Spot { at, place };
-    match earlier {
-        None => arrive_at(slots, locator, spot),
-        Some(other) => displace_at(slots, locator, spot, other, alloc),
+    let place = slots.fill(at, found, row)?;
+    arrive_at(slots, locator, Spot { at, place })
+}
+
+/// A row that another displaced.
+#[derive(Drop)]
+pub(crate) struct Displaced {
+    pub(crate) row: OutRow,
+    /// The same once more.
+    pub(crate) kept: OutRow,
+}
+
+/// Puts a row where another stands, in the slot at this spot, and answers the other twice. The
+/// row's satoshis come into the locator, in place of those of the other. Where there is no memory,
+/// the row is handed back and all is as before.
+pub(crate) fn displace_at(
+    slots: &mut Slots,
+    locator: &mut Locator,
+    spot: Spot,
+    row: OutRow,
+    alloc: Global,
+) -> Result<Displaced, Unplaced>
+    requires spot { outpoint_at slots.old spot.place ≡ Some spot.at }
+    requires stands { IsSome (map.get (rows_of slots.old) spot.at) }
+    requires runs { AreRuns (live_at locator.old) slots.old (rows_of slots.old) }
+    requires may { MayStand spot.at row.sats (rows_of slots.old) }
+    ensures displaced { IfOk result
+        (λ other. Some other.row ≡ map.get (rows_of slots.old) spot.at) }
+    ensures kept { IfOk result
+        (λ other. Some other.kept ≡ map.get (rows_of slots.old) spot.at) }
+    ensures rows { OnOk result
+        (rows_of slots.new ≡ map.insert (rows_of slots.old) spot.at row) }
+    ensures places { (p : ℕ) → outpoint_at slots.new p ≡ outpoint_at slots.old p }
+    ensures handed_back { IfErr result (λ e. e.row ≡ row) }
+    ensures err { OnErr result (rows_of slots.new ≡ rows_of slots.old) }
+    ensures runs { AreRuns (live_at locator.new) slots.new (rows_of slots.new) }
+    ensures same { (q : ℕ) → kept_at locator.new q ≡ kept_at locator.old q }
+{
+    let Some(other) = slots.row(spot.place) else {
+        unreachable!()
+    };
+    let Ok(kept) = displace_copied(locator, other, spot.place, &row.sats, alloc) else {
+        return Err(Unplaced { row });
+    };
+    match slots.exchange(spot.place, Some(row)) {
+        Some(row) => Ok(Displaced { row, kept }),
+        None => unreachable!(),
     }
 }
 

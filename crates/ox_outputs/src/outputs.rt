@@ -1,6 +1,7 @@
 //! The unspent outputs.
 
-ghost use Rattle.std.specs.Prelude.{◌≡◌, true, false, [], IsSome, IfOk, OnOk, OnErr};
+ghost use Rattle.std.specs.Prelude.{◌≡◌, ◌≢◌, ℕ, true, false, [], IsSome, IfSome, IfNone};
+ghost use Rattle.std.specs.Prelude.{IfOk, IfErr, OnOk, OnErr};
 ghost use Rattle.std.specs.Prelude.{length, if◌then◌else◌, Some, None};
 ghost use Rattle.std.specs.Option.{option_copied};
 ghost use Rattle.std.specs.FinMap as map;
@@ -9,7 +10,7 @@ ghost use Rattle.ox_outputs.specs.Located.{StandOnce, AreRuns};
 ghost use Rattle.ox_outputs.specs.Locator.{live_at, kept_at};
 
 use crate::ahead::Ahead;
-use crate::changes::{Displaced, fill_twice, forget, go_back, settle, take_from};
+use crate::changes::{Displaced, displace_at, fill_empty, forget, go_back, settle, take_from};
 use crate::differing::{differing, place_all};
 use crate::locator::Locator;
 use crate::slots::Slots;
@@ -44,7 +45,7 @@ pub struct Outputs {
 impl Outputs {
     ghost use Rattle.ox_rules.specs.Where.{place_among};
     ghost use Rattle.ox_rules.specs.Differences.{Differ, other_end, without_rows};
-    ghost use Rattle.ox_rules.specs.Outputs.{Outputs as Rows};
+    ghost use Rattle.ox_rules.specs.Outputs.{Outputs as Rows, MayStand};
     ghost use Rattle.ox_outputs.specs.Table.{rows_in, marked_in, EndsIn};
 
     /// No outputs, and no mark. It takes no memory until a row is placed.
@@ -144,6 +145,61 @@ impl Outputs {
         }
     }
 
+    // Places a row at an outpoint at which none stands. There may be an empty slot, whose place was
+    // found. Where there is no memory, the row is handed back and all is as before.
+    fn place_new(&mut self, at: OutPoint, found: Option<u32>, row: OutRow) -> Result<(), Unplaced>
+        requires found { IfSome found (λ place. outpoint_at self.old.slots place ≡ Some at) }
+        requires nowhere { IfNone found
+            ((place : ℕ) → outpoint_at self.old.slots place ≢ Some at) }
+        requires none { map.get (rows_in self.old) at ≡ None }
+        requires may { MayStand at row.sats (rows_in self.old) }
+        ensures ok { OnOk result (rows_in self.new ≡ map.insert (rows_in self.old) at row) }
+        ensures handed_back { IfErr result (λ e. e.row ≡ row) }
+        ensures err { OnErr result (rows_in self.new ≡ rows_in self.old) }
+        ensures mark { marked_in self.new ≡ marked_in self.old }
+    {
+        if !self.marked {
+            fill_empty(&mut self.slots, &mut self.locator, at, found, row)?;
+            return Ok(());
+        }
+        if self.changed.reserve(1).is_err() || self.before.reserve(1).is_err() {
+            return Err(Unplaced { row });
+        }
+        let place = fill_empty(&mut self.slots, &mut self.locator, at, found, row)?;
+        self.changed.push_reserved(Spot { at, place });
+        self.before.push_reserved(None);
+        Ok(())
+    }
+
+    // Places a row where another stands, and answers the other, which with a mark is also kept for
+    // the way back. Where there is no memory, the row is handed back and all is as before.
+    fn displace(&mut self, spot: Spot, row: OutRow) -> Result<OutRow, Unplaced>
+        requires spot { outpoint_at self.old.slots spot.place ≡ Some spot.at }
+        requires stands { IsSome (map.get (rows_in self.old) spot.at) }
+        requires may { MayStand spot.at row.sats (rows_in self.old) }
+        ensures displaced { IfOk result
+            (λ displaced. Some displaced ≡ map.get (rows_in self.old) spot.at) }
+        ensures ok { OnOk result (rows_in self.new ≡ map.insert (rows_in self.old) spot.at row) }
+        ensures handed_back { IfErr result (λ e. e.row ≡ row) }
+        ensures err { OnErr result (rows_in self.new ≡ rows_in self.old) }
+        ensures mark { marked_in self.new ≡ marked_in self.old }
+    {
+        if !self.marked {
+            let other = displace_at(&mut self.slots, &mut self.locator, spot, row, self.alloc)?;
+            return Ok(other.row);
+        }
+        if self.changed.reserve(1).is_err() || self.before.reserve(1).is_err() {
+            return Err(Unplaced { row });
+        }
+        let Displaced {
+            row: displaced,
+            kept,
+        } = displace_at(&mut self.slots, &mut self.locator, spot, row, self.alloc)?;
+        self.changed.push_reserved(spot);
+        self.before.push_reserved(Some(kept));
+        Ok(displaced)
+    }
+
     /// The rows that are gone since the mark was set, and those that came; a row that changed is in
     /// both. Each list stands by rising outpoint. `Memory` where there is none for them.
     pub fn changed(&self) -> Result<(TableRows, TableRows), Memory>
@@ -201,21 +257,15 @@ impl OutTable for Outputs {
 
     fn place(&mut self, at: &OutPoint, row: OutRow) -> Result<Option<OutRow>, Unplaced> {
         self.ahead.step(&self.slots);
-        if !self.marked {
-            let displaced = fill_twice(&mut self.slots, &mut self.locator, *at, row, self.alloc)?;
-            return Ok(displaced.row);
+        let found = self.slots.find(at);
+        if let Some(place) = found {
+            if self.slots.row(place).is_some() {
+                let displaced = self.displace(Spot { at: *at, place }, row)?;
+                return Ok(Some(displaced));
+            }
         }
-        if self.changed.reserve(1).is_err() || self.before.reserve(1).is_err() {
-            return Err(Unplaced { row });
-        }
-        let Displaced {
-            place,
-            row: displaced,
-            kept,
-        } = fill_twice(&mut self.slots, &mut self.locator, *at, row, self.alloc)?;
-        self.changed.push_reserved(Spot { at: *at, place });
-        self.before.push_reserved(kept);
-        Ok(displaced)
+        self.place_new(*at, found, row)?;
+        Ok(None)
     }
 
     fn begin(&mut self) -> Result<(), Memory> {

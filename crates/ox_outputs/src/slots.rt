@@ -57,6 +57,7 @@ impl Slots {
     pub(crate) fn find(&self, at: &OutPoint) -> Option<u32>
         ensures some { IfSome result (λ place. outpoint_at self.now place ≡ Some at.now) }
         ensures none { IfNone result (map.get (rows_of self.now) at.now ≡ None) }
+        ensures nowhere { IfNone result ((place : ℕ) → outpoint_at self.now place ≢ Some at.now) }
     {
         self.places.find(&self.held, at)
     }
@@ -135,29 +136,31 @@ impl Slots {
         }
     }
 
-    /// Fills the slot at this outpoint, which is made where there is none, and answers its place
-    /// and what it held. Where there is no memory, the row is handed back and no row has changed.
+    /// Fills the slot at this outpoint, whose place was found, or makes one where none was found,
+    /// and answers its place. What the slot held is gone. Where there is no memory, the row is
+    /// handed back and no row has changed.
     pub(crate) fn fill(
         &mut self,
         at: OutPoint,
+        found: Option<u32>,
         row: OutRow,
-    ) -> Result<(u32, Option<OutRow>), Unplaced>
-        ensures held { IfOk result
-            (λ filled. filled.1 ≡ map.get (rows_of self.old) at) }
+    ) -> Result<u32, Unplaced>
+        requires found { IfSome found (λ place. outpoint_at self.old place ≡ Some at) }
+        requires nowhere { IfNone found ((place : ℕ) → outpoint_at self.old place ≢ Some at) }
         ensures rows { OnOk result (rows_of self.new ≡ map.insert (rows_of self.old) at row) }
-        ensures place { IfOk result (λ filled. outpoint_at self.new filled.0 ≡ Some at) }
+        ensures place { IfOk result (λ place. outpoint_at self.new place ≡ Some at) }
         ensures places { (p : ℕ) (q : OutPoint) → outpoint_at self.old p ≡ Some q
             → outpoint_at self.new p ≡ Some q }
         ensures handed_back { IfErr result (λ e. e.row ≡ row) }
         ensures err { OnErr result (rows_of self.new ≡ rows_of self.old) }
     {
-        if let Some(place) = self.places.find(&self.held, &at) {
-            let earlier = exchange_in(&mut self.held, place, Some(row));
-            return Ok((place, earlier));
+        if let Some(place) = found {
+            let _earlier = exchange_in(&mut self.held, place, Some(row));
+            return Ok(place);
         }
         let place = give_out(&mut self.held, at, row)?;
         match self.places.add(at, place) {
-            Ok(()) => Ok((place, None)),
+            Ok(()) => Ok(place),
             Err(_) => match take_back(&mut self.held, place) {
                 Some(row) => Err(Unplaced { row }),
                 None => unreachable!(),

@@ -1,28 +1,22 @@
-use Rattle.std.proofs.Common.{rules, refl, ◌∙◌, sym, ap, Some}
-use Rattle.std.specs.FinMap as map
+use Rattle.std.proofs.Common.{rules, refl, ◌≡◌, ◌∙◌, ap, Some}
 use Rattle.ox_outputs.specs.declared.held.Slot.{Slot}
-use Rattle.ox_outputs.specs.Slots.{SlotList, put_slot, rows_of}
-use Rattle.ox_outputs.proofs.PlaceLemmas.{IsNowhere, get-at_place, get-nowhere, exchanged, made, given_back, row_with, rows_put, rows_alike}
+use Rattle.ox_outputs.specs.Slots.{SlotList, outpoint_at, put_slot, rows_of}
+use Rattle.ox_outputs.proofs.PlaceLemmas.{IsNowhere, exchanged, made, given_back, row_with, rows_put, rows_alike, outpoints_stay, placed_same, found_so}
 use Rattle.ox_outputs.proofs.slots.Slots.fill.Goals as goal
 
-pub returns-in-Some-clause-held : goal.returns-in-Some-clause-held
-returns-in-Some-clause-held c =
-    c.exchange_in-earlier.ensures.stood ∙ sym (get-at_place c.self.inside.held.slots c.in-Some.place c.args.at c.self.invariant.apart c.in-Some.ensures.some)
-    ∙ ap (λ (l : SlotList). map.get (rows_of l) c.args.at) c.self.view_is
+pub invariant_of-self : goal.invariant_of-self
+invariant_of-self c =
+    let held = c.self.inside.held in
+    let new = c.exchange_in-earlier.new.held in
+    placed_same c.self.inside.places held.slots new.slots c.self.invariant (outpoints_stay held new c.in-Some.place (Some c.args.row) c.exchange_in-earlier.ensures.updates)
 
 pub returns-in-Some-clause-rows : goal.returns-in-Some-clause-rows
 returns-in-Some-clause-rows c =
     let held = c.self.inside.held in
-    let here = c.in-Some.ensures.some in
+    let here = ap (λ (l : SlotList). outpoint_at l c.in-Some.place) c.self.view_is ∙ found_so (λ p. outpoint_at c.args.self.now p ≡ Some c.args.at) c.args.found c.in-Some.place c.requires.found c.in-Some.is in
     let change = exchanged held c.exchange_in-earlier.new.held c.in-Some.place c.args.at (Some c.args.row) c.self.invariant.apart here c.exchange_in-earlier.ensures.updates in
     rows_put change (Some c.args.row) (row_with held c.in-Some.place c.args.at (Some c.args.row) here)
     ∙ ap (λ (l : SlotList). put_slot (rows_of l) c.args.at (Some c.args.row)) c.self.view_is
-
-pub returns-in-Ok-clause-held : goal.returns-in-Ok-clause-held
-returns-in-Ok-clause-held c =
-    let none : IsNowhere c.self.inside.held.slots c.args.at = search rules in
-    sym (get-nowhere c.self.inside.held.slots c.args.at none)
-    ∙ ap (λ (l : SlotList). map.get (rows_of l) c.args.at) c.self.view_is
 
 pub returns-in-Ok-clause-rows : goal.returns-in-Ok-clause-rows
 returns-in-Ok-clause-rows c =
