@@ -1,4 +1,4 @@
-use Rattle.std.proofs.Common.{◌≡◌, ℕ, zero, suc, ◌+◌, ◌-◌, ◌<◌, ◌≤◌, List, [], ◌∷◌, ◌++◌, length, get_or, take, drop, refl, sym, ap, ◌∙◌, arith, lit<, length-append, append_assoc, append-nil, take-append-drop, take_at, drop_at, take_all, set, Result, Ok, Err, OnOk, OnErr, IfOk, is_ok, if◌then◌else◌}
+use Rattle.std.proofs.Common.{◌≡◌, ℕ, zero, suc, ◌+◌, ◌-◌, ◌^◌, ◌<◌, ◌≤◌, List, [], ◌∷◌, ◌++◌, length, get_or, take, drop, refl, sym, ap, ◌∙◌, arith, lit<, length-append, append_assoc, append-nil, take-append-drop, take_at, drop_at, take_all, set, Result, Ok, Err, OnOk, OnErr, IfOk, is_ok, if◌then◌else◌}
 use Rattle.std.proofs.lemmas.List.{drop_more, take_more, drop_all, set-append_left, set_split, get_or_append_left, get_or_default}
 use Rattle.ox_range.specs.declared.runs.Run.{Run}
 use Rattle.ox_range.specs.Numbers.{numbers_from}
@@ -7,6 +7,14 @@ use Rattle.ox_range.proofs.RunLemmas.{zero_run, numbers-none, numbers-cons, numb
 
 pub numbers-one : (r : Run) → numbers_of (r ∷ []) ≡ numbers_from r.first r.count
 numbers-one r = numbers-cons r [] ∙ ap (λ ns. numbers_from r.first r.count ++ ns) numbers-none ∙ append-nil (numbers_from r.first r.count)
+
+-- one run alone
+pub run_alone : (r : Run) → AreMaximal (r ∷ []) → (0 < r.count) × (r.first + r.count < 2 ^ 64)
+unfolding AreMaximal
+run_alone r m = (m.0, m.1)
+
+pub length-one : (r : Run) → length (numbers_of (r ∷ [])) ≡ r.count
+length-one r = ap length (numbers-one r) ∙ length-numbers_from r.first r.count
 
 -- how many numbers one run more has
 pub length-take_more : (runs : List Run) (i : ℕ) (d : Run) → i < length runs → length (numbers_of (take (i + 1) runs)) ≡ length (numbers_of (take i runs)) + (get_or runs i d).count
@@ -33,6 +41,26 @@ cut_between runs i place long =
 -- a run is its front and its rest
 pub numbers-cut : (keep : ℕ) (r : Run) → keep ≤ r.count → numbers_from r.first r.count ≡ numbers_from r.first keep ++ numbers_from (r.first + keep) (r.count - keep)
 numbers-cut keep r h = ap (numbers_from r.first) (let e : r.count ≡ keep + (r.count - keep) = omega arith in e) ∙ numbers_from-add r.first keep (r.count - keep)
+
+-- a cut of no numbers
+pub take_none : (place : ℕ) → take {A = ℕ} place [] ≡ []
+take_none zero = refl
+take_none (suc place) = refl
+
+pub drop_none : (place : ℕ) → drop {A = ℕ} place [] ≡ []
+drop_none zero = refl
+drop_none (suc place) = refl
+
+-- a cut of one run, at its ends or within
+pub one_cut : (r : Run) (place : ℕ) → place ≤ r.count → (numbers_from r.first place ≡ take place (numbers_of (r ∷ []))) × (numbers_from (r.first + place) (r.count - place) ≡ drop place (numbers_of (r ∷ [])))
+one_cut r place h =
+    let front : List ℕ = numbers_from r.first place in
+    let rest : List ℕ = numbers_from (r.first + place) (r.count - place) in
+    let whole : numbers_of (r ∷ []) ≡ front ++ rest = numbers-one r ∙ numbers-cut place r h in
+    let reach : length front ≡ place = length-numbers_from r.first place in (
+      sym (ap (take place) whole ∙ take_at front rest place reach),
+      sym (ap (drop place) whole ∙ drop_at front rest place reach),
+    )
 
 -- a cut within a run
 pub cut_within : (runs : List Run) (i keep place : ℕ) (d : Run) → i < length runs → keep < (get_or runs i d).count → length (numbers_of (take i runs)) + keep ≡ place

@@ -2,7 +2,8 @@
 //!
 //! An output holds satoshis in an order: the first of a block's subsidy may stand beside those that
 //! came from far away. A list of them is seen as the list of its numbers, and kept as its maximal
-//! runs, so that five billion numbers cost as much as one.
+//! runs, so that five billion numbers cost as much as one. Nearly all lists are one run, which is
+//! kept in the list itself.
 #![tactic(auto)]
 
 ghost use Rattle.std.specs.Prelude.{◌≡◌, ℕ, ◌+◌, ◌^◌, ◌<◌, ◌≤◌, ◌==◌, ◌↔◌, List, [], ◌++◌, length};
@@ -10,35 +11,51 @@ ghost use Rattle.std.specs.Prelude.{take, drop, slice_index, position, IsTrue, I
 ghost use Rattle.ox_range.specs.Numbers.{numbers_from};
 ghost use Rattle.ox_range.specs.Runs.{numbers_of, AreMaximal, runs_of};
 
-use cuts::{append, shorten, split};
-use runs::{Runs, number_at, place_among};
-use smallvec::SmallVec;
+use cuts::{shorten, split};
+use few::Runs;
+use joins::append;
+use runs::{number_at, place_among};
 use std::alloc::Global;
 use std::marker::Model;
 
 mod cuts;
+mod few;
+mod joins;
 mod runs;
 
 pub use ox_bytes::Memory;
 pub use runs::{Run, runs_are_determined, runs_have_their_numbers};
 
-/// A list of satoshi numbers, kept as its maximal runs of consecutive numbers.
-#[derive(Debug, Drop)]
+/// A list of satoshi numbers, kept as its maximal runs of consecutive numbers. One run takes no
+/// memory of its own.
+#[derive(Debug)]
 pub struct Ranges {
     alloc: Global,
     runs: Runs,
     len: u64,
 }
 
+// By hand, so that whoever drops a list makes one call, and proves nothing of its runs.
+impl Drop for Ranges {
+    fn drop(self) {
+        let Ranges {
+            alloc: _alloc,
+            runs: _runs,
+            len: _len,
+        } = self;
+    }
+}
+
 impl Model for Ranges {
     ghost use Rattle.std.specs.Prelude.{ℕ, List};
+    ghost use Rattle.ox_range.specs.Few.{runs_in};
     ghost use Rattle.ox_range.specs.Runs.{numbers_of, AreRunsOf};
 
     ghost Value = { List ℕ };
 
-    ghost view = { λ r. numbers_of r.runs.items };
+    ghost view = { λ r. numbers_of (runs_in r.runs) };
 
-    ghost invariant = { λ r. AreRunsOf r.runs.items r.len };
+    ghost invariant = { λ r. AreRunsOf (runs_in r.runs) r.len };
 }
 
 impl Ranges {
@@ -48,23 +65,20 @@ impl Ranges {
     {
         Ranges {
             alloc,
-            runs: SmallVec::new(alloc),
+            runs: Runs::Empty,
             len: 0,
         }
     }
 
-    /// The numbers from `first` on, `count` of them. `Memory` where there is none left.
+    /// The numbers from `first` on, `count` of them. One run takes no memory of its own, so
+    /// `Memory` is never the answer.
     pub fn one(alloc: Global, first: u64, count: u64) -> Result<Self, Memory>
         requires { first + count < 2 ^ 64 }
         ensures { IfOk result (λ ranges. ranges ≡ numbers_from first count) }
     {
-        if count == 0 {
-            return Ok(Ranges::empty(alloc));
-        }
-        let runs = SmallVec::from_slice(alloc, &[Run { first, count }])?;
         Ok(Ranges {
             alloc,
-            runs,
+            runs: Runs::from_numbers(first, count),
             len: count,
         })
     }
@@ -88,21 +102,22 @@ impl Ranges {
         requires { place < length self.now }
         ensures { result ≡ slice_index self.now place }
     {
-        number_at(&self.runs, place)
+        number_at(self.runs.as_slice(), place)
     }
 
     /// The first place at which this number stands, if any. It costs by the runs before it.
     pub fn place_of(&self, sat: u64) -> Option<u64>
         ensures { result ≡ position (λ number. number == sat) self.now }
     {
-        place_among(&self.runs, sat)
+        place_among(self.runs.as_slice(), sat)
     }
 
-    /// The same numbers once more. It costs by their runs. `Memory` where there is none left.
+    /// The same numbers once more. It costs by their runs. `Memory` where there is none left, which
+    /// is so for two runs or more alone.
     pub fn copy(&self, alloc: Global) -> Result<Ranges, Memory>
         ensures { IfOk result (λ copy. copy ≡ self.now) }
     {
-        let runs = SmallVec::from_slice(alloc, &self.runs)?;
+        let runs = self.runs.copy(alloc)?;
         Ok(Ranges {
             alloc,
             runs,
@@ -111,19 +126,21 @@ impl Ranges {
     }
 
     /// Puts the numbers of `tail` behind. It costs by the runs of `tail`, in the long run. `Memory`
-    /// where there is none left, and then nothing has changed.
+    /// where there is none left, which is so for two runs or more alone, and then nothing has
+    /// changed.
     pub fn join(&mut self, tail: &Ranges) -> Result<(), Memory>
         requires { length self.old + length tail.now < 2 ^ 64 }
         ensures ok { OnOk result (self.new ≡ self.old ++ tail.now) }
         ensures err { OnErr result (self.new ≡ self.old) }
     {
-        append(&mut self.runs, &tail.runs)?;
+        append(self.alloc, &mut self.runs, tail.runs.as_slice())?;
         self.len += tail.len;
         Ok(())
     }
 
     /// Keeps the numbers before this place and gives the others. It costs by the runs that it
-    /// gives. `Memory` where there is none left, and then nothing has changed.
+    /// gives. `Memory` where there is none left, which is so where it gives two runs or more alone,
+    /// and then nothing has changed.
     pub fn split_off(&mut self, place: u64) -> Result<Ranges, Memory>
         requires { place ≤ length self.old }
         ensures front { OnOk result (self.new ≡ take place self.old) }
@@ -156,7 +173,7 @@ impl Ranges {
         ensures numbers { numbers_of result.now ≡ self.now }
         ensures maximal { AreMaximal result.now }
     {
-        &self.runs
+        self.runs.as_slice()
     }
 }
 

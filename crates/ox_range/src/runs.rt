@@ -2,11 +2,6 @@ ghost use Rattle.std.specs.Prelude.{◌≡◌, ℕ, ◌+◌, ◌^◌, ◌<◌, �
 ghost use Rattle.std.specs.Prelude.{position};
 ghost use Rattle.ox_range.specs.Runs.{numbers_of, AreMaximal, runs_of};
 
-use smallvec::SmallVec;
-
-/// Runs, of which one takes no memory of its own: most lists have no more.
-pub(crate) type Runs = SmallVec<Run, 1>;
-
 /// Consecutive numbers: `first`, `first + 1` and so on, `count` of them.
 #[derive(Clone, Copy, Debug, Default, PartialEq, Eq)]
 pub struct Run {

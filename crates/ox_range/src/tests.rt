@@ -180,3 +180,124 @@ fn a_list_is_shortened_within_a_run_and_between_two(rt: HostRuntime) {
     shorten(&rt, &mut list, 0);
     assert!(rt; list.is_empty() && has_runs(&list, &[]));
 }
+
+/// Whether these are the numbers from one place on up to another of a comb that begins at 0, in as
+/// few runs as can be.
+fn is_part_of_comb(list: &Ranges, from: u64, to: u64) -> bool {
+    let mut place = from;
+    for run in list.runs() {
+        let end = to.min((place / 10).saturating_add(1).saturating_mul(10));
+        let first = (place / 10).saturating_mul(100).saturating_add(place % 10);
+        if place >= to || run.first != first || run.count != end - place {
+            return false;
+        }
+        place = end;
+    }
+    place == to && list.len() == to.saturating_sub(from)
+}
+
+/// Whether the list takes memory of its own just where it has several runs.
+fn is_compact(list: &Ranges) -> bool {
+    matches!(&list.runs, Runs::Many(_)) == (list.runs().len() > 1)
+}
+
+/// Whether a copy of the list has its runs.
+fn is_copied(rt: &impl Abort, list: &Ranges) -> bool {
+    let copy = list.copy(list.alloc).expect(rt, "memory");
+    copy.len() == list.len() && copy.runs() == list.runs() && is_compact(&copy)
+}
+
+/// Cuts a comb of so many runs at a place, and joins what it was cut into.
+fn is_cut_and_joined(rt: &impl Abort, alloc: Global, count: u64, place: u64) -> bool {
+    let end = count.saturating_mul(10);
+    let mut list = comb(rt, alloc, 0, count);
+    let rest = cut(rt, &mut list, place);
+    let right = is_part_of_comb(&list, 0, place) && is_part_of_comb(&rest, place, end);
+    let copied = is_copied(rt, &list) && is_copied(rt, &rest);
+    let compact = is_compact(&rest);
+    join(rt, &mut list, &rest);
+    right && copied && compact && is_part_of_comb(&list, 0, end)
+}
+
+/// Shortens a comb of so many runs to a place, and puts the rest of the run there behind it.
+fn is_shortened_and_joined(rt: &impl Abort, alloc: Global, count: u64, place: u64) -> bool {
+    let mut list = comb(rt, alloc, 0, count);
+    shorten(rt, &mut list, place);
+    let right = is_part_of_comb(&list, 0, place) && is_copied(rt, &list);
+    let first = (place / 10).saturating_mul(100).saturating_add(place % 10);
+    join(rt, &mut list, &one(rt, alloc, first, 10 - place % 10));
+    right && is_part_of_comb(&list, 0, (place / 10).saturating_add(1).saturating_mul(10))
+}
+
+#[test]
+fn lists_grow_from_no_run_to_three(rt: HostRuntime) {
+    let mut list = Ranges::empty(rt.alloc());
+    join(&rt, &mut list, &Ranges::empty(rt.alloc()));
+    assert!(rt; has_runs(&list, &[]) && is_copied(&rt, &list));
+    join(&rt, &mut list, &one(&rt, rt.alloc(), 0, 10));
+    join(&rt, &mut list, &one(&rt, rt.alloc(), 10, 5));
+    assert!(rt; has_runs(&list, &[(0, 15)]) && is_copied(&rt, &list) && is_compact(&list));
+    join(&rt, &mut list, &one(&rt, rt.alloc(), 100, 10));
+    join(&rt, &mut list, &one(&rt, rt.alloc(), 110, 5));
+    assert!(rt; has_runs(&list, &[(0, 15), (100, 115)]) && is_copied(&rt, &list));
+    join(&rt, &mut list, &one(&rt, rt.alloc(), 14, 1));
+    join(&rt, &mut list, &Ranges::empty(rt.alloc()));
+    assert!(rt; has_runs(&list, &[(0, 15), (100, 115), (14, 15)]) && is_copied(&rt, &list));
+}
+
+#[test]
+fn several_runs_stand_behind_none_one_and_two(rt: HostRuntime) {
+    for count in 0..3 {
+        let mut list = comb(&rt, rt.alloc(), 0, count);
+        join(&rt, &mut list, &comb(&rt, rt.alloc(), count * 100, 2));
+        assert!(rt; is_part_of_comb(&list, 0, count * 10 + 20));
+        join(&rt, &mut list, &comb(&rt, rt.alloc(), count * 100 + 110, 2));
+        assert!(rt; list.len() == count * 10 + 40 && list.runs().len() as u64 == count + 3);
+    }
+}
+
+#[test]
+fn long_lists_are_copied_and_joined(rt: HostRuntime) {
+    let mut list = comb(&rt, rt.alloc(), 0, 1_000);
+    assert!(rt; is_part_of_comb(&list, 0, 10_000) && is_copied(&rt, &list));
+    join(&rt, &mut list, &comb(&rt, rt.alloc(), 99_910, 1_000));
+    assert!(rt; list.len() == 20_000 && list.runs().len() == 1_999);
+}
+
+#[test]
+fn one_run_is_joined_with_the_first_of_several(rt: HostRuntime) {
+    let mut list = one(&rt, rt.alloc(), 5, 5);
+    join(&rt, &mut list, &comb(&rt, rt.alloc(), 10, 2));
+    assert!(rt; has_runs(&list, &[(5, 20), (110, 120)]));
+}
+
+#[test]
+fn what_is_left_of_several_runs_is_joined(rt: HostRuntime) {
+    let mut list = one(&rt, rt.alloc(), 0, 10);
+    let mut tail = comb(&rt, rt.alloc(), 10, 2);
+    shorten(&rt, &mut tail, 10);
+    join(&rt, &mut list, &tail);
+    shorten(&rt, &mut tail, 0);
+    join(&rt, &mut list, &tail);
+    assert!(rt; has_runs(&list, &[(0, 20)]) && is_compact(&list));
+    join(&rt, &mut tail, &list);
+    assert!(rt; has_runs(&tail, &[(0, 20)]));
+}
+
+#[test]
+fn lists_of_up_to_three_runs_are_cut_at_each_place(rt: HostRuntime) {
+    for count in 0..4 {
+        for place in 0..count * 10 + 1 {
+            assert!(rt; is_cut_and_joined(&rt, rt.alloc(), count, place));
+        }
+    }
+}
+
+#[test]
+fn lists_of_up_to_three_runs_are_shortened_to_each_place(rt: HostRuntime) {
+    for count in 0..4 {
+        for place in 0..count * 10 + 1 {
+            assert!(rt; is_shortened_and_joined(&rt, rt.alloc(), count, place));
+        }
+    }
+}

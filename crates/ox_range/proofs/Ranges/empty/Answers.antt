@@ -2,7 +2,7 @@ use Rattle.ox_range.proofs.RunLemmas.{kept_none, numbers-none}
 use Rattle.ox_range.proofs.Ranges.empty.Goals as goal
 
 pub invariant_of-result : goal.invariant_of-result
-invariant_of-result c = rw c.new.ensures.items kept_none
+invariant_of-result c = kept_none
 
 pub returns : goal.returns
-returns c = rw c.new.ensures.items numbers-none
+returns c = numbers-none

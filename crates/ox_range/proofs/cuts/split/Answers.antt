@@ -1,55 +1,46 @@
-use Rattle.std.proofs.Common.{◌-◌, arith}
-use Rattle.ox_range.proofs.RunLemmas.{zero_run, maximal-at, maximal-take, maximal-drop}
-use Rattle.ox_range.proofs.CutLemmas.{cut_between, cut_within, front_maximal, rest_maximal, on_ok, if_ok, in_both}
+use Rattle.std.proofs.Common.{◌∷◌, [], ◌≡◌, ◌≤◌, ◌∙◌, sym, ap, arith, length, take, drop}
+use Rattle.ox_range.specs.Runs.{numbers_of}
+use Rattle.ox_range.proofs.RunLemmas.{numbers-none}
+use Rattle.ox_range.proofs.CutLemmas.{run_alone, length-one, one_cut, take_none, drop_none}
 use Rattle.ox_range.proofs.cuts.split.Goals as goal
 
-pub split_within-requires-clause-fits : goal.split_within-requires-clause-fits
-split_within-requires-clause-fits c =
-    let inside = rw c.deref.ensures at (c.cut_at-index.ensures.inside c.if-before-place.true) in
-    (maximal-at c.args.runs.now.items c.cut_at-index.result.0 zero_run c.requires.maximal inside.0).1
+pub from_numbers-requires : goal.from_numbers-requires
+from_numbers-requires c =
+    let run = run_alone c.in-One.run' (rw c.in-One.is at c.requires.maximal) in
+    let len : length (numbers_of (c.in-One.run' ∷ [])) ≡ c.args.len = rw c.in-One.is at c.requires.len in
+    omega (arith, run, len, length-one c.in-One.run', c.requires.within)
 
-pub returns-then-before-place-clause-front : goal.returns-then-before-place-clause-front
-returns-then-before-place-clause-front c =
-    let inside = rw c.deref.ensures at (c.cut_at-index.ensures.inside c.if-before-place.true) in
-    let before = rw c.deref.ensures at c.cut_at-index.ensures.before in
-    let cut = cut_within c.args.runs.now.items c.cut_at-index.result.0 (c.args.place - c.cut_at-index.result.1) c.args.place zero_run inside.0 (omega (arith, inside.1, c.if-before-place.true)) (omega (arith, before, c.if-before-place.true)) in
-    on_ok c.split_within.result _ _ (λ items. rw items cut.0) c.split_within.ensures.front
+pub overflow_add-first : goal.overflow_add-first
+overflow_add-first c =
+    let run = run_alone c.in-One.run' (rw c.in-One.is at c.requires.maximal) in
+    let len : length (numbers_of (c.in-One.run' ∷ [])) ≡ c.args.len = rw c.in-One.is at c.requires.len in
+    omega (arith, run, len, length-one c.in-One.run', c.requires.within)
 
-pub returns-then-before-place-clause-rest : goal.returns-then-before-place-clause-rest
-returns-then-before-place-clause-rest c =
-    let inside = rw c.deref.ensures at (c.cut_at-index.ensures.inside c.if-before-place.true) in
-    let before = rw c.deref.ensures at c.cut_at-index.ensures.before in
-    let cut = cut_within c.args.runs.now.items c.cut_at-index.result.0 (c.args.place - c.cut_at-index.result.1) c.args.place zero_run inside.0 (omega (arith, inside.1, c.if-before-place.true)) (omega (arith, before, c.if-before-place.true)) in
-    if_ok c.split_within.result _ _ (λ rest items. rw items cut.1) c.split_within.ensures.rest
+pub overflow_sub-count : goal.overflow_sub-count
+overflow_sub-count c =
+    let len : length (numbers_of (c.in-One.run' ∷ [])) ≡ c.args.len = rw c.in-One.is at c.requires.len in
+    omega (arith, len, length-one c.in-One.run', c.requires.within)
 
-pub returns-then-before-place-clause-front_maximal : goal.returns-then-before-place-clause-front_maximal
-returns-then-before-place-clause-front_maximal c =
-    let inside = rw c.deref.ensures at (c.cut_at-index.ensures.inside c.if-before-place.true) in
-    let maximal = front_maximal c.args.runs.now.items c.cut_at-index.result.0 (c.args.place - c.cut_at-index.result.1) zero_run c.requires.maximal inside.0 (omega (arith, c.if-before-place.true)) (omega (arith, inside.1, c.if-before-place.true)) in
-    in_both c.split_within.result _ _ _ (λ items. rw items maximal) (λ same. rw same c.requires.maximal) c.split_within.ensures.front c.split_within.ensures.err
+pub from_numbers-requires-in-One : goal.from_numbers-requires-in-One
+from_numbers-requires-in-One c =
+    let run = run_alone c.in-One.run' (rw c.in-One.is at c.requires.maximal) in
+    let len : length (numbers_of (c.in-One.run' ∷ [])) ≡ c.args.len = rw c.in-One.is at c.requires.len in
+    omega (arith, run, len, length-one c.in-One.run', c.requires.within)
 
-pub returns-then-before-place-clause-rest_maximal : goal.returns-then-before-place-clause-rest_maximal
-returns-then-before-place-clause-rest_maximal c =
-    let inside = rw c.deref.ensures at (c.cut_at-index.ensures.inside c.if-before-place.true) in
-    let maximal = rest_maximal c.args.runs.now.items c.cut_at-index.result.0 (c.args.place - c.cut_at-index.result.1) zero_run c.requires.maximal inside.0 (omega (arith, inside.1, c.if-before-place.true)) in
-    if_ok c.split_within.result _ _ (λ rest items. rw items maximal) c.split_within.ensures.rest
+pub returns-in-Empty-clause-front : goal.returns-in-Empty-clause-front
+returns-in-Empty-clause-front c = rw c.in-Empty.is (numbers-none ∙ sym (ap (take c.args.place) numbers-none ∙ take_none c.args.place))
 
-pub returns-else-before-place-clause-front : goal.returns-else-before-place-clause-front
-returns-else-before-place-clause-front c =
-    let before = rw c.deref.ensures at c.cut_at-index.ensures.before in
-    let cut = cut_between c.args.runs.now.items c.cut_at-index.result.0 c.args.place (omega (arith, before, c.cut_at-index.ensures.from, c.if-before-place.false)) in
-    on_ok c.split_between.result _ _ (λ items. rw items cut.0) c.split_between.ensures.front
+pub returns-in-Empty-clause-rest : goal.returns-in-Empty-clause-rest
+returns-in-Empty-clause-rest c = rw c.in-Empty.is (numbers-none ∙ sym (ap (drop c.args.place) numbers-none ∙ drop_none c.args.place))
 
-pub returns-else-before-place-clause-rest : goal.returns-else-before-place-clause-rest
-returns-else-before-place-clause-rest c =
-    let before = rw c.deref.ensures at c.cut_at-index.ensures.before in
-    let cut = cut_between c.args.runs.now.items c.cut_at-index.result.0 c.args.place (omega (arith, before, c.cut_at-index.ensures.from, c.if-before-place.false)) in
-    if_ok c.split_between.result _ _ (λ rest items. rw items cut.1) c.split_between.ensures.rest
+pub returns-in-One-clause-front : goal.returns-in-One-clause-front
+returns-in-One-clause-front c =
+    let len : length (numbers_of (c.in-One.run' ∷ [])) ≡ c.args.len = rw c.in-One.is at c.requires.len in
+    let within : c.args.place ≤ c.in-One.run'.count = omega (arith, len, length-one c.in-One.run', c.requires.within) in
+    rw c.in-One.is (c.from_numbers.ensures.numbers ∙ (one_cut c.in-One.run' c.args.place within).0)
 
-pub returns-else-before-place-clause-front_maximal : goal.returns-else-before-place-clause-front_maximal
-returns-else-before-place-clause-front_maximal c =
-    in_both c.split_between.result _ _ _ (λ items. rw items (maximal-take c.cut_at-index.result.0 c.args.runs.now.items c.requires.maximal)) (λ same. rw same c.requires.maximal) c.split_between.ensures.front c.split_between.ensures.err
-
-pub returns-else-before-place-clause-rest_maximal : goal.returns-else-before-place-clause-rest_maximal
-returns-else-before-place-clause-rest_maximal c =
-    if_ok c.split_between.result _ _ (λ rest items. rw items (maximal-drop c.cut_at-index.result.0 c.args.runs.now.items c.requires.maximal)) c.split_between.ensures.rest
+pub returns-in-One-clause-rest : goal.returns-in-One-clause-rest
+returns-in-One-clause-rest c =
+    let len : length (numbers_of (c.in-One.run' ∷ [])) ≡ c.args.len = rw c.in-One.is at c.requires.len in
+    let within : c.args.place ≤ c.in-One.run'.count = omega (arith, len, length-one c.in-One.run', c.requires.within) in
+    rw c.in-One.is (c.from_numbers-in-One.ensures.numbers ∙ (one_cut c.in-One.run' c.args.place within).1)

@@ -1,6 +1,6 @@
 use Rattle.std.proofs.Common.{◌<◌, ◌+◌, ◌-◌, ◌^◌, arith, length}
 use Rattle.ox_range.proofs.RunLemmas.{maximal-at}
-use Rattle.ox_range.proofs.cuts.goes_on.Goals as goal
+use Rattle.ox_range.proofs.joins.goes_on.Goals as goal
 
 pub overflow_add-result : goal.overflow_add-result
 overflow_add-result c =
