@@ -1,5 +1,5 @@
 -- What stood where something was put, as a list of which the oldest comes first.
-use Rattle.std.proofs.Common.{◌≡◌, ◌≢◌, ◌∙◌, ℕ, zero, suc, ◌<◌, ◌+◌, Bool, true, false, cond, List, [], ◌∷◌, ◌++◌, drop, get_or, length, slice_set, Option, Some, None, is_some, Result, Ok, Err, Bor, Ordering, Less, Equal, Greater, refl, sym, ap, subst, true≢false, arith}
+use Rattle.std.proofs.Common.{◌≡◌, ◌∙◌, ℕ, ◌<◌, ◌+◌, Bool, true, false, cond, List, [], ◌∷◌, ◌++◌, drop, get_or, length, Option, Some, None, is_some, Result, Ok, Err, Bor, Ordering, Less, Equal, Greater, refl, sym, ap, subst, true≢false}
 use Rattle.std.specs.Prelude.{IsSome, IsOk, OnOk, All, ◌||◌, if◌then◌else◌}
 use Rattle.std.specs.Ordering.{is_eq}
 use Rattle.std.specs.Cmp.{IsTotalOrder, eq_by_cmp_equiv}
