@@ -7,7 +7,7 @@ use Rattle.ox_inscribe.specs.declared.row.InsRow.{InsRow}
 use Rattle.ox_outputs.specs.Table.{marked_in, rows_in}
 use Rattle.ox_index.specs.Held.{NoneOf, held_then}
 use Rattle.ox_index.specs.Parts.{held_in, mark_of}
-use Rattle.ox_index.proofs.Marks.{marked_some, same_held, undue_begun, undue_none}
+use Rattle.ox_index.proofs.Marks.{marked_some, same_held, undue_begun}
 use Rattle.ox_index.proofs.Steps.{unmoved}
 use Rattle.ox_rules.specs.Outputs.{Outputs as Rows}
 use Rattle.ox_rules.specs.Transfer.{transfer_of}
@@ -20,16 +20,7 @@ invariant_of-self c =
       known = self.known;
       counted = c.begin-2.ensures.profile ∙ self.counted;
       undue = ap (λ (r : Runes). r.due) c.begin-2.ensures.runes ∙ self.undue;
-      undue_then = undue_none (mark_in c.begin-2.new.self) c.in_err-begin.ensures.err;
-    }
-
-pub invariant_of-self-2 : goal.invariant_of-self-2
-invariant_of-self-2 c =
-    let self = c.args.self.now in record {
-      known = self.known;
-      counted = c.begin-2.ensures.profile ∙ self.counted;
-      undue = ap (λ (r : Runes). r.due) c.begin-2.ensures.runes ∙ self.undue;
-      undue_then = undue_begun (mark_in c.begin-2.new.self) (runes_in self.ledger) c.in_ok-begin.ensures.ok self.undue;
+      undue_then = undue_begun (mark_in c.begin-2.new.self) (runes_in self.ledger) c.begin-2.ensures.mark self.undue;
     }
 
 pub follow-requires-clause-moved : goal.follow-requires-clause-moved
@@ -38,7 +29,7 @@ follow-requires-clause-moved c =
       outs = rows_in c.expect.new.self;
       marked =
           let rows = c.begin.ensures.mark ∙ ap (λ (r : List InsRow). Some r) (sym c.begin.ensures.rows) in
-          let runes = c.in_ok-begin.ensures.ok ∙ ap (λ (r : Runes). Some r) (sym c.begin-2.ensures.runes) in
+          let runes = c.begin-2.ensures.mark ∙ ap (λ (r : Runes). Some r) (sym c.begin-2.ensures.runes) in
           λ i. held_then (c.in_ok-moved.ensures.mark i) (rows i) (runes i);
       moves = c.in_ok-moved.ensures.moved;
     }
@@ -49,25 +40,25 @@ follow-requires-clause-none c =
 
 pub cancel-requires : goal.cancel-requires
 cancel-requires c =
-    let marked : held_then (marked_in c.transfer.new.table) c.begin.new.self.mark (mark_in c.begin-2.new.self) ≡ Some (held_in c.args.self.now) = λ i. held_then ((c.in_ok-moved.ensures.mark ∙ ap (λ (r : Rows). Some r) c.expect.ensures.rows) i) (c.begin.ensures.mark i) (c.in_ok-begin.ensures.ok i) in
+    let marked : held_then (marked_in c.transfer.new.table) c.begin.new.self.mark (mark_in c.begin-2.new.self) ≡ Some (held_in c.args.self.now) = λ i. held_then ((c.in_ok-moved.ensures.mark ∙ ap (λ (r : Rows). Some r) c.expect.ensures.rows) i) (c.begin.ensures.mark i) (c.begin-2.ensures.mark i) in
     marked_some (mark_of c.follow.new.self) (held_in c.args.self.now) (c.follow.ensures.mark ∙ marked)
 
 pub returns-in_err-moved-clause-refused : goal.returns-in_err-moved-clause-refused
 returns-in_err-moved-clause-refused c =
     let self = c.args.self.now in
-    let p = err_from_is_err_and c.from_residual-in_err-moved.result c.from_residual-in_err-moved.ensures.1 in
+    let p = err_from_is_err_and c.from_residual.result c.from_residual.ensures.1 in
     let refused = subst (λ (r : Rows). RefusesMove c.in_err-moved.field-0.0 (transfer_of self.profile c.args.height c.args.block.now.txs r)) c.expect.ensures.rows c.in_err-moved.ensures.refused in
     rw p.1 (unmoved c.in_err-moved.field-0.0 p.0 _ refused p.2)
 
 pub returns-in-Ok-clause-ok : goal.returns-in-Ok-clause-ok
 returns-in-Ok-clause-ok c =
-    c.in-Ok.ensures.ok (held_in c.args.self.now) (λ i. held_then ((c.in_ok-moved.ensures.mark ∙ ap (λ (r : Rows). Some r) c.expect.ensures.rows) i) (c.begin.ensures.mark i) (c.in_ok-begin.ensures.ok i))
+    c.in-Ok.ensures.ok (held_in c.args.self.now) (λ i. held_then ((c.in_ok-moved.ensures.mark ∙ ap (λ (r : Rows). Some r) c.expect.ensures.rows) i) (c.begin.ensures.mark i) (c.begin-2.ensures.mark i))
 
 pub returns-in-Ok-clause-mark : goal.returns-in-Ok-clause-mark
 returns-in-Ok-clause-mark c =
-    c.follow.ensures.mark ∙ (λ i. held_then ((c.in_ok-moved.ensures.mark ∙ ap (λ (r : Rows). Some r) c.expect.ensures.rows) i) (c.begin.ensures.mark i) (c.in_ok-begin.ensures.ok i))
+    c.follow.ensures.mark ∙ (λ i. held_then ((c.in_ok-moved.ensures.mark ∙ ap (λ (r : Rows). Some r) c.expect.ensures.rows) i) (c.begin.ensures.mark i) (c.begin-2.ensures.mark i))
 
 pub returns-in-Err-clause-err : goal.returns-in-Err-clause-err
 returns-in-Err-clause-err c =
-    let marked = c.follow.ensures.mark ∙ (λ i. held_then ((c.in_ok-moved.ensures.mark ∙ ap (λ (r : Rows). Some r) c.expect.ensures.rows) i) (c.begin.ensures.mark i) (c.in_ok-begin.ensures.ok i)) in
+    let marked = c.follow.ensures.mark ∙ (λ i. held_then ((c.in_ok-moved.ensures.mark ∙ ap (λ (r : Rows). Some r) c.expect.ensures.rows) i) (c.begin.ensures.mark i) (c.begin-2.ensures.mark i)) in
     same_held (held_in c.cancel.new.self) (held_in c.args.self.now) (c.cancel.ensures.held ∙ marked)
