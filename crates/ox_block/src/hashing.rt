@@ -1,12 +1,13 @@
-//! Hashes of headers and transactions. Fields are hashed as they go, so nothing is gathered and
-//! nothing allocated.
+//! Hashes of headers and transactions.
 
-ghost use Rattle.std.specs.Prelude.{◌≡◌, ◌++◌, List, ℕ};
+ghost use Rattle.std.specs.Prelude.{◌≡◌, ◌++◌, List, ℕ, IfOk, OnOk};
 ghost use Rattle.sha2.specs.Hashers.{Holds256};
 ghost use Rattle.ox_block.specs.Hashes.{double_hash, block_hash, txid, wtxid};
+ghost use Rattle.ox_block.specs.Spelling.{stripped_form};
 
 use crate::block::{Header, Tx, Txid};
 use crate::spelling::{put_header, put_stripped, put_tx};
+use ox_bytes::Memory;
 use sha2::{Digest, Sha256};
 
 /// The digest of the digest of what the hasher holds.
@@ -17,14 +18,23 @@ fn twice(hasher: Sha256) -> [u8; 32]
     Sha256::digest(&once[..])
 }
 
+/// SHA-256 twice over bytes that stand together, which the hasher needn't copy.
+fn twice_over(bytes: &[u8]) -> [u8; 32]
+    ensures { result ≡ double_hash bytes.now }
+{
+    let once = Sha256::digest(bytes);
+    Sha256::digest(&once[..])
+}
+
 /// SHA-256 twice over two hashes, one after the other.
 pub fn hash_pair(left: &[u8; 32], right: &[u8; 32]) -> [u8; 32]
     ensures { result ≡ double_hash (left.now ++ right.now) }
 {
-    let mut hasher = Sha256::new();
-    hasher.update(&left[..]);
-    hasher.update(&right[..]);
-    twice(hasher)
+    let mut pair = [0; 64];
+    let (front, back) = pair.split_at_mut(32);
+    front.copy_from_slice(left);
+    back.copy_from_slice(right);
+    twice_over(&pair)
 }
 
 /// The hash of a block: SHA-256 twice over the 80 bytes of its header, in serialized order.
@@ -48,6 +58,26 @@ pub fn txid_of(tx: &Tx) -> Txid
     match put_stripped(&mut hasher, tx) {
         Ok(()) => Txid(twice(hasher)),
     }
+}
+
+/// Writes down a transaction without marker, flag and witnesses, in place of what some room held.
+fn put_form(room: &mut Vec<u8>, tx: &Tx) -> Result<(), Memory>
+    ensures { OnOk result (room.new.items ≡ stripped_form tx.now) }
+{
+    room.clear();
+    put_stripped(room, tx)?;
+    Ok(())
+}
+
+/// The id of a transaction, as `txid_of` gives it. Its form is written down in some room, which is
+/// cleared before: to hash it at once costs less than piece by piece. `Memory` where there is none
+/// for the form.
+#[tactic(auto, unfolding(crate::specs::Hashes::txid))]
+pub(crate) fn txid_in(room: &mut Vec<u8>, tx: &Tx) -> Result<Txid, Memory>
+    ensures { IfOk result (λ id. id.0 ≡ txid tx.now) }
+{
+    put_form(room, tx)?;
+    Ok(Txid(twice_over(room)))
 }
 
 /// The id over a transaction's whole form (BIP 141): with marker, flag and witnesses where it is

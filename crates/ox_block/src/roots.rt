@@ -14,7 +14,7 @@ use std::alloc::Global;
 fn row_above(alloc: Global, row: &[[u8; 32]]) -> Result<Vec<[u8; 32]>, Memory>
     ensures { IfOk result (λ above. above.items ≡ next_row row.now) }
 {
-    let mut above = Vec::new(alloc);
+    let mut above = Vec::with_capacity(alloc, row.len() / 2 + 1)?;
     let mut rest = row;
     loop {
         match rest {

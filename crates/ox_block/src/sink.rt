@@ -41,3 +41,13 @@ impl Sink for Bytes {
         self.append(piece)
     }
 }
+
+impl Sink for Vec<u8> {
+    ghost holds = { λ bytes text. bytes.items ≡ text };
+
+    type Fault = Memory;
+
+    fn put(&mut self, piece: &[u8]) -> Result<(), Memory> {
+        Ok(self.extend_from_slice(piece)?)
+    }
+}

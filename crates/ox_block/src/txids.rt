@@ -4,7 +4,7 @@ ghost use Rattle.std.specs.Prelude.{◌≡◌, map, IfOk};
 ghost use Rattle.ox_block.specs.Hashes.{txid};
 
 use crate::block::{Block, Tx};
-use crate::hashing::txid_of;
+use crate::hashing::txid_in;
 use ox_bytes::{List, Memory};
 use std::alloc::Global;
 
@@ -16,8 +16,9 @@ fn ids_of(alloc: Global, txs: &[Tx]) -> Result<Vec<[u8; 32]>, Memory>
     ensures { IfOk result (λ ids. ids.items ≡ map txid txs.now) }
 {
     let mut ids = Vec::with_capacity(alloc, txs.len())?;
+    let mut form = Vec::new(alloc);
     for tx in txs {
-        ids.push(txid_of(tx).0)?;
+        ids.push(txid_in(&mut form, tx)?.0)?;
     }
     Ok(ids)
 }
