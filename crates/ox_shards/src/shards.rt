@@ -61,11 +61,21 @@ impl<K: Sharded, V> Shards<K, V> {
         }
     }
 
-    /// Reads a little of the list in which a key would stand, so that the processor fetches it.
-    /// What it answers says nothing.
+    /// Reads a little of the list in which a key would stand, so that the processor fetches it. It
+    /// is a hint, and what it answers says nothing.
     pub fn glance(&self, key: &K) -> u32 {
         match self.lists.get(key.shard()) {
             Some(list) => list.glance(),
+            None => 0,
+        }
+    }
+
+    /// Reads a little of the entry that may be that of a key, the first of its list with the key's
+    /// tag, so that the processor fetches it. It waits for what `glance` reads. It is a hint, and
+    /// what it answers says nothing.
+    pub fn glance_entry(&self, key: &K) -> u32 {
+        match self.lists.get(key.shard()) {
+            Some(list) => list.glance_entry(key),
             None => 0,
         }
     }

@@ -120,6 +120,16 @@ fn a_list_is_read_ahead_where_there_is_one(rt: HostRuntime) {
 }
 
 #[test]
+fn an_entry_is_read_ahead_where_its_tag_is_there(rt: HostRuntime) {
+    let [a, b, _, _] = four_outpoints();
+    let none: Shards<OutPoint, u64> = Shards::new(rt.alloc());
+    assert!(rt; none.glance_entry(&b) == 0);
+    let map = map_of_four(&rt, rt.alloc());
+    assert!(rt; map.glance_entry(&a) == a.tag() && map.glance_entry(&b) == b.tag());
+    assert!(rt; map.glance_entry(&outpoint(7, 9, 3, 0)) == 0 && has(&map, b, Some(11)));
+}
+
+#[test]
 fn keys_of_one_shard_are_all_there(rt: HostRuntime) {
     let mut map = Shards::new(rt.alloc());
     for key in 0..1_000u32 {
