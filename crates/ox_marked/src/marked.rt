@@ -71,6 +71,18 @@ impl<K: Sharded, V> Marked<K, V> {
         }
     }
 
+    /// Reads a little of what leads to a key's entry, so that the processor fetches it. It is a
+    /// hint, and what it answers says nothing.
+    pub fn glance(&self, key: &K) -> u32 {
+        self.entries.glance(key)
+    }
+
+    /// Reads a little of the entry that may be that of a key, which waits for what `glance` reads.
+    /// It is a hint, and what it answers says nothing.
+    pub fn glance_entry(&self, key: &K) -> u32 {
+        self.entries.glance_entry(key)
+    }
+
     /// Puts a value at a key, or takes the value there out. `Memory` where there is none for it:
     /// nothing has changed then. It costs one look-up.
     pub fn put(&mut self, key: K, value: Option<V>) -> Result<(), Memory>
