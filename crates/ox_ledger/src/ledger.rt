@@ -6,12 +6,13 @@ ghost use Rattle.std.specs.Option.{ForSome, IfSome};
 ghost use Rattle.ox_ledger.specs.Balanced.{Balanced, made_of};
 ghost use Rattle.ox_ledger.specs.Tables.{mark_of, runes_of};
 
+use crate::ahead::read_ahead;
 use crate::part::RunePart;
 use crate::tables::Tables;
 use ox_block::{OutPoint, Tx, Txid};
 use ox_bytes::Memory;
 use ox_etching::RuneRow;
-use ox_rules::SpentRows;
+use ox_rules::{MovedTx, SpentRows};
 use ox_runestone::{RuneId, Terms};
 use ox_sat::Profile;
 use std::alloc::Global;
@@ -60,6 +61,8 @@ pub struct Ledger {
     profile: Profile,
     tables: Tables,
     marked: bool,
+    /// What was read ahead, added up. It says nothing, and is there so that no reading is left out.
+    sum: u32,
     ghost balanced: { Balanced (runes_of tables) } by { Prim.hlevel props },
     ghost balanced_then: { ForSome (mark_of tables) Balanced } by { Prim.hlevel props },
     ghost known: { marked ≡ is_some (mark_of tables) },
@@ -95,6 +98,7 @@ impl Ledger {
             profile: *p,
             tables,
             marked: false,
+            sum: 0,
         })
     }
 
@@ -145,6 +149,18 @@ impl Ledger {
     {
         let row = self.tables.runes.get(n);
         made_of(row) - row.burned - self.tables.due_of(row.id)
+    }
+
+    /// Says which transactions have their turns next, so that what these ask for is read ahead. It
+    /// is a hint: where others come all is as it would be without it, but slower. It takes no
+    /// memory.
+    pub fn expect(&mut self, txs: &[Tx], moved: &[MovedTx])
+        ensures runes { runes_in self.new ≡ runes_in self.old }
+        ensures mark { mark_in self.new ≡ mark_in self.old }
+        ensures profile { self.new.profile ≡ self.old.profile }
+    {
+        let read = read_ahead(&self.tables.holders, txs, moved);
+        self.sum = self.sum.wrapping_add(read);
     }
 
     /// One transaction, with its id, at a place of a block of this height: the coinbase is at place

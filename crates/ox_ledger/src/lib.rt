@@ -1,6 +1,7 @@
 //! The runes of a chain: which there are, and which output holds how much of them.
 #![tactic(auto)]
 
+mod ahead;
 mod artifact;
 mod holders;
 mod laws;

@@ -9,7 +9,8 @@ use ox_block::{Inputs, OutPoint, Outs, Script, Tx, TxIn, TxOut, Txid, Witness};
 use ox_bytes::Bytes;
 use ox_etching::RuneRow;
 use ox_ledger::{Counts, Ledger, RunePart};
-use ox_rules::SpentRows;
+use ox_range::Ranges;
+use ox_rules::{DisplacedRows, MovedTx, SpentRows};
 use ox_runestone::RuneId;
 use ox_sat::{ProfileName, profile_of};
 use std::alloc::Global;
@@ -131,6 +132,16 @@ fn turn(rt: &impl Abort, ledger: &mut Ledger, alloc: Global, spot: (u32, u32, u8
     ledger
         .turn(height, place, txid(number), body, &spent)
         .expect(rt, "memory");
+}
+
+/// What a transaction did whose id is all this byte, as far as it matters here.
+fn did(alloc: Global, number: u8) -> MovedTx {
+    MovedTx {
+        txid: txid(number),
+        spent: SpentRows::new(alloc),
+        joined: Ranges::empty(alloc),
+        displaced: DisplacedRows::new(alloc),
+    }
 }
 
 /// A ledger in which transaction 1 of block 3 has etched by a runestone, and has the premine at
@@ -381,6 +392,23 @@ fn a_thousand_outputs_hold_runes(rt: HostRuntime) {
     assert!(rt; amount_at(&ledger, at(1, 0)) == 1_000 && amount_at(&ledger, at(2, 999)) == 0);
     redo(&rt, &mut ledger, &part);
     assert!(rt; amount_at(&ledger, at(1, 0)) == 0 && amount_at(&ledger, at(2, 999)) == 1);
+}
+
+/// What is expected changes nothing, and no less comes of a transaction that was expected.
+#[test]
+fn what_is_expected_changes_nothing(rt: HostRuntime) {
+    let alloc = rt.alloc();
+    let txs = [tx(&rt, alloc, &[at(1, 0), at(9, 0)], &[PLAIN, PLAIN])];
+    let moved = [did(alloc, 2)];
+    let mut empty = lab(&rt, alloc);
+    empty.expect(&txs, &moved);
+    assert!(rt; empty.len() == 0 && empty.balance(&at(1, 0)).is_empty());
+    let mut ledger = etched(&rt, alloc, ETCHES);
+    let before = state_of(&ledger);
+    ledger.expect(&txs, &moved);
+    assert!(rt; state_of(&ledger) == before && amount_at(&ledger, at(1, 0)) == 7);
+    turn(&rt, &mut ledger, alloc, (4, 1, 2), &txs[0]);
+    assert!(rt; counts(&ledger, 0, 0, 7) && amount_at(&ledger, at(2, 0)) == 7);
 }
 
 /// A rune can't be minted where it is etched; below the start of runes nothing is read.
