@@ -11,16 +11,20 @@ ghost use Rattle.ox_ledger.specs.Tables.{nothing};
 ghost use Rattle.ox_index.specs.Held.{NoneOf};
 
 use crate::fault::ConnectFault;
-use ox_block::{Block, Txids, hash};
+use ox_block::{Block, Tx, Txids, hash};
 use ox_bytes::{List, Memory};
 use ox_inscribe::{InsRow, Shelf};
 use ox_ledger::Ledger;
 use ox_model::{Change, Moved, OutTable};
 use ox_outputs::Outputs;
 use ox_range::Ranges;
+use ox_rules::MovedTx;
 use ox_sat::Profile;
 use ox_transfer::transfer;
 use std::alloc::Global;
+
+/// The ledger is told so many transactions at a time.
+const BATCH: usize = 16;
 
 /// The unspent outputs, the inscriptions and the runes of a chain, each with a mark to go back to.
 #[derive(Drop)]
@@ -263,10 +267,30 @@ fn move_runes(ledger: &mut Ledger, block: &Block, moved: &Moved, height: u32) ->
     let txs = block.txs.as_slice();
     let all = moved.txs.as_slice();
     for place in 0..txs.len().min(all.len()) {
+        expect_from(ledger, txs, all, place);
         let did = &all[place];
         ledger.turn(height, place as u32, did.txid, &txs[place], &did.spent)?;
     }
     ledger.end()
+}
+
+// Before the first of some transactions, tells the ledger all of these.
+fn expect_from(ledger: &mut Ledger, txs: &[Tx], all: &[MovedTx], place: usize)
+    ensures runes { runes_in ledger.new ≡ runes_in ledger.old }
+    ensures mark { rune_mark ledger.new ≡ rune_mark ledger.old }
+    ensures profile { ledger.new.profile ≡ ledger.old.profile }
+{
+    if place % BATCH == 0 {
+        ledger.expect(batch_from(txs, place), batch_from(all, place));
+    }
+}
+
+// What is at a place and behind it, as much as is told at a time.
+fn batch_from<T>(all: &[T], place: usize) -> &[T] {
+    match all.get(place..) {
+        Some(left) => &left[..left.len().min(BATCH)],
+        None => &[],
+    }
 }
 
 // Copies of the inscriptions from a number on. `Memory` where there is none for them.

@@ -27,10 +27,13 @@ overflow_cast-place c = omega (arith, few_txs c.args.block.now c.requires.lawful
 
 pub turn-requires : goal.turn-requires
 turn-requires c =
-    let now = c.loop-place.ledger in
+    let was = c.loop-place.ledger in
     let did = c.index-all-place.result in
-    subst (λ (p : Profile). IsFree (record { profile = p; height = c.args.height; tx = c.loop-place.place; txid = did.txid }) (runes_in now).runes) (sym c.loop-place.invariant.profile)
-    (open_free c.args.ledger.now.profile c.args.height c.loop-place.place did.txid (runes_in now).runes c.loop-place.invariant.free)
+    let now = c.expect_from.new.ledger in
+    let same = c.expect_from.ensures.profile ∙ c.loop-place.invariant.profile in
+    subst (λ (r : Runes). IsFree (record { profile = now.profile; height = c.args.height; tx = c.loop-place.place; txid = did.txid }) r.runes) (sym c.expect_from.ensures.runes)
+    (subst (λ (p : Profile). IsFree (record { profile = p; height = c.args.height; tx = c.loop-place.place; txid = did.txid }) (runes_in was).runes) (sym same)
+    (open_free c.args.ledger.now.profile c.args.height c.loop-place.place did.txid (runes_in was).runes c.loop-place.invariant.free))
 
 pub loop-place-preserved : goal.loop-place-preserved
 loop-place-preserved c =
@@ -43,7 +46,8 @@ loop-place-preserved c =
     let did = c.index-all-place.result in
     let state = runes_in c.loop-place.ledger in
     let next : runes_in c.turn.new.self ≡ turn_at p height place tx did state =
-    c.in_ok-turn.ensures.ok ∙ ap (λ (q : Profile). turn_at q height place tx did state) c.loop-place.invariant.profile in
+    c.in_ok-turn.ensures.ok
+    ∙ ap₂ (λ (q : Profile) (r : Runes). turn_at q height place tx did r) (c.expect_from.ensures.profile ∙ c.loop-place.invariant.profile) c.expect_from.ensures.runes in
     let more : place < length txs = omega (arith, c.loop-place-test.true, c.min-place-end.ensures) in
     let less : place < length all = omega (arith, c.loop-place-test.true, c.min-place-end.ensures) in record {
       rest =
@@ -51,14 +55,14 @@ loop-place-preserved c =
           ∙ turn_more p height place txs all tx did state more less c.index-txs-place.is c.index-all-place.is
           ∙ ap (turns_from p height (place + 1) txs all) (sym next);
       free = subst (λ (r : Runes). IsOpen p height (place + 1) r.runes) (sym next) (open_next p height place tx did state c.loop-place.invariant.free);
-      mark = c.turn.ensures.mark ∙ c.loop-place.invariant.mark;
-      profile = c.turn.ensures.profile ∙ c.loop-place.invariant.profile;
+      mark = c.turn.ensures.mark ∙ c.expect_from.ensures.mark ∙ c.loop-place.invariant.mark;
+      profile = c.turn.ensures.profile ∙ c.expect_from.ensures.profile ∙ c.loop-place.invariant.profile;
     }
 
 pub returns-in_err-turn-clause-err : goal.returns-in_err-turn-clause-err
 returns-in_err-turn-clause-err c =
     let p = err_from_is_err_and c.from_residual.result c.from_residual.ensures.1 in
-    rw p.1 (c.in_err-turn.ensures.err ∙ ap (λ (m : Option Runes). unwrap_or m nothing) c.loop-place.invariant.mark)
+    rw p.1 (c.in_err-turn.ensures.err ∙ ap (λ (m : Option Runes). unwrap_or m nothing) (c.expect_from.ensures.mark ∙ c.loop-place.invariant.mark))
 
 pub returns-clause-ok : goal.returns-clause-ok
 returns-clause-ok c =
