@@ -1,13 +1,11 @@
 -- How many numbers stand before each run.
-use Rattle.std.proofs.Common.{◌≡◌, ◌∙◌, ◌⊎◌, inl, inr, ℕ, zero, suc, ◌+◌, ◌-◌, ◌^◌, ◌<◌, ◌≤◌, List, [], ◌∷◌, ◌++◌, length, take, drop, get_or, refl, sym, ap, arith, append_assoc, append-nil, length-append, Some}
-use Rattle.std.specs.Prelude.{slice_get}
+use Rattle.std.proofs.Common.{◌≡◌, ◌∙◌, ◌⊎◌, inl, inr, ℕ, zero, suc, ◌+◌, ◌-◌, ◌^◌, ◌<◌, ◌≤◌, List, [], ◌∷◌, ◌++◌, length, take, drop, get_or, refl, sym, ap, arith, append_assoc, append-nil, length-append}
 use Rattle.std.proofs.lemmas.Bool.{cases_lt}
 use Rattle.std.proofs.lemmas.List.{drop_more, drop_all, get_or-drop, take_all}
-use Rattle.std.proofs.lemmas.Option.{slice_get-get_or}
 use Rattle.ox_range.specs.declared.runs.Run.{Run}
 use Rattle.ox_range.specs.Numbers.{numbers_from}
-use Rattle.ox_range.specs.Runs.{numbers_of, runs_of, AreMaximal}
-use Rattle.ox_range.proofs.RunLemmas.{zero_run, numbers-cons, numbers-none, length-numbers_from, maximal-drop, number_here, step, numbers_of-runs_of}
+use Rattle.ox_range.specs.Runs.{numbers_of, AreMaximal}
+use Rattle.ox_range.proofs.RunLemmas.{zero_run, numbers-cons, numbers-none, length-numbers_from, maximal-drop, number_here, step}
 use Rattle.ox_range.proofs.CutLemmas.{cut_between, length-take_more}
 use Rattle.ox_range_index.specs.Index.{counts_from}
 
@@ -79,9 +77,9 @@ is_in place i runs run low high long = by_last (cases_lt (i + 1) (length runs)) 
   }
 
 -- the number at a place, by its run
-pub number_in : (place i : ℕ) (runs : List Run) → AreMaximal runs → i < length runs → get_or (counts_from 0 runs) i 0 ≤ place
+number_in : (place i : ℕ) (runs : List Run) → AreMaximal runs → i < length runs → get_or (counts_from 0 runs) i 0 ≤ place
     → (i + 1 < length runs → place < get_or (counts_from 0 runs) (i + 1) 0) → place < length (numbers_of runs)
-    → (slice_get (numbers_of runs) place ≡ Some ((get_or runs i zero_run).first + (place - get_or (counts_from 0 runs) i 0))) × ((get_or runs i zero_run).first + (place - get_or (counts_from 0 runs) i 0) < 2 ^ 64)
+    → ((get_or runs i zero_run).first + (place - get_or (counts_from 0 runs) i 0) ≡ get_or (numbers_of runs) place 0) × ((get_or runs i zero_run).first + (place - get_or (counts_from 0 runs) i 0) < 2 ^ 64)
 number_in place i runs maximal run low high long =
     let there = is_in place i runs run low high long in
     let count = length (numbers_of (take i runs)) in
@@ -90,33 +88,29 @@ number_in place i runs maximal run low high long =
     let at : get_or (numbers_of runs) (count + (place - count)) 0 ≡ (get_or runs i zero_run).first + (place - count) =
     sym (get_or-drop count (numbers_of runs) (place - count) 0) ∙ sym (ap (λ (ns : List ℕ). get_or ns (place - count) 0) ((cut_between runs i count refl).1)) ∙ number_here runs i (get_or runs i zero_run) (place - count) here there.within in
     let same : count + (place - count) ≡ place = omega (arith, there.count) in (
-      slice_get-get_or (numbers_of runs) place 0 long ∙ ap (λ (n : ℕ). Some n) (ap (λ (k : ℕ). get_or (numbers_of runs) k 0) (sym same) ∙ at ∙ ap (λ (k : ℕ). (get_or runs i zero_run).first + (place - k)) (sym counted)),
+      sym (ap (λ (k : ℕ). get_or (numbers_of runs) k 0) (sym same) ∙ at ∙ ap (λ (k : ℕ). (get_or runs i zero_run).first + (place - k)) (sym counted)),
       omega (arith, counted, here.fits, there.within),
     )
 
--- the same where the counts are those of a list's runs
-pub found : (counts numbers : List ℕ) (runs : List Run) (place i : ℕ) → runs ≡ runs_of numbers → AreMaximal runs → counts ≡ counts_from 0 (runs_of numbers) → i < length counts → get_or counts i 0 ≤ place
-    → (i + 1 < length counts → place < get_or counts (i + 1) 0) → place < length numbers
-    → (i < length runs) × (slice_get numbers place ≡ Some ((get_or runs i zero_run).first + (place - get_or counts i 0))) × ((get_or runs i zero_run).first + (place - get_or counts i 0) < 2 ^ 64)
-found counts numbers runs place i is maximal counted within low high long =
-    let all : numbers_of runs ≡ numbers = ap numbers_of is ∙ numbers_of-runs_of numbers in
-    let by_runs : counts ≡ counts_from 0 runs = counted ∙ ap (counts_from 0) (sym is) in
-    let same_len : length counts ≡ length runs = ap length by_runs ∙ length-counts 0 runs in
-    let at : (k : ℕ) → get_or counts k 0 ≡ get_or (counts_from 0 runs) k 0 = λ k. ap (λ (cs : List ℕ). get_or cs k 0) by_runs in
+-- the same where the counts are those of the runs
+pub found : (counts : List ℕ) (runs : List Run) (place i : ℕ) → AreMaximal runs → counts ≡ counts_from 0 runs → i < length counts → get_or counts i 0 ≤ place
+    → (i + 1 < length counts → place < get_or counts (i + 1) 0) → place < length (numbers_of runs)
+    → (i < length runs) × ((get_or runs i zero_run).first + (place - get_or counts i 0) ≡ get_or (numbers_of runs) place 0) × ((get_or runs i zero_run).first + (place - get_or counts i 0) < 2 ^ 64)
+found counts runs place i maximal counted within low high long =
+    let same_len : length counts ≡ length runs = ap length counted ∙ length-counts 0 runs in
+    let at : (k : ℕ) → get_or counts k 0 ≡ get_or (counts_from 0 runs) k 0 = λ k. ap (λ (cs : List ℕ). get_or cs k 0) counted in
     let there : i < length runs = omega (arith, within, same_len) in
-    let number = number_in place i runs maximal there (omega (arith, low, at i)) (λ more. omega (arith, at (i + 1), high (omega (arith, more, same_len)))) (omega (arith, long, ap length all)) in (
+    let number = number_in place i runs maximal there (omega (arith, low, at i)) (λ more. omega (arith, at (i + 1), high (omega (arith, more, same_len)))) long in (
       there,
-      ap (λ (ns : List ℕ). slice_get ns place) (sym all) ∙ number.0 ∙ ap (λ (k : ℕ). Some ((get_or runs i zero_run).first + (place - k))) (sym (at i)),
+      ap (λ (k : ℕ). (get_or runs i zero_run).first + (place - k)) (at i) ∙ number.0,
       omega (arith, number.1, at i),
     )
 
-pub some_count : (counts numbers : List ℕ) (place : ℕ) → counts ≡ counts_from 0 (runs_of numbers) → place < length numbers → (0 < length counts) × (get_or counts 0 0 ≤ place)
-some_count counts numbers place counted long = by_runs (runs_of numbers) refl where
-  by_runs : (runs : List Run) → runs_of numbers ≡ runs → (0 < length counts) × (get_or counts 0 0 ≤ place)
-  by_runs [] is = absurd (omega (arith, long, ap (λ (rs : List Run). length (numbers_of rs)) is, ap length (numbers_of-runs_of numbers), ap length numbers-none))
-  by_runs (run ∷ runs) is =
-      let all : counts ≡ 0 ∷ counts_from (0 + run.count) runs = counted ∙ ap (counts_from 0) is ∙ counts-cons 0 run runs in
-      (omega (arith, ap length all), omega (arith, ap (λ (cs : List ℕ). get_or cs 0 0) all))
+pub some_count : (counts : List ℕ) (runs : List Run) (place : ℕ) → counts ≡ counts_from 0 runs → place < length (numbers_of runs) → (0 < length counts) × (get_or counts 0 0 ≤ place)
+some_count counts [] place counted long = absurd (omega (arith, long, ap length numbers-none))
+some_count counts (run ∷ runs) place counted long =
+    let all : counts ≡ 0 ∷ counts_from (0 + run.count) runs = counted ∙ counts-cons 0 run runs in
+    (omega (arith, ap length all), omega (arith, ap (λ (cs : List ℕ). get_or cs 0 0) all))
 
 pub runs_fit : (numbers : List ℕ) (runs : List Run) (len : ℕ) → numbers_of runs ≡ numbers → len ≡ length numbers → len < 2 ^ 64 → length (numbers_of runs) < 2 ^ 64
 runs_fit numbers runs len all is fits = omega (arith, ap length all, is, fits)

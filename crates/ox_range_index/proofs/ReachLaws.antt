@@ -1,7 +1,7 @@
 -- How far runs reach that begin at or below a number.
-use Rattle.std.proofs.Common.{◌≡◌, ◌∙◌, ℕ, zero, suc, ◌+◌, ◌-◌, ◌^◌, ◌<◌, ◌≤◌, Bool, true, false, List, [], ◌∷◌, ◌++◌, length, drop, get_or, refl, sym, ap, subst, arith, append_assoc, append-nil, nat_lt, nat_le, max}
-use Rattle.std.specs.Prelude.{◌==◌, ◌||◌, ◌&&◌, All}
-use Rattle.std.specs.List.{list_any, AllWithin}
+use Rattle.std.proofs.Common.{◌≡◌, ◌∙◌, ℕ, zero, suc, ◌+◌, ◌^◌, ◌<◌, ◌≤◌, Bool, true, false, List, [], ◌∷◌, ◌++◌, length, drop, get_or, refl, sym, ap, subst, arith, append_assoc, append-nil, nat_lt, nat_le, max, is_some, cond, Some, None}
+use Rattle.std.specs.Prelude.{◌==◌, ◌||◌, ◌&&◌, All, position}
+use Rattle.std.specs.List.{list_any, position_or_len, AllWithin}
 use Rattle.std.specs.List.Sorted.{IsNonDecreasingBy, IsPermutation, IsPartitionPoint, IsPartitionedBy}
 use Rattle.std.proofs.lemmas.List.{drop_more, drop_all}
 use Rattle.std.proofs.Math.Bool.{or_assoc}
@@ -169,3 +169,29 @@ over_none number runs reaches is cut = sym (no_less number) ∙ over number 0 ru
 
 pub ends_fit : (runs sorted : List Run) → AreMaximal runs → IsPermutation runs sorted → All (λ (run : Run). end_of run < 2 ^ 64) sorted
 ends_fit runs sorted maximal moved = All-permutation (λ (run : Run). end_of run < 2 ^ 64) runs sorted moved (λ k d within. (maximal-at runs k d maximal within).1)
+
+-- ---- one run
+
+has_place : (there : Bool) (place : ℕ) → is_some (cond there (Some place) None) ≡ there
+has_place true place = refl
+has_place false place = refl
+
+one_behind : (place count : ℕ) → nat_lt (1 + place) (suc count) ≡ nat_lt place count
+one_behind place count = grind (arith, nat_tests)
+
+first_place : (test : ℕ → Bool) (number : ℕ) (numbers : List ℕ) → is_some (position test numbers) ≡ list_any test numbers → is_some (position test (number ∷ numbers)) ≡ list_any test (number ∷ numbers)
+first_place test number numbers rest = by_first (test number) refl where
+  by_first : (first : Bool) → test number ≡ first → is_some (position test (number ∷ numbers)) ≡ list_any test (number ∷ numbers)
+  by_first true is = rw is (has_place (nat_lt 0 (suc (length numbers))) 0 ∙ grind (arith, nat_tests))
+  by_first false is =
+      let place = position_or_len test numbers in
+      rw is
+      (has_place (nat_lt (1 + place) (suc (length numbers))) (1 + place)
+      ∙ one_behind place (length numbers)
+      ∙ sym (has_place (nat_lt place (length numbers)) place)
+      ∙ rest)
+
+-- a number that has a place is there
+pub some_place : (test : ℕ → Bool) (numbers : List ℕ) → is_some (position test numbers) ≡ list_any test numbers
+some_place test [] = refl
+some_place test (number ∷ numbers) = first_place test number numbers (some_place test numbers)

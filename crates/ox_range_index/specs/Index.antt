@@ -1,9 +1,11 @@
 -- What runs are looked up by.
 use Rattle.std.specs.Prelude.{◌≡◌, ℕ, ◌+◌, Bool, ◌&&◌, List, [], ◌∷◌, nat_le, nat_lt, max}
-use Rattle.std.specs.Prelude.{length}
+use Rattle.std.specs.Prelude.{length, Option}
+use Rattle.std.specs.Option.{ForSome}
 use Rattle.std.specs.List.Sorted.{IsNonDecreasingBy, IsPermutation}
 use Rattle.ox_range.specs.Runs.{end_of, runs_of}
 use Rattle.ox_range.specs.declared.runs.Run.{Run}
+use Rattle.ox_range_index.specs.declared.index.Tables.{Tables}
 use Rattle.ox_range_index.specs.declared.reaches.Reach.{Reach}
 
 -- how many numbers stand before each run, the first of them behind so many
@@ -29,9 +31,12 @@ pub record Reaches (runs : List Run) (reaches : List Reach) : Type 0 where
   pub rising : IsNonDecreasingBy (λ run. run.first) sorted
   pub is : reaches ≡ reaches_from 0 sorted
 
--- what the runs of these numbers are looked up by
-pub record IsIndexOf (numbers : List ℕ) (len : ℕ) (counts : List ℕ) (reaches : List Reach)
-    : Type 0 where
+-- what several runs are looked up by
+pub record AreTablesOf (runs : List Run) (tables : Tables) : Type 0 where
+  pub counted : tables.counts.items ≡ counts_from 0 runs
+  pub reached : Reaches runs tables.reaches.items
+
+-- what a list of these numbers is looked up by
+pub record IsIndexOf (numbers : List ℕ) (len : ℕ) (tables : Option Tables) : Type 0 where
   pub whole : len ≡ length numbers
-  pub counted : counts ≡ counts_from 0 (runs_of numbers)
-  pub reached : Reaches (runs_of numbers) reaches
+  pub searched : ForSome tables (AreTablesOf (runs_of numbers))

@@ -1,26 +1,23 @@
-use Rattle.std.proofs.Common.{arith, sym, ap, ◌∙◌}
-use Rattle.std.specs.Prelude.{slice_get}
-use Rattle.ox_range_index.proofs.CountLaws.{found, some_count}
+use Rattle.std.proofs.Common.{arith, sym, ap, Some, ◌∙◌}
+use Rattle.std.specs.Prelude.{slice_get, slice_index}
+use Rattle.std.proofs.lemmas.Option.{slice_get-get_or}
+use Rattle.ox_range_index.specs.Index.{counts_from}
 use Rattle.ox_range_index.proofs.index.RangeIndex.get.Goals as goal
 
-pub run_at-run-requires : goal.run_at-run-requires
-run_at-run-requires c =
-    let some = some_count c.as_slice-counts.result.now c.self.inside.ranges.now c.args.place (c.as_slice-counts.ensures.value ∙ c.self.invariant.counted) (omega (arith, c.if-place-self.false, c.self.invariant.whole)) in
-    record { some = some.0; first = some.1 }
+pub satoshi_at-requires-clause-counted : goal.satoshi_at-requires-clause-counted
+satoshi_at-requires-clause-counted c =
+    c.deref.ensures.value
+    ∙ (c.self.invariant.searched c.in-Some.tables c.in-Some.is).counted
+    ∙ ap (counts_from 0) (sym c.runs.ensures.exact)
 
-pub bounds-runs-run : goal.bounds-runs-run
-bounds-runs-run c =
-    (found c.as_slice-counts.result.now c.self.inside.ranges.now c.runs-runs.result.now c.args.place c.run_at-run.result c.runs-runs.ensures.exact c.runs-runs.ensures.maximal (c.as_slice-counts.ensures.value ∙ c.self.invariant.counted) c.run_at-run.ensures.within c.run_at-run.ensures.before c.run_at-run.ensures.behind
-    (omega (arith, c.if-place-self.false, c.self.invariant.whole))).0
+pub returns-in-None : goal.returns-in-None
+returns-in-None c =
+    ap Some c.at.ensures
+    ∙ sym (slice_get-get_or c.self.inside.ranges.now c.args.place 0 (omega (arith, c.if-place-self.false, c.self.invariant.whole)))
+    ∙ ap (λ numbers. slice_get numbers c.args.place) c.self.view_is
 
-pub overflow_add-result : goal.overflow_add-result
-overflow_add-result c =
-    let fits = (found c.as_slice-counts.result.now c.self.inside.ranges.now c.runs-runs.result.now c.args.place c.run_at-run.result c.runs-runs.ensures.exact c.runs-runs.ensures.maximal (c.as_slice-counts.ensures.value ∙ c.self.invariant.counted) c.run_at-run.ensures.within c.run_at-run.ensures.before c.run_at-run.ensures.behind
-    (omega (arith, c.if-place-self.false, c.self.invariant.whole))).2 in
-    omega (arith, fits)
-
-pub returns : goal.returns
-returns c =
-    sym ((found c.as_slice-counts.result.now c.self.inside.ranges.now c.runs-runs.result.now c.args.place c.run_at-run.result c.runs-runs.ensures.exact c.runs-runs.ensures.maximal (c.as_slice-counts.ensures.value ∙ c.self.invariant.counted) c.run_at-run.ensures.within c.run_at-run.ensures.before c.run_at-run.ensures.behind
-    (omega (arith, c.if-place-self.false, c.self.invariant.whole))).1)
+pub returns-in-Some : goal.returns-in-Some
+returns-in-Some c =
+    ap Some (c.satoshi_at.ensures ∙ ap (λ numbers. slice_index numbers c.args.place) c.runs.ensures.numbers)
+    ∙ sym (slice_get-get_or c.self.inside.ranges.now c.args.place 0 (omega (arith, c.if-place-self.false, c.self.invariant.whole)))
     ∙ ap (λ numbers. slice_get numbers c.args.place) c.self.view_is
