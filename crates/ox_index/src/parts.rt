@@ -298,7 +298,8 @@ fn rows_from(alloc: Global, shelf: &Shelf, from: u32) -> Result<List<InsRow>, Me
     requires { from ≤ length shelf.now.rows }
     ensures { IfOk result (λ rows. rows ≡ drop from shelf.now.rows) }
 {
-    let mut rows = List::new(alloc);
+    let count = shelf.len() - from;
+    let mut rows = List::from_vec(Vec::with_capacity(alloc, count as usize)?);
     for number in from..shelf.len() {
         rows.push(shelf.row(number).copy(alloc)?)?;
     }

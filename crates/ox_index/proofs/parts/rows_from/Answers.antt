@@ -4,7 +4,7 @@ use Rattle.ox_index.proofs.Copying.{none_left, one_more}
 use Rattle.ox_index.proofs.parts.rows_from.Goals as goal
 
 pub loop-number-init : goal.loop-number-init
-loop-number-init c = ap (λ (l : List InsRow). l ++ drop c.args.from c.args.shelf.now.rows) c.new-rows.ensures
+loop-number-init c = ap (λ (l : List InsRow). l ++ drop c.args.from c.args.shelf.now.rows) (c.from_vec-rows.ensures ∙ c.in_ok-with_capacity.ensures.items)
 
 pub loop-number-preserved : goal.loop-number-preserved
 loop-number-preserved c =
