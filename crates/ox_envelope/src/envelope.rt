@@ -3,13 +3,15 @@
 ghost use Rattle.std.specs.Prelude.{◌≡◌, ◌∷◌, ◌++◌, [], true, false, length, map, OnOk, ◌==◌};
 
 use ox_bytes::Memory;
+use smallvec::SmallVec;
 use std::alloc::Global;
 use std::marker::Model;
 
-/// What an envelope has between its opening and its OP_ENDIF.
+/// What an envelope has between its opening and its OP_ENDIF. Four pushes take no memory of their
+/// own: most envelopes have a content type alone, and a body of one push.
 #[derive(Debug, Drop)]
 pub struct Envelope<'a> {
-    items: Vec<&'a [u8]>,
+    items: SmallVec<&'a [u8], 4>,
     numbered: bool,
 }
 
@@ -32,7 +34,7 @@ impl<'a> Envelope<'a> {
         ensures number { result.has_number ≡ false }
     {
         Envelope {
-            items: Vec::new(alloc),
+            items: SmallVec::new(alloc),
             numbered: false,
         }
     }
@@ -118,10 +120,13 @@ impl<'a> Envelopes<'a> {
         self.items.is_empty()
     }
 
-    /// Appends an envelope.
+    /// Appends an envelope. Most scripts have one alone, so the first takes room for no more.
     pub(crate) fn push(&mut self, envelope: Envelope<'a>) -> Result<(), Memory>
         ensures { OnOk result (self.new ≡ self.old ++ envelope.entry ∷ []) }
     {
+        if self.items.is_empty() {
+            self.items.reserve_exact(1)?;
+        }
         self.items.push(envelope)?;
         Ok(())
     }

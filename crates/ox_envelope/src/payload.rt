@@ -14,20 +14,22 @@ use crate::id::{InsId, read_id};
 use crate::inscribed::Ids;
 use crate::tag;
 use ox_bytes::{Bytes, Memory};
+use smallvec::SmallVec;
 use std::alloc::Global;
 use std::collections::BTreeSet;
 
 /// A tag and its value.
-#[derive(Clone, Copy)]
+#[derive(Clone, Copy, Default)]
 pub(crate) struct Field<'a> {
     pub(crate) tag: &'a [u8],
     pub(crate) value: &'a [u8],
 }
 
-/// The pushes of an envelope, told apart.
+/// The pushes of an envelope, told apart. Most have a content type and hardly another field, and
+/// two fields take no memory of their own.
 #[derive(Drop)]
 pub(crate) struct Payload<'p, 'a> {
-    pub(crate) fields: Vec<Field<'a>>,
+    pub(crate) fields: SmallVec<Field<'a>, 2>,
     /// The pushes after an empty one in a tag's place.
     pub(crate) body: Option<&'p [&'a [u8]]>,
     /// A last tag has no value.
@@ -45,7 +47,7 @@ pub(crate) fn split_payload<'p, 'a>(
         option_map (λ body. texts body.now) r.body ≡ body_in pushes.now) }
     ensures incomplete { IfOk result (λ r. r.incomplete ≡ is_incomplete (texts pushes.now)) }
 {
-    let mut fields = Vec::new(alloc);
+    let mut fields = SmallVec::new(alloc);
     let mut tag = None;
     for (at, push) in pushes.iter().enumerate() {
         match tag {
