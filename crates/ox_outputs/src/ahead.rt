@@ -14,9 +14,9 @@ use std::alloc::Global;
 const BATCH: usize = 32;
 
 /// With fewer slots than this nothing is read ahead: they, their rows and the lists of their places
-/// come to some 20 megabytes at most, which stay in the processor's cache, so that hardly a look-up
-/// waits for memory, and to read ahead costs more than it saves.
-const WORTHWHILE: usize = 65_536;
+/// come to about a megabyte, which stays in a processor's own cache, so that hardly a look-up waits
+/// for memory, and to read ahead costs more than it saves.
+const WORTHWHILE: usize = 4_096;
 
 /// The outpoints that will be asked for, in order. It is a hint: where others are asked for, or
 /// where there was no memory for these, all is as it would be without it, but slower.
