@@ -1,13 +1,13 @@
 -- What a change of the outputs leaves of their facts.
-use Rattle.std.proofs.Common.{◌≡◌, ◌∙◌, ℕ, Bool, true, false, refl, ap, sym, subst, List, [], ◌∷◌, Option, Some, None, Result, Ok, Err}
-use Rattle.std.specs.Prelude.{IfErr, IsSome, IsSomeAnd, if◌then◌else◌}
+use Rattle.std.proofs.Common.{◌≡◌, ◌∙◌, ℕ, refl, ap, sym, subst, List, [], ◌∷◌, Option, Some, None, Result, Ok, Err}
+use Rattle.std.specs.Prelude.{IfErr, IsSomeAnd}
 use Rattle.std.specs.FinMap.{empty, get, get-empty, insert}
 use Rattle.ox_block.specs.declared.block.OutPoint.{OutPoint}
 use Rattle.ox_rules.specs.declared.rows.OutRow.{OutRow}
 use Rattle.ox_rules.specs.Outputs.{Outputs, MayStand, outpoint_cmp}
 use Rattle.ox_outputs.specs.Slots.{SlotList, put_slot, undone, AreSpots}
 use Rattle.ox_outputs.specs.declared.spot.Spot.{Spot}
-use Rattle.ox_outputs.specs.Located.{StandOnce, AreRuns}
+use Rattle.ox_outputs.specs.Located.{StandOnce, LeadTo}
 use Rattle.ox_outputs.proofs.SlotLemmas.{get-put_slot}
 use Rattle.ox_outputs.proofs.RowLemmas.{once_taken, once_placed, once_alike, begun_in}
 
@@ -42,20 +42,11 @@ none_once outs none = once_alike empty outs (record {
   none_there : (at : OutPoint) (row : OutRow) → get (empty {X = OutRow} {R = outpoint_cmp}) at ≡ Some row → ⊥
   none_there at row is = absurd (cc (is, get-empty {X = OutRow} outpoint_cmp at))
 
-pub none_runs : (live : ℕ → Option ℕ) (slots : SlotList) (outs : Outputs) → ((q : ℕ) → live q ≡ None) → outs ≡ empty → AreRuns live slots outs
-none_runs live slots outs none is = record {
-  sound = λ f place there. absurd (cc (there, none f));
-  complete = λ f at begun. absurd (let b = begun_in outs at f begun in none_in b.row (sym (get-empty {X = OutRow} outpoint_cmp at) ∙ ap (λ (o : Outputs). get o at) (sym is) ∙ b.there));
-} where
+pub none_runs : (live : ℕ → Option ℕ) (slots : SlotList) (outs : Outputs) → outs ≡ empty → LeadTo live slots outs
+none_runs live slots outs is f at begun = absurd (let b = begun_in outs at f begun in none_in b.row (sym (get-empty {X = OutRow} outpoint_cmp at) ∙ ap (λ (o : Outputs). get o at) (sym is) ∙ b.there)) where
   none_in : (row : OutRow) → ◌≡◌ {A = Option OutRow} None (Some row) → ⊥
   none_in row is = absurd (cc is)
 
 pub known_none : (spots : List Spot) (slots : SlotList) → spots ≡ [] → AreSpots spots slots
 known_none [] slots none = refl
 known_none (spot ∷ spots) slots none = absurd (cc none)
-
--- ---- the mark
-
-pub has_mark : (marked : Bool) (rows : Outputs) → IsSome (if marked then Some rows else None) → marked ≡ true
-has_mark true rows some = refl
-has_mark false rows some = absurd (cc some)

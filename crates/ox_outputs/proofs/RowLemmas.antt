@@ -1,5 +1,5 @@
 -- The runs of outputs, where each of their satoshis stands once.
-use Rattle.std.proofs.Common.{◌≡◌, ◌≢◌, ◌∙◌, ℕ, ◌+◌, ◌<◌, ◌≤◌, ◌==◌, Bool, true, false, cond, List, [], ◌∷◌, length, refl, sym, ap, subst, arith, Option, Some, None, true≢false, inl, inr, ⊎_elim, Ordering, nat_lt, T}
+use Rattle.std.proofs.Common.{◌≡◌, ◌≢◌, ◌∙◌, ℕ, ◌+◌, ◌<◌, ◌≤◌, ◌==◌, Bool, true, false, cond, List, [], ◌∷◌, length, refl, sym, ap, subst, arith, Option, Some, None, inl, inr, ⊎_elim, Ordering, nat_lt, T}
 use Rattle.std.specs.Prelude.{◌⊎◌, ◌&&◌, ◌||◌, nat_le, if◌then◌else◌}
 use Rattle.std.specs.Ordering.{nat_cmp, is_eq, is_lt, eq_by_cmp}
 use Rattle.std.specs.declared.cmp.Ordering.TheVariants.{Less, Equal, Greater}
@@ -25,12 +25,13 @@ use Rattle.ox_rules.specs.Where.{place_in, place_among}
 use Rattle.ox_rules.proofs.Orders.{outpoints_total, outpoints_exact}
 use Rattle.ox_rules.proofs.Conservation.{times-append}
 use Rattle.ox_rules.proofs.Transfers.{counts_numbers}
-use Rattle.ox_outputs.specs.Slots.{SlotList, outpoint_at}
+use Rattle.ox_outputs.specs.Slots.{SlotList, outpoint_at, row_at, slot_at, rows_of}
+use Rattle.ox_outputs.specs.declared.held.Slot.{Slot}
 use Rattle.ox_outputs.specs.Starts.{is_among, firsts_of, BeginsLast}
-use Rattle.ox_outputs.specs.Located.{StandOnce, AreRuns, begins, place_held}
+use Rattle.ox_outputs.specs.Located.{StandOnce, LeadTo, begins, begins_in, counted, standing, place_held}
 use Rattle.ox_outputs.proofs.SlotLemmas.{equal}
-use Rattle.ox_outputs.proofs.PlaceLemmas.{is_same, same_or_not, not_both}
-use Rattle.ox_outputs.proofs.StartLemmas.{either_true, same_as}
+use Rattle.ox_outputs.proofs.PlaceLemmas.{AreApart, get-at_place, is_same, same_or_not, not_both}
+use Rattle.ox_outputs.proofs.StartLemmas.{either_true, same_as, stands_so}
 
 -- ---- runs have numbers
 
@@ -195,6 +196,13 @@ begun_times outs at f b = omega (arith, hit f (runs_of b.row.sats) (some_runs b.
 one_row : (outs : Outputs) (a b : OutPoint) (r q : OutRow) → a ≡ b → get outs a ≡ Some r → get outs b ≡ Some q → r ≡ q
 one_row outs a b r q same one two = let both : Some r ≡ Some q = sym one ∙ ap (get outs) same ∙ two in cc both
 
+-- The starts are those of the runs of the outputs, all of them and no other: each with the place of
+-- its output's slot.
+pub record AreRuns (starts : ℕ → Option ℕ) (slots : SlotList) (outs : Outputs) : Type 0 where
+  pub sound : (first place : ℕ) → starts first ≡ Some place
+      → option_map_or (λ (at : OutPoint). begins outs at first) (outpoint_at slots place) false ≡ true
+  pub complete : LeadTo starts slots outs
+
 -- the output that a start is of
 pub record IsOf (outs : Outputs) (slots : SlotList) (place f : ℕ) : Type 0 where
   pub at : OutPoint
@@ -220,8 +228,8 @@ pub record IsAt (starts : ℕ → Option ℕ) (slots : SlotList) (at : OutPoint)
   pub is : starts f ≡ Some place
   pub slot : outpoint_at slots place ≡ Some at
 
-pub start_of : (starts : ℕ → Option ℕ) (slots : SlotList) (outs : Outputs) → AreRuns starts slots outs → (f : ℕ) (at : OutPoint) → begins outs at f ≡ true → IsAt starts slots at f
-start_of starts slots outs runs f at begun = by_start (starts f) refl (runs.complete f at begun) where
+pub start_of : (starts : ℕ → Option ℕ) (slots : SlotList) (outs : Outputs) → LeadTo starts slots outs → (f : ℕ) (at : OutPoint) → begins outs at f ≡ true → IsAt starts slots at f
+start_of starts slots outs lead f at begun = by_start (starts f) refl (lead f at begun) where
   by_start : (o : Option ℕ) → starts f ≡ o → option_and_then (λ (place : ℕ). outpoint_at slots place) o ≡ Some at → IsAt starts slots at f
   by_start None none is = absurd (cc is)
   by_start (Some place) is slot = record { place = place; is = is; slot = slot }
@@ -229,9 +237,37 @@ start_of starts slots outs runs f at begun = by_start (starts f) refl (runs.comp
 is_at_start : (starts : ℕ → Option ℕ) (slots : SlotList) (at : OutPoint) (f place : ℕ) → starts f ≡ Some place → outpoint_at slots place ≡ Some at → option_and_then (λ (place : ℕ). outpoint_at slots place) (starts f) ≡ Some at
 is_at_start starts slots at f place is slot = ap (option_and_then (λ (place : ℕ). outpoint_at slots place)) is ∙ slot
 
--- no two outputs have a run that begins so
-one_output : (starts : ℕ → Option ℕ) (slots : SlotList) (outs : Outputs) → AreRuns starts slots outs → (f : ℕ) (a b : OutPoint) → begins outs a f ≡ true → begins outs b f ≡ true → a ≡ b
-one_output starts slots outs runs f a b one two = let both : Some a ≡ Some b = sym (runs.complete f a one) ∙ runs.complete f b two in cc both
+-- how a run of the row in a slot begins
+pub begun_at_place : (slots : SlotList) (place first : ℕ) → AreApart slots → option_map_or (λ (row : OutRow). is_among (firsts_of (runs_of row.sats)) first) (row_at slots place) false ≡ begins_in slots place first
+begun_at_place slots place first apart = by_slot (slot_at slots place) refl where
+  by_slot : (o : Option Slot) → slot_at slots place ≡ o → option_map_or (λ (row : OutRow). is_among (firsts_of (runs_of row.sats)) first) (row_at slots place) false ≡ begins_in slots place first
+  by_slot None none =
+      ap (λ (o : Option Slot). option_map_or (λ (row : OutRow). is_among (firsts_of (runs_of row.sats)) first) (option_and_then (λ (s : Slot). s.row) o) false) none
+      ∙ sym (ap (λ (o : Option Slot). option_map_or (λ (at : OutPoint). begins (rows_of slots) at first) (option_map (λ (s : Slot). s.at) o) false) none)
+  by_slot (Some slot) there =
+      let here : outpoint_at slots place ≡ Some slot.at = ap (option_map (λ (s : Slot). s.at)) there in
+      sym (ap (λ (o : Option OutRow). option_map_or (λ (row : OutRow). is_among (firsts_of (runs_of row.sats)) first) o false) (get-at_place slots place slot.at apart here))
+      ∙ sym (ap (λ (o : Option OutPoint). option_map_or (λ (at : OutPoint). begins (rows_of slots) at first) o false) here)
+
+-- of starts that lead to the runs of all rows, those that count are the starts of their runs
+module _ (slots : SlotList) where
+  standing_lead : (starts : ℕ → Option ℕ) → LeadTo starts slots (rows_of slots) → LeadTo (standing slots starts) slots (rows_of slots)
+  standing_lead starts lead f at begun =
+      let s = start_of starts slots (rows_of slots) lead f at begun in
+      is_at_start (standing slots starts) slots at f s.place
+      (ap (counted slots f) s.is ∙ ap (λ (b : Bool). cond b (Some s.place) None) (is_of (rows_of slots) slots s.place f at s.slot begun)) s.slot
+
+  pub standing_runs : (starts : ℕ → Option ℕ) → LeadTo starts slots (rows_of slots) → AreRuns (standing slots starts) slots (rows_of slots)
+  standing_runs starts lead = record {
+    sound = λ f place is. (stands_so slots f (starts f) place is).1;
+    complete = standing_lead starts lead;
+  }
+
+  -- so where the same count, they lead to all runs still
+  pub lead_still : (starts starts' : ℕ → Option ℕ) → LeadTo starts slots (rows_of slots) → ((q : ℕ) → standing slots starts' q ≡ standing slots starts q) → LeadTo starts' slots (rows_of slots)
+  lead_still starts starts' lead same f at begun =
+      let s = start_of (standing slots starts) slots (rows_of slots) (standing_lead starts lead) f at begun in
+      is_at_start starts' slots at f s.place (stands_so slots f (starts' f) s.place (same f ∙ s.is)).0 s.slot
 
 -- ---- no run begins within another
 
@@ -269,10 +305,6 @@ less : {A : Type 0} (b : Bool) (o : Option A) (s : A) → cond b None o ≡ Some
 less true o s is = absurd (cc is)
 less false o s is = (refl, is)
 
-keeps : (b : Bool) (o : Option ℕ) (s : ℕ) → o ≡ Some s → (b ≡ true → ⊥) → cond b None o ≡ Some s
-keeps true o s is never = absurd (never refl)
-keeps false o s is never = is
-
 -- which outpoint it is
 which : (q at : OutPoint) → (q ≡ at) ⊎ (is_same q at ≡ false)
 which q at = same_or_not q at
@@ -283,71 +315,33 @@ elsewhere outs outs' q at f new is other = ap (λ (o : Option OutRow). option_ma
 here_is : (outs outs' : Outputs) (at : OutPoint) (new : Option OutRow) → get outs' at ≡ cond (is_same at at) new (get outs at) → get outs' at ≡ new
 here_is outs outs' at new is = is ∙ tested (is_same at at) true new (get outs at) (same_itself at)
 
-module _ (live live' : ℕ → Option ℕ) (slots : SlotList) (outs outs' : Outputs) (at : OutPoint) (row : OutRow) (runs : AreRuns live slots outs) (there : get outs at ≡ Some row) (gets : (q : OutPoint) → get outs' q ≡ cond (is_same q at) None (get outs q)) where
-  -- a run of another output doesn't go
-  gone_there : (f : ℕ) (q : OutPoint) → is_same q at ≡ false → begins outs q f ≡ true → is_among (firsts_of (runs_of row.sats)) f ≡ true → ⊥
-  gone_there f q other is among = not_both q at (one_output live slots outs runs f q at is (in_row outs at row f there ∙ among)) other
+pub leave_rows : (live : ℕ → Option ℕ) (slots : SlotList) (outs outs' : Outputs) (at : OutPoint) → LeadTo live slots outs → ((q : OutPoint) → get outs' q ≡ cond (is_same q at) None (get outs q)) → LeadTo live slots outs'
+leave_rows live slots outs outs' at lead gets f q is = ⊎_elim
+    (λ same. absurd (let b = begun_in outs' q f is in none_is b.row (sym (ap (get outs') same ∙ here_is outs outs' at None (gets at)) ∙ b.there)))
+    (λ other. lead f q (sym (elsewhere outs outs' q at f None (gets q) other) ∙ is))
+    (which q at)
 
-  pub leave_rows : ((q : ℕ) → live' q ≡ cond (is_among (firsts_of (runs_of row.sats)) q) None (live q)) → AreRuns live' slots outs'
-  leave_rows goes = record { sound = sound; complete = complete } where
-    sound : (f place : ℕ) → live' f ≡ Some place → option_map_or (λ (at : OutPoint). begins outs' at f) (outpoint_at slots place) false ≡ true
-    sound f place is =
-        let was = less (is_among (firsts_of (runs_of row.sats)) f) (live f) place (sym (goes f) ∙ is) in
-        let o = of_start live slots outs runs f place was.1 in ⊎_elim
-        (λ same. absurd (true≢false (sym o.is ∙ ap (λ (a : OutPoint). begins outs a f) same ∙ in_row outs at row f there ∙ was.0)))
-        (λ other. is_of outs' slots place f o.at o.slot (elsewhere outs outs' o.at at f None (gets o.at) other ∙ o.is))
-        (which o.at at)
-
-    complete : (f : ℕ) (q : OutPoint) → begins outs' q f ≡ true → option_and_then (λ (place : ℕ). outpoint_at slots place) (live' f) ≡ Some q
-    complete f q is = ⊎_elim
-        (λ same. absurd (let b = begun_in outs' q f is in none_is b.row (sym (ap (get outs') same ∙ here_is outs outs' at None (gets at)) ∙ b.there)))
-        (λ other. let was = sym (elsewhere outs outs' q at f None (gets q) other) ∙ is in
-        let s = start_of live slots outs runs f q was in
-        is_at_start live' slots q f s.place (goes f ∙ keeps (is_among (firsts_of (runs_of row.sats)) f) (live f) s.place s.is (gone_there f q other was)) s.slot)
-        (which q at)
-
--- no run begins yet as those of satoshis that may stand do
-fresh_runs : (live : ℕ → Option ℕ) (slots : SlotList) (outs : Outputs) (at : OutPoint) (sats : List ℕ) (q : ℕ) → AreRuns live slots outs → get outs at ≡ None → MayStand at sats outs → is_among (firsts_of (runs_of sats)) q ≡ true → live q ≡ None
-fresh_runs live slots outs at sats q runs none may among = by_live (live q) refl where
-  by_live : (o : Option ℕ) → live q ≡ o → live q ≡ None
-  by_live None is = is
-  by_live (Some place) is = absurd (
-      let o = of_start live slots outs runs q place is in
-      let b = begun_in outs o.at q o.is in
-      let other = hit q (runs_of sats) (some_runs sats) among in
-      let most = may.apart o.at b.row q (λ same. none_is b.row (sym none ∙ ap (get outs) (sym same) ∙ b.there)) b.there in
-      omega (arith, begun_times outs o.at q b, other, most, times_row q sats))
-
-new_or_was : (b : Bool) (place p : ℕ) (o : Option ℕ) → cond b (Some place) o ≡ Some p → ((b ≡ true) × (place ≡ p)) ⊎ (o ≡ Some p)
-new_or_was true place p o is = inl (refl, cc is)
-new_or_was false place p o is = inr is
-
-module _ (live live' : ℕ → Option ℕ) (slots : SlotList) (outs outs' : Outputs) (at : OutPoint) (row : OutRow) (place : ℕ) (gets : (q : OutPoint) → get outs' q ≡ cond (is_same q at) (Some row) (get outs q)) where
+module _ (live live' : ℕ → Option ℕ) (slots : SlotList) (outs outs' : Outputs) (at : OutPoint) (row : OutRow) (place : ℕ) (gets : (q : OutPoint) → get outs' q ≡ cond (is_same q at) (Some row) (get outs q)) (may : MayStand at row.sats outs) where
   stands : get outs' at ≡ Some row
   stands = here_is outs outs' at (Some row) (gets at)
 
-  pub arrive_rows : AreRuns live slots outs → outpoint_at slots place ≡ Some at → get outs at ≡ None → MayStand at row.sats outs → ((q : ℕ) → live' q ≡ cond (is_among (firsts_of (runs_of row.sats)) q) (Some place) (live q)) → AreRuns live' slots outs'
-  arrive_rows runs slot none may comes = record { sound = sound; complete = complete } where
-    sound : (f p : ℕ) → live' f ≡ Some p → option_map_or (λ (at : OutPoint). begins outs' at f) (outpoint_at slots p) false ≡ true
-    sound f p is = ⊎_elim
-        (λ new. is_of outs' slots p f at (ap (outpoint_at slots) (sym new.1) ∙ slot) (in_row outs' at row f stands ∙ new.0))
-        (λ old. let o = of_start live slots outs runs f p old in ⊎_elim
-        (λ same. absurd (let b = begun_in outs o.at f o.is in none_is b.row (sym none ∙ ap (get outs) (sym same) ∙ b.there)))
-        (λ other. is_of outs' slots p f o.at o.slot (elsewhere outs outs' o.at at f (Some row) (gets o.at) other ∙ o.is))
-        (which o.at at))
-        (new_or_was (is_among (firsts_of (runs_of row.sats)) f) place p (live f) (sym (comes f) ∙ is))
+  -- no run of another output begins as those of satoshis do that may stand
+  not_there : (f : ℕ) (q : OutPoint) → is_same q at ≡ false → begins outs q f ≡ true → (b : Bool) → is_among (firsts_of (runs_of row.sats)) f ≡ b → b ≡ false
+  not_there f q other is false among = refl
+  not_there f q other is true among = absurd (
+      let b = begun_in outs q f is in
+      let new = hit f (runs_of row.sats) (some_runs row.sats) among in
+      let most = may.apart q b.row f (λ same. not_both q at same other) b.there in
+      omega (arith, begun_times outs q f b, new, most, times_row f row.sats))
 
-    was : (f p : ℕ) → live f ≡ Some p → (b : Bool) → is_among (firsts_of (runs_of row.sats)) f ≡ b → cond (is_among (firsts_of (runs_of row.sats)) f) (Some place) (live f) ≡ Some p
-    was f p old true among = absurd (none_is p (sym (fresh_runs live slots outs at row.sats f runs none may among) ∙ old))
-    was f p old false other = tested (is_among (firsts_of (runs_of row.sats)) f) false (Some place) (live f) other ∙ old
-
-    complete : (f : ℕ) (q : OutPoint) → begins outs' q f ≡ true → option_and_then (λ (place : ℕ). outpoint_at slots place) (live' f) ≡ Some q
-    complete f q is = ⊎_elim
-        (λ same. let new = sym (in_row outs' at row f stands) ∙ ap (λ (a : OutPoint). begins outs' a f) (sym same) ∙ is in
-        is_at_start live' slots q f place (comes f ∙ tested (is_among (firsts_of (runs_of row.sats)) f) true (Some place) (live f) new) (slot ∙ ap (λ (a : OutPoint). Some a) (sym same)))
-        (λ other. let s = start_of live slots outs runs f q (sym (elsewhere outs outs' q at f (Some row) (gets q) other) ∙ is) in
-        is_at_start live' slots q f s.place (comes f ∙ was f s.place s.is (is_among (firsts_of (runs_of row.sats)) f) refl) s.slot)
-        (which q at)
+  pub arrive_rows : LeadTo live slots outs → outpoint_at slots place ≡ Some at → ((q : ℕ) → live' q ≡ cond (is_among (firsts_of (runs_of row.sats)) q) (Some place) (live q)) → LeadTo live' slots outs'
+  arrive_rows lead slot comes f q is = ⊎_elim
+      (λ same. let new = sym (in_row outs' at row f stands) ∙ ap (λ (a : OutPoint). begins outs' a f) (sym same) ∙ is in
+      is_at_start live' slots q f place (comes f ∙ tested (is_among (firsts_of (runs_of row.sats)) f) true (Some place) (live f) new) (slot ∙ ap (λ (a : OutPoint). Some a) (sym same)))
+      (λ other. let was = sym (elsewhere outs outs' q at f (Some row) (gets q) other) ∙ is in
+      let s = start_of live slots outs lead f q was in
+      is_at_start live' slots q f s.place (comes f ∙ tested (is_among (firsts_of (runs_of row.sats)) f) false (Some place) (live f) (not_there f q other was (is_among (firsts_of (runs_of row.sats)) f) refl) ∙ s.is) s.slot)
+      (which q at)
 
 -- ---- no satoshi stands twice
 
@@ -499,7 +493,7 @@ module _ (live : ℕ → Option ℕ) (slots : SlotList) (outs : Outputs) (sat : 
   found_of : (k : OutPoint) (x : OutRow) → get outs k ≡ Some x → 1 ≤ times sat x.sats → (slot : ℕ) × (found ≡ Some slot) × (outpoint_at slots slot ≡ Some k)
   found_of k x there some =
       let m = met sat (runs_of x.sats) (omega (arith, some, times_row sat x.sats)) in
-      let s = start_of live slots outs runs m.0 k (in_row outs k x m.0 there ∙ from_among (runs_of x.sats) m.0 sat m.1) in
+      let s = start_of live slots outs runs.complete m.0 k (in_row outs k x m.0 there ∙ from_among (runs_of x.sats) m.0 sat m.1) in
       (s.place, last m.0 s.place s.is (begins_last live slots outs runs once k x m.0 sat there m.1), s.slot)
 
   pub found_none : found ≡ None → place_among (entries outs) sat ≡ None
@@ -542,28 +536,16 @@ stay_same outs old new same p at row is there = same p ∙ is
 pub stay_kept : (outs : Outputs) (old new : SlotList) → ((p : ℕ) (q : OutPoint) → outpoint_at old p ≡ Some q → outpoint_at new p ≡ Some q) → Stay outs old new
 stay_kept outs old new keeps p at row is there = keeps p at is
 
-pub runs_alike : (live live' : ℕ → Option ℕ) (slots slots' : SlotList) (outs outs' : Outputs) → AreRuns live slots outs → ((q : ℕ) → live' q ≡ live q) → Stay outs slots slots' → outs' ≡ outs → AreRuns live' slots' outs'
-runs_alike live live' slots slots' outs outs' runs same stay is = subst (AreRuns live' slots') (sym is) (record { sound = sound; complete = complete }) where
-  sound : (f place : ℕ) → live' f ≡ Some place → option_map_or (λ (at : OutPoint). begins outs at f) (outpoint_at slots' place) false ≡ true
-  sound f place there =
-      let o = of_start live slots outs runs f place (sym (same f) ∙ there) in
-      let b = begun_in outs o.at f o.is in
-      is_of outs slots' place f o.at (stay place o.at b.row o.slot b.there) o.is
-
-  complete : (f : ℕ) (at : OutPoint) → begins outs at f ≡ true → option_and_then (λ (place : ℕ). outpoint_at slots' place) (live' f) ≡ Some at
-  complete f at begun =
-      let s = start_of live slots outs runs f at begun in
+pub runs_alike : (live live' : ℕ → Option ℕ) (slots slots' : SlotList) (outs outs' : Outputs) → LeadTo live slots outs → ((q : ℕ) → live' q ≡ live q) → Stay outs slots slots' → outs' ≡ outs → LeadTo live' slots' outs'
+runs_alike live live' slots slots' outs outs' lead same stay is = subst (LeadTo live' slots') (sym is) still where
+  still : LeadTo live' slots' outs
+  still f at begun =
+      let s = start_of live slots outs lead f at begun in
       let b = begun_in outs at f begun in
       is_at_start live' slots' at f s.place (same f ∙ s.is) (stay s.place at b.row s.slot b.there)
 
 pub once_alike : (outs outs' : Outputs) → StandOnce outs → outs' ≡ outs → StandOnce outs'
 once_alike outs outs' once is = subst StandOnce (sym is) once
-
-pub may_less : (at : OutPoint) (sats : List ℕ) (outs outs' : Outputs) → MayStand at sats outs → ((q : OutPoint) → get outs' q ≡ cond (is_same q at) None (get outs q)) → MayStand at sats outs'
-may_less at sats outs outs' may gets = record {
-  once = may.once;
-  apart = λ other row sat differ is. may.apart other row sat differ (less (is_same other at) (get outs other) row (sym (gets other) ∙ is)).1;
-}
 
 -- rows seen from those that differ at one outpoint
 pub gets_again : (rows outs : Outputs) (at : OutPoint) (row : OutRow) → get rows at ≡ Some row → ((q : OutPoint) → is_same q at ≡ false → get outs q ≡ get rows q) → (q : OutPoint) → get rows q ≡ cond (is_same q at) (Some row) (get outs q)

@@ -33,11 +33,6 @@ pub put_slot-put_slot : (outs : Outputs) (at : OutPoint) (row : Option OutRow) �
 put_slot-put_slot outs at row = same_map outpoints_total outpoints_exact (put_slot (put_slot outs at row) at (get outs at)) outs (λ q.
     get-put_slot (put_slot outs at row) at (get outs at) q ∙ ap (cond (eq_by_cmp outpoint_cmp q at) (get outs at)) (get-put_slot outs at row q) ∙ put_back outs at row q (eq_by_cmp outpoint_cmp q at) refl)
 
--- so a change that is taken back leaves the rows as they were
-pub put_again : (old mid new : Outputs) (at : OutPoint) (between row : Option OutRow) → mid ≡ put_slot old at between → row ≡ get old at → new ≡ put_slot mid at row → new ≡ old
-put_again old mid new at between row first stood second =
-    second ∙ (ap (λ (o : Outputs). put_slot o at row) first ∙ (ap (put_slot (put_slot old at between) at) stood ∙ put_slot-put_slot old at between))
-
 -- what is put at an outpoint stands there
 pub get-put_slot_same : (outs : Outputs) (at : OutPoint) (row : Option OutRow) → get (put_slot outs at row) at ≡ row
 get-put_slot_same outs at row = get-put_slot outs at row at ∙ ap (λ (b : Bool). cond b row (get outs at)) ((eq_by_cmp_equiv outpoints_total).refl at)

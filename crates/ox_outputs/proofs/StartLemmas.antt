@@ -1,6 +1,6 @@
 -- Starts of runs by their first numbers: what changes of them leave.
-use Rattle.std.proofs.Common.{◌≡◌, ◌∙◌, ℕ, ◌<◌, ◌≤◌, Bool, true, false, cond, List, [], ◌∷◌, ◌++◌, refl, sym, ap, subst, arith, Option, Some, None, Ordering, Result, Ok, Err, drop, length, inl, inr, true≢false}
-use Rattle.std.specs.Prelude.{◌||◌, ◌⊎◌, not, OnOk, OnErr, IsSome, IfSome, is_some}
+use Rattle.std.proofs.Common.{◌≡◌, ◌∙◌, ℕ, ◌<◌, ◌≤◌, Bool, true, false, cond, List, [], ◌∷◌, ◌++◌, refl, sym, ap, subst, arith, Option, Some, None, Ordering, drop, length, inl, inr, true≢false}
+use Rattle.std.specs.Prelude.{◌||◌, ◌⊎◌, not, IsSome, IfSome, is_some}
 use Rattle.std.specs.List.{AllByRecursion, filter}
 use Rattle.std.specs.List.Sorted.{IsStrictlySortedBy}
 use Rattle.std.specs.Option.{option_and_then}
@@ -18,6 +18,8 @@ use Rattle.std.proofs.lemmas.Cmp.{nat_cmp_total, ranked}
 use Rattle.std.proofs.lemmas.List.{append_assoc}
 use Rattle.std.proofs.lemmas.List.Elements.{All-push, All-same, All-weaker}
 use Rattle.ox_range.specs.declared.runs.Run.{Run}
+use Rattle.ox_outputs.specs.Located.{begins_in, counted, standing}
+use Rattle.ox_outputs.specs.Slots.{SlotList}
 use Rattle.ox_outputs.specs.Starts.{StartList, slot_from, is_among, firsts_of, before_in, AreNoted, AreLogged, BeginsLast}
 use Rattle.ox_outputs.specs.declared.starts.Before.{Before}
 
@@ -26,16 +28,6 @@ pub same_first : (a b : ℕ) → is_at (nat_cmp a) b ≡ is_at (nat_cmp b) a
 same_first a b = (eq_by_cmp_equiv nat_cmp_total).symm a b
 
 -- ---- runs go and come
-
-none_twice : (a b : Bool) (n o : Option ℕ) → n ≡ cond a None o → cond b None n ≡ cond (a || b) None o
-none_twice true true n o is = refl
-none_twice true false n o is = is
-none_twice false true n o is = refl
-none_twice false false n o is = is
-
--- a run is taken away
-pub removed_run : (q : ℕ) (run : Run) (runs : List Run) (n o : Option ℕ) → n ≡ cond (is_at (nat_cmp run.first) q) None o → cond (is_among (firsts_of runs) q) None n ≡ cond (is_among (firsts_of (run ∷ runs)) q) None o
-removed_run q run runs n o is = none_twice (is_at (nat_cmp q) run.first) (is_among (firsts_of runs) q) n o (is ∙ ap (λ (b : Bool). cond b None o) (same_first run.first q))
 
 some_twice : (a b : Bool) (slot : ℕ) (n m o : Option ℕ) → n ≡ cond a (Some slot) m → m ≡ cond b (Some slot) o → n ≡ cond (a || b) (Some slot) o
 some_twice true b slot n m o is was = is
@@ -57,10 +49,6 @@ added_run q slot run runs runs' n m o split is was =
     ∙ sym (ap (λ (b : Bool). cond b (Some slot) o) (ap (λ (rs : List Run). is_among (firsts_of rs) q) split ∙ among_last q run runs))
 
 -- ---- outcomes and tests
-
-pub either_way : {A E P Q R : Type 0} (r : Result A E) → OnOk r P → OnErr r Q → (P → R) → (Q → R) → R
-either_way (Ok x) p q f g = f p
-either_way (Err e) p q f g = g q
 
 pub either_true : (a b : Bool) → (a || b) ≡ true → (a ≡ true) ⊎ (b ≡ true)
 either_true true b is = inl refl
@@ -135,8 +123,6 @@ logged_more changes changes' change starts starts' v pushed put logged =
     (λ one there. some_still (is_at (nat_cmp change.first) one.first) v _ _ (put one.first) there) changes logged)
     (subst IsSome (sym (put change.first ∙ ap (λ (b : Bool). cond b (Some v) (lookup (is_at (nat_cmp change.first)) starts)) (at_itself change.first))) refl))
 
--- ---- the last start
-
 is_equal : (r : Ordering) → is_eq r ≡ true → r ≡ Equal
 is_equal Less is = absurd (true≢false (sym is))
 is_equal Equal is = refl
@@ -144,6 +130,20 @@ is_equal Greater is = absurd (true≢false (sym is))
 
 pub same_as : (a b : ℕ) → is_at (nat_cmp a) b ≡ true → a ≡ b
 same_as a b is = nat_cmp-IsAntisymmetric a b (is_equal (nat_cmp a b) is)
+
+-- ---- starts that count
+
+abbrev flat : Option (Option ℕ) → Option ℕ
+flat slot = option_and_then (λ (s : Option ℕ). s) slot
+
+pub stands_so : (slots : SlotList) (first : ℕ) (slot : Option ℕ) (place : ℕ) → counted slots first slot ≡ Some place → (slot ≡ Some place) × (begins_in slots place first ≡ true)
+stands_so slots first None place is = absurd (cc is)
+stands_so slots first (Some p) place is = by_test (begins_in slots p first) refl is where
+  by_test : (b : Bool) → begins_in slots p first ≡ b → cond b (Some p) None ≡ Some place → (◌≡◌ {A = Option ℕ} (Some p) (Some place)) × (begins_in slots place first ≡ true)
+  by_test true begun is = (is, ap (λ (n : ℕ). begins_in slots n first) (sym (cc is)) ∙ begun)
+  by_test false begun is = absurd (cc is)
+
+-- ---- the last start
 
 gt_low : (a b : ℕ) (r : Ordering) → MatchOrdering r (a < b) (a ≡ b) (b < a) → is_gt r ≡ false → a ≤ b
 gt_low a b Less is low = omega (arith, is)
@@ -204,18 +204,18 @@ unfolding IsStrictlySortedBy
 front_sorted [] e sorted = tt
 front_sorted (one ∷ es) e sorted = ((all_front (λ k. nat_cmp one.0 k ≡ Less) es e sorted.0).0, front_sorted es e sorted.1)
 
-one_found : (b : Bool) (slot : Option ℕ) (n o : Option (Option ℕ)) → option_and_then (λ (s : Option ℕ). s) n ≡ option_and_then (λ (s : Option ℕ). s) o → option_and_then (λ (s : Option ℕ). s) (cond b (Some slot) n) ≡ option_and_then (λ (s : Option ℕ). s) (cond b (Some slot) o)
-one_found true slot n o is = refl
-one_found false slot n o is = is
+one_found : (slots : SlotList) (q : ℕ) (b : Bool) (slot : Option ℕ) (n o : Option (Option ℕ)) → counted slots q (flat n) ≡ counted slots q (flat o) → counted slots q (flat (cond b (Some slot) n)) ≡ counted slots q (flat (cond b (Some slot) o))
+one_found slots q true slot n o is = refl
+one_found slots q false slot n o is = is
 
-none_found : (b : Bool) → option_and_then (λ (s : Option ℕ). s) (cond b (Some None) None) ≡ None
-none_found true = refl
-none_found false = refl
+none_found : (slots : SlotList) (first q : ℕ) (slot : Option ℕ) (b : Bool) → is_at (nat_cmp q) first ≡ b → counted slots first slot ≡ None → counted slots q (flat (cond b (Some slot) None)) ≡ None
+none_found slots first q slot true is none = ap (λ (n : ℕ). counted slots n slot) (same_as q first is) ∙ none
+none_found slots first q slot false is none = refl
 
--- a number at which no run stands behind the others
-pub none_last : (es : StartList) (first q : ℕ) → slot_from (es ++ (first, None) ∷ []) q ≡ slot_from es q
-none_last [] first q = none_found (is_at (nat_cmp q) first)
-none_last (one ∷ es) first q = one_found (is_at (nat_cmp q) one.0) one.1 (lookup (is_at (nat_cmp q)) (es ++ (first, None) ∷ [])) (lookup (is_at (nat_cmp q)) es) (none_last es first q)
+-- an entry that doesn't count behind the others
+pub none_last : (slots : SlotList) (es : StartList) (first : ℕ) (slot : Option ℕ) (q : ℕ) → counted slots first slot ≡ None → counted slots q (slot_from (es ++ (first, slot) ∷ []) q) ≡ counted slots q (slot_from es q)
+none_last slots [] first slot q none = none_found slots first q slot (is_at (nat_cmp q) first) refl none
+none_last slots (one ∷ es) first slot q none = one_found slots q (is_at (nat_cmp q) one.0) one.1 (lookup (is_at (nat_cmp q)) (es ++ (first, slot) ∷ [])) (lookup (is_at (nat_cmp q)) es) (none_last slots es first slot q none)
 
 only_found : (b : Bool) (slot : Option ℕ) (s : ℕ) → option_and_then (λ (s : Option ℕ). s) (cond b (Some slot) None) ≡ Some s → b ≡ true
 only_found true slot s is = refl
@@ -234,20 +234,20 @@ at_most_last (one ∷ es) e q s sorted is =
     (λ here. let same = same_as q one.0 here in let low = low_by_less one.0 e.0 (all_front (λ k. nat_cmp one.0 k ≡ Less) es e sorted.0).1 in omega (arith, same, low))
     (λ behind. at_most_last es e q s sorted.1 behind)
 
--- the slot that stands at a number up to another
-pub some_found : (slot : Option ℕ) (first number : ℕ) (starts : StartList) → first ≤ number → lookup (is_at (nat_cmp first)) starts ≡ Some slot → IfSome slot (λ s. (f : ℕ) × (f ≤ number) × (slot_from starts f ≡ Some s))
-some_found None first number starts low is = tt
-some_found (Some s) first number starts low is = (first, low, ap (option_and_then (λ (s : Option ℕ). s)) is)
+-- a slot that counts at a number up to another
+pub some_found : (slots : SlotList) (slot : Option ℕ) (first number : ℕ) (starts : StartList) (found : Option ℕ) → found ≡ counted slots first slot → first ≤ number → lookup (is_at (nat_cmp first)) starts ≡ Some slot → IfSome found (λ s. (f : ℕ) × (f ≤ number) × (standing slots (slot_from starts) f ≡ Some s))
+some_found slots slot first number starts None is low here = tt
+some_found slots slot first number starts (Some s) is low here = (first, low, ap (λ (o : Option (Option ℕ)). counted slots first (flat o)) here ∙ sym is)
 
 -- a start that none follows up to a number is the last in front of it
-pub last_found : (es starts : StartList) (e : ℕ × Option ℕ) (first slot number : ℕ) → IsStrictlySortedBy nat_cmp (keys_of (es ++ e ∷ [])) → e.0 ≤ number → lookup (is_at (nat_cmp e.0)) starts ≡ Some e.1 → is_some e.1 ≡ true → slot_from (es ++ e ∷ []) first ≡ Some slot → slot_from starts first ≡ Some slot → BeginsLast (slot_from starts) first number → e.1 ≡ Some slot
-last_found es starts e first slot number sorted low here some among there last =
-    let at : slot_from starts e.0 ≡ e.1 = ap (option_and_then (λ (s : Option ℕ). s)) here in
-    let below : first ≤ e.0 = at_most_last es e first slot sorted among in
-    let same : e.0 ≡ first = is_first e.1 refl at below in
-    sym at ∙ ap (slot_from starts) same ∙ there
+pub last_found : (slots : SlotList) (es starts : StartList) (e : ℕ × Option ℕ) (first slot number : ℕ) → IsStrictlySortedBy nat_cmp (keys_of (es ++ e ∷ [])) → e.0 ≤ number → lookup (is_at (nat_cmp e.0)) starts ≡ Some e.1 → is_some (counted slots e.0 e.1) ≡ true → counted slots first (slot_from (es ++ e ∷ []) first) ≡ Some slot → standing slots (slot_from starts) first ≡ Some slot → BeginsLast (standing slots (slot_from starts)) first number → counted slots e.0 e.1 ≡ Some slot
+last_found slots es starts e first slot number sorted low here some among there last =
+    let at : standing slots (slot_from starts) e.0 ≡ counted slots e.0 e.1 = ap (λ (o : Option (Option ℕ)). counted slots e.0 (flat o)) here in
+    let below : first ≤ e.0 = at_most_last es e first slot sorted (stands_so slots first (slot_from (es ++ e ∷ []) first) slot among).0 in
+    let same : e.0 ≡ first = is_first (counted slots e.0 e.1) refl at below in
+    sym at ∙ ap (standing slots (slot_from starts)) same ∙ there
   where
-    is_first : (o : Option ℕ) → e.1 ≡ o → slot_from starts e.0 ≡ e.1 → first ≤ e.0 → e.0 ≡ first
+    is_first : (o : Option ℕ) → counted slots e.0 e.1 ≡ o → standing slots (slot_from starts) e.0 ≡ counted slots e.0 e.1 → first ≤ e.0 → e.0 ≡ first
     is_first None is at below = absurd (true≢false (sym some ∙ ap is_some is))
     is_first (Some s) is at below = let over : e.0 ≤ first = last.1 e.0 s (at ∙ is) low in omega (arith, over, below)
 

@@ -1,5 +1,6 @@
 -- Where the satoshis of outputs are, run by run.
-use Rattle.std.specs.Prelude.{◌≡◌, ◌≢◌, ℕ, ◌+◌, ◌≤◌, Bool, true, false, Option, Some}
+use Rattle.std.specs.Prelude.{◌≡◌, ◌≢◌, ℕ, ◌+◌, ◌≤◌, Bool, true, false, Option, Some, None}
+use Rattle.std.specs.Prelude.{if◌then◌else◌}
 use Rattle.std.specs.FinMap.{get}
 use Rattle.std.specs.Option.{option_map, option_map_or, option_and_then}
 use Rattle.ox_block.specs.declared.block.OutPoint.{OutPoint}
@@ -9,7 +10,7 @@ use Rattle.ox_rules.specs.declared.place.Place.TheVariants.{Out}
 use Rattle.ox_rules.specs.declared.rows.OutRow.{OutRow}
 use Rattle.ox_rules.specs.Outputs.{Outputs, times}
 use Rattle.ox_rules.specs.Where.{place_in}
-use Rattle.ox_outputs.specs.Slots.{SlotList, outpoint_at}
+use Rattle.ox_outputs.specs.Slots.{SlotList, outpoint_at, rows_of}
 use Rattle.ox_outputs.specs.Starts.{is_among, firsts_of}
 
 -- no satoshi stands twice
@@ -24,13 +25,25 @@ abbrev pub begins : Outputs → OutPoint → ℕ → Bool
 begins outs at first =
     option_map_or (λ row. is_among (firsts_of (runs_of row.sats)) first) (get outs at) false
 
--- The runs of the outputs begin so, all of them and no other: each with the place of its output's
--- slot.
-pub record AreRuns (starts : ℕ → Option ℕ) (slots : SlotList) (outs : Outputs) : Type 0 where
-  pub sound : (first place : ℕ) → starts first ≡ Some place
-      → option_map_or (λ at. begins outs at first) (outpoint_at slots place) false ≡ true
-  pub complete : (first : ℕ) (at : OutPoint) → begins outs at first ≡ true
-      → option_and_then (λ place. outpoint_at slots place) (starts first) ≡ Some at
+-- The starts lead to each run of the outputs, by the place of its output's slot. They may lead
+-- elsewhere too.
+abbrev pub LeadTo : (ℕ → Option ℕ) → SlotList → Outputs → Type 0
+LeadTo starts slots outs = (first : ℕ) (at : OutPoint) → begins outs at first ≡ true
+    → option_and_then (λ place. outpoint_at slots place) (starts first) ≡ Some at
+
+-- whether a run of the row in the slot at this place begins with this number
+abbrev pub begins_in : SlotList → ℕ → ℕ → Bool
+begins_in slots place first =
+    option_map_or (λ at. begins (rows_of slots) at first) (outpoint_at slots place) false
+
+-- a place, if a run of the row in the slot there begins with this number
+abbrev pub counted : SlotList → ℕ → Option ℕ → Option ℕ
+counted slots first place =
+    option_and_then (λ p. if begins_in slots p first then Some p else None) place
+
+-- those of the starts that lead to a run of a row in these slots
+abbrev pub standing : SlotList → (ℕ → Option ℕ) → ℕ → Option ℕ
+standing slots starts first = counted slots first (starts first)
 
 -- where a satoshi is in the row of the output at this outpoint, if it has one
 abbrev pub place_held : OutPoint → Option OutRow → ℕ → Option Place

@@ -7,7 +7,7 @@ ghost use Rattle.std.specs.FinMap as map;
 ghost use Rattle.ox_block.specs.declared.block.OutPoint.{OutPoint};
 ghost use Rattle.ox_range.specs.Runs.{runs_of};
 ghost use Rattle.ox_rules.specs.Outputs.{MayStand};
-ghost use Rattle.ox_outputs.specs.Located.{AreRuns};
+ghost use Rattle.ox_outputs.specs.Located.{LeadTo};
 ghost use Rattle.ox_outputs.specs.Locator.{live_at, kept_at};
 ghost use Rattle.ox_outputs.specs.Starts.{is_among, firsts_of};
 ghost use Rattle.ox_outputs.specs.Slots.{outpoint_at, slot_at, put_slot, rows_of, undone, AreSpots};
@@ -22,32 +22,21 @@ use ox_rules::{Memory, OutRow, Unplaced};
 use std::alloc::Global;
 
 /// Takes the row out of the slot at this spot, if it holds one, and answers it. Its satoshis leave
-/// the locator. `Memory` where there is none: all is as before.
-pub(crate) fn take_from(
-    slots: &mut Slots,
-    locator: &mut Locator,
-    spot: Spot,
-) -> Result<Option<OutRow>, Memory>
+/// the locator. It takes no memory.
+pub(crate) fn take_from(slots: &mut Slots, locator: &mut Locator, spot: Spot) -> Option<OutRow>
     requires spot { outpoint_at slots.old spot.place ≡ Some spot.at }
-    requires runs { AreRuns (live_at locator.old) slots.old (rows_of slots.old) }
-    ensures row { IfOk result (λ row. row ≡ map.get (rows_of slots.old) spot.at) }
-    ensures rows { OnOk result
-        (rows_of slots.new ≡ put_slot (rows_of slots.old) spot.at None) }
+    requires runs { LeadTo (live_at locator.old) slots.old (rows_of slots.old) }
+    ensures row { result ≡ map.get (rows_of slots.old) spot.at }
+    ensures rows { rows_of slots.new ≡ put_slot (rows_of slots.old) spot.at None }
     ensures places { (p : ℕ) → outpoint_at slots.new p ≡ outpoint_at slots.old p }
-    ensures err { OnErr result (rows_of slots.new ≡ rows_of slots.old) }
-    ensures runs { AreRuns (live_at locator.new) slots.new (rows_of slots.new) }
+    ensures runs { LeadTo (live_at locator.new) slots.new (rows_of slots.new) }
     ensures same { (q : ℕ) → kept_at locator.new q ≡ kept_at locator.old q }
 {
-    let Some(row) = slots.exchange(spot.place, None) else {
-        return Ok(None);
-    };
-    match locator.leave(&row.sats) {
-        Ok(()) => Ok(Some(row)),
-        Err(e) => {
-            let _empty = slots.exchange(spot.place, Some(row));
-            Err(e)
-        }
+    let taken = slots.exchange(spot.place, None);
+    if let Some(row) = &taken {
+        locator.leave(&row.sats);
     }
+    taken
 }
 
 // Copies a row whose satoshis leave the locator, and those of the row come that displaces it in the
@@ -62,13 +51,13 @@ fn displace_copied(
     ensures copy { IfOk result (λ copy. copy ≡ row.now) }
     ensures ok { OnOk result ((q : ℕ) → live_at locator.new q
         ≡ (if is_among (firsts_of (runs_of sats.now)) q then Some place
-        else (if is_among (firsts_of (runs_of row.now.sats)) q then None
-        else live_at locator.old q))) }
+        else live_at locator.old q)) }
     ensures err { OnErr result ((q : ℕ) → live_at locator.new q ≡ live_at locator.old q) }
     ensures kept { (q : ℕ) → kept_at locator.new q ≡ kept_at locator.old q }
 {
     let copy = row.copy(alloc)?;
-    locator.displace(&row.sats, place, sats)?;
+    locator.arrive(place, sats)?;
+    locator.leave(&row.sats);
     Ok(copy)
 }
 
@@ -76,7 +65,7 @@ fn displace_copied(
 // of the row's slot. Where there is no memory, the row is handed back, and its slot is empty.
 fn arrive_at(slots: &mut Slots, locator: &mut Locator, spot: Spot) -> Result<u32, Unplaced>
     requires spot { outpoint_at slots.old spot.place ≡ Some spot.at }
-    requires runs { AreRuns (live_at locator.old) slots.old
+    requires runs { LeadTo (live_at locator.old) slots.old
         (map.remove (rows_of slots.old) spot.at) }
     requires may { IsSomeAnd (map.get (rows_of slots.old) spot.at)
         (λ row. MayStand spot.at row.sats (map.remove (rows_of slots.old) spot.at)) }
@@ -85,7 +74,7 @@ fn arrive_at(slots: &mut Slots, locator: &mut Locator, spot: Spot) -> Result<u32
     ensures places { (p : ℕ) → outpoint_at slots.new p ≡ outpoint_at slots.old p }
     ensures handed_back { IfErr result (λ e. Some e.row ≡ map.get (rows_of slots.old) spot.at) }
     ensures err { OnErr result (rows_of slots.new ≡ map.remove (rows_of slots.old) spot.at) }
-    ensures runs { AreRuns (live_at locator.new) slots.new (rows_of slots.new) }
+    ensures runs { LeadTo (live_at locator.new) slots.new (rows_of slots.new) }
     ensures same { (q : ℕ) → kept_at locator.new q ≡ kept_at locator.old q }
 {
     let Some(row) = slots.row(spot.place) else {
@@ -113,7 +102,7 @@ pub(crate) fn fill_empty(
     requires found { IfSome found (λ place. outpoint_at slots.old place ≡ Some at) }
     requires nowhere { IfNone found ((place : ℕ) → outpoint_at slots.old place ≢ Some at) }
     requires none { map.get (rows_of slots.old) at ≡ None }
-    requires runs { AreRuns (live_at locator.old) slots.old (rows_of slots.old) }
+    requires runs { LeadTo (live_at locator.old) slots.old (rows_of slots.old) }
     requires may { MayStand at row.sats (rows_of slots.old) }
     ensures place { IfOk result (λ place. outpoint_at slots.new place ≡ Some at) }
     ensures rows { OnOk result
@@ -122,7 +111,7 @@ pub(crate) fn fill_empty(
         → outpoint_at slots.new p ≡ Some q }
     ensures handed_back { IfErr result (λ e. e.row ≡ row) }
     ensures err { OnErr result (rows_of slots.new ≡ rows_of slots.old) }
-    ensures runs { AreRuns (live_at locator.new) slots.new (rows_of slots.new) }
+    ensures runs { LeadTo (live_at locator.new) slots.new (rows_of slots.new) }
     ensures same { (q : ℕ) → kept_at locator.new q ≡ kept_at locator.old q }
 {
     let place = slots.fill(at, found, row)?;
@@ -149,7 +138,7 @@ pub(crate) fn displace_at(
 ) -> Result<Displaced, Unplaced>
     requires spot { outpoint_at slots.old spot.place ≡ Some spot.at }
     requires stands { IsSome (map.get (rows_of slots.old) spot.at) }
-    requires runs { AreRuns (live_at locator.old) slots.old (rows_of slots.old) }
+    requires runs { LeadTo (live_at locator.old) slots.old (rows_of slots.old) }
     requires may { MayStand spot.at row.sats (rows_of slots.old) }
     ensures displaced { IfOk result
         (λ other. Some other.row ≡ map.get (rows_of slots.old) spot.at) }
@@ -160,7 +149,7 @@ pub(crate) fn displace_at(
     ensures places { (p : ℕ) → outpoint_at slots.new p ≡ outpoint_at slots.old p }
     ensures handed_back { IfErr result (λ e. e.row ≡ row) }
     ensures err { OnErr result (rows_of slots.new ≡ rows_of slots.old) }
-    ensures runs { AreRuns (live_at locator.new) slots.new (rows_of slots.new) }
+    ensures runs { LeadTo (live_at locator.new) slots.new (rows_of slots.new) }
     ensures same { (q : ℕ) → kept_at locator.new q ≡ kept_at locator.old q }
 {
     let Some(other) = slots.row(spot.place) else {

@@ -1,13 +1,17 @@
 //! Slots at the places that they were given.
 
-ghost use Rattle.std.specs.Prelude.{◌≡◌, ◌↔◌, Some, None, IsTrue, IsSome, IfOk, IfErr, OnErr};
-ghost use Rattle.std.specs.Option.{option_copied};
+ghost use Rattle.std.specs.Prelude.{◌≡◌, ◌↔◌, Some, None, false, IsTrue, IsSome, IfOk, IfErr};
+ghost use Rattle.std.specs.Prelude.{OnErr};
+ghost use Rattle.std.specs.Option.{option_copied, option_map_or};
 ghost use Rattle.slab.specs.Slab.{get, Updates};
 ghost use Rattle.ox_block.specs.declared.block.OutPoint.{OutPoint};
+ghost use Rattle.ox_range.specs.Runs.{runs_of};
 ghost use Rattle.ox_outputs.specs.Located.{place_held};
 ghost use Rattle.ox_outputs.specs.Slots.{row_at, outpoint_at, slot_with};
+ghost use Rattle.ox_outputs.specs.Starts.{is_among, firsts_of};
 
 use ox_block::OutPoint;
+use ox_range::Run;
 use ox_rules::{OutRow, Place, Unplaced};
 use slab::Slab;
 use std::mem;
@@ -43,6 +47,29 @@ pub(crate) fn locate_in(held: &Held, place: u32, sat: u64) -> Option<Place>
         outpoint: slot.at,
         offset,
     })
+}
+
+/// Whether the row in the slot at this place has a run that begins with a number.
+pub(crate) fn begins_at(held: &Held, place: u32, first: u64) -> bool
+    ensures { result ≡ option_map_or (λ row. is_among (firsts_of (runs_of row.sats)) first)
+        (row_at held.now.slots place) false }
+{
+    match row_in(held, place) {
+        Some(row) => is_first(row.sats.runs(), first),
+        None => false,
+    }
+}
+
+// Whether one of these runs begins with a number.
+fn is_first(runs: &[Run], first: u64) -> bool
+    ensures { result ≡ is_among (firsts_of runs.now) first }
+{
+    for run in runs {
+        if run.first == first {
+            return true;
+        }
+    }
+    false
 }
 
 /// Whether the slot at this place is that of an outpoint.

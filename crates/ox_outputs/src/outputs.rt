@@ -6,7 +6,7 @@ ghost use Rattle.std.specs.Prelude.{length, if◌then◌else◌, Some, None};
 ghost use Rattle.std.specs.Option.{option_copied};
 ghost use Rattle.std.specs.FinMap as map;
 ghost use Rattle.ox_outputs.specs.Slots.{outpoint_at, rows_of, undone, AreSpots};
-ghost use Rattle.ox_outputs.specs.Located.{StandOnce, AreRuns};
+ghost use Rattle.ox_outputs.specs.Located.{StandOnce, LeadTo};
 ghost use Rattle.ox_outputs.specs.Locator.{live_at, kept_at};
 
 use crate::ahead::Ahead;
@@ -19,9 +19,10 @@ use ox_block::{Block, OutPoint, Txids};
 use ox_rules::{Memory, OutRow, OutTable, Place, TableRows, Unplaced};
 use std::alloc::Global;
 
-/// The unspent outputs: rows by outpoint, in memory. With a mark set, the rows that were taken or
-/// displaced since are kept until the next mark, so that to go back takes no memory. Beside them
-/// stands which slot holds each satoshi.
+/// The unspent outputs: rows by outpoint, in memory. The rows that were taken or displaced since
+/// the mark are kept until the next mark, so that to go back takes no memory; where there is no
+/// mark, what changes is kept in the same way, and let go when one is set. Beside them stands which
+/// slot holds each satoshi.
 #[derive(Drop)]
 pub struct Outputs {
     alloc: Global,
@@ -29,17 +30,17 @@ pub struct Outputs {
     /// The slots in which rows changed, the oldest change first, and what stood there.
     changed: Vec<Spot>,
     before: Vec<Option<OutRow>>,
+    /// Whether a mark is set, from which on these are the changes.
     marked: bool,
     locator: Locator,
     ahead: Ahead,
     ghost known: { AreSpots changed.items slots },
     ghost paired: { length before.items ≡ length changed.items },
-    ghost unmarked: { marked ≡ false → changed.items ≡ [] },
     ghost once: { StandOnce (rows_of slots) },
     ghost once_before: { StandOnce (undone before.items changed.items (rows_of slots)) },
-    ghost runs: { AreRuns (live_at locator) slots (rows_of slots) },
-    ghost runs_before: { marked ≡ true
-        → AreRuns (kept_at locator) slots (undone before.items changed.items (rows_of slots)) },
+    ghost runs: { LeadTo (live_at locator) slots (rows_of slots) },
+    ghost runs_before: { LeadTo (kept_at locator) slots
+        (undone before.items changed.items (rows_of slots)) },
 }
 
 impl Outputs {
@@ -66,11 +67,12 @@ impl Outputs {
     /// The output that holds a satoshi, and its place there: the first such output in the order of
     /// outpoints, which is the only one. `None` exactly where no output holds it. It costs by the
     /// logarithm of the runs of satoshis, by the runs of the one output that may hold it, and by
-    /// the runs that went since the mark and begin right before the satoshi.
+    /// the runs that went since the mark and begin right before the satoshi: for each of these by
+    /// the runs of the output that stands where it stood, if one does.
     pub fn locate(&self, sat: u64) -> Option<Place>
         ensures { result ≡ place_among (map.entries (rows_in self.now)) sat }
     {
-        let place = self.locator.find(sat)?;
+        let place = self.locator.find(&self.slots, sat)?;
         self.slots.locate(place, sat)
     }
 
@@ -84,32 +86,17 @@ impl Outputs {
         self.ahead.expect_block(&self.slots, block, ids);
     }
 
-    // Takes the row out of a slot where there is no mark, so that nothing of it is kept.
-    fn take_away(&mut self, spot: Spot) -> Result<Option<OutRow>, Memory>
-        requires unmarked { self.old.marked ≡ false }
-        requires spot { outpoint_at self.old.slots spot.place ≡ Some spot.at }
-        ensures row { IfOk result (λ row. row ≡ map.get (rows_in self.old) spot.at) }
-        ensures ok { OnOk result (rows_in self.new ≡ map.remove (rows_in self.old) spot.at) }
-        ensures err { OnErr result (rows_in self.new ≡ rows_in self.old) }
-        ensures unmarked { self.new.marked ≡ false }
-    {
-        let taken = take_from(&mut self.slots, &mut self.locator, spot)?;
-        self.slots.tidy(spot.place);
-        Ok(taken)
-    }
-
     // Takes the row out of a slot, and keeps it for the way back to the mark. `Memory` where there
     // is none: all is as before.
     fn set_aside(&mut self, spot: Spot) -> Result<(), Memory>
-        requires marked { self.old.marked ≡ true }
-        requires spot { outpoint_at self.old.slots spot.place ≡ Some spot.at }
+        requires { outpoint_at self.old.slots spot.place ≡ Some spot.at }
         ensures ok { OnOk result (rows_in self.new ≡ map.remove (rows_in self.old) spot.at) }
         ensures err { OnErr result (rows_in self.new ≡ rows_in self.old) }
         ensures mark { marked_in self.new ≡ marked_in self.old }
     {
         self.changed.reserve(1)?;
         self.before.reserve(1)?;
-        let taken = take_from(&mut self.slots, &mut self.locator, spot)?;
+        let taken = take_from(&mut self.slots, &mut self.locator, spot);
         self.changed.push_reserved(spot);
         self.before.push_reserved(taken);
         Ok(())
@@ -118,7 +105,6 @@ impl Outputs {
     // Takes the rows at the outpoints of these out, the last first. After `Memory` some of them may
     // be out.
     fn take_out(&mut self, rows: &TableRows) -> Result<(), Memory>
-        requires { IsSome (marked_in self.old) }
         ensures ok { OnOk result (rows_in self.new ≡ without_rows (rows_in self.old) rows.now) }
         ensures mark { marked_in self.new ≡ marked_in self.old }
     {
@@ -134,7 +120,6 @@ impl Outputs {
     // Takes the row at an outpoint out, if there is one, and keeps it for the way back to the mark.
     // `Memory` where there is none: all is as before.
     fn take_one(&mut self, at: &OutPoint) -> Result<(), Memory>
-        requires { IsSome (marked_in self.old) }
         ensures ok { OnOk result (rows_in self.new ≡ map.remove (rows_in self.old) at.now) }
         ensures mark { marked_in self.new ≡ marked_in self.old }
     {
@@ -158,10 +143,6 @@ impl Outputs {
         ensures err { OnErr result (rows_in self.new ≡ rows_in self.old) }
         ensures mark { marked_in self.new ≡ marked_in self.old }
     {
-        if !self.marked {
-            fill_empty(&mut self.slots, &mut self.locator, at, found, row)?;
-            return Ok(());
-        }
         if self.changed.reserve(1).is_err() || self.before.reserve(1).is_err() {
             return Err(Unplaced { row });
         }
@@ -171,8 +152,8 @@ impl Outputs {
         Ok(())
     }
 
-    // Places a row where another stands, and answers the other, which with a mark is also kept for
-    // the way back. Where there is no memory, the row is handed back and all is as before.
+    // Places a row where another stands, and answers the other, which is also kept for the way
+    // back. Where there is no memory, the row is handed back and all is as before.
     fn displace(&mut self, spot: Spot, row: OutRow) -> Result<OutRow, Unplaced>
         requires spot { outpoint_at self.old.slots spot.place ≡ Some spot.at }
         requires stands { IsSome (map.get (rows_in self.old) spot.at) }
@@ -184,10 +165,6 @@ impl Outputs {
         ensures err { OnErr result (rows_in self.new ≡ rows_in self.old) }
         ensures mark { marked_in self.new ≡ marked_in self.old }
     {
-        if !self.marked {
-            let other = displace_at(&mut self.slots, &mut self.locator, spot, row, self.alloc)?;
-            return Ok(other.row);
-        }
         if self.changed.reserve(1).is_err() || self.before.reserve(1).is_err() {
             return Err(Unplaced { row });
         }
@@ -244,9 +221,6 @@ impl OutTable for Outputs {
             return Ok(None);
         };
         let spot = Spot { at: *at, place };
-        if !self.marked {
-            return self.take_away(spot);
-        }
         let Some(row) = self.slots.row(place) else {
             return Ok(None);
         };
@@ -271,8 +245,8 @@ impl OutTable for Outputs {
     fn begin(&mut self) -> Result<(), Memory> {
         self.ahead
             .read_changed(&self.slots, &self.changed, &self.before);
+        self.locator.begin(&self.slots, &self.changed, &self.before);
         settle(&mut self.slots, &mut self.changed, &mut self.before);
-        self.locator.begin();
         self.marked = true;
         Ok(())
     }

@@ -7,9 +7,9 @@ ghost use Rattle.std.specs.FinMap as map;
 ghost use Rattle.ox_block.specs.declared.block.OutPoint.{OutPoint};
 ghost use Rattle.ox_outputs.specs.Slots.{outpoint_at, slot_at, put_slot, rows_of, unless_empty};
 ghost use Rattle.ox_outputs.specs.Slots.{KeepRows};
-ghost use Rattle.ox_outputs.specs.Located.{place_held};
+ghost use Rattle.ox_outputs.specs.Located.{place_held, begins_in, counted};
 
-use crate::held::{Held, exchange_in, give_out, locate_in, row_in, take_back, vacate};
+use crate::held::{Held, begins_at, exchange_in, give_out, locate_in, row_in, take_back, vacate};
 use crate::places::Places;
 use ox_block::OutPoint;
 use ox_rules::{OutRow, Place, Unplaced};
@@ -87,6 +87,25 @@ impl Slots {
             → result ≡ place_held at (map.get (rows_of self.now) at) sat }
     {
         locate_in(&self.held, place, sat)
+    }
+
+    /// Whether the row in the slot at this place has a run that begins with this number. It costs
+    /// by the row's runs.
+    pub(crate) fn begins(&self, place: u32, first: u64) -> bool
+        ensures { result ≡ begins_in self.now place first }
+    {
+        begins_at(&self.held, place, first)
+    }
+
+    /// A place, if there is one, and the row in the slot there has a run that begins with this
+    /// number. It costs by the row's runs.
+    pub(crate) fn counted(&self, first: u64, place: Option<u32>) -> Option<u32>
+        ensures { result ≡ counted self.now first place }
+    {
+        match place {
+            Some(place) if self.begins(place, first) => Some(place),
+            _ => None,
+        }
     }
 
     /// Reads a part of what leads to the slot at this outpoint.

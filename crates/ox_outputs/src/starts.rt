@@ -6,13 +6,16 @@ ghost use Rattle.std.specs.BTreeMap.{is_at};
 ghost use Rattle.std.specs.Ordering.{nat_cmp};
 ghost use Rattle.ox_outputs.specs.Starts.{slot_from, is_among, firsts_of, before_in, AreLogged};
 ghost use Rattle.ox_outputs.specs.Starts.{AreNoted, BeginsLast};
+ghost use Rattle.ox_outputs.specs.Located.{standing};
 
+use crate::slots::Slots;
 use ox_range::Run;
 use ox_rules::Memory;
 use std::collections::BTreeMap;
 
-/// The places of slots, by the first numbers of the runs that stand there; nothing where a run went
-/// since the mark, and none came in its place.
+/// The places of slots, by the first numbers of the runs that stand or stood there. An entry counts
+/// only where the row in its slot has a run that begins so; nothing stands in one where a run came
+/// and was put back.
 pub(crate) type Starts = BTreeMap<u64, Option<u32>>;
 
 /// What stood at a number before a change.
@@ -22,63 +25,28 @@ pub(crate) struct Before {
     pub(crate) slot: Option<u32>,
 }
 
-/// The slot of the last run that begins at a number or before.
-pub(crate) fn last_slot(starts: &Starts, number: u64) -> Option<u32>
+/// The slot of the last run that begins at a number or before, of those that stand.
+pub(crate) fn last_slot(starts: &Starts, slots: &Slots, number: u64) -> Option<u32>
     ensures some { IfSome result (λ slot. (first : ℕ) × (first ≤ number)
-        × (slot_from starts.now.entries first ≡ Some slot)) }
-    ensures last { (first slot : ℕ) → slot_from starts.now.entries first ≡ Some slot
-        → BeginsLast (slot_from starts.now.entries) first number → result ≡ Some slot }
+        × (standing slots.now (slot_from starts.now.entries) first ≡ Some slot)) }
+    ensures last { (first slot : ℕ)
+        → standing slots.now (slot_from starts.now.entries) first ≡ Some slot
+        → BeginsLast (standing slots.now (slot_from starts.now.entries)) first number
+        → result ≡ Some slot }
 {
     let mut range = starts.range(..=number);
-    while let Some((_, slot)) = range.next_back() {
-        if slot.is_some() {
-            return *slot;
+    while let Some((first, slot)) = range.next_back() {
+        let found = slots.counted(*first, *slot);
+        if found.is_some() {
+            return found;
         }
     }
     None
 }
 
-/// The runs that begin so go. What stood there is noted. The answer is how many went. After
-/// `Memory` some have gone, and all of these are noted behind the earlier changes.
-pub(crate) fn take_runs(
-    starts: &mut Starts,
-    changes: &mut Vec<Before>,
-    runs: &[Run],
-) -> Result<usize, Memory>
-    requires logged { AreLogged changes.old.items starts.old.entries }
-    ensures ok { OnOk result ((q : ℕ) → slot_from starts.new.entries q
-        ≡ (if is_among (firsts_of runs.now) q then None else slot_from starts.old.entries q)) }
-    ensures noted { AreNoted changes.old.items changes.new.items
-        (slot_from starts.old.entries) (slot_from starts.new.entries) }
-    ensures logged { AreLogged changes.new.items starts.new.entries }
-{
-    let mut count = 0usize;
-    for run in runs {
-        count = count.wrapping_add(take_run(starts, changes, run.first)?);
-    }
-    Ok(count)
-}
-
-// The same of the run that begins with one number. After `Memory` it hasn't gone.
-fn take_run(starts: &mut Starts, changes: &mut Vec<Before>, first: u64) -> Result<usize, Memory>
-    requires logged { AreLogged changes.old.items starts.old.entries }
-    ensures ok { OnOk result ((q : ℕ) → slot_from starts.new.entries q
-        ≡ (if is_at (nat_cmp first) q then None else slot_from starts.old.entries q)) }
-    ensures noted { AreNoted changes.old.items changes.new.items
-        (slot_from starts.old.entries) (slot_from starts.new.entries) }
-    ensures logged { AreLogged changes.new.items starts.new.entries }
-{
-    changes.reserve(1)?;
-    let Some(slot) = starts.get_mut(&first) else {
-        return Ok(0);
-    };
-    changes.push_reserved(Before { first, slot: *slot });
-    Ok(usize::from(slot.take().is_some()))
-}
-
-/// The runs of a slot come. What stood where they begin is noted. The answer is in how many places
-/// a run had gone. After `Memory` some have come, and all of these are noted behind the earlier
-/// changes.
+/// The runs of a slot come. What stood where they begin is noted. The answer is over how many
+/// entries they came, which had been left behind. After `Memory` some have come, and all of these
+/// are noted behind the earlier changes.
 pub(crate) fn put_runs(
     starts: &mut Starts,
     changes: &mut Vec<Before>,
@@ -115,36 +83,9 @@ fn put_run(
 {
     changes.reserve(1)?;
     let stood = starts.insert(first, Some(slot))?;
-    let over = stood == Some(None);
-    changes.push_reserved(Before {
-        first,
-        slot: stood.flatten(),
-    });
-    Ok(usize::from(over))
-}
-
-/// The runs that begin as others do go, and those of a slot come. What stood there is noted. The
-/// answer is how many more went than came in the place of one that had gone. After `Memory` some
-/// of this is done, and all of it is noted behind the earlier changes.
-pub(crate) fn replace_runs(
-    starts: &mut Starts,
-    changes: &mut Vec<Before>,
-    others: &[Run],
-    slot: u32,
-    runs: &[Run],
-) -> Result<usize, Memory>
-    requires logged { AreLogged changes.old.items starts.old.entries }
-    ensures ok { OnOk result ((q : ℕ) → slot_from starts.new.entries q
-        ≡ (if is_among (firsts_of runs.now) q then Some slot
-        else (if is_among (firsts_of others.now) q then None
-        else slot_from starts.old.entries q))) }
-    ensures noted { AreNoted changes.old.items changes.new.items
-        (slot_from starts.old.entries) (slot_from starts.new.entries) }
-    ensures logged { AreLogged changes.new.items starts.new.entries }
-{
-    let went = take_runs(starts, changes, others)?;
-    let over = put_runs(starts, changes, slot, runs)?;
-    Ok(went.wrapping_sub(over))
+    let stood = stood.flatten();
+    changes.push_reserved(Before { first, slot: stood });
+    Ok(usize::from(stood.is_some()))
 }
 
 /// Puts back what stood before the changes from one on, the newest first. It takes no memory. The
@@ -165,16 +106,35 @@ pub(crate) fn restore(starts: &mut Starts, changes: &[Before], from: usize)
     }
 }
 
-/// Takes the entries away where no run stands, of the numbers at which a run stood before a change,
-/// or of those at which none did. Which of them it is says where an entry without a run can be: a
-/// run goes only where one stood, and what came goes back only where none stood. Where there was no
-/// memory for a run to come, an entry without one may be left, which counts for nothing.
-pub(crate) fn sweep(starts: &mut Starts, changes: &[Before], stood: bool)
+/// Takes the entries away that hold nothing, of the numbers at which nothing stood before a change:
+/// what came there goes back to nothing.
+pub(crate) fn sweep(starts: &mut Starts, changes: &[Before])
     ensures { (q : ℕ) → slot_from starts.new.entries q ≡ slot_from starts.old.entries q }
 {
     for change in changes {
-        if change.slot.is_some() == stood && starts.get(&change.first) == Some(&None) {
+        if change.slot.is_none() && starts.get(&change.first) == Some(&None) {
             starts.remove(&change.first);
         }
+    }
+}
+
+/// Takes the entries away that count for nothing, of those that runs had which went from the slot
+/// at this place.
+pub(crate) fn drop_stale(starts: &mut Starts, slots: &Slots, place: u32, runs: &[Run])
+    ensures { (q : ℕ) → standing slots.now (slot_from starts.new.entries) q
+        ≡ standing slots.now (slot_from starts.old.entries) q }
+{
+    for run in runs {
+        drop_one(starts, slots, place, run.first);
+    }
+}
+
+// The same of the run that begins with one number.
+fn drop_one(starts: &mut Starts, slots: &Slots, place: u32, first: u64)
+    ensures { (q : ℕ) → standing slots.now (slot_from starts.new.entries) q
+        ≡ standing slots.now (slot_from starts.old.entries) q }
+{
+    if starts.get(&first) == Some(&Some(place)) && !slots.begins(place, first) {
+        starts.remove(&first);
     }
 }

@@ -4,7 +4,7 @@ use Rattle.ox_rules.specs.declared.rows.OutRow.{OutRow}
 use Rattle.ox_rules.specs.Outputs.{MayStand}
 use Rattle.ox_outputs.specs.Locator.{live_at}
 use Rattle.ox_outputs.specs.Slots.{rows_of, put_slot}
-use Rattle.ox_outputs.proofs.SlotLemmas.{get-put_slot, get-put_slot_same}
+use Rattle.ox_outputs.proofs.SlotLemmas.{get-put_slot}
 use Rattle.ox_outputs.proofs.RowLemmas.{arrive_rows, gets_again, elsewhere_is}
 use Rattle.ox_outputs.proofs.OutputsLemmas.{and_so}
 use Rattle.ox_outputs.proofs.changes.arrive_at.Goals as goal
@@ -18,6 +18,5 @@ returns-in-Ok-clause-runs c =
     let there = sym (c.in-Some.ensures at c.requires.spot) in
     arrive_rows (live_at c.args.locator.now) (live_at c.arrive.new.self) c.args.slots.now outs rows at row c.args.spot.place
     (gets_again rows outs at row there (λ q other. get-put_slot rows at None q ∙ elsewhere_is _ None (map.get rows q) other))
-    c.requires.runs c.requires.spot (get-put_slot_same rows at None)
     (and_so (λ (row : OutRow). MayStand at row.sats outs) (map.get rows at) row there c.requires.may)
-    c.in-Ok.ensures.ok
+    c.requires.runs c.requires.spot c.in-Ok.ensures.ok

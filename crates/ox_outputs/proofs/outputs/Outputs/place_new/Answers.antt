@@ -1,66 +1,47 @@
-use Rattle.std.proofs.Common.{◌≡◌, ◌∙◌, ap, refl, sym, List, Option, Some, None, [], ◌∷◌, ◌++◌}
+use Rattle.std.proofs.Common.{◌≡◌, ◌∙◌, ap, sym, List, Option, Some, None, [], ◌∷◌, ◌++◌}
 use Rattle.ox_rules.specs.declared.rows.OutRow.{OutRow}
 use Rattle.ox_outputs.specs.declared.spot.Spot.{Spot}
 use Rattle.ox_outputs.specs.Locator.{kept_at}
 use Rattle.ox_outputs.specs.Slots.{rows_of, undone}
 use Rattle.ox_outputs.proofs.SlotLemmas.{known_more, known_still, both_grown, both_still, mark_kept, mark_still, same_mark}
 use Rattle.ox_outputs.proofs.RowLemmas.{runs_alike, once_alike, stay_kept}
-use Rattle.ox_outputs.proofs.StartLemmas.{either_way}
-use Rattle.ox_outputs.proofs.OutputsLemmas.{undone_none, once_more}
+use Rattle.ox_outputs.proofs.OutputsLemmas.{once_more}
 use Rattle.ox_outputs.proofs.outputs.Outputs.place_new.Goals as goal
 
-pub invariant_of-self : goal.invariant_of-self
-invariant_of-self c =
+pub invariant_of-self-in-Break-1 : goal.invariant_of-self-in-Break-1
+invariant_of-self-in-Break-1 c =
     let self = c.args.self.now in
     let rows = rows_of c.fill_empty.new.slots in
-    let once = either_way c.fill_empty.result c.fill_empty.ensures.rows c.fill_empty.ensures.err
-    (λ is. once_more (rows_of self.slots) rows c.args.at c.args.row self.once c.requires.may is)
-    (λ is. once_alike (rows_of self.slots) rows self.once is) in record {
-      known = known_still self.changed.items self.changed.items self.slots c.fill_empty.new.slots refl self.known c.fill_empty.ensures.places;
-      paired = self.paired;
-      unmarked = self.unmarked;
-      once = once;
-      once_before = once_alike rows (undone self.before.items self.changed.items rows) once (undone_none self.before.items self.changed.items rows (self.unmarked c.if-not-self.true));
-      runs = c.fill_empty.ensures.runs;
-      runs_before = λ is. absurd (cc (is, c.if-not-self.true));
-    }
-
-pub invariant_of-self-in-Break-branch-2 : goal.invariant_of-self-in-Break-branch-2
-invariant_of-self-in-Break-branch-2 c =
-    let self = c.args.self.now in
-    let rows = rows_of c.fill_empty-2.new.slots in
     let same = c.in_err-place.ensures.err in
     let mark = mark_still self.before.items c.reserve-else-is_err.new.self.items self.changed.items c.reserve.new.self.items (rows_of self.slots) rows c.reserve-else-is_err.ensures.items c.reserve.ensures.items same in record {
-      known = known_still self.changed.items c.reserve.new.self.items self.slots c.fill_empty-2.new.slots c.reserve.ensures.items self.known c.fill_empty-2.ensures.places;
+      known = known_still self.changed.items c.reserve.new.self.items self.slots c.fill_empty.new.slots c.reserve.ensures.items self.known c.fill_empty.ensures.places;
       paired = both_still self.before.items c.reserve-else-is_err.new.self.items self.changed.items c.reserve.new.self.items c.reserve-else-is_err.ensures.items c.reserve.ensures.items self.paired;
-      unmarked = λ is. absurd (cc (is, c.if-not-self.false));
       once = once_alike (rows_of self.slots) rows self.once same;
       once_before = once_alike (undone self.before.items self.changed.items (rows_of self.slots)) _ self.once_before mark;
-      runs = c.fill_empty-2.ensures.runs;
-      runs_before = λ is. runs_alike (kept_at self.locator) (kept_at c.fill_empty-2.new.locator) self.slots c.fill_empty-2.new.slots (undone self.before.items self.changed.items (rows_of self.slots)) _ (self.runs_before is) c.fill_empty-2.ensures.same (stay_kept _ self.slots c.fill_empty-2.new.slots c.fill_empty-2.ensures.places) mark;
+      runs = c.fill_empty.ensures.runs;
+      runs_before = runs_alike (kept_at self.locator) (kept_at c.fill_empty.new.locator) self.slots c.fill_empty.new.slots (undone self.before.items self.changed.items (rows_of self.slots)) _ self.runs_before c.fill_empty.ensures.same (stay_kept _ self.slots c.fill_empty.new.slots c.fill_empty.ensures.places) mark;
     }
 
 pub invariant_of-self-2 : goal.invariant_of-self-2
 invariant_of-self-2 c =
     let self = c.args.self.now in
-    let rows = rows_of c.fill_empty-2.new.slots in
+    let rows = rows_of c.fill_empty.new.slots in
     let spot : Spot = record { at = c.args.at; place = c.in_ok-place.place } in
     let changed : c.push_reserved.new.self.items ≡ self.changed.items ++ spot ∷ [] = c.push_reserved.ensures.items ∙ ap (λ (l : List Spot). l ++ spot ∷ []) c.reserve.ensures.items in
     let before : c.push_reserved-2.new.self.items ≡ self.before.items ++ None ∷ [] = c.push_reserved-2.ensures.items ∙ ap (λ (l : List (Option OutRow)). l ++ None ∷ []) c.reserve-else-is_err.ensures.items in
     let mark = mark_kept self.before.items c.push_reserved-2.new.self.items self.changed.items c.push_reserved.new.self.items (rows_of self.slots) rows None (Some c.args.row) spot before changed c.in_ok-place.ensures.rows (sym c.requires.none) self.paired in record {
-      known = known_more self.changed.items c.push_reserved.new.self.items spot self.slots c.fill_empty-2.new.slots changed self.known c.in_ok-place.ensures.place c.fill_empty-2.ensures.places;
+      known = known_more self.changed.items c.push_reserved.new.self.items spot self.slots c.fill_empty.new.slots changed self.known c.in_ok-place.ensures.place c.fill_empty.ensures.places;
       paired = both_grown self.before.items c.push_reserved-2.new.self.items self.changed.items c.push_reserved.new.self.items _ _ before changed self.paired;
-      unmarked = λ is. absurd (cc (is, c.if-not-self.false));
       once = once_more (rows_of self.slots) rows c.args.at c.args.row self.once c.requires.may c.in_ok-place.ensures.rows;
       once_before = once_alike (undone self.before.items self.changed.items (rows_of self.slots)) _ self.once_before mark;
-      runs = c.fill_empty-2.ensures.runs;
-      runs_before = λ is. runs_alike (kept_at self.locator) (kept_at c.fill_empty-2.new.locator) self.slots c.fill_empty-2.new.slots (undone self.before.items self.changed.items (rows_of self.slots)) _ (self.runs_before is) c.fill_empty-2.ensures.same (stay_kept _ self.slots c.fill_empty-2.new.slots c.fill_empty-2.ensures.places) mark;
+      runs = c.fill_empty.ensures.runs;
+      runs_before = runs_alike (kept_at self.locator) (kept_at c.fill_empty.new.locator) self.slots c.fill_empty.new.slots (undone self.before.items self.changed.items (rows_of self.slots)) _ self.runs_before c.fill_empty.ensures.same (stay_kept _ self.slots c.fill_empty.new.slots c.fill_empty.ensures.places) mark;
     }
 
 pub returns-clause-mark : goal.returns-clause-mark
 returns-clause-mark c =
     let self = c.args.self.now in
-    let rows = rows_of c.fill_empty-2.new.slots in
+    let rows = rows_of c.fill_empty.new.slots in
     let spot : Spot = record { at = c.args.at; place = c.in_ok-place.place } in
     let changed : c.push_reserved.new.self.items ≡ self.changed.items ++ spot ∷ [] = c.push_reserved.ensures.items ∙ ap (λ (l : List Spot). l ++ spot ∷ []) c.reserve.ensures.items in
     let before : c.push_reserved-2.new.self.items ≡ self.before.items ++ None ∷ [] = c.push_reserved-2.ensures.items ∙ ap (λ (l : List (Option OutRow)). l ++ None ∷ []) c.reserve-else-is_err.ensures.items in

@@ -11,26 +11,25 @@ use Rattle.ox_outputs.proofs.outputs.Outputs.set_aside.Goals as goal
 pub invariant_of-self-2 : goal.invariant_of-self-2
 invariant_of-self-2 c =
     let self = c.args.self.now in
-    let rows = rows_of c.take_from.new.slots in
-    let taken = c.in_ok-taken.taken in
+    let rows = rows_of c.take_from-taken.new.slots in
+    let taken = c.take_from-taken.result in
     let spot = c.args.spot in
     let changed : c.push_reserved.new.self.items ≡ self.changed.items ++ spot ∷ [] = c.push_reserved.ensures.items ∙ ap (λ (l : List Spot). l ++ spot ∷ []) c.reserve.ensures.items in
     let before : c.push_reserved-2.new.self.items ≡ self.before.items ++ taken ∷ [] = c.push_reserved-2.ensures.items ∙ ap (λ (l : List (Option OutRow)). l ++ taken ∷ []) c.reserve-2.ensures.items in
-    let mark = mark_kept self.before.items c.push_reserved-2.new.self.items self.changed.items c.push_reserved.new.self.items (rows_of self.slots) rows taken None spot before changed c.in_ok-taken.ensures.rows c.in_ok-taken.ensures.row self.paired in record {
-      known = known_more self.changed.items c.push_reserved.new.self.items spot self.slots c.take_from.new.slots changed self.known (c.take_from.ensures.places spot.place ∙ c.requires.spot) (keep_same self.slots c.take_from.new.slots c.take_from.ensures.places);
+    let mark = mark_kept self.before.items c.push_reserved-2.new.self.items self.changed.items c.push_reserved.new.self.items (rows_of self.slots) rows taken None spot before changed c.take_from-taken.ensures.rows c.take_from-taken.ensures.row self.paired in record {
+      known = known_more self.changed.items c.push_reserved.new.self.items spot self.slots c.take_from-taken.new.slots changed self.known (c.take_from-taken.ensures.places spot.place ∙ c.requires) (keep_same self.slots c.take_from-taken.new.slots c.take_from-taken.ensures.places);
       paired = both_grown self.before.items c.push_reserved-2.new.self.items self.changed.items c.push_reserved.new.self.items _ _ before changed self.paired;
-      unmarked = λ is. absurd (cc (is, c.requires.marked));
-      once = once_less (rows_of self.slots) rows spot.at self.once c.in_ok-taken.ensures.rows;
+      once = once_less (rows_of self.slots) rows spot.at self.once c.take_from-taken.ensures.rows;
       once_before = once_alike (undone self.before.items self.changed.items (rows_of self.slots)) _ self.once_before mark;
-      runs = c.take_from.ensures.runs;
-      runs_before = λ is. runs_alike (kept_at self.locator) (kept_at c.take_from.new.locator) self.slots c.take_from.new.slots (undone self.before.items self.changed.items (rows_of self.slots)) _ (self.runs_before is) c.take_from.ensures.same (stay_same _ self.slots c.take_from.new.slots c.take_from.ensures.places) mark;
+      runs = c.take_from-taken.ensures.runs;
+      runs_before = runs_alike (kept_at self.locator) (kept_at c.take_from-taken.new.locator) self.slots c.take_from-taken.new.slots (undone self.before.items self.changed.items (rows_of self.slots)) _ self.runs_before c.take_from-taken.ensures.same (stay_same _ self.slots c.take_from-taken.new.slots c.take_from-taken.ensures.places) mark;
     }
 
 pub returns-clause-mark : goal.returns-clause-mark
 returns-clause-mark c =
     let self = c.args.self.now in
-    let taken = c.in_ok-taken.taken in
+    let taken = c.take_from-taken.result in
     let spot = c.args.spot in
     let changed : c.push_reserved.new.self.items ≡ self.changed.items ++ spot ∷ [] = c.push_reserved.ensures.items ∙ ap (λ (l : List Spot). l ++ spot ∷ []) c.reserve.ensures.items in
     let before : c.push_reserved-2.new.self.items ≡ self.before.items ++ taken ∷ [] = c.push_reserved-2.ensures.items ∙ ap (λ (l : List (Option OutRow)). l ++ taken ∷ []) c.reserve-2.ensures.items in
-    same_mark self.marked _ _ (mark_kept self.before.items _ self.changed.items _ (rows_of self.slots) _ taken None spot before changed c.in_ok-taken.ensures.rows c.in_ok-taken.ensures.row self.paired)
+    same_mark self.marked _ _ (mark_kept self.before.items _ self.changed.items _ (rows_of self.slots) _ taken None spot before changed c.take_from-taken.ensures.rows c.take_from-taken.ensures.row self.paired)
