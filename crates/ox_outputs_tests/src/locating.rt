@@ -164,6 +164,19 @@ fn a_taken_satoshi_is_found_again_after_going_back(rt: HostRuntime) {
     assert!(rt; is_at(&table, 12, 2, 2) && is_lost(&table, 0, 9));
 }
 
+#[test]
+fn a_taken_satoshi_stays_lost(rt: HostRuntime) {
+    let mut table = two_runs(&rt, rt.alloc());
+    table.begin().expect(&rt, "memory");
+    table.take(&outpoint(2)).expect(&rt, "memory");
+    table.begin().expect(&rt, "memory");
+    assert!(rt; is_lost(&table, 10, 14) && is_at(&table, 9, 1, 9));
+    table.take(&outpoint(1)).expect(&rt, "memory");
+    assert!(rt; is_lost(&table, 0, 9));
+    table.cancel();
+    assert!(rt; is_lost(&table, 10, 14) && is_at(&table, 0, 1, 0));
+}
+
 /// Puts the run of a number behind, two satoshis: the third is in none.
 #[tactic(auto, using(crate::proofs::Rising::joined_count))]
 fn join_two(rt: &impl Abort, alloc: Global, sats: &mut Ranges, number: u32)
