@@ -1,14 +1,17 @@
 -- What stood where something was put, as a list of which the oldest comes first.
-use Rattle.std.proofs.Common.{◌≡◌, ◌∙◌, ℕ, ◌<◌, ◌+◌, Bool, true, false, cond, List, [], ◌∷◌, ◌++◌, drop, get_or, length, Option, Some, None, is_some, Result, Ok, Err, Bor, Ordering, Less, Equal, Greater, refl, sym, ap, subst, true≢false}
-use Rattle.std.specs.Prelude.{IsSome, IsOk, OnOk, All, ◌||◌, if◌then◌else◌}
-use Rattle.std.specs.Ordering.{is_eq}
+use Rattle.std.proofs.Common.{not, ◌≡◌, ◌∙◌, ℕ, ◌<◌, ◌+◌, Bool, true, false, cond, List, [], ◌∷◌, ◌++◌, drop, get_or, length, Option, Some, None, is_some, Result, Ok, Err, Bor, Ordering, Less, Equal, Greater, refl, sym, ap, subst, true≢false}
+use Rattle.std.specs.Prelude.{IsSome, IsOk, IfOk, OnOk, All, ◌||◌, ◌&&◌, if◌then◌else◌}
+use Rattle.std.specs.Ordering.{eq_by_cmp, is_eq, is_lt}
 use Rattle.std.specs.Cmp.{IsTotalOrder, eq_by_cmp_equiv}
 use Rattle.std.specs.Option.{IfSome, option_copied, option_flatten, option_map, option_or, unwrap_or}
-use Rattle.std.specs.List.{list_any}
-use Rattle.std.specs.List.Sorted.{IsStrictlySortedBy}
+use Rattle.std.specs.List.{AllByRecursion, dedup, dedup_from, filter, list_any}
+use Rattle.std.specs.List.Sorted.{IsSorted, IsStable, IsStrictlySortedBy}
 use Rattle.std.specs.Map.{keys_of, lookup}
-use Rattle.std.specs.BTreeMap.{BTreeMap, IsOrdered, get, is_at}
-use Rattle.std.proofs.lemmas.Map.Entries.{btree_map_get_place}
+use Rattle.std.specs.BTreeMap.{is_at}
+use Rattle.std.proofs.lemmas.Cmp.{on_total}
+use Rattle.std.proofs.lemmas.List.Kept.{IsStrictlySortedBy-dedup}
+use Rattle.std.proofs.lemmas.Map.Entries.{lookup-filter-keys, lookup_from_place}
+use Rattle.std.proofs.lemmas.Map.Keys.{IsDistinct-from_sorted}
 use Rattle.std.proofs.lemmas.Option.{slice_get-get_or}
 use Rattle.std.proofs.lemmas.List.{drop_more}
 use Rattle.std.proofs.lemmas.List.Elements.{All-weaker}
@@ -23,6 +26,11 @@ equal Greater is = absurd (true≢false (sym is))
 pub of_ok : {A E P : Type 0} (r : Result A E) → IsOk r → OnOk r P → P
 of_ok (Ok x) is p = p
 of_ok (Err e) is p = absurd (true≢false (sym is))
+
+-- what two facts on an answer say together
+pub both_ok : {A E : Type 0} (r : Result A E) (P Q R : A → Type 0) → ((a : A) → P a → Q a → R a) → IfOk r P → IfOk r Q → IfOk r R
+both_ok (Ok a) P Q R step p q = step a p q
+both_ok (Err e) P Q R step p q = tt
 
 pub flat : {V : Type 0} (o : Option (Option V)) → option_flatten o ≡ unwrap_or o None
 flat None = refl
@@ -70,6 +78,17 @@ module _ {K : Type 0} {cmp : K → K → Ordering} (o : IsTotalOrder cmp) where
   -- at an equal key the same is found
   pub alike : {X : Type 0} (entries : List (K × X)) (a b : K) → is_at (cmp a) b ≡ true → lookup (is_at (cmp a)) entries ≡ lookup (is_at (cmp b)) entries
   alike entries a b same = ap (λ f. lookup (is_at f) entries) (λ i z. o.congr a b z (equal (cmp a b) same) i)
+
+  -- no order between equal keys
+  ties_same : (q k : K) → is_at (cmp q) k ≡ true → (not (is_lt (cmp q k)) && not (is_lt (cmp k q))) ≡ true
+  ties_same q k same =
+      let here : cmp q k ≡ Equal = equal _ same in
+      let back : cmp k q ≡ Equal = equal _ (sym (same_key q k) ∙ same) in
+      λ i. not (is_lt (here i)) && not (is_lt (back i))
+
+  -- equal keys, seen from a third
+  seen_alike : (q a b : K) → is_at (cmp a) b ≡ true → is_at (cmp q) a ≡ is_at (cmp q) b
+  seen_alike q a b same = same_key q a ∙ ap is_eq (o.congr a b q (equal (cmp a b) same)) ∙ same_key b q
 
 -- ---- a change is noted
 
@@ -141,21 +160,61 @@ keys_tell test (e ∷ es) = by (test e.0) (keys_tell test es)
     by true behind = refl
     by false behind = behind
 
--- Entries in order that say what the oldest change at each key says.
-module _ {K V : Type 0} {cmp : K → K → Ordering} (o : IsTotalOrder cmp) (changes : BTreeMap K (Option (Bor V))) (log : Values K V) (ordered : IsOrdered cmp changes)
-    (values : (q : K) → option_map option_copied (get cmp changes q) ≡ lookup (is_at (cmp q)) log) (items : List (K × Option (Bor V))) (all : items ≡ changes.entries) where
-  pub keys_are : IsStrictlySortedBy cmp (keys_of items)
-  keys_are = subst (λ (es : List (K × Option (Bor V))). IsStrictlySortedBy cmp (keys_of es)) (sym all) ordered
+-- ---- the oldest change at each key
 
-  pub keys_put : (q : K) → list_any (λ key. is_eq (cmp q key)) (keys_of items) ≡ is_some (lookup (is_at (cmp q)) log)
-  keys_put q =
-      ap (λ (es : List (K × Option (Bor V))). list_any (is_at (cmp q)) (keys_of es)) all ∙ keys_tell (is_at (cmp q)) changes.entries
-      ∙ some_mapped option_copied (get cmp changes q) ∙ ap is_some (values q)
+keys_below : {K X : Type 0} (cmp : K → K → Ordering) (k : K) (xs : List (K × X)) → AllByRecursion (λ x. cmp k x.0 ≡ Less) xs → AllByRecursion (λ x. cmp k x ≡ Less) (keys_of xs)
+keys_below cmp k [] all = tt
+keys_below cmp k (x ∷ xs) all = (all.0, keys_below cmp k xs all.1)
 
-  pub values_before : (after : K → Option V) → All (λ change. option_copied change.1 ≡ before_in cmp log after change.0) items
+keys_sorted : {K X : Type 0} (cmp : K → K → Ordering) (xs : List (K × X)) → IsStrictlySortedBy (λ a b. cmp a.0 b.0) xs → IsStrictlySortedBy cmp (keys_of xs)
+unfolding IsStrictlySortedBy
+keys_sorted cmp [] sorted = tt
+keys_sorted cmp (x ∷ xs) sorted = (keys_below cmp x.0 xs sorted.0, keys_sorted cmp xs sorted.1)
+
+either_is : {X : Type 0} (b : Bool) (s t rest : Option X) → cond b s rest ≡ cond b s (cond b t rest)
+either_is true s t rest = refl
+either_is false s t rest = refl
+
+-- Changes, and those that are shown of them.
+module _ {K X : Type 0} {cmp : K → K → Ordering} (o : IsTotalOrder cmp) where
+  -- whether two have one key
+  abbrev pub have_one : K × Option X → K × Option X → Bool
+  have_one a b = eq_by_cmp cmp a.0 b.0
+
+  -- the first at a key stays the first where those of one key keep their order
+  pub found_sorted : (xs ys : List (K × Option X)) → IsStable (λ a b. cmp a.0 b.0) xs ys → (q : K) → lookup (is_at (cmp q)) ys ≡ lookup (is_at (cmp q)) xs
+  found_sorted xs ys stable q = sym (kept ys) ∙ ap (lookup (is_at (cmp q))) (stable (q, None)) ∙ kept xs where
+    kept : (es : List (K × Option X)) → lookup (is_at (cmp q)) (filter (λ e. not (is_lt (cmp q e.0)) && not (is_lt (cmp e.0 q))) es) ≡ lookup (is_at (cmp q)) es
+    kept es = lookup-filter-keys (is_at (cmp q)) (λ k. not (is_lt (cmp q k)) && not (is_lt (cmp k q))) true (ties_same o q) es
+
+  found_from : (q : K) (k : K × Option X) (xs : List (K × Option X)) → lookup (is_at (cmp q)) (dedup_from have_one k xs) ≡ lookup (is_at (cmp q)) (k ∷ xs)
+  found_from q k [] = refl
+  found_from q k (x ∷ xs) = by_test (found_from q k xs) (found_from q x xs) (is_at (cmp x.0) k.0) refl where
+    by_test : lookup (is_at (cmp q)) (dedup_from have_one k xs) ≡ lookup (is_at (cmp q)) (k ∷ xs) → lookup (is_at (cmp q)) (dedup_from have_one x xs) ≡ lookup (is_at (cmp q)) (x ∷ xs)
+        → (b : Bool) → is_at (cmp x.0) k.0 ≡ b → lookup (is_at (cmp q)) (cond b (dedup_from have_one k xs) (k ∷ dedup_from have_one x xs)) ≡ lookup (is_at (cmp q)) (k ∷ x ∷ xs)
+    by_test first second true same =
+        first ∙ either_is (is_at (cmp q) k.0) (Some k.1) (Some x.1) (lookup (is_at (cmp q)) xs)
+        ∙ ap (λ (b : Bool). cond (is_at (cmp q) k.0) (Some k.1) (cond b (Some x.1) (lookup (is_at (cmp q)) xs))) (sym (seen_alike o q x.0 k.0 same))
+    by_test first second false other = ap (cond (is_at (cmp q) k.0) (Some k.1)) second
+
+  -- the first at a key stays where those behind it go
+  pub found_first : (q : K) (xs : List (K × Option X)) → lookup (is_at (cmp q)) (dedup have_one xs) ≡ lookup (is_at (cmp q)) xs
+  found_first q [] = refl
+  found_first q (x ∷ xs) = found_from q x xs
+
+  pub first_sorted : (xs : List (K × Option X)) → IsSorted (λ a b. cmp a.0 b.0) xs → IsStrictlySortedBy cmp (keys_of (dedup have_one xs))
+  first_sorted xs sorted =
+      keys_sorted cmp (dedup have_one xs) (IsStrictlySortedBy-dedup {R = λ (a b : K × Option X). cmp a.0 b.0} (on_total (λ (a : K × Option X). a.0) o) {E = have_one} (λ x y. refl) xs sorted)
+
+-- Changes in order that say what the oldest change at each key says.
+module _ {K V : Type 0} {cmp : K → K → Ordering} (o : IsTotalOrder cmp) (changes : List (K × Option (Bor V))) (log : Values K V) (ordered : IsStrictlySortedBy cmp (keys_of changes))
+    (values : (q : K) → option_map option_copied (lookup (is_at (cmp q)) changes) ≡ lookup (is_at (cmp q)) log) where
+  pub keys_put : (q : K) → list_any (λ key. is_eq (cmp q key)) (keys_of changes) ≡ is_some (lookup (is_at (cmp q)) log)
+  keys_put q = keys_tell (is_at (cmp q)) changes ∙ some_mapped option_copied (lookup (is_at (cmp q)) changes) ∙ ap is_some (values q)
+
+  pub values_before : (after : K → Option V) → All (λ change. option_copied change.1 ≡ before_in cmp log after change.0) changes
   values_before after =
-      subst (λ (es : List (K × Option (Bor V))). All (λ change. option_copied change.1 ≡ before_in cmp log after change.0) es) (sym all)
-      (λ k d less.
-      let e = get_or changes.entries k d in
-      let there = btree_map_get_place o changes k e.0 e.1 ordered (slice_get-get_or changes.entries k d less) in
-      ap (λ (n : Option (Option V)). unwrap_or n (after e.0)) (sym (ap (option_map option_copied) there) ∙ values e.0))
+      λ k d less.
+      let e = get_or changes k d in
+      let there = lookup_from_place (eq_by_cmp_equiv o) changes k e.0 e.1 (IsDistinct-from_sorted cmp (keys_of changes) ordered) (slice_get-get_or changes k d less) in
+      ap (λ (n : Option (Option V)). unwrap_or n (after e.0)) (sym (ap (option_map option_copied) there) ∙ values e.0)

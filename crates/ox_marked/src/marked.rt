@@ -1,13 +1,13 @@
 //! A map with a mark.
 
 ghost use Rattle.std.specs.Prelude.{◌≡◌, IsSome, IsTrue, None, OnOk, OnErr, IfOk, All};
-ghost use Rattle.std.specs.Prelude.{if◌then◌else◌, Some, true, false};
-ghost use Rattle.std.specs.List.{list_any};
-ghost use Rattle.std.specs.List.Sorted.{IsStrictlySortedBy};
+ghost use Rattle.std.specs.Prelude.{if◌then◌else◌, Some, true, false, map};
+ghost use Rattle.std.specs.List.{dedup, list_any};
+ghost use Rattle.std.specs.List.Sorted.{IsSorted, IsStable, IsStrictlySortedBy};
 ghost use Rattle.std.specs.Map.{keys_of, lookup};
-ghost use Rattle.std.specs.Ordering.{is_eq};
+ghost use Rattle.std.specs.Ordering.{eq_by_cmp, is_eq};
 ghost use Rattle.std.specs.Option.{option_copied, option_map, IfSome, IsSomeAnd};
-ghost use Rattle.std.specs.BTreeMap as trees;
+ghost use Rattle.std.specs.BTreeMap.{is_at};
 ghost use Rattle.ox_marked.specs.Marked.{Logged, content_in, mark_in, is_changed};
 ghost use Rattle.ox_marked.specs.Marked.{standing, before_in, AreLogged};
 ghost use Rattle.ox_shards.specs.Shards.{value_at};
@@ -15,7 +15,6 @@ ghost use Rattle.ox_shards.specs.Shards.{value_at};
 use ox_bytes::Memory;
 use ox_shards::{Sharded, Shards};
 use std::alloc::Global;
-use std::collections::BTreeMap;
 use std::marker::Model;
 
 /// A map that goes back to a mark. Values change in place, and what stood where something was put
@@ -167,8 +166,7 @@ impl<K: Sharded, V> Marked<K, V> {
         ensures others { IfSome (mark_in K.cmp self.now) (λ at. (q : K)
             → is_changed K.cmp self.now q ≡ false → content_in K.cmp self.now q ≡ at q) }
     {
-        let changes = oldest(self.alloc, &self.log)?;
-        Ok(changes.into_iter().collect(self.alloc)?)
+        oldest(self.alloc, &self.log)
     }
 }
 
@@ -225,23 +223,56 @@ fn is_gone<K: Sharded, V>(entries: &Shards<K, Option<V>>, key: &K) -> bool
     }
 }
 
-// What the oldest change at each key says.
+// What the oldest change at each key says, by rising key.
 fn oldest<'a, K: Sharded, V>(
     alloc: Global,
     log: &'a [(K, Option<V>)],
-) -> Result<BTreeMap<K, Option<&'a V>>, Memory>
+) -> Result<Vec<(K, Option<&'a V>)>, Memory>
     ensures values { IfOk result (λ changes. (q : K)
-        → option_map option_copied (trees.get K.cmp changes q)
-        ≡ lookup (trees.is_at (K.cmp q)) log.now) }
-    ensures ordered { IfOk result (trees.IsOrdered K.cmp) }
+        → option_map option_copied (lookup (is_at (K.cmp q)) changes.items)
+        ≡ lookup (is_at (K.cmp q)) log.now) }
+    ensures ordered { IfOk result (λ changes. IsStrictlySortedBy K.cmp (keys_of changes.items)) }
 {
-    // Of those at one key the map keeps the last, which is the oldest.
-    let mut newest_first = Vec::with_capacity(alloc, log.len())?;
-    let mut left = log.len();
-    while left > 0 {
-        left -= 1;
-        let (key, value) = &log[left];
-        newest_first.push_reserved((*key, value.as_ref()));
+    let mut changes = shown(alloc, log)?;
+    sort(&mut changes)?;
+    keep_first(&mut changes);
+    Ok(changes)
+}
+
+// Each key with what its change says, in the changes' order.
+fn shown<'a, K: Sharded, V>(
+    alloc: Global,
+    log: &'a [(K, Option<V>)],
+) -> Result<Vec<(K, Option<&'a V>)>, Memory>
+    ensures { IfOk result (λ changes.
+        map (λ change. (change.0, option_copied change.1)) changes.items ≡ log.now) }
+{
+    let mut changes = Vec::with_capacity(alloc, log.len())?;
+    for (key, value) in log {
+        changes.push_reserved((*key, value.as_ref()));
     }
-    Ok(BTreeMap::from_iter(alloc, newest_first)?)
+    Ok(changes)
+}
+
+// Sorts these by key. Those of one key keep their order.
+fn sort<K: Sharded, V>(changes: &mut Vec<(K, Option<&V>)>) -> Result<(), Memory>
+    ensures sorted { OnOk result (IsSorted (λ a b. K.cmp a.0 b.0) changes.new.items) }
+    ensures stable { OnOk result
+        (IsStable (λ a b. K.cmp a.0 b.0) changes.old.items changes.new.items) }
+{
+    Ok(changes.sort_by(|a, b| a.0.cmp(&b.0))?)
+}
+
+// Keeps the first of those that stand side by side and have one key.
+fn keep_first<K: Sharded, V>(changes: &mut Vec<(K, Option<&V>)>)
+    ensures { changes.new.items ≡ dedup (λ a b. eq_by_cmp K.cmp a.0 b.0) changes.old.items }
+{
+    changes.dedup_by(|later, kept| have_one(later, kept));
+}
+
+// Whether two have one key.
+fn have_one<K: Sharded, V>(a: &(K, Option<&V>), b: &(K, Option<&V>)) -> bool
+    ensures { result ≡ eq_by_cmp K.cmp a.now.0 b.now.0 }
+{
+    a.0.cmp(&b.0).is_eq()
 }

@@ -71,6 +71,16 @@ fn a_key_taken_and_put_again_goes_back(rt: HostRuntime) {
 }
 
 #[test]
+fn changes_come_by_rising_key(rt: HostRuntime) {
+    let mut map = two(&rt, rt.alloc());
+    map.put(3, Some(30)).expect(&rt, "memory");
+    map.put(1, None).expect(&rt, "memory");
+    map.put(3, None).expect(&rt, "memory");
+    map.put(1, Some(11)).expect(&rt, "memory");
+    assert!(rt; has_changed(&rt, &map, &[(1, Some(&10)), (3, None)]));
+}
+
+#[test]
 fn a_new_mark_stands_where_changes_led(rt: HostRuntime) {
     let mut map = two(&rt, rt.alloc());
     map.put(1, None).expect(&rt, "memory");
