@@ -4,7 +4,6 @@ use Rattle.std.specs.Prelude.{IsSome, slice_get, unwrap_or, ◌==◌, if◌then�
 use Rattle.std.specs.Option.{IfSome, IsSomeAnd, option_map}
 use Rattle.std.specs.FinMap.{empty, get, get-empty, same_map}
 use Rattle.ox_block.specs.declared.block.OutPoint.{OutPoint}
-use Rattle.ox_block.specs.declared.block.Tx.{Tx}
 use Rattle.ox_block.specs.declared.block.TxOut.{TxOut}
 use Rattle.ox_block.specs.declared.block.Txid.{Txid}
 use Rattle.ox_runestone.specs.declared.stone.Artifact.{Artifact}
@@ -18,12 +17,11 @@ use Rattle.ox_allocation.specs.Allocation.{amount_at, amount_burned, balances_fr
 use Rattle.ox_allocation.specs.Balances.{Balance, amount_in, balances_by, is_same}
 use Rattle.ox_allocation.specs.Gifts.{Gift}
 use Rattle.ox_allocation.proofs.Amounts.{zero_from}
-use Rattle.ox_etching.specs.Etched.{Spot}
 use Rattle.ox_etching.specs.declared.row.RuneRow.{RuneRow}
 use Rattle.ox_ledger.specs.Balanced.{amount_held}
-use Rattle.ox_ledger.specs.Runes.{BalanceMap, InHand, Placement, Runes, balances_at, burn, burn_of, dealt_by, done_by, mint_more, place, place_all, placements, with_balances}
+use Rattle.ox_ledger.specs.Runes.{BalanceMap, Placement, Runes, balances_at, burn, burn_of, dealt_by, mint_more, place, place_all, placements, with_balances}
 use Rattle.ox_ledger.specs.Shown.{IsAbsent, held_in, held_then}
-use Rattle.ox_ledger.specs.Steps.{CanPlace, CanPlaceAll}
+use Rattle.ox_ledger.specs.Steps.{CanPlace, CanPlaceAll, given_out}
 use Rattle.ox_ledger.specs.Tables.{runes_then}
 use Rattle.ox_ledger.proofs.Held.{amount_held-cons}
 use Rattle.ox_ledger.proofs.HolderLemmas.{Held, get-held_in, held_before, held_same, remove_none, then_is}
@@ -136,6 +134,14 @@ pub placement_all : (txid : Txid) (index : ℕ) (new all : List Placement) (item
 unfolding placements
 placement_all txid index new all items whole none =
     sym (append-nil new) ∙ ap (λ (l : List (List Balance)). new ++ placements txid index l) (sym none) ∙ whole
+
+pub placements_next : (txid : Txid) (index : ℕ) (items rest : List (List Balance)) (one : List Balance) → items ≡ one ∷ rest → placements txid index items ≡ (record { txid = txid; index = index }, one) ∷ placements txid (index + 1) rest
+unfolding placements
+placements_next txid index items rest one is = ap (placements txid index) is
+
+pub placements_none : (txid : Txid) (index : ℕ) (items : List (List Balance)) → items ≡ [] → placements txid index items ≡ []
+unfolding placements
+placements_none txid index items none = ap (placements txid index) none
 
 abbrev none_each : List TxOut → List (List Balance)
 none_each outputs = map (λ (output : TxOut). []) outputs
@@ -252,28 +258,25 @@ place_all_none state txid first (output ∷ outputs) none =
     ap (λ (s : Runes). place_all s (placements txid (first + 1) (none_each outputs))) (place_none state (record { txid = txid; index = first }) (none first (omega arith)))
     ∙ place_all_none state txid (first + 1) outputs (λ index less. none index (omega (arith, less)))
 
-pub nothing_done : (at : Spot) (tx : Tx) (artifact : Option Artifact) (due : List Placement) (hand : InHand) → hand.pool ≡ [] → at.tx ≢ 0
-    → ((index : ℕ) → index < length tx.outputs → get hand.bal (record { txid = at.txid; index = index }) ≡ None)
-    → record { bal = hand.bal; runes = hand.runes; due = due } ≡ done_by at tx due artifact hand
-nothing_done at tx artifact due hand empty other none = sym (by_place (at.tx == 0) refl) where
-  mid : Runes
-  mid = record { bal = hand.bal; runes = hand.runes; due = due }
+pub nothing_given : (tx : ℕ) (txid : Txid) (outputs : List TxOut) (artifact : Option Artifact) (pool : List Balance) (etching : Option RuneId) (mid : Runes) → pool ≡ [] → tx ≢ 0
+    → ((index : ℕ) → index < length outputs → get mid.bal (record { txid = txid; index = index }) ≡ None)
+    → mid ≡ given_out tx txid mid (dealt_by artifact pool etching outputs).given (dealt_by artifact pool etching outputs).burned
+nothing_given tx txid outputs artifact pool etching mid empty other none = sym (by_place (tx == 0) refl) where
+  dealt : dealt_by artifact pool etching outputs ≡ record { given = none_each outputs; burned = [] }
+  dealt = ap (λ (p : List Balance). dealt_by artifact p etching outputs) empty ∙ none_dealt artifact etching outputs
 
-  dealt : dealt_by artifact hand.pool hand.etching tx.outputs ≡ record { given = none_each tx.outputs; burned = [] }
-  dealt = ap (λ (pool : List Balance). dealt_by artifact pool hand.etching tx.outputs) empty ∙ none_dealt artifact hand.etching tx.outputs
-
-  by_place : (b : Bool) → (at.tx == 0) ≡ b
-      → let all = dealt_by artifact hand.pool hand.etching tx.outputs in
-      let new = placements at.txid 0 all.given in
+  by_place : (b : Bool) → (tx == 0) ≡ b
+      → let all = dealt_by artifact pool etching outputs in
+      let new = placements txid 0 all.given in
       ◌≡◌ {A = Runes}
-      (if b then record { bal = hand.bal; runes = burn all.burned hand.runes; due = due ++ new }
-      else place_all (record { bal = hand.bal; runes = burn all.burned hand.runes; due = due }) new)
+      (if b then record { bal = mid.bal; runes = burn all.burned mid.runes; due = mid.due ++ new }
+      else place_all (record { bal = mid.bal; runes = burn all.burned mid.runes; due = mid.due }) new)
       mid
-  by_place true is = absurd (other (zero_from at.tx is))
+  by_place true is = absurd (other (zero_from tx is))
   by_place false is =
-      (λ i. place_all (record { bal = hand.bal; runes = burn (dealt i).burned hand.runes; due = due }) (placements at.txid 0 (dealt i).given))
-      ∙ (λ i. place_all (record { bal = hand.bal; runes = burn_none hand.runes i; due = due }) (placements at.txid 0 (none_each tx.outputs)))
-      ∙ place_all_none mid at.txid 0 tx.outputs (λ index less. none index (omega (arith, less)))
+      (λ i. place_all (record { bal = mid.bal; runes = burn (dealt i).burned mid.runes; due = mid.due }) (placements txid 0 (dealt i).given))
+      ∙ (λ i. place_all (record { bal = mid.bal; runes = burn_none mid.runes i; due = mid.due }) (placements txid 0 (none_each outputs)))
+      ∙ place_all_none mid txid 0 outputs (λ index less. none index (omega (arith, less)))
 
 -- ---- a list from a place on
 

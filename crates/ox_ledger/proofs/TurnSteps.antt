@@ -1,11 +1,12 @@
 -- The steps of a transaction, joined.
-use Rattle.std.proofs.Common.{◌≡◌, ◌≢◌, ◌∙◌, ℕ, suc, ◌+◌, ◌<◌, true, List, [], ◌∷◌, ◌++◌, length, map, refl, sym, ap, subst, Option, Some, None, arith}
+use Rattle.std.proofs.Common.{◌≡◌, ◌≢◌, ◌∙◌, ℕ, suc, ◌+◌, ◌<◌, true, List, [], ◌∷◌, ◌++◌, length, map, refl, sym, ap, subst, Option, Some, None, arith, append-nil}
 use Rattle.std.specs.Prelude.{All, ◌==◌, if◌then◌else◌}
-use Rattle.std.specs.Option.{ForSome, IfSome, option_map}
+use Rattle.std.specs.Option.{IfSome, option_map}
 use Rattle.std.specs.FinMap.{get}
 use Rattle.ox_block.specs.declared.block.Tx.{Tx}
 use Rattle.ox_block.specs.declared.block.TxOut.{TxOut}
 use Rattle.ox_block.specs.declared.block.Txid.{Txid}
+use Rattle.ox_runestone.specs.Artifact.{artifact_of}
 use Rattle.ox_runestone.specs.Spelling.{StoneCanCome}
 use Rattle.ox_runestone.specs.declared.stone.Artifact.{Artifact}
 use Rattle.ox_runestone.specs.declared.stone.Artifact.TheVariants.{Stone, Cenotaph}
@@ -19,9 +20,15 @@ use Rattle.ox_allocation.specs.Gifts.{Gift}
 use Rattle.ox_allocation.proofs.Amounts.{zero_from}
 use Rattle.ox_etching.specs.Etched.{Spot}
 use Rattle.ox_etching.specs.declared.row.RuneRow.{RuneRow}
-use Rattle.ox_ledger.specs.Runes.{InHand, Placement, Runes, artifact_at, brought_of, burn, dealt_by, etching_by, gathered_by, mint_by, place_all, placements, pool_with, premine_of, turn, with_mint}
-use Rattle.ox_ledger.specs.Steps.{CanBurn, CanPlaceAll, CanTakeUp, given_out}
-use Rattle.ox_ledger.proofs.TablesLemmas.{nothing_done}
+use Rattle.ox_ledger.specs.Runes.{BalanceMap, InHand, Runes, artifact_at, brought_of, burn, dealt_by, done_by, etching_by, gathered_by, mint_by, place_all, placements, pool_with, premine_of, turn, with_mint}
+use Rattle.ox_ledger.specs.Steps.{CanBurn, CanPlaceAll, CanSettle, CanTakeUp, CanTurn, dealt_without, given_out, turn_without_stone, without_brought}
+use Rattle.ox_ledger.proofs.TablesLemmas.{nothing_given}
+
+-- ---- what a runestone says
+
+pub deciphered : (artifact : Artifact) (script : List ℕ) (count : ℕ) (outputs : List TxOut) (at : Spot) (tx : Tx) → artifact ≡ artifact_of script count → count ≡ length outputs → outputs ≡ tx.outputs
+    → Some (artifact_of script (length tx.outputs)) ≡ artifact_at at tx → Some artifact ≡ artifact_at at tx
+deciphered artifact script count outputs at tx is counted outputs_are says = (λ i. Some (is i)) ∙ (λ i. Some (artifact_of script ((counted ∙ ap length outputs_are) i))) ∙ says
 
 -- ---- what is dealt
 
@@ -29,9 +36,8 @@ pointer_by : (outputs : List TxOut) (o : Option ℕ) → IfSome o (λ n. n < len
 pointer_by outputs None within x is = absurd (cc is)
 pointer_by outputs (Some n) within x is = let same : n ≡ x = cc is in subst (λ k. k < length outputs) same within
 
-pub pointer_within : (stone : Runestone) (outputs : List TxOut) (artifact : Option Artifact) → artifact ≡ Some (Stone stone) → ForSome artifact (StoneCanCome (length outputs))
-    → (x : ℕ) → stone.pointer ≡ Some x → x < length outputs
-pointer_within stone outputs artifact is can = pointer_by outputs stone.pointer (can (Stone stone) is).pointer
+pub pointer_within : (stone : Runestone) (outputs : List TxOut) (artifact : Artifact) → artifact ≡ Stone stone → StoneCanCome (length outputs) artifact → (x : ℕ) → stone.pointer ≡ Some x → x < length outputs
+pointer_within stone outputs artifact is can = pointer_by outputs stone.pointer (subst (StoneCanCome (length outputs)) is can).pointer
 
 length-from : (k : ℕ) (ids : List RuneId) (gifts : List Gift) (outputs : List TxOut) → length (balances_from k ids gifts outputs) ≡ length outputs
 unfolding balances_from
@@ -47,18 +53,23 @@ length-dealt None pool etching outputs = length-from 0 (ids_of pool) (gifts_from
 length-dealt (Some (Stone stone)) pool etching outputs = length-from 0 (ids_of pool) (gifts_from pool stone.edicts etching stone.pointer outputs) outputs
 length-dealt (Some (Cenotaph mint name)) pool etching outputs = length-none outputs
 
+nothing_in : (pool : List Balance) → (length pool == 0) ≡ true → pool ≡ []
+nothing_in [] is = refl
+nothing_in (one ∷ pool) is = let none = zero_from (length (one ∷ pool)) is in absurd (omega (arith, none))
+
 -- ---- outputs that are given theirs
 
-pub given_by : (tx : ℕ) (txid : Txid) (old : Runes) (rows : List RuneRow) (new : List Placement) (given : List (List Balance)) (burned : List Balance) → rows ≡ burn burned old.runes → new ≡ placements txid 0 given
-    → ◌≡◌ {A = Runes} (if tx == 0 then record { bal = old.bal; runes = rows; due = old.due ++ new } else place_all (record { bal = old.bal; runes = rows; due = old.due }) new) (given_out tx txid old given burned)
-given_by tx txid old rows new given burned rows_are new_are =
-    λ i. if tx == 0 then record { bal = old.bal; runes = rows_are i; due = old.due ++ new_are i } else place_all (record { bal = old.bal; runes = rows_are i; due = old.due }) (new_are i)
+pub given_by : (tx : ℕ) (txid : Txid) (old : Runes) (rows : List RuneRow) (given : List (List Balance)) (burned : List Balance) → rows ≡ burn burned old.runes
+    → ◌≡◌ {A = Runes}
+    (if tx == 0 then record { bal = old.bal; runes = rows; due = old.due ++ placements txid 0 given } else place_all (record { bal = old.bal; runes = rows; due = old.due }) (placements txid 0 given))
+    (given_out tx txid old given burned)
+given_by tx txid old rows given burned rows_are =
+    λ i. if tx == 0 then record { bal = old.bal; runes = rows_are i; due = old.due ++ placements txid 0 given } else place_all (record { bal = old.bal; runes = rows_are i; due = old.due }) (placements txid 0 given)
 
-pub can_give : (txid : Txid) (old : Runes) (rows : List RuneRow) (new : List Placement) (given : List (List Balance)) (burned : List Balance) → rows ≡ burn burned old.runes → new ≡ placements txid 0 given
-    → CanPlaceAll (record old { runes = burn burned old.runes }) (placements txid 0 given) → CanPlaceAll (record { bal = old.bal; runes = rows; due = old.due }) new
-can_give txid old rows new given burned rows_are new_are can =
-    subst (λ (l : List Placement). CanPlaceAll (record { bal = old.bal; runes = rows; due = old.due }) l) (sym new_are)
-    (subst (λ (r : List RuneRow). CanPlaceAll (record { bal = old.bal; runes = r; due = old.due }) (placements txid 0 given)) (sym rows_are) can)
+pub can_give : (txid : Txid) (old : Runes) (rows : List RuneRow) (given : List (List Balance)) (burned : List Balance) → rows ≡ burn burned old.runes
+    → CanPlaceAll (record old { runes = burn burned old.runes }) (placements txid 0 given) → CanPlaceAll (record { bal = old.bal; runes = rows; due = old.due }) (placements txid 0 given)
+can_give txid old rows given burned rows_are can =
+    subst (λ (r : List RuneRow). CanPlaceAll (record { bal = old.bal; runes = r; due = old.due }) (placements txid 0 given)) (sym rows_are) can
 
 -- ---- what a transaction has in hand
 
@@ -133,12 +144,54 @@ module _ (at : Spot) (tx : Tx) (spent : List OutRow) (state : Runes) where
       (subst (λ (g : List (List Balance)). CanPlaceAll (record { bal = the_hand.bal; runes = burn burned the_hand.runes; due = state.due }) (placements at.txid 0 g)) (sym given_are)
       (subst (λ (b : List Balance). CanPlaceAll (record { bal = the_hand.bal; runes = burn b the_hand.runes; due = state.due }) (placements at.txid 0 the_dealt.given)) (sym burned_are) can))
 
-  nothing_in : (pool : List Balance) → (length pool == 0) ≡ true → pool ≡ []
-  nothing_in [] is = refl
-  nothing_in (one ∷ pool) is = let none = zero_from (length (one ∷ pool)) is in absurd (omega (arith, none))
-
   pub nothing_to_do : (mid : Runes) (pool : List Balance) (count : ℕ) → mid ≡ record { bal = the_hand.bal; runes = the_hand.runes; due = state.due } → pool ≡ the_hand.pool → (length pool == 0) ≡ true → at.tx ≢ 0
       → count ≡ length tx.outputs → ((index : ℕ) → index < count → get mid.bal (record { txid = at.txid; index = index }) ≡ None) → mid ≡ turn at tx spent state
   nothing_to_do mid pool count mid_is pool_is empty other counted free =
-      mid_is ∙ nothing_done at tx the_artifact state.due the_hand (sym pool_is ∙ nothing_in pool empty) other
+      mid_is ∙ nothing_given at.tx at.txid tx.outputs the_artifact the_hand.pool the_hand.etching (record { bal = the_hand.bal; runes = the_hand.runes; due = state.due }) (sym pool_is ∙ nothing_in pool empty) other
       (λ index less. ap (λ (s : Runes). get s.bal (record { txid = at.txid; index = index })) (sym mid_is) ∙ free index (omega (arith, less, counted)))
+
+-- ---- a transaction without a runestone
+
+module _ (tx : ℕ) (txid : Txid) (body : Tx) (state mid : Runes) (pool : List Balance) (mid_is : mid ≡ without_brought tx body state) (pool_is : pool ≡ (brought_of tx body state.bal).pool) where
+  pub nothing_brought : (count : ℕ) → (length pool == 0) ≡ true → tx ≢ 0 → count ≡ length body.outputs → ((index : ℕ) → index < count → get mid.bal (record { txid = txid; index = index }) ≡ None)
+      → mid ≡ turn_without_stone tx txid body state
+  nothing_brought count empty other counted free =
+      nothing_given tx txid body.outputs None pool None mid (nothing_in pool empty) other (λ index less. free index (omega (arith, less, counted)))
+      ∙ (λ i. given_out tx txid (mid_is i) (dealt_by None (pool_is i) None body.outputs).given (dealt_by None (pool_is i) None body.outputs).burned)
+
+  module _ (outputs : List TxOut) (given : List (List Balance)) (burned : List Balance) (outputs_are : outputs ≡ body.outputs) (given_is : given ≡ (dealt_by None pool None outputs).given)
+      (burned_is : burned ≡ (dealt_by None pool None outputs).burned) where
+    given_are : given ≡ (dealt_without tx body state).given
+    given_are = given_is ∙ (λ i. (dealt_by None (pool_is i) None (outputs_are i)).given)
+
+    burned_are : burned ≡ (dealt_without tx body state).burned
+    burned_are = burned_is ∙ (λ i. (dealt_by None (pool_is i) None (outputs_are i)).burned)
+
+    pub can_burn_brought : All (CanBurn (dealt_without tx body state).burned) state.runes → All (CanBurn burned) mid.runes
+    can_burn_brought can =
+        subst (λ (s : Runes). All (CanBurn burned) s.runes) (sym mid_is) (subst (λ (b : List Balance). All (CanBurn b) state.runes) (sym burned_are) can)
+
+    pub can_place_brought : CanPlaceAll (record (without_brought tx body state) { runes = burn (dealt_without tx body state).burned state.runes }) (placements txid 0 (dealt_without tx body state).given)
+        → CanPlaceAll (record mid { runes = burn burned mid.runes }) (placements txid 0 given)
+    can_place_brought can =
+        subst (λ (s : Runes). CanPlaceAll (record s { runes = burn burned s.runes }) (placements txid 0 given)) (sym mid_is)
+        (subst (λ (g : List (List Balance)). CanPlaceAll (record (without_brought tx body state) { runes = burn burned state.runes }) (placements txid 0 g)) (sym given_are)
+        (subst (λ (b : List Balance). CanPlaceAll (record (without_brought tx body state) { runes = burn b state.runes }) (placements txid 0 (dealt_without tx body state).given)) (sym burned_are) can))
+
+    pub brought_given : (after : Runes) → after ≡ given_out tx txid mid given burned → after ≡ turn_without_stone tx txid body state
+    brought_given after is = is ∙ (λ i. given_out tx txid (mid_is i) (given_are i) (burned_are i))
+
+-- it has in hand what it brings
+abbrev pub brought_in : ℕ → Tx → BalanceMap → List RuneRow → InHand
+brought_in tx body bal rows = record { pool = (brought_of tx body bal).pool; bal = (brought_of tx body bal).bal; runes = rows; etching = None }
+
+module _ (at : Spot) (tx : Tx) (spent : List OutRow) (state : Runes) (none : artifact_at at tx ≡ None) where
+  pub can_settle_brought : CanTurn at tx spent state → CanSettle at (brought_in at.tx tx state.bal state.runes) state.due (dealt_without at.tx tx state)
+  can_settle_brought can =
+      subst (λ (rows : List RuneRow). CanSettle at (brought_in at.tx tx state.bal rows) state.due (dealt_without at.tx tx state)) (append-nil state.runes)
+      (subst (λ (artifact : Option Artifact). let hand = gathered_by at tx spent state artifact in CanSettle at hand state.due (dealt_by artifact hand.pool hand.etching tx.outputs)) none can.settles)
+
+  pub turned_without : turn_without_stone at.tx at.txid tx state ≡ turn at tx spent state
+  turned_without =
+      (λ i. given_out at.tx at.txid (record { bal = (brought_of at.tx tx state.bal).bal; runes = sym (append-nil state.runes) i; due = state.due }) (dealt_without at.tx tx state).given (dealt_without at.tx tx state).burned)
+      ∙ sym (ap (λ (artifact : Option Artifact). done_by at tx state.due artifact (gathered_by at tx spent state artifact)) none)

@@ -1,6 +1,6 @@
 -- What the steps of a turn ask for, so that no sum overflows.
 use Rattle.std.specs.Prelude.{◌≡◌, ◌≢◌, ℕ, ◌+◌, ◌^◌, ◌<◌, List, [], ◌∷◌, ◌++◌, ◌==◌, All}
-use Rattle.std.specs.Prelude.{Option, Some, if◌then◌else◌}
+use Rattle.std.specs.Prelude.{Option, Some, None, if◌then◌else◌}
 use Rattle.std.specs.Option.{ForSome}
 use Rattle.std.specs.FinMap.{get, values}
 use Rattle.ox_block.specs.declared.block.OutPoint.{OutPoint}
@@ -72,6 +72,21 @@ given_out tx txid state given burned =
     let new = placements txid 0 given in
     if tx == 0 then record { bal = state.bal; runes = runes; due = state.due ++ new }
     else place_all (record { bal = state.bal; runes = runes; due = state.due }) new
+
+-- what outputs hold where what a transaction brings is taken away
+abbrev pub without_brought : ℕ → Tx → Runes → Runes
+without_brought tx body state = record state { bal = (brought_of tx body state.bal).bal }
+
+-- how a transaction without a runestone deals what it brings
+abbrev pub dealt_without : ℕ → Tx → Runes → Allocation
+dealt_without tx body state =
+    dealt_by None (brought_of tx body state.bal).pool None body.outputs
+
+-- one transaction without a runestone
+abbrev pub turn_without_stone : ℕ → Txid → Tx → Runes → Runes
+turn_without_stone tx txid body state =
+    let dealt = dealt_without tx body state in
+    given_out tx txid (without_brought tx body state) dealt.given dealt.burned
 
 -- all steps of a turn can be done
 pub record CanTurn (at : Spot) (tx : Tx) (spent : List OutRow) (state : Runes) : Type 0 where

@@ -1,11 +1,10 @@
 //! What a transaction says about runes.
 
 ghost use Rattle.std.specs.Prelude.{◌≡◌, ◌^◌, ◌<◌, ℕ, false, true, length, IfOk, Some};
-ghost use Rattle.std.specs.Option.{option_copied, option_map, option_map_or, ForSome, IfSome};
+ghost use Rattle.std.specs.Option.{option_copied, option_map, option_map_or, IfSome};
 ghost use Rattle.ox_block.specs.declared.block.Txid.{Txid};
 ghost use Rattle.ox_runestone.specs.Artifact.{artifact_of};
 ghost use Rattle.ox_runestone.specs.Payload.{is_stone};
-ghost use Rattle.ox_runestone.specs.Spelling.{StoneCanCome};
 ghost use Rattle.ox_ledger.specs.Runes.{artifact_at, etching_by, is_taken, mint_at, mint_by};
 ghost use Rattle.ox_ledger.specs.Runes.{mint_of, name_of, stone_in};
 
@@ -14,9 +13,8 @@ use ox_block::{Tx, TxOut, Txid};
 use ox_bytes::Memory;
 use ox_etching::{RuneRow, etched, minted};
 use ox_rules::SpentRows;
-use ox_runestone::{Artifact, RuneId, decipher, is_stone};
+use ox_runestone::{Artifact, RuneId, is_stone};
 use ox_sat::Profile;
-use std::alloc::Global;
 
 /// The first output's script that is a runestone's.
 fn stone_in(outputs: &[TxOut]) -> Option<&[u8]>
@@ -44,35 +42,18 @@ pub(crate) fn count_of(outputs: &[TxOut]) -> Result<u32, Memory>
     Ok(count as u32)
 }
 
-/// The artifact of the runestone in some outputs.
-fn artifact_in(alloc: Global, outputs: &[TxOut]) -> Result<Option<Artifact>, Memory>
-    ensures exact { IfOk result (λ artifact. artifact
-        ≡ option_map (λ script. artifact_of script (length outputs.now)) (stone_in outputs.now)) }
-    ensures possible { IfOk result (λ artifact.
-        ForSome artifact (StoneCanCome (length outputs.now))) }
-{
-    match stone_in(outputs) {
-        Some(script) => Ok(Some(decipher(alloc, script, count_of(outputs)?)?)),
-        None => Ok(None),
-    }
-}
-
-/// What a transaction's runestone says. Before the height at which runes start it is not read.
-pub(crate) fn artifact_at(
-    alloc: Global,
-    p: &Profile,
-    height: u32,
-    body: &Tx,
-) -> Result<Option<Artifact>, Memory>
-    ensures exact { (tx : ℕ) (id : Txid) → IfOk result (λ artifact. artifact ≡ artifact_at
-        (record { profile = p.now; height = height; tx = tx; txid = id }) body.now) }
-    ensures possible { IfOk result (λ artifact.
-        ForSome artifact (StoneCanCome (length body.now.outputs))) }
+/// The script of a transaction's runestone. Before the height at which runes start it is not read.
+pub(crate) fn stone_at<'a>(p: &Profile, height: u32, body: &'a Tx) -> Option<&'a [u8]>
+    ensures exact { (tx : ℕ) (id : Txid) → option_map
+        (λ script. artifact_of script (length body.now.outputs)) (option_copied result)
+        ≡ artifact_at
+        (record { profile = p.now; height = height; tx = tx; txid = id }) body.now }
+    ensures stone { IfSome result (λ script. is_stone script.now ≡ true) }
 {
     if (height as u64) < p.rune_start {
-        return Ok(None);
+        return None;
     }
-    artifact_in(alloc, body.outputs.as_slice())
+    stone_in(body.outputs.as_slice())
 }
 
 /// The rune that an artifact mints.
@@ -105,14 +86,10 @@ fn mint_at(table: &RuneTable, height: u32, id: RuneId) -> Option<(RuneId, u128)>
 }
 
 /// The mint of a transaction with this artifact.
-pub(crate) fn mint_by(
-    table: &RuneTable,
-    height: u32,
-    artifact: &Option<Artifact>,
-) -> Option<(RuneId, u128)>
-    ensures { result ≡ mint_by height table.now.now artifact.now }
+pub(crate) fn mint_by(table: &RuneTable, height: u32, artifact: &Artifact) -> Option<(RuneId, u128)>
+    ensures { result ≡ mint_by height table.now.now (Some artifact.now) }
 {
-    mint_at(table, height, mint_of(artifact.as_ref()?)?)
+    mint_at(table, height, mint_of(artifact)?)
 }
 
 /// Whether a name that an artifact etches is taken.
@@ -134,13 +111,12 @@ pub(crate) fn etching_by(
     id: Txid,
     body: &Tx,
     spent: &SpentRows,
-    artifact: &Option<Artifact>,
+    artifact: &Artifact,
 ) -> Option<RuneRow>
     ensures { result ≡ etching_by
         (record { profile = p.now; height = height; tx = tx; txid = id })
-        body.now spent.now table.now.now artifact.now }
+        body.now spent.now table.now.now (Some artifact.now) }
 {
-    let artifact = artifact.as_ref()?;
     let is_taken = is_taken(table, artifact);
     etched(p, height, tx, id, body, spent, artifact, is_taken)
 }

@@ -2,7 +2,7 @@
 
 ghost use Rattle.std.specs.Prelude.{◌≡◌, ◌==◌, ◌^◌, ◌<◌, ◌++◌, [], map, length, IsSome, Some, None};
 ghost use Rattle.std.specs.Prelude.{All, ◌≢◌, if◌then◌else◌, is_some, unwrap_or, IfOk, OnOk, OnErr};
-ghost use Rattle.std.specs.Option.{option_map, ForSome, IfSome};
+ghost use Rattle.std.specs.Option.{option_map, IfSome};
 ghost use Rattle.ox_runestone.specs.Spelling.{StoneCanCome};
 ghost use Rattle.ox_rules.specs.Differences.{with_rows, without_rows};
 ghost use Rattle.ox_rules.specs.Transfer.{as_list};
@@ -14,10 +14,11 @@ ghost use Rattle.ox_ledger.specs.Runes.{end, pool_with, place};
 ghost use Rattle.ox_ledger.specs.Runes.{Runes, place_all};
 ghost use Rattle.ox_ledger.specs.Runes.{placements, premine_of, turn, with_mint};
 ghost use Rattle.ox_ledger.specs.Steps.{CanBurn, CanPlace, CanPlaceAll, CanTakeUp, CanTurn};
-ghost use Rattle.ox_ledger.specs.Steps.{HoldAmounts, given_out};
+ghost use Rattle.ox_ledger.specs.Steps.{HoldAmounts, dealt_without, given_out};
+ghost use Rattle.ox_ledger.specs.Steps.{turn_without_stone, without_brought};
 ghost use Rattle.ox_ledger.specs.Tables.{mark_of, nothing, runes_of};
 
-use crate::artifact::{artifact_at, count_of, etching_by, mint_by};
+use crate::artifact::{count_of, etching_by, mint_by, stone_at};
 use crate::holders::{
     Holders, Placement, amount_in, are_free, balances_at, changed, empty, fill, fill_free, gather,
 };
@@ -30,7 +31,7 @@ use ox_bytes::{List, Memory};
 use ox_etching::RuneRow;
 use ox_marked::Marked;
 use ox_rules::SpentRows;
-use ox_runestone::{Artifact, RuneId};
+use ox_runestone::{Artifact, RuneId, decipher};
 use ox_sat::Profile;
 use std::alloc::Global;
 
@@ -158,19 +159,45 @@ impl Tables {
         Ok(())
     }
 
+    /// Makes a transaction's outputs with what each is given.
+    fn place_given(&mut self, id: Txid, given: List<Balances>) -> Result<(), Memory>
+        requires count { length given < 2 ^ 32 }
+        requires displaced { CanPlaceAll (runes_of self.old) (placements id 0 given) }
+        ensures ok { OnOk result
+            (runes_of self.new ≡ place_all (runes_of self.old) (placements id 0 given)) }
+        ensures mark { mark_of self.new ≡ mark_of self.old }
+    {
+        let mut index = 0;
+        for balances in given.into_vec() {
+            self.place(OutPoint { txid: id, index }, balances)?;
+            index += 1;
+        }
+        Ok(())
+    }
+
     /// Makes the outputs of a transaction, those of a coinbase when its block ends.
-    fn settle(&mut self, tx: u32, new: Vec<Placement>) -> Result<(), Memory>
-        requires { tx ≢ 0 → CanPlaceAll (runes_of self.old) new.items }
+    fn settle(
+        &mut self,
+        alloc: Global,
+        tx: u32,
+        id: Txid,
+        given: List<Balances>,
+    ) -> Result<(), Memory>
+        requires count { length given < 2 ^ 32 }
+        requires displaced { tx ≢ 0 → CanPlaceAll (runes_of self.old) (placements id 0 given) }
         ensures ok { OnOk result (runes_of self.new
             ≡ (if tx == 0
-            then record (runes_of self.old) { due = (runes_of self.old).due ++ new.items }
-            else place_all (runes_of self.old) new.items)) }
+            then record (runes_of self.old) {
+              due = (runes_of self.old).due ++ placements id 0 given;
+            }
+            else place_all (runes_of self.old) (placements id 0 given))) }
         ensures mark { mark_of self.new ≡ mark_of self.old }
     {
         if tx == 0 {
+            let new = placements(alloc, id, given)?;
             self.owe(new)
         } else {
-            self.place_all(new)
+            self.place_given(id, given)
         }
     }
 
@@ -230,8 +257,38 @@ impl Tables {
         ensures mark { mark_of self.new ≡ mark_of self.old }
     {
         self.runes.burn(dealt.burned.as_slice())?;
-        let new = placements(alloc, id, dealt.given)?;
-        self.settle(tx, new)
+        self.settle(alloc, tx, id, dealt.given)
+    }
+
+    /// One transaction without a runestone: its outputs get what its inputs bring.
+    fn turn_without_stone(
+        &mut self,
+        alloc: Global,
+        tx: u32,
+        id: Txid,
+        body: &Tx,
+    ) -> Result<(), Memory>
+        requires brings { HoldAmounts (runes_of self.old).bal }
+        requires burned { All (CanBurn (dealt_without tx body.now (runes_of self.old)).burned)
+            (runes_of self.old).runes }
+        requires displaced { tx ≢ 0 → CanPlaceAll
+            (record (without_brought tx body.now (runes_of self.old)) {
+              runes = burn (dealt_without tx body.now (runes_of self.old)).burned
+                  (runes_of self.old).runes;
+            })
+            (placements id 0 (dealt_without tx body.now (runes_of self.old)).given) }
+        ensures ok { OnOk result
+            (runes_of self.new ≡ turn_without_stone tx id body.now (runes_of self.old)) }
+        ensures mark { mark_of self.new ≡ mark_of self.old }
+    {
+        let pool = self.bring(alloc, tx, body)?;
+        let outputs = body.outputs.as_slice();
+        let count = count_of(outputs)?;
+        if pool.is_empty() && tx != 0 && are_free(&self.holders, id, count) {
+            return Ok(());
+        }
+        let dealt = allocate(alloc, pool, &[], None, None, outputs)?;
+        self.give(alloc, tx, id, dealt)
     }
 
     /// One transaction, with its id, in a block of this height, which spends these rows. After
@@ -253,13 +310,16 @@ impl Tables {
             body.now spent.now (runes_of self.old)) }
         ensures mark { mark_of self.new ≡ mark_of self.old }
     {
-        let artifact = artifact_at(alloc, p, height, body)?;
+        let Some(script) = stone_at(p, height, body) else {
+            return self.turn_without_stone(alloc, tx, id, body);
+        };
+        let outputs = body.outputs.as_slice();
+        let count = count_of(outputs)?;
+        let artifact = decipher(alloc, script, count)?;
         let mint = mint_by(&self.runes, height, &artifact);
         let etching = etching_by(&self.runes, p, height, tx, id, body, spent, &artifact);
         let mut pool = self.bring(alloc, tx, body)?;
         self.take_up(&mut pool, mint, etching)?;
-        let outputs = body.outputs.as_slice();
-        let count = count_of(outputs)?;
         if pool.is_empty() && tx != 0 && are_free(&self.holders, id, count) {
             return Ok(());
         }
@@ -395,23 +455,22 @@ fn placements(alloc: Global, id: Txid, given: List<Balances>) -> Result<Vec<Plac
     Ok(new)
 }
 
-/// Deals a pool as an artifact says; without one to the first output that can hold runes.
+/// Deals a pool as an artifact says.
 fn deal(
     alloc: Global,
-    artifact: Option<Artifact>,
+    artifact: Artifact,
     pool: Pool,
     etching: Option<RuneId>,
     outputs: &[TxOut],
 ) -> Result<Allocated, Memory>
-    requires { ForSome artifact (StoneCanCome (length outputs.now)) }
+    requires { StoneCanCome (length outputs.now) artifact }
     ensures given { IfOk result (λ dealt.
-        dealt.given ≡ (dealt_by artifact pool etching outputs.now).given) }
+        dealt.given ≡ (dealt_by (Some artifact) pool etching outputs.now).given) }
     ensures burned { IfOk result (λ dealt.
-        dealt.burned ≡ (dealt_by artifact pool etching outputs.now).burned) }
+        dealt.burned ≡ (dealt_by (Some artifact) pool etching outputs.now).burned) }
 {
     match artifact {
-        None => allocate(alloc, pool, &[], None, None, outputs),
-        Some(Artifact::Stone(stone)) => allocate(
+        Artifact::Stone(stone) => allocate(
             alloc,
             pool,
             stone.edicts.as_slice(),
@@ -419,7 +478,7 @@ fn deal(
             stone.pointer,
             outputs,
         ),
-        Some(Artifact::Cenotaph { .. }) => Ok(Allocated {
+        Artifact::Cenotaph { .. } => Ok(Allocated {
             given: nothing_each(alloc, outputs)?,
             burned: pool.into_balances(alloc)?,
         }),
