@@ -15,10 +15,10 @@ use std::marker::Model;
 use std::mem;
 
 // So many tags stand in the shard itself.
-const INSIDE: usize = 4;
+const INSIDE: usize = 6;
 
 /// Keys with their values. The tags of the keys stand in front, so that a look-up reads four bytes
-/// of each key, and the whole of those keys alone whose tag is the same. The tags of up to four
+/// of each key, and the whole of those keys alone whose tag is the same. The tags of up to six
 /// keys stand in the shard itself, so that a look-up that finds no such tag reads nothing else. A
 /// shard that has had more keys keeps its tags in memory of their own.
 #[derive(Drop)]

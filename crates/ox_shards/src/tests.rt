@@ -143,9 +143,9 @@ fn of_one_shard(third: u8) -> OutPoint {
     outpoint(7, 9, third, 0)
 }
 
-/// Whether a map has those of seven outpoints of one shard that are named, and no other of them.
+/// Whether a map has those of nine outpoints of one shard that are named, and no other of them.
 fn has_just(map: &Shards<OutPoint, u64>, thirds: &[u8]) -> bool {
-    for third in 0..7u8 {
+    for third in 0..9u8 {
         let value = if thirds.contains(&third) {
             Some(u64::from(third))
         } else {
@@ -182,8 +182,15 @@ fn come_and_go(rt: &impl Abort, alloc: Global, coming: &[u8], going: &[u8]) -> b
 fn a_few_keys_of_one_shard_come_and_go(rt: HostRuntime) {
     assert!(rt; come_and_go(&rt, rt.alloc(), &[3], &[3]));
     assert!(rt; come_and_go(&rt, rt.alloc(), &[3, 0], &[3, 0]));
-    assert!(rt; come_and_go(&rt, rt.alloc(), &[0, 1, 2, 3, 4], &[2, 4, 0, 1, 3]));
-    assert!(rt; come_and_go(&rt, rt.alloc(), &[0, 1, 2, 3, 4, 5], &[4, 0, 5, 3, 1, 2]));
+    assert!(rt; come_and_go(&rt, rt.alloc(), &[0, 1, 2, 3, 4, 5], &[2, 4, 0, 5, 1, 3]));
+    assert!(rt;
+        come_and_go(
+            &rt,
+            rt.alloc(),
+            &[0, 1, 2, 3, 4, 5, 6, 7],
+            &[4, 0, 7, 5, 3, 1, 6, 2]
+        )
+    );
 }
 
 #[test]
