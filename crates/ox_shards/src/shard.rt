@@ -61,16 +61,15 @@ impl<K: Sharded, V> Shard<K, V> {
         }
     }
 
-    /// Reads a part of the first entry whose tag is that of a key, or answers 0 where there is
-    /// none. No keys are compared.
-    pub(crate) fn glance_entry(&self, key: &K) -> u32 {
+    /// The first entry whose tag is that of a key. No keys are compared.
+    pub(crate) fn candidate(&self, key: &K) -> Option<&(K, V)> {
         let tag = key.tag();
         for (other, entry) in self.tags.iter().zip(&self.entries) {
             if *other == tag {
-                return entry.0.tag();
+                return Some(entry);
             }
         }
-        0
+        None
     }
 
     /// Where a key stands.

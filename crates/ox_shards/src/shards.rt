@@ -74,10 +74,17 @@ impl<K: Sharded, V> Shards<K, V> {
     /// tag, so that the processor fetches it. It waits for what `glance` reads. It is a hint, and
     /// what it answers says nothing.
     pub fn glance_entry(&self, key: &K) -> u32 {
-        match self.lists.get(key.shard()) {
-            Some(list) => list.glance_entry(key),
+        match self.candidate(key) {
+            Some((other, _)) => other.tag(),
             None => 0,
         }
+    }
+
+    /// The entry that may be that of a key, the first of its list with the key's tag: whoever will
+    /// read the value at the key reads a little of this one before, so that the processor fetches
+    /// it. It waits for what `glance` reads. It is a hint, and may be the entry of another key.
+    pub fn candidate(&self, key: &K) -> Option<&(K, V)> {
+        self.lists.get(key.shard())?.candidate(key)
     }
 
     /// Puts a value at a key, and answers the one that it displaces. Where there is no memory, both

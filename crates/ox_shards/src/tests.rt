@@ -127,6 +127,7 @@ fn an_entry_is_read_ahead_where_its_tag_is_there(rt: HostRuntime) {
     let map = map_of_four(&rt, rt.alloc());
     assert!(rt; map.glance_entry(&a) == a.tag() && map.glance_entry(&b) == b.tag());
     assert!(rt; map.glance_entry(&outpoint(7, 9, 3, 0)) == 0 && has(&map, b, Some(11)));
+    assert!(rt; none.candidate(&a).is_none() && map.candidate(&b).copied() == Some((b, 11)));
 }
 
 #[test]
