@@ -7,3 +7,4 @@ pub mod PiecesInTurn
 pub mod RowsOfHashes
 pub mod FrontsDecideOrder
 pub mod PartsAsPairs
+pub mod StringsInTurn

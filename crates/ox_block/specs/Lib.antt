@@ -5,4 +5,5 @@ pub mod Answer
 pub mod Hashes
 pub mod Putting
 pub mod Script
+pub mod Witness
 pub mod Few

@@ -1,7 +1,8 @@
 //! What a block is. In contracts it is plain data: byte strings and lists of fields are lists.
 
-use crate::lists::{Inputs, Outs, Txs, Witness};
+use crate::lists::{Inputs, Outs, Txs};
 use crate::script::Script;
+use crate::witness::Witness;
 use ox_bytes::Bytes;
 
 /// What names a transaction: SHA-256 twice over its form without witnesses, in serialized order. It

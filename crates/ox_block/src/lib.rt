@@ -14,15 +14,17 @@ mod script;
 mod sink;
 mod spelling;
 mod txids;
+mod witness;
 mod write;
 
 pub use block::{Block, Header, OutPoint, Tx, TxIn, TxOut, Txid};
 pub use fault::BlockFault;
 pub use few::Few;
 pub use hashing::{hash, txid_of, wtxid_of};
-pub use lists::{Inputs, Outs, Txs, Witness};
+pub use lists::{Inputs, Outs, Txs};
 pub use read::{fields_agree_with_reading, read_block};
 pub use roots::{root, root_over, witness_root};
 pub use script::Script;
 pub use txids::{Txids, txids_of};
+pub use witness::Witness;
 pub use write::{write_block, written_reads_back};

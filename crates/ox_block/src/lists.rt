@@ -2,10 +2,7 @@
 
 use crate::block::{Tx, TxIn, TxOut};
 use crate::few::Few;
-use ox_bytes::{Bytes, List};
-
-/// A witness stack: an input's byte strings.
-pub type Witness = List<Bytes>;
+use ox_bytes::List;
 
 /// A transaction's inputs.
 pub type Inputs = Few<TxIn>;

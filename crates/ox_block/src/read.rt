@@ -38,8 +38,8 @@ fn block_or_place(alloc: Global, bytes: &[u8]) -> Result<Block, BlockFault>
 /// that is cut, not in its shortest form or against a rule, or 4,000,000 where there are more bytes
 /// than that. `Memory` where there is none for the block.
 ///
-/// One pass: each script is copied once, and a count takes room for at most four values before
-/// those that it announces are read.
+/// Each script and each witness stack is copied once, and a count takes room for at most four
+/// values before those that it announces are read.
 pub fn read_block(alloc: Global, bytes: &[u8]) -> Result<Block, BlockFault>
     // What is read is lawful, and is spelled so.
     ensures found { IfOk result (λ block. Spells bytes.now block) }

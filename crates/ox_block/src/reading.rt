@@ -1,4 +1,4 @@
-//! Reading a block from left to right, one pass, each script copied once.
+//! Reading a block from left to right, each script and each witness stack copied once.
 
 ghost use Rattle.std.specs.Prelude.{◌≡◌, ◌*◌, ◌≤◌, length, Ok, IfOk};
 ghost use Rattle.ox_bytes.specs.Reading.{Gives, GivesOrMemory, run_at, times, string_at};
@@ -11,10 +11,11 @@ ghost use Rattle.ox_block.specs.Reading.{whole_of};
 
 use crate::block::{Block, Header, OutPoint, Tx, TxIn, TxOut, Txid};
 use crate::few::Form;
-use crate::lists::{Inputs, Outs, Txs, Witness};
+use crate::lists::{Inputs, Outs, Txs};
 use crate::script::Script;
+use crate::witness::{Witness, behind_strings};
 use ox_bytes::{
-    Bytes, FieldFault, ReadError, compact_field, run_field, string_field, u32le_field, u64le_field,
+    FieldFault, ReadError, compact_field, run_field, string_field, u32le_field, u64le_field,
 };
 use std::alloc::Global;
 
@@ -72,7 +73,7 @@ fn input_of(alloc: Global, bytes: &[u8]) -> Result<(TxIn, &[u8]), ReadError>
         from,
         script,
         sequence,
-        witness: Witness::from_vec(Vec::new(alloc)),
+        witness: Witness::new(alloc),
     };
     Ok((input, rest))
 }
@@ -217,18 +218,13 @@ fn outputs_of(alloc: Global, bytes: &[u8]) -> Result<(Outs, &[u8]), ReadError>
     outputs_times(alloc, count, MOST_VALUE, rest)
 }
 
-/// That many byte strings.
-fn strings_times(alloc: Global, count: u64, bytes: &[u8]) -> Result<(Vec<Bytes>, &[u8]), ReadError>
-    ensures { GivesOrMemory (λ x. (x.0.items, x.1.now)) result (times string_at count bytes.now) }
+/// That many byte strings, copied in one piece, once all of them have been looked at.
+fn strings_times(alloc: Global, count: u64, bytes: &[u8]) -> Result<(Witness, &[u8]), ReadError>
+    ensures { GivesOrMemory (λ x. (x.0, x.1.now)) result (times string_at count bytes.now) }
 {
-    let mut strings = Vec::new(alloc);
-    let mut rest = bytes;
-    for _ in 0..count {
-        let (string, after) = string_field(alloc, rest)?;
-        strings.push(string)?;
-        rest = after;
-    }
-    Ok((strings, rest))
+    let behind = behind_strings(count, bytes)?;
+    let (strings, rest) = bytes.split_at(bytes.len() - behind.len());
+    Ok((Witness::copy(alloc, count as usize, strings)?, rest))
 }
 
 #[tactic(auto, unfolding(crate::specs::Reading::stack_at))]
@@ -236,8 +232,7 @@ fn stack_of(alloc: Global, bytes: &[u8]) -> Result<(Witness, &[u8]), ReadError>
     ensures { GivesOrMemory (λ x. (x.0, x.1.now)) result (stack_at bytes.now) }
 {
     let (count, rest) = compact_field(bytes)?;
-    let (strings, rest) = strings_times(alloc, count, rest)?;
-    Ok((Witness::from_vec(strings), rest))
+    strings_times(alloc, count, rest)
 }
 
 /// Gives each input its stack.

@@ -11,7 +11,7 @@ ghost use Rattle.ox_block.specs.Spelling.{extended_form, tx, header, spell};
 
 use crate::block::{Block, Header, Tx, TxIn, TxOut};
 use crate::sink::Sink;
-use ox_bytes::Bytes;
+use crate::witness::Witness;
 
 fn put_u32<S: Sink>(sink: &mut S, number: u32) -> Result<(), S::Fault>
     ensures { OnOk result (Puts S.holds (to_le_bytes w32 number) sink.old sink.new) }
@@ -43,7 +43,8 @@ fn put_size<S: Sink>(sink: &mut S, size: u64) -> Result<(), S::Fault>
     }
 }
 
-fn put_string<S: Sink>(sink: &mut S, bytes: &[u8]) -> Result<(), S::Fault>
+/// A byte string: its length, and its bytes.
+pub fn put_string<S: Sink>(sink: &mut S, bytes: &[u8]) -> Result<(), S::Fault>
     ensures { OnOk result (Puts S.holds (string bytes.now) sink.old sink.new) }
 {
     put_size(sink, bytes.len() as u64)?;
@@ -100,21 +101,12 @@ fn put_outputs<S: Sink>(sink: &mut S, items: &[TxOut]) -> Result<(), S::Fault>
     put_output_run(sink, items)
 }
 
-/// Each byte string, without a count.
-fn put_string_run<S: Sink>(sink: &mut S, items: &[Bytes]) -> Result<(), S::Fault>
-    ensures { OnOk result (Puts S.holds (flat_map string items.now) sink.old sink.new) }
+/// A stack, whose byte strings are kept as they are spelled.
+fn put_stack<S: Sink>(sink: &mut S, witness: &Witness) -> Result<(), S::Fault>
+    ensures { OnOk result (Puts S.holds (stack witness.now) sink.old sink.new) }
 {
-    for bytes in items {
-        put_string(sink, bytes.as_slice())?;
-    }
-    Ok(())
-}
-
-fn put_stack<S: Sink>(sink: &mut S, items: &[Bytes]) -> Result<(), S::Fault>
-    ensures { OnOk result (Puts S.holds (stack items.now) sink.old sink.new) }
-{
-    put_size(sink, items.len() as u64)?;
-    put_string_run(sink, items)
+    put_size(sink, witness.len() as u64)?;
+    sink.put(witness.spelled())
 }
 
 /// The stack of each input.
@@ -122,7 +114,7 @@ fn put_stacks<S: Sink>(sink: &mut S, items: &[TxIn]) -> Result<(), S::Fault>
     ensures { OnOk result (Puts S.holds (stacks items.now) sink.old sink.new) }
 {
     for spent in items {
-        put_stack(sink, spent.witness.as_slice())?;
+        put_stack(sink, &spent.witness)?;
     }
     Ok(())
 }

@@ -10,12 +10,12 @@ ends_with first [] last is = let same : last ≡ first = cc is in ([], λ i. sym
 ends_with first (second ∷ items) last is =
     let rest = ends_with second items last is in (first ∷ rest.0, λ i. first ∷ rest.1 i)
 
-pub tapscript_at : (items : List (List ℕ)) (last script : List ℕ) (place : ℕ) → Some last ≡ slice_get items (length items - 1)
+pub tapscript_at : (items : List (List ℕ)) (last : List ℕ) (place : ℕ) → Some last ≡ slice_get items (length items - 1)
     → ((before : List (List ℕ)) → length before + 1 ≡ length items → tapscript (before ++ last ∷ []) ≡ item_at (before ++ last ∷ []) (Some place))
-    → Some script ≡ slice_get items place → Some script ≡ tapscript items
-tapscript_at [] last script place is counted there = let none : Some last ≡ None = is in absurd (cc none)
-tapscript_at (first ∷ items) last script place is counted there =
+    → slice_get items place ≡ tapscript items
+tapscript_at [] last place is counted = let none : Some last ≡ None = is in absurd (cc none)
+tapscript_at (first ∷ items) last place is counted =
     let count : length (first ∷ items) - 1 ≡ length items = omega arith in
     let split = ends_with first items last (is ∙ ap (slice_get (first ∷ items)) count) in
     let long : length split.0 + 1 ≡ length (first ∷ items) = omega (arith, ap length split.1, length-append split.0 (last ∷ [])) in
-    there ∙ ap (λ (all : List (List ℕ)). slice_get all place) split.1 ∙ sym (counted split.0 long) ∙ ap tapscript (sym split.1)
+    ap (λ (all : List (List ℕ)). slice_get all place) split.1 ∙ sym (counted split.0 long) ∙ ap tapscript (sym split.1)

@@ -16,11 +16,9 @@ use ox_script::{Item, instructions_of, is_taproot, tapscript_place};
 fn tapscript_of(witness: &Witness) -> Option<&[u8]>
     ensures { option_copied result ≡ tapscript witness.now }
 {
-    let items = witness.as_slice();
-    let last = items.last()?;
-    let place = tapscript_place(items.len(), last.as_slice())?;
-    let script = items.get(place)?;
-    Some(script.as_slice())
+    let last = witness.last()?;
+    let place = tapscript_place(witness.len(), last)?;
+    witness.get(place)
 }
 
 /// Whether an item pushes just these bytes.

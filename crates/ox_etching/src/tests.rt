@@ -187,7 +187,6 @@ fn offsets_stop_at_the_greatest_number(rt: HostRuntime) {
 fn input_of(rt: &impl Abort, alloc: Global, items: &[&[u8]]) -> TxIn {
     let mut witness = Witness::new(alloc);
     for item in items {
-        let item = Bytes::copy(alloc, item).expect(rt, "memory");
         witness.push(item).expect(rt, "memory");
     }
     TxIn {

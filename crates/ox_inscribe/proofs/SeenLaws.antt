@@ -1,12 +1,12 @@
 -- The envelopes of a transaction, as they are found.
-use Rattle.std.proofs.Common.{◌≡◌, ◌∙◌, ℕ, zero, suc, ◌+◌, ◌-◌, ◌*◌, ◌^◌, ◌<◌, ◌≤◌, Bool, true, false, List, [], ◌∷◌, ◌++◌, length, take, drop, get_or, refl, sym, ap, ap₂, subst, arith, append_assoc, append-nil, length-append, Option, Some, None, nat_lt, nat_le, cond}
-use Rattle.std.specs.Prelude.{All, map, slice_get, unwrap_or, ◌&&◌}
-use Rattle.std.proofs.lemmas.Bool.{le-ltb, leb-true}
+use Rattle.std.proofs.Common.{◌≡◌, ◌∙◌, ℕ, zero, suc, ◌+◌, ◌-◌, ◌*◌, ◌^◌, ◌<◌, ◌≤◌, Bool, true, false, List, [], ◌∷◌, ◌++◌, length, take, drop, get_or, refl, sym, ap, ap₂, subst, arith, append_assoc, append-nil, length-append, Option, Some, None, Bor, nat_lt}
+use Rattle.std.specs.Prelude.{All, map, option_copied, slice_get, unwrap_or}
+use Rattle.std.proofs.lemmas.Bool.{le-ltb}
 use Rattle.std.proofs.lemmas.List.{drop_more, drop_all, take_more, take_all}
 use Rattle.std.proofs.lemmas.List.Elements.{All-nil, All-cons, All-append}
-use Rattle.std.proofs.lemmas.Option.{get_or_from_slice_get, slice_get-get_or}
+use Rattle.std.proofs.lemmas.Option.{get_or_from_slice_get}
 use Rattle.ox_script.specs.Script.{little_endian}
-use Rattle.ox_script.specs.Witness.{tapscript, item_at, tapscript_place, begins_annex}
+use Rattle.ox_script.specs.Witness.{tapscript, item_at}
 use Rattle.ox_block.specs.declared.block.TxIn.{TxIn}
 use Rattle.ox_envelope.specs.Envelope.{EnvelopePushes}
 use Rattle.ox_envelope.specs.Payload.{bit, inscribed_of}
@@ -33,10 +33,12 @@ too_much bytes end number behind within is much fits =
 
 -- ---- the tapscript
 
-pub tapscript_at : (items : List (List ℕ)) (last script : List ℕ) (place : ℕ) → slice_get items (length items - 1) ≡ Some last → place < length items → script ≡ get_or items place script
+pub tapscript_at : (items : List (List ℕ)) (last : List ℕ) (place : ℕ) → slice_get items (length items - 1) ≡ Some last
     → ((before : List (List ℕ)) → length before + 1 ≡ length items → tapscript (before ++ last ∷ []) ≡ item_at (before ++ last ∷ []) (Some place))
-    → script ≡ unwrap_or (tapscript items) []
-tapscript_at items last script place ends within is at =
+    → slice_get items place ≡ tapscript items
+tapscript_at [] last place ends at = absurd (cc ends)
+tapscript_at (first ∷ others) last place ends at =
+    let items : List (List ℕ) = first ∷ others in
     let count = length items - 1 in
     let counted : count + 1 ≡ length items = omega arith in
     let whole : take count items ++ last ∷ [] ≡ items =
@@ -44,8 +46,12 @@ tapscript_at items last script place ends within is at =
     ∙ sym (take_more items count last (omega arith))
     ∙ take_all (count + 1) items (omega arith) in
     let short : length (take count items) + 1 ≡ length items = omega (arith, length-append (take count items) (last ∷ []), ap length whole) in
-    let there : tapscript items ≡ slice_get items place = rw (sym whole) (at (take count items) short) in
-    is ∙ sym (ap (λ (found : Option (List ℕ)). unwrap_or found []) (there ∙ slice_get-get_or items place script within))
+    ap (λ (all : List (List ℕ)). slice_get all place) (sym whole) ∙ sym (at (take count items) short) ∙ ap tapscript whole
+
+-- what a look-up of bytes gives, and other bytes where it gives none
+pub given_or : (found : Option (Bor (List ℕ))) (other result : Bor (List ℕ)) → result ≡ unwrap_or found other → result.now ≡ unwrap_or (option_copied found) other.now
+given_or (Some bytes) other result is = ap (λ (b : Bor (List ℕ)). b.now) is
+given_or None other result is = ap (λ (b : Bor (List ℕ)). b.now) is
 
 -- ---- envelopes one by one
 
@@ -145,13 +151,3 @@ all_small place before (input ∷ inputs) (row ∷ rows) =
 
 pub small_seen : (seen : List Sighting) (inputs : List TxIn) (rows : List OutRow) → seen ≡ sightings_from 0 0 (sources_of inputs rows) → All (λ (one : Sighting). one.says.marks < 128) seen
 small_seen seen inputs rows is = subst (λ (all : List Sighting). All IsSmall all) (sym is) (all_small 0 0 inputs rows)
-
-pub place_below : (items place : ℕ) (last : List ℕ) → Some place ≡ tapscript_place items last → place < items
-place_below items place last is = by_annex (nat_le 2 items && begins_annex last) is where
-  by_left : (left : ℕ) → left ≤ items → (b : Bool) → nat_le 2 left ≡ b → Some place ≡ cond b (Some (left - 2)) None → place < items
-  by_left left few true two there = let same : place ≡ left - 2 = cc there in omega (arith, same, few, leb-true 2 left two)
-  by_left left few false two there = absurd (cc there)
-
-  by_annex : (b : Bool) → Some place ≡ (let left = cond b (items - 1) items in cond (nat_le 2 left) (Some (left - 2)) None) → place < items
-  by_annex true there = by_left (items - 1) (omega arith) (nat_le 2 (items - 1)) refl there
-  by_annex false there = by_left items (omega arith) (nat_le 2 items) refl there

@@ -30,10 +30,12 @@ pub(crate) struct Sighting {
 fn tapscript_of(input: &TxIn) -> &[u8]
     ensures { result.now ≡ unwrap_or (tapscript input.now.witness) [] }
 {
-    let items = input.witness.as_slice();
-    let Some(last) = items.last() else { return &[] };
-    match tapscript_place(items.len(), last.as_slice()) {
-        Some(place) => items[place].as_slice(),
+    let witness = &input.witness;
+    let Some(last) = witness.last() else {
+        return &[];
+    };
+    match tapscript_place(witness.len(), last) {
+        Some(place) => witness.get(place).unwrap_or(&[]),
         None => &[],
     }
 }
