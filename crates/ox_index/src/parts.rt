@@ -1,6 +1,6 @@
 //! The parts of an index that go back to a mark.
 
-ghost use Rattle.std.specs.Prelude.{◌≡◌, ◌≤◌, ◌++◌, [], drop, length, IfOk, OnOk, OnErr, unwrap_or};
+ghost use Rattle.std.specs.Prelude.{◌≡◌, ◌≤◌, ◌++◌, [], length, IfOk, OnOk, OnErr, unwrap_or};
 ghost use Rattle.std.specs.Option.{ForSome};
 ghost use Rattle.ox_block.specs.Spelling.{Lawful};
 ghost use Rattle.ox_sat.specs.Profiles.{IsProfile};
@@ -12,8 +12,8 @@ ghost use Rattle.ox_index.specs.Held.{NoneOf};
 
 use crate::fault::ConnectFault;
 use ox_block::{Block, Tx, Txids, hash};
-use ox_bytes::{List, Memory};
-use ox_inscribe::{InsRow, Shelf};
+use ox_bytes::Memory;
+use ox_inscribe::{SharedRow, Shelf};
 use ox_ledger::Ledger;
 use ox_model::{Change, Moved, OutTable};
 use ox_outputs::Outputs;
@@ -145,7 +145,7 @@ impl Parts {
             (IsTold (mark_of self.now) (held_in self.now) hash lost from) }
     {
         let (gone, came) = self.outputs.changed()?;
-        let inscriptions = rows_from(self.alloc, &self.shelf, from)?;
+        let inscriptions = self.shelf.rows_from(from)?;
         let runes = self.ledger.changed()?;
         Ok(Change {
             hash,
@@ -293,21 +293,8 @@ fn batch_from<T>(all: &[T], place: usize) -> &[T] {
     }
 }
 
-// Copies of the inscriptions from a number on. `Memory` where there is none for them.
-fn rows_from(alloc: Global, shelf: &Shelf, from: u32) -> Result<List<InsRow>, Memory>
-    requires { from ≤ length shelf.now.rows }
-    ensures { IfOk result (λ rows. rows ≡ drop from shelf.now.rows) }
-{
-    let count = shelf.len() - from;
-    let mut rows = List::from_vec(Vec::with_capacity(alloc, count as usize)?);
-    for number in from..shelf.len() {
-        rows.push(shelf.row(number).copy(alloc)?)?;
-    }
-    Ok(rows)
-}
-
 // Puts inscriptions behind the others. `Memory` where there is none, or where there would be 2^32.
-fn append(shelf: &mut Shelf, rows: &[InsRow]) -> Result<(), Memory>
+fn append(shelf: &mut Shelf, rows: &[SharedRow]) -> Result<(), Memory>
     ensures ok { OnOk result (shelf.new.rows ≡ shelf.old.rows ++ rows.now) }
     ensures mark { shelf.new.mark ≡ shelf.old.mark }
 {

@@ -7,6 +7,7 @@ pub use laws::{
 };
 pub use ox_bytes::Memory;
 pub use row::InsRow;
+pub use shared::SharedRow;
 pub use shelf::Shelf;
 
 mod keys;
@@ -16,5 +17,6 @@ mod parents;
 mod reveal;
 mod row;
 mod scene;
+mod shared;
 mod shelf;
 mod sightings;

@@ -10,7 +10,7 @@ ghost use Rattle.ox_inscribe.specs.Shelved.{AreKeys, id_cmp};
 ghost use Rattle.ox_inscribe.specs.declared.row.InsRow.{InsRow};
 
 use crate::keys::Keys;
-use crate::row::InsRow;
+use crate::shared::SharedRow;
 use ox_bytes::Memory;
 use ox_envelope::{Ids, InsId};
 use ox_range_index::RangeIndex;
@@ -20,7 +20,7 @@ use std::collections::BTreeSet;
 /// Whether the first of so many rows that has an id is on one of these satoshis.
 fn stands_among(
     joined: &RangeIndex<'_>,
-    rows: &[InsRow],
+    rows: &[SharedRow],
     keys: &Keys,
     count: usize,
     id: &InsId,
@@ -36,7 +36,7 @@ fn stands_among(
     if number >= count {
         return false;
     }
-    match rows[number].sat {
+    match rows[number].row().sat {
         Some(sat) => joined.contains(sat),
         None => false,
     }
@@ -45,7 +45,7 @@ fn stands_among(
 /// Whether an id wasn't met before and stands among so many rows, as above. It is met now.
 fn is_parent(
     joined: &RangeIndex<'_>,
-    rows: &[InsRow],
+    rows: &[SharedRow],
     keys: &Keys,
     count: usize,
     met: &mut BTreeSet<InsId>,
@@ -69,7 +69,7 @@ fn is_parent(
 pub(crate) fn parents_among(
     alloc: Global,
     joined: &RangeIndex<'_>,
-    rows: &[InsRow],
+    rows: &[SharedRow],
     keys: &Keys,
     count: usize,
     named: &[InsId],

@@ -15,6 +15,7 @@ use crate::keys::Keys;
 use crate::parents::{bears, parents_among};
 use crate::row::InsRow;
 use crate::scene::Scene;
+use crate::shared::SharedRow;
 use crate::shelf::push_row;
 use crate::sightings::{Sighting, sightings_of};
 use ox_block::{Block, Tx, TxOut};
@@ -29,11 +30,11 @@ use std::alloc::Global;
 fn row_of(
     alloc: Global,
     scene: &Scene<'_>,
-    rows: &[InsRow],
+    rows: &[SharedRow],
     keys: &Keys,
     before: usize,
     seen: Sighting,
-) -> Result<InsRow, Memory>
+) -> Result<SharedRow, Memory>
     requires found { AreKeys rows.now keys.now }
     requires before { before ≤ length rows.now }
     requires small { length rows.now < 2 ^ 32 }
@@ -47,7 +48,7 @@ fn row_of(
     let sat = scene.sat_of(&seen);
     let marks = seen.marks(bears(keys, sat));
     let says = seen.says;
-    Ok(InsRow {
+    let row = InsRow {
         id: InsId {
             txid: scene.txid.0,
             index: (rows.len() - before) as u32,
@@ -63,14 +64,15 @@ fn row_of(
         parents,
         marks,
         sat,
-    })
+    };
+    SharedRow::new(alloc, row)
 }
 
 /// Puts the row of an envelope behind the others, and whether its satoshi goes to the fees behind
 /// those of the block's rows. `Memory` also where there would be 2^32 rows.
 fn reveal_one(
     alloc: Global,
-    rows: &mut Vec<InsRow>,
+    rows: &mut Vec<SharedRow>,
     keys: &mut Keys,
     fees: &mut Vec<bool>,
     scene: &Scene<'_>,
@@ -101,7 +103,7 @@ fn reveal_one(
 /// Puts the rows of a transaction's envelopes behind the others, which all stood before it.
 fn reveal_seen(
     alloc: Global,
-    rows: &mut Vec<InsRow>,
+    rows: &mut Vec<SharedRow>,
     keys: &mut Keys,
     fees: &mut Vec<bool>,
     scene: &Scene<'_>,
@@ -138,7 +140,7 @@ fn value_sum(outputs: &[TxOut]) -> u64
 /// at its witnesses.
 fn reveal_tx(
     alloc: Global,
-    rows: &mut Vec<InsRow>,
+    rows: &mut Vec<SharedRow>,
     keys: &mut Keys,
     fees: &mut Vec<bool>,
     tx: &Tx,
@@ -174,7 +176,7 @@ fn reveal_tx(
 /// answers of each whether its satoshi goes to the fees.
 fn reveal_txs(
     alloc: Global,
-    rows: &mut Vec<InsRow>,
+    rows: &mut Vec<SharedRow>,
     keys: &mut Keys,
     txs: &[Tx],
     moved: &[MovedTx],
@@ -209,7 +211,7 @@ fn behind_first<T>(all: &[T]) -> &[T]
 }
 
 /// Takes the last row away and gives it.
-fn pop_row(rows: &mut Vec<InsRow>, keys: &mut Keys) -> Option<InsRow>
+fn pop_row(rows: &mut Vec<SharedRow>, keys: &mut Keys) -> Option<SharedRow>
     requires found { AreKeys rows.old.items keys.old }
     requires small { length rows.old.items < 2 ^ 32 }
     ensures rows { rows.old.items ≡ rows.new.items ++ option_to_list result }
@@ -217,7 +219,7 @@ fn pop_row(rows: &mut Vec<InsRow>, keys: &mut Keys) -> Option<InsRow>
     ensures found { AreKeys rows.new.items keys.new }
 {
     let row = rows.pop()?;
-    keys.forget(&row, rows.len() as u32);
+    keys.forget(row.row(), rows.len() as u32);
     Some(row)
 }
 
@@ -225,10 +227,10 @@ fn pop_row(rows: &mut Vec<InsRow>, keys: &mut Keys) -> Option<InsRow>
 /// and those whose flag is.
 fn take_apart(
     alloc: Global,
-    rows: &mut Vec<InsRow>,
+    rows: &mut Vec<SharedRow>,
     keys: &mut Keys,
     fees: &[bool],
-) -> Result<(Vec<InsRow>, Vec<InsRow>), Memory>
+) -> Result<(Vec<SharedRow>, Vec<SharedRow>), Memory>
     requires found { AreKeys rows.old.items keys.old }
     requires small { length rows.old.items < 2 ^ 32 }
     requires each { length fees.now ≤ length rows.old.items }
@@ -267,7 +269,11 @@ fn any_set(fees: &[bool]) -> bool
 }
 
 /// Puts rows behind others, the last of them first.
-fn put_back(rows: &mut Vec<InsRow>, keys: &mut Keys, mut more: Vec<InsRow>) -> Result<(), Memory>
+fn put_back(
+    rows: &mut Vec<SharedRow>,
+    keys: &mut Keys,
+    mut more: Vec<SharedRow>,
+) -> Result<(), Memory>
     requires found { AreKeys rows.old.items keys.old }
     requires small { length rows.old.items + length more.items < 2 ^ 32 }
     ensures rows { OnOk result (rows.new.items ≡ rows.old.items ++ reverse more.items) }
@@ -284,7 +290,7 @@ fn put_back(rows: &mut Vec<InsRow>, keys: &mut Keys, mut more: Vec<InsRow>) -> R
 /// Puts the last rows into their order: those whose satoshi goes to the fees come last.
 fn put_in_order(
     alloc: Global,
-    rows: &mut Vec<InsRow>,
+    rows: &mut Vec<SharedRow>,
     keys: &mut Keys,
     fees: &[bool],
 ) -> Result<(), Memory>
@@ -312,7 +318,7 @@ fn put_in_order(
 /// others still stand in front.
 pub(crate) fn reveal_rows(
     alloc: Global,
-    rows: &mut Vec<InsRow>,
+    rows: &mut Vec<SharedRow>,
     keys: &mut Keys,
     moved: &Moved,
     block: &Block,

@@ -1,10 +1,7 @@
 //! What is kept of an inscription.
 
-ghost use Rattle.std.specs.Prelude.{◌≡◌, IfOk};
-
-use ox_bytes::{Bytes, Memory};
+use ox_bytes::Bytes;
 use ox_envelope::{Ids, InsId};
-use std::alloc::Global;
 
 /// An inscription: what its envelope says, and where it was made. Its number is its place among all
 /// rows, from 0.
@@ -37,36 +34,4 @@ pub struct InsRow {
     pub marks: u16,
     /// The satoshi that it is on. An unbound inscription is on none.
     pub sat: Option<u64>,
-}
-
-/// The same bytes once more, if there are any.
-fn copy_bytes(alloc: Global, bytes: &Option<Bytes>) -> Result<Option<Bytes>, Memory>
-    ensures { IfOk result (λ copy. copy ≡ bytes.now) }
-{
-    match bytes {
-        Some(bytes) => Ok(Some(Bytes::copy(alloc, bytes.as_slice())?)),
-        None => Ok(None),
-    }
-}
-
-impl InsRow {
-    /// The same row once more. `Memory` where there is none for it.
-    pub fn copy(&self, alloc: Global) -> Result<InsRow, Memory>
-        ensures { IfOk result (λ row. row ≡ self.now) }
-    {
-        Ok(InsRow {
-            id: self.id,
-            height: self.height,
-            content_type: copy_bytes(alloc, &self.content_type)?,
-            body: copy_bytes(alloc, &self.body)?,
-            metadata: copy_bytes(alloc, &self.metadata)?,
-            metaprotocol: copy_bytes(alloc, &self.metaprotocol)?,
-            encoding: copy_bytes(alloc, &self.encoding)?,
-            pointer: copy_bytes(alloc, &self.pointer)?,
-            delegate: self.delegate,
-            parents: self.parents.copy(alloc)?,
-            marks: self.marks,
-            sat: self.sat,
-        })
-    }
 }

@@ -2,7 +2,7 @@
 
 ghost use Rattle.std.specs.Prelude.{◌≡◌, ℕ, ◌+◌, ◌-◌, ◌^◌, ◌<◌, ◌≤◌, [], ◌∷◌, ◌++◌, length, take};
 ghost use Rattle.std.specs.Prelude.{◌==◌, Some, None, IsSome, IfOk, OnOk, OnErr, slice_get};
-ghost use Rattle.std.specs.Prelude.{option_map};
+ghost use Rattle.std.specs.Prelude.{drop, option_map};
 ghost use Rattle.ox_inscribe.specs.Inscriptions.{find, on, next_on, children};
 ghost use Rattle.ox_inscribe.specs.Moves.{AreMovesOf};
 ghost use Rattle.ox_inscribe.specs.Reveal.{reveal_of};
@@ -12,8 +12,9 @@ use crate::keys::Keys;
 use crate::numbers::numbers_below;
 use crate::reveal::reveal_rows;
 use crate::row::InsRow;
+use crate::shared::SharedRow;
 use ox_block::Block;
-use ox_bytes::Memory;
+use ox_bytes::{List, Memory};
 use ox_envelope::InsId;
 use ox_rules::Moved;
 use std::alloc::Global;
@@ -28,7 +29,7 @@ use std::marker::Model;
 pub struct Shelf {
     alloc: Global,
     /// All rows, the unseen ones behind the others.
-    rows: Vec<InsRow>,
+    rows: Vec<SharedRow>,
     keys: Keys,
     /// How many rows are seen.
     shown: usize,
@@ -52,7 +53,11 @@ impl Model for Shelf {
 
 /// Puts a row behind others that are found by these keys. `Memory` where there is none for it: the
 /// rows are as before.
-pub(crate) fn push_row(rows: &mut Vec<InsRow>, keys: &mut Keys, row: InsRow) -> Result<(), Memory>
+pub(crate) fn push_row(
+    rows: &mut Vec<SharedRow>,
+    keys: &mut Keys,
+    row: SharedRow,
+) -> Result<(), Memory>
     requires found { AreKeys rows.old.items keys.old }
     requires small { length rows.old.items < 2 ^ 32 }
     ensures ok { OnOk result (rows.new.items ≡ rows.old.items ++ row ∷ []) }
@@ -60,18 +65,13 @@ pub(crate) fn push_row(rows: &mut Vec<InsRow>, keys: &mut Keys, row: InsRow) -> 
     ensures found { AreKeys rows.new.items keys.new }
 {
     rows.reserve(1)?;
-    keys.add(&row, rows.len() as u32)?;
+    keys.add(row.row(), rows.len() as u32)?;
     rows.push_reserved(row);
     Ok(())
 }
 
-/// Puts copies of rows behind others, as far as there is memory.
-fn push_rows(
-    alloc: Global,
-    rows: &mut Vec<InsRow>,
-    keys: &mut Keys,
-    more: &[InsRow],
-) -> Result<(), Memory>
+/// Puts rows behind others, as far as there is memory. They are shared.
+fn push_rows(rows: &mut Vec<SharedRow>, keys: &mut Keys, more: &[SharedRow]) -> Result<(), Memory>
     requires found { AreKeys rows.old.items keys.old }
     requires small { length rows.old.items + length more.now < 2 ^ 32 }
     ensures ok { OnOk result (rows.new.items ≡ rows.old.items ++ more.now) }
@@ -80,13 +80,24 @@ fn push_rows(
     ensures found { AreKeys rows.new.items keys.new }
 {
     for row in more {
-        push_row(rows, keys, row.copy(alloc)?)?;
+        push_row(rows, keys, row.share()?)?;
     }
     Ok(())
 }
 
+/// The same rows once more, which are shared.
+fn share_all(alloc: Global, rows: &[SharedRow]) -> Result<List<SharedRow>, Memory>
+    ensures { IfOk result (λ shared. shared ≡ rows.now) }
+{
+    let mut shared = List::from_vec(Vec::with_capacity(alloc, rows.len())?);
+    for row in rows {
+        shared.push(row.share()?)?;
+    }
+    Ok(shared)
+}
+
 /// Takes the last rows away until so many are left.
-fn shorten(rows: &mut Vec<InsRow>, keys: &mut Keys, len: usize)
+fn shorten(rows: &mut Vec<SharedRow>, keys: &mut Keys, len: usize)
     requires found { AreKeys rows.old.items keys.old }
     requires small { length rows.old.items < 2 ^ 32 }
     ensures rows { rows.new.items ≡ take len rows.old.items }
@@ -94,7 +105,7 @@ fn shorten(rows: &mut Vec<InsRow>, keys: &mut Keys, len: usize)
 {
     while rows.len() > len {
         if let Some(row) = rows.pop() {
-            keys.forget(&row, rows.len() as u32);
+            keys.forget(row.row(), rows.len() as u32);
         }
     }
 }
@@ -133,7 +144,16 @@ impl Shelf {
         requires { n < length self.now.rows }
         ensures { slice_get self.now.rows n ≡ Some result.now }
     {
-        &self.rows[n as usize]
+        self.rows[n as usize].row()
+    }
+
+    /// The rows from a number on, which are shared, not copied. `Memory` where there is none for the
+    /// list of them.
+    pub fn rows_from(&self, n: u32) -> Result<List<SharedRow>, Memory>
+        requires { n ≤ length self.now.rows }
+        ensures { IfOk result (λ rows. rows ≡ drop n self.now.rows) }
+    {
+        share_all(self.alloc, &self.rows[n as usize..self.shown])
     }
 
     /// The number of the first row with an id, if there is one.
@@ -175,10 +195,10 @@ impl Shelf {
         numbers_below(self.keys.children(&self.row(of).id), self.shown)
     }
 
-    /// Copies of these rows behind the others. While rows that stood at the mark are dropped, it
-    /// finds no memory: set the mark anew first. `Memory` where there is none left: the rows are as
-    /// before.
-    pub fn append(&mut self, rows: &[InsRow]) -> Result<(), Memory>
+    /// Puts these rows behind the others. They are shared, not copied. While rows that stood at the
+    /// mark are dropped, it finds no memory: set the mark anew first. `Memory` where there is none
+    /// left: the rows are as before.
+    pub fn append(&mut self, rows: &[SharedRow]) -> Result<(), Memory>
         requires { length self.old.rows + length rows.now < 2 ^ 32 }
         ensures ok { OnOk result (self.new.rows ≡ self.old.rows ++ rows.now) }
         ensures err { OnErr result (self.new.rows ≡ self.old.rows) }
@@ -187,7 +207,7 @@ impl Shelf {
         if self.rows.len() > self.shown {
             return Err(Memory);
         }
-        match push_rows(self.alloc, &mut self.rows, &mut self.keys, rows) {
+        match push_rows(&mut self.rows, &mut self.keys, rows) {
             Ok(()) => {
                 self.shown = self.rows.len();
                 Ok(())

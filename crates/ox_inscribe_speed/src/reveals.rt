@@ -6,7 +6,7 @@ ghost use Rattle.ox_inscribe.specs.Moves.{AreMovesOf};
 use crate::blocks::{Done, Load, SUBSIDY, loaded, parents_for, scattered};
 use crate::rows::id_of;
 use ox_envelope::Ids;
-use ox_inscribe::{InsRow, Memory, Shelf};
+use ox_inscribe::{InsRow, Memory, SharedRow, Shelf};
 use std::alloc::Global;
 
 /// The row of a parent with a number. Every other one is on a satoshi of the transaction's inputs.
@@ -31,7 +31,7 @@ fn parent_of(alloc: Global, number: u32) -> InsRow {
 fn shelf_of_parents(alloc: Global, count: u32) -> Result<Shelf, Memory> {
     let mut rows = Vec::new(alloc);
     for number in 0..count {
-        rows.push(parent_of(alloc, number))?;
+        rows.push(SharedRow::new(alloc, parent_of(alloc, number))?)?;
     }
     let mut shelf = Shelf::new(alloc);
     if rows.len() < u32::MAX as usize {

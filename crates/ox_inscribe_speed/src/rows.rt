@@ -4,7 +4,7 @@ ghost use Rattle.std.specs.Prelude.{◌≡◌};
 
 use ox_bytes::Bytes;
 use ox_envelope::{Ids, InsId};
-use ox_inscribe::{InsRow, Memory, Shelf};
+use ox_inscribe::{InsRow, Memory, SharedRow, Shelf};
 use std::alloc::Global;
 
 /// So many rows are appended at a time.
@@ -44,10 +44,11 @@ fn row_of(alloc: Global, number: u32) -> Result<InsRow, Memory> {
 }
 
 /// The rows of a batch that begins with this number.
-fn rows_from(alloc: Global, first: u32) -> Result<Vec<InsRow>, Memory> {
+fn rows_from(alloc: Global, first: u32) -> Result<Vec<SharedRow>, Memory> {
     let mut rows = Vec::new(alloc);
     for place in 0..BATCH {
-        rows.push(row_of(alloc, first.wrapping_add(place))?)?;
+        let row = row_of(alloc, first.wrapping_add(place))?;
+        rows.push(SharedRow::new(alloc, row)?)?;
     }
     Ok(rows)
 }

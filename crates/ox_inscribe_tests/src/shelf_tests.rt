@@ -2,7 +2,7 @@ ghost use Rattle.std.specs.Prelude.{◌≡◌};
 
 use ox_bytes::{Bytes, List};
 use ox_envelope::InsId;
-use ox_inscribe::{InsRow, Shelf};
+use ox_inscribe::{InsRow, SharedRow, Shelf};
 use std::alloc::Global;
 use std::process::Abort;
 
@@ -71,18 +71,22 @@ fn are_same(one: &InsRow, other: &InsRow) -> bool {
         && one.sat == other.sat
 }
 
-#[test]
-fn a_full_row_is_copied(rt: HostRuntime) {
-    let row = full_row(&rt, rt.alloc());
-    let copy = row.copy(rt.alloc()).expect(&rt, "memory");
-    assert!(rt; are_same(&copy, &row));
+/// A row that has lost its first owner.
+fn left_row(rt: &impl Abort, alloc: Global, row: InsRow) -> SharedRow {
+    let first = SharedRow::new(alloc, row).expect(rt, "memory");
+    first.share().expect(rt, "an owner more")
 }
 
 #[test]
-fn a_bare_row_is_copied(rt: HostRuntime) {
-    let row = bare_row(rt.alloc());
-    let copy = row.copy(rt.alloc()).expect(&rt, "memory");
-    assert!(rt; are_same(&copy, &row));
+fn a_full_row_outlives_its_first_owner(rt: HostRuntime) {
+    let left = left_row(&rt, rt.alloc(), full_row(&rt, rt.alloc()));
+    assert!(rt; are_same(left.row(), &full_row(&rt, rt.alloc())));
+}
+
+#[test]
+fn a_bare_row_outlives_its_first_owner(rt: HostRuntime) {
+    let left = left_row(&rt, rt.alloc(), bare_row(rt.alloc()));
+    assert!(rt; are_same(left.row(), &bare_row(rt.alloc())));
 }
 
 /// A row with an id, a satoshi and at most one parent.
@@ -96,13 +100,20 @@ fn plain_row(rt: &impl Abort, alloc: Global, name: u8, sat: Option<u64>, parent:
     row
 }
 
-/// Appends one row.
+/// Appends a row.
+fn put_row(rt: &impl Abort, alloc: Global, shelf: &mut Shelf, row: InsRow)
+    ensures { shelf.new.mark ≡ shelf.old.mark }
+{
+    let row = SharedRow::new(alloc, row).expect(rt, "memory");
+    assert!(rt; shelf.len() < 1_000_000);
+    shelf.append(&[row]).expect(rt, "memory");
+}
+
+/// Appends a plain row.
 fn put(rt: &impl Abort, alloc: Global, shelf: &mut Shelf, name: u8, sat: Option<u64>, parent: u8)
     ensures { shelf.new.mark ≡ shelf.old.mark }
 {
-    let row = plain_row(rt, alloc, name, sat, parent);
-    assert!(rt; shelf.len() < 1_000_000);
-    shelf.append(&[row]).expect(rt, "memory");
+    put_row(rt, alloc, shelf, plain_row(rt, alloc, name, sat, parent));
 }
 
 /// Five rows: 1 on 5; 2 on none, a child of 1; 3 on 3; 3 again on 5, a child of 1; 4 on 9, a child
@@ -179,6 +190,21 @@ fn shorten(rt: &impl Abort, shelf: &mut Shelf, n: u32)
     shelf.drop_last(n)
 }
 
+/// The rows from a number on, which is that of a row or the next.
+fn rows_from(rt: &impl Abort, shelf: &Shelf, n: u32) -> List<SharedRow> {
+    assert!(rt; n <= shelf.len());
+    shelf.rows_from(n).expect(rt, "memory")
+}
+
+/// Puts rows behind others.
+fn put_all(rt: &impl Abort, shelf: &mut Shelf, rows: &List<SharedRow>)
+    ensures { shelf.new.mark ≡ shelf.old.mark }
+{
+    assert!(rt; shelf.len() < 1_000_000);
+    assert!(rt; rows.len() < 1_000_000);
+    shelf.append(rows.as_slice()).expect(rt, "memory")
+}
+
 /// Whether nothing can be appended, not even no rows.
 fn is_closed(rt: &impl Abort, shelf: &mut Shelf) -> bool
     ensures { shelf.new.mark ≡ shelf.old.mark }
@@ -192,6 +218,26 @@ fn rows_are_found(rt: HostRuntime) {
     let shelf = five_rows(&rt, rt.alloc());
     assert!(rt; shows_five(&rt, &shelf));
     assert!(rt; is_row(&shelf, 3, id(3, 0)));
+}
+
+#[test]
+fn rows_that_were_taken_away_are_appended_again(rt: HostRuntime) {
+    let mut shelf = five_rows(&rt, rt.alloc());
+    let last = rows_from(&rt, &shelf, 2);
+    assert!(rt; last.len() == 3);
+    shorten(&rt, &mut shelf, 3);
+    assert!(rt; shows_two(&rt, &shelf));
+    put_all(&rt, &mut shelf, &last);
+    assert!(rt; shows_five(&rt, &shelf));
+}
+
+#[test]
+fn hidden_rows_are_not_shared(rt: HostRuntime) {
+    let mut shelf = five_rows(&rt, rt.alloc());
+    shelf.begin();
+    shorten(&rt, &mut shelf, 3);
+    assert!(rt; rows_from(&rt, &shelf, 1).len() == 1);
+    assert!(rt; rows_from(&rt, &shelf, 2).is_empty());
 }
 
 #[test]
@@ -248,8 +294,7 @@ fn a_parent_named_twice_has_its_child_once(rt: HostRuntime) {
     let mut shelf = five_rows(&rt, rt.alloc());
     let mut row = plain_row(&rt, rt.alloc(), 6, None, 1);
     row.parents.push(id(1, 0)).expect(&rt, "memory");
-    assert!(rt; shelf.len() < 1_000_000);
-    shelf.append(&[row]).expect(&rt, "memory");
+    put_row(&rt, rt.alloc(), &mut shelf, row);
     assert!(rt; are(children_of(&rt, &shelf, 0), &[1, 3, 5]));
     shorten(&rt, &mut shelf, 1);
     assert!(rt; shows_five(&rt, &shelf));

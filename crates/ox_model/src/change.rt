@@ -1,7 +1,7 @@
 //! What one block changes.
 
 use ox_bytes::List;
-use ox_inscribe::InsRow;
+use ox_inscribe::SharedRow;
 use ox_ledger::RunePart;
 use ox_range::Ranges;
 use ox_rules::TableRows;
@@ -18,8 +18,8 @@ pub struct Change {
     pub came: TableRows,
     /// The satoshis that it lost, in the order in which they were.
     pub lost: Ranges,
-    /// The inscriptions that it revealed, by number.
-    pub inscriptions: List<InsRow>,
+    /// The inscriptions that it revealed, by number. They are shared with the index that has them.
+    pub inscriptions: List<SharedRow>,
     /// What it changed of runes and balances.
     pub runes: RunePart,
 }

@@ -1,4 +1,5 @@
-use Rattle.std.proofs.Common.{sym, ◌∙◌}
+use Rattle.std.proofs.Common.{sym, ap, ◌∙◌}
+use Rattle.ox_inscribe.specs.declared.row.InsRow.{InsRow}
 use Rattle.ox_inscribe.proofs.StandLaws.{stands_none, stands_hidden, stands_unbound, stands_on}
 use Rattle.ox_inscribe.proofs.parents.stands_among.Goals as goal
 
@@ -10,7 +11,7 @@ returns-then-number-count c = stands_hidden c.args.joined.now c.args.rows.now c.
 
 pub returns-in-Some-sat : goal.returns-in-Some-sat
 returns-in-Some-sat c =
-    c.contains.ensures ∙ stands_on c.args.joined.now c.args.rows.now c.args.count c.in-Some.number c.in-Some-sat.sat c.args.id.now _ (sym (c.requires.found.firsts c.args.id.now) ∙ sym c.find.ensures ∙ c.in-Some.is) c.if-number-count.false c.requires.count c.in-Some-sat.is
+    c.contains.ensures ∙ stands_on c.args.joined.now c.args.rows.now c.args.count c.in-Some.number c.in-Some-sat.sat c.args.id.now _ (sym (c.requires.found.firsts c.args.id.now) ∙ sym c.find.ensures ∙ c.in-Some.is) c.if-number-count.false c.requires.count (ap (λ (r : InsRow). r.sat) (sym (c.row.ensures ∙ c.index-rows-number.is)) ∙ c.in-Some-sat.is)
 
 pub returns-in-None : goal.returns-in-None
-returns-in-None c = stands_unbound c.args.joined.now c.args.rows.now c.args.count c.in-Some.number c.args.id.now _ (sym (c.requires.found.firsts c.args.id.now) ∙ sym c.find.ensures ∙ c.in-Some.is) c.if-number-count.false c.requires.count c.in-None.is
+returns-in-None c = stands_unbound c.args.joined.now c.args.rows.now c.args.count c.in-Some.number c.args.id.now _ (sym (c.requires.found.firsts c.args.id.now) ∙ sym c.find.ensures ∙ c.in-Some.is) c.if-number-count.false c.requires.count (ap (λ (r : InsRow). r.sat) (sym (c.row.ensures ∙ c.index-rows-number.is)) ∙ c.in-None.is)
