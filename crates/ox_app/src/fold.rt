@@ -22,6 +22,7 @@ use ox_index::Chain;
 use ox_outside::Site;
 use ox_sat::Profile;
 use std::alloc::Global;
+use std::mem;
 
 /// How many of its blocks a chain without files keeps.
 const DEPTH: u16 = 1000;
@@ -49,7 +50,8 @@ fn next_answer<S: Site>(
 }
 
 /// Reads the feed of channel 0 to its end, and shows the answer to each line. The chain counts by
-/// this profile.
+/// this profile. At the end of the feed its index is left as it is: to take it apart would take
+/// time, and its memory goes with the process.
 pub fn fold<S: Site>(alloc: Global, p: &Profile, site: &mut S) -> Result<(), Stop>
     requires { IsProfile p.now }
     ensures told { Grows
@@ -65,5 +67,7 @@ pub fn fold<S: Site>(alloc: Global, p: &Profile, site: &mut S) -> Result<(), Sto
     while let Some(answer) = next_answer(alloc, &mut lines, &mut chain, site)? {
         show_all(site, answer.as_slice())?;
     }
+    // the process ends next, and gives all memory back at once
+    mem::forget(chain);
     Ok(())
 }
