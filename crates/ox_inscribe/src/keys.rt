@@ -9,10 +9,13 @@ ghost use Rattle.ox_inscribe.specs.Shelved.{AreKeys, AreKeysUpTo, at, first_if, 
 ghost use Rattle.ox_inscribe.specs.Shelved.{none_if, starts_below, IsNextBelow, IsNextOf};
 ghost use Rattle.ox_shards.specs.Shards.{value_at};
 
+use crate::ahead::read_ahead;
 use crate::numbers::{Numbers, add_numbers, drop_numbers, numbers_at};
 use crate::row::InsRow;
+use ox_block::Tx;
 use ox_bytes::Memory;
 use ox_envelope::InsId;
+use ox_rules::MovedTx;
 use ox_shards::Shards;
 use std::alloc::Global;
 use std::collections::BTreeMap;
@@ -26,6 +29,8 @@ pub(crate) struct Keys {
     ids: Shards<InsId, u32>,
     sats: BTreeMap<u64, Numbers>,
     parents: BTreeMap<InsId, Numbers>,
+    /// What was read ahead, added up. It says nothing, and is there so that no reading is left out.
+    read: u32,
 }
 
 /// Puts a number at an id that has none.
@@ -103,7 +108,17 @@ impl Keys {
             ids: Shards::new(alloc),
             sats: BTreeMap::new(alloc),
             parents: BTreeMap::new(alloc),
+            read: 0,
         }
+    }
+
+    /// Says which transactions come next, of which it is told what they did. It is a hint, by which
+    /// what leads to the ids of their inscriptions is read ahead. It changes nothing.
+    pub(crate) fn expect(&mut self, txs: &[Tx], moved: &[MovedTx])
+        ensures { (rows : List InsRow) → AreKeys rows self.old → AreKeys rows self.new }
+    {
+        let read = read_ahead(&self.ids, txs, moved);
+        self.read = self.read.wrapping_add(read);
     }
 
     /// The first row with an id.

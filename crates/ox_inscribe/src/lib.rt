@@ -10,6 +10,7 @@ pub use row::InsRow;
 pub use shared::SharedRow;
 pub use shelf::Shelf;
 
+mod ahead;
 mod keys;
 mod laws;
 mod numbers;

@@ -335,6 +335,7 @@ pub(crate) fn reveal_rows(
 {
     let txs = behind_first(block.txs.as_slice());
     let moved = behind_first(moved.txs.as_slice());
+    keys.expect(txs, moved);
     let fees = reveal_txs(alloc, rows, keys, txs, moved, height)?;
     put_in_order(alloc, rows, keys, &fees)
 }
