@@ -17,6 +17,9 @@ use ox_shards::{Sharded, Shards};
 use std::alloc::Global;
 use std::marker::Model;
 
+// The entries of so many changes are read ahead at a time.
+const BATCH: usize = 64;
+
 /// A map that goes back to a mark. Values change in place, and what stood where something was put
 /// since the mark is kept, so that to go back takes no memory: the entry of a key at which nothing
 /// stands any more isn't taken away before the next mark.
@@ -29,7 +32,11 @@ pub struct Marked<K: Sharded, V> {
     log: Vec<(K, Option<V>)>,
     /// At how many keys there is an entry and no value. Where it is 0 no such entry is looked for.
     gone: usize,
+    /// Whether one of them was made where there was no entry, so that no change tells it.
+    blank: bool,
     marked: bool,
+    /// What was read ahead, added up. It says nothing, and is there so that no reading is left out.
+    sum: u32,
 }
 
 impl<K: Sharded, V> Model for Marked<K, V> {
@@ -56,7 +63,9 @@ impl<K: Sharded, V> Marked<K, V> {
             entries: Shards::new(alloc),
             log: Vec::new(alloc),
             gone: 0,
+            blank: false,
             marked: false,
+            sum: 0,
         }
     }
 
@@ -82,6 +91,13 @@ impl<K: Sharded, V> Marked<K, V> {
         self.entries.glance_entry(key)
     }
 
+    /// Whether the entry that may be that of a key has a value, for which a little of the entry and
+    /// of the value is read. It waits for what `glance` reads. It is a hint: the entry may be that
+    /// of another key.
+    pub fn glance_value(&self, key: &K) -> bool {
+        glance_value(&self.entries, key)
+    }
+
     /// Puts a value at a key, or takes the value there out. `Memory` where there is none for it:
     /// nothing has changed then. It costs one look-up.
     pub fn put(&mut self, key: K, value: Option<V>) -> Result<(), Memory>
@@ -99,13 +115,14 @@ impl<K: Sharded, V> Marked<K, V> {
         let stood = self.entries.insert(key, value)?;
         let went = usize::from(is_empty(&stood));
         self.gone = self.gone.wrapping_add(goes).wrapping_sub(went);
+        self.blank |= (goes > 0) & stood.is_none();
         self.log.push_reserved((key, stood.flatten()));
         Ok(())
     }
 
-    /// Sets the mark at the map as it is, in place of an earlier one. It takes no memory, and costs
-    /// a look-up or two a change where a value was taken out since the earlier mark, and else
-    /// nothing.
+    /// Sets the mark at the map as it is, in place of an earlier one. It takes no memory, and where
+    /// a value was taken out since the earlier mark it costs a look-up or two for each change before
+    /// which a value stood, and else nothing.
     pub fn begin(&mut self)
     where
         V: Drop,
@@ -115,8 +132,10 @@ impl<K: Sharded, V> Marked<K, V> {
         ensures changed { (q : K) → is_changed K.cmp self.new q ≡ false }
     {
         if self.gone > 0 {
-            sweep(&mut self.entries, &self.log);
+            let read = sweep_all(&mut self.entries, &self.log, self.blank);
+            self.sum = self.sum.wrapping_add(read);
             self.gone = 0;
+            self.blank = false;
         }
         self.log.clear();
         self.marked = true;
@@ -148,8 +167,10 @@ impl<K: Sharded, V> Marked<K, V> {
         ensures changed { (q : K) → is_changed K.cmp self.new q ≡ false }
     {
         put_back(&mut self.entries, &mut self.log);
-        sweep(&mut self.entries, &self.log);
+        let read = sweep_all(&mut self.entries, &self.log, true);
+        self.sum = self.sum.wrapping_add(read);
         self.gone = 0;
+        self.blank = false;
         self.log.clear();
     }
 
@@ -202,14 +223,73 @@ fn set<K: Sharded, V: Drop>(entries: &mut Shards<K, Option<V>>, key: K, value: O
     let _stood = entries.insert(key, value);
 }
 
-// Takes the entries without a value away, of those that changed.
-fn sweep<K: Sharded, V: Drop>(entries: &mut Shards<K, Option<V>>, log: &[(K, Option<V>)])
+// Takes the entries without a value away, of those that changed, and answers what it read ahead,
+// added up. Without `all` it looks at those changes alone before which a value stood.
+fn sweep_all<K: Sharded, V: Drop>(
+    entries: &mut Shards<K, Option<V>>,
+    log: &[(K, Option<V>)],
+    all: bool,
+) -> u32
     ensures { (q : K) → standing K.cmp entries.new q ≡ standing K.cmp entries.old q }
 {
-    for (key, _) in log {
-        if is_gone(entries, key) {
-            entries.remove(key);
+    let mut sum = 0u32;
+    for changes in log.chunks(BATCH) {
+        sum = sum.wrapping_add(read_ahead(entries, changes, all));
+        sweep(entries, changes, all);
+    }
+    sum
+}
+
+// Reads what leads to the entries of some changes, and then a little of these entries, so that the
+// processor fetches them side by side.
+fn read_ahead<K: Sharded, V>(
+    entries: &Shards<K, Option<V>>,
+    changes: &[(K, Option<V>)],
+    all: bool,
+) -> u32 {
+    let mut sum = 0u32;
+    for (key, stood) in changes {
+        if all || stood.is_some() {
+            sum = sum.wrapping_add(entries.glance(key));
         }
+    }
+    for (key, stood) in changes {
+        if all || stood.is_some() {
+            sum = sum.wrapping_add(u32::from(glance_value(entries, key)));
+        }
+    }
+    sum
+}
+
+// Whether the entry that may be that of a key has a value. A little of its key is read too.
+fn glance_value<K: Sharded, V>(entries: &Shards<K, Option<V>>, key: &K) -> bool {
+    match entries.candidate(key) {
+        Some((other, value)) => other.tag() == key.tag() && value.is_some(),
+        None => false,
+    }
+}
+
+// Takes the entries without a value away, of some that changed.
+fn sweep<K: Sharded, V: Drop>(
+    entries: &mut Shards<K, Option<V>>,
+    changes: &[(K, Option<V>)],
+    all: bool,
+)
+    ensures { (q : K) → standing K.cmp entries.new q ≡ standing K.cmp entries.old q }
+{
+    for (key, stood) in changes {
+        if all || stood.is_some() {
+            take_empty(entries, key);
+        }
+    }
+}
+
+// Takes the entry at a key away, if there is one and it has no value.
+fn take_empty<K: Sharded, V: Drop>(entries: &mut Shards<K, Option<V>>, key: &K)
+    ensures { (q : K) → standing K.cmp entries.new q ≡ standing K.cmp entries.old q }
+{
+    if is_gone(entries, key) {
+        entries.remove(key);
     }
 }
 

@@ -119,3 +119,16 @@ fn what_a_thousand_keys_lost_stays_lost(rt: HostRuntime) {
     map.cancel();
     assert!(rt; has(&map, 998, None) && has(&map, 999, Some(9_990)));
 }
+
+#[test]
+fn nothing_put_where_nothing_was_stays_nothing(rt: HostRuntime) {
+    let mut map = two(&rt, rt.alloc());
+    map.put(3, None).expect(&rt, "memory");
+    assert!(rt; has(&map, 3, None) && has_changed(&rt, &map, &[(3, None)]));
+    map.begin();
+    assert!(rt; has(&map, 3, None) && has(&map, 2, Some(20)) && has_changed(&rt, &map, &[]));
+    map.put(3, Some(30)).expect(&rt, "memory");
+    assert!(rt; has(&map, 3, Some(30)) && !map.glance_value(&3));
+    map.cancel();
+    assert!(rt; has(&map, 3, None) && has(&map, 2, Some(20)));
+}
