@@ -5,6 +5,7 @@
 //! them still at hand when they are asked for.
 
 use crate::holders::Holders;
+use ox_allocation::Balances;
 use ox_block::{OutPoint, Tx, TxIn, Txid};
 use ox_rules::MovedTx;
 
@@ -56,4 +57,37 @@ fn read_entries(holders: &Holders, txs: &[Tx]) -> u32 {
         }
     }
     sum
+}
+
+/// About how many of these outputs hold something: what leads to their entries is read, and then
+/// the entries that may be theirs. It is a hint, and takes entries with the tags of others for
+/// theirs.
+pub(crate) fn count_now(holders: &Holders, changes: &[(OutPoint, Option<&Balances>)]) -> usize {
+    let mut lists = 0usize;
+    for (at, _) in changes {
+        lists = lists.wrapping_add(usize::from(holders.glance(at) != 0));
+    }
+    let mut entries = 0usize;
+    for (at, _) in changes {
+        entries = entries.wrapping_add(usize::from(holders.glance_value(at)));
+    }
+    // where there is no list there is no entry; to ask for both leaves no reading out
+    lists.min(entries)
+}
+
+/// How many of these outputs held something, for which a little of that is read.
+pub(crate) fn count_then(changes: &[(OutPoint, Option<&Balances>)]) -> usize {
+    let mut count = 0usize;
+    for (_, then) in changes {
+        count = count.wrapping_add(usize::from(holds(*then)));
+    }
+    count
+}
+
+// Whether there are runes.
+fn holds(balances: Option<&Balances>) -> bool {
+    match balances {
+        Some(balances) => !balances.is_empty(),
+        None => false,
+    }
 }

@@ -1,7 +1,7 @@
 //! What outputs hold, with a mark.
 
 ghost use Rattle.std.specs.Prelude.{◌≡◌, ◌≢◌, ◌+◌, ◌^◌, ◌<◌, ◌↔◌, ◌++◌, ℕ};
-ghost use Rattle.std.specs.Prelude.{[], IsTrue, IsSome, None, OnOk, OnErr, IfOk};
+ghost use Rattle.std.specs.Prelude.{◌≤◌, length, [], IsTrue, IsSome, None, OnOk, OnErr, IfOk};
 ghost use Rattle.std.specs.FinMap as map;
 ghost use Rattle.std.specs.Option.{option_copied, option_map, IfSome};
 ghost use Rattle.ox_rules.specs.Differences.{Differ};
@@ -13,12 +13,16 @@ ghost use Rattle.ox_ledger.specs.Runes.{balances_at, brought_by, joined_with, wi
 ghost use Rattle.ox_ledger.specs.Shown.{held_in, held_then};
 ghost use Rattle.ox_ledger.specs.Steps.{HoldAmounts};
 
+use crate::ahead::{count_now, count_then};
 use ox_allocation::{Balances, Pool};
 use ox_block::{OutPoint, TxIn, Txid};
 use ox_bytes::{List, Memory};
 use ox_marked::Marked;
 use ox_runestone::RuneId;
 use std::alloc::Global;
+
+// What so many changed outputs held and hold is read ahead at a time.
+const BATCH: usize = 32;
 
 /// The runes of an output that is made.
 pub type Placement = (OutPoint, Balances);
@@ -170,11 +174,11 @@ fn is_same(one: Option<&Balances>, other: Option<&Balances>) -> bool
 /// Appends what an output holds, once more, if it holds anything.
 fn push_copy(
     alloc: Global,
-    list: &mut List<Placement>,
+    list: &mut Vec<Placement>,
     at: OutPoint,
     balances: Option<&Balances>,
 ) -> Result<(), Memory>
-    ensures { OnOk result (list.new ≡ list.old
+    ensures { OnOk result (list.new.items ≡ list.old.items
         ++ as_list (option_map (λ b. (at, b)) (option_copied balances.entry))) }
 {
     if let Some(balances) = balances {
@@ -186,16 +190,16 @@ fn push_copy(
 /// Appends what an output holds, if another state has not the same there.
 fn push_gone(
     alloc: Global,
-    list: &mut List<Placement>,
+    list: &mut Vec<Placement>,
     at: OutPoint,
     balances: Option<&Balances>,
     other: Option<&Balances>,
 ) -> Result<(), Memory>
     ensures differs { option_copied balances.entry ≢ option_copied other.entry
-        → OnOk result (list.new ≡ list.old
+        → OnOk result (list.new.items ≡ list.old.items
         ++ as_list (option_map (λ b. (at, b)) (option_copied balances.entry))) }
     ensures same { option_copied balances.entry ≡ option_copied other.entry
-        → OnOk result (list.new ≡ list.old) }
+        → OnOk result (list.new.items ≡ list.old.items) }
 {
     if is_same(balances, other) {
         return Ok(());
@@ -210,13 +214,40 @@ pub(crate) fn changed(alloc: Global, holders: &Holders) -> Result<Exchange, Memo
         Differ then (held_in holders.now)
         (record { gone = exchange.gone; came = exchange.came }))) }
 {
-    let mut gone = List::new(alloc);
-    let mut came = List::new(alloc);
+    let mut gone = Vec::new(alloc);
+    let mut came = Vec::new(alloc);
     let changes = holders.changed()?;
-    for (at, then) in &changes {
-        let now = holders.get(at);
-        push_gone(alloc, &mut gone, *at, *then, now)?;
-        push_gone(alloc, &mut came, *at, now, *then)?;
+    for (place, change) in changes.iter().enumerate() {
+        make_room(holders, &changes, place, &mut gone, &mut came)?;
+        let (at, then) = *change;
+        let now = holders.get(&at);
+        push_gone(alloc, &mut gone, at, then, now)?;
+        push_gone(alloc, &mut came, at, now, then)?;
     }
-    Ok(Exchange { gone, came })
+    Ok(Exchange {
+        gone: List::from_vec(gone),
+        came: List::from_vec(came),
+    })
+}
+
+/// At the first of each batch of changes it takes room for what will be gone and what will have
+/// come by them, about, for which what outputs held and hold is read ahead.
+fn make_room(
+    holders: &Holders,
+    changes: &[(OutPoint, Option<&Balances>)],
+    place: usize,
+    gone: &mut Vec<Placement>,
+    came: &mut Vec<Placement>,
+) -> Result<(), Memory>
+    requires { place ≤ length changes.now }
+    ensures gone { gone.new.items ≡ gone.old.items }
+    ensures came { came.new.items ≡ came.old.items }
+{
+    if place % BATCH == 0 {
+        let left = &changes[place..];
+        let batch = &left[..left.len().min(BATCH)];
+        gone.reserve(count_then(batch))?;
+        came.reserve(count_now(holders, batch))?;
+    }
+    Ok(())
 }
