@@ -5,11 +5,12 @@
 
 makes a chain of as many blocks as the number says (4,000 without a word), each of which but the first two has 100
 transactions that reveal an inscription of 60 bytes and 100 that spend an output with a balance into two, by a runestone
-with an edict. The programs run in turn, three times, over the first tenth of it, over all but the last tenth, and over
-all; it prints, of the runs that took least, blocks a second of processor time, those of the last tenth beside those of
-the first, and the memory that an inscription and a balance take: a chain of half as many blocks is folded with and
-without envelopes, and with and without runestones. Nothing here is proved. Build both programs first, as bench/README.md
-says.
+with an edict. The programs run in turn, three times, over the first tenth of it and over all; it prints, of the runs that
+took least, blocks a second of processor time. Then each is given the first tenth, what is between, and the last tenth,
+three times in turn, and the processor time that it has had is read before and behind each: it prints the least time of
+the last tenth beside that of the first. At last it prints the memory that an inscription and a balance take: a chain of
+half as many blocks is folded with and without envelopes, and with and without runestones. Nothing here is proved. Build
+both programs first, as bench/README.md says.
 """
 
 import pathlib
@@ -18,7 +19,8 @@ import sys
 import tempfile
 
 from blocks import SUBSIDY, block, coinbase, connect, key, push, runestone, tx
-from runs import in_another_process, least, plain_program, proved_program, write_part
+from runs import RUNS, in_another_process, least, plain_program, proved_program, write_part
+from undo import Child, lines_of
 
 PROGRAMS = {"ox": proved_program("ox_main"), "plain": plain_program("index")}
 EACH = 100
@@ -94,6 +96,22 @@ def commands(folder):
     return {"ox": [PROGRAMS["ox"], folder, "fold", "regtest"], "plain": [PROGRAMS["plain"]]}
 
 
+def tell_tenths(folder, whole, ends):
+    """What the last tenth of a chain takes beside the first."""
+    tenth, most = len(ends) // 10, len(ends)
+    taken = {name: [] for name in commands(folder)}
+    for _ in range(RUNS):
+        for name, words in commands(folder).items():
+            child = Child(words)
+            first = child.give(lines_of(whole, ends, 0, tenth), tenth)
+            child.give(lines_of(whole, ends, tenth, most - tenth), most - 2 * tenth)
+            taken[name].append((first, child.give(lines_of(whole, ends, most - tenth, most), tenth)))
+            child.end()
+    for name, pairs in taken.items():
+        first, last = (min(column) for column in zip(*pairs))
+        print(f"{name:5}: the last {tenth} blocks take {last / first:.2f} of the time of the first {tenth}", flush=True)
+
+
 def tell_memory(folder, count):
     """What an inscription takes, and a balance."""
     most = {}
@@ -116,18 +134,13 @@ def main():
         folder = pathlib.Path(folder)
         whole, part = folder / "whole", folder / "part"
         ends = in_another_process(write_chain, whole, most)
-        seconds = {}
-        for count in (tenth, most - tenth, most):
+        for count in (tenth, most):
             write_part(whole, part, ends[count - 1])
             rows = least(commands(folder), part, lines=count)
-            seconds[count] = {name: it for name, (it, _) in rows.items()}
-        for count in (tenth, most):
-            for name, it in seconds[count].items():
+            for name, (it, _) in rows.items():
                 print(f"{count:6} blocks, {name:5}: {count / it:8.0f} blocks a second")
-            print(f"       ox to plain: {seconds[count]['plain'] / seconds[count]['ox']:.2f}", flush=True)
-        for name in commands(folder):
-            last = seconds[most][name] - seconds[most - tenth][name]
-            print(f"{name:5}: the last {tenth} blocks take {last / seconds[tenth][name]:.2f} of the time of the first {tenth}")
+            print(f"       ox to plain: {rows['plain'][0] / rows['ox'][0]:.2f}", flush=True)
+        tell_tenths(folder, whole, ends)
         tell_memory(folder, most // 2)
 
 
