@@ -147,8 +147,8 @@ impl Shelf {
         self.rows[n as usize].row()
     }
 
-    /// The rows from a number on, which are shared, not copied. `Memory` where there is none for the
-    /// list of them.
+    /// The rows from a number on, which are shared, not copied. `Memory` where there is none for
+    /// the list of them.
     pub fn rows_from(&self, n: u32) -> Result<List<SharedRow>, Memory>
         requires { n ≤ length self.now.rows }
         ensures { IfOk result (λ rows. rows ≡ drop n self.now.rows) }

@@ -121,8 +121,8 @@ impl<K: Sharded, V> Marked<K, V> {
     }
 
     /// Sets the mark at the map as it is, in place of an earlier one. It takes no memory, and where
-    /// a value was taken out since the earlier mark it costs a look-up or two for each change before
-    /// which a value stood, and else nothing.
+    /// a value was taken out since the earlier mark it costs a look-up or two for each change
+    /// before which a value stood, and else nothing.
     pub fn begin(&mut self)
     where
         V: Drop,
