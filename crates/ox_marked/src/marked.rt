@@ -120,9 +120,10 @@ impl<K: Sharded, V> Marked<K, V> {
         Ok(())
     }
 
-    /// Sets the mark at the map as it is, in place of an earlier one. It takes no memory, and where
-    /// a value was taken out since the earlier mark it costs a look-up or two for each change
-    /// before which a value stood, and else nothing.
+    /// Sets the mark at the map as it is, in place of an earlier one. It takes no memory. Where a
+    /// value was taken out since the earlier mark it costs a look-up or two for each change before
+    /// which a value stood, or for each change at all where a key without an entry was put to
+    /// nothing; else it costs nothing.
     pub fn begin(&mut self)
     where
         V: Drop,
