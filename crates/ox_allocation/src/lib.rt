@@ -13,5 +13,3 @@ mod hands;
 mod laws;
 mod parts;
 mod rune_amounts;
-#[cfg(test)]
-mod tests;

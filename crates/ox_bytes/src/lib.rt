@@ -21,6 +21,3 @@ pub use list::List;
 pub use memory::Memory;
 pub use room::Room;
 pub use writers::{put_compact, put_u32le, put_u64le};
-
-#[cfg(test)]
-mod tests;

@@ -11,6 +11,3 @@ pub use commitment::commits;
 pub use etching::etched;
 pub use minting::minted;
 pub use row::RuneRow;
-
-#[cfg(test)]
-mod tests;

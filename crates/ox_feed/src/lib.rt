@@ -9,6 +9,3 @@ mod piece;
 
 pub use command::{Command, SyntaxFault, command_of};
 pub use lines::{FeedFault, Line, Lines};
-
-#[cfg(test)]
-mod tests;

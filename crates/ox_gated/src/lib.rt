@@ -18,6 +18,3 @@ pub use head::Head;
 pub use open::Opened;
 pub use records::{Record, Records};
 pub use tail::{DiskFault, Tail};
-
-#[cfg(test)]
-mod tests;

@@ -5,6 +5,3 @@ mod marked;
 
 pub use marked::Marked;
 pub use ox_bytes::Memory;
-
-#[cfg(test)]
-mod tests;

@@ -13,6 +13,3 @@ pub use letters::{names_are_one_to_one, write_name};
 pub use reading::{Named, NotName, read_name, reads_back};
 pub use spacers::write_spaced;
 pub use unlock::{commitment, is_reserved, minimum, minimum_never_rises, reserved_name};
-
-#[cfg(test)]
-mod tests;

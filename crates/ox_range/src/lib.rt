@@ -176,6 +176,3 @@ impl Ranges {
         self.runs.as_slice()
     }
 }
-
-#[cfg(test)]
-mod tests;

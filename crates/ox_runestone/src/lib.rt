@@ -16,6 +16,3 @@ pub use payload::is_stone;
 pub use reading::decipher;
 pub use stone::{Artifact, Edict, Edicts, Etching, RuneId, Runestone, Terms};
 pub use writing::{encipher, ids_rise};
-
-#[cfg(test)]
-mod tests;

@@ -21,6 +21,3 @@ pub use heights::{
 pub use names::{names_are_letters, write_name};
 pub use profiles::{Profile, ProfileName, profile_of, profiles_are_told};
 pub use spellings::{NotSat, read_number, read_sat, spellings_read_back};
-
-#[cfg(test)]
-mod tests;

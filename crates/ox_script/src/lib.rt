@@ -9,6 +9,3 @@ mod witness;
 pub use instructions::{Instructions, Item, forms_spell_the_script, instructions_of};
 pub use shape::{is_return, is_taproot};
 pub use witness::tapscript_place;
-
-#[cfg(test)]
-mod tests;

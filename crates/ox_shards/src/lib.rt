@@ -8,6 +8,3 @@ mod shards;
 
 pub use keys::Sharded;
 pub use shards::Shards;
-
-#[cfg(test)]
-mod tests;

@@ -1,4 +1,7 @@
-use super::*;
+//! Lists of satoshis, cut and joined at each place.
+
+use ox_range::Ranges;
+use std::alloc::Global;
 use std::process::Abort;
 
 /// The numbers from `first` on, `count` of them.
@@ -196,15 +199,10 @@ fn is_part_of_comb(list: &Ranges, from: u64, to: u64) -> bool {
     place == to && list.len() == to.saturating_sub(from)
 }
 
-/// Whether the list takes memory of its own just where it has several runs.
-fn is_compact(list: &Ranges) -> bool {
-    matches!(&list.runs, Runs::Many(_)) == (list.runs().len() > 1)
-}
-
 /// Whether a copy of the list has its runs.
-fn is_copied(rt: &impl Abort, list: &Ranges) -> bool {
-    let copy = list.copy(list.alloc).expect(rt, "memory");
-    copy.len() == list.len() && copy.runs() == list.runs() && is_compact(&copy)
+fn is_copied(rt: &impl Abort, alloc: Global, list: &Ranges) -> bool {
+    let copy = list.copy(alloc).expect(rt, "memory");
+    copy.len() == list.len() && copy.runs() == list.runs()
 }
 
 /// Cuts a comb of so many runs at a place, and joins what it was cut into.
@@ -213,17 +211,16 @@ fn is_cut_and_joined(rt: &impl Abort, alloc: Global, count: u64, place: u64) -> 
     let mut list = comb(rt, alloc, 0, count);
     let rest = cut(rt, &mut list, place);
     let right = is_part_of_comb(&list, 0, place) && is_part_of_comb(&rest, place, end);
-    let copied = is_copied(rt, &list) && is_copied(rt, &rest);
-    let compact = is_compact(&rest);
+    let copied = is_copied(rt, alloc, &list) && is_copied(rt, alloc, &rest);
     join(rt, &mut list, &rest);
-    right && copied && compact && is_part_of_comb(&list, 0, end)
+    right && copied && is_part_of_comb(&list, 0, end)
 }
 
 /// Shortens a comb of so many runs to a place, and puts the rest of the run there behind it.
 fn is_shortened_and_joined(rt: &impl Abort, alloc: Global, count: u64, place: u64) -> bool {
     let mut list = comb(rt, alloc, 0, count);
     shorten(rt, &mut list, place);
-    let right = is_part_of_comb(&list, 0, place) && is_copied(rt, &list);
+    let right = is_part_of_comb(&list, 0, place) && is_copied(rt, alloc, &list);
     let first = (place / 10).saturating_mul(100).saturating_add(place % 10);
     join(rt, &mut list, &one(rt, alloc, first, 10 - place % 10));
     right && is_part_of_comb(&list, 0, (place / 10).saturating_add(1).saturating_mul(10))
@@ -233,16 +230,18 @@ fn is_shortened_and_joined(rt: &impl Abort, alloc: Global, count: u64, place: u6
 fn lists_grow_from_no_run_to_three(rt: HostRuntime) {
     let mut list = Ranges::empty(rt.alloc());
     join(&rt, &mut list, &Ranges::empty(rt.alloc()));
-    assert!(rt; has_runs(&list, &[]) && is_copied(&rt, &list));
+    assert!(rt; has_runs(&list, &[]) && is_copied(&rt, rt.alloc(), &list));
     join(&rt, &mut list, &one(&rt, rt.alloc(), 0, 10));
     join(&rt, &mut list, &one(&rt, rt.alloc(), 10, 5));
-    assert!(rt; has_runs(&list, &[(0, 15)]) && is_copied(&rt, &list) && is_compact(&list));
+    assert!(rt; has_runs(&list, &[(0, 15)]) && is_copied(&rt, rt.alloc(), &list));
     join(&rt, &mut list, &one(&rt, rt.alloc(), 100, 10));
     join(&rt, &mut list, &one(&rt, rt.alloc(), 110, 5));
-    assert!(rt; has_runs(&list, &[(0, 15), (100, 115)]) && is_copied(&rt, &list));
+    assert!(rt; has_runs(&list, &[(0, 15), (100, 115)]) && is_copied(&rt, rt.alloc(), &list));
     join(&rt, &mut list, &one(&rt, rt.alloc(), 14, 1));
     join(&rt, &mut list, &Ranges::empty(rt.alloc()));
-    assert!(rt; has_runs(&list, &[(0, 15), (100, 115), (14, 15)]) && is_copied(&rt, &list));
+    assert!(rt;
+        has_runs(&list, &[(0, 15), (100, 115), (14, 15)]) && is_copied(&rt, rt.alloc(), &list)
+    );
 }
 
 #[test]
@@ -259,7 +258,7 @@ fn several_runs_stand_behind_none_one_and_two(rt: HostRuntime) {
 #[test]
 fn long_lists_are_copied_and_joined(rt: HostRuntime) {
     let mut list = comb(&rt, rt.alloc(), 0, 1_000);
-    assert!(rt; is_part_of_comb(&list, 0, 10_000) && is_copied(&rt, &list));
+    assert!(rt; is_part_of_comb(&list, 0, 10_000) && is_copied(&rt, rt.alloc(), &list));
     join(&rt, &mut list, &comb(&rt, rt.alloc(), 99_910, 1_000));
     assert!(rt; list.len() == 20_000 && list.runs().len() == 1_999);
 }
@@ -279,7 +278,7 @@ fn what_is_left_of_several_runs_is_joined(rt: HostRuntime) {
     join(&rt, &mut list, &tail);
     shorten(&rt, &mut tail, 0);
     join(&rt, &mut list, &tail);
-    assert!(rt; has_runs(&list, &[(0, 20)]) && is_compact(&list));
+    assert!(rt; has_runs(&list, &[(0, 20)]));
     join(&rt, &mut tail, &list);
     assert!(rt; has_runs(&tail, &[(0, 20)]));
 }

@@ -1,5 +1,7 @@
-use super::*;
+//! Paths and the routes that they take.
+
 use ox_http::Method;
+use ox_routes::{Found, Route, Routes};
 use std::alloc::Global;
 use std::process::Abort;
 

@@ -1,8 +1,8 @@
 //! What no clause says: that calls succeed where there is ample memory, the spelling of commands,
 //! and lines that come in pieces.
 
-use crate::{Command, Line, Lines, SyntaxFault, command_of};
 use ox_bytes::Bytes;
+use ox_feed::{Command, Line, Lines, SyntaxFault, command_of};
 use ox_memsite::MemSite;
 use std::alloc::Global;
 use std::process::Abort;

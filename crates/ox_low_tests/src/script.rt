@@ -1,6 +1,6 @@
 //! Scripts of Bitcoin's own forms, read item by item.
 
-use crate::{Item, instructions_of, is_return, is_taproot, tapscript_place};
+use ox_script::{Item, instructions_of, is_return, is_taproot, tapscript_place};
 
 /// Whether the script reads as these items, and is cut short where `cut` says so.
 fn reads(script: &[u8], wanted: &[Item<'_>], cut: bool) -> bool {

@@ -1,4 +1,9 @@
-use super::*;
+//! Names of runes at their ends, and amounts.
+
+use ox_name::{
+    Named, NotName, commitment, is_reserved, minimum, read_name, reserved_name, write_amount,
+    write_name, write_spaced,
+};
 
 /// UNCOMMON and GOODS with U+2022 between them.
 const UNCOMMON_GOODS: &[u8; 16] = b"UNCOMMON\xe2\x80\xa2GOODS";

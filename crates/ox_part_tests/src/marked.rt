@@ -1,8 +1,10 @@
+//! A map that goes back to its mark.
+
 ghost use Rattle.std.specs.Prelude.{◌≡◌, IsSome};
 ghost use Rattle.std.specs.Ordering.{nat_cmp};
 ghost use Rattle.ox_marked.specs.Marked.{mark_in};
 
-use super::*;
+use ox_marked::Marked;
 use std::alloc::Global;
 use std::process::Abort;
 

@@ -1,7 +1,7 @@
 //! Expected values: the forms of compact sizes are those of Bitcoin's serialization, written by
 //! hand.
 
-use super::*;
+use ox_bytes::{Bytes, CompactFault, Cursor, Room, put_compact, put_u32le, put_u64le};
 use std::alloc::Global;
 use std::process::Abort;
 

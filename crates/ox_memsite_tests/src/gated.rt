@@ -1,6 +1,7 @@
-// What no clause says: that the calls succeed where there is ample memory, and the bytes of an
-// empty store.
-use crate::{GateFault, Head, Opened, Tail, checkpoint_of, frame, frame_parts};
+//! What no clause says: that the calls succeed where there is ample memory, and the bytes of an
+//! empty store.
+
+use ox_gated::{GateFault, Head, Opened, Tail, checkpoint_of, frame, frame_parts};
 use ox_memsite::{Choice, MemSite};
 use ox_outside::Which;
 use std::alloc::Global;

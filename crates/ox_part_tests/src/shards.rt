@@ -1,6 +1,8 @@
-use super::*;
+//! A map over many short lists, with keys of one list and of one tag.
+
 use ox_block::{OutPoint, Txid};
 use ox_envelope::InsId;
+use ox_shards::{Sharded, Shards};
 use std::alloc::Global;
 use std::process::Abort;
 

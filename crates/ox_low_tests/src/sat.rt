@@ -1,6 +1,11 @@
+//! Satoshis by number, height, degree, rarity and name.
+
 ghost use Rattle.ox_sat.specs.Profiles.{IsProfile};
 
-use super::*;
+use ox_sat::{
+    Degree, NotSat, Profile, ProfileName, Rarity, degree_of, first, height_of, profile_of,
+    rarity_of, read_sat, subsidy, write_name,
+};
 
 /// Whether the height mints so many satoshis, the first with this number.
 fn mints(p: &Profile, height: u64, subsidy_there: u64, first_there: u64) -> bool

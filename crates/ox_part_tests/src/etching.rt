@@ -1,8 +1,8 @@
 //! Terms of minting, commitments and etchings at their bounds.
 
-use super::*;
 use ox_block::{Inputs, OutPoint, Outs, Tx, TxIn, Txid, Witness};
 use ox_bytes::Bytes;
+use ox_etching::{RuneRow, commits, etched, minted};
 use ox_range::Ranges;
 use ox_rules::{OutRow, Script, SpentRows};
 use ox_runestone::{Artifact, Edicts, Etching, RuneId, Runestone, Terms, decipher, is_stone};

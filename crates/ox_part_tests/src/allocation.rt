@@ -1,4 +1,6 @@
-use super::*;
+//! How runes are dealt to four outputs.
+
+use ox_allocation::{Allocated, Balances, Pool, allocate};
 use ox_block::{Script, TxOut};
 use ox_runestone::{Edict, RuneId};
 use std::alloc::Global;

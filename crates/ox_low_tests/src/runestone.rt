@@ -1,4 +1,9 @@
-use super::*;
+//! Scripts of the Runes specification, read and written.
+
+use ox_runestone::{
+    Artifact, Edict, Edicts, Etching, RuneId, Runestone, Terms, decipher, encipher, ids_rise,
+    is_stone,
+};
 use std::alloc::Global;
 use std::process::Abort;
 
