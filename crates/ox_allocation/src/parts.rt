@@ -1,7 +1,7 @@
 //! The parts in which an edict deals a rune.
 
-ghost use Rattle.std.specs.Prelude.{◌≡◌, ℕ, suc, ◌^◌, ◌<◌, ◌∷◌, sum};
-ghost use Rattle.ox_allocation.specs.Gifts.{parts_of};
+ghost use Rattle.std.specs.Prelude.{◌≡◌, ℕ, suc, ◌-◌, ◌^◌, ◌<◌, ◌∷◌, sum};
+ghost use Rattle.ox_allocation.specs.Gifts.{even_parts, parts_of};
 ghost use Rattle.ox_allocation.specs.Dealing.{next_parts};
 
 /// The parts in which an edict deals a rune, one after the other.
@@ -21,6 +21,16 @@ pub(crate) enum Parts {
         /// What is left.
         left: u128,
     },
+}
+
+/// The next part of an even split: the share and one more, as long as some are to get one more.
+fn next_even(share: u128, extra: u128) -> u128
+    requires { sum (even_parts share extra 1) < 2 ^ 128 }
+    ensures { (count : ℕ) → even_parts share extra (suc count)
+        ≡ result ∷ even_parts share (extra - 1) count }
+{
+    let more = extra > 0;
+    if more { share + 1 } else { share }
 }
 
 impl Parts {
@@ -49,14 +59,11 @@ impl Parts {
     {
         match *self {
             Parts::Even { share, extra } => {
-                if extra == 0 {
-                    return share;
-                }
                 *self = Parts::Even {
                     share,
-                    extra: extra - 1,
+                    extra: extra.saturating_sub(1),
                 };
-                share + 1
+                next_even(share, extra)
             }
             Parts::Each { amount, left } => {
                 let part = amount.min(left);
