@@ -2,7 +2,7 @@
 
 ghost use Rattle.std.specs.Prelude.{◌≡◌, ◌+◌, ◌^◌, ◌<◌, ◌≤◌, ◌∷◌, [], ◌++◌, length};
 ghost use Rattle.std.specs.Prelude.{take, drop, IfOk, OnOk, OnErr};
-ghost use Rattle.ox_range.specs.Few.{runs_in};
+ghost use Rattle.ox_range.specs.Few.{runs_in, IsCompact};
 ghost use Rattle.ox_range.specs.Runs.{numbers_of, AreMaximal, run_at, end_of, front_of, rest_of};
 
 use crate::few::Runs;
@@ -26,6 +26,8 @@ pub(crate) fn split(
         numbers_of (runs_in rest) ≡ drop place (numbers_of (runs_in runs.old))) }
     ensures front_maximal { AreMaximal (runs_in runs.new) }
     ensures rest_maximal { IfOk result (λ rest. AreMaximal (runs_in rest)) }
+    ensures compact { IsCompact runs.new }
+    ensures rest_compact { IfOk result IsCompact }
     ensures err { OnErr result (runs_in runs.new ≡ runs_in runs.old) }
 {
     match runs {
@@ -35,7 +37,11 @@ pub(crate) fn split(
             *runs = Runs::from_numbers(first, place);
             Ok(Runs::from_numbers(first + place, count - place))
         }
-        Runs::Many(many) => split_many(alloc, many, len, place),
+        Runs::Many(many) => {
+            let rest = split_many(alloc, many, len, place);
+            runs.settle();
+            rest
+        }
     }
 }
 
@@ -46,6 +52,7 @@ pub(crate) fn shorten(runs: &mut Runs, len: u64, place: u64)
     requires within { place ≤ len }
     ensures front { numbers_of (runs_in runs.new) ≡ take place (numbers_of (runs_in runs.old)) }
     ensures maximal { AreMaximal (runs_in runs.new) }
+    ensures compact { IsCompact runs.new }
 {
     match runs {
         Runs::Empty => {}
@@ -53,7 +60,10 @@ pub(crate) fn shorten(runs: &mut Runs, len: u64, place: u64)
             let first = run.first;
             *runs = Runs::from_numbers(first, place);
         }
-        Runs::Many(many) => shorten_many(many, len, place),
+        Runs::Many(many) => {
+            shorten_many(many, len, place);
+            runs.settle();
+        }
     }
 }
 
@@ -68,6 +78,7 @@ fn split_many(alloc: Global, runs: &mut Vec<Run>, len: u64, place: u64) -> Resul
         numbers_of (runs_in rest) ≡ drop place (numbers_of runs.old.items)) }
     ensures front_maximal { AreMaximal runs.new.items }
     ensures rest_maximal { IfOk result (λ rest. AreMaximal (runs_in rest)) }
+    ensures compact { IfOk result IsCompact }
     ensures err { OnErr result (runs.new.items ≡ runs.old.items) }
 {
     let (index, before) = cut_at(runs, len, place);
@@ -131,6 +142,7 @@ fn split_between(alloc: Global, runs: &mut Vec<Run>, index: usize) -> Result<Run
     requires { index ≤ length runs.old.items }
     ensures front { OnOk result (runs.new.items ≡ take index runs.old.items) }
     ensures rest { IfOk result (λ rest. runs_in rest ≡ drop index runs.old.items) }
+    ensures compact { IfOk result IsCompact }
     ensures err { OnErr result (runs.new.items ≡ runs.old.items) }
 {
     let rest = Runs::from_slice(alloc, &runs[index..])?;
@@ -153,6 +165,7 @@ fn split_within(
         take index runs.old.items ++ front_of keep (run_at runs.old.items index) ∷ []) }
     ensures rest { IfOk result (λ rest. runs_in rest ≡
         rest_of keep (run_at runs.old.items index) ∷ drop (index + 1) runs.old.items) }
+    ensures compact { IfOk result IsCompact }
     ensures err { OnErr result (runs.new.items ≡ runs.old.items) }
 {
     let run = runs[index];
@@ -167,7 +180,8 @@ fn split_within(
 
 /// A run, and others behind it. Alone it takes no memory.
 fn run_in_front(alloc: Global, run: Run, behind: &[Run]) -> Result<Runs, AllocError>
-    ensures { IfOk result (λ runs. runs_in runs ≡ run ∷ behind.now) }
+    ensures same { IfOk result (λ runs. runs_in runs ≡ run ∷ behind.now) }
+    ensures compact { IfOk result IsCompact }
 {
     if behind.is_empty() {
         return Ok(Runs::One(run));

@@ -1,7 +1,7 @@
 //! Runs of which there is mostly one.
 
 ghost use Rattle.std.specs.Prelude.{◌≡◌, ◌+◌, ◌^◌, ◌<◌, IfOk};
-ghost use Rattle.ox_range.specs.Few.{runs_in};
+ghost use Rattle.ox_range.specs.Few.{runs_in, IsCompact};
 ghost use Rattle.ox_range.specs.Numbers.{numbers_from};
 ghost use Rattle.ox_range.specs.Runs.{numbers_of, AreMaximal};
 
@@ -16,7 +16,7 @@ pub(crate) enum Runs {
     Empty,
     /// One, in place.
     One(Run),
-    /// In memory of their own: two or more, but for what was cut off behind.
+    /// In memory of their own: two or more, but while they are cut.
     Many(Vec<Run>),
 }
 
@@ -26,6 +26,7 @@ impl Runs {
         requires { first + count < 2 ^ 64 }
         ensures numbers { numbers_of (runs_in result) ≡ numbers_from first count }
         ensures maximal { AreMaximal (runs_in result) }
+        ensures compact { IsCompact result }
     {
         if count == 0 {
             Runs::Empty
@@ -36,7 +37,8 @@ impl Runs {
 
     /// The runs of the slice, copied.
     pub(crate) fn from_slice(alloc: Global, runs: &[Run]) -> Result<Runs, AllocError>
-        ensures { IfOk result (λ copy. runs_in copy ≡ runs.now) }
+        ensures same { IfOk result (λ copy. runs_in copy ≡ runs.now) }
+        ensures compact { IfOk result IsCompact }
     {
         match runs {
             [] => Ok(Runs::Empty),
@@ -47,12 +49,28 @@ impl Runs {
 
     /// The same runs, copied.
     pub(crate) fn copy(&self, alloc: Global) -> Result<Runs, AllocError>
-        ensures { IfOk result (λ copy. runs_in copy ≡ runs_in self.now) }
+        ensures same { IfOk result (λ copy. runs_in copy ≡ runs_in self.now) }
+        ensures compact { IfOk result IsCompact }
     {
         match self {
             Runs::Empty => Ok(Runs::Empty),
             Runs::One(run) => Ok(Runs::One(*run)),
             Runs::Many(runs) => Runs::from_slice(alloc, runs.as_slice()),
+        }
+    }
+
+    /// Keeps one run in place, or none, and lets go of the memory that was taken for it.
+    pub(crate) fn settle(&mut self)
+        ensures same { runs_in self.new ≡ runs_in self.old }
+        ensures compact { IsCompact self.new }
+    {
+        let Runs::Many(runs) = self else {
+            return;
+        };
+        match runs.as_slice() {
+            [] => *self = Runs::Empty,
+            [run] => *self = Runs::One(*run),
+            _ => {}
         }
     }
 

@@ -1,8 +1,8 @@
 //! How runs are put behind others.
 
-ghost use Rattle.std.specs.Prelude.{◌≡◌, ◌+◌, ◌-◌, ◌^◌, ◌<◌, ◌↔◌, ◌∷◌, [], ◌++◌, length};
+ghost use Rattle.std.specs.Prelude.{◌≡◌, ◌+◌, ◌-◌, ◌^◌, ◌<◌, ◌≤◌, ◌↔◌, ◌∷◌, [], ◌++◌, length};
 ghost use Rattle.std.specs.Prelude.{IsTrue, OnOk, OnErr};
-ghost use Rattle.ox_range.specs.Few.{runs_in};
+ghost use Rattle.ox_range.specs.Few.{runs_in, IsCompact};
 ghost use Rattle.ox_range.specs.Runs.{numbers_of, AreMaximal, run_at, GoesOn, Joins};
 
 use crate::few::Runs;
@@ -20,6 +20,7 @@ pub(crate) fn append(alloc: Global, runs: &mut Runs, tail: &[Run]) -> Result<(),
     ensures numbers { OnOk result (numbers_of (runs_in runs.new) ≡
         numbers_of (runs_in runs.old) ++ numbers_of tail.now) }
     ensures maximal { AreMaximal (runs_in runs.new) }
+    ensures compact { IsCompact runs.old → IsCompact runs.new }
     ensures err { OnErr result (runs_in runs.new ≡ runs_in runs.old) }
 {
     match tail {
@@ -38,6 +39,7 @@ fn append_one(alloc: Global, runs: &mut Runs, next: Run) -> Result<(), AllocErro
     ensures numbers { OnOk result (numbers_of (runs_in runs.new) ≡
         numbers_of (runs_in runs.old) ++ numbers_of (next ∷ [])) }
     ensures maximal { AreMaximal (runs_in runs.new) }
+    ensures compact { IsCompact runs.old → IsCompact runs.new }
     ensures err { OnErr result (runs_in runs.new ≡ runs_in runs.old) }
 {
     match runs {
@@ -62,11 +64,13 @@ fn append_one(alloc: Global, runs: &mut Runs, next: Run) -> Result<(), AllocErro
 fn append_many(alloc: Global, runs: &mut Runs, tail: &[Run]) -> Result<(), AllocError>
     requires maximal { AreMaximal (runs_in runs.old) }
     requires tail { AreMaximal tail.now }
+    requires several { 1 < length tail.now }
     requires fits { length (numbers_of (runs_in runs.old))
         + length (numbers_of tail.now) < 2 ^ 64 }
     ensures numbers { OnOk result (numbers_of (runs_in runs.new) ≡
         numbers_of (runs_in runs.old) ++ numbers_of tail.now) }
     ensures maximal { AreMaximal (runs_in runs.new) }
+    ensures compact { IsCompact runs.old → IsCompact runs.new }
     ensures err { OnErr result (runs_in runs.new ≡ runs_in runs.old) }
 {
     match runs {
@@ -95,6 +99,7 @@ fn push_run(runs: &mut Vec<Run>, next: Run) -> Result<(), AllocError>
     ensures numbers { OnOk result (
         numbers_of runs.new.items ≡ numbers_of runs.old.items ++ numbers_of (next ∷ [])) }
     ensures maximal { AreMaximal runs.new.items }
+    ensures length { length runs.old.items ≤ length runs.new.items }
     ensures err { OnErr result (runs.new.items ≡ runs.old.items) }
 {
     if goes_on(runs, slice::from_ref(&next)) {
@@ -114,6 +119,8 @@ fn extend_runs(runs: &mut Vec<Run>, tail: &[Run]) -> Result<(), AllocError>
     ensures numbers { OnOk result (
         numbers_of runs.new.items ≡ numbers_of runs.old.items ++ numbers_of tail.now) }
     ensures maximal { AreMaximal runs.new.items }
+    ensures length { OnOk result (length runs.old.items + length tail.now
+        ≤ length runs.new.items + 1) }
     ensures err { OnErr result (runs.new.items ≡ runs.old.items) }
 {
     if goes_on(runs, tail) {

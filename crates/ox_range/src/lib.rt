@@ -26,8 +26,8 @@ mod runs;
 pub use ox_bytes::Memory;
 pub use runs::{Run, runs_are_determined, runs_have_their_numbers};
 
-/// A list of satoshi numbers, kept as its maximal runs of consecutive numbers. One run takes no
-/// memory of its own.
+/// A list of satoshi numbers, kept as its maximal runs of consecutive numbers. Only several runs
+/// take memory of their own.
 #[derive(Debug)]
 pub struct Ranges {
     alloc: Global,
@@ -48,14 +48,14 @@ impl Drop for Ranges {
 
 impl Model for Ranges {
     ghost use Rattle.std.specs.Prelude.{ℕ, List};
-    ghost use Rattle.ox_range.specs.Few.{runs_in};
-    ghost use Rattle.ox_range.specs.Runs.{numbers_of, AreRunsOf};
+    ghost use Rattle.ox_range.specs.Few.{runs_in, IsKept};
+    ghost use Rattle.ox_range.specs.Runs.{numbers_of};
 
     ghost Value = { List ℕ };
 
     ghost view = { λ r. numbers_of (runs_in r.runs) };
 
-    ghost invariant = { λ r. AreRunsOf (runs_in r.runs) r.len };
+    ghost invariant = { λ r. IsKept r.runs r.len };
 }
 
 impl Ranges {

@@ -4,7 +4,10 @@ use Rattle.ox_range.proofs.Ranges.one.Goals as goal
 
 pub invariant_of-result : goal.invariant_of-result
 invariant_of-result c = record {
-  maximal = c.from_numbers.ensures.maximal;
-  len = ap length c.from_numbers.ensures.numbers ∙ length-numbers_from c.args.first c.args.count;
-  fits = omega (arith, c.requires);
+  are_runs = record {
+    maximal = c.from_numbers.ensures.maximal;
+    len = ap length c.from_numbers.ensures.numbers ∙ length-numbers_from c.args.first c.args.count;
+    fits = omega (arith, c.requires);
+  };
+  compact = c.from_numbers.ensures.compact;
 }

@@ -6,4 +6,4 @@ use Rattle.ox_range.proofs.Ranges.runs.Goals as goal
 
 pub returns-clause-exact : goal.returns-clause-exact
 returns-clause-exact c =
-    c.as_slice.ensures ∙ sym (runs_of-numbers_of (runs_in c.self.inside.runs) c.self.invariant.maximal) ∙ ap runs_of c.self.view_is
+    c.as_slice.ensures ∙ sym (runs_of-numbers_of (runs_in c.self.inside.runs) c.self.invariant.are_runs.maximal) ∙ ap runs_of c.self.view_is

@@ -29,9 +29,9 @@ returns-then-run-next-clause-maximal c =
     joined_maximal (c.in-One.run' ∷ []) (c.args.next ∷ []) (rw c.in-One.is at c.requires.maximal) c.requires.next on
 
 pub returns-in_ok-two-in-One-clause-numbers : goal.returns-in_ok-two-in-One-clause-numbers
-returns-in_ok-two-in-One-clause-numbers c = rw (c.in_ok-two-in-One.ensures, c.in-One.is) (numbers-append (c.in-One.run' ∷ []) (c.args.next ∷ []))
+returns-in_ok-two-in-One-clause-numbers c = rw (c.in_ok-two-in-One.ensures.same, c.in-One.is) (numbers-append (c.in-One.run' ∷ []) (c.args.next ∷ []))
 
 pub returns-in_ok-two-in-One-clause-maximal : goal.returns-in_ok-two-in-One-clause-maximal
 returns-in_ok-two-in-One-clause-maximal c =
     let apart : ¬ GoesOn (c.in-One.run' ∷ []) (c.args.next ∷ []) = λ on. c.if-run-next.false on.meets in
-    rw c.in_ok-two-in-One.ensures (append_maximal (c.in-One.run' ∷ []) (c.args.next ∷ []) (rw c.in-One.is at c.requires.maximal) c.requires.next apart)
+    rw c.in_ok-two-in-One.ensures.same (append_maximal (c.in-One.run' ∷ []) (c.args.next ∷ []) (rw c.in-One.is at c.requires.maximal) c.requires.next apart)
