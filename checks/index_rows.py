@@ -4,9 +4,11 @@
     checks/index_rows.py
 
 It makes blocks by docs/FORMATS.md and writes down what indexes have to hold after them, with Python's standard library
-alone. What is looked up of inscriptions and runes, as the first with an id, it looks up in these lists by itself.
+alone. What is looked up of inscriptions and runes, as the first with an id, it looks up in these lists by itself. The rows
+that ask a chain, as requests do, are those of checks/query_rows.py.
 """
 
+import query_rows
 from chain import SHORT, SUBSIDY, block_of, coinbase_to, envelope, id_value, transaction, twice
 from real_files import RESERVED
 from rows import Rows, carry, etch, hash_text, id_of, inscription, outpoint, plain, reveal, spend
@@ -974,9 +976,12 @@ GROUPS += [etch_and_mint_at_once, runes_both_ways, several_runes, behind_an_anne
 
 
 def main():
-    rows = Indexes()
+    rows, asking = Indexes(), query_rows.Queries()
     for group in GROUPS:
         group(rows)
+    for group in query_rows.GROUPS:
+        group(asking)
+    rows.rows += asking.rows
     rows.write("ox_index_rows")
 
 
