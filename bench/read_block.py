@@ -55,9 +55,9 @@ def seconds(program, times, feed):
 
 def both_roots(shown):
     """The roots that `ox_block_rows` shows, one over the other bit by bit, as the plain program shows them."""
-    roots = [bytes.fromhex(line.split()[-1]) for line in shown.splitlines() if line.startswith(("  root ", "  witness root "))]
-    # the second line says whether the root is the header's
-    return bytes(one ^ other for one, other in zip(roots[0], roots[-1])).hex()
+    named = (line.rsplit(" ", 1) for line in shown.splitlines())
+    one, other = (bytes.fromhex(value) for name, value in named if name.strip() in ("root", "witness root"))
+    return bytes(byte ^ over for byte, over in zip(one, other)).hex()
 
 
 def main():
