@@ -3,7 +3,7 @@
 
     python3 bench/allocation.py
 
-has crates/ox_allocation_speed deal a pool of 1,000 runes to 10 outputs, by edicts to one output and to all, and gather
+has crates/ox_speed deal a pool of 1,000 runes to 10 outputs, by edicts to one output and to all, and gather
 pools in a scattered order, each also at ten times the size, so that growth shows. Build both first, as bench/README.md
 says.
 """
@@ -12,7 +12,7 @@ import resource
 import subprocess
 
 TOP = pathlib.Path(__file__).resolve().parent.parent
-PROVED = TOP / "crates" / "ox_allocation_speed" / "out" / "ox_allocation_speed"
+PROVED = TOP / "crates" / "ox_speed" / "out" / "ox_speed"
 PLAIN = TOP / "bench" / "plain" / "allocation" / "target" / "release" / "allocation"
 TIMES = 20
 

@@ -3,7 +3,7 @@
 
     python3 bench/decipher_runestones.py
 
-has crates/ox_runestone_speed decipher many edicts and many tags, each also at ten times the size, so that growth shows.
+has crates/ox_speed decipher many edicts and many tags, each also at ten times the size, so that growth shows.
 Build it first, as bench/README.md says.
 """
 import pathlib
@@ -12,7 +12,7 @@ import subprocess
 import time
 
 TOP = pathlib.Path(__file__).resolve().parent.parent
-PROGRAM = TOP / "crates" / "ox_runestone_speed" / "out" / "ox_runestone_speed"
+PROGRAM = TOP / "crates" / "ox_speed" / "out" / "ox_speed"
 
 
 def varint(n):
@@ -45,7 +45,7 @@ def main():
         took = {}
         for times in (0, 10):
             start = time.perf_counter()
-            answer = subprocess.run([PROGRAM, str(times)], input=data, stdout=subprocess.PIPE, check=True).stdout
+            answer = subprocess.run([PROGRAM, "stone", str(times)], input=data, stdout=subprocess.PIPE, check=True).stdout
             took[times] = time.perf_counter() - start
         seconds = (took[10] - took[0]) / 10
         print(f"{count:,} {name}, {len(data):,} bytes: {len(integers) / seconds / 1e6:.1f} million integers a second; {answer.decode().strip()}")

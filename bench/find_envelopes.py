@@ -3,26 +3,28 @@
 
     python3 bench/find_envelopes.py
 
-has crates/ox_envelope_speed go over scripts of 3,990,000 bytes, and over a tenth of each, so that growth shows. Build it
+has crates/ox_block_rows go over scripts of 3,990,000 bytes, and over a tenth of each, so that growth shows. Build it
 first, as bench/README.md says.
 """
-import pathlib
+
 import subprocess
 import time
 
-TOP = pathlib.Path(__file__).resolve().parent.parent
-PROGRAM = TOP / "crates" / "ox_envelope_speed" / "out" / "ox_envelope_speed"
+from runs import proved_program
+
+PROGRAM = proved_program("ox_block_rows")
 TIMES = 10
 
 
-def seconds(script, words):
-    """Seconds of one time over the script, and the line that was shown."""
+def seconds(word, script):
+    """Seconds of one time over a script that is spelled so, and the line that was shown."""
     took = {}
-    for times in (0, TIMES):
+    for times in (1, 1 + TIMES):
         start = time.perf_counter()
-        answer = subprocess.run([PROGRAM, str(times), *words], input=script, stdout=subprocess.PIPE, check=True).stdout
+        row = f"{word} {script}\n".encode()
+        answer = subprocess.run([PROGRAM, str(times)], input=row, stdout=subprocess.PIPE, check=True).stdout
         took[times] = time.perf_counter() - start
-    return (took[TIMES] - took[0]) / TIMES, answer.decode().strip()
+    return (took[1 + TIMES] - took[1]) / TIMES, answer.decode().strip()
 
 
 def main():
@@ -35,10 +37,12 @@ def main():
         ("one opening, then empty pushes", opening, b"\0"),
     ):
         for size in (399_000, 3_990_000):
-            script = head + part * ((size - len(head)) // len(part))
-            scan, items = seconds(script, ["items"])
-            search, found = seconds(script, [])
-            print(f"{name}, {len(script):,} bytes: {items}, scan {scan * 1e3:.1f} ms; {found}, search {search * 1e3:.1f} ms")
+            count = (size - len(head)) // len(part)
+            script = f"{count} {head.hex() or '-'} {part.hex()} -"
+            scan, items = seconds("items", script)
+            search, found = seconds("envelopes", script)
+            length = len(head) + count * len(part)
+            print(f"{name}, {length:,} bytes: {items}, scan {scan * 1e3:.1f} ms; {found}, search {search * 1e3:.1f} ms")
 
 
 main()

@@ -3,23 +3,80 @@
 
     python3 bench/inscriptions.py
 
-has crates/ox_inscribe_speed append 100,000 and 1,000,000 rows, look each up by its id, its satoshi, the next one and its
+has crates/ox_speed append 100,000 and 1,000,000 rows, look each up by its id, its satoshi, the next one and its
 children, and, over as many rows, set a mark, append 1,000 rows and go back; the plain program does the last with ordered
 maps too. Then it has a block reveal what one transaction of 2,000 and of 20,000 inputs has: nine envelopes with pointers
 for each two inputs, or five parents for each two. It prints the processor time of the runs that took least of three,
 and the memory that a row takes. Build both programs first, as bench/README.md says.
 """
-from runs import least, plain_program, proved_program
 
-PROGRAMS = {"proved": proved_program("ox_inscribe_speed"), "plain": plain_program("inscriptions")}
+import pathlib
+import struct
+import tempfile
+
+from blocks import SUBSIDY, coinbase, put, size, tx
+from runs import in_another_process, least, plain_program, proved_program
+
+PROGRAMS = {"proved": proved_program("ox_speed"), "plain": plain_program("inscriptions")}
 LOOKS = 1
 MARKS = 500
 REVEALS = 10
+# an output of any kind, and an envelope's opening and end
+SCRIPT = b"\x51"
+OPENING, END = b"\0\x63\3ord", b"\x68"
+
+
+def scattered(number, end):
+    """A number below an end in a scattered order."""
+    return number * 0x9E3779B97F4A7C15 % 2**64 % end
+
+
+def pointers(place):
+    """The envelopes of the input at a place: nine for each two inputs, each with a pointer of eight bytes."""
+    numbers = range(place * 9 // 2, (place + 1) * 9 // 2)
+    return b"".join(OPENING + b"\1\2\x08" + struct.pack("<Q", scattered(number, SUBSIDY)) + END for number in numbers)
+
+
+def parents(count):
+    """An envelope that names so many earlier inscriptions, whose ids come in a scattered order."""
+    ids = (struct.pack(">I", number * 0x9E3779B1 % 2**32) + bytes(32) for number in range(count))
+    return OPENING + b"".join(b"\1\3\x24" + id_ for id_ in ids) + END
+
+
+def scripts_of(kind, inputs):
+    """The tapscripts of the inputs: with pointers, or with the last one's parents alone."""
+    if kind == "pointers":
+        return [pointers(place) for place in range(inputs)]
+    return [b""] * (inputs - 1) + [parents(inputs // 2 * 5)]
+
+
+def block_of(txs):
+    """A block whose header isn't looked at."""
+    return bytes(80) + size(len(txs)) + b"".join(txs)
+
+
+def write_blocks(path, kind, inputs):
+    """A block whose coinbase has so many outputs, and one whose transaction spends them in a scattered order, reveals what
+    this kind has, and keeps half of the satoshis. Each stands behind its length."""
+    minted, txid = coinbase(0, [(SUBSIDY // inputs, SCRIPT)] * inputs)
+    bare, _ = tx([(txid, place * 7_919 % inputs) for place in range(inputs)], [(SUBSIDY // 2, SCRIPT)])
+    stacks = (b"\2" + size(len(script)) + script + b"\1\xc0" for script in scripts_of(kind, inputs))
+    whole = bare[:4] + b"\0\1" + bare[4:-4] + b"".join(stacks) + bare[-4:]
+    with open(path, "wb") as feed:
+        put(feed, block_of([minted]))
+        put(feed, block_of([coinbase(1, [(0, SCRIPT)])[0], whole]))
 
 
 def measure(kind, count, times, programs=PROGRAMS):
     """The seconds and the memory of each program."""
     return least({name: [program, kind, str(count), str(times)] for name, program in programs.items()})
+
+
+def measure_reveals(kind, inputs, feed, times):
+    """The same over blocks. The plain program makes its transaction itself."""
+    earlier = 0 if kind == "pointers" else inputs // 2 * 5
+    words = {"proved": ["reveal", str(earlier)], "plain": [kind, str(inputs)]}
+    return least({name: [program, *words[name], str(times)] for name, program in PROGRAMS.items()}, feed)
 
 
 def tell(what, unit, proved, plain):
@@ -35,7 +92,10 @@ def time_ordered_maps(count):
 
 def reveals(kind, what, each):
     for inputs in (2_000, 20_000):
-        made, revealed = measure(kind, inputs, 0), measure(kind, inputs, REVEALS)
+        with tempfile.TemporaryDirectory() as folder:
+            feed = pathlib.Path(folder) / "blocks"
+            in_another_process(write_blocks, feed, kind, inputs)
+            made, revealed = (measure_reveals(kind, inputs, feed, times) for times in (0, REVEALS))
         tell(f"{inputs:,} inputs, {inputs // 2 * each:,} {what}", "milliseconds",
              *((revealed[name][0] - made[name][0]) / REVEALS * 1e3 for name in PROGRAMS))
 
@@ -57,4 +117,5 @@ def main():
     reveals("parents", "parents", 5)
 
 
-main()
+if __name__ == "__main__":
+    main()

@@ -6,11 +6,12 @@
 makes blocks, each of which spends the coinbase before it into 20,000 outputs, until there are as many outputs as each
 number says (20,000, 200,000 and 2,000,000 without a word): an inscription and a balance of one of 20 runes stand on every
 tenth of them. A last block reveals eight inscriptions of 390,000 bytes. Of each route but `/runes`, whose bodies are only
-compared, it makes paths that name something chosen at random; satoshis are the first ones of outputs, so that a tenth of them bear an inscription. `ox_query_speed` and
-the plain program run in turn, three times, over the blocks alone and with the paths; it prints, of the runs that took
-least, replies a second of processor time (of contents megabytes), without that of the blocks. The plain program routes by
-`matchit` and makes a body by `serde_json`: as structs that are written at once, and as a tree of values first.
-Nothing here is proved. Build both programs first, as bench/README.md says.
+compared, it makes paths that name something chosen at random; satoshis are the first ones of outputs, so that a tenth of
+them bear an inscription. `ox_index_rows` and the plain program run in turn, three times; each shows the reply to each path
+once, and then replies to all of them again and again, or doesn't. It prints, of the runs that took least, replies a second
+of the processor time that the others took (of contents megabytes). The plain program routes by `matchit` and makes a body
+by `serde_json`: as structs that are written at once, and as a tree of values first. Nothing here is proved. Build both
+programs first, as bench/README.md says.
 """
 
 import pathlib
@@ -18,11 +19,11 @@ import random
 import sys
 import tempfile
 
-from blocks import SUBSIDY, block, coinbase, key, push, pushes, put, runestone, tx
+from blocks import SUBSIDY, block, coinbase, key, push, pushes, runestone, tx
 from runs import in_another_process, least, plain_program, proved_program, run
 
-OX, PLAIN = proved_program("ox_query_speed"), plain_program("query")
-PROGRAMS = {"ox": [OX, "count"], "structs": [PLAIN, "structs"], "tree": [PLAIN, "tree"]}
+OX, PLAIN = proved_program("ox_index_rows"), plain_program("query")
+PROGRAMS = {"ox": [OX], "structs": [PLAIN, "structs"], "tree": [PLAIN, "tree"]}
 EACH = 20_000
 TENTH = 10
 RUNES = 20
@@ -31,6 +32,8 @@ AMOUNT = 1_234_500
 RESERVED = 6_402_364_363_415_443_603_228_541_259_936_211_926
 CONTENTS, CONTENT = 8, 390_000
 CONTENT_ROUTE = "content"
+# the paths of a route are replied so often, behind the first time
+TIMES = 100
 # how many replies of each route are timed: so many that they take longer than the blocks, where that can be
 REPLIES = {
     "status": 2_000_000,
@@ -88,17 +91,18 @@ def large(chance, origin):
 
 
 def write_blocks(path, count):
-    """Blocks, each with its length before it, and then a length of 0; so many of them have outputs. Answers the ids of their
-    transactions, and that of the one with large contents."""
+    """The rows of a chain's blocks, of which so many have outputs. Answers the ids of their transactions, and that of the one
+    with large contents."""
     chance, tip, ids = random.Random(5), bytes(32), []
     with open(path, "wb") as feed:
+        feed.write(b"chain regtest 1\n")
 
         def put_block(height, *txs, parts=1):
             """Puts a block of a coinbase and these transactions. Answers the coinbase's id."""
             nonlocal tip
             first = coinbase(height, [(SUBSIDY // parts, key(chance)) for _ in range(parts)])
             body, tip = block(tip, height, [first, *txs])
-            put(feed, body)
+            feed.write(b"block " + body.hex().encode() + b"\n")
             return first[1]
 
         first = put_block(0, parts=RUNES)
@@ -109,12 +113,11 @@ def write_blocks(path, count):
             ids.append(body[1])
         body = large(chance, (before, 0))
         put_block(2 + count, body)
-        feed.write(bytes(4))
     return ids, body[1]
 
 
 def paths_of(route, ids, contents, count):
-    """So many paths of a route, a line each."""
+    """Rows that ask for so many paths of a route."""
     chance = random.Random(7)
     blocks = len(ids)
 
@@ -137,25 +140,30 @@ def paths_of(route, ids, contents, count):
         "audit": lambda: "/audit",
         "content": lambda: f"/content/{contents[::-1].hex()}i{chance.randrange(CONTENTS)}",
     }[route]
-    return "".join(one() + "\n" for _ in range(count)).encode()
+    return "".join(f"GET {one()}\n" for _ in range(count)).encode()
 
 
-def compare_bodies(blocks, ids, contents, folder):
+def compare_replies(blocks, ids, contents, folder):
     """Ends where the programs don't say the same."""
     feed = folder / "few"
     few = b"".join(paths_of(route, ids, contents, 3 if route == CONTENT_ROUTE else 50) for route in REPLIES)
-    wrong = b"/\n/sat/-1\n/connect\n/output/0\n/rune/99:1\n/inscription/i0\n/runes/0\n/runes/1\n/inscriptions/99999\n"
-    feed.write_bytes(blocks.read_bytes() + few + wrong)
-    if run([OX, "show"], feed)[2] != run([PLAIN, "show"], feed)[2]:
-        sys.exit("the bodies differ")
+    wrong = ("/", "/sat/-1", "/connect", "/output/0", "/rune/99:1", "/inscription/i0", "/runes/0", "/runes/1", "/inscriptions/99999")
+    feed.write_bytes(blocks.read_bytes() + few + "".join(f"GET {path}\n" for path in wrong).encode())
+    if len({run(words, feed)[2] for words in PROGRAMS.values()}) != 1:
+        sys.exit("the replies differ")
 
 
-def tell(route, outputs, replies, base, with_paths):
-    seconds = {name: with_paths[name][0] - base[name][0] for name in PROGRAMS}
+def measure(feed, times):
+    """The least seconds and memory of each program, which replies so often to each path."""
+    return least({name: [*words, str(times)] for name, words in PROGRAMS.items()}, feed)
+
+
+def tell(route, outputs, replies, base, often):
+    seconds = {name: often[name][0] - base[name][0] for name in PROGRAMS}
     unit, each = ("MB", CONTENT / 1e6) if route == CONTENT_ROUTE else ("replies", 1)
     rates = ", ".join(f"{name} {each * replies / it:,.0f}" for name, it in seconds.items())
     ratios = ", ".join(f"to {name} {seconds[name] / seconds['ox']:.2f}" for name in ("structs", "tree"))
-    took = ", ".join(f"{seconds[name]:.2f} of {with_paths[name][0]:.2f} s" for name in PROGRAMS)
+    took = ", ".join(f"{seconds[name]:.2f} of {often[name][0]:.2f} s" for name in PROGRAMS)
     print(f"{outputs:9,} outputs, /{route}: {rates} {unit} a second; ox {ratios} ({took})", flush=True)
 
 
@@ -166,11 +174,10 @@ def main():
         blocks, feed = folder / "blocks", folder / "feed"
         for outputs in [int(word) for word in words] or [20_000, 200_000, 2_000_000]:
             ids, contents = in_another_process(write_blocks, blocks, outputs // EACH)
-            compare_bodies(blocks, ids, contents, folder)
-            base = least(PROGRAMS, blocks)
+            compare_replies(blocks, ids, contents, folder)
             for route, replies in REPLIES.items():
-                feed.write_bytes(blocks.read_bytes() + paths_of(route, ids, contents, replies))
-                tell(route, outputs, replies, base, least(PROGRAMS, feed))
+                feed.write_bytes(blocks.read_bytes() + paths_of(route, ids, contents, replies // TIMES))
+                tell(route, outputs, replies, measure(feed, 1), measure(feed, 1 + TIMES))
 
 
 if __name__ == "__main__":

@@ -3,21 +3,18 @@
 
     python3 bench/read_block.py [TIMES]
 
-has crates/ox_block_speed and bench/plain/read_block read a block of 2,000 transactions with witnesses so many times (20
-without a word), hash each transaction both ways and make both roots, and prints megabytes a second. Build both first, as
-bench/README.md says.
+has crates/ox_block_rows and bench/plain/read_block read a block of 2,000 transactions with witnesses so many times (20
+without a word), hash each transaction both ways and make both roots, and prints megabytes a second. What each program
+takes to do it once isn't counted. Build both first, as bench/README.md says.
 """
-import pathlib
+
 import random
 import struct
 import subprocess
 import sys
 import time
 
-
-TOP = pathlib.Path(__file__).resolve().parent.parent
-PROGRAM = TOP / "crates" / "ox_block_speed" / "out" / "ox_block_speed"
-PLAIN = TOP / "bench" / "plain" / "read_block" / "target" / "release" / "read_block"
+from runs import plain_program, proved_program
 
 
 def size(n):
@@ -49,18 +46,33 @@ def block(count):
     return out
 
 
+def seconds(program, times, feed):
+    """The seconds of a run, and what was shown."""
+    start = time.perf_counter()
+    done = subprocess.run([program, str(times)], input=feed, stdout=subprocess.PIPE, check=True)
+    return time.perf_counter() - start, done.stdout.decode()
+
+
+def both_roots(shown):
+    """The roots that `ox_block_rows` shows, one over the other bit by bit, as the plain program shows them."""
+    named = (line.rsplit(" ", 1) for line in shown.splitlines())
+    one, other = (bytes.fromhex(value) for name, value in named if name.strip() in ("root", "witness root"))
+    return bytes(byte ^ over for byte, over in zip(one, other)).hex()
+
+
 def main():
-    times = sys.argv[1] if len(sys.argv) > 1 else "20"
+    times = int(sys.argv[1]) if len(sys.argv) > 1 else 20
     data = block(2000)
     print(f"a block of {len(data):,} bytes, 2,000 transactions with witnesses, {times} times")
-    answers = []
-    for name, path in (("ox_block", PROGRAM), ("plain Rust", PLAIN)):
-        start = time.perf_counter()
-        done = subprocess.run([path, times], input=data, stdout=subprocess.PIPE, check=True)
-        seconds = time.perf_counter() - start
-        answers.append(done.stdout)
-        print(f"{name}: {len(data) * int(times) / seconds / 1e6:.1f} MB a second")
-    print("the same answer" if answers[0] == answers[1] else "DIFFERENT ANSWERS")
+    feeds = {"ox_block_rows": f"block 0 {data.hex()} - -\n".encode(), "plain Rust": data}
+    programs = {"ox_block_rows": proved_program("ox_block_rows"), "plain Rust": plain_program("read_block")}
+    answers = {}
+    for name, program in programs.items():
+        once, _ = seconds(program, 1, feeds[name])
+        often, answers[name] = seconds(program, 1 + times, feeds[name])
+        print(f"{name}: {len(data) * times / (often - once) / 1e6:.1f} MB a second")
+    same = both_roots(answers["ox_block_rows"]) == answers["plain Rust"].strip()
+    print("the same answer" if same else "DIFFERENT ANSWERS")
 
 
 main()

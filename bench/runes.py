@@ -6,7 +6,7 @@
 makes etchings whose premine goes to 10,000 outputs each until as many outputs hold runes as each number says (100,000 and
 1,000,000 without a word), and then a block of 2,000 transactions that each spend one of those: all with a runestone that
 gives a part to another output, all with a cenotaph, or without either; a block of 2,000 transactions that spend none of
-them; and one of an etching whose tapscript has 3,900,000 pushes. `ox_ledger_speed` and the plain program run in turn,
+them; and one of an etching whose tapscript has 3,900,000 pushes. `ox_speed` and the plain program run in turn,
 three times; each does the block and takes it back, as often as it is told. It prints the processor time of a block and of
 a look-up, and the memory that an output with runes takes. Nothing here is proved. Build both programs first, as
 bench/README.md says.
@@ -20,7 +20,7 @@ import tempfile
 from blocks import coinbase, key, put, runestone, size, tx
 from runs import in_another_process, least, plain_program, proved_program
 
-PROGRAMS = {"ox": proved_program("ox_ledger_speed"), "plain": plain_program("runes")}
+PROGRAMS = {"ox": [proved_program("ox_speed"), "runes"], "plain": [plain_program("runes")]}
 EACH = 10_000
 IN_A_BLOCK = 10
 LEAST_BLOCKS = 8
@@ -96,7 +96,7 @@ def write_feeds(folder, outputs):
 
 def measure(feed, times, looks):
     """The seconds and memory of each program."""
-    return least({name: [program, str(times), str(looks)] for name, program in PROGRAMS.items()}, feed)
+    return least({name: [*words, str(times), str(looks)] for name, words in PROGRAMS.items()}, feed)
 
 
 def tell(what, unit, values):

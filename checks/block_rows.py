@@ -5,11 +5,15 @@
 
 It reads and hashes blocks by Bitcoin's serialization and BIP 141 and 144 on its own, with Python's standard library
 alone, and knows blocks that others made: the genesis block of the main chain, and two whose bytes, ids and roots were
-made with Debian's python3-bitcoinlib 0.11.2, which it asserts first.
+made with Debian's python3-bitcoinlib 0.11.2, which it asserts first. The rows about scripts are those of
+checks/envelope_rows.py.
 """
+
 import hashlib
 import pathlib
 import struct
+
+import envelope_rows
 
 CRATE = pathlib.Path(__file__).resolve().parents[1] / "crates" / "ox_block_rows"
 COINS = 21_000_000 * 10 ** 8
@@ -244,6 +248,9 @@ def main():
     two = known_blocks()[1]
     stdin.append(f"fronts {two.hex()}")
     stdout.append("".join(" " + answer(two[:length])[0].removeprefix("fault at ") for length in range(len(two))))
+    for row in envelope_rows.rows():
+        stdin.append(row)
+        stdout += envelope_rows.answer(row)
     (CRATE / "stdin").write_text("".join(line + "\n" for line in stdin))
     (CRATE / "stdout").write_text("".join(line + "\n" for line in stdout))
 

@@ -64,9 +64,10 @@ def id_value(txid, index):
     return txid + bytes([index] if index else [])
 
 
-def transaction(inputs, outputs, script=b""):
+def transaction(inputs, outputs, script=b"", annex=b""):
     """A transaction of inputs, each a transaction's id, an index and a tapscript that is empty for none, and of outputs, each
-    a value and a script: the bytes without witnesses and with them. Each input has this script."""
+    a value and a script: the bytes without witnesses and with them. Each input has this script, and behind each tapscript
+    stands this annex, if there is one."""
     sources = [txid + index.to_bytes(4, "little") + compact(len(script)) + script + bytes(4) for txid, index, _ in inputs]
     targets = [value.to_bytes(8, "little") + compact(len(to)) + to for value, to in outputs]
     body = compact(len(sources)) + b"".join(sources) + compact(len(targets)) + b"".join(targets)
@@ -74,7 +75,8 @@ def transaction(inputs, outputs, script=b""):
     bare = version + body + lock
     if not any(tapscript for _, _, tapscript in inputs):
         return bare, bare
-    stacks = [b"\2" + compact(len(part)) + part + b"\1\xc0" if part else b"\0" for _, _, part in inputs]
+    last = compact(len(annex)) + annex if annex else b""
+    stacks = [bytes([3 if annex else 2]) + compact(len(part)) + part + b"\1\xc0" + last if part else b"\0" for _, _, part in inputs]
     return bare, version + b"\0\1" + body + b"".join(stacks) + lock
 
 

@@ -1,15 +1,11 @@
-#!/usr/bin/env python3
-"""Makes the rows of crates/ox_envelope_rows and what has to be printed for them:
-
-    checks/envelope_rows.py
+"""The rows of crates/ox_block_rows about scripts, field values and ids, and what has to be printed for them.
 
 It reads scripts by the Ordinal Theory Handbook ("Inscriptions", "Fields", "Provenance", "Delegate"), on its own: item
 by item into a list, and then by slices of that list.
 """
-import pathlib
+
 import re
 
-CRATE = pathlib.Path(__file__).resolve().parents[1] / "crates" / "ox_envelope_rows"
 OPEN = "0063036f7264"
 TXID = "".join(f"{byte:02x}" for byte in range(31, -1, -1))
 PRINTED = "".join(f"{byte:02x}" for byte in range(32))
@@ -100,8 +96,14 @@ def envelope_line(pushes, number):
     return line + " delegate " + ((id_of(of(11)[0]) if of(11) else None) or "none")
 
 
-def script_lines(times, head, part, tail):
-    script = bytes.fromhex(head.replace("-", "")) + times * bytes.fromhex(part.replace("-", "")) + bytes.fromhex(tail.replace("-", ""))
+def bytes_from(words):
+    """The bytes that a row's words spell: how often the part stands, the head, the part and the tail."""
+    times, *parts = words.split(" ")
+    head, part, tail = (bytes.fromhex(word.replace("-", "")) for word in parts)
+    return head + int(times) * part + tail
+
+
+def script_lines(script):
     found = envelopes(script)
     yield f"{len(found)} envelopes"
     for pushes, number in found:
@@ -145,6 +147,12 @@ def rows():
     yield f"script 750 {OPEN}0101017400 4d0802{26 * b'01234567890123456789'.hex()} 68"
     yield f"script 100 - {OPEN}0101017400016168 51"
     yield f"script 100 - {OPEN}0101017400016168 4c"
+    # the same by their numbers alone, with an envelope without a body in front of a hundred
+    for word in ("items", "envelopes"):
+        yield f"{word} 750 {OPEN}0101017400 4d0802{26 * b'01234567890123456789'.hex()} 68"
+        yield f"{word} 100 {OPEN}0101017468 {OPEN}0101017400016168 51"
+        yield f"{word} 100 - {OPEN}0101017400016168 4c"
+        yield f"{word} 0 - - -"
     for index in ("", "01", "ff", "0001", "010203", "01020304", "01000000", "00000000", "00", "0100", "010000", "0102030405"):
         yield f"value {TXID}{index}"
     yield from ("value -", f"value {TXID[:62]}")
@@ -154,20 +162,18 @@ def rows():
 
 
 def answer(row):
+    """The lines that have to be printed for a row."""
     word, rest = row.split(" ", 1)
     if word == "script":
-        times, head, part, tail = rest.split(" ")
-        return list(script_lines(int(times), head, part, tail))
+        return list(script_lines(bytes_from(rest)))
+    if word == "items":
+        # where a push is cut the items end before it
+        return [f"{sum(item is not None for item in items(bytes_from(rest)))} items"]
+    if word == "envelopes":
+        found = [pushes for pushes, _ in envelopes(bytes_from(rest))]
+        # an empty push in a tag's place begins a body
+        return [f"{len(found)} envelopes, {sum(b'' in pushes[::2] for pushes in found)} with a body"]
     if word == "value":
         return [" " + (id_of(bytes.fromhex(rest.replace("-", ""))) or "none")]
     is_id = re.fullmatch(r"[0-9a-f]{64}i(0|[1-9][0-9]*)", rest) and int(rest[65:]) < 2 ** 32
     return [" " + (rest if is_id else "none")]
-
-
-def main():
-    all_rows = list(rows())
-    (CRATE / "stdin").write_text("".join(row + "\n" for row in all_rows))
-    (CRATE / "stdout").write_text("".join(line + "\n" for row in all_rows for line in answer(row)))
-
-
-main()

@@ -14,8 +14,8 @@ call of one number. Build both programs first: `rt run` in crates/ox_main, and `
   be answered by the others and to leave the files as they should be.
 - crates/ox_index_rows/out/ox_index_rows over rows that connect blocks, take them back and lead both ways, each followed by
   a dump of the whole index: one run for each allocation, which fails. Where a row finds no memory it has to say so, and the
-  index has to be as before; the same row then has to do as it does with all memory. Only where the rows themselves can't be
-  read the run may end at once, and has to print nothing.
+  index has to be as before; the same row then has to do as it does with all memory. Only where the rows can't be read, or
+  the routes of requests not made, the run may end at once, and has to print nothing.
 
 The last line says how many runs there were. The status is 1 at the first that isn't as it should be.
 """

@@ -4,10 +4,12 @@
     checks/index_rows.py
 
 It makes blocks by docs/FORMATS.md and writes down what indexes have to hold after them, with Python's standard library
-alone. What is looked up of inscriptions and runes, as the first with an id, it looks up in these lists by itself.
+alone. What is looked up of inscriptions and runes, as the first with an id, it looks up in these lists by itself. The rows
+that ask a chain, as requests do, are those of checks/query_rows.py.
 """
 
-from chain import SHORT, SUBSIDY, block_of, coinbase_to, envelope, transaction, twice
+import query_rows
+from chain import SHORT, SUBSIDY, block_of, coinbase_to, envelope, id_value, transaction, twice
 from real_files import RESERVED
 from rows import Rows, carry, etch, hash_text, id_of, inscription, outpoint, plain, reveal, spend
 
@@ -184,6 +186,14 @@ def satoshis(rows):
     rows.connects(plain(7))
     where = [sat(0, lost_place(0)), sat(SUBSIDY + 1, place(plain(7), 1))]
     rows.dump(Held(SUBSIDY), at(plain(7), 0, runs(1, (SUBSIDY, SUBSIDY))), *where)
+    rows.live("displaced satoshis are lost before those that a coinbase leaves", "regtest")
+    rows.plain(2)
+    spends = transaction([spend(plain(1))], [(4_000_000_000, SHORT)])
+    rows.connects(plain(0), spends)
+    where = [sat(0, lost_place(0)), sat(SUBSIDY - 1, lost_place(SUBSIDY - 1)), sat(9_000_000_000, lost_place(SUBSIDY))]
+    where += [sat(9_999_999_999, lost_place(5_999_999_999)), sat(2 * SUBSIDY, place(plain(0), 0))]
+    dealt = [at(plain(0), 0, runs(2, (2 * SUBSIDY, SUBSIDY))), at(spends, 0, runs(2, (SUBSIDY, 4_000_000_000)))]
+    rows.dump(Held(6_000_000_000), *dealt, at(plain(1), 0, "none"), *where)
 
 
 def refusals(rows):
@@ -198,6 +208,23 @@ def refusals(rows):
     rows.refuses("refused 9 1 5000000000 5000000001", plain(1), transaction([spend(plain(0))], [(SUBSIDY + 1, SHORT)]))
     rows.refuses("refused 10 5000000000 5000000001", coinbase_to(1, [(SUBSIDY + 1, SHORT)]))
     rows.dump(Held(), *looks, sat(3, place(plain(0), 3)))
+    rows.live("an output that isn't there is told before what is spent too much: one named twice, and one that never was", "regtest")
+    rows.plain(1)
+    for index, left in ((0, [(SUBSIDY, SHORT)]), (1, [(SUBSIDY, SHORT), (1, SHORT)])):
+        names_it = transaction([spend(plain(0)), spend(plain(0), index)], [(4 * SUBSIDY, SHORT)])
+        behind = transaction([spend(plain(0))], left)
+        rows.refuses(f"refused 8 1 1 {outpoint(plain(0), index)}", plain(1), names_it, behind)
+        rows.dump(Held(), at(plain(0), 0, runs(0, (0, SUBSIDY))), at(names_it, 0, "none"), sat(3, place(plain(0), 3)))
+    rows.live("what a transaction has too much is told before what a coinbase has too much", "regtest")
+    rows.plain(1)
+    greedy = transaction([spend(plain(0))], [(SUBSIDY, SHORT), (1, SHORT)])
+    rows.refuses("refused 9 1 5000000000 5000000001", coinbase_to(1, [(4 * SUBSIDY, SHORT)]), greedy)
+    rows.dump(Held(), at(plain(0), 0, runs(0, (0, SUBSIDY))), at(greedy, 0, "none"), sat(3, place(plain(0), 3)))
+    rows.live("a coinbase has no more than the subsidy and the fees", "regtest")
+    rows.plain(1)
+    thrifty = transaction([spend(plain(0))], [(1, SHORT)])
+    rows.refuses("refused 10 9999999999 10000000000", coinbase_to(1, [(2 * SUBSIDY, SHORT)]), thrifty)
+    rows.dump(Held(), at(plain(0), 0, runs(0, (0, SUBSIDY))), at(thrifty, 0, "none"), sat(3, place(plain(0), 3)))
     rows.live("coinbases stand first and alone: one with two inputs, a second one, and an index that isn't the greatest", "regtest")
     null, named = (bytes(32), 2**32 - 1, b""), (bytes(32), 0, b"")
     lines = ("refused 7 0", "refused 7 1", f"refused 8 1 0 {64 * '0'}:0")
@@ -589,15 +616,372 @@ def words_alone(rows):
     rows.row(f"look height=0 height=1 height=2 {word}", *hashes, "  height 2: none", line(Held()))
 
 
+# Blocks that lead both ways: by their change, and by a chain that takes them back.
+
+
+def sides(before, after, *looks):
+    """What an index holds and what is looked up in it, before a block and after it. A look is one before and one after."""
+    return (before, [look for look, _ in looks]), (after, [look for _, look in looks])
+
+
+def at_both(tx, index, before, after):
+    """The output of a transaction, before a block and after it."""
+    return at(tx, index, before), at(tx, index, after)
+
+
+def leads_by_its_change(rows, what, make, profile="lab"):
+    """A block is taken in, back, in again and back by its change. `make` puts the blocks before it, and answers what there is
+    before it, what there is after it, and its transactions."""
+    rows.live(f"{what}: taken in, back, in again and back", profile)
+    before, after, txs = make(rows)
+    rows.both(before, after, *txs)
+    rows.dump(before[0], *before[1])
+
+
+def leads_in_a_chain(rows, what, make, profile="lab"):
+    """A block is connected, taken back, and connected and taken back once more."""
+    rows.chain(f"{what}: connected and taken back, twice", 100, profile)
+    before, after, txs = make(rows)
+    height = len(rows.tips)
+    rows.dump(before[0], *before[1], kept=height)
+    for _ in range(2):
+        rows.connects(*txs)
+        rows.dump(after[0], *after[1], kept=height + 1)
+        rows.disconnects()
+        rows.dump(before[0], *before[1], kept=height)
+
+
+def leads(rows, what, make, profile="lab"):
+    leads_by_its_change(rows, what, make, profile)
+    leads_in_a_chain(rows, what, make, profile)
+
+
+# a mint of 3:1, alone, with what makes a cenotaph, and with an edict that gives 4 of it to output 1
+MINTS = "6a5d0414031401"
+MINTS_AND_BURNS = "6a5d06140314017e00"
+MINTS_AND_GIVES = "6a5d09140314010003010401"
+RETURN = b"\x6a"
+
+
+def etched_by(tx, **counts):
+    """The rune that a transaction etched by ETCHES at 3:1."""
+    return Rune(3, 1, id_of(tx), 7, gives=5, terms=FROM_ETCHES, **counts)
+
+
+def etch_and_mint_at_once(rows):
+    rows.live("a rune isn't minted where it is etched, and below the height at which runes start none is read")
+    rows.plain(1)
+    # etches as ETCHES does, and mints 3:1
+    stone = "6a5d0c02030607080a0a0514031401"
+    early = carry(plain(0), stone)
+    rows.extend(early)
+    rows.dump(Held(), at(early, 0, runs(1, (0, SUBSIDY))), look_up("rune=1:1", None), look_up("rune=3:1", None))
+    rows.plain(3)
+    tx = carry(early, stone)
+    rows.extend(tx)
+    whole = at(tx, 0, runs(3, (0, SUBSIDY), runes="3:1=7"))
+    rows.dump(Held(0, [], [etched_by(tx)]), whole, look_up("rune=1:1", None), look_up("rune=3:1", 0))
+
+
+def return_alone(rows):
+    """No output can hold the runes. Before that one behind an OP_RETURN gets them, without a runestone."""
+    etches = etch(rows, ETCHES)
+    passes = transaction([spend(etches)], [(0, RETURN), (SUBSIDY, SHORT)])
+    rows.extend(passes)
+    burning = transaction([spend(passes, 1)], [(SUBSIDY, RETURN)])
+    looks = [at_both(passes, 0, *2 * [runs(4, script=RETURN)])]
+    looks.append(at_both(passes, 1, runs(4, (0, SUBSIDY), runes="3:1=7"), "none"))
+    looks.append(at_both(burning, 0, "none", runs(5, (0, SUBSIDY), script=RETURN)))
+    before, after = sides(Held(0, [], [etched_by(etches)]), Held(0, [], [etched_by(etches, burned=7)]), *looks)
+    return before, after, [plain(5), burning]
+
+
+def spent_by(etches, outputs, looks, lost=0, **counts):
+    """A block of height 4 that spends what ETCHES etched into these outputs, of which these looks tell before and after."""
+    tx = transaction([spend(etches)], outputs)
+    spent = at_both(etches, 0, runs(3, (0, SUBSIDY), runes="3:1=7"), "none")
+    made = [at_both(tx, index, "none", after) for index, after in enumerate(looks)]
+    held = Held(0, [], [etched_by(etches)]), Held(lost, [], [etched_by(etches, **counts)])
+    return *sides(*held, spent, *made, 2 * (look_up("rune=3:1", 0),)), [plain(4), tx]
+
+
+def two_stones(rows):
+    etches = etch(rows, ETCHES)
+    stones = [(0, bytes.fromhex(stone)) for stone in (MINTS, MINTS_AND_BURNS)]
+    looks = [runs(4, (0, SUBSIDY), runes="3:1=12"), *(runs(4, script=script) for _, script in stones)]
+    return spent_by(etches, [(SUBSIDY, SHORT), *stones], looks, mints=1)
+
+
+def mint_and_give(rows):
+    etches, stone = etch(rows, ETCHES), bytes.fromhex(MINTS_AND_GIVES)
+    looks = [runs(4, (0, 1), runes="3:1=8"), runs(4, (1, SUBSIDY - 1), runes="3:1=4"), runs(4, script=stone)]
+    return spent_by(etches, [(1, SHORT), (SUBSIDY - 1, SHORT), (0, stone)], looks, mints=1)
+
+
+def mint_and_burn(rows):
+    etches, stone = etch(rows, ETCHES), bytes.fromhex(MINTS_AND_BURNS)
+    looks = [runs(4, (0, SUBSIDY)), runs(4, script=stone)]
+    return spent_by(etches, [(SUBSIDY, SHORT), (0, stone)], looks, mints=1, burned=12)
+
+
+def mint_without_inputs(rows):
+    """A cenotaph's mint is burned, also where its inputs bring nothing."""
+    etches, tx = etch(rows, ETCHES), carry(plain(1), MINTS_AND_BURNS)
+    looks = [at_both(etches, 0, *2 * [runs(3, (0, SUBSIDY), runes="3:1=7")])]
+    looks += [at_both(tx, 0, "none", runs(4, (SUBSIDY, SUBSIDY)))]
+    before, after = sides(Held(0, [], [etched_by(etches)]), Held(0, [], [etched_by(etches, mints=1, burned=5)]), *looks)
+    return before, after, [plain(4), tx]
+
+
+def mint_by_a_coinbase(rows):
+    etches = etch(rows, ETCHES)
+    paid = coinbase_to(4, [(SUBSIDY, SHORT), (0, bytes.fromhex(MINTS))])
+    looks = [at_both(etches, 0, *2 * [runs(3, (0, SUBSIDY), runes="3:1=7")])]
+    looks.append(at_both(paid, 0, "none", runs(4, (4 * SUBSIDY, SUBSIDY), runes="3:1=5")))
+    before, after = sides(Held(0, [], [etched_by(etches)]), Held(0, [], [etched_by(etches, mints=1)]), *looks)
+    return before, after, [paid]
+
+
+def etch_by_a_coinbase(rows):
+    """The first transaction mints what the coinbase etches."""
+    rows.plain(3)
+    mints = carry(plain(0), "6a5d0414031400")
+    etches = coinbase_to(3, [(SUBSIDY, SHORT), (0, bytes.fromhex(ETCHES))])
+    rune = Rune(3, 0, id_of(etches), 7, mints=1, gives=5, terms=FROM_ETCHES)
+    looks = [at_both(mints, 0, "none", runs(3, (0, SUBSIDY), runes="3:0=5"))]
+    looks.append(at_both(etches, 0, "none", runs(3, (3 * SUBSIDY, SUBSIDY), runes="3:0=7")))
+    for word in ("rune=3:0", f"name={RESERVED + (3 << 32)}"):
+        looks.append((look_up(word, None), look_up(word, 0)))
+    return *sides(Held(), Held(0, [], [rune]), *looks), [etches, mints]
+
+
+def a_thousand_outputs(rows):
+    etches = etch(rows, "6a5d05020106e807")
+    # an edict that splits all of 3:1 among the outputs of a transaction of 1,001
+    stone = bytes.fromhex("6a5d0600030100e907")
+    tx = transaction([spend(etches)], [(1, SHORT)] * 1_000 + [(0, stone)])
+    looks = [at_both(etches, 0, runs(3, (0, SUBSIDY), runes="3:1=1000"), "none")]
+    for index in (0, 1, 2, 499, 500, 998, 999):
+        looks.append(at_both(tx, index, "none", runs(4, (index, 1), runes="3:1=1")))
+    looks.append(at_both(tx, 1_000, "none", runs(4, script=stone)))
+    rune = Rune(3, 1, id_of(etches), 1_000)
+    return *sides(Held(0, [], [rune]), Held(SUBSIDY - 1_000, [], [rune]), *looks), [plain(4), tx]
+
+
+def five_again(rows):
+    """The first block of a regtest chain, a coinbase that etches a premine of 5; and what is looked up of it, before and
+    after an equal one."""
+    five = coinbase_to(3, [(SUBSIDY, SHORT), (0, bytes.fromhex("6a5d0402010605"))])
+    rows.connects(five)
+    looks = [at_both(five, 0, runs(0, (0, SUBSIDY), runes="0:0=5"), runs(1, (SUBSIDY, SUBSIDY), runes="1:0=5"))]
+    looks.append((look_up("rune=1:0", None), look_up("rune=1:0", 1)))
+    return five, looks
+
+
+def made_again(rows):
+    five, looks = five_again(rows)
+    runes = [Rune(0, 0, id_of(five), 5, burned=5), Rune(1, 0, id_of(five), 5)]
+    return *sides(Held(0, [], [Rune(0, 0, id_of(five), 5)]), Held(SUBSIDY, [], runes), *looks), [five]
+
+
+def spent_and_made_again(rows):
+    """A transaction spends the output of the coinbase before, which its block's coinbase makes again."""
+    five, looks = five_again(rows)
+    tx = reveal(five)
+    looks.append(at_both(tx, 0, "none", runs(1, (0, SUBSIDY), runes="0:0=5")))
+    runes = [Rune(height, 0, id_of(five), 5) for height in (0, 1)]
+    return *sides(Held(0, [], runes[:1]), Held(0, [], runes), *looks), [five, tx]
+
+
+def displaced_by_nothing(rows):
+    """A coinbase mints what can be minted once, and an equal one comes after it, which mints nothing."""
+    etches = etch(rows, "6a5d080203060708010a05")
+    paid = coinbase_to(9, [(SUBSIDY, SHORT), (0, bytes.fromhex(MINTS))])
+    rows.connects(paid)
+    both = (Rune(3, 1, id_of(etches), 7, mints=1, gives=5, terms=terms(5, 1), burned=burned) for burned in (0, 5))
+    before, after = (Held(lost, [], [rune]) for lost, rune in zip((0, SUBSIDY), both))
+    of_both = runs(4, (4 * SUBSIDY, SUBSIDY), runes="3:1=5"), runs(5, (5 * SUBSIDY, SUBSIDY))
+    looks = [at_both(paid, 0, *of_both), at_both(etches, 0, *2 * [runs(3, (0, SUBSIDY), runes="3:1=7")])]
+    return *sides(before, after, *looks), [paid]
+
+
+def etch_and_move(rows):
+    full = Full(rows)
+    return full.before(), full.after(), [plain(4), full.all]
+
+
+def runes_both_ways(rows):
+    leads(rows, "outputs with OP_RETURN alone burn", return_alone)
+    leads(rows, "the first of two runestones counts", two_stones)
+    leads(rows, "a mint with an edict", mint_and_give)
+    leads(rows, "a cenotaph burns its mint and its inputs' runes", mint_and_burn)
+    leads(rows, "a cenotaph burns its mint alone", mint_without_inputs)
+    leads(rows, "a coinbase mints", mint_by_a_coinbase)
+    leads(rows, "a coinbase etches what its block mints", etch_by_a_coinbase)
+    leads(rows, "a thousand outputs hold runes", a_thousand_outputs)
+    leads(rows, "an output is made again with other runes", made_again, "regtest")
+    leads(rows, "an output is spent and made again with other runes", spent_and_made_again, "regtest")
+    leads(rows, "an output that is made again burns what stood there, though nothing comes", displaced_by_nothing)
+    leads_in_a_chain(rows, "a block reveals, etches and moves runes", etch_and_move)
+
+
+def etch_in_a_row(rows, count):
+    """So many blocks from height 3 on, each of which etches a premine of 10 in the transaction that spends the output
+    before. The runes, and the last transaction."""
+    tx = etch(rows, TEN)
+    runes = [Rune(3, 1, id_of(tx), 10)]
+    for height in range(4, 3 + count):
+        tx = carry(tx, TEN)
+        rows.extend(tx)
+        runes.append(Rune(height, 1, id_of(tx), 10))
+    return runes, tx
+
+
+def amounts_of(runes):
+    return " ".join(f"{rune.id}=10" for rune in runes)
+
+
+def third_rune(rows):
+    """An output that holds two runes is spent into one that holds three."""
+    runes, tx = etch_in_a_row(rows, 2)
+    etches = carry(tx, TEN)
+    both = [*runes, Rune(5, 1, id_of(etches), 10)]
+    looks = [at_both(tx, 0, runs(4, (0, SUBSIDY), runes=amounts_of(runes)), "none")]
+    looks.append(at_both(etches, 0, "none", runs(5, (0, SUBSIDY), runes=amounts_of(both))))
+    return *sides(Held(0, [], runes), Held(0, [], both), *looks), [plain(5), etches]
+
+
+def three_runes_burn(rows):
+    runes, tx = etch_in_a_row(rows, 3)
+    cenotaph = carry(tx, "6a5d027e00")
+    burned = [Rune(3 + place, 1, rune.etching, 10, burned=10) for place, rune in enumerate(runes)]
+    looks = [at_both(tx, 0, runs(5, (0, SUBSIDY), runes=amounts_of(runes)), "none")]
+    looks.append(at_both(cenotaph, 0, "none", runs(6, (0, SUBSIDY))))
+    return *sides(Held(0, [], runes), Held(0, [], burned), *looks), [plain(6), cenotaph]
+
+
+def several_runes(rows):
+    leads(rows, "an output that holds two runes is spent into one that holds three", third_rune)
+    leads(rows, "a cenotaph burns three runes", three_runes_burn)
+
+
+def on_one_satoshi(tx, sat, first, count, marks):
+    """So many inscriptions of a transaction from this index on, on one satoshi. The first has these marks."""
+    # bit 4: not the first envelope of its input; bit 7: on a satoshi that bore one before
+    return [Inscription(tx, 6, sat, marks | (0x90 if at_ else 0), first + at_) for at_ in range(count)]
+
+
+def many_in_the_fees(rows):
+    """Of each of two transactions the first input's inscriptions stay, and the second's go to the fees."""
+    rows.plain(6)
+    counts = (12, 13), (13, 12)
+    txs = []
+    for place, pair in enumerate(counts):
+        inputs = [spend(plain(2 * place + at_), 0, count * envelope()) for at_, count in enumerate(pair)]
+        txs.append(transaction(inputs, [(SUBSIDY, SHORT)]))
+    paid = coinbase_to(6, [(3 * SUBSIDY, SHORT)])
+    # bit 3: not the first input
+    stay = [row for place, tx in enumerate(txs) for row in on_one_satoshi(tx, 2 * place * SUBSIDY, 0, counts[place][0], 0)]
+    late = []
+    for place, (tx, (first, second)) in enumerate(zip(txs, counts)):
+        late += on_one_satoshi(tx, (2 * place + 1) * SUBSIDY, first, second, 8)
+    assert (len(stay), len(late)) == (25, 25)
+    gets = runs(6, *((height * SUBSIDY, SUBSIDY) for height in (6, 1, 3)))
+    looks = [at_both(paid, 0, "none", gets)]
+    looks += [at_both(tx, 0, "none", runs(6, (2 * place * SUBSIDY, SUBSIDY))) for place, tx in enumerate(txs)]
+    return *sides(Held(), Held(0, stay + late), *looks), [paid, *txs]
+
+
+def fifty_parents(rows):
+    """An envelope names 50 ids, the first of them twice: 25 stand on its input, 12 elsewhere, and 12 nowhere."""
+    rows.plain(6)
+    first, other = reveal(plain(0), 25 * envelope()), reveal(plain(1), 12 * envelope())
+    rows.extend(first, other)
+    stand = [(first, 7 * at_ % 25) for at_ in range(25)]
+    absent = [(other, at_) for at_ in range(12)] + [(first, 25 + at_) for at_ in range(12)]
+    named = [pair for at_, one in enumerate(stand) for pair in (one, *absent[at_ : at_ + 1])] + stand[:1]
+    assert len(named) == 50
+    child = reveal(first, envelope([(3, id_value(id_of(tx), index)) for tx, index in named]))
+    there = on_one_satoshi(first, 0, 0, 25, 0) + on_one_satoshi(other, SUBSIDY, 0, 12, 0)
+    row = Inscription(child, 7, 0, 0x80, parents=[inscription(tx, index) for tx, index in stand])
+    looks = [at_both(first, 0, runs(6, (0, SUBSIDY)), "none"), at_both(child, 0, "none", runs(7, (0, SUBSIDY)))]
+    word = f"id={inscription(child)}"
+    looks.append((look_up(word, None), look_up(word, 37)))
+    return *sides(Held(0, there), Held(0, [*there, row]), *looks), [plain(7), child]
+
+
+def behind_an_annex(rows):
+    rows.live("an annex is set aside")
+    rows.plain(6)
+    tx = transaction([spend(plain(0), 0, envelope())], [(SUBSIDY, SHORT)], annex=b"\x50")
+    rows.extend(tx)
+    rows.dump(Held(0, [Inscription(tx, 6, 0)]), sat(0, place(tx, 0)), at(tx, 0, runs(6, (0, SUBSIDY))))
+
+
+def unbound_past_the_sum(rows):
+    """The first envelope's satoshi goes to the fees, which the coinbase leaves. The second has an unknown even tag and a
+    pointer past all satoshis, and is on none."""
+    rows.plain(6)
+    script = envelope() + envelope([(0x42, b"x"), (2, 8 * b"\xff")])
+    tx = transaction([spend(plain(0)), spend(plain(1), 0, script)], [(SUBSIDY, SHORT)])
+    held = Held(SUBSIDY, [Inscription(tx, 6, None, 0x39, 1, f"pointer={16 * 'f'}"), Inscription(tx, 6, SUBSIDY, 8)])
+    looks = [at_both(tx, 0, "none", runs(6, (0, SUBSIDY))), (sat(SUBSIDY, place(plain(1), 0)), sat(SUBSIDY, lost_place(0)))]
+    return *sides(Held(), held, *looks), [plain(6), tx]
+
+
+def named_twice(rows):
+    """A child names one that stands on its input, an unbound one, and the first again."""
+    rows.plain(6)
+    first = reveal(plain(0), envelope() + envelope([(0x42, b"x")]))
+    rows.extend(first)
+    named = [(3, id_value(id_of(first), index)) for index in (0, 1, 0)]
+    child = reveal(first, envelope(named))
+    there = [Inscription(first, 6, 0), Inscription(first, 6, None, 0x11, 1)]
+    row = Inscription(child, 7, 0, 0x80, parents=[inscription(first)])
+    words = [f"id={inscription(tx, index)}" for tx, index in ((first, 0), (first, 1), (child, 0))]
+    looks = [(look_up(word, before), look_up(word, number)) for number, (word, before) in enumerate(zip(words, (0, 1, None)))]
+    looks.append((sat(0, place(first, 0)), sat(0, place(child, 0))))
+    return *sides(Held(0, there), Held(0, [*there, row]), *looks), [plain(7), child]
+
+
+def repeated(rows):
+    """An equal coinbase lets a transaction repeat with another witness, which has the pointer 1."""
+    first, again = reveal(plain(0), envelope()), reveal(plain(0), envelope([(2, b"\1")]))
+    assert id_of(first) == id_of(again)
+    for txs in ([plain(0)], [plain(1), first], [plain(0)]):
+        rows.connects(*txs)
+    one, two = Inscription(first, 1, 0), Inscription(again, 3, 2 * SUBSIDY + 1, 0x20, fields="pointer=01")
+    looks = [2 * (look_up(f"id={inscription(first)}", 0),)]
+    looks.append(at_both(first, 0, runs(1, (0, SUBSIDY)), runs(3, (2 * SUBSIDY, SUBSIDY))))
+    looks.append((sat(0, place(first, 0)), sat(0, lost_place(0))))
+    return *sides(Held(0, [one]), Held(SUBSIDY, [one, two]), *looks), [plain(3), again]
+
+
+def inscriptions_both_ways(rows):
+    leads(rows, "of fifty inscriptions one half goes to the fees", many_in_the_fees)
+    leads(rows, "an envelope names fifty parents", fifty_parents)
+    leads(rows, "an unbound inscription whose pointer passes the sum doesn't go to the fees", unbound_past_the_sum)
+    leads(rows, "a parent is named twice, and one is unbound", named_twice)
+    leads(rows, "a transaction is repeated", repeated)
+    # behind the last of these its blocks are taken back as well
+    for kept, look, held in ((2, 0, Held(0, [Inscription(reveal(plain(0), envelope()), 1, 0)])), (1, None, Held())):
+        rows.disconnects()
+        rows.dump(held, look_up(f"id={inscription(reveal(plain(0)))}", look), kept=kept)
+
+
 GROUPS = [satoshis, refusals, last_height, pointers, parents, fees, marks, moves, finds, mainnet, burns, edicts, names]
 GROUPS += [coinbases, refuse_a_full_block, keep_blocks, all_back, both_ways]
 GROUPS += [burn_and_take_back, spend_twice_behind_two, bring_balances_back, runs_that_fall, words_alone]
+GROUPS += [etch_and_mint_at_once, runes_both_ways, several_runes, behind_an_annex, inscriptions_both_ways]
 
 
 def main():
-    rows = Indexes()
+    rows, asking = Indexes(), query_rows.Queries()
     for group in GROUPS:
         group(rows)
+    for group in query_rows.GROUPS:
+        group(asking)
+    rows.rows += asking.rows
     rows.write("ox_index_rows")
 
 

@@ -1,7 +1,4 @@
-#!/usr/bin/env python3
-"""Makes the rows of crates/ox_query_rows and what has to be printed for them:
-
-    checks/query_rows.py
+"""The rows of crates/ox_index_rows that ask a chain, and what has to be printed for them. checks/index_rows.py writes them.
 
 It makes blocks by docs/FORMATS.md and writes down what they have to be replied, with Python's standard library alone.
 Where a reply names a satoshi, its notations are reckoned here. It knows hashes, ids and names that were reckoned before the
@@ -36,7 +33,7 @@ class Queries(Rows):
 
     def case(self, what, profile="lab", depth=100):
         """What the rows behind show, by a chain of this profile."""
-        self.begin(what, f"profile {profile} {depth}")
+        self.begin(what, f"chain {profile} {depth}")
 
     def asks(self, row, body, status=200, kind="application/json", encoding=None, close=False):
         """A request of this row is replied so; a body is a text or bytes."""
@@ -478,8 +475,19 @@ def long_content(rows):
     tx = reveal(plain(0), tapscript)
     block = block_on(rows, tx)
     head, tail = block[0].split(750 * push)
-    rows.takes(f"{head.hex()} 750 {push.hex()} {tail.hex()}", block[1])
+    rows.takes(f"{head.hex()} 750*{push.hex()} {tail.hex()}", block[1])
     rows.content(tx, 750 * part)
+    rows.inscription(tx, content_length=390_000, height=6, number=0, place=at(tx, 0), sat=0)
+    rows.case("a long content has its pushes in order")
+    bytes_ = [place % 251 for place in range(750)]
+    pushes = b"".join(b"\x4d\x08\x02" + bytes([byte]) * 520 for byte in bytes_)
+    rows.plain(6)
+    tx = reveal(plain(0), envelope([], b"")[:-1] + pushes + b"\x68")
+    block = block_on(rows, tx)
+    head, tail = block[0].split(pushes)
+    words = " ".join(f"4d0802 520*{byte:02x}" for byte in bytes_)
+    rows.takes(f"{head.hex()} {words} {tail.hex()}", block[1])
+    rows.content(tx, b"".join(bytes([byte]) * 520 for byte in bytes_))
     rows.inscription(tx, content_length=390_000, height=6, number=0, place=at(tx, 0), sat=0)
 
 
@@ -767,20 +775,8 @@ def curse_below_the_jubilee(rows):
     rows.says("/inscriptions/0", {"ids": ids(first, 0, 1) + ids(even, 0) + ids(last, 0, 1), "more": False, "page": 0})
 
 
-def main():
-    rows = Queries()
-    for group in (chains, first_block, methods, satoshis, audits, edicts, terms, two_runes, names, pages_of_runes):
-        group(rows)
-    for group in (one_inscription, pages_of_inscriptions, texts, delegates, long_content, places, parents, moves):
-        group(rows)
-    for group in (ends_of_numbers, other_methods, keep_blocks, burn_and_take_back, equal_coinbases, names_past_an_end):
-        group(rows)
-    for group in (pages_that_wrap, many_runes, bytes_that_are_no_text, delegates_without_bodies, runs_that_fall):
-        group(rows)
-    for group in (parents_of_their_block, curse_below_the_jubilee):
-        group(rows)
-    rows.write("ox_query_rows")
-
-
-if __name__ == "__main__":
-    main()
+GROUPS = [chains, first_block, methods, satoshis, audits, edicts, terms, two_runes, names, pages_of_runes]
+GROUPS += [one_inscription, pages_of_inscriptions, texts, delegates, long_content, places, parents, moves]
+GROUPS += [ends_of_numbers, other_methods, keep_blocks, burn_and_take_back, equal_coinbases, names_past_an_end]
+GROUPS += [pages_that_wrap, many_runes, bytes_that_are_no_text, delegates_without_bodies, runs_that_fall]
+GROUPS += [parents_of_their_block, curse_below_the_jubilee]

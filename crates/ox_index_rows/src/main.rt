@@ -1,34 +1,52 @@
-//! What indexes of chains hold, a row of standard input each:
+//! What indexes of chains hold, and what requests they are asked get, a row of standard input each:
 //!
 //! - `live NAME`: from here on an index of no block of this profile;
 //! - `chain NAME DEPTH`: from here on a chain of no block, of whose blocks at most so many are
 //!   kept;
-//! - `block HEX`: connects the block that has these bytes, and says how that ended;
+//! - `block WORD..`: connects the block that has these bytes, one word's behind the other's, and
+//!   says how that ended. A word has hex digits, or how often they stand, a `*` and hex digits;
 //! - `disconnect`: takes a chain's newest block back, and says how that ended;
 //! - `both HEX WORD..`: connects a block to a live index, goes back by its change and on again, and
 //!   cancels that. It dumps the index after each step;
 //! - `dump WORD..`: prints the whole index, and looks each word up;
 //! - `look WORD..`: looks each word up (src/look.rt);
+//! - `GET PATH`, `POST PATH`, `PUT PATH`: prints a chain's reply to this request. With `close` and
+//!   a space in front the link ends with it, with `hex` the path is written in hex digits;
 //! - a row that begins with `#` is printed as it stands.
 //!
 //! Want of memory is said, and the next row is done: `no memory`, and the index is as before.
 //!
+//! The reply of `answer` is printed, that of `answer_by` has to be the same: its status, `close`
+//! where the link ends, its kind, its encoding if there is one, and its body. A body that isn't
+//! text in one line is shown in hex digits, and a long one by its length and a checksum.
+//!
 //! The rows and what has to be printed are made by checks/index_rows.py, which makes blocks by the
 //! public formats and shares nothing with the library.
+//!
+//! With an argument each GET is replied so many times, to be timed (see bench/query.py): once as
+//! its row comes, and the other times behind the last row, without being printed. Then it is told
+//! how many replies these were, and how many bytes their bodies had.
 #![tactic(auto)]
 
 mod both;
 mod end;
 mod look;
+mod replies;
+mod requests;
 mod show;
+mod spell;
 
 use crate::both::lead_both_ways;
 use crate::end::print_end;
 use crate::look::{dump, print_looks};
+use crate::requests::{print_answer, reply_often};
+use crate::spell::bytes_of;
+use anyhow::Context;
 use ox_index::{Chain, ConnectFault, Live};
+use ox_routes::Routes;
 use ox_sat::{ProfileName, profile_of};
 use std::alloc::Global;
-use std::io;
+use std::{env, io};
 
 /// An index by itself, or one whose newest blocks can be taken back.
 #[derive(Drop)]
@@ -82,8 +100,8 @@ fn connect(index: &mut Index, block: &[u8]) -> Option<ConnectFault> {
 }
 
 /// Connects the block that is spelled so, and says how that ended.
-fn connect_row(rt: &impl Print, alloc: Global, index: &mut Index, digits: &str) -> io::Result<()> {
-    let Ok(block) = hex::decode(alloc, digits) else {
+fn connect_row(rt: &impl Print, alloc: Global, index: &mut Index, words: &str) -> io::Result<()> {
+    let Some(block) = bytes_of(alloc, words) else {
         return println!(rt; "no memory");
     };
     let fault = connect(index, &block);
@@ -127,8 +145,28 @@ fn dump_row(rt: &impl Print, index: &Index, words: &str) -> io::Result<()> {
     dump(rt, live_in(index), words)
 }
 
+/// Prints a chain's reply to a request.
+fn request_row(
+    rt: &impl Print,
+    alloc: Global,
+    routes: &Routes,
+    index: &Index,
+    row: &str,
+) -> io::Result<()> {
+    match index {
+        Index::Chain(chain) => print_answer(rt, alloc, routes, chain, row),
+        Index::Live(_) => println!(rt; "no row, or no chain"),
+    }
+}
+
 /// Does what a row says.
-fn run(rt: &impl Print, alloc: Global, index: &mut Index, row: &str) -> io::Result<()> {
+fn run(
+    rt: &impl Print,
+    alloc: Global,
+    routes: &Routes,
+    index: &mut Index,
+    row: &str,
+) -> io::Result<()> {
     let (word, rest) = row.split_once(' ').unwrap_or((row, ""));
     match word {
         "#" => println!(rt; "{row}"),
@@ -139,25 +177,56 @@ fn run(rt: &impl Print, alloc: Global, index: &mut Index, row: &str) -> io::Resu
         "disconnect" => disconnect_row(rt, alloc, index),
         "dump" => dump_row(rt, index, rest),
         "look" => print_looks(rt, live_in(index), rest),
-        _ => println!(rt; "no row"),
+        _ => request_row(rt, alloc, routes, index, row),
     }
 }
 
 /// Does what each row says.
-fn run_all(rt: &impl Print, alloc: Global, index: &mut Index, text: &str) -> io::Result<()> {
+fn run_all(
+    rt: &impl Print,
+    alloc: Global,
+    routes: &Routes,
+    index: &mut Index,
+    text: &str,
+) -> io::Result<()> {
     for row in text.split('\n') {
         if !row.is_empty() {
-            run(rt, alloc, index, row)?;
+            run(rt, alloc, routes, index, row)?;
         }
     }
     Ok(())
 }
 
-fn main(rt: HostRuntime) -> io::Result<()> {
-    let alloc = rt.alloc();
-    let text = io::read_to_string(alloc, rt.stdin())?;
-    match new_live(alloc, "lab") {
-        Some(mut index) => run_all(&rt, alloc, &mut index, text.as_str()),
+/// Replies to each GET among the rows, so many times more, and tells how much that was.
+fn repeat(
+    rt: &impl Print,
+    alloc: Global,
+    routes: &Routes,
+    index: &Index,
+    text: &str,
+    times: u32,
+) -> io::Result<()> {
+    let Index::Chain(chain) = index else {
+        return println!(rt; "no chain");
+    };
+    match reply_often(alloc, routes, chain, text, times) {
+        Some(tally) => println!(rt; "{} replies of {} bytes", tally.replies, tally.bytes),
         None => println!(rt; "no memory"),
     }
+}
+
+fn main(rt: HostRuntime) -> anyhow::Result<()> {
+    let alloc = rt.alloc();
+    let mut times = 1;
+    if let Some(word) = env::args(&rt)?.nth(1) {
+        times = word.as_str().parse::<u32>()?;
+    }
+    let text = io::read_to_string(alloc, rt.stdin())?;
+    let routes = Routes::new(alloc).ok().context("no memory")?;
+    let mut index = new_live(alloc, "lab").context("no memory")?;
+    run_all(&rt, alloc, &routes, &mut index, text.as_str())?;
+    if times > 1 {
+        repeat(&rt, alloc, &routes, &index, text.as_str(), times - 1)?;
+    }
+    Ok(())
 }

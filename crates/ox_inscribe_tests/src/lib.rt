@@ -1,4 +1,4 @@
-//! Tests of what a block reveals, over the transfer of its satoshis, and of the rows that are kept.
+//! Tests of the rows that are kept, and of marks that are set by hand around what a block reveals.
 #![tactic(auto)]
 
 #[cfg(test)]

@@ -1,4 +1,4 @@
-//! What crates/ox_allocation_speed does, in plain Rust: a map for each output.
+//! What crates/ox_speed does to pools of runes, in plain Rust: a map for each output.
 use std::collections::BTreeMap;
 
 type Id = (u64, u32);

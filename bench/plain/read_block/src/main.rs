@@ -1,4 +1,5 @@
-//! The same work as crates/ox_block_speed in plain Rust: read a block, hash each transaction twice over, make both roots.
+//! The same work as crates/ox_block_rows does for a block in plain Rust: read it, hash each transaction twice over, make both
+//! roots.
 use sha2::{Digest, Sha256};
 use std::io::Read;
 

@@ -1,0 +1,144 @@
+//! What scripts read as.
+
+use crate::print::print_hex;
+use anyhow::Context;
+use ox_bytes::{Bytes, Memory};
+use ox_envelope::{Envelope, InsId, Inscribed, envelopes_of, parse, write_id};
+use ox_script::instructions_of;
+use std::alloc::Global;
+use std::io;
+
+/// More bytes than these are shown by their number alone, and by how many of them are digits.
+const MOST_SHOWN: usize = 80;
+
+/// Bytes in hex digits, or how many they are.
+fn print_bytes(rt: &impl Print, bytes: &[u8]) -> io::Result<()> {
+    if bytes.len() > MOST_SHOWN {
+        let digits = bytes.iter().filter(|b| b.is_ascii_digit()).count();
+        return print!(rt; "{} bytes, {digits} digits", bytes.len());
+    }
+    print_hex(rt, bytes)
+}
+
+/// A field's name, and its value if there is one.
+fn print_field(rt: &impl Print, name: &str, value: &Option<Bytes>) -> io::Result<()> {
+    if let Some(bytes) = value {
+        print!(rt; " {name}=")?;
+        print_bytes(rt, bytes.as_slice())?;
+    }
+    Ok(())
+}
+
+/// An id by its text, or `none`, with a space in front.
+fn print_text(rt: &impl Print, id: Option<InsId>) -> io::Result<()> {
+    let Some(id) = id else {
+        return print!(rt; " none");
+    };
+    let mut into = [0; 75];
+    let len = write_id(&id, &mut into);
+    let (text, _) = into.split_at(len);
+    print!(rt; " {}", std::str::from_utf8(text).unwrap_or("no text"))
+}
+
+/// An id in a line.
+pub fn print_id(rt: &impl Print, id: Option<InsId>) -> io::Result<()> {
+    print_text(rt, id)?;
+    println!(rt)
+}
+
+/// The pushes of an envelope, each in hex digits.
+fn print_pushes(rt: &impl Print, envelope: &Envelope<'_>) -> io::Result<()> {
+    print!(rt; "  pushes")?;
+    for push in envelope.pushes() {
+        print!(rt; " ")?;
+        print_bytes(rt, *push)?;
+    }
+    println!(rt)
+}
+
+/// The fields of an envelope, its body and its marks.
+fn print_fields(rt: &impl Print, says: &Inscribed) -> io::Result<()> {
+    print!(rt; "  marks={}", says.marks)?;
+    print_field(rt, "type", &says.content_type)?;
+    print_field(rt, "pointer", &says.pointer)?;
+    print_field(rt, "metadata", &says.metadata)?;
+    print_field(rt, "protocol", &says.metaprotocol)?;
+    print_field(rt, "encoding", &says.encoding)?;
+    print_field(rt, "body", &says.body)
+}
+
+/// The ids that an envelope names.
+fn print_ids(rt: &impl Print, parents: &[InsId], delegate: Option<InsId>) -> io::Result<()> {
+    print!(rt; " parents")?;
+    for id in parents {
+        print_text(rt, Some(*id))?;
+    }
+    print!(rt; " delegate")?;
+    print_id(rt, delegate)
+}
+
+/// What an envelope says.
+fn print_envelope(rt: &impl Print, alloc: Global, envelope: &Envelope<'_>) -> anyhow::Result<()> {
+    print_pushes(rt, envelope)?;
+    let says = parse(alloc, envelope).ok().context("no memory")?;
+    print_fields(rt, &says)?;
+    let parents = says.parents.copy(alloc).ok().context("no memory")?;
+    Ok(print_ids(rt, parents.as_slice(), says.delegate)?)
+}
+
+/// The envelopes of a script, and what each says.
+pub fn print_script(rt: &impl Print, alloc: Global, script: &[u8]) -> anyhow::Result<()> {
+    let found = envelopes_of(alloc, script).ok().context("no memory")?;
+    println!(rt; "{} envelopes", found.len())?;
+    for envelope in found.as_slice() {
+        print_envelope(rt, alloc, envelope)?;
+    }
+    Ok(())
+}
+
+/// How many items a script has.
+fn items_in(script: &[u8]) -> usize {
+    let mut count: usize = 0;
+    for _ in instructions_of(script) {
+        count = count.saturating_add(1);
+    }
+    count
+}
+
+/// How many items a script has, which are counted so many times.
+pub fn print_items(rt: &impl Print, script: &[u8], times: u32) -> io::Result<()> {
+    let mut items = items_in(script);
+    for _ in 1..times {
+        items = items_in(script);
+    }
+    println!(rt; "{items} items")
+}
+
+/// How many envelopes a script has, and how many of them have a body. `Memory` where there is none
+/// for them.
+fn envelopes_in(alloc: Global, script: &[u8]) -> Result<(usize, usize), Memory> {
+    let found = envelopes_of(alloc, script)?;
+    let mut bodies: usize = 0;
+    for envelope in found.as_slice() {
+        if parse(alloc, envelope)?.body.is_some() {
+            bodies = bodies.saturating_add(1);
+        }
+    }
+    Ok((found.len(), bodies))
+}
+
+/// How many envelopes a script has, and how many of them have a body, which are searched and read
+/// so many times.
+pub fn print_tally(
+    rt: &impl Print,
+    alloc: Global,
+    script: &[u8],
+    times: u32,
+) -> anyhow::Result<()> {
+    let mut found = envelopes_in(alloc, script);
+    for _ in 1..times {
+        found = envelopes_in(alloc, script);
+    }
+    let (envelopes, bodies) = found.ok().context("no memory")?;
+    Ok(println!(rt; "{envelopes} envelopes, {bodies} with a body")?)
+}

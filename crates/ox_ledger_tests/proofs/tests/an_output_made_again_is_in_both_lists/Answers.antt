@@ -1,5 +1,0 @@
-use Rattle.std.proofs.Common.{arith}
-use Rattle.ox_ledger_tests.proofs.tests.an_output_made_again_is_in_both_lists.Goals as goal
-
-pub undo-part-requires : goal.undo-part-requires
-undo-part-requires g c = c.turn.ensures.came (λ e. absurd (omega (arith, e))) c.etched-ledger.ensures

@@ -1,5 +1,0 @@
-//! Tests of `ox_transfer`, over the library, so that they don't prove it again.
-#![tactic(auto)]
-
-#[cfg(test)]
-mod tests;
