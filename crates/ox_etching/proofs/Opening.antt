@@ -1,11 +1,11 @@
 -- A mint is open exactly where the terms say so.
-use Rattle.std.proofs.Common.{◌≡◌, ◌∙◌, ◌⊎◌, ◌↔◌, ◌≤◌, ◌<◌, inl, inr, ℕ, Bool, true, false, cond, ◌&&◌, refl, sym, ap, subst, arith, Option, Some, None, nat_lt}
-use Rattle.std.specs.Prelude.{IsSome, nat_le, unwrap_or}
+use Rattle.std.proofs.Common.{◌≡◌, ◌∙◌, ◌↔◌, ◌≤◌, ◌<◌, inl, inr, ℕ, Bool, true, false, cond, ◌&&◌, refl, sym, ap, subst, arith, Option, Some, None, nat_lt}
+use Rattle.std.specs.Prelude.{IsSome, unwrap_or}
 use Rattle.std.specs.Option.{option_map}
 use Rattle.std.proofs.lemmas.Bool.Decides.{nat_tests}
 use Rattle.ox_runestone.specs.declared.stone.Terms.{Terms}
 use Rattle.ox_etching.specs.declared.row.RuneRow.{RuneRow}
-use Rattle.ox_etching.specs.Mintable.{IsEnd, IsMintable, IsStart}
+use Rattle.ox_etching.specs.Mintable.{IsMintable}
 use Rattle.ox_etching.specs.Minted.{has_come, height_behind, is_ahead, is_open, is_within, minted, minted_by}
 
 some_same : {A : Type 0} (x y : A) → Some x ≡ Some y → x ≡ y

@@ -10,7 +10,7 @@ abbrev pub IsStart : RuneRow → Terms → ℕ → Type 0
 IsStart row terms start =
     (terms.height_start ≡ Some start)
     ⊎ ((offset : ℕ) × (terms.offset_start ≡ Some offset)
-      × (start ≡ height_behind row.id.block offset))
+    × (start ≡ height_behind row.id.block offset))
 
 -- a height from which on they don't
 abbrev pub IsEnd : RuneRow → Terms → ℕ → Type 0
