@@ -11,3 +11,4 @@ pub mod LawLemmas
 pub mod PartLemmas
 pub mod Rests
 pub mod Sorting
+pub mod EdictLemmas

@@ -4,3 +4,4 @@ pub mod Balances
 pub mod Dealing
 pub mod Gifts
 pub mod Laws
+pub mod Asked

@@ -1,5 +1,6 @@
 //! What holds of every allocation.
 
+ghost use Rattle.ox_allocation.specs.Asked.{EdictsGive};
 ghost use Rattle.ox_allocation.specs.Laws.{NothingIsLostOrMade, ReturnsGetNothing, SplitsAreEven};
 
 /// Of each rune, all that outputs are given and all that is burned is together what there was,
@@ -17,4 +18,10 @@ pub fn splits_are_even()
 /// An output that begins with OP_RETURN gets nothing.
 pub fn returns_get_nothing()
     ensures { ReturnsGetNothing }
+{}
+
+/// An edict that names an output gives it so much as it says or what is left, all of it for 0, and
+/// later edicts deal what that leaves (Runes specification, "Edicts").
+pub fn edicts_take_what_is_left()
+    ensures { EdictsGive }
 {}

@@ -3,7 +3,9 @@
 
 pub use allocation::{Allocated, allocate};
 pub use balances::{Balances, Pool};
-pub use laws::{nothing_is_lost_or_made, returns_get_nothing, splits_are_even};
+pub use laws::{
+    edicts_take_what_is_left, nothing_is_lost_or_made, returns_get_nothing, splits_are_even,
+};
 pub use ox_bytes::Memory;
 
 mod allocation;

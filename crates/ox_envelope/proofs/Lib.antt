@@ -2,3 +2,4 @@ pub mod SearchLemmas
 pub mod PayloadLemmas
 pub mod IdLemmas
 pub mod PushLemmas
+pub mod SpellingLemmas

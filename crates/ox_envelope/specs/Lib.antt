@@ -4,3 +4,4 @@ pub mod Tag
 pub mod Payload
 pub mod Walk
 pub mod Id
+pub mod Spelling

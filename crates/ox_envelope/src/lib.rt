@@ -4,6 +4,7 @@
 mod envelope;
 mod id;
 mod inscribed;
+mod laws;
 mod payload;
 mod search;
 mod tag;
@@ -11,5 +12,6 @@ mod tag;
 pub use envelope::{Envelope, Envelopes};
 pub use id::{InsId, read_id, read_id_text, write_id};
 pub use inscribed::{Ids, Inscribed, parse};
+pub use laws::fields_spell_the_pushes;
 pub use ox_bytes::Memory;
 pub use search::envelopes_of;

@@ -1,1 +1,2 @@
 pub mod Tapscripts
+pub mod Opening

@@ -1,3 +1,4 @@
 pub mod Commitment
 pub mod Etched
 pub mod Minted
+pub mod Mintable

@@ -4,10 +4,12 @@
 
 mod commitment;
 mod etching;
+mod laws;
 mod minting;
 mod row;
 
 pub use commitment::commits;
 pub use etching::etched;
+pub use laws::mints_are_open;
 pub use minting::minted;
 pub use row::RuneRow;

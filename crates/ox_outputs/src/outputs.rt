@@ -51,7 +51,8 @@ impl Outputs {
 
     /// No outputs, and no mark. It takes no memory until a row is placed.
     pub fn new(alloc: Global) -> Outputs
-        ensures { rows_in result ≡ map.empty }
+        ensures rows { rows_in result ≡ map.empty }
+        ensures mark { marked_in result ≡ None }
     {
         Outputs {
             alloc,

@@ -4,3 +4,5 @@ pub mod Conservation
 pub mod Transfers
 pub mod DifferenceLemmas
 pub mod DifferenceRows
+pub mod Cutting
+pub mod Moving

@@ -5,3 +5,4 @@ pub mod Differences
 pub mod Where
 pub mod Newest
 pub mod Text
+pub mod Moves

@@ -2,6 +2,7 @@
 //! above share.
 #![tactic(auto)]
 
+mod laws;
 mod moved;
 mod place;
 mod refusal;
@@ -14,6 +15,7 @@ ghost use Rattle.ox_rules.specs.declared.rows.OutRow.{OutRow};
 ghost use Rattle.ox_rules.specs.Differences.{Differ, Difference, other_end, reverse_of};
 ghost use Rattle.ox_rules.specs.Outputs.{Outputs};
 
+pub use laws::{dealing_is_cutting, spends_move_in_order};
 pub use moved::{DisplacedRows, Moved, MovedTx, MovedTxs, SpentRows};
 pub use ox_block::Script;
 pub use ox_bytes::Memory;

@@ -1,6 +1,6 @@
 //! A block's satoshis.
 
-ghost use Rattle.std.specs.Prelude.{◌≡◌, ◌+◌, ◌++◌, map, Ok, Some, IfOk, IfErr, OnOk, OnErr};
+ghost use Rattle.std.specs.Prelude.{◌≡◌, ◌+◌, ◌++◌, map, Ok, Some, None, IfOk, IfErr, OnOk, OnErr};
 ghost use Rattle.ox_sat.specs.Profiles.{IsProfile};
 ghost use Rattle.ox_sat.specs.Heights.{first_at};
 ghost use Rattle.ox_block.specs.Hashes.{txid};
@@ -120,7 +120,7 @@ fn transfer_txs<O: OutTable>(
 /// at an input whose output isn't there, `Overspend` where a transaction's outputs have more
 /// satoshis than its inputs, and, after all other transactions, `Overclaim` where the coinbase's
 /// outputs have more than subsidy and fees. `Memory` where there is none. The table is as before
-/// then. After Ok it goes back by its `cancel`, and its rows are as the next height's block needs
+/// then, without a mark. After Ok it goes back by its `cancel`, and its rows are as the next height's block needs
 /// them.
 ///
 /// It costs one look-up an input and one insertion an output, and otherwise grows by the runs of
@@ -145,6 +145,7 @@ pub fn transfer<O: OutTable>(
         (λ fault. Refuses fault (transfer_of p.now height block.now.txs (O.contents table.old))) }
     ensures err { OnErr result (O.contents table.new ≡ O.contents table.old) }
     ensures mark { OnOk result (O.marked table.new ≡ Some (O.contents table.old)) }
+    ensures no_mark { OnErr result (O.marked table.new ≡ None) }
     // So the next block's transfer may be called.
     ensures kept { OnOk result (HoldsOnce (first_at p.now (height + 1)) (O.contents table.new)) }
 {
