@@ -5,6 +5,8 @@ import struct
 
 SUBSIDY = 5_000_000_000
 NO_OUTPUT = bytes(32), 0xFFFFFFFF
+# the reserved value of a commitment to witnesses
+RESERVED = bytes(32)
 
 
 def twice(message):
@@ -68,8 +70,14 @@ def tx(origins, outputs, script=b"", witness=None):
     return b"\2\0\0\0\0\1" + spelled + items + bytes(len(origins) - 1) + bytes(4), twice(bare)
 
 
-def coinbase(height, outputs):
-    return tx([NO_OUTPUT], outputs, struct.pack("<I", height))
+def coinbase(height, outputs, others=()):
+    """A coinbase of these outputs, before the block's other transactions, each with its id. Where one of these has a witness,
+    it commits to the witnesses by a last output."""
+    whole = [twice(body) for body, _ in others]
+    if all(whole_id == txid for whole_id, (_, txid) in zip(whole, others)):
+        return tx([NO_OUTPUT], outputs, struct.pack("<I", height))
+    commitment = b"\x6a\x24\xaa\x21\xa9\xed" + twice(root([bytes(32), *whole]) + RESERVED)
+    return tx([NO_OUTPUT], [*outputs, (0, commitment)], struct.pack("<I", height), [RESERVED])
 
 
 def block(previous, height, txs):

@@ -7,10 +7,11 @@ makes a chain of as many blocks as the greatest number says (600, 2,000 and 6,00
 1,000,000 and 3,000,000 outputs) in a temporary folder: each block but the first two spends 500 outputs, chosen at
 random, into two each. It runs the programs in turn, each three times, over the first so many blocks of it and prints,
 of the run that took least, blocks and megabytes of blocks a second of processor time, and the memory that an output
-takes at the end; and how many blocks a second the last tenth of the greatest number was connected in. The plain program
-runs with outputs alone, and once more as one that keeps what ours does: an ordered map of runs, by which satoshis are
-found, and what the newest 1,000 blocks changed. Nothing here is proved. Build both programs first, as bench/README.md
-says.
+takes at the end; and how many blocks a second the last tenth of the greatest number was connected in. Then it does the
+same over a chain where each of these transactions has a signature and a key as its witness, to which the coinbase
+commits. The plain program runs with outputs alone, and once more as one that keeps what ours does: an ordered map of
+runs, by which satoshis are found, and what the newest 1,000 blocks changed; it tests commitments too. Nothing here is
+proved. Build both programs first, as bench/README.md says.
 """
 
 import pathlib
@@ -24,16 +25,18 @@ from runs import in_another_process, least, plain_program, proved_program, write
 OX, PLAIN = proved_program("ox_main"), plain_program("fold_blocks")
 PLAIN_WORDS = {"plain": [], "same": ["locator", "1000"]}
 SPENDS = 500
+# the bytes of a signature and of a key
+WITNESS = 72, 33
 
 
-def write_chain(path, count):
-    """The chain's feed. Answers the end of each line in it."""
+def write_chain(path, count, marked=False):
+    """The chain's feed, in which the transactions that spend have witnesses or none. Answers the end of each line in it."""
     chance = random.Random(11)
     unspent, previous, ends = [], bytes(32), []
     with open(path, "wb") as feed:
         for height in range(count):
             parts = [SUBSIDY // SPENDS] * SPENDS if height < 2 else [SUBSIDY]
-            txs = [coinbase(height, [(value, key(chance)) for value in parts])]
+            outputs, txs = [(value, key(chance)) for value in parts], []
             new = [(0, index, value) for index, value in enumerate(parts)]
             for place in range(SPENDS if height >= 2 else 0):
                 at = chance.randrange(len(unspent))
@@ -41,8 +44,10 @@ def write_chain(path, count):
                 unspent[at] = unspent[-1]
                 unspent.pop()
                 first = chance.randint(0, value)
-                txs.append(tx([(txid, index)], [(first, key(chance)), (value - first, key(chance))]))
+                witness = [chance.randbytes(length) for length in WITNESS] if marked else None
+                txs.append(tx([(txid, index)], [(first, key(chance)), (value - first, key(chance))], witness=witness))
                 new += [(place + 1, 0, first), (place + 1, 1, value - first)]
+            txs.insert(0, coinbase(height, outputs, txs))
             unspent += [(txs[place][1], index, value) for place, index, value in new]
             body, previous = block(previous, height, txs)
             feed.write(connect(body))
@@ -55,9 +60,9 @@ def commands(folder):
     return {"ox": [OX, folder, "fold", "regtest"]} | {name: [PLAIN, *words] for name, words in PLAIN_WORDS.items()}
 
 
-def tell(count, end, rows):
-    # each block takes 500 outputs away, and adds 1,001
-    outputs = 1000 + max(count - 2, 0) * (SPENDS + 1)
+def tell(count, end, rows, marked):
+    # each block takes 500 outputs away, and adds 1,001, and one that commits to its witnesses
+    outputs = 1000 + max(count - 2, 0) * (SPENDS + 1 + marked)
     for name, (seconds, memory) in rows.items():
         print(
             f"{count:6} blocks, {outputs:9,} outputs, {name:5}: {count / seconds:8.0f} blocks a second,"
@@ -71,24 +76,31 @@ def tell_ratios(seconds):
     print(f"       ox {', '.join(ratios)}", flush=True)
 
 
-def main():
-    counts = sorted(int(word) for word in sys.argv[1:]) or [600, 2000, 6000]
+def time_chain(counts, folder, marked):
+    """Times both programs over the first so many blocks of a chain, and over the last tenth of it."""
     most = counts[-1]
     tenth = most // 10
+    whole, part = pathlib.Path(folder) / "whole", pathlib.Path(folder) / "part"
+    ends = in_another_process(write_chain, whole, most, marked)
+    times = {}
+    for count in sorted({*counts, most - tenth}):
+        write_part(whole, part, ends[count - 1])
+        rows = least(commands(folder), part, lines=count)
+        times |= {(name, count): seconds for name, (seconds, _) in rows.items()}
+        if count in counts:
+            tell(count, ends[count - 1], rows, marked)
+    last = {name: times[name, most] - times[name, most - tenth] for name in commands(folder)}
+    for name, seconds in last.items():
+        print(f"{name:5}: the last {tenth} blocks at {tenth / seconds:.0f} blocks a second")
+    tell_ratios(last)
+
+
+def main():
+    counts = sorted(int(word) for word in sys.argv[1:]) or [600, 2000, 6000]
     with tempfile.TemporaryDirectory() as folder:
-        whole, part = pathlib.Path(folder) / "whole", pathlib.Path(folder) / "part"
-        ends = in_another_process(write_chain, whole, most)
-        times = {}
-        for count in sorted({*counts, most - tenth}):
-            write_part(whole, part, ends[count - 1])
-            rows = least(commands(folder), part, lines=count)
-            times |= {(name, count): seconds for name, (seconds, _) in rows.items()}
-            if count in counts:
-                tell(count, ends[count - 1], rows)
-        last = {name: times[name, most] - times[name, most - tenth] for name in commands(folder)}
-        for name, seconds in last.items():
-            print(f"{name:5}: the last {tenth} blocks at {tenth / seconds:.0f} blocks a second")
-        tell_ratios(last)
+        for marked in (False, True):
+            print("with witnesses:" if marked else "without witnesses:")
+            time_chain(counts, folder, marked)
 
 
 if __name__ == "__main__":

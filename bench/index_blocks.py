@@ -69,16 +69,17 @@ class Chain:
         """The transactions of the block at this height, with their ids."""
         count = 2 * EACH if height == 0 else EACH
         values = [SUBSIDY // count] * count
-        txs, new = [coinbase(height, [(value, key(self.chance)) for value in values])], []
+        outputs, txs, new = [(value, key(self.chance)) for value in values], [], []
         if height == 1:
             txs.append(self.etch())
         elif height > 1:
             txs += [self.split(new) for _ in range(EACH)]
         txs += [reveal(self.chance, origin, value, self.reveals) for origin, value in self.fresh]
-        points = [((txs[0][1], at), value) for at, value in enumerate(values)]
+        first = coinbase(height, outputs, txs)
+        points = [((first[1], at), value) for at, value in enumerate(values)]
         self.fresh = points[:EACH]
         self.held += new + [(origin, value, 0) for origin, value in points[EACH:]]
-        return txs
+        return [first, *txs]
 
 
 def write_chain(path, count, reveals=True, runes=True):

@@ -100,7 +100,7 @@ def write_blocks(path, count):
         def put_block(height, *txs, parts=1):
             """Puts a block of a coinbase and these transactions. Answers the coinbase's id."""
             nonlocal tip
-            first = coinbase(height, [(SUBSIDY // parts, key(chance)) for _ in range(parts)])
+            first = coinbase(height, [(SUBSIDY // parts, key(chance)) for _ in range(parts)], txs)
             body, tip = block(tip, height, [first, *txs])
             feed.write(b"block " + body.hex().encode() + b"\n")
             return first[1]

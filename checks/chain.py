@@ -10,6 +10,10 @@ SUBSIDY = 5_000_000_000
 HALVING = 210_000
 EMPTY_HEAD = b"\1oxidx\1\1" + (100).to_bytes(2, "little") + (1).to_bytes(8, "little") + bytes(8)
 SHORT = b"\x51"
+# the front of a script that commits to witnesses
+COMMITS = bytes.fromhex("6a24aa21a9ed")
+# the reserved value that commitments are mostly made by
+ZEROS = bytes(32)
 
 # what a disconnect's record holds
 DISCONNECT = b"\0"
@@ -96,6 +100,25 @@ def root(ids):
         ids = ids + ids[-1:] if len(ids) % 2 else ids
         ids = [twice(ids[at] + ids[at + 1]) for at in range(0, len(ids), 2)]
     return ids[0]
+
+
+def with_stack(tx, *items):
+    """A transaction of one input, with these items as its witness stack."""
+    stack = compact(len(items)) + b"".join(compact(len(item)) + item for item in items)
+    return tx[0], tx[0][:4] + b"\0\1" + tx[0][4:-4] + stack + tx[0][-4:]
+
+
+def commitment(*others, value=ZEROS):
+    """The script that commits to the witnesses of a coinbase and these transactions behind it."""
+    return COMMITS + twice(root([ZEROS, *(twice(whole) for _, whole in others)]) + value)
+
+
+def committing(height, *scripts, items=(ZEROS,), value=SUBSIDY - 1):
+    """A coinbase whose first output has so many satoshis; behind it are outputs with these scripts. Its witness stack has
+    these items."""
+    outputs = [(value, SHORT), *((0, script) for script in scripts)]
+    tx = transaction([(ZEROS, 2**32 - 1, b"")], outputs, b"\4" + height.to_bytes(4, "little"))
+    return with_stack(tx, *items) if items else tx
 
 
 def block_of(previous, txs, root_of=root):

@@ -28,10 +28,10 @@ import subprocess
 import sys
 import tempfile
 
-from chain import SHORT, SUBSIDY, block_of, block_with, chain, coinbase, envelope, line, reveal_into, twice
+from chain import SHORT, SUBSIDY, block_of, block_with, chain, coinbase, commitment, committing, envelope, line, reveal_into, twice
 from index_rows import Full, Held, Indexes, runes_of_mainnet
 from kills import Failed, demand
-from rows import hash_text, plain
+from rows import hash_text, plain, reveal
 
 HERE = pathlib.Path(__file__).resolve().parent
 CRATES = HERE.parent / "crates"
@@ -189,7 +189,7 @@ def dumps_without_memory(lines):
 
 def scarce():
     """Blocks that are connected, by themselves and in a chain of which two are kept, that are taken back, and that lead both
-    ways; and the rune with which mainnet begins."""
+    ways; one that commits to its witnesses; and the rune with which mainnet begins."""
     rows = Scarce()
     four = Full(Indexes())
     nothing = Held(), []
@@ -206,8 +206,14 @@ def scarce():
         rows.takes(four.before(), four.after(), plain(4), four.all, kept=depth and (2, 2))
         if depth:
             rows.takes_back(four.after(), four.before(), (2, 1))
-    before = rows.dump_of((four.before()[0], []))
-    rows.tips, rows.halving = [], 210_000
+    # two ids over whole forms, of which one is hashed anew
+    rows.tips, rows.halving, rows.depth = [], 210_000, None
+    rows.step([("live regtest", [])])
+    tx = reveal(plain(0), SHORT)
+    rows.takes(nothing, nothing, plain(0))
+    rows.takes(nothing, (Held(1), []), committing(1, commitment(tx)), tx)
+    before = rows.dump_of((Held(1), []))
+    rows.tips = []
     after = rows.dump_of((Held(0, [], runes_of_mainnet()), []))
     rows.step([("live mainnet", []), after], [[NONE, before[1]]])
     return rows.steps

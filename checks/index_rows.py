@@ -9,7 +9,8 @@ that ask a chain, as requests do, are those of checks/query_rows.py.
 """
 
 import query_rows
-from chain import SHORT, SUBSIDY, block_of, coinbase_to, envelope, id_value, transaction, twice
+from chain import COMMITS, SHORT, SUBSIDY, ZEROS, block_of, coinbase_to, commitment, committing, envelope, id_value, root
+from chain import transaction, twice
 from real_files import RESERVED
 from rows import Rows, carry, etch, hash_text, id_of, inscription, outpoint, plain, reveal, spend
 
@@ -969,10 +970,97 @@ def inscriptions_both_ways(rows):
         rows.dump(held, look_up(f"id={inscription(reveal(plain(0)))}", look), kept=kept)
 
 
+# Commitments to witnesses.
+
+def lone_commitments(rows):
+    """Blocks of a coinbase alone, whose witness root is 32 zero bytes."""
+    right, sevens = commitment(), 32 * b"\7"
+    wrong = right[:-1] + bytes([right[-1] ^ 1])
+    refused = {
+        "its last byte is another": committing(0, wrong),
+        "the coinbase is marked, and there is none": committing(0),
+        "there is no reserved value": committing(0, right, items=()),
+        "there are two": committing(0, right, items=(ZEROS, ZEROS)),
+        "the reserved value has 31 bytes": committing(0, right, items=(ZEROS[1:],)),
+        "it has 33 bytes": committing(0, right, items=(ZEROS + b"\0",)),
+        "it is another": committing(0, right, items=(sevens,)),
+        "the first of two is right": committing(0, right, wrong),
+        "it has 37 bytes": committing(0, right[:-1]),
+        "it begins otherwise": committing(0, b"\x6a\x24\xaa\x21\xa9\xee" + right[6:]),
+    }
+    for what, coinbase in refused.items():
+        rows.live(f"a commitment to witnesses fails: {what}", "regtest")
+        rows.refuses("refused 12", coinbase)
+        rows.dump(Held(), sat(0, "nowhere"))
+    taken = {
+        "as blocks are made for tests": committing(0, right),
+        "the last of two is right": committing(0, wrong, right),
+        "it has 45 bytes": committing(0, right + b"\7" * 7),
+        "it stands in the output before the last": committing(0, right, SHORT),
+        "the reserved value isn't zeros": committing(0, commitment(value=sevens), items=(sevens,)),
+        "37 bytes are none, and nothing is marked": committing(0, right[:-1], items=()),
+    }
+    for what, coinbase in taken.items():
+        rows.live(f"a commitment to witnesses holds: {what}", "regtest")
+        rows.connects(coinbase)
+        rows.dump(Held(1), sat(0, place(coinbase, 0)), sat(SUBSIDY - 1, lost_place(0)))
+
+
+def commitments_to_others(rows):
+    rows.live("a commitment is over the whole forms, and stands in the coinbase", "regtest")
+    rows.plain(2)
+    others = reveal(plain(0), SHORT), reveal(plain(1))
+    sevens, row = 32 * b"\7", root([ZEROS, *(twice(whole) for _, whole in others)])
+    stripped = COMMITS + twice(root([ZEROS, *map(id_of, others)]) + ZEROS)
+    rows.refuses("refused 12", plain(2), *others)
+    rows.refuses("refused 12", committing(2, stripped), *others)
+    rows.refuses("refused 12", committing(2, COMMITS + twice(sevens + row), items=(sevens,)), *others)
+    rows.refuses("refused 12", committing(2, commitment(*others)), *reversed(others))
+    elsewhere = transaction([spend(plain(1))], [(SUBSIDY, SHORT), (0, commitment(others[0]))])
+    rows.refuses("refused 12", plain(2), others[0], elsewhere)
+    coinbase = committing(2, commitment(*others))
+    rows.connects(coinbase, *others)
+    looks = [at(other, 0, runs(2, (number * SUBSIDY, SUBSIDY))) for number, other in enumerate(others)]
+    rows.dump(Held(1), *looks, at(coinbase, 0, runs(2, (2 * SUBSIDY, SUBSIDY - 1))))
+    rows.extend(elsewhere := transaction([spend(others[1])], [(SUBSIDY, SHORT), (0, commitment(others[0]))]))
+    rows.dump(Held(1), at(elsewhere, 0, runs(3, (SUBSIDY, SUBSIDY))))
+    rows.live("every second of 2,000 transactions is marked", "regtest")
+    first = coinbase_to(0, 1999 * [(SUBSIDY // 2000, SHORT)])
+    rows.connects(first)
+    spends = [transaction([spend(first, index, SHORT if index % 2 else b"")], [(1, SHORT)]) for index in range(1999)]
+    rows.connects(committing(1, commitment(*spends)), *spends)
+
+
+def first_commitment(rows):
+    """Around the first height of lab that needs commitments."""
+
+    def subsidy(height):
+        return SUBSIDY >> height // 10
+
+    def coinbase(height):
+        return coinbase_to(height, [(subsidy(height), SHORT)])
+
+    rows.live("commitments are needed from a height on, and tested behind coinbases and before outputs")
+    for height in range(29):
+        rows.connects(coinbase(height))
+    old, new, unknown = (reveal(coinbase(number), SHORT) for number in (0, 1, 40))
+    rows.connects(coinbase(29), old)
+    rows.refuses("refused 12", coinbase(30), new)
+    rows.refuses("refused 12", coinbase(30), unknown)
+    rows.refuses("refused 7 2", coinbase(30), new, coinbase(31))
+    paid = committing(30, commitment(unknown), value=subsidy(30))
+    rows.refuses(f"refused 8 1 0 {outpoint(coinbase(40))}", paid, unknown)
+    rows.connects(coinbase(30))
+    rows.refuses("refused 12", coinbase(31), new)
+    rows.connects(committing(31, commitment(new), value=subsidy(31)), new)
+    rows.dump(Held(), at(old, 0, runs(29, (0, SUBSIDY))), at(new, 0, runs(31, (SUBSIDY, SUBSIDY))))
+
+
 GROUPS = [satoshis, refusals, last_height, pointers, parents, fees, marks, moves, finds, mainnet, burns, edicts, names]
 GROUPS += [coinbases, refuse_a_full_block, keep_blocks, all_back, both_ways]
 GROUPS += [burn_and_take_back, spend_twice_behind_two, bring_balances_back, runs_that_fall, words_alone]
 GROUPS += [etch_and_mint_at_once, runes_both_ways, several_runes, behind_an_annex, inscriptions_both_ways]
+GROUPS += [lone_commitments, commitments_to_others, first_commitment]
 
 
 def main():

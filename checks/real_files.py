@@ -25,8 +25,8 @@ import sys
 import tempfile
 import traceback
 
-from chain import DISCONNECT, SHORT, SUBSIDY, block_with, chain, coinbase, envelope, file_a, file_of, id_value, line
-from chain import payload_of, record, reveal_into, twice
+from chain import DISCONNECT, SHORT, SUBSIDY, block_of, block_with, chain, coinbase, commitment, committing, envelope, file_a
+from chain import file_of, id_value, line, payload_of, record, reveal_into, twice
 from kills import Failed, demand, kill_often
 from table import BLOCKS, Table, outpoint, satoshi
 
@@ -215,6 +215,23 @@ def refused_lines(ox):
     feed, wanted = (b"".join(part + b"\n" for part in parts) for parts in zip(*lines))
     ox.wants((0, wanted), "apply", feed=feed)
     ox.has_blocks(blocks[:2])
+
+
+@check("a block that isn't committed to its witnesses is refused, and files that hold one are no store")
+def witness_commitments(ox):
+    right, wrong = commitment(), commitment()[:-1] + bytes([commitment()[-1] ^ 1])
+    block, tip = block_of(bytes(32), [committing(0, right)])
+    other, _ = block_of(tip, [committing(1, wrong)])
+    ox.init()
+    ok = f"ok 0 {tip[::-1].hex()}\n".encode()
+    ox.wants((0, ok + b"refused 12\n"), "apply", feed=line(block) + line(other))
+    ox.has_blocks([block])
+    whole, both = file_a([block]), file_a([block, other])
+    ox.write(both, EMPTY_B)
+    told = f"not a store a {len(whole) - 1}\n".encode()
+    ox.wants((3, told), "apply", feed=GENESIS)
+    ox.wants((3, told), "query", "/status")
+    ox.has(both, EMPTY_B)
 
 
 @check("a disconnect where no block is kept is refused, and changes no byte of the files")

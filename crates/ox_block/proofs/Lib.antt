@@ -8,3 +8,4 @@ pub mod RowsOfHashes
 pub mod FrontsDecideOrder
 pub mod PartsAsPairs
 pub mod StringsInTurn
+pub mod Commitments

@@ -3,6 +3,8 @@ pub mod Reading
 pub mod Fields
 pub mod Answer
 pub mod Hashes
+pub mod Coinbase
+pub mod Commitment
 pub mod Putting
 pub mod Script
 pub mod Witness

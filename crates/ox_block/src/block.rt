@@ -43,7 +43,7 @@ pub struct TxOut {
 }
 
 /// A transaction.
-#[derive(Debug, Drop)]
+#[derive(Debug)]
 pub struct Tx {
     /// The version.
     pub version: u32,
@@ -55,6 +55,19 @@ pub struct Tx {
     pub outputs: Outs,
     /// The lock time.
     pub lock: u32,
+}
+
+// By hand, so that whoever drops a transaction makes one call, and proves nothing of its fields.
+impl Drop for Tx {
+    fn drop(self) {
+        let Tx {
+            version: _version,
+            marked: _marked,
+            inputs: _inputs,
+            outputs: _outputs,
+            lock: _lock,
+        } = self;
+    }
 }
 
 /// The 80 bytes of a block's header, field by field. Hashes are in serialized order.
@@ -75,10 +88,20 @@ pub struct Header {
 }
 
 /// A block: a header and its transactions, the coinbase first.
-#[derive(Debug, Drop)]
+#[derive(Debug)]
 pub struct Block {
     /// The header.
     pub header: Header,
     /// The transactions, in order.
     pub txs: Txs,
+}
+
+// By hand, as for a transaction.
+impl Drop for Block {
+    fn drop(self) {
+        let Block {
+            header: _header,
+            txs: _txs,
+        } = self;
+    }
 }

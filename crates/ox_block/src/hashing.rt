@@ -3,7 +3,7 @@
 ghost use Rattle.std.specs.Prelude.{◌≡◌, ◌++◌, List, ℕ, IfOk, OnOk};
 ghost use Rattle.sha2.specs.Hashers.{Holds256};
 ghost use Rattle.ox_block.specs.Hashes.{double_hash, block_hash, txid, wtxid};
-ghost use Rattle.ox_block.specs.Spelling.{stripped_form};
+ghost use Rattle.ox_block.specs.Spelling.{stripped_form, tx};
 
 use crate::block::{Header, Tx, Txid};
 use crate::spelling::{put_header, put_stripped, put_tx};
@@ -90,4 +90,23 @@ pub fn wtxid_of(tx: &Tx) -> Txid
     match put_tx(&mut hasher, tx) {
         Ok(()) => Txid(twice(hasher)),
     }
+}
+
+/// Writes down a whole transaction, in place of what some room held.
+fn put_whole(room: &mut Vec<u8>, whole: &Tx) -> Result<(), Memory>
+    ensures { OnOk result (room.new.items ≡ tx whole.now) }
+{
+    room.clear();
+    put_tx(room, whole)?;
+    Ok(())
+}
+
+/// The id over a transaction's whole form, as `wtxid_of` gives it, by some room as in `txid_in`.
+/// `Memory` where there is none for the form.
+#[tactic(auto, unfolding(crate::specs::Hashes::wtxid))]
+pub(crate) fn wtxid_in(room: &mut Vec<u8>, tx: &Tx) -> Result<Txid, Memory>
+    ensures { IfOk result (λ id. id.0 ≡ wtxid tx.now) }
+{
+    put_whole(room, tx)?;
+    Ok(Txid(twice_over(room)))
 }

@@ -2,6 +2,7 @@
 #![tactic(auto)]
 
 mod block;
+mod commitment;
 mod fault;
 mod few;
 mod hashing;
@@ -18,6 +19,9 @@ mod witness;
 mod write;
 
 pub use block::{Block, Header, OutPoint, Tx, TxIn, TxOut, Txid};
+pub use commitment::{
+    committed, committed_by, made_commitments_hold, unmarked_blocks_need_none, unmarked_ids_agree,
+};
 pub use fault::BlockFault;
 pub use few::Few;
 pub use hashing::{hash, txid_of, wtxid_of};

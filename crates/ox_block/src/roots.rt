@@ -32,7 +32,7 @@ fn row_above(alloc: Global, row: &[[u8; 32]]) -> Result<Vec<[u8; 32]>, Memory>
 }
 
 /// The root of a row of hashes.
-fn root_of_row(alloc: Global, hashes: &[[u8; 32]]) -> Result<[u8; 32], Memory>
+pub(crate) fn root_of_row(alloc: Global, hashes: &[[u8; 32]]) -> Result<[u8; 32], Memory>
     requires { 0 < length hashes.now }
     ensures { IfOk result (λ root. root ≡ root_of hashes.now) }
 {

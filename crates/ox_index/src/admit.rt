@@ -1,16 +1,19 @@
 //! The tests of a block that come before any satoshi moves.
 
-ghost use Rattle.std.specs.Prelude.{◌≡◌, ◌≤◌, length, map, position, IfSome, Ok, IfOk, IfErr, OnOk};
+ghost use Rattle.std.specs.Prelude.{◌≡◌, ◌<◌, ◌≤◌, length, map, position, IfSome, Ok, IfOk, IfErr};
+ghost use Rattle.std.specs.Prelude.{OnOk};
 ghost use Rattle.ox_block.specs.Hashes.{txid};
+ghost use Rattle.ox_block.specs.Coinbase.{is_null as names_none, is_coinbase as is_only_null};
+ghost use Rattle.ox_block.specs.Coinbase.{has_null as names_none_somewhere};
 ghost use Rattle.ox_block.specs.Spelling.{Lawful};
 ghost use Rattle.ox_rules.specs.Newest.{newest_of};
-ghost use Rattle.ox_model.specs.Step.{is_null as names_none, is_coinbase as is_only_null};
-ghost use Rattle.ox_model.specs.Step.{has_null as names_none_somewhere};
 ghost use Rattle.ox_model.specs.Step.{misplaced_coinbase as first_misplaced, admission};
+ghost use Rattle.ox_model.specs.Step.{lacks_commitment as lacks};
 ghost use Rattle.ox_index.specs.Fault.{Refuses};
 
 use crate::fault::ConnectFault;
-use ox_block::{Block, Tx, TxIn, Txids, root_over, txids_of};
+use ox_block::{Block, Tx, TxIn, Txids, committed_by, root_over, txids_of};
+use ox_bytes::Memory;
 use ox_model::Refusal;
 use ox_sat::Profile;
 use std::alloc::Global;
@@ -65,10 +68,29 @@ fn misplaced_coinbase(txs: &[Tx]) -> Option<usize>
     }
 }
 
+// Whether a block at a height of which the profile asks for a commitment to witnesses isn't
+// committed to its own. These are the ids of its transactions.
+fn lacks_commitment(
+    alloc: Global,
+    p: &Profile,
+    height: u64,
+    block: &Block,
+    ids: &Txids,
+) -> Result<bool, Memory>
+    requires some { 0 < length block.now.txs }
+    requires ids { ids.now ≡ map txid block.now.txs }
+    ensures { IfOk result (λ fails. fails ≡ lacks p.now height block.now) }
+{
+    if height < p.commitment {
+        return Ok(false);
+    }
+    Ok(!committed_by(alloc, block, ids)?)
+}
+
 /// Tests a block that is to stand on this chain, before any of its satoshis move: its height, the
-/// block that it names before it, its root, and where coinbases stand. It answers the ids of the
-/// block's transactions, in order, of which the root is made. `Memory` where there is none for the
-/// ids or the root.
+/// block that it names before it, its root, where coinbases stand, and, from the profile's height
+/// on, the commitment to its witnesses. It answers the ids of the block's transactions, in order,
+/// of which the root is made. `Memory` where there is none for the ids or a root.
 #[tactic(auto, unfolding(ox_block::specs::Hashes::block_root))]
 pub fn admit(
     alloc: Global,
@@ -96,8 +118,11 @@ pub fn admit(
     if have != want {
         return Err(ConnectFault::Refused(Refusal::BadRoot { have, want }));
     }
-    match misplaced_coinbase(block.txs.as_slice()) {
-        Some(tx) => Err(ConnectFault::Refused(Refusal::Coinbase { tx: tx as u32 })),
-        None => Ok(ids),
+    if let Some(tx) = misplaced_coinbase(block.txs.as_slice()) {
+        return Err(ConnectFault::Refused(Refusal::Coinbase { tx: tx as u32 }));
     }
+    if lacks_commitment(alloc, p, height, block, &ids)? {
+        return Err(ConnectFault::Refused(Refusal::BadWitness));
+    }
+    Ok(ids)
 }

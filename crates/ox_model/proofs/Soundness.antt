@@ -68,9 +68,10 @@ pub admitted_right : (p : Profile) (index : Index) (block : Block) (x : Unit {0}
 admitted_right p index block x is =
     let ended = bind_ok (refuse_if (nat_lt p.last (length index.hashes)) _) _ x is in
     let linked = bind_ok (refuse_if (differ block.header.previous (newest_of index.hashes)) _) _ x ended.2 in
-    let rooted = bind_ok (refuse_if (differ block.header.root (block_root block)) _) _ x linked.2 in record {
+    let rooted = bind_ok (refuse_if (differ block.header.root (block_root block)) _) _ x linked.2 in
+    let begun = bind_ok (refuse_misplaced (misplaced_coinbase block.txs)) _ x rooted.2 in record {
       low = ltb-false _ _ (passed _ _ _ ended.1);
-      begun = begun_right _ _ rooted.2;
+      begun = begun_right _ _ begun.1;
     }
 
 -- so it has a coinbase

@@ -1,20 +1,20 @@
 -- What one block makes of an index, or why it is refused. The tests come in this order, and the
 -- first that fails decides.
 use Rattle.std.specs.Prelude.{ℕ, ◌+◌, Bool, not, bytes_eq, List, [], ◌∷◌, ◌++◌, length, Option}
-use Rattle.std.specs.Prelude.{Some, None, option_map, position, Result, Ok, Err, nat_lt, ◌==◌, ◌&&◌}
+use Rattle.std.specs.Prelude.{Some, None, option_map, position, Result, Ok, Err, nat_lt, ◌&&◌}
 use Rattle.std.specs.Prelude.{if◌then◌else◌}
-use Rattle.std.specs.List.{list_any}
 use Rattle.ox_bytes.specs.Reading.{◌>>=◌}
 use Rattle.ox_block.specs.declared.block.Tx.{Tx}
-use Rattle.ox_block.specs.declared.block.TxIn.{TxIn}
 use Rattle.ox_block.specs.declared.block.Block.{Block}
+use Rattle.ox_block.specs.Coinbase.{has_null, is_coinbase}
+use Rattle.ox_block.specs.Commitment.{committed}
 use Rattle.ox_block.specs.Reading.{block_of}
 use Rattle.ox_block.specs.Hashes.{block_hash, block_root}
 use Rattle.ox_sat.specs.declared.profiles.Profile.{Profile}
 use Rattle.ox_rules.specs.declared.refusal.Refusal.{Refusal}
 use Rattle.ox_rules.specs.declared.refusal.Refusal.TheVariants.{Malformed, ChainEnd, Unlinked}
-use Rattle.ox_rules.specs.declared.refusal.Refusal.TheVariants.{BadRoot, Coinbase}
-use Rattle.ox_rules.specs.Newest.{zero_hash, newest_of}
+use Rattle.ox_rules.specs.declared.refusal.Refusal.TheVariants.{BadRoot, Coinbase, BadWitness}
+use Rattle.ox_rules.specs.Newest.{newest_of}
 use Rattle.ox_rules.specs.Transfer.{Transferred, transfer_of}
 use Rattle.ox_inscribe.specs.Reveal.{reveal_of}
 use Rattle.ox_ledger.specs.Block.{runes_after}
@@ -26,18 +26,6 @@ refuse_if fails refusal = if fails then Err refusal else Ok tt
 
 abbrev pub differ : List ℕ → List ℕ → Bool
 differ a b = not (bytes_eq a b)
-
--- an input that names no output: a txid of zeros and the greatest index
-abbrev pub is_null : TxIn → Bool
-is_null input = bytes_eq input.from.txid.0 zero_hash && (input.from.index == 4294967295)
-
--- one of its inputs names no output
-abbrev pub has_null : Tx → Bool
-has_null tx = list_any is_null tx.inputs
-
--- a transaction of one input, which names no output
-abbrev pub is_coinbase : Tx → Bool
-is_coinbase tx = (length tx.inputs == 1) && has_null tx
 
 -- the first transaction that is a coinbase and mustn't be one, or isn't and must: the first of a
 -- block is one, and no other has an input that names no output
@@ -54,6 +42,10 @@ abbrev pub or_malformed : Result Block ℕ → Result Block Refusal
 or_malformed (Ok block) = Ok block
 or_malformed (Err at) = Err (Malformed at)
 
+-- from the profile's height on a block that doesn't commit to its witnesses as it has to
+abbrev pub lacks_commitment : Profile → ℕ → Block → Bool
+lacks_commitment p height block = not (nat_lt height p.commitment) && not (committed block)
+
 -- the tests of a block at the height after the newest, whose chain has these hashes, that come
 -- before any satoshi moves
 abbrev pub admission : Profile → List (List ℕ) → Block → Result (Unit {0}) Refusal
@@ -63,7 +55,8 @@ admission p hashes block = do
       (Unlinked block.header.previous (newest_of hashes))
   rooted ← refuse_if (differ block.header.root (block_root block))
       (BadRoot block.header.root (block_root block))
-  refuse_misplaced (misplaced_coinbase block.txs)
+  begun ← refuse_misplaced (misplaced_coinbase block.txs)
+  refuse_if (lacks_commitment p (length hashes) block) BadWitness
 
 -- the index with a block whose satoshis have moved: what it reveals comes behind the inscriptions,
 -- and its runes move by what its transactions spent

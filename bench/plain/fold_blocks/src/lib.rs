@@ -17,6 +17,9 @@ pub type Run = (u64, u64);
 pub const SUBSIDY: u64 = 5_000_000_000;
 /// As many bytes as an output's script mostly has at most.
 const SHORT: usize = 36;
+/// A script that commits to witnesses begins so, and has so many bytes at least.
+const COMMITMENT: &[u8] = &[0x6a, 0x24, 0xaa, 0x21, 0xa9, 0xed];
+const COMMITMENT_SIZE: usize = 38;
 
 #[derive(Clone)]
 pub enum Script {
@@ -83,9 +86,11 @@ pub struct Output<'a> {
     pub script: &'a [u8],
 }
 
-/// A transaction's id, and where its inputs and outputs stand among those of its block.
+/// A transaction's id, and where its inputs and outputs stand among those of its block. Where it has witnesses, its bytes
+/// stand there in the block's.
 pub struct Tx {
     pub id: Hash,
+    pub marked: Option<Range<usize>>,
     pub inputs: Range<usize>,
     pub outputs: Range<usize>,
 }
@@ -257,6 +262,7 @@ impl<'a> Reader<'a> {
         };
         block.txs.push(Tx {
             id,
+            marked: is_marked.then_some(start..self.at),
             inputs: inputs..block.inputs.len(),
             outputs: outputs..block.outputs.len(),
         });
@@ -272,6 +278,25 @@ impl<'a> Block<'a> {
             reader.tx(&mut block)?;
         }
         (reader.at == bytes.len()).then_some(block)
+    }
+
+    /// Whether the block of these bytes commits to its witnesses as it has to.
+    fn is_committed(&self, bytes: &[u8]) -> bool {
+        let coinbase = &self.txs[0];
+        let scripts = self.outputs[coinbase.outputs.clone()].iter().map(|output| output.script);
+        let mut commits = scripts.filter(|script| script.len() >= COMMITMENT_SIZE && script.starts_with(COMMITMENT));
+        let Some(script) = commits.next_back() else {
+            return self.txs.iter().all(|tx| tx.marked.is_none());
+        };
+        let [reserved] = self.witness(coinbase.inputs.start) else {
+            return false;
+        };
+        if coinbase.inputs.len() != 1 || reserved.len() != 32 {
+            return false;
+        }
+        let whole = |tx: &Tx| tx.marked.clone().map_or(tx.id, |place| twice(&bytes[place]));
+        let root = root(std::iter::once([0; 32]).chain(self.txs[1..].iter().map(whole)).collect());
+        script[COMMITMENT.len()..COMMITMENT_SIZE] == twice(&[&root[..], reserved].concat())
     }
 
     /// The items of the witness of an input, by its place among all inputs.
@@ -466,6 +491,9 @@ impl Index {
         let block = Block::read(bytes)?;
         let tip = self.hashes.last().copied().unwrap_or_default();
         if bytes[4..36] != tip || bytes[36..68] != root(block.txs.iter().map(|tx| tx.id).collect()) {
+            return None;
+        }
+        if !block.is_committed(bytes) {
             return None;
         }
         self.transfer_seen(&block, |place, brought, sats| see(&block, place, brought, sats))?;
