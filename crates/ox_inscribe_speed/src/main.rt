@@ -1,6 +1,6 @@
 //! Keeps inscriptions, and reveals what a block has of them, to be timed: see
-//! bench/inscriptions.py. The arguments are what is done (`look`, `check`, `mark`, `pointers` or
-//! `parents`), how many rows or inputs there are, and how often it is done.
+//! bench/inscriptions.py. The arguments are what is done (`look`, `number`, `check`, `mark`,
+//! `pointers` or `parents`), how many rows or inputs there are, and how often it is done.
 #![tactic(auto)]
 
 use anyhow::bail;
@@ -16,6 +16,7 @@ mod rows;
 #[derive(Clone, Copy, PartialEq, Eq)]
 enum Task {
     Look,
+    Number,
     Check,
     Mark,
     Reveal(blocks::Load),
@@ -25,6 +26,7 @@ enum Task {
 fn task_of(name: &str) -> Option<Task> {
     match name {
         "look" => Some(Task::Look),
+        "number" => Some(Task::Number),
         "check" => Some(Task::Check),
         "mark" => Some(Task::Mark),
         "pointers" => Some(Task::Reveal(blocks::Load::Pointers)),
@@ -38,6 +40,7 @@ fn turn(alloc: Global, task: Task, shelf: &mut Shelf) -> Result<u64, Memory> {
     match task {
         Task::Mark => rows::go_back(alloc, shelf),
         Task::Check => Ok(rows::check(shelf)),
+        Task::Number => Ok(rows::number(shelf)),
         _ => Ok(rows::look(shelf)),
     }
 }
@@ -62,7 +65,7 @@ fn main(rt: HostRuntime) -> anyhow::Result<()> {
         None => None,
     };
     let Some(task) = task else {
-        bail!("look, check, mark, pointers or parents");
+        bail!("look, number, check, mark, pointers or parents");
     };
     let mut numbers = [0, 0];
     for (number, word) in numbers.iter_mut().zip(words) {

@@ -10,6 +10,11 @@ use std::alloc::Global;
 /// So many rows are appended at a time.
 const BATCH: u32 = 1_000;
 
+/// A row of so many has a mark. All rows are revealed below the jubilee.
+const MARKED: u32 = 10;
+
+const JUBILEE: u64 = 1 << 32;
+
 /// The id of the row with a number, in a scattered order.
 pub(crate) fn id_of(number: u32) -> InsId {
     let [a, b, c, d] = number.wrapping_mul(0x9e37_79b1).to_be_bytes();
@@ -38,7 +43,7 @@ fn row_of(alloc: Global, number: u32) -> Result<InsRow, Memory> {
         pointer: None,
         delegate: None,
         parents,
-        marks: 0,
+        marks: if number % MARKED == 0 { 1 } else { 0 },
         sat: Some(u64::from(number) * 2),
     })
 }
@@ -66,7 +71,7 @@ fn append_next(alloc: Global, shelf: &mut Shelf) -> Result<(), Memory>
 
 /// A shelf of so many rows.
 pub(crate) fn shelf_of(alloc: Global, count: u32) -> Result<Shelf, Memory> {
-    let mut shelf = Shelf::new(alloc);
+    let mut shelf = Shelf::new(alloc, JUBILEE);
     for _ in 0..count / BATCH {
         append_next(alloc, &mut shelf)?;
     }
@@ -99,6 +104,15 @@ pub(crate) fn look(shelf: &Shelf) -> u64 {
             .wrapping_add(first_of(shelf.on(sat)))
             .wrapping_add(next_of(shelf.next_on(sat + 1)))
             .wrapping_add(first_of(shelf.children(number)));
+    }
+    sum
+}
+
+/// The sum of the signed numbers of all rows, each without its sign.
+pub(crate) fn number(shelf: &Shelf) -> u64 {
+    let mut sum: u64 = 0;
+    for sequence in 0..shelf.len() {
+        sum = sum.wrapping_add(shelf.number(sequence).unsigned_abs());
     }
     sum
 }

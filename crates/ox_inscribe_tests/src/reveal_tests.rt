@@ -293,7 +293,7 @@ const PLAIN_AND_UNBOUND: &[u8] = &[
 #[test]
 fn pointers_below_the_sum_are_followed(rt: HostRuntime) {
     let mut table = fresh(rt.alloc());
-    let mut shelf = Shelf::new(rt.alloc());
+    let mut shelf = Shelf::new(rt.alloc(), 0);
     let spent = [mine(&rt, rt.alloc(), &mut table, &mut shelf, 0)];
     let plan = Plan {
         spends: &spent,
@@ -313,7 +313,7 @@ fn pointers_below_the_sum_are_followed(rt: HostRuntime) {
 #[test]
 fn an_unknown_even_tag_unbinds(rt: HostRuntime) {
     let mut table = fresh(rt.alloc());
-    let mut shelf = Shelf::new(rt.alloc());
+    let mut shelf = Shelf::new(rt.alloc(), 0);
     let spent = [mine(&rt, rt.alloc(), &mut table, &mut shelf, 0)];
     let plan = spending(&spent, UNBOUND);
     connect_one(&rt, rt.alloc(), &mut table, &mut shelf, plan, 1);
@@ -325,7 +325,7 @@ fn an_unknown_even_tag_unbinds(rt: HostRuntime) {
 #[test]
 fn an_annex_is_set_aside(rt: HostRuntime) {
     let mut table = fresh(rt.alloc());
-    let mut shelf = Shelf::new(rt.alloc());
+    let mut shelf = Shelf::new(rt.alloc(), 0);
     let spent = [mine(&rt, rt.alloc(), &mut table, &mut shelf, 0)];
     let plan = Plan {
         spends: &spent,
@@ -342,7 +342,7 @@ fn an_annex_is_set_aside(rt: HostRuntime) {
 #[test]
 fn inscriptions_for_the_fees_come_last(rt: HostRuntime) {
     let mut table = fresh(rt.alloc());
-    let mut shelf = Shelf::new(rt.alloc());
+    let mut shelf = Shelf::new(rt.alloc(), 0);
     let first = mine(&rt, rt.alloc(), &mut table, &mut shelf, 0);
     let both = [first, mine(&rt, rt.alloc(), &mut table, &mut shelf, 1)];
     let last = [mine(&rt, rt.alloc(), &mut table, &mut shelf, 2)];
@@ -366,7 +366,7 @@ fn inscriptions_for_the_fees_come_last(rt: HostRuntime) {
 #[test]
 fn an_unbound_one_does_not_go_to_the_fees(rt: HostRuntime) {
     let mut table = fresh(rt.alloc());
-    let mut shelf = Shelf::new(rt.alloc());
+    let mut shelf = Shelf::new(rt.alloc(), 0);
     let first = mine(&rt, rt.alloc(), &mut table, &mut shelf, 0);
     let both = [first, mine(&rt, rt.alloc(), &mut table, &mut shelf, 1)];
     let plan = spending(&both, PLAIN_AND_UNBOUND);
@@ -382,7 +382,7 @@ fn an_unbound_one_does_not_go_to_the_fees(rt: HostRuntime) {
 #[test]
 fn marks_tell_of_the_place_and_of_earlier_inscriptions(rt: HostRuntime) {
     let mut table = fresh(rt.alloc());
-    let mut shelf = Shelf::new(rt.alloc());
+    let mut shelf = Shelf::new(rt.alloc(), 0);
     let first = [mine(&rt, rt.alloc(), &mut table, &mut shelf, 0)];
     let second = [mine(&rt, rt.alloc(), &mut table, &mut shelf, 1)];
     let third = [mine(&rt, rt.alloc(), &mut table, &mut shelf, 2)];
@@ -430,7 +430,7 @@ fn id_of(txid: Txid, index: u32) -> InsId {
 #[test]
 fn parents_stood_on_the_inputs_before(rt: HostRuntime) {
     let mut table = fresh(rt.alloc());
-    let mut shelf = Shelf::new(rt.alloc());
+    let mut shelf = Shelf::new(rt.alloc(), 0);
     mine(&rt, rt.alloc(), &mut table, &mut shelf, 0);
     let spent = [mine(&rt, rt.alloc(), &mut table, &mut shelf, 1)];
     let none = [nothing()];
@@ -460,7 +460,7 @@ fn parents_stood_on_the_inputs_before(rt: HostRuntime) {
 #[test]
 fn a_parent_has_a_satoshi_and_is_named_once(rt: HostRuntime) {
     let mut table = fresh(rt.alloc());
-    let mut shelf = Shelf::new(rt.alloc());
+    let mut shelf = Shelf::new(rt.alloc(), 0);
     let spent = [mine(&rt, rt.alloc(), &mut table, &mut shelf, 0)];
     let reveals = spending(&spent, PLAIN_AND_UNBOUND);
     connect_one(&rt, rt.alloc(), &mut table, &mut shelf, reveals, 1);
@@ -490,7 +490,7 @@ fn drop_one(rt: &impl Abort, shelf: &mut Shelf)
 #[test]
 fn rows_of_a_repeated_transaction_go_one_at_a_time(rt: HostRuntime) {
     let mut table = fresh(rt.alloc());
-    let mut shelf = Shelf::new(rt.alloc());
+    let mut shelf = Shelf::new(rt.alloc(), 0);
     let spent = [mine(&rt, rt.alloc(), &mut table, &mut shelf, 0)];
     let none = [nothing()];
     let plan = spending(&spent, PLAIN);
@@ -551,7 +551,7 @@ fn shows_two(rt: &impl Abort, shelf: &Shelf, child: &InsId) -> bool {
 #[test]
 fn revealed_rows_go_again_at_the_mark(rt: HostRuntime) {
     let mut table = fresh(rt.alloc());
-    let mut shelf = Shelf::new(rt.alloc());
+    let mut shelf = Shelf::new(rt.alloc(), 0);
     let spent = [mine(&rt, rt.alloc(), &mut table, &mut shelf, 0)];
     let reveals = spending(&spent, PLAIN);
     connect_one(&rt, rt.alloc(), &mut table, &mut shelf, reveals, 1);
@@ -590,7 +590,7 @@ fn is_closed(
 #[test]
 fn nothing_is_revealed_while_a_row_is_hidden(rt: HostRuntime) {
     let mut table = fresh(rt.alloc());
-    let mut shelf = Shelf::new(rt.alloc());
+    let mut shelf = Shelf::new(rt.alloc(), 0);
     let spent = [mine(&rt, rt.alloc(), &mut table, &mut shelf, 0)];
     let plan = spending(&spent, PLAIN);
     connect_one(&rt, rt.alloc(), &mut table, &mut shelf, plan, 1);
@@ -605,7 +605,7 @@ fn nothing_is_revealed_while_a_row_is_hidden(rt: HostRuntime) {
 #[test]
 fn a_mark_set_anew_lets_rows_be_revealed(rt: HostRuntime) {
     let mut table = fresh(rt.alloc());
-    let mut shelf = Shelf::new(rt.alloc());
+    let mut shelf = Shelf::new(rt.alloc(), 0);
     let first = [mine(&rt, rt.alloc(), &mut table, &mut shelf, 0)];
     let second = [mine(&rt, rt.alloc(), &mut table, &mut shelf, 1)];
     let plan = spending(&first, PLAIN);
@@ -658,7 +658,7 @@ fn has_long_body(rt: &impl Abort, alloc: Global, shelf: &Shelf) -> bool {
 #[test]
 fn a_body_of_many_pushes_is_kept_whole(rt: HostRuntime) {
     let mut table = fresh(rt.alloc());
-    let mut shelf = Shelf::new(rt.alloc());
+    let mut shelf = Shelf::new(rt.alloc(), 0);
     let spent = [mine(&rt, rt.alloc(), &mut table, &mut shelf, 0)];
     let script = long_script(&rt, rt.alloc());
     let plan = spending(&spent, script.as_slice());
