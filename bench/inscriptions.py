@@ -3,9 +3,10 @@
 
     python3 bench/inscriptions.py
 
-has crates/ox_speed append 100,000 and 1,000,000 rows, look each up by its id, its satoshi, the next one and its
-children, and, over as many rows, set a mark, append 1,000 rows and go back; the plain program does the last with ordered
-maps too. Then it has a block reveal what one transaction of 2,000 and of 20,000 inputs has: nine envelopes with pointers
+has crates/ox_speed append 100,000 and 1,000,000 rows, of which a tenth are cursed, look each up by its id, its satoshi,
+the next one and its children, give each its signed number, and, over as many rows, set a mark, append 1,000 rows and go
+back; the plain program does the last with ordered maps too, and keeps in each row how many before it are cursed. Then it
+has a block reveal what one transaction of 2,000 and of 20,000 inputs has: nine envelopes with pointers
 for each two inputs, or five parents for each two. It prints the processor time of the runs that took least of three,
 and the memory that a row takes. Build both programs first, as bench/README.md says.
 """
@@ -20,6 +21,7 @@ from runs import in_another_process, least, plain_program, proved_program
 PROGRAMS = {"proved": proved_program("ox_speed"), "plain": plain_program("inscriptions")}
 LOOKS = 1
 MARKS = 500
+NUMBERS = 20
 REVEALS = 10
 # an output of any kind, and an envelope's opening and end
 SCRIPT = b"\x51"
@@ -105,10 +107,13 @@ def main():
         filled = measure("look", count, 0)
         looked = measure("look", count, LOOKS)
         marked = measure("mark", count, MARKS)
-        proved, plain = ((filled[name], looked[name], marked[name]) for name in PROGRAMS)
+        numbered = measure("number", count, NUMBERS)
+        proved, plain = ((filled[name], looked[name], marked[name], numbered[name]) for name in PROGRAMS)
         tell(f"{count:,} rows, appended, a row", "microseconds", *(it[0][0] / count * 1e6 for it in (proved, plain)))
         tell(f"{count:,} rows, looked up in four ways, a row", "microseconds",
              *((it[1][0] - it[0][0]) / LOOKS / count * 1e6 for it in (proved, plain)))
+        tell(f"{count:,} rows, signed numbers, a row", "nanoseconds",
+             *((it[3][0] - it[0][0]) / NUMBERS / count * 1e9 for it in (proved, plain)))
         tell(f"{count:,} rows, a mark, 1,000 more and back", "milliseconds",
              *((it[2][0] - it[0][0]) / MARKS * 1e3 for it in (proved, plain)))
         print(f"the same in plain Rust with ordered maps: {time_ordered_maps(count):.2f} milliseconds", flush=True)

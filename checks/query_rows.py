@@ -15,6 +15,9 @@ OCTETS = "application/octet-stream"
 GENESIS_HASH = "000000000019d6689c085ae165831e934ff763ae46a2a6c172b3f1b60a8ce26f"
 GENESIS_TXID = "4a5e1e4baab89f3a32518a88c31bc87f618f76673e2cc77ab2127b7afdeda33b"
 LAB_SUPPLY = 99_999_999_890
+LAB_JUBILEE = 6
+# the marks of an inscription behind another of its input, on the same satoshi
+BEHIND = ("offset", "reinscription")
 GOODS = 2_055_900_680_524_219_742
 # in 32 or in 64 bits 0, or 0 once it is a hundred times as much
 WRAPS = ("1073741824", "4294967296", "4611686018427387904", "9223372036854775808")
@@ -59,10 +62,13 @@ class Queries(Rows):
     def content(self, tx, body, kind=OCTETS, encoding=None, index=0):
         self.asks(f"GET /content/{inscription(tx, index)}", body, kind=kind, encoding=encoding)
 
-    def inscription(self, tx, index=0, **fields):
-        """What `/inscription` says: these fields, and nothing of what isn't named."""
+    def inscription(self, tx, index=0, marks=(), **fields):
+        """What `/inscription` says of a lab chain: these marks and fields, and nothing of what isn't named. The sequence is the
+        number where no other is named."""
         tree = dict.fromkeys(("content_length", "content_type", "delegate", "encoding", "metadata", "metaprotocol", "place", "sat"))
-        tree |= {"id": inscription(tx, index), "parents": [], **fields}
+        tree |= {"children": [], "id": inscription(tx, index), "marks": list(marks), "parents": [], "sequence": fields["number"]}
+        below = fields["height"] < LAB_JUBILEE
+        tree |= {"cursed": below and bool(marks), "vindicated": not below and bool(marks), **fields}
         self.says(f"/inscription/{tree['id']}", tree)
 
     def output(self, at, height, ranges, inscriptions=(), runes=(), script=SHORT):
@@ -391,7 +397,7 @@ def past(rows):
 def one_inscription(rows):
     rows.case("an unbound inscription is nowhere")
     tx = reveal_in_a_block(rows, UNBOUND)
-    rows.inscription(tx, content_length=2, content_type="text/plain", height=6, number=0)
+    rows.inscription(tx, marks=["even"], content_length=2, content_type="text/plain", height=6, number=0)
     rows.content(tx, b"hi", "text/plain")
     rows.case("ids and pages are read as they are written")
     txid = hash_text(id_of(reveal_in_a_block(rows, envelope())))
@@ -428,11 +434,11 @@ def texts(rows):
     one = {"content_length": 1, "height": 6, "place": at(tx, 0), "sat": 0}
     told = ["", "a\nb", "~", "\x7f", None, " "]
     for index, text in enumerate(told):
-        rows.inscription(tx, index, content_type=text, number=index, **one)
+        rows.inscription(tx, index, BEHIND if index else (), content_type=text, number=index, **one)
     for index, text in enumerate(["br", "b\nr", ""], 6):
-        rows.inscription(tx, index, encoding=text, number=index, **one)
+        rows.inscription(tx, index, BEHIND, encoding=text, number=index, **one)
     last = one | {"content_length": 0, "metadata": "00ff", "metaprotocol": "m"}
-    rows.inscription(tx, 9, number=9, **last)
+    rows.inscription(tx, 9, BEHIND, number=9, **last)
     rows.case("a content that isn't text is replied as it is")
     tx = reveal_in_a_block(rows, envelope([], b"\x00\xff\n"))
     rows.content(tx, b"\x00\xff\n")
@@ -459,11 +465,11 @@ def delegates(rows):
     for tx in (own, one, over):
         rows.content(tx, b"hi", "text/plain")
     rows.lacks(*(f"/content/{inscription(tx)}" for tx in (two, none, gone)))
-    place = at(gone, 0)
-    rows.inscription(over, content_length=1, delegate=inscription(own), height=5, number=3, place=place, sat=0)
-    rows.inscription(one, delegate=inscription(own), height=3, number=1, place=place, sat=0)
+    there, again = {"place": at(gone, 0), "sat": 0}, ["reinscription"]
+    rows.inscription(over, 0, again, content_length=1, delegate=inscription(own), height=5, number=-3, sequence=3, **there)
+    rows.inscription(one, delegate=inscription(own), height=3, number=0, sequence=1, **there)
     absent = inscription(plain(1))
-    rows.inscription(gone, content_length=1, delegate=absent, height=7, number=5, place=place, sat=0)
+    rows.inscription(gone, 0, again, content_length=1, delegate=absent, height=7, number=2, sequence=5, **there)
 
 
 def long_content(rows):
@@ -497,7 +503,7 @@ def block_on(rows, tx):
 
 
 def places(rows):
-    rows.case("outputs tell inscriptions by place and number, which pointers choose")
+    rows.case("outputs tell inscriptions by place and sequence, which pointers choose")
     rows.plain(6)
     pointers = ("b70b", "b80b", "000000000000000001", "e80300000000000000")
     script = b"".join(envelope([(2, bytes.fromhex(pointer))]) for pointer in pointers)
@@ -511,8 +517,9 @@ def places(rows):
     rows.satoshi(2998, [], at(tx, 1_998, 1))
     rows.satoshi(1000, ids(tx, 3), at(tx, 0, 1))
     chosen = ((2_999, at(tx, 1_999, 1)), (0, at(tx, 0)), (0, at(tx, 0)), (1_000, at(tx, 0, 1)))
+    marks = (["pointer"], ["offset", "pointer"], ["offset", "pointer", "reinscription"], ["offset", "pointer"])
     for number, (sat, place) in enumerate(chosen):
-        rows.inscription(tx, number, height=6, number=number, place=place, sat=sat)
+        rows.inscription(tx, number, marks[number], height=6, number=number, place=place, sat=sat)
     rows.case("an output's runs may fall")
     rows.plain(6)
     far = envelope([(2, bytes.fromhex("00863ba101"))]) + envelope()
@@ -532,9 +539,9 @@ def parents(rows):
     q = reveal(p, envelope([(3, id_of(p))]) + envelope([(3, q_id)]))
     rows.extend(p, q)
     shared = {"height": 6, "place": at(q, 0), "sat": SUBSIDY}
-    rows.inscription(p, number=0, **shared)
-    rows.inscription(q, number=1, parents=ids(p, 0), **shared)
-    rows.inscription(q, 1, number=2, **shared)
+    rows.inscription(p, children=ids(q, 0), number=0, **shared)
+    rows.inscription(q, 0, ["reinscription"], number=1, parents=ids(p, 0), **shared)
+    rows.inscription(q, 1, BEHIND, number=2, **shared)
     rows.output(outpoint(q), 6, [[SUBSIDY, 2 * SUBSIDY]], ids(p, 0) + ids(q, 0, 1))
     rows.case("an inscription tells both of its parents, in the order in which it names them")
     rows.plain(6)
@@ -543,7 +550,7 @@ def parents(rows):
     child = envelope([(3, id_value(id_of(both), 1)), (3, id_value(id_of(both), 0)), (3, id_value(id_of(both), 1))])
     tx = reveal(both, child)
     rows.extend(tx)
-    rows.inscription(tx, height=7, number=2, parents=ids(both, 1, 0), place=at(tx, 0), sat=0)
+    rows.inscription(tx, 0, ["reinscription"], height=7, number=2, parents=ids(both, 1, 0), place=at(tx, 0), sat=0)
 
 
 def moves(rows):
@@ -553,7 +560,7 @@ def moves(rows):
     one = transaction([spend(plain(0)), spend(plain(1), 0, envelope())], [(SUBSIDY, SHORT)])
     two = reveal(plain(2), envelope())
     rows.connects(paid, one, two)
-    rows.inscription(one, height=6, number=1, place=at(paid, SUBSIDY), sat=SUBSIDY)
+    rows.inscription(one, 0, ["input"], height=6, number=1, place=at(paid, SUBSIDY), sat=SUBSIDY)
     rows.inscription(two, height=6, number=0, place=at(two, 0), sat=2 * SUBSIDY)
     rows.case("a moved inscription is told where it is now, and that it is lost")
     rows.plain(6)
@@ -703,7 +710,7 @@ def bytes_that_are_no_text(rows):
     tx = reveal_in_a_block(rows, envelope([(7, b"\xff"), (9, b"\xff"), (1, b"\x7e\x1f")], b"a") + envelope([(9, b"\x7f")], b"a"))
     one = {"content_length": 1, "height": 6, "place": at(tx, 0), "sat": 0}
     rows.inscription(tx, 0, content_type="~\x1f", number=0, **one)
-    rows.inscription(tx, 1, encoding="\x7f", number=1, **one)
+    rows.inscription(tx, 1, BEHIND, encoding="\x7f", number=1, **one)
     rows.content(tx, b"a")
     rows.content(tx, b"a", index=1)
 
@@ -724,7 +731,7 @@ def delegates_without_bodies(rows):
     rows.content(over, b"hi", "text/plain")
     rows.content(to_over, b"a", "text/css", "br")
     html = {"content_length": 1, "content_type": "text/html", "delegate": inscription(over), "encoding": "gzip"}
-    rows.inscription(to_over, height=6, number=4, place=at(last, 0), sat=0, **html)
+    rows.inscription(to_over, 0, ["reinscription"], height=6, number=1, sequence=4, place=at(last, 0), sat=0, **html)
 
 
 def runs_that_fall(rows):
@@ -739,8 +746,8 @@ def runs_that_fall(rows):
     rows.output(outpoint(tx), 6, [[5_000_000_000, 7_500_000_000]])
     rows.output(outpoint(tx, 1), 6, [[7_500_000_000, 10_000_000_000], [0, 2_500_000_000]], ids(tx, 1, 0))
     rows.output(outpoint(tx, 2), 6, [[2_500_000_000, 5_000_000_000]])
-    rows.inscription(tx, 0, height=6, number=0, place=at(tx, 3_500_000_000, 1), sat=1_000_000_000)
-    rows.inscription(tx, 1, height=6, number=1, place=at(tx, 500_000_000, 1), sat=8_000_000_000)
+    rows.inscription(tx, 0, ["pointer"], height=6, number=0, place=at(tx, 3_500_000_000, 1), sat=1_000_000_000)
+    rows.inscription(tx, 1, ["offset", "pointer"], height=6, number=1, place=at(tx, 500_000_000, 1), sat=8_000_000_000)
     rows.satoshi(1_000_000_000, ids(tx, 0), at(tx, 3_500_000_000, 1))
     rows.satoshi(8_000_000_000, ids(tx, 1), at(tx, 500_000_000, 1))
 
@@ -753,30 +760,84 @@ def parents_of_their_block(rows):
     q = reveal(p, envelope([(3, id_of(p))]) + envelope([(3, q_id)]))
     rows.extend(p, q)
     shared = {"height": 7, "place": at(q, 0), "sat": SUBSIDY}
-    rows.inscription(first, content_length=2, content_type="text/plain", height=6, number=0)
-    rows.inscription(p, number=1, **shared)
-    rows.inscription(q, number=2, parents=ids(p, 0), **shared)
-    rows.inscription(q, 1, number=3, **shared)
+    rows.inscription(first, 0, ["even"], content_length=2, content_type="text/plain", height=6, number=0)
+    rows.inscription(p, children=ids(q, 0), number=1, **shared)
+    rows.inscription(q, 0, ["reinscription"], number=2, parents=ids(p, 0), **shared)
+    rows.inscription(q, 1, BEHIND, number=3, **shared)
     rows.satoshi(SUBSIDY, ids(p, 0) + ids(q, 0, 1), at(q, 0))
 
 
 def curse_below_the_jubilee(rows):
-    rows.case("inscriptions below and at the jubilee are told by their numbers")
+    rows.case("inscriptions below and at the jubilee are told by signed numbers")
     rows.plain(3)
     first, even, last = reveal(plain(0), 2 * envelope()), reveal(plain(1), UNBOUND), reveal(plain(2), 2 * envelope())
     rows.extend(first)
     rows.plain(5)
     rows.extend(even)
     rows.extend(last)
-    for index in (0, 1):
-        rows.inscription(first, index, height=3, number=index, place=at(first, 0), sat=0)
-        rows.inscription(last, index, height=6, number=3 + index, place=at(last, 0), sat=2 * SUBSIDY)
-    rows.inscription(even, content_length=2, content_type="text/plain", height=5, number=2)
-    rows.says("/inscriptions/0", {"ids": ids(first, 0, 1) + ids(even, 0) + ids(last, 0, 1), "more": False, "page": 0})
+
+    def tell(last):
+        """What is said of all five, of which the newest block's transaction revealed the last two."""
+        for index, marks in enumerate(((), BEHIND)):
+            rows.inscription(first, index, marks, height=3, number=-index, sequence=index, place=at(first, 0), sat=0)
+            numbers = {"number": 1 + index, "sequence": 3 + index}
+            rows.inscription(last, index, marks, height=6, place=at(last, 0), sat=2 * SUBSIDY, **numbers)
+        text = {"content_length": 2, "content_type": "text/plain"}
+        rows.inscription(even, 0, ["even"], height=5, number=-2, sequence=2, **text)
+        rows.says("/inscriptions/0", {"ids": ids(first, 0, 1) + ids(even, 0) + ids(last, 0, 1), "more": False, "page": 0})
+
+    tell(last)
+    rows.disconnects()
+    rows.lacks(f"/inscription/{inscription(last)}")
+    other = transaction([spend(plain(2), 0, 2 * envelope())], [(SUBSIDY - 1, SHORT)])
+    rows.extend(other)
+    tell(other)
+
+
+def marked(split, first):
+    """What reveals inscriptions of each mark alone from nine outputs of 1,000 satoshis of a split, the first at a place: the
+    transactions in order, and what is told of each inscription: its transaction, its index, its marks and its fields."""
+
+    def lone(place, tapscript):
+        return transaction([spend(split, first + place, tapscript)], [(1_000, SHORT)])
+
+    incomplete, pushnum = (bytes.fromhex(script) for script in ("0063036f7264010168", "0063036f726451016168"))
+    scripts = (UNBOUND, envelope([(1, b"a"), (1, b"b")]), incomplete, envelope([(2, b"\1")]), pushnum, UNBOUND + envelope())
+    txs = [lone(place, script) for place, script in enumerate(scripts)]
+    txs.append(transaction([spend(split, first + 6), spend(split, first + 7, envelope())], [(2_000, SHORT)]))
+    txs.append(lone(8, envelope()))
+    txs.append(transaction([spend(txs[-1], 0, envelope())], [(1_000, SHORT)]))
+    unbound = {"content_length": 2, "content_type": "text/plain"}
+
+    def on(place, at_place, **fields):
+        return {"place": at_place, "sat": 1_000 * (first + place) + at_place["offset"] % 1_000, **fields}
+
+    last = on(8, at(txs[8], 0))
+    told = [(txs[0], 0, ["even"], unbound), (txs[1], 0, ["repeated"], on(1, at(txs[1], 0), content_type="a"))]
+    told += [(txs[2], 0, ["incomplete"], on(2, at(txs[2], 0))), (txs[3], 0, ["pointer"], on(3, at(txs[3], 1)))]
+    told += [(txs[4], 0, ["pushnum"], on(4, at(txs[4], 0), content_type="a")), (txs[5], 0, ["even"], unbound)]
+    told += [(txs[5], 1, ["offset"], on(5, at(txs[5], 0))), (txs[6], 0, ["input"], on(7, at(txs[6], 1_000)))]
+    return txs, [*told, (txs[7], 0, [], last), (txs[8], 0, ["reinscription"], last)]
+
+
+def marks_alone(rows):
+    rows.case("each mark alone curses below the jubilee, and vindicates from it on")
+    rows.plain(4)
+    split = transaction([spend(plain(0))], [(1_000, SHORT)] * 27)
+    rows.extend(split)
+    cursed = uncursed = 0
+    for height in (LAB_JUBILEE - 1, LAB_JUBILEE, LAB_JUBILEE + 1):
+        txs, told = marked(split, 9 * (height - LAB_JUBILEE + 1))
+        rows.extend(*txs)
+        for tx, index, marks, fields in told:
+            is_cursed = height < LAB_JUBILEE and bool(marks)
+            number = -1 - cursed if is_cursed else uncursed
+            rows.inscription(tx, index, marks, height=height, number=number, sequence=cursed + uncursed, **fields)
+            cursed, uncursed = cursed + is_cursed, uncursed + (not is_cursed)
 
 
 GROUPS = [chains, first_block, methods, satoshis, audits, edicts, terms, two_runes, names, pages_of_runes]
 GROUPS += [one_inscription, pages_of_inscriptions, texts, delegates, long_content, places, parents, moves]
 GROUPS += [ends_of_numbers, other_methods, keep_blocks, burn_and_take_back, equal_coinbases, names_past_an_end]
 GROUPS += [pages_that_wrap, many_runes, bytes_that_are_no_text, delegates_without_bodies, runs_that_fall]
-GROUPS += [parents_of_their_block, curse_below_the_jubilee]
+GROUPS += [parents_of_their_block, curse_below_the_jubilee, marks_alone]

@@ -308,9 +308,11 @@ def inscriptions_and_runes(ox):
     place = {"offset": 0, "outpoint": at}
     inscription = {"content_length": 2, "content_type": "text/plain", "delegate": None, "encoding": "br", "height": 3, "id": ids[0]}
     inscription |= {"metadata": "00ff", "metaprotocol": "m", "number": 0, "parents": [], "place": place, "sat": 0}
+    inscription |= {"children": [], "cursed": False, "marks": [], "sequence": 0, "vindicated": False}
     ox.says(f"/inscription/{ids[0]}", inscription)
     third = {"content_length": 5, "content_type": None, "delegate": ids[1], "encoding": None, "id": ids[2], "metadata": None}
-    ox.says(f"/inscription/{ids[2]}", inscription | third | {"metaprotocol": None, "number": 2})
+    third |= {"cursed": True, "marks": ["offset", "reinscription"], "metaprotocol": None, "number": -2, "sequence": 2}
+    ox.says(f"/inscription/{ids[2]}", inscription | third)
     satoshi = {"decimal": "0.0", "degree": "0°0′0″0‴", "inscriptions": ids, "name": "lkrmvqwx", "number": 0, "place": place}
     ox.says("/sat/0", satoshi | {"rarity": "mythic"})
     rune = {"amount": "5", "burned": "0", "cap": "10", "divisibility": 0, "etching": txid, "height": [None, None], "held": "7"}

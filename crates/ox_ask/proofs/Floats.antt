@@ -1,5 +1,5 @@
 -- No tree of a reply has a float, so that its text is the compact one.
-use Rattle.std.proofs.Common.{◌≡◌, ℕ, Bool, true, false, cond, ◌||◌, List, [], ◌∷◌, length, map, Option, Some, None, IfSome, option_map, option_and_then, slice_get, refl, ap, ap₂, subst}
+use Rattle.std.proofs.Common.{◌≡◌, ℕ, ◌/◌, ◌%◌, ℤ, pos, negsuc, Bool, true, false, cond, ◌||◌, List, [], ◌∷◌, length, map, Option, Some, None, IfSome, option_map, option_and_then, slice_get, refl, ap, ap₂, subst, codes, ◌==◌}
 use Rattle.std.specs.FinMap as maps
 use Rattle.std.specs.List.{cons_option, filter_map, flat_map}
 use Rattle.std.specs.Str.{is_utf8}
@@ -18,7 +18,8 @@ use Rattle.ox_rules.specs.Text.{hash_text}
 use Rattle.ox_rules.specs.declared.place.Place.{Place}
 use Rattle.ox_rules.specs.declared.place.Place.TheVariants.{Out, Lost}
 use Rattle.ox_rules.specs.declared.rows.OutRow.{OutRow}
-use Rattle.ox_inscribe.specs.Inscriptions.{on}
+use Rattle.ox_inscribe.specs.Inscriptions.{children, on}
+use Rattle.ox_inscribe.specs.Signed.{is_cursed, is_vindicated, number_of}
 use Rattle.ox_inscribe.specs.declared.row.InsRow.{InsRow}
 use Rattle.ox_allocation.specs.Balances.{Balance}
 use Rattle.ox_etching.specs.declared.row.RuneRow.{RuneRow}
@@ -32,13 +33,13 @@ use Rattle.ox_routes.specs.declared.route.Route.{Route}
 use Rattle.ox_routes.specs.declared.route.Route.TheVariants.{Audit, BlockHash, Connect, Content, Disconnect, Inscription, Inscriptions, Output, Rune, Runes, Sat, Status}
 use Rattle.ox_ask.specs.Ask.{inscription_at, rune_at, tree_at}
 use Rattle.ox_ask.specs.Audits.{audit_tree, rune_audit_tree}
-use Rattle.ox_ask.specs.Inscriptions.{id_tree, ids_tree, inscription_id, inscription_tree}
+use Rattle.ox_ask.specs.Inscriptions.{id_tree, ids_tree, inscription_id, inscription_tree, mark_if, marks_tree}
 use Rattle.ox_ask.specs.Named.{inscription_named, rune_named}
 use Rattle.ox_ask.specs.Pages.{entries_of, page_tree}
 use Rattle.ox_ask.specs.Runes.{balance_among, balance_tree, balances_tree, character, rune_id, rune_tree, span_tree}
 use Rattle.ox_ask.specs.Texts.{number_in, outpoint_in}
 use Rattle.ox_ask.specs.Trees.{Asked, block_tree, output_tree, run_items, sat_tree, status_tree, tip}
-use Rattle.ox_ask.specs.Values.{amount, count, hash_or_null, hex, or_null, place_tree, text_or_null}
+use Rattle.ox_ask.specs.Values.{amount, count, hash_or_null, hex, integer, or_null, place_tree, text_or_null}
 
 pub record IsPlain (tree : Data) : Type 0 where
   pub plain : has_float tree ≡ false
@@ -118,20 +119,47 @@ an_id id = record { plain = refl }
 ids : (rows : List InsRow) (numbers : List ℕ) → IsPlain (ids_tree rows numbers)
 ids rows numbers = all_items inscription_id (filter_map (slice_get rows) numbers) (λ row. record { plain = refl })
 
-an_inscription : (index : Index) (n : ℕ) (row : InsRow) → IsPlain (inscription_tree index n row)
-an_inscription index n row = all_of (
+a_mark : (marks worth : ℕ) (text : List ℕ) (texts : List Data) → IsPlain (array (items_of texts)) → IsPlain (array (items_of (mark_if marks worth text texts)))
+a_mark marks worth text texts h = by (marks / worth % 2 == 1)
+  where
+    by : (set : Bool) → IsPlain (array (items_of (cond set (string text ∷ texts) texts)))
+    by true = record { plain = h.plain }
+    by false = h
+
+all_marks : (marks : ℕ) → IsPlain (marks_tree marks)
+all_marks marks =
+    a_mark marks 1 (codes "even") _ (
+    a_mark marks 2 (codes "repeated") _ (
+    a_mark marks 4 (codes "incomplete") _ (
+    a_mark marks 8 (codes "input") _ (
+    a_mark marks 16 (codes "offset") _ (
+    a_mark marks 32 (codes "pointer") _ (
+    a_mark marks 64 (codes "pushnum") _ (
+    a_mark marks 128 (codes "reinscription") [] (record { plain = refl }))))))))
+
+an_integer : (z : ℤ) → IsPlain (integer z)
+an_integer (pos n) = record { plain = refl }
+an_integer (negsuc n) = record { plain = refl }
+
+an_inscription : (jubilee : ℕ) (index : Index) (n : ℕ) (row : InsRow) → IsPlain (inscription_tree jubilee index n row)
+an_inscription jubilee index n row = all_of (
+    both (ids index.inscriptions (children index.inscriptions n)) (
     both (maybe_null (λ body. count (length body)) row.body (λ body. a_count (length body))) (
     both (maybe_null text_or_null row.content_type a_text) (
+    both (a_boolean (is_cursed jubilee row)) (
     both (maybe_null id_tree row.delegate an_id) (
     both (maybe_null text_or_null row.encoding a_text) (
     both (a_count row.height) (
     both (an_id row.id) (
+    both (all_marks row.marks) (
     both (maybe_null hex row.metadata (λ bytes. a_string (encode_lower bytes))) (
     both (maybe_null text_or_null row.metaprotocol a_text) (
-    both (a_count n) (
+    both (an_integer (number_of jubilee index.inscriptions n row)) (
     both (all_items id_tree row.parents an_id) (
     both (a_place (option_and_then (where_is index) row.sat)) (
-    both (maybe_null count row.sat a_count) none))))))))))))
+    both (maybe_null count row.sat a_count) (
+    both (a_count n) (
+    both (a_boolean (is_vindicated jubilee row)) none)))))))))))))))))
 
 a_span : (start end : Option ℕ) → IsPlain (span_tree start end)
 a_span start end = record { plain = ap₂ (λ a b. a || (b || false)) (maybe_null count start a_count).plain (maybe_null count end a_count).plain }
@@ -197,8 +225,8 @@ trees_plain asked BlockHash part =
     chosen (λ height. option_map (block_tree height) (slice_get asked.index.hashes height)) (number_in part)
     (λ height. mapped (block_tree height) (slice_get asked.index.hashes height) (λ hash. record { plain = refl }))
 trees_plain asked Inscription part =
-    chosen (inscription_at asked.index) (inscription_named asked.index.inscriptions part)
-    (λ n. mapped (inscription_tree asked.index n) (slice_get asked.index.inscriptions n) (an_inscription asked.index n))
+    chosen (inscription_at asked.profile.jubilee asked.index) (inscription_named asked.index.inscriptions part)
+    (λ n. mapped (inscription_tree asked.profile.jubilee asked.index n) (slice_get asked.index.inscriptions n) (an_inscription asked.profile.jubilee asked.index n))
 trees_plain asked Inscriptions part =
     mapped (page_tree inscription_id asked.index.inscriptions) (number_in part) (λ page. a_page inscription_id asked.index.inscriptions page (λ row. record { plain = refl }))
 trees_plain asked Output part =

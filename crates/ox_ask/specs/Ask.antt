@@ -26,9 +26,10 @@ use Rattle.ox_ask.specs.Runes.{rune_id, rune_tree}
 use Rattle.ox_ask.specs.Texts.{number_in, outpoint_in}
 use Rattle.ox_ask.specs.Trees.{Asked, block_tree, error_tree, output_tree, sat_tree, status_tree}
 
--- an inscription and a rune, by their numbers
-abbrev pub inscription_at : Index → ℕ → Option Data
-inscription_at index n = option_map (inscription_tree index n) (slice_get index.inscriptions n)
+-- an inscription by its sequence and a jubilee, and a rune by its number
+abbrev pub inscription_at : ℕ → Index → ℕ → Option Data
+inscription_at jubilee index n =
+    option_map (inscription_tree jubilee index n) (slice_get index.inscriptions n)
 
 abbrev pub rune_at : Index → ℕ → Option Data
 rune_at index n = option_map (rune_tree index n) (slice_get index.runes n)
@@ -42,7 +43,8 @@ tree_at asked BlockHash part =
     (λ height. option_map (block_tree height) (slice_get asked.index.hashes height))
     (number_in part)
 tree_at asked Inscription part =
-    option_and_then (inscription_at asked.index) (inscription_named asked.index.inscriptions part)
+    option_and_then (inscription_at asked.profile.jubilee asked.index)
+    (inscription_named asked.index.inscriptions part)
 tree_at asked Inscriptions part =
     option_map (page_tree inscription_id asked.index.inscriptions) (number_in part)
 tree_at asked Output part =

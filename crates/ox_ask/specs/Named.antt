@@ -12,7 +12,7 @@ use Rattle.ox_inscribe.specs.declared.row.InsRow.{InsRow}
 use Rattle.ox_etching.specs.declared.row.RuneRow.{RuneRow}
 use Rattle.ox_model.specs.Found.{by_id, by_name}
 
--- the number of the first inscription with the id that a text spells, if there is one
+-- the sequence of the first inscription with the id that a text spells, if there is one
 abbrev pub inscription_named : List InsRow → List ℕ → Option ℕ
 inscription_named rows text = option_and_then (find rows) (id_of_text text)
 

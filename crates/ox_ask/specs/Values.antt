@@ -1,9 +1,10 @@
 -- The values that several trees share: numbers, amounts, texts, hashes and places.
-use Rattle.std.specs.Prelude.{ℕ, List, codes, decimal, Option, Some, None, if◌then◌else◌}
+use Rattle.std.specs.Prelude.{ℕ, ℤ, pos, negsuc, List, codes, decimal, Option, Some, None, if◌then◌else◌}
 use Rattle.std.specs.Option.{option_map_or}
 use Rattle.std.specs.Str.{is_utf8}
 use Rattle.hex.specs.Hex.{encode_lower}
-use Rattle.serde_json.specs.Data.{Data, null, number, string, object, no_members, member, unsigned}
+use Rattle.serde_json.specs.Data.{Data, null, number, string, object, no_members, member}
+use Rattle.serde_json.specs.Data.{unsigned, negative}
 use Rattle.ox_rules.specs.declared.place.Place.{Place}
 use Rattle.ox_rules.specs.declared.place.Place.TheVariants.{Out, Lost}
 use Rattle.ox_rules.specs.Text.{hash_text, outpoint_text}
@@ -15,6 +16,11 @@ or_null tree value = option_map_or tree value null
 -- a number of at most 64 bits
 abbrev pub count : ℕ → Data
 count n = number (unsigned n)
+
+-- an integer of 64 bits, which may be below 0
+abbrev pub integer : ℤ → Data
+integer (pos n) = number (unsigned n)
+integer (negsuc n) = number (negative (negsuc n))
 
 -- an amount of 128 bits, which no number of JSON can be trusted to hold: its decimal digits as text
 abbrev pub amount : ℕ → Data

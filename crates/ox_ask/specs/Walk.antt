@@ -7,7 +7,7 @@ use Rattle.ox_range.specs.Numbers.{numbers_from}
 use Rattle.ox_inscribe.specs.Inscriptions.{on}
 use Rattle.ox_inscribe.specs.declared.row.InsRow.{InsRow}
 
--- the numbers of the inscriptions on the satoshis from one up to another, without that
+-- the sequences of the inscriptions on the satoshis from one up to another, without that
 abbrev pub on_between : List InsRow → ℕ → ℕ → List ℕ
 on_between rows first end = flat_map (on rows) (numbers_from first (end - first))
 

@@ -82,9 +82,10 @@ impl Chain {
     }
 
     /// The changes of the kept blocks, the newest first: each leads from the next older index to
-    /// the newer one.
+    /// the newer one, and each of these indexes is sound.
     pub fn changes(&self) -> &Changes
-        ensures { LeadDown (stack_in self.now).index (stack_in self.now).older result.now }
+        ensures lead { LeadDown (stack_in self.now).index (stack_in self.now).older result.now }
+        ensures end { AllEnd (stack_in self.now).profile (stack_in self.now).index result.now }
     {
         &self.changes
     }

@@ -299,6 +299,10 @@ impl View for Live {
         self.parts.shelf.row(n)
     }
 
+    fn number(&self, n: u32) -> i64 {
+        self.parts.shelf.number(n)
+    }
+
     fn find(&self, id: &InsId) -> Option<u32> {
         self.parts.shelf.find(id)
     }

@@ -36,6 +36,7 @@ pub struct Parts {
     pub ledger: Ledger,
     ghost known: { IsProfile profile } by { IsProfile-prop profile },
     ghost counted: { ledger.profile ≡ profile },
+    ghost numbered: { shelf.jubilee ≡ profile.jubilee },
     ghost undue: { (runes_in ledger).due ≡ [] },
     ghost undue_then: { ForSome (rune_mark ledger) (λ runes. runes.due ≡ []) },
 }
@@ -71,7 +72,7 @@ impl Parts {
             alloc,
             profile: *p,
             outputs: Outputs::new(alloc),
-            shelf: Shelf::new(alloc),
+            shelf: Shelf::new(alloc, p.jubilee),
             ledger,
         })
     }
@@ -297,6 +298,7 @@ fn batch_from<T>(all: &[T], place: usize) -> &[T] {
 fn append(shelf: &mut Shelf, rows: &[SharedRow]) -> Result<(), Memory>
     ensures ok { OnOk result (shelf.new.rows ≡ shelf.old.rows ++ rows.now) }
     ensures mark { shelf.new.mark ≡ shelf.old.mark }
+    ensures jubilee { shelf.new.jubilee ≡ shelf.old.jubilee }
 {
     if rows.len() > (u32::MAX - shelf.len()) as usize {
         return Err(Memory);

@@ -14,3 +14,5 @@ pub mod SeenLaws
 pub mod StandLaws
 pub mod OrderLaws
 pub mod TurnLaws
+pub mod CursedLaws
+pub mod SignedLaws

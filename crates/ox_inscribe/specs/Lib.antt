@@ -1,4 +1,5 @@
 pub mod Inscriptions
+pub mod Signed
 pub mod Numbers
 pub mod Reveal
 pub mod Scenes

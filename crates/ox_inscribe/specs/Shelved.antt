@@ -10,14 +10,17 @@ use Rattle.std.specs.declared.cmp.Ordering.{Ordering}
 use Rattle.std.specs.Cmp.Lexicographic.{slice_cmp}
 use Rattle.ox_envelope.specs.declared.id.InsId.{InsId}
 use Rattle.ox_inscribe.specs.Inscriptions.{find, has_parent, numbers_where, on}
+use Rattle.ox_inscribe.specs.Signed.{is_cursed}
+use Rattle.ox_inscribe.specs.declared.cursed.Cursed.{Cursed}
 use Rattle.ox_inscribe.specs.declared.keys.Keys.{Keys}
 use Rattle.ox_inscribe.specs.declared.row.InsRow.{InsRow}
 use Rattle.ox_shards.specs.Shards.{value_at}
 
--- the rows, and those at the mark, if one is set
+-- the rows, those at the mark, if one is set, and the jubilee by which rows are numbered
 pub record Shelved : Type 0 where
   pub rows : List InsRow
   pub mark : Option (List InsRow)
+  pub jubilee : ℕ
 
 -- ids by the bytes of their txid, and then by index
 abbrev pub id_cmp : InsId → InsId → Ordering
@@ -117,10 +120,17 @@ pub record AreKeysUpTo (rows : List InsRow) (row : InsRow) (keys : Keys) : Type 
       (id : InsId) → IsEither (numbers_where (has_parent id) 0 rows)
       (numbers_where (has_parent id) 0 (rows ++ row ∷ [])) (at id_cmp keys.parents id)
 
+-- the places of those of these rows that are cursed, rising
+abbrev pub AreCursed : List InsRow → Cursed → Type 0
+AreCursed rows cursed =
+    cursed.places.items ≡ numbers_where (is_cursed cursed.jubilee) 0 rows
+
 -- so many of these rows are shown, and so many stood at the mark: rows are hidden only where no row
 -- came since
-pub record IsShelf (rows : List InsRow) (keys : Keys) (shown : ℕ) (mark : Option ℕ) : Type 0 where
+pub record IsShelf (rows : List InsRow) (keys : Keys) (cursed : Cursed) (shown : ℕ)
+    (mark : Option ℕ) : Type 0 where
   pub found : AreKeys rows keys
+  pub noted : AreCursed rows cursed
   pub small : length rows < 2 ^ 32
   pub fits : shown ≤ length rows
   pub marked : unwrap_or mark 0 ≤ length rows

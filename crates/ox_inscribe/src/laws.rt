@@ -1,17 +1,21 @@
 //! What the definitions of `specs/` imply of what a block reveals and of how rows are looked up.
 
-ghost use Rattle.std.specs.Prelude.{◌≡◌, ℕ, List, map, slice_get, Some, Ok};
+ghost use Rattle.std.specs.Prelude.{◌≡◌, ℕ, ℤ, pos, negsuc, List, count_by, map, slice_get};
+ghost use Rattle.std.specs.Prelude.{Some, Ok};
+ghost use Rattle.std.specs.List.{filter_map};
 ghost use Rattle.std.specs.List.Sorted.{IsPermutation, IsStrictlyIncreasing};
 ghost use Rattle.ox_block.specs.declared.block.Tx.{Tx};
 ghost use Rattle.ox_sat.specs.declared.profiles.Profile.{Profile};
+ghost use Rattle.ox_range.specs.Numbers.{numbers_from};
 ghost use Rattle.ox_rules.specs.Outputs.{Outputs};
 ghost use Rattle.ox_rules.specs.Transfer.{Transferred, transfer_of};
-ghost use Rattle.ox_inscribe.specs.Inscriptions.{children, next_on, on};
+ghost use Rattle.ox_inscribe.specs.Inscriptions.{children, next_on, numbers_where, on};
 ghost use Rattle.ox_inscribe.specs.Moves.{AreMovesOf};
 ghost use Rattle.ox_inscribe.specs.Numbers.{IsNextOn, bears, is_among, names};
 ghost use Rattle.ox_inscribe.specs.Origins.{AllRevealed, HasParents, IsPlaced, bare, bare_rows_of};
 ghost use Rattle.ox_inscribe.specs.Origins.{rows_before};
 ghost use Rattle.ox_inscribe.specs.Reveal.{reveal_of};
+ghost use Rattle.ox_inscribe.specs.Signed.{is_cursed, is_uncursed, number_at};
 ghost use Rattle.ox_inscribe.specs.declared.row.InsRow.{InsRow};
 
 /// What a transfer tells of each transaction behind the coinbase: its id, one row for each input,
@@ -62,4 +66,18 @@ pub fn rows_are_looked_up_exactly()
         → IsStrictlyIncreasing (children rows number) }
     ensures on_rises { (rows : List InsRow) (sat : ℕ) → IsStrictlyIncreasing (on rows sat) }
     ensures next { (rows : List InsRow) (low : ℕ) → IsNextOn rows low (next_on rows low) }
+{}
+
+/// Of signed numbers, those of the cursed rows are -1, -2, .. in their order, and those of the
+/// others 0, 1, .., without a gap. So no two rows have the same one.
+pub fn signed_numbers_have_no_gaps()
+    ensures cursed { (jubilee : ℕ) (rows : List InsRow)
+        → filter_map (number_at jubilee rows) (numbers_where (is_cursed jubilee) 0 rows)
+        ≡ map negsuc (numbers_from 0 (count_by (is_cursed jubilee) rows)) }
+    ensures others { (jubilee : ℕ) (rows : List InsRow)
+        → filter_map (number_at jubilee rows) (numbers_where (is_uncursed jubilee) 0 rows)
+        ≡ map pos (numbers_from 0 (count_by (is_uncursed jubilee) rows)) }
+    ensures once { (jubilee : ℕ) (rows : List InsRow) (one other : ℕ) (number : ℤ)
+        → number_at jubilee rows one ≡ Some number → number_at jubilee rows other ≡ Some number
+        → one ≡ other }
 {}

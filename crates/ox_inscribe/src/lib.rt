@@ -3,7 +3,7 @@
 
 pub use laws::{
     each_envelope_reveals_a_row, new_rows_are_on_their_inputs, parents_were_on_the_inputs,
-    rows_are_looked_up_exactly, transfers_tell_of_transactions,
+    rows_are_looked_up_exactly, signed_numbers_have_no_gaps, transfers_tell_of_transactions,
 };
 pub use ox_bytes::Memory;
 pub use row::InsRow;
@@ -11,6 +11,7 @@ pub use shared::SharedRow;
 pub use shelf::Shelf;
 
 mod ahead;
+mod cursed;
 mod keys;
 mod laws;
 mod numbers;

@@ -1,10 +1,13 @@
 //! What is kept of an inscription.
 
+ghost use Rattle.std.specs.Prelude.{◌≡◌};
+ghost use Rattle.ox_inscribe.specs.Signed.{is_cursed, is_vindicated};
+
 use ox_bytes::Bytes;
 use ox_envelope::{Ids, InsId};
 
-/// An inscription: what its envelope says, and where it was made. Its number is its place among all
-/// rows, from 0.
+/// An inscription: what its envelope says, and where it was made. Its sequence is its place among
+/// all rows, from 0.
 #[derive(Debug, Drop)]
 pub struct InsRow {
     /// The transaction that revealed it, and how many of that transaction's envelopes come before.
@@ -34,4 +37,20 @@ pub struct InsRow {
     pub marks: u16,
     /// The satoshi that it is on. An unbound inscription is on none.
     pub sat: Option<u64>,
+}
+
+impl InsRow {
+    /// Whether it is cursed: revealed below this jubilee, and marked.
+    pub fn is_cursed(&self, jubilee: u64) -> bool
+        ensures { result ≡ is_cursed jubilee self.now }
+    {
+        u64::from(self.height) < jubilee && self.marks != 0
+    }
+
+    /// Whether it is vindicated: revealed from this jubilee on, and marked.
+    pub fn is_vindicated(&self, jubilee: u64) -> bool
+        ensures { result ≡ is_vindicated jubilee self.now }
+    {
+        jubilee <= u64::from(self.height) && self.marks != 0
+    }
 }

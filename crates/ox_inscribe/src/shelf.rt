@@ -6,8 +6,10 @@ ghost use Rattle.std.specs.Prelude.{drop, option_map};
 ghost use Rattle.ox_inscribe.specs.Inscriptions.{find, on, next_on, children};
 ghost use Rattle.ox_inscribe.specs.Moves.{AreMovesOf};
 ghost use Rattle.ox_inscribe.specs.Reveal.{reveal_of};
-ghost use Rattle.ox_inscribe.specs.Shelved.{AreKeys};
+ghost use Rattle.ox_inscribe.specs.Shelved.{AreCursed, AreKeys};
+ghost use Rattle.ox_inscribe.specs.Signed.{number_at};
 
+use crate::cursed::Cursed;
 use crate::keys::Keys;
 use crate::numbers::numbers_below;
 use crate::reveal::reveal_rows;
@@ -20,8 +22,9 @@ use ox_rules::Moved;
 use std::alloc::Global;
 use std::marker::Model;
 
-/// Inscriptions in the order of their numbers, with a mark to which they can go back. Contracts see
-/// the list of rows, and beside it the list at the mark or none.
+/// Inscriptions in order, with a mark to which they can go back. A row's sequence is its place among
+/// them; beside it a row has a signed number, for which the shelf is told its jubilee once.
+/// Contracts see the list of rows, beside it the list at the mark or none, and the jubilee.
 ///
 /// The mark copies nothing: rows that stood there and are dropped stay, unseen, until the next
 /// mark, so that to go back takes no memory.
@@ -31,6 +34,7 @@ pub struct Shelf {
     /// All rows, the unseen ones behind the others.
     rows: Vec<SharedRow>,
     keys: Keys,
+    cursed: Cursed,
     /// How many rows are seen.
     shown: usize,
     /// How many stood at the mark.
@@ -46,9 +50,11 @@ impl Model for Shelf {
     ghost view = { λ shelf. record {
       rows = take shelf.shown shelf.rows.items;
       mark = option_map (λ n. take n shelf.rows.items) shelf.mark;
+      jubilee = shelf.cursed.jubilee;
     } };
 
-    ghost invariant = { λ shelf. IsShelf shelf.rows.items shelf.keys shelf.shown shelf.mark };
+    ghost invariant = { λ shelf.
+        IsShelf shelf.rows.items shelf.keys shelf.cursed shelf.shown shelf.mark };
 }
 
 /// Puts a row behind others that are found by these keys. `Memory` where there is none for it: the
@@ -110,16 +116,60 @@ fn shorten(rows: &mut Vec<SharedRow>, keys: &mut Keys, len: usize)
     }
 }
 
+/// Takes the last rows away until so many are left, and forgets which of them were cursed.
+fn cut(rows: &mut Vec<SharedRow>, keys: &mut Keys, cursed: &mut Cursed, len: usize)
+    requires found { AreKeys rows.old.items keys.old }
+    requires noted { AreCursed rows.old.items cursed.old }
+    requires small { length rows.old.items < 2 ^ 32 }
+    ensures rows { rows.new.items ≡ take len rows.old.items }
+    ensures found { AreKeys rows.new.items keys.new }
+    ensures noted { AreCursed rows.new.items cursed.new }
+    ensures jubilee { cursed.new.jubilee ≡ cursed.old.jubilee }
+{
+    cursed.truncate(len);
+    shorten(rows, keys, len);
+}
+
+/// Notes which of the rows from a place on are cursed. `Memory` where there is none for it: those
+/// rows are taken away then.
+fn note_or_shorten(
+    rows: &mut Vec<SharedRow>,
+    keys: &mut Keys,
+    cursed: &mut Cursed,
+    from: usize,
+) -> Result<(), Memory>
+    requires found { AreKeys rows.old.items keys.old }
+    requires noted { AreCursed (take from rows.old.items) cursed.old }
+    requires from { from ≤ length rows.old.items }
+    requires small { length rows.old.items < 2 ^ 32 }
+    ensures ok { OnOk result (rows.new.items ≡ rows.old.items) }
+    ensures err { OnErr result (rows.new.items ≡ take from rows.old.items) }
+    ensures found { AreKeys rows.new.items keys.new }
+    ensures noted { AreCursed rows.new.items cursed.new }
+    ensures jubilee { cursed.new.jubilee ≡ cursed.old.jubilee }
+{
+    match cursed.note(rows, from) {
+        Ok(()) => Ok(()),
+        Err(e) => {
+            shorten(rows, keys, from);
+            Err(e)
+        }
+    }
+}
+
 impl Shelf {
-    /// No rows, and no mark. It takes no memory until a row is appended.
-    pub fn new(alloc: Global) -> Shelf
+    /// No rows, and no mark. Marked rows that are revealed below this jubilee are cursed. It takes
+    /// no memory until a row is appended.
+    pub fn new(alloc: Global, jubilee: u64) -> Shelf
         ensures rows { result.rows ≡ [] }
         ensures mark { result.mark ≡ None }
+        ensures jubilee { result.jubilee ≡ jubilee }
     {
         Shelf {
             alloc,
             rows: Vec::new(alloc),
             keys: Keys::new(alloc),
+            cursed: Cursed::new(alloc, jubilee),
             shown: 0,
             mark: None,
         }
@@ -139,7 +189,7 @@ impl Shelf {
         self.len() == 0
     }
 
-    /// The row with a number.
+    /// The row with a sequence.
     pub fn row(&self, n: u32) -> &InsRow
         requires { n < length self.now.rows }
         ensures { slice_get self.now.rows n ≡ Some result.now }
@@ -147,7 +197,17 @@ impl Shelf {
         self.rows[n as usize].row()
     }
 
-    /// The rows from a number on, which are shared, not copied. `Memory` where there is none for
+    /// The signed number of the row with a sequence: of a cursed one -1 less the cursed ones before
+    /// it, of any other how many others stand before it. It costs by the logarithm of how many are
+    /// cursed.
+    pub fn number(&self, n: u32) -> i64
+        requires { n < length self.now.rows }
+        ensures { number_at self.now.jubilee self.now.rows n ≡ Some result }
+    {
+        self.cursed.number(&self.rows, n)
+    }
+
+    /// The rows from a sequence on, which are shared, not copied. `Memory` where there is none for
     /// the list of them.
     pub fn rows_from(&self, n: u32) -> Result<List<SharedRow>, Memory>
         requires { n ≤ length self.now.rows }
@@ -156,7 +216,7 @@ impl Shelf {
         share_all(self.alloc, &self.rows[n as usize..self.shown])
     }
 
-    /// The number of the first row with an id, if there is one.
+    /// The sequence of the first row with an id, if there is one.
     pub fn find(&self, id: &InsId) -> Option<u32>
         ensures { result ≡ find self.now.rows id.now }
     {
@@ -168,14 +228,14 @@ impl Shelf {
         }
     }
 
-    /// The numbers of the rows on a satoshi, rising.
+    /// The sequences of the rows on a satoshi, rising.
     pub fn on(&self, sat: u64) -> &[u32]
         ensures { result.now ≡ on self.now.rows sat }
     {
         numbers_below(self.keys.on(sat), self.shown)
     }
 
-    /// The least satoshi from a number up that a row is on, and the numbers of the rows on it,
+    /// The least satoshi from a number up that a row is on, and the sequences of the rows on it,
     /// rising. `None` exactly where there is none.
     pub fn next_on(&self, sat: u64) -> Option<(u64, &[u32])>
         ensures { option_map (λ found. (found.0, found.1.now)) result
@@ -187,7 +247,8 @@ impl Shelf {
         }
     }
 
-    /// The numbers of the rows among whose parents the id of the row with a number stands, rising.
+    /// The sequences of the rows among whose parents the id of the row with a sequence stands,
+    /// rising.
     pub fn children(&self, of: u32) -> &[u32]
         requires { of < length self.now.rows }
         ensures { result.now ≡ children self.now.rows of }
@@ -203,12 +264,14 @@ impl Shelf {
         ensures ok { OnOk result (self.new.rows ≡ self.old.rows ++ rows.now) }
         ensures err { OnErr result (self.new.rows ≡ self.old.rows) }
         ensures mark { self.new.mark ≡ self.old.mark }
+        ensures jubilee { self.new.jubilee ≡ self.old.jubilee }
     {
         if self.rows.len() > self.shown {
             return Err(Memory);
         }
         match push_rows(&mut self.rows, &mut self.keys, rows) {
             Ok(()) => {
+                note_or_shorten(&mut self.rows, &mut self.keys, &mut self.cursed, self.shown)?;
                 self.shown = self.rows.len();
                 Ok(())
             }
@@ -239,6 +302,7 @@ impl Shelf {
             ≡ length (reveal_of self.old.rows height block.now.txs moved.now.txs)) }
         ensures err { OnErr result (self.new.rows ≡ self.old.rows) }
         ensures mark { self.new.mark ≡ self.old.mark }
+        ensures jubilee { self.new.jubilee ≡ self.old.jubilee }
     {
         if self.shown < self.rows.len() {
             return Err(Memory);
@@ -252,6 +316,7 @@ impl Shelf {
             height,
         ) {
             Ok(()) => {
+                note_or_shorten(&mut self.rows, &mut self.keys, &mut self.cursed, self.shown)?;
                 let count = self.rows.len() - self.shown;
                 self.shown = self.rows.len();
                 Ok(count as u32)
@@ -268,10 +333,11 @@ impl Shelf {
         requires { n ≤ length self.old.rows }
         ensures rows { self.new.rows ≡ take (length self.old.rows - n) self.old.rows }
         ensures mark { self.new.mark ≡ self.old.mark }
+        ensures jubilee { self.new.jubilee ≡ self.old.jubilee }
     {
         let left = self.shown - n as usize;
         let end = left.max(self.mark.unwrap_or(0));
-        shorten(&mut self.rows, &mut self.keys, end);
+        cut(&mut self.rows, &mut self.keys, &mut self.cursed, end);
         self.shown = left;
     }
 
@@ -279,8 +345,9 @@ impl Shelf {
     pub fn begin(&mut self)
         ensures rows { self.new.rows ≡ self.old.rows }
         ensures mark { self.new.mark ≡ Some self.old.rows }
+        ensures jubilee { self.new.jubilee ≡ self.old.jubilee }
     {
-        shorten(&mut self.rows, &mut self.keys, self.shown);
+        cut(&mut self.rows, &mut self.keys, &mut self.cursed, self.shown);
         self.mark = Some(self.shown);
     }
 
@@ -289,9 +356,10 @@ impl Shelf {
         requires { IsSome self.old.mark }
         ensures rows { Some self.new.rows ≡ self.old.mark }
         ensures mark { self.new.mark ≡ None }
+        ensures jubilee { self.new.jubilee ≡ self.old.jubilee }
     {
         if let Some(len) = self.mark {
-            shorten(&mut self.rows, &mut self.keys, len);
+            cut(&mut self.rows, &mut self.keys, &mut self.cursed, len);
             self.shown = len;
         }
         self.mark = None;

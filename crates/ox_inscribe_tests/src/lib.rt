@@ -2,6 +2,8 @@
 #![tactic(auto)]
 
 #[cfg(test)]
+mod number_tests;
+#[cfg(test)]
 mod reveal_tests;
 #[cfg(test)]
 mod shelf_tests;

@@ -246,7 +246,7 @@ fn is_closed(
 #[test]
 fn nothing_is_revealed_while_a_row_is_hidden(rt: HostRuntime) {
     let mut table = fresh(rt.alloc());
-    let mut shelf = Shelf::new(rt.alloc());
+    let mut shelf = Shelf::new(rt.alloc(), 0);
     let spent = [mine(&rt, rt.alloc(), &mut table, &mut shelf, 0)];
     let plan = spending(&spent, PLAIN);
     connect_one(&rt, rt.alloc(), &mut table, &mut shelf, plan, 1);
@@ -261,7 +261,7 @@ fn nothing_is_revealed_while_a_row_is_hidden(rt: HostRuntime) {
 #[test]
 fn a_mark_set_anew_lets_rows_be_revealed(rt: HostRuntime) {
     let mut table = fresh(rt.alloc());
-    let mut shelf = Shelf::new(rt.alloc());
+    let mut shelf = Shelf::new(rt.alloc(), 0);
     let first = [mine(&rt, rt.alloc(), &mut table, &mut shelf, 0)];
     let second = [mine(&rt, rt.alloc(), &mut table, &mut shelf, 1)];
     let plan = spending(&first, PLAIN);

@@ -119,7 +119,7 @@ fn put(rt: &impl Abort, alloc: Global, shelf: &mut Shelf, name: u8, sat: Option<
 /// Five rows: 1 on 5; 2 on none, a child of 1; 3 on 3; 3 again on 5, a child of 1; 4 on 9, a child
 /// of 3.
 fn five_rows(rt: &impl Abort, alloc: Global) -> Shelf {
-    let mut shelf = Shelf::new(alloc);
+    let mut shelf = Shelf::new(alloc, 0);
     put(rt, alloc, &mut shelf, 1, Some(5), 0);
     put(rt, alloc, &mut shelf, 2, None, 1);
     put(rt, alloc, &mut shelf, 3, Some(3), 0);

@@ -6,12 +6,13 @@ mod audit;
 mod change;
 mod view;
 
-ghost use Rattle.std.specs.Prelude.{◌≡◌, ℕ, ◌+◌, ◌-◌, ◌<◌, List, [], ◌∷◌, ◌++◌, length, take};
+ghost use Rattle.std.specs.Prelude.{◌≡◌, ℕ, ℤ, ◌+◌, ◌-◌, ◌<◌, List, [], ◌∷◌, ◌++◌, length, take};
 ghost use Rattle.std.specs.Prelude.{slice_get, All, Some, Ok};
 ghost use Rattle.ox_outside.specs.Files.{Files};
 ghost use Rattle.ox_feed.specs.Feed.{FeedLine};
 ghost use Rattle.ox_sat.specs.Profiles.{IsProfile};
 ghost use Rattle.ox_sat.specs.declared.profiles.Profile.{Profile};
+ghost use Rattle.ox_inscribe.specs.Signed.{number_at};
 ghost use Rattle.ox_inscribe.specs.declared.row.InsRow.{InsRow};
 ghost use Rattle.ox_ledger.specs.Part.{Continues};
 ghost use Rattle.ox_model.specs.Audit.{audit_of};
@@ -57,13 +58,17 @@ pub fn chains_are_sound()
         → IsSound p (index_of p blocks) }
 {}
 
-/// What is numbered stays. Every inscription of a chain has its number in each longer chain that
-/// begins with it, and so has every rune, of which no more changes than its mints and what was
-/// burned.
+/// What is numbered stays. Every inscription of a chain has its sequence and its signed number in
+/// each longer chain that begins with it. So every rune has its number, and no more of it changes
+/// than its mints and what was burned.
 pub fn numbers_stay()
-    ensures inscriptions { (p : Profile) (blocks more : List (List ℕ)) (number : ℕ) (row : InsRow)
-        → slice_get (index_of p blocks).inscriptions number ≡ Some row
-        → slice_get (index_of p (blocks ++ more)).inscriptions number ≡ Some row }
+    ensures inscriptions { (p : Profile) (blocks more : List (List ℕ)) (sequence : ℕ)
+        (row : InsRow)
+        → slice_get (index_of p blocks).inscriptions sequence ≡ Some row
+        → slice_get (index_of p (blocks ++ more)).inscriptions sequence ≡ Some row }
+    ensures signed { (p : Profile) (blocks more : List (List ℕ)) (sequence : ℕ) (number : ℤ)
+        → number_at p.jubilee (index_of p blocks).inscriptions sequence ≡ Some number
+        → number_at p.jubilee (index_of p (blocks ++ more)).inscriptions sequence ≡ Some number }
     ensures runes { (p : Profile) (blocks more : List (List ℕ))
         → Continues (index_of p blocks).runes (index_of p (blocks ++ more)).runes }
 {}

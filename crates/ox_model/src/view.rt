@@ -6,6 +6,7 @@ ghost use Rattle.std.specs.FinMap as map;
 ghost use Rattle.ox_sat.specs.Profiles.{IsProfile};
 ghost use Rattle.ox_sat.specs.declared.profiles.Profile.{Profile};
 ghost use Rattle.ox_inscribe.specs.Inscriptions.{children, find, next_on, on};
+ghost use Rattle.ox_inscribe.specs.Signed.{number_at};
 ghost use Rattle.ox_ledger.specs.Runes.{balances_at};
 ghost use Rattle.ox_model.specs.Audit.{audit_of};
 ghost use Rattle.ox_model.specs.Found.{by_id, by_name, held_of};
@@ -61,27 +62,35 @@ pub trait View {
     fn inscriptions(&self) -> u32
         ensures { result ≡ length (index self.now).inscriptions };
 
-    /// The inscription with a number.
+    /// The inscription with a sequence, which is its place among all, from 0.
     fn inscription(&self, n: u32) -> &InsRow
         requires { n < length (index self.now).inscriptions }
         ensures { slice_get (index self.now).inscriptions n ≡ Some result.now };
 
-    /// The number of the first inscription with an id; `None` exactly where there is none.
+    /// The signed number of the inscription with a sequence: of a cursed one, which has a mark and
+    /// was revealed below the profile's jubilee, -1 less the cursed ones before it; of any other
+    /// how many others stand before it.
+    fn number(&self, n: u32) -> i64
+        requires { n < length (index self.now).inscriptions }
+        ensures { number_at (chain self.now).jubilee (index self.now).inscriptions n
+            ≡ Some result };
+
+    /// The sequence of the first inscription with an id; `None` exactly where there is none.
     fn find(&self, id: &InsId) -> Option<u32>
         ensures { result ≡ find (index self.now).inscriptions id.now };
 
-    /// The numbers of the inscriptions on a satoshi, rising.
+    /// The sequences of the inscriptions on a satoshi, rising.
     fn on(&self, sat: u64) -> &[u32]
         ensures { result.now ≡ on (index self.now).inscriptions sat };
 
-    /// The least satoshi from a number up that bears an inscription, and the numbers of those on
+    /// The least satoshi from a number up that bears an inscription, and the sequences of those on
     /// it, rising; `None` exactly where there is none.
     fn next_on(&self, sat: u64) -> Option<(u64, &[u32])>
         ensures { option_map (λ found. (found.0, found.1.now)) result
             ≡ next_on (index self.now).inscriptions sat };
 
-    /// The numbers of the inscriptions among whose parents the id of the one with a number stands,
-    /// rising.
+    /// The sequences of the inscriptions among whose parents the id of the one with a sequence
+    /// stands, rising.
     fn children(&self, of: u32) -> &[u32]
         requires { of < length (index self.now).inscriptions }
         ensures { result.now ≡ children (index self.now).inscriptions of };

@@ -2,6 +2,7 @@
 use Rattle.std.proofs.Common.{◌≡◌, ℕ, suc, ◌+◌, ◌-◌, ◌<◌, ◌≤◌, ◌^◌, Bool, true, false, cond, ltb, lt-ltb, ltb-true, IsUtf8, ◌&&◌, List, [], ◌∷◌, ◌++◌, length, get_or, take, drop, reverse, map, append_assoc, bytes_eq, Option, Some, None, Result, Ok, Err, decimal, refl, sym, ap, ap₂, ◌∙◌, subst, arith}
 use Rattle.std.specs.Prelude.{All, IfSome, slice_get}
 use Rattle.std.specs.List.{cons_option, filter_map, flat_map, list_all, position_or_len}
+use Rattle.std.specs.Option.{option_map_or}
 use Rattle.std.specs.Char.{is_ascii_digit}
 use Rattle.std.specs.Str.{IsAscii}
 use Rattle.std.specs.Str.Parse.{digits_value}
@@ -21,7 +22,7 @@ use Rattle.ox_range.specs.Runs.{end_of, numbers_of}
 use Rattle.ox_range.proofs.RunLemmas.{numbers-append, numbers-none, numbers_of_one}
 use Rattle.ox_envelope.specs.Id.{id_from_digits, id_of_text, id_text, is_number}
 use Rattle.ox_envelope.specs.declared.id.InsId.{InsId}
-use Rattle.ox_inscribe.specs.Inscriptions.{find, next_on, numbers_where, is_same_id, is_on, on}
+use Rattle.ox_inscribe.specs.Inscriptions.{children, children_of, find, has_parent, next_on, numbers_where, is_same_id, is_on, on}
 use Rattle.ox_inscribe.specs.Numbers.{IsFirstOn, IsNextOn}
 use Rattle.ox_inscribe.specs.declared.row.InsRow.{InsRow}
 use Rattle.ox_inscribe.proofs.NextLaws.{next_shown}
@@ -82,6 +83,14 @@ module _ (rows : List InsRow) where
   pub on_below : (sat : ℕ) → All (λ n. n < length rows) (on rows sat)
   on_below sat =
       All-weaker (λ n. n < 0 + length rows) (λ n. n < length rows) (λ n less. omega (arith, less)) (on rows sat) (below (is_on sat) 0 rows)
+
+  children_below : (row : Option InsRow) → All (λ n. n < length rows) (option_map_or (children_of rows) row [])
+  children_below None = All-nil (λ n. n < length rows)
+  children_below (Some row) =
+      All-weaker (λ n. n < 0 + length rows) (λ n. n < length rows) (λ n less. omega (arith, less)) (numbers_where (has_parent row.id) 0 rows) (below (has_parent row.id) 0 rows)
+
+  pub children_there : (of : ℕ) → All (λ n. n < length rows) (children rows of)
+  children_there of = children_below (slice_get rows of)
 
   pub found_below : (id : InsId) (n : ℕ) → find rows id ≡ Some n → n < length rows
   found_below id n e =
@@ -190,10 +199,10 @@ module _ (rows : List InsRow) where
   walked_all all so_far between none told =
       sym (append-nil so_far) ∙ ap (λ (numbers : List ℕ). so_far ++ told_of numbers) (sym none) ∙ told
 
-  -- the ids on a satoshi, behind a bracket
-  pub told_on : (old begun all : List Token) (numbers : List ℕ) (sat : ℕ) → begun ≡ old ++ begin_array ∷ []
-      → all ≡ begun ++ told_of numbers → numbers ≡ on rows sat → all ≡ (old ++ begin_array ∷ []) ++ told_of (on rows sat)
-  told_on old begun all numbers sat begins told are = told ∙ ap₂ (λ (ts : List Token) (ns : List ℕ). ts ++ told_of ns) begins are
+  -- the ids of these, behind a bracket
+  pub told_on : (old begun all : List Token) (numbers these : List ℕ) → begun ≡ old ++ begin_array ∷ []
+      → all ≡ begun ++ told_of numbers → numbers ≡ these → all ≡ (old ++ begin_array ∷ []) ++ told_of these
+  told_on old begun all numbers these begins told are = told ∙ ap₂ (λ (ts : List Token) (ns : List ℕ). ts ++ told_of ns) begins are
 
   -- ---- run by run
 

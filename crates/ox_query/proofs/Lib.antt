@@ -4,6 +4,7 @@ pub mod Contents
 pub mod Spelled
 pub mod Steps
 pub mod Arrays
+pub mod MarkTexts
 pub mod Bytes
 pub mod IdLists
 pub mod Capitals

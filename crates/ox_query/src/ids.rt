@@ -3,7 +3,7 @@
 ghost use Rattle.std.specs.Prelude.{◌+◌, ◌^◌, ◌<◌, All, length};
 ghost use Rattle.ox_ask.specs.Inscriptions.{id_tree, ids_on_all, ids_tree};
 ghost use Rattle.ox_ask.specs.Walk.{on_between};
-ghost use Rattle.ox_inscribe.specs.Inscriptions.{on};
+ghost use Rattle.ox_inscribe.specs.Inscriptions.{children, on};
 ghost use Rattle.ox_query.specs.Listed.{inscription_ids_of};
 ghost use Rattle.ox_query.specs.Written.{AddsTokens, tokens_of, tokens_of_all};
 ghost use Rattle.ox_range.specs.Runs.{AreMaximal, end_of, numbers_of};
@@ -23,7 +23,7 @@ pub(crate) fn write_id(out: &mut Writer, id: &InsId) -> Result<(), Memory>
     Ok(out.string(text_of(&letters[..len]))?)
 }
 
-// Writes the ids of the inscriptions with these numbers, one behind the other.
+// Writes the ids of the inscriptions with these sequences, one behind the other.
 fn write_ids<V: View>(out: &mut Writer, live: &V, numbers: &[u32]) -> Result<(), Memory>
     requires { All (λ n. n < length (V.index live.now).inscriptions) numbers.now }
     ensures { AddsTokens result out.old out.new
@@ -35,7 +35,7 @@ fn write_ids<V: View>(out: &mut Writer, live: &V, numbers: &[u32]) -> Result<(),
     Ok(())
 }
 
-/// Writes the ids of the inscriptions on a satoshi, by number. `Memory` where there is none for
+/// Writes the ids of the inscriptions on a satoshi, by sequence. `Memory` where there is none for
 /// them.
 pub(crate) fn write_ids_on<V: View>(out: &mut Writer, live: &V, sat: u64) -> Result<(), Memory>
     ensures { AddsTokens result out.old out.new (tokens_of
@@ -43,6 +43,18 @@ pub(crate) fn write_ids_on<V: View>(out: &mut Writer, live: &V, sat: u64) -> Res
 {
     out.begin_array()?;
     write_ids(out, live, live.on(sat))?;
+    Ok(out.end_array()?)
+}
+
+/// Writes the ids of the children of the inscription with a sequence, by sequence. `Memory` where
+/// there is none for them.
+pub(crate) fn write_children<V: View>(out: &mut Writer, live: &V, of: u32) -> Result<(), Memory>
+    requires { of < length (V.index live.now).inscriptions }
+    ensures { AddsTokens result out.old out.new (tokens_of (ids_tree
+        (V.index live.now).inscriptions (children (V.index live.now).inscriptions of))) }
+{
+    out.begin_array()?;
+    write_ids(out, live, live.children(of))?;
     Ok(out.end_array()?)
 }
 
@@ -79,8 +91,8 @@ fn write_ids_on_runs<V: View>(out: &mut Writer, live: &V, runs: &[Run]) -> Resul
     Ok(out.end_array()?)
 }
 
-/// Writes the ids of the inscriptions on these satoshis: satoshi by satoshi, and on each by number.
-/// `Memory` where there is none for them.
+/// Writes the ids of the inscriptions on these satoshis: satoshi by satoshi, and on each by
+/// sequence. `Memory` where there is none for them.
 pub(crate) fn write_ids_in<V: View>(out: &mut Writer, live: &V, sats: &Ranges) -> Result<(), Memory>
     ensures { AddsTokens result out.old out.new
         (tokens_of (ids_on_all (V.index live.now).inscriptions sats.now)) }

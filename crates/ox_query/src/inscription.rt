@@ -1,6 +1,7 @@
 //! What `/inscription/{id}` and `/inscriptions/{page}` say.
 
-ghost use Rattle.std.specs.Prelude.{◌≡◌, ◌<◌, ◌≤◌, IfOk, IfSome, length, map, option_map};
+ghost use Rattle.std.specs.Prelude.{◌≡◌, ◌<◌, ◌≤◌, IfOk, IfSome, Some, length, map, option_map};
+ghost use Rattle.std.specs.Prelude.{slice_get};
 ghost use Rattle.std.specs.Option.{option_and_then};
 ghost use Rattle.serde_json.specs.Data.{array};
 ghost use Rattle.serde_json.specs.View.{items_of};
@@ -17,11 +18,12 @@ ghost use Rattle.ox_query.specs.Paged.{rows_between};
 ghost use Rattle.ox_query.specs.Written.{AddsTokens, tokens_of};
 
 use crate::bodies::{body_of, new_body};
-use crate::ids::write_id;
+use crate::ids::{write_children, write_id};
+use crate::marks::write_marks;
 use crate::pages::{page_of, write_page_end};
 use crate::parts::number;
 use crate::sat::write_place;
-use crate::values::{write_count_or_null, write_hex};
+use crate::values::{write_count_or_null, write_hex, write_integer};
 use json::Writer;
 use ox_bytes::{Bytes, Memory};
 use ox_envelope::read_id_text;
@@ -91,7 +93,7 @@ fn place_on<V: View>(live: &V, sat: Option<u64>) -> Option<Place>
     live.locate(sat?)
 }
 
-// Writes an inscription with its number.
+// Writes an inscription with its sequence.
 fn write_inscription<V: View>(
     alloc: Global,
     out: &mut Writer,
@@ -99,14 +101,20 @@ fn write_inscription<V: View>(
     n: u32,
     row: &InsRow,
 ) -> Result<(), Memory>
-    ensures { AddsTokens result out.old out.new
-        (tokens_of (inscription_tree (V.index live.now) n row.now)) }
+    requires { slice_get (V.index live.now).inscriptions n ≡ Some row.now }
+    ensures { AddsTokens result out.old out.new (tokens_of
+        (inscription_tree (V.chain live.now).jubilee (V.index live.now) n row.now)) }
 {
+    let jubilee = live.profile().jubilee;
     out.begin_object()?;
+    out.key("children")?;
+    write_children(out, live, n)?;
     out.key("content_length")?;
     write_length_or_null(out, &row.body)?;
     out.key("content_type")?;
     write_text_or_null(out, &row.content_type)?;
+    out.key("cursed")?;
+    out.boolean(row.is_cursed(jubilee))?;
     out.key("delegate")?;
     write_id_or_null(out, &row.delegate)?;
     out.key("encoding")?;
@@ -115,22 +123,28 @@ fn write_inscription<V: View>(
     out.u64(u64::from(row.height))?;
     out.key("id")?;
     write_id(out, &row.id)?;
+    out.key("marks")?;
+    write_marks(out, row.marks)?;
     out.key("metadata")?;
     write_hex_or_null(alloc, out, &row.metadata)?;
     out.key("metaprotocol")?;
     write_text_or_null(out, &row.metaprotocol)?;
     out.key("number")?;
-    out.u64(u64::from(n))?;
+    write_integer(out, live.number(n))?;
     out.key("parents")?;
     write_id_list(out, row.parents.as_slice())?;
     out.key("place")?;
     write_place(out, place_on(live, row.sat))?;
     out.key("sat")?;
     write_count_or_null(out, row.sat)?;
+    out.key("sequence")?;
+    out.u64(u64::from(n))?;
+    out.key("vindicated")?;
+    out.boolean(row.is_vindicated(jubilee))?;
     Ok(out.end_object()?)
 }
 
-/// The number of the inscription that a part names, if there is one.
+/// The sequence of the inscription that a part names, if there is one.
 pub(crate) fn number_named<V: View>(live: &V, part: &[u8]) -> Option<u32>
     ensures named { result ≡ inscription_named (V.index live.now).inscriptions part.now }
     ensures there { IfSome result (λ n. n < length (V.index live.now).inscriptions) }
@@ -141,10 +155,11 @@ pub(crate) fn number_named<V: View>(live: &V, part: &[u8]) -> Option<u32>
     }
 }
 
-// The body of an inscription with its number.
+// The body of an inscription with its sequence.
 fn row_body<V: View>(alloc: Global, live: &V, n: u32, row: &InsRow) -> Result<Bytes, Memory>
-    ensures { IfOk result
-        (λ body. body ≡ compact_text (inscription_tree (V.index live.now) n row.now)) }
+    requires { slice_get (V.index live.now).inscriptions n ≡ Some row.now }
+    ensures { IfOk result (λ body. body ≡ compact_text
+        (inscription_tree (V.chain live.now).jubilee (V.index live.now) n row.now)) }
 {
     let mut out = new_body(alloc)?;
     write_inscription(alloc, &mut out, live, n, row)?;
@@ -158,7 +173,7 @@ pub(crate) fn inscription_body<V: View>(
     part: &[u8],
 ) -> Result<Option<Bytes>, Memory>
     ensures { IfOk result (λ body. body ≡ option_map compact_text
-        (option_and_then (inscription_at (V.index live.now))
+        (option_and_then (inscription_at (V.chain live.now).jubilee (V.index live.now))
         (inscription_named (V.index live.now).inscriptions part.now))) }
 {
     match number_named(live, part) {

@@ -8,6 +8,7 @@ mod bodies;
 mod content;
 mod ids;
 mod inscription;
+mod marks;
 mod output;
 mod pages;
 mod parts;

@@ -3,7 +3,8 @@
 ghost use Rattle.std.specs.Prelude.{◌≡◌, option_copied};
 ghost use Rattle.std.specs.Str.{IsUtf8};
 ghost use Rattle.serde_json.specs.Data.{string};
-ghost use Rattle.ox_ask.specs.Values.{count, hash_or_null as hash_said, hex as hex_said, or_null};
+ghost use Rattle.ox_ask.specs.Values.{count, hash_or_null as hash_said, hex as hex_said};
+ghost use Rattle.ox_ask.specs.Values.{integer, or_null};
 ghost use Rattle.ox_query.specs.Written.{AddsTokens, tokens_of};
 ghost use Rattle.ox_rules.specs.Text.{hash_text};
 
@@ -61,6 +62,13 @@ pub(crate) fn write_count_or_null(out: &mut Writer, number: Option<u64>) -> Resu
         Some(number) => Ok(out.u64(number)?),
         None => Ok(out.null()?),
     }
+}
+
+/// Writes an integer. `Memory` where there is none for it.
+pub(crate) fn write_integer(out: &mut Writer, number: i64) -> Result<(), Memory>
+    ensures { AddsTokens result out.old out.new (tokens_of (integer number)) }
+{
+    Ok(out.i64(number)?)
 }
 
 /// Writes bytes in hexadecimal digits. `Memory` where there is none for it.

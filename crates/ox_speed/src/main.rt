@@ -8,8 +8,8 @@
 //!   (bench/allocation.py);
 //! - `runes TIMES LOOKS` does the blocks on standard input to the ledger of runes, the last of them
 //!   so often, and then looks up what outputs hold (bench/runes.py);
-//! - `look ROWS TIMES`, `check ROWS TIMES` and `mark ROWS TIMES` keep so many inscriptions, and look
-//!   them up, or go back to a mark; `reveal PARENTS TIMES` reveals what the last of the blocks on
+//! - `look ROWS TIMES`, `number ROWS TIMES`, `check ROWS TIMES` and `mark ROWS TIMES` keep so many
+//!   inscriptions, and look them up, ask their signed numbers, or go back to a mark; `reveal PARENTS TIMES` reveals what the last of the blocks on
 //!   standard input has, over so many earlier inscriptions (bench/inscriptions.py).
 #![tactic(auto)]
 
@@ -45,6 +45,7 @@ fn task_of(name: &str) -> Option<Task> {
         "pool" => Some(Task::Deal(pools::Load::Gather)),
         "runes" => Some(Task::Runes),
         "look" => Some(Task::Keep(rows::Load::Look)),
+        "number" => Some(Task::Keep(rows::Load::Number)),
         "check" => Some(Task::Keep(rows::Load::Check)),
         "mark" => Some(Task::Keep(rows::Load::Mark)),
         "reveal" => Some(Task::Reveal),
@@ -86,7 +87,7 @@ fn main(rt: HostRuntime) -> anyhow::Result<()> {
         None => None,
     };
     let Some(task) = task else {
-        bail!("stone, one, all, pool, runes, look, check, mark or reveal");
+        bail!("stone, one, all, pool, runes, look, number, check, mark or reveal");
     };
     let mut numbers = [0, 0];
     for (number, word) in numbers.iter_mut().zip(words) {

@@ -45,7 +45,7 @@ fn shelf_of_parents(alloc: Global, count: u32) -> Result<Shelf, Memory> {
     for number in 0..count {
         rows.push(SharedRow::new(alloc, parent_of(alloc, number))?)?;
     }
-    let mut shelf = Shelf::new(alloc);
+    let mut shelf = Shelf::new(alloc, 0);
     if rows.len() < u32::MAX as usize {
         shelf.append(&rows)?;
     }

@@ -11,11 +11,18 @@ use std::alloc::Global;
 /// So many rows are appended at a time.
 const BATCH: u32 = 1_000;
 
+/// A row of so many has a mark. All rows are revealed below the jubilee.
+const MARKED: u32 = 10;
+
+const JUBILEE: u64 = 1 << 32;
+
 /// What is done.
 #[derive(Clone, Copy, PartialEq, Eq)]
 pub(crate) enum Load {
     /// Looks each row up.
     Look,
+    /// Asks each row's signed number.
+    Number,
     /// Looks each row up, and whether it is found exactly as it was appended.
     Check,
     /// Goes back to a mark behind which rows were appended.
@@ -35,7 +42,7 @@ pub(crate) enum Order {
 fn order_of(load: Load) -> Order {
     match load {
         Load::Check => Order::Rising,
-        Load::Look | Load::Mark => Order::Scattered,
+        Load::Look | Load::Number | Load::Mark => Order::Scattered,
     }
 }
 
@@ -71,7 +78,7 @@ fn row_of(alloc: Global, order: Order, number: u32) -> Result<InsRow, Memory> {
         pointer: None,
         delegate: None,
         parents,
-        marks: 0,
+        marks: if number % MARKED == 0 { 1 } else { 0 },
         sat: Some(u64::from(number) * 2),
     })
 }
@@ -99,7 +106,7 @@ fn append_next(alloc: Global, order: Order, shelf: &mut Shelf) -> Result<(), Mem
 
 /// A shelf of so many rows.
 fn shelf_of(alloc: Global, order: Order, count: u32) -> Result<Shelf, Memory> {
-    let mut shelf = Shelf::new(alloc);
+    let mut shelf = Shelf::new(alloc, JUBILEE);
     for _ in 0..count / BATCH {
         append_next(alloc, order, &mut shelf)?;
     }
@@ -132,6 +139,15 @@ fn look(shelf: &Shelf) -> u64 {
             .wrapping_add(first_of(shelf.on(sat)))
             .wrapping_add(next_of(shelf.next_on(sat + 1)))
             .wrapping_add(first_of(shelf.children(number)));
+    }
+    sum
+}
+
+/// The sum of the signed numbers of all rows, each without its sign.
+fn number(shelf: &Shelf) -> u64 {
+    let mut sum: u64 = 0;
+    for sequence in 0..shelf.len() {
+        sum = sum.wrapping_add(shelf.number(sequence).unsigned_abs());
     }
     sum
 }
@@ -200,6 +216,7 @@ fn turn(alloc: Global, load: Load, shelf: &mut Shelf) -> Result<u64, Memory> {
     match load {
         Load::Mark => go_back(alloc, shelf),
         Load::Check => Ok(check(shelf)),
+        Load::Number => Ok(number(shelf)),
         Load::Look => Ok(look(shelf)),
     }
 }

@@ -7,7 +7,7 @@ ghost use Rattle.ox_outside.specs.Runs.{Calls, LeavesOnly, OnlyLooks};
 ghost use Rattle.ox_gated.specs.Tail.{Holds};
 ghost use Rattle.ox_index.specs.Chain.{stack_in};
 ghost use Rattle.ox_index.specs.Fault.{Refuses};
-ghost use Rattle.ox_model.specs.Ends.{LeadDown};
+ghost use Rattle.ox_model.specs.Ends.{AllEnd, LeadDown};
 ghost use Rattle.ox_model.specs.Stack.{stack_after};
 ghost use Rattle.ox_store.specs.Make.{no_files};
 ghost use Rattle.ox_store.specs.Ready.{HasChange, left_by};
@@ -155,10 +155,11 @@ impl Store {
         self.chain.about()
     }
 
-    /// The changes of the kept blocks, the newest first. Each leads from the next older index to
-    /// the newer one.
+    /// The changes of the kept blocks, the newest first: each leads from the next older index to
+    /// the newer one, and each of these indexes is sound.
     pub fn changes(&self) -> &Changes
-        ensures { LeadDown self.now.stack.index self.now.stack.older result.now }
+        ensures lead { LeadDown self.now.stack.index self.now.stack.older result.now }
+        ensures end { AllEnd self.now.stack.profile self.now.stack.index result.now }
     {
         self.chain.changes()
     }

@@ -5,6 +5,9 @@ use inscriptions::reveal::{reveal, Spend};
 use inscriptions::shelf::Shelf;
 use runes::ledger::Ledger;
 
+/// The jubilee of regtest.
+const JUBILEE: u32 = 110;
+
 #[derive(Default)]
 pub struct Whole {
     pub index: Index,
@@ -27,7 +30,7 @@ fn move_runes(ledger: &mut Ledger, block: &Block, height: u64) {
 impl Whole {
     /// No blocks, of which so many can be taken back.
     pub fn new(depth: usize) -> Whole {
-        Whole { index: Index::new(true, depth), depth, ..Whole::default() }
+        Whole { index: Index::new(true, depth), shelf: Shelf::new(JUBILEE), depth, ..Whole::default() }
     }
 }
 

@@ -1,6 +1,6 @@
 //! A shelf of inscriptions in plain Rust, as bench/inscriptions.py times it. The arguments are what is done (`look`,
-//! `mark`, `pointers` or `parents`; `ordered` is `mark` with ordered maps by id and by parent), how many rows or inputs
-//! there are, and how often it is done.
+//! `number`, `mark`, `pointers` or `parents`; `ordered` is `mark` with ordered maps by id and by parent), how many rows or
+//! inputs there are, and how often it is done.
 mod made;
 mod ordered;
 
@@ -8,6 +8,10 @@ use inscriptions::shelf::{Id, Row, Shelf};
 use std::env;
 
 const BATCH: u32 = 1_000;
+
+/// A row of so many has a mark. All rows are revealed below the jubilee.
+const MARKED: u32 = 10;
+const JUBILEE: u32 = u32::MAX;
 
 fn id_of(number: u32) -> Id {
     let mut txid = [0; 32];
@@ -23,6 +27,7 @@ fn row_of(number: u32) -> Row {
         content_type: Some(vec![b't'; 24].into()),
         body: Some(vec![b'b'; 60].into()),
         parents: if number == 0 { Vec::new() } else { vec![id_of(number - 1)] },
+        marks: u16::from(number % MARKED == 0),
         sat: Some(2 * u64::from(number)),
         ..Row::default()
     }
@@ -47,6 +52,11 @@ fn look(shelf: &Shelf, count: u32) -> u64 {
     sum
 }
 
+/// The sum of the signed numbers of all rows, each without its sign.
+fn number(shelf: &Shelf, count: u32) -> u64 {
+    (0..count).map(|sequence| shelf.number(sequence).unsigned_abs()).sum()
+}
+
 fn mark(shelf: &mut Shelf, count: u32) -> u64 {
     shelf.begin();
     append_from(shelf, count);
@@ -67,13 +77,17 @@ fn main() {
         println!("{}", ordered::work(count, times));
         return;
     }
-    let mut shelf = Shelf::default();
+    let mut shelf = Shelf::new(JUBILEE);
     for batch in 0..count / BATCH {
         append_from(&mut shelf, batch * BATCH);
     }
     let mut answer = 0;
     for _ in 0..times {
-        answer = if kind == "mark" { mark(&mut shelf, count) } else { look(&shelf, count) };
+        answer = match kind.as_str() {
+            "mark" => mark(&mut shelf, count),
+            "number" => number(&shelf, count),
+            _ => look(&shelf, count),
+        };
     }
     println!("{} rows, {answer}", shelf.rows.len());
 }

@@ -23,6 +23,8 @@ pub struct Row {
     pub parents: Vec<Id>,
     pub marks: u16,
     pub sat: Option<u64>,
+    /// How many rows before it are cursed, once it is on the shelf.
+    pub cursed_before: u32,
 }
 
 /// Rising numbers, of which one takes no memory of its own.
@@ -64,6 +66,8 @@ impl Numbers {
 #[derive(Default)]
 pub struct Shelf {
     pub rows: Vec<Row>,
+    /// Marked rows below this height are cursed.
+    jubilee: u32,
     ids: HashMap<Id, u32>,
     sats: BTreeMap<u64, Numbers>,
     parents: HashMap<Id, Numbers>,
@@ -81,8 +85,26 @@ fn pop_hashed<K: Eq + hash::Hash>(map: &mut HashMap<K, Numbers>, key: K, number:
 }
 
 impl Shelf {
-    pub fn push(&mut self, row: Row) {
+    pub fn new(jubilee: u32) -> Shelf {
+        Shelf { jubilee, ..Shelf::default() }
+    }
+
+    pub fn is_cursed(&self, row: &Row) -> bool {
+        row.height < self.jubilee && row.marks != 0
+    }
+
+    /// The signed number of a row.
+    pub fn number(&self, sequence: u32) -> i64 {
+        let row = &self.rows[sequence as usize];
+        match self.is_cursed(row) {
+            true => -1 - i64::from(row.cursed_before),
+            false => i64::from(sequence - row.cursed_before),
+        }
+    }
+
+    pub fn push(&mut self, mut row: Row) {
         let number = self.rows.len() as u32;
+        row.cursed_before = self.rows.last().map_or(0, |last| last.cursed_before + u32::from(self.is_cursed(last)));
         self.ids.entry(row.id).or_insert(number);
         if let Some(sat) = row.sat {
             self.sats.entry(sat).and_modify(|held| held.push(number)).or_insert(Numbers::One(number));

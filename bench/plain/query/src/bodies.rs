@@ -12,6 +12,9 @@ use serde::{Serialize, Serializer};
 /// As many entries as a page has.
 const PAGE: usize = 100;
 
+/// The texts of marks, from bit 0 on.
+const MARKS: [&str; 8] = ["even", "repeated", "incomplete", "input", "offset", "pointer", "pushnum", "reinscription"];
+
 #[derive(Serialize)]
 pub struct Error {
     pub error: u16,
@@ -69,18 +72,23 @@ pub struct Output<'w> {
 
 #[derive(Serialize)]
 pub struct Inscription<'w> {
+    children: Ids<'w>,
     content_length: Option<usize>,
     content_type: Option<&'w str>,
+    cursed: bool,
     delegate: Option<Text<ShownId<'w>>>,
     encoding: Option<&'w str>,
     height: u32,
     id: Text<ShownId<'w>>,
+    marks: Marks,
     metadata: Option<Text<Hex<'w>>>,
     metaprotocol: Option<&'w str>,
-    number: u32,
+    number: i64,
     parents: Parents<'w>,
     place: Option<Place>,
     sat: Option<u64>,
+    sequence: u32,
+    vindicated: bool,
 }
 
 #[derive(Serialize)]
@@ -168,6 +176,16 @@ struct Parents<'w>(&'w [Id]);
 impl Serialize for Parents<'_> {
     fn serialize<S: Serializer>(&self, serializer: S) -> Result<S::Ok, S::Error> {
         serializer.collect_seq(self.0.iter().map(|id| Text(ShownId(id))))
+    }
+}
+
+/// The texts of the bits that are set.
+struct Marks(u16);
+
+impl Serialize for Marks {
+    fn serialize<S: Serializer>(&self, serializer: S) -> Result<S::Ok, S::Error> {
+        let texts = MARKS.iter().enumerate();
+        serializer.collect_seq(texts.filter(|(bit, _)| self.0 >> bit & 1 == 1).map(|(_, text)| text))
     }
 }
 
@@ -263,21 +281,27 @@ pub fn output(whole: &Whole, at: OutPoint) -> Option<Output<'_>> {
 }
 
 pub fn inscription<'w>(whole: &'w Whole, id: &Id) -> Option<Inscription<'w>> {
-    let number = whole.shelf.find(id)?;
-    let row = &whole.shelf.rows[number as usize];
+    let sequence = whole.shelf.find(id)?;
+    let row = &whole.shelf.rows[sequence as usize];
+    let cursed = whole.shelf.is_cursed(row);
     Some(Inscription {
+        children: Ids(whole, whole.shelf.children(sequence)),
         content_length: row.body.as_ref().map(|body| body.len()),
         content_type: text(&row.content_type),
+        cursed,
         delegate: row.delegate.as_ref().map(|id| Text(ShownId(id))),
         encoding: text(&row.encoding),
         height: row.height,
         id: Text(ShownId(&row.id)),
+        marks: Marks(row.marks),
         metadata: row.metadata.as_ref().map(|metadata| Text(Hex(metadata))),
         metaprotocol: text(&row.metaprotocol),
-        number,
+        number: whole.shelf.number(sequence),
         parents: Parents(&row.parents),
         place: row.sat.and_then(|sat| place(whole, sat)),
         sat: row.sat,
+        sequence,
+        vindicated: row.marks != 0 && !cursed,
     })
 }
 

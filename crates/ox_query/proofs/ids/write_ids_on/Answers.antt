@@ -14,7 +14,7 @@ write_ids-requires g c =
 pub returns : goal.returns
 returns g c =
     let rows = (g.V.View.index c.args.live.now).inscriptions in
-    let told = told_on rows c.args.out.now.tokens c.begin_array.new.self.tokens c.write_ids.new.out.tokens c.on.result.now c.args.sat
+    let told = told_on rows c.args.out.now.tokens c.begin_array.new.self.tokens c.write_ids.new.out.tokens c.on.result.now (on rows c.args.sat)
     c.in_ok-begin_array.ensures.ok c.in_ok-write_ids.ensures.1 c.on.ensures in (
       c.in_ok-end_array.ensures.room.0 ∙ c.in_ok-write_ids.ensures.0 ∙ c.in_ok-begin_array.ensures.room.0,
       bracketed c.args.out.now.tokens c.write_ids.new.out.tokens c.end_array.new.self.tokens (inscription_ids_of rows (on rows c.args.sat)) told c.in_ok-end_array.ensures.ok,

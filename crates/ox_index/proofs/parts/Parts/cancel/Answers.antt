@@ -26,6 +26,7 @@ invariant_of-self c =
     let self = c.args.self.now in record {
       known = self.known;
       counted = c.cancel-3.ensures.profile ∙ self.counted;
+      numbered = c.cancel-2.ensures.jubilee ∙ self.numbered;
       undue = self.undue_then (runes_in c.cancel-3.new.self) c.cancel-3.ensures.runes;
       undue_then = undue_none (mark_in c.cancel-3.new.self) c.cancel-3.ensures.mark;
     }

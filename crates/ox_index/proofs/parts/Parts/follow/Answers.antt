@@ -38,6 +38,7 @@ invariant_of-self-2 c =
     let old = runes_in self.ledger in record {
       known = self.known;
       counted = c.move_runes.ensures.profile ∙ self.counted;
+      numbered = c.reveal.ensures.jubilee ∙ self.numbered;
       undue = undue_either c.move_runes.result (mark_in self.ledger) (runes_after p c.args.height txs moved old) (runes_in c.move_runes.new.ledger)
           c.move_runes.ensures.ok c.move_runes.ensures.err (nothing_due p c.args.height txs moved old) self.undue_then;
       undue_then = λ x is. self.undue_then x (sym c.move_runes.ensures.mark ∙ is);

@@ -24,6 +24,7 @@ invariant_of-self-in-Break-branch-2 c =
     let self = c.args.self.now in record {
       known = self.known;
       counted = c.put-2.ensures.profile ∙ self.counted;
+      numbered = self.numbered;
       undue = undue_fallen (mark_in self.ledger) (runes_in c.put-2.new.self) self.undue_then c.in_err-put-2.ensures.err;
       undue_then = λ x is. self.undue_then x (sym c.put-2.ensures.mark ∙ is);
     }
@@ -34,6 +35,7 @@ invariant_of-self-2 c =
     let ends = c.requires.runes in record {
       known = self.known;
       counted = c.put-2.ensures.profile ∙ self.counted;
+      numbered = c.drop_last.ensures.jubilee ∙ self.numbered;
       undue = ap (λ (r : Runes). r.due) (c.in_ok-put-2.ensures.ok ends.before ends.leads) ∙ ends.leads.undue_before;
       undue_then = λ x is. self.undue_then x (sym c.put-2.ensures.mark ∙ is);
     }

@@ -19,6 +19,7 @@ invariant_of-self c =
     let self = c.args.self.now in record {
       known = self.known;
       counted = c.begin-2.ensures.profile ∙ self.counted;
+      numbered = c.begin.ensures.jubilee ∙ self.numbered;
       undue = ap (λ (r : Runes). r.due) c.begin-2.ensures.runes ∙ self.undue;
       undue_then = undue_begun (mark_in c.begin-2.new.self) (runes_in self.ledger) c.begin-2.ensures.mark self.undue;
     }

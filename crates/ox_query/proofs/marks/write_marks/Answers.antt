@@ -1,0 +1,16 @@
+use Rattle.std.proofs.Common.{[]}
+use Rattle.ox_query.proofs.MarkTexts.{bracketed_marks, mark}
+use Rattle.ox_query.proofs.Steps.{all, token, value, ◌▸◌}
+use Rattle.ox_query.proofs.marks.write_marks.Goals as goal
+
+pub returns : goal.returns
+returns c =
+    all (bracketed_marks c.args.marks (token c.in_ok-begin_array.ensures
+    ▸ mark (value _ _ _ c.in_ok-write_mark.ensures)
+    (mark (value _ _ _ c.in_ok-write_mark-2.ensures)
+    (mark (value _ _ _ c.in_ok-write_mark-3.ensures)
+    (mark (value _ _ _ c.in_ok-write_mark-4.ensures)
+    (mark (value _ _ _ c.in_ok-write_mark-5.ensures)
+    (mark (value _ _ _ c.in_ok-write_mark-6.ensures)
+    (mark (value _ _ _ c.in_ok-write_mark-7.ensures)
+    (mark {texts = []} (value _ _ _ c.in_ok-write_mark-8.ensures) (token c.in_ok-end_array.ensures))))))))))
