@@ -4,7 +4,7 @@ use Rattle.std.specs.Prelude.{Ok}
 use Rattle.ox_outside.specs.declared.site.Site.{Ghosts as Meanings}
 use Rattle.ox_outside.specs.Crash.{Remains}
 use Rattle.ox_model.specs.Stack.{Stack}
-use Rattle.ox_model.specs.Stands.{stands}
+use Rattle.ox_files.specs.Stands.{stands}
 use Rattle.ox_store.specs.Ready.{StandsForEither}
 use Rattle.ox_outside.proofs.Calls.{leaves_at_first}
 use Rattle.ox_gated.specs.Tail.{IsSettled}

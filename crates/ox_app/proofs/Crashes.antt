@@ -18,7 +18,7 @@ use Rattle.ox_gated.specs.Reading.{reading}
 use Rattle.ox_gated.specs.Tail.{Keeps, Kept}
 use Rattle.ox_model.specs.Replies.{after_on, after_turn, index_on, replies_on, reply_by}
 use Rattle.ox_model.specs.Stack.{Stack, turn_on}
-use Rattle.ox_model.specs.Stands.{stands}
+use Rattle.ox_files.specs.Stands.{stands}
 use Rattle.ox_store.specs.Ready.{StandsForEither}
 use Rattle.ox_app.specs.Apply.{CarriesOutNext, CarriesOut, DuringLine, after_line}
 use Rattle.ox_app.specs.declared.carry.CarriedLine.{CarriedLine}

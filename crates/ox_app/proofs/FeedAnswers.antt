@@ -12,7 +12,7 @@ use Rattle.ox_outside.proofs.Log.{grows_none, grows_then}
 use Rattle.ox_feed.specs.Feed.{Answers, Feed, FeedLine, text, too_long, Hears, IsDone, IsTooMuch, Listens, MayCome, OnlyHears, feed_limit, is_hearing, lines_from, lines_of, new_feed}
 use Rattle.ox_feed.specs.declared.lines.Line.{Line}
 use Rattle.ox_feed.specs.declared.lines.Line.TheVariants.{Text, Long, End}
-use Rattle.ox_model.specs.Moments.{lines_in}
+use Rattle.ox_files.specs.Moments.{lines_in}
 use Rattle.ox_model.specs.Replies.{after_on, after_turn, index_on, replies_on, reply_by}
 use Rattle.ox_model.specs.Stack.{Stack, turn_on}
 use Rattle.ox_model.proofs.AnswersOfStacks.{after_joined, after_none, after_one, replies_joined, replies_line, replies_none}

@@ -11,7 +11,7 @@ use Rattle.ox_outside.specs.Log.{Grows}
 use Rattle.ox_outside.proofs.Log.{grows_weaker}
 use Rattle.ox_feed.specs.Feed.{FeedLine}
 use Rattle.ox_model.specs.Machine.{Machine, stack_of}
-use Rattle.ox_model.specs.Moments.{acknowledgements_in, count, lines_in}
+use Rattle.ox_files.specs.Moments.{acknowledgements_in, count, lines_in}
 use Rattle.ox_model.specs.Replies.{after_on, replies, replies_on}
 use Rattle.ox_model.specs.Stack.{Stack}
 use Rattle.ox_sat.specs.Profiles.{profile_word}

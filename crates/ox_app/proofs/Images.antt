@@ -9,11 +9,11 @@ use Rattle.ox_outside.specs.declared.site.Site.{Ghosts as Meanings}
 use Rattle.ox_outside.specs.Log.{Grows}
 use Rattle.ox_outside.proofs.Log.{grows_none, grows_same, grows_weaker}
 use Rattle.ox_model.specs.Stack.{Stack}
-use Rattle.ox_model.specs.Stands.{Misfit, stands}
+use Rattle.ox_files.specs.Stands.{Misfit, stands}
 use Rattle.ox_sat.specs.declared.profiles.ProfileName.{ProfileName}
 use Rattle.ox_store.specs.Make.{made_stack}
 use Rattle.ox_feed.specs.Feed.{FeedLine, lines_of}
-use Rattle.ox_model.specs.Moments.{lines_in}
+use Rattle.ox_files.specs.Moments.{lines_in}
 use Rattle.ox_model.specs.Replies.{after_on, replies_on}
 use Rattle.ox_store.specs.Fault.{IsMisfit}
 use Rattle.ox_store.specs.declared.fault.OpenFault.{OpenFault}

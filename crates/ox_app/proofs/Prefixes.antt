@@ -8,11 +8,11 @@ use Rattle.ox_outside.specs.Event.{Event, has_ended, heard_bytes, shown_bytes}
 use Rattle.ox_outside.specs.Files.{Files}
 use Rattle.ox_outside.proofs.Event.{shown_bytes-append}
 use Rattle.ox_feed.specs.Feed.{Feed, FeedLine, Hears, Listens, lines_from}
-use Rattle.ox_model.specs.Moments.{acknowledgements_in, count, lines_in, moments, acknowledgements}
+use Rattle.ox_files.specs.Moments.{acknowledgements_in, count, lines_in, moments, acknowledgements}
 use Rattle.ox_model.specs.Replies.{after_on, after_turn, index_on, replies_on, reply_by}
 use Rattle.ox_model.specs.Stack.{Stack, turn_on}
-use Rattle.ox_model.specs.Stands.{stands}
-use Rattle.ox_model.proofs.CountedMoments.{HasByte, acknowledged_ahead, acknowledged_at_rest, count_ahead, count_at_rest}
+use Rattle.ox_files.specs.Stands.{stands}
+use Rattle.ox_files.proofs.CountedMoments.{HasByte, acknowledged_ahead, acknowledged_at_rest, count_ahead, count_at_rest}
 use Rattle.ox_model.proofs.AnswersOfStacks.{replies_joined, replies_length, after_none, replies_line, replies_none, reply_some}
 use Rattle.ox_app.proofs.FeedAnswers.{answers_joined, lines_heard, lines_owing, one_answer, shown_as_before}
 use Rattle.ox_app.proofs.FeedState.{HasAnswered, OwesAnswer}

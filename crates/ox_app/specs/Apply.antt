@@ -7,7 +7,7 @@ use Rattle.ox_feed.specs.declared.lines.Line.{Line}
 use Rattle.ox_feed.specs.declared.lines.Line.TheVariants.{Text, Long, End}
 use Rattle.ox_model.specs.Replies.{after_turn}
 use Rattle.ox_model.specs.Stack.{Stack, turn_on}
-use Rattle.ox_model.specs.Stands.{stands}
+use Rattle.ox_files.specs.Stands.{stands}
 use Rattle.ox_app.specs.Fold.{AnswersLine, LineDone, NextLine}
 use Rattle.ox_app.specs.declared.carry.CarriedLine.{CarriedLine}
 use Rattle.ox_app.specs.declared.stop.Stop.{Stop}

@@ -17,11 +17,11 @@ use Rattle.ox_outside.specs.Log.{Grows}
 use Rattle.ox_outside.specs.declared.site.Site.{Ghosts as Meanings}
 use Rattle.ox_feed.specs.Feed.{FeedLine, feed_limit}
 use Rattle.ox_model.specs.Machine.{Machine, stack_of}
-use Rattle.ox_model.specs.Moments.{count, lines_in}
+use Rattle.ox_files.specs.Moments.{count, lines_in}
 use Rattle.ox_model.specs.Replies.{after, replies}
 use Rattle.ox_model.specs.Stack.{Stack}
-use Rattle.ox_model.specs.Stands.{Misfit, stands}
-pub use Rattle.ox_model.specs.Survives.{IsFrontOf, Survives}
+use Rattle.ox_files.specs.Stands.{Misfit, stands}
+pub use Rattle.ox_files.specs.Survives.{IsFrontOf, Survives}
 use Rattle.ox_outside.specs.Runs.{LeavesOnly}
 use Rattle.ox_app.specs.declared.status.Status.{Status}
 use Rattle.ox_app.specs.declared.status.Status.TheVariants.{Done, TooMuch}

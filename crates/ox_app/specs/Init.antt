@@ -5,7 +5,7 @@ use Rattle.ox_outside.specs.Files.{Files}
 use Rattle.ox_outside.specs.Log.{Grows}
 use Rattle.ox_outside.specs.declared.site.Site.{Ghosts as Meanings}
 use Rattle.ox_sat.specs.declared.profiles.ProfileName.{ProfileName}
-use Rattle.ox_model.specs.Stands.{stands}
+use Rattle.ox_files.specs.Stands.{stands}
 use Rattle.ox_rules.specs.Text.{ok_text}
 use Rattle.ox_store.specs.Make.{made_stack}
 use Rattle.ox_gated.specs.Tail.{IsSettled}

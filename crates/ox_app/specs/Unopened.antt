@@ -4,7 +4,7 @@ use Rattle.ox_outside.specs.Event.{Event}
 use Rattle.ox_outside.specs.declared.site.Site.{Ghosts as Meanings}
 use Rattle.ox_outside.specs.declared.site.Which.{Which}
 use Rattle.ox_outside.specs.declared.site.Which.TheVariants.{A, B}
-use Rattle.ox_model.specs.Stands.{Misfit, stands}
+use Rattle.ox_files.specs.Stands.{Misfit, stands}
 use Rattle.ox_store.specs.declared.fault.OpenFault.{OpenFault}
 use Rattle.ox_store.specs.declared.fault.OpenFault.TheVariants as opens
 use Rattle.ox_app.specs.Show.{Says}

@@ -6,7 +6,7 @@ ghost use Rattle.ox_outside.specs.Log.{Grows};
 ghost use Rattle.ox_feed.specs.Feed.{IsTooMuch, feed_limit, bytes_left};
 ghost use Rattle.ox_model.specs.Replies.{after_on, replies_on};
 ghost use Rattle.ox_model.specs.Stack.{Stack};
-ghost use Rattle.ox_model.specs.Stands.{Misfit, stands};
+ghost use Rattle.ox_files.specs.Stands.{Misfit, stands};
 ghost use Rattle.ox_app.specs.Apply.{CarriesOutNext, DuringLine};
 ghost use Rattle.ox_app.specs.Headline.{AddsNoImage, Leaves, RunsFeed, StopsBefore, Survives};
 ghost use Rattle.ox_outside.specs.Runs.{Calls, LeavesOnly};

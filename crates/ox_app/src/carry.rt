@@ -6,7 +6,7 @@ ghost use Rattle.ox_outside.specs.Runs.{Calls, LeavesOnly};
 ghost use Rattle.ox_gated.specs.Tail.{Holds};
 ghost use Rattle.ox_model.specs.Replies.{after_turn, index_on, reply_by};
 ghost use Rattle.ox_model.specs.Stack.{stack_after};
-ghost use Rattle.ox_model.specs.Stands.{stands};
+ghost use Rattle.ox_files.specs.Stands.{stands};
 ghost use Rattle.ox_rules.specs.Text.{refusal_line};
 ghost use Rattle.ox_store.specs.Ready.{StandsForEither};
 ghost use Rattle.ox_app.specs.Apply.{CarriesOut, after_line};

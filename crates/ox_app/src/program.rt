@@ -4,7 +4,7 @@ ghost use Rattle.std.specs.Prelude.{◌≡◌, ◌≢◌, ◌⊎◌, ℕ, List, 
 ghost use Rattle.ox_outside.specs.Log.{Grows};
 ghost use Rattle.ox_model.specs.Machine.{Machine, empty_machine, stack_of};
 ghost use Rattle.ox_model.specs.Stack.{Stack};
-ghost use Rattle.ox_model.specs.Stands.{Misfit};
+ghost use Rattle.ox_files.specs.Stands.{Misfit};
 ghost use Rattle.ox_sat.specs.Profiles.{profile_named};
 ghost use Rattle.ox_sat.specs.declared.profiles.ProfileName.{ProfileName};
 ghost use Rattle.ox_store.specs.Make.{no_files};

@@ -2,7 +2,7 @@
 
 ghost use Rattle.std.specs.Prelude.{◌≡◌, ◌≢◌, Ok, Err, IsTrue, IfOk};
 ghost use Rattle.ox_model.specs.Stack.{Stack};
-ghost use Rattle.ox_model.specs.Stands.{Misfit, stands};
+ghost use Rattle.ox_files.specs.Stands.{Misfit, stands};
 ghost use Rattle.ox_app.specs.Headline.{AddsNoImage};
 ghost use Rattle.ox_outside.specs.Runs.{Calls};
 ghost use Rattle.ox_app.specs.Query.{get_of as get_said, query_body};

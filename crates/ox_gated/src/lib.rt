@@ -15,6 +15,7 @@ mod writes;
 pub use fault::{Before, GateFault};
 pub use framed::{Checkpoint, Framed, checkpoint_of, frame, frame_parts};
 pub use head::Head;
+pub use layout::BODY_AT;
 pub use open::Opened;
 pub use records::{Record, Records};
 pub use tail::{DiskFault, Tail};

@@ -102,6 +102,21 @@ impl Ledger {
         })
     }
 
+    /// No runes, also where a chain begins with one, and no mark. It takes no memory.
+    pub fn empty(alloc: Global, p: &Profile) -> Ledger
+        ensures runes { runes_in result ≡ nothing }
+        ensures mark { mark_in result ≡ None }
+        ensures profile { result.profile ≡ p.now }
+    {
+        Ledger {
+            alloc,
+            profile: *p,
+            tables: Tables::new(alloc),
+            marked: false,
+            sum: 0,
+        }
+    }
+
     /// The runes that an output holds: ids and amounts, by rising ids. None where it holds none.
     pub fn balance(&self, at: &OutPoint) -> &[(RuneId, u128)]
         ensures { result.now ≡ balances_at (runes_in self.now).bal at.now }

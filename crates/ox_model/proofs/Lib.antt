@@ -3,10 +3,7 @@ pub mod Inscribed
 pub mod RunesOfChains
 pub mod FreePlaces
 pub mod Soundness
-pub mod CountedMoments
-pub mod FilesOfChains
 pub mod AnswersOfStacks
-pub mod RunsInTurn
 pub mod Changes
 pub mod Ended
 pub mod Numbers

@@ -10,7 +10,3 @@ pub mod Audit
 pub mod Stack
 pub mod Machine
 pub mod Replies
-pub mod Moments
-pub mod Stands
-pub mod Survives
-pub mod Runs

@@ -8,7 +8,6 @@ mod view;
 
 ghost use Rattle.std.specs.Prelude.{◌≡◌, ℕ, ℤ, ◌+◌, ◌-◌, ◌<◌, List, [], ◌∷◌, ◌++◌, length, take};
 ghost use Rattle.std.specs.Prelude.{slice_get, All, Some, Ok};
-ghost use Rattle.ox_outside.specs.Files.{Files};
 ghost use Rattle.ox_feed.specs.Feed.{FeedLine};
 ghost use Rattle.ox_sat.specs.Profiles.{IsProfile};
 ghost use Rattle.ox_sat.specs.declared.profiles.Profile.{Profile};
@@ -21,11 +20,9 @@ ghost use Rattle.ox_model.specs.Change.{IsChange, redone, undone};
 ghost use Rattle.ox_model.specs.Index.{Index};
 ghost use Rattle.ox_model.specs.Machine.{Machine, stack_of};
 ghost use Rattle.ox_model.specs.Replies.{after, after_on, replies, replies_on};
-ghost use Rattle.ox_model.specs.Runs.{LastOf, Run, RunInTurn};
 ghost use Rattle.ox_model.specs.Sound.{IsSound, SoundHeights, SoundInscriptions, SoundOutputs};
 ghost use Rattle.ox_model.specs.Sound.{SoundSats};
 ghost use Rattle.ox_model.specs.Stack.{Stack};
-ghost use Rattle.ox_model.specs.Stands.{stands};
 ghost use Rattle.ox_model.specs.declared.audit.RuneAudit.{RuneAudit};
 ghost use Rattle.ox_model.specs.declared.change.Change.{Change as IndexChange};
 
@@ -124,21 +121,4 @@ pub fn changes_lead_both_ways()
 pub fn runs_join()
     ensures { (machine : Machine) (x y : List FeedLine)
         → after machine (x ++ y) ≡ after (after machine x) y }
-{}
-
-/// Files that stand for a stack stand for that of a chain of blocks, and each of its indexes is
-/// sound.
-pub fn stores_are_chains()
-    ensures chain { (files : Files) (stack : Stack) → stands files ≡ Ok stack
-        → (machine : Machine) × (stack_of machine ≡ stack) }
-    ensures sound { (files : Files) (stack : Stack) → stands files ≡ Ok stack
-        → All (IsSound stack.profile) (stack.index ∷ stack.older) }
-{}
-
-/// Any number of runs over the same files, each of which opens what the one before it left and
-/// stops at whatever moment: the last files stand for the chain that the lines which each run kept,
-/// one run after the other, chose.
-pub fn runs_follow_chains()
-    ensures { (machine : Machine) (files : Files) (runs : List Run)
-        → stands files ≡ Ok (stack_of machine) → RunInTurn files runs → LastOf machine files runs }
 {}

@@ -1,5 +1,6 @@
 pub mod DifferingRows
 pub mod OutputsLemmas
+pub mod InOrderLemmas
 pub mod ListLemmas
 pub mod PlaceLemmas
 pub mod RowLemmas

@@ -6,3 +6,5 @@ pub mod Slots
 pub mod Starts
 pub mod Table
 pub mod Differing
+pub mod Fronts
+pub mod InOrder

@@ -6,11 +6,14 @@ mod changes;
 mod differing;
 mod entry;
 mod held;
+mod in_order;
 mod locator;
 mod outputs;
 mod places;
+mod ranked;
 mod slots;
 mod spot;
 mod starts;
 
+pub use in_order::InOrder;
 pub use outputs::Outputs;

@@ -12,6 +12,7 @@ ghost use Rattle.ox_outputs.specs.Locator.{live_at, kept_at};
 use crate::ahead::Ahead;
 use crate::changes::{Displaced, displace_at, fill_empty, forget, go_back, settle, take_from};
 use crate::differing::{differing, place_all};
+use crate::in_order::InOrder;
 use crate::locator::Locator;
 use crate::slots::Slots;
 use crate::spot::Spot;
@@ -75,6 +76,14 @@ impl Outputs {
     {
         let place = self.locator.find(&self.slots, sat)?;
         self.slots.locate(place, sat)
+    }
+
+    /// The rows by rising outpoint, to be read in this order. It takes 16 bytes a row, and the time
+    /// of a sort. `Memory` where there is none for them.
+    pub fn in_order(&self) -> Result<InOrder<'_>, Memory>
+        ensures { IfOk result (λ order. order ≡ map.entries (rows_in self.now)) }
+    {
+        self.slots.in_order(self.alloc)
     }
 
     /// Says which block comes next, with the ids of its transactions, in order. It is a hint, by

@@ -10,9 +10,10 @@ ghost use Rattle.ox_outputs.specs.Slots.{KeepRows};
 ghost use Rattle.ox_outputs.specs.Located.{place_held, begins_in, counted};
 
 use crate::held::{Held, begins_at, exchange_in, give_out, locate_in, row_in, take_back, vacate};
+use crate::in_order::{InOrder, in_order};
 use crate::places::Places;
 use ox_block::OutPoint;
-use ox_rules::{OutRow, Place, Unplaced};
+use ox_rules::{Memory, OutRow, Place, Unplaced};
 use slab::Slab;
 use std::alloc::Global;
 use std::marker::Model;
@@ -70,6 +71,13 @@ impl Slots {
             Some(place) => self.row(place),
             None => None,
         }
+    }
+
+    /// The rows by rising outpoint. `Memory` where there is none for their order.
+    pub(crate) fn in_order(&self, alloc: Global) -> Result<InOrder<'_>, Memory>
+        ensures { IfOk result (λ order. order ≡ map.entries (rows_of self.now)) }
+    {
+        in_order(alloc, &self.held)
     }
 
     /// The row in the slot at this place.

@@ -8,14 +8,14 @@ use Rattle.ox_gated.specs.declared.head.Head.{Head}
 use Rattle.ox_gated.specs.Reading.{reading, with_payload}
 use Rattle.ox_gated.specs.Tail.{IsBeforeOrAfter, new_found}
 use Rattle.ox_model.specs.Stack.{Stack}
-use Rattle.ox_model.specs.Stands.{empty_stack_at, recorded, stack_in, in_file, stands}
+use Rattle.ox_files.specs.Stands.{empty_stack_at, recorded, stack_in, in_file, stands}
 use Rattle.ox_sat.specs.Profiles.{name_at, profile_named}
-use Rattle.ox_model.proofs.FilesOfChains.{stands_more}
+use Rattle.ox_files.proofs.FilesOfChains.{stands_more}
 use Rattle.ox_sat.specs.declared.profiles.ProfileName.{ProfileName}
 use Rattle.ox_sat.specs.declared.profiles.ProfileName.TheVariants.{Mainnet, Regtest, Lab}
 use Rattle.ox_store.specs.Make.{made_stack}
 use Rattle.ox_store.specs.Ready.{PreparedCommand, Leads, StandsForEither}
-use Rattle.ox_store.proofs.ReplayByRecord.{replayed_none}
+use Rattle.ox_replay.proofs.ReplayByRecord.{replayed_none}
 
 -- ---- a store that is made
 

@@ -1,4 +1,3 @@
 pub mod CommandsInMemory
 pub mod FilesOfStores
-pub mod ReplayByRecord
 pub mod MakeFaults

@@ -1,10 +1,13 @@
 -- What the answers of a store say of the definitions. Want of memory is free, and nothing else.
 use Rattle.std.specs.Prelude.{◌≡◌, Result, Err}
+use Rattle.ox_outside.specs.declared.site.Which.{Which}
 use Rattle.ox_feed.specs.declared.command.Command.{Command}
 use Rattle.ox_index.specs.declared.fault.ConnectFault.{ConnectFault}
 use Rattle.ox_index.specs.declared.fault.ConnectFault.TheVariants as connects
 use Rattle.ox_model.specs.Stack.{Stack, stack_after}
-use Rattle.ox_model.specs.Stands.{Misfit}
+use Rattle.ox_files.specs.Stands.{Misfit}
+use Rattle.ox_replay.specs.declared.chains.Unjudged.{Unjudged}
+use Rattle.ox_replay.specs.declared.chains.Unjudged.TheVariants as replays
 use Rattle.ox_store.specs.declared.fault.OpenFault.{OpenFault}
 use Rattle.ox_store.specs.declared.fault.OpenFault.TheVariants as opens
 use Rattle.ox_store.specs.declared.fault.Why.{Why}
@@ -25,3 +28,8 @@ IsRefused stack command whys.Memory = Unit {0}
 abbrev pub why_not : ConnectFault → Why
 why_not (connects.Refused refusal) = whys.Refused refusal
 why_not connects.Memory = whys.Memory
+
+-- the fault of this file
+abbrev pub fault_in : Which → Unjudged → OpenFault
+fault_in file (replays.At place) = opens.NotStore file place
+fault_in file replays.Memory = opens.Memory

@@ -1,5 +1,4 @@
 pub mod Fault
 pub mod Make
 pub mod Ready
-pub mod Replay
 pub mod Store

@@ -6,7 +6,7 @@ use Rattle.ox_gated.specs.Tail.{Kept}
 use Rattle.ox_model.specs.Change.{IsChange, redone}
 use Rattle.ox_model.specs.Index.{Index}
 use Rattle.ox_model.specs.Stack.{Stack, stack_after}
-use Rattle.ox_model.specs.Stands.{recorded, stands}
+use Rattle.ox_files.specs.Stands.{recorded, stands}
 use Rattle.ox_model.specs.declared.change.Change.{Change}
 use Rattle.ox_store.specs.Store.{StoreContents}
 use Rattle.ox_store.specs.declared.ready.Moving.{Moving}

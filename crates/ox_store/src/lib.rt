@@ -5,7 +5,6 @@
 mod fault;
 mod open;
 mod ready;
-mod replay;
 mod store;
 
 pub use fault::{Kept, MakeFault, OpenFault, Why};

@@ -7,18 +7,18 @@ ghost use Rattle.ox_gated.specs.Layout.{is_lawful};
 ghost use Rattle.ox_gated.specs.Opened.{IsBehindLawful, IsFault, found_of};
 ghost use Rattle.ox_gated.specs.Reading.{Found, Fault};
 ghost use Rattle.ox_gated.specs.Tail.{Holds};
-ghost use Rattle.ox_model.specs.Stands.{stack_in};
-ghost use Rattle.ox_store.specs.Fault.{IsMisfit};
+ghost use Rattle.ox_files.specs.Stands.{stack_in};
+ghost use Rattle.ox_store.specs.Fault.{IsMisfit, fault_in};
 
 use crate::fault::OpenFault;
-use crate::replay::{earliest, judge};
 use crate::store::Store;
 use ox_gated::{GateFault, Opened, Tail};
-use ox_outside::Site;
+use ox_outside::{Site, Which};
+use ox_replay::{Unjudged, earliest, replay};
 use std::alloc::Global;
 
 impl Store {
-    ghost use Rattle.ox_model.specs.Stands.{stands};
+    ghost use Rattle.ox_files.specs.Stands.{stands};
 
     /// Opens two files of version 1 and carries out the commands of their records again. It begins
     /// with a sync of both files, and changes nothing: at no moment does a crash leave anything
@@ -56,14 +56,14 @@ fn store_of(alloc: Global, opened: Opened) -> Result<Store, OpenFault>
     ensures misfit { IfErr result (IsMisfit (stack_in (Ok (found_of opened)))) }
     ensures not_disk { IsErrOf result OpenFault.DiskFault → ⊥ }
 {
-    match judge(alloc, &opened.head, &opened.body, &opened.records) {
+    match replay(alloc, &opened.head, &opened.body, &opened.records) {
         Ok(chain) => Ok(Store {
             alloc,
             chain,
             tail: opened.tail,
             commands: 0,
         }),
-        Err(unjudged) => Err(unjudged.in_file(opened.file)),
+        Err(unjudged) => Err(in_file(opened.file, unjudged)),
     }
 }
 
@@ -75,8 +75,18 @@ fn fault_of(alloc: Global, fault: GateFault) -> OpenFault
     ensures disk { result ≡ OpenFault.DiskFault → fault ≡ GateFault.DiskFault }
 {
     match fault {
-        GateFault::NotStore { file, at, before } => earliest(alloc, before, at).in_file(file),
+        GateFault::NotStore { file, at, before } => in_file(file, earliest(alloc, before, at)),
         GateFault::DiskFault => OpenFault::DiskFault,
         GateFault::Memory => OpenFault::Memory,
+    }
+}
+
+// What it says of a file that a part of it gives no chain.
+fn in_file(file: Which, unjudged: Unjudged) -> OpenFault
+    ensures { result ≡ fault_in file unjudged }
+{
+    match unjudged {
+        Unjudged::At(at) => OpenFault::NotStore { file, at },
+        Unjudged::Memory => OpenFault::Memory,
     }
 }

@@ -63,7 +63,7 @@ impl Model for Ready {
 
 impl Ready {
     ghost use Rattle.ox_model.specs.Stack.{Stack};
-    ghost use Rattle.ox_model.specs.Stands.{stands};
+    ghost use Rattle.ox_files.specs.Stands.{stands};
     ghost use Rattle.ox_store.specs.Ready.{Leads, Moves, StandsForEither};
     ghost use Rattle.ox_store.specs.Store.{tip_of};
 

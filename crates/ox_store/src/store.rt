@@ -20,15 +20,10 @@ use ox_gated::{Framed, Head, Tail, checkpoint_of, frame_parts};
 use ox_index::{Chain, Changes, ConnectFault, Live};
 use ox_model::{About, Change};
 use ox_outside::{Failed, Site, Which};
+use ox_replay::{CONNECT, DISCONNECT};
 use ox_sat::{ProfileName, profile_of};
 use std::alloc::Global;
 use std::marker::Model;
-
-/// The first byte of a record's payload that connects the block behind it.
-const CONNECT: u8 = 1;
-
-/// The payload of a disconnect's record.
-const DISCONNECT: u8 = 0;
 
 /// The greatest number of bytes of a block that has a record: the length of its payload fits 4
 /// bytes.
@@ -80,7 +75,7 @@ impl Model for Store {
 impl Store {
     ghost use Rattle.ox_gated.specs.Tail.{Fits};
     ghost use Rattle.ox_index.specs.Live.{profile_in, index_in};
-    ghost use Rattle.ox_model.specs.Stands.{recorded, stands};
+    ghost use Rattle.ox_files.specs.Stands.{recorded, stands};
     ghost use Rattle.ox_store.specs.Fault.{IsRefused};
     ghost use Rattle.ox_store.specs.Make.{made_stack};
     ghost use Rattle.ox_store.specs.Ready.{Prepares};

@@ -2,7 +2,7 @@ use Rattle.std.proofs.Common.{◌∙◌, Some, ap, subst, sym}
 use Rattle.ox_outside.specs.Log.{Grows}
 use Rattle.ox_model.specs.Replies.{after_on, replies_on}
 use Rattle.ox_model.specs.Stack.{Stack}
-use Rattle.ox_model.specs.Stands.{stands}
+use Rattle.ox_files.specs.Stands.{stands}
 use Rattle.ox_app.proofs.Images.{grows_from, looked_then_talked, memory_opens, opened_then_followed, same_stack, stopped_by_memory, stops_unopened, unopened_yet, says_nothing}
 use Rattle.ox_app.specs.Headline.{Leaves, StopsBefore}
 use Rattle.ox_outside.specs.Runs.{LeavesOnly}

@@ -3,7 +3,7 @@ use Rattle.std.specs.Prelude.{IsTrue}
 use Rattle.ox_outside.specs.Log.{Grows}
 use Rattle.ox_feed.specs.Feed.{feed_limit, bytes_left}
 use Rattle.ox_model.specs.Replies.{after_on, replies_on}
-use Rattle.ox_model.specs.Stands.{stands}
+use Rattle.ox_files.specs.Stands.{stands}
 use Rattle.ox_app.proofs.FeedState.{HasAnswered}
 use Rattle.ox_app.specs.Headline.{Survives}
 use Rattle.ox_outside.specs.Runs.{Calls, LeavesOnly}

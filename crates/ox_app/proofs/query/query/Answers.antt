@@ -1,7 +1,7 @@
 use Rattle.std.proofs.Common.{◌∙◌, ℕ, List, ap, subst}
 use Rattle.ox_app.specs.declared.status.Status.TheVariants.{Done, Memory, ShowFault}
 use Rattle.ox_outside.specs.Log.{Grows}
-use Rattle.ox_model.specs.Stands.{stands}
+use Rattle.ox_files.specs.Stands.{stands}
 use Rattle.ox_app.proofs.Images.{done_opens, looked_then_talked, memory_opens, memory_undone, reply_front, reply_none, reply_whole, same_stack, says_nothing, show_opens, show_undone}
 use Rattle.ox_app.specs.Query.{query_body}
 use Rattle.ox_app.specs.Show.{ShowsReply}

@@ -19,7 +19,7 @@ use Rattle.ox_model.specs.Sound.{IsSound}
 use Rattle.ox_model.specs.Index.{Index}
 use Rattle.ox_model.specs.Stack.{Stack, back_to, stack_after, with_index}
 use Rattle.ox_model.specs.Step.{step}
-use Rattle.ox_model.specs.Stands.{empty_stack_at, command_in, recorded, stack_accepting, or_place, stack_after_records, stack_in_file, in_file, place_of_cut, stack_in, stands}
+use Rattle.ox_files.specs.Stands.{empty_stack_at, command_in, recorded, stack_accepting, or_place, stack_after_records, stack_in_file, in_file, place_of_cut, stack_in, stands}
 use Rattle.ox_rules.specs.declared.refusal.Refusal.{Refusal}
 use Rattle.ox_rules.proofs.Conservation.{bind_ok, ok_same}
 use Rattle.ox_model.proofs.Soundness.{sound_chain}

@@ -7,6 +7,7 @@ use Rattle.std.specs.Result.{result_ok}
 use Rattle.ox_bytes.specs.Reading.{◌>>=◌}
 use Rattle.ox_outside.specs.Files.{Files}
 use Rattle.ox_outside.specs.declared.site.Which.{Which}
+use Rattle.ox_gated.specs.Layout.{body_at}
 use Rattle.ox_gated.specs.Reading.{Found, Fault, IntactPart, reading}
 use Rattle.ox_gated.specs.declared.head.Head.{Head}
 use Rattle.ox_gated.specs.declared.records.Record.{Record}
@@ -54,10 +55,10 @@ stack_after_records stack (one ∷ records) = do
   next ← or_place one.place (stack_accepting stack (command_in one.payload))
   stack_after_records next records
 
--- the stack of a head, a body and records; a body that isn't empty is at fault, and its place is 26
+-- the stack of a head, a body and records; a body that isn't empty is at fault
 abbrev pub stack_in_file : Head → List ℕ → List Record → Result Stack ℕ
 stack_in_file head [] records = stack_after_records (empty_stack_at head) records
-stack_in_file head (b ∷ body) records = Err 26
+stack_in_file head (b ∷ body) records = Err body_at
 
 -- the file and the place of a test that failed
 pub record Misfit : Type 0 where

@@ -4,9 +4,9 @@ use Rattle.std.specs.List.{concat}
 use Rattle.ox_outside.specs.Event.{Event, shown_bytes}
 use Rattle.ox_outside.specs.Files.{Files}
 use Rattle.ox_feed.specs.Feed.{FeedLine}
-use Rattle.ox_model.specs.Moments.{acknowledgements_in, count, lines_in}
+use Rattle.ox_files.specs.Moments.{acknowledgements_in, count, lines_in}
 use Rattle.ox_model.specs.Stack.{Stack}
-use Rattle.ox_model.specs.Stands.{stands}
+use Rattle.ox_files.specs.Stands.{stands}
 
 -- these bytes begin all of those
 abbrev pub IsFrontOf : List ℕ → List ℕ → Type 0

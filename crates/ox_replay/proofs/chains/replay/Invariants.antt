@@ -1,7 +1,7 @@
 use Rattle.std.proofs.Common.{◌≡◌, drop}
-use Rattle.ox_model.specs.Stands.{empty_stack_at, stack_after_records}
+use Rattle.ox_files.specs.Stands.{empty_stack_at, stack_after_records}
 use Rattle.ox_index.specs.Chain.{stack_in}
-use Rattle.ox_store.proofs.replay.judge.Given as goal
+use Rattle.ox_replay.proofs.chains.replay.Given as goal
 
 -- The records so far and those that are left lead where all lead.
 abbrev pub invariant-loop-record : goal.invariant-loop-record

@@ -1,17 +1,14 @@
 -- What the replay of a file answers. Want of memory is free, and nothing else.
 use Rattle.std.specs.Prelude.{◌≡◌, ℕ, Result, Err}
-use Rattle.ox_outside.specs.declared.site.Which.{Which}
 use Rattle.ox_feed.specs.declared.command.Command.{Command}
 use Rattle.ox_feed.specs.declared.command.Command.TheVariants.{Connect, Disconnect}
 use Rattle.ox_gated.specs.declared.records.Record.{Record}
 use Rattle.ox_model.specs.Stack.{Stack}
-use Rattle.ox_model.specs.Stands.{command_in, or_place, stack_accepting}
-use Rattle.ox_store.specs.declared.fault.OpenFault.{OpenFault}
-use Rattle.ox_store.specs.declared.fault.OpenFault.TheVariants as opens
-use Rattle.ox_store.specs.declared.replay.Recorded.{Recorded}
-use Rattle.ox_store.specs.declared.replay.Recorded.TheVariants as records
-use Rattle.ox_store.specs.declared.replay.Unjudged.{Unjudged}
-use Rattle.ox_store.specs.declared.replay.Unjudged.TheVariants as replays
+use Rattle.ox_files.specs.Stands.{command_in, or_place, stack_accepting}
+use Rattle.ox_replay.specs.declared.commands.Recorded.{Recorded}
+use Rattle.ox_replay.specs.declared.commands.Recorded.TheVariants as records
+use Rattle.ox_replay.specs.declared.chains.Unjudged.{Unjudged}
+use Rattle.ox_replay.specs.declared.chains.Unjudged.TheVariants as replays
 
 -- where it isn't memory, the place is that of the first test that fails
 abbrev pub IsUnjudged : Result Stack ℕ → Unjudged → Type 0
@@ -27,8 +24,3 @@ stack_after_record stack one =
 abbrev pub command_of : Recorded → Command
 command_of (records.Connect block) = Connect block.now
 command_of records.Disconnect = Disconnect
-
--- the fault of this file
-abbrev pub fault_in : Which → Unjudged → OpenFault
-fault_in file (replays.At place) = opens.NotStore file place
-fault_in file replays.Memory = opens.Memory

@@ -7,10 +7,10 @@ use Rattle.ox_bytes.specs.Reading.{◌>>=◌}
 use Rattle.ox_gated.specs.declared.head.Head.{Head}
 use Rattle.ox_gated.specs.declared.records.Record.{Record}
 use Rattle.ox_model.specs.Stack.{Stack}
-use Rattle.ox_model.specs.Stands.{stack_after_records, stack_in_file, empty_stack_at}
-use Rattle.ox_store.specs.Replay.{IsUnjudged, stack_after_record}
-use Rattle.ox_store.specs.declared.replay.Unjudged.{Unjudged}
-use Rattle.ox_store.specs.declared.replay.Unjudged.TheVariants.{At, Memory}
+use Rattle.ox_files.specs.Stands.{stack_after_records, stack_in_file, empty_stack_at}
+use Rattle.ox_replay.specs.Replay.{IsUnjudged, stack_after_record}
+use Rattle.ox_replay.specs.declared.chains.Unjudged.{Unjudged}
+use Rattle.ox_replay.specs.declared.chains.Unjudged.TheVariants.{At, Memory}
 
 pub replayed_none : (stack : Stack) → stack_after_records stack [] ≡ Ok stack
 unfolding stack_after_records

@@ -5,10 +5,10 @@ use Rattle.ox_outside.specs.Event.{Event}
 use Rattle.ox_outside.specs.Files.{Files}
 use Rattle.ox_feed.specs.Feed.{FeedLine}
 use Rattle.ox_model.specs.Machine.{Machine, stack_of}
-use Rattle.ox_model.specs.Moments.{acknowledgements_in, count, lines_in}
+use Rattle.ox_files.specs.Moments.{acknowledgements_in, count, lines_in}
 use Rattle.ox_model.specs.Replies.{after, replies}
-use Rattle.ox_model.specs.Stands.{stands}
-use Rattle.ox_model.specs.Survives.{Survives}
+use Rattle.ox_files.specs.Stands.{stands}
+use Rattle.ox_files.specs.Survives.{Survives}
 
 pub record Run : Type 0 where
   -- what it heard and showed until it stopped

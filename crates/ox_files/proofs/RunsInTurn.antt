@@ -4,9 +4,9 @@ use Rattle.std.specs.Prelude.{Result, Ok}
 use Rattle.ox_outside.specs.Files.{Files}
 use Rattle.ox_model.specs.Machine.{Machine, stack_of, turn}
 use Rattle.ox_model.specs.Replies.{after}
-use Rattle.ox_model.specs.Runs.{first_lines, kept_lines, LastOf, Run, RunInTurn}
+use Rattle.ox_files.specs.Runs.{first_lines, kept_lines, LastOf, Run, RunInTurn}
 use Rattle.ox_model.specs.Stack.{Stack}
-use Rattle.ox_model.specs.Stands.{Misfit, stands}
+use Rattle.ox_files.specs.Stands.{Misfit, stands}
 use Rattle.ox_model.proofs.AnswersOfStacks.{after_joined, after_none}
 
 -- a machine's stack, as files give it

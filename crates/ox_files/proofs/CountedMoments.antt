@@ -6,7 +6,7 @@ use Rattle.std.specs.List.{concat}
 use Rattle.std.proofs.lemmas.Bool.{le-leb, lt-leb}
 use Rattle.std.proofs.lemmas.List.{append-nil}
 use Rattle.std.proofs.lemmas.List.Elements.{All-head, All-tail}
-use Rattle.ox_model.specs.Moments.{moments, acknowledgements}
+use Rattle.ox_files.specs.Moments.{moments, acknowledgements}
 
 abbrev pub HasByte : List ℕ → Type 0
 HasByte answer = 0 < length answer

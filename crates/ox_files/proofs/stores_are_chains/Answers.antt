@@ -1,5 +1,5 @@
-use Rattle.ox_model.proofs.FilesOfChains.{stands_for_chain, stands_for_known, chain_sound}
-use Rattle.ox_model.proofs.stores_are_chains.Goals as goal
+use Rattle.ox_files.proofs.FilesOfChains.{stands_for_chain, stands_for_known, chain_sound}
+use Rattle.ox_files.proofs.stores_are_chains.Goals as goal
 
 pub returns-clause-chain : goal.returns-clause-chain
 returns-clause-chain c = stands_for_chain

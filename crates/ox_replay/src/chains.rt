@@ -1,24 +1,22 @@
-//! What a head, a body and records stand for.
+//! Chains by records.
 
-ghost use Rattle.std.specs.Prelude.{◌≡◌, IsTrue, Some, None, Ok, Result};
-ghost use Rattle.std.specs.Prelude.{IfOk, IfErr, IfSome, OnOk, MatchOption};
+ghost use Rattle.std.specs.Prelude.{◌≡◌, IsTrue, Ok, Result};
+ghost use Rattle.std.specs.Prelude.{IfOk, IfErr, IfSome, OnOk};
 ghost use Rattle.std.specs.Result.{result_ok};
 ghost use Rattle.ox_gated.specs.Layout.{is_lawful};
 ghost use Rattle.ox_gated.specs.Opened.{intact_part};
 ghost use Rattle.ox_index.specs.Chain.{stack_in};
 ghost use Rattle.ox_index.specs.Fault.{Refuses};
 ghost use Rattle.ox_model.specs.Stack.{Stack};
-ghost use Rattle.ox_model.specs.Stands.{command_in as command_there, empty_stack_at};
-ghost use Rattle.ox_model.specs.Stands.{or_place, place_of_cut, stack_in_file};
+ghost use Rattle.ox_files.specs.Stands.{empty_stack_at, or_place, place_of_cut, stack_in_file};
 ghost use Rattle.ox_rules.specs.declared.refusal.Refusal.{Refusal};
 ghost use Rattle.ox_sat.specs.Profiles.{name_at as name_there};
-ghost use Rattle.ox_store.specs.Replay.{IsUnjudged, command_of, stack_after_record, fault_in};
+ghost use Rattle.ox_replay.specs.Replay.{IsUnjudged, stack_after_record};
 
-use crate::fault::OpenFault;
+use crate::commands::{Recorded, command_in};
 use ox_bytes::{Bytes, Memory};
-use ox_gated::{Before, Head, Record, Records};
+use ox_gated::{BODY_AT, Before, Head, Record, Records};
 use ox_index::{Chain, ConnectFault};
-use ox_outside::Which;
 use ox_sat::{ProfileName, profile_of};
 use std::alloc::Global;
 
@@ -31,30 +29,23 @@ pub enum Unjudged {
     Memory,
 }
 
-impl Unjudged {
-    /// What it says of this file.
-    pub fn in_file(self, file: Which) -> OpenFault
-        ensures { result ≡ fault_in file self }
-    {
-        match self {
-            Unjudged::At(at) => OpenFault::NotStore { file, at },
-            Unjudged::Memory => OpenFault::Memory,
-        }
-    }
-}
-
 /// The chain that a head, a body and records stand for: the commands of the records are carried out
-/// again. `At` exactly where they stand for none, with the place of the first test that fails: 26
-/// where the body isn't empty, or the place of the gate of the first record whose command isn't
+/// again. `At` exactly where they stand for none, with the place of the first test that fails: that
+/// of the body where it isn't empty, or that of the gate of the first record whose command isn't
 /// accepted. `Memory` where there is none for the chain.
-pub fn judge(alloc: Global, head: &Head, body: &Bytes, records: &Records) -> Result<Chain, Unjudged>
+pub fn replay(
+    alloc: Global,
+    head: &Head,
+    body: &Bytes,
+    records: &Records,
+) -> Result<Chain, Unjudged>
     requires { IsTrue (is_lawful head.now) }
     ensures stack { IfOk result (λ chain.
         stack_in_file head.now body.now records.now ≡ Ok (stack_in chain)) }
     ensures place { IfErr result (IsUnjudged (stack_in_file head.now body.now records.now)) }
 {
     if !body.is_empty() {
-        return Err(Unjudged::At(26));
+        return Err(Unjudged::At(BODY_AT as u64));
     }
     let Ok(mut chain) = begin(alloc, head) else {
         return Err(Unjudged::Memory);
@@ -74,7 +65,7 @@ pub fn earliest(alloc: Global, before: Option<Before>, at: u64) -> Unjudged
     let Some(before) = before else {
         return Unjudged::At(at);
     };
-    match judge(alloc, &before.head, &before.body, &before.records) {
+    match replay(alloc, &before.head, &before.body, &before.records) {
         Ok(_) => Unjudged::At(at),
         Err(unjudged) => unjudged,
     }
@@ -97,27 +88,6 @@ fn begin(alloc: Global, head: &Head) -> Result<Chain, Memory>
     ensures { IfOk result (λ chain. stack_in chain ≡ empty_stack_at head.now) }
 {
     Chain::new(alloc, &profile_of(name_at(head.profile)), head.depth)
-}
-
-/// A command as its record has it.
-#[derive(Clone, Copy)]
-pub enum Recorded<'a> {
-    /// The connect of the block that has these bytes.
-    Connect(&'a [u8]),
-    /// A disconnect.
-    Disconnect,
-}
-
-// The command of a record's payload, if it has one.
-fn command_in(payload: &[u8]) -> Option<Recorded<'_>>
-    ensures { MatchOption result (command_there payload.now ≡ None)
-        (λ r. command_there payload.now ≡ Some (command_of r)) }
-{
-    match payload {
-        [1, block @ ..] => Some(Recorded::Connect(block)),
-        [0] => Some(Recorded::Disconnect),
-        _ => None,
-    }
 }
 
 // Why the chain doesn't take the command of the record at this place.

@@ -3,9 +3,9 @@ use Rattle.std.proofs.lemmas.Result.{err_from_is_err_and}
 use Rattle.std.specs.Prelude.{Result}
 use Rattle.ox_index.specs.Chain.{stack_in}
 use Rattle.ox_model.specs.Stack.{Stack}
-use Rattle.ox_store.specs.Replay.{IsUnjudged}
-use Rattle.ox_store.proofs.ReplayByRecord.{body_there, unjudged_here, goes_on, all_redone}
-use Rattle.ox_store.proofs.replay.judge.Goals as goal
+use Rattle.ox_replay.specs.Replay.{IsUnjudged}
+use Rattle.ox_replay.proofs.ReplayByRecord.{body_there, unjudged_here, goes_on, all_redone}
+use Rattle.ox_replay.proofs.chains.replay.Goals as goal
 
 pub returns-in_err-redo-clause-place : goal.returns-in_err-redo-clause-place
 returns-in_err-redo-clause-place c =

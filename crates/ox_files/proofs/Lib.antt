@@ -1,0 +1,3 @@
+pub mod CountedMoments
+pub mod FilesOfChains
+pub mod RunsInTurn

@@ -1,0 +1,4 @@
+pub mod Moments
+pub mod Stands
+pub mod Survives
+pub mod Runs

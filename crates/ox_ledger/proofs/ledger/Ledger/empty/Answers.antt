@@ -1,0 +1,13 @@
+use Rattle.std.proofs.Common.{ap, is_some, subst, sym}
+use Rattle.ox_ledger.specs.Balanced.{Balanced}
+use Rattle.ox_ledger.specs.Tables.{mark_of}
+use Rattle.ox_ledger.proofs.LedgerLemmas.{no_mark_balanced}
+use Rattle.ox_ledger.proofs.StartBalanced.{nothing_balanced}
+use Rattle.ox_ledger.proofs.ledger.Ledger.empty.Goals as goal
+
+pub invariant_of-result : goal.invariant_of-result
+invariant_of-result c = record {
+  balanced = subst Balanced (sym c.new.ensures.now) nothing_balanced;
+  balanced_then = no_mark_balanced (mark_of c.new.result) c.new.ensures.mark;
+  known = sym (ap is_some c.new.ensures.mark);
+}
