@@ -1,0 +1,4 @@
+mod Moments
+mod GoingOn
+mod Apart
+mod States

@@ -1,0 +1,37 @@
+-- What a crash leaves of a server's run.
+use Rattle.std.specs.Prelude.{◌≡◌, ◌⊎◌, ℕ, suc, ◌≤◌, List, [], ◌∷◌, ◌++◌, length, take, drop, All}
+use Rattle.ox_outside.specs.Event.{Event, shown_bytes}
+use Rattle.ox_outside.specs.Files.{Files}
+use Rattle.ox_links.specs.Link.{Answer, answers_to, bytes_of}
+use Rattle.ox_links.specs.Serving.{Server, served_by, commands_in, state_after}
+
+-- these bytes begin all of those
+abbrev pub IsFrontOf : List ℕ → List ℕ → Type 0
+IsFrontOf front whole = (rest : List ℕ) × (front ++ rest ≡ whole)
+
+-- the answers of which a byte is shown, with so much shown
+unfoldable pub begun_answers : {C : Type 0} → List (Answer C) → List ℕ → List (Answer C)
+begun_answers [] shown = []
+begun_answers (answer ∷ answers) [] = []
+begun_answers (answer ∷ answers) (b ∷ shown) =
+    answer ∷ begun_answers answers (drop (length answer.reply.bytes) (b ∷ shown))
+
+-- Files that survive these events of a server that began in this state; `stands` says what files
+-- stand for.
+pub record Survives {X C : Type 0} (server : Server X C) (first : X) (stands : Files → X → Type 0)
+    (events : List Event) (files : Files) : Type 0 where
+  -- they stand for the state after so many of the commands
+  pub kept : ℕ
+  pub stands_for : stands files
+      (state_after server first (take kept (commands_in (served_by server first events).answers)))
+  -- which are all of them, or all but the last
+  pub counted : ((served_by server first events).commands ≡ kept)
+      ⊎ ((served_by server first events).commands ≡ suc kept)
+  -- no byte was shown of an answer with more commands
+  pub acknowledged : (channel : ℕ)
+      → All (λ (a : Answer C). a.commands ≤ kept) (begun_answers
+      (answers_to channel (served_by server first events).answers) (shown_bytes channel events))
+  -- on each link a front of its answers was shown
+  pub shown : (channel : ℕ) → 1 ≤ channel
+      → IsFrontOf (shown_bytes channel events)
+      (bytes_of (answers_to channel (served_by server first events).answers))
