@@ -47,16 +47,17 @@ serve_on_begins server run (event ∷ log) =
     begins_then run.answers next.answers (serve_on server next log).answers
     (answer_begins server (with_event run event) (answer_at server (with_event run event) event log)) (serve_on_begins server next log)
 
+with_past : {X C : Type 0} (server : Server X C) (run : Serving X C) (o : Option (Answer C)) → (with_answer server run o).past ≡ run.past
+with_past server run None = refl
+with_past server run (Some answer) = refl
+
+pub after_past : {X C : Type 0} (server : Server X C) (run : Serving X C) (event : Event) (rest : List Event) → (after_event server run event rest).past ≡ run.past ++ event ∷ []
+after_past server run event rest = with_past server (with_event run event) (answer_at server (with_event run event) event rest)
+
 pub past_is : {X C : Type 0} (server : Server X C) (run : Serving X C) (log : List Event) → (serve_on server run log).past ≡ run.past ++ log
 past_is server run [] = sym (append-nil run.past)
 past_is server run (event ∷ log) =
-    past_is server (after_event server run event log) log
-    ∙ ap (λ (l : List Event). l ++ log) (same (answer_at server (with_event run event) event log))
-    ∙ append_assoc run.past (event ∷ []) log
-  where
-    same : (o : Option (Answer _)) → (with_answer server (with_event run event) o).past ≡ run.past ++ event ∷ []
-    same None = refl
-    same (Some answer) = refl
+    past_is server (after_event server run event log) log ∙ ap (λ (l : List Event). l ++ log) (after_past server run event log) ∙ append_assoc run.past (event ∷ []) log
 
 pub serve_on_keeps : {X C : Type 0} (server : Server X C) (run : Serving X C) (log more : List Event) → ((channel : ℕ) → gives_up channel more ≡ false) → Begins (serve_on server run log).answers (serve_on server run (log ++ more)).answers
 serve_on_keeps server run log more none =

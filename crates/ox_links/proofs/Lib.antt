@@ -1,4 +1,10 @@
+mod Each
 mod Moments
 mod GoingOn
 mod Apart
 mod States
+mod Answered
+mod Asked
+mod Quiet
+mod Turns
+mod Like

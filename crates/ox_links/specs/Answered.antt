@@ -1,5 +1,6 @@
 -- What each answer of a run is.
-use Rattle.std.specs.Prelude.{◌≡◌, ◌≤◌, ℕ, IsTrue, List, [], ◌∷◌, ◌++◌, length, slice_get, All, Option, Some, None, is_some}
+use Rattle.std.specs.Prelude.{◌≡◌, ◌≤◌, ℕ, IsTrue, List, [], ◌∷◌, ◌++◌, length, slice_get, Option, Some, None, is_some}
+use Rattle.std.specs.List.{AllPairs}
 use Rattle.ox_outside.specs.Event.{Event, heard_bytes, has_given_up}
 use Rattle.ox_http.specs.Talk.{Message}
 use Rattle.ox_links.specs.Link.{Answer, answers_to, all_shown, is_operators}
@@ -7,7 +8,8 @@ use Rattle.ox_links.specs.Serving.{Server, reply_of, command_of, next_state, sta
 
 -- where the log is this, an answer behind those before is to the next message of its link, once all
 -- that was answered before is shown; or to a link that has given up
-abbrev pub IsToNext : {X C : Type 0} → Server X C → List Event → List (Answer C) → ℕ → Option Message → Type 0
+abbrev pub IsToNext : {X C : Type 0} → Server X C → List Event → List (Answer C) → ℕ
+    → Option Message → Type 0
 IsToNext server log before channel (Some message) =
     IsTrue (all_shown channel log before)
     × (slice_get (server.talk (heard_bytes channel log)) (length (answers_to channel before))
@@ -47,9 +49,7 @@ AreTo {C = C} answers messages =
 
 -- the numbers of commands never fall
 abbrev pub NeverFall : {C : Type 0} → List (Answer C) → Type 0
-NeverFall [] = Unit {0}
-NeverFall (answer ∷ answers) =
-    All (λ (a : Answer _). answer.commands ≤ a.commands) answers × NeverFall answers
+NeverFall answers = AllPairs (λ (a b : Answer _). a.commands ≤ b.commands) answers
 
 -- what a stream says stays, whatever follows it
 abbrev pub TalkGoesOn : (List ℕ → List Message) → Type 0

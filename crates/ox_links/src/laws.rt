@@ -10,6 +10,17 @@ ghost use Rattle.ox_links.specs.Quiet.{Speaks};
 ghost use Rattle.ox_links.specs.Serving.{Server, Serving, accepted_in, after_event, commands_in, serve_on, served_by, state_after};
 ghost use Rattle.ox_links.specs.Turned.{AreTurns, Turn, logged_by};
 
+/// States of one server that stand for those of another with the same commands.
+pub trait Likeness {
+    ghost One: { Type 0 };
+
+    ghost Other: { Type 0 };
+
+    ghost Command: { Type 0 };
+
+    ghost stands_for: { One → Other → Type 0 };
+}
+
 /// A log that goes on, but not by giving up what was just asked, goes on from the run of its front:
 /// it keeps all answers and adds behind them.
 pub fn logs_go_on<X, C>()
@@ -19,10 +30,14 @@ pub fn logs_go_on<X, C>()
         → Begins (serve_on server run log).answers (serve_on server run (log ++ more)).answers }
 {}
 
-/// An event brings one answer at most, and that to its own link.
+/// An event brings one answer at most, and that to its own link. Where no reply is empty, a link
+/// whose answers are all shown asks nothing: what was asked is answered.
 pub fn events_bring_one_answer<X, C>()
-    ensures { (server : Server X C) (run : Serving X C) (event : Event) (rest : List Event)
+    ensures one { (server : Server X C) (run : Serving X C) (event : Event) (rest : List Event)
         → AddsOne (channel_of event) run.answers (after_event server run event rest).answers }
+    ensures quiet { (server : Server X C) (first : X) → Speaks server → (log : List Event) (channel : ℕ)
+        → IsTrue (all_shown channel log (served_by server first log).answers)
+        → asked_now server.talk channel log (served_by server first log).answers ≡ None }
 {}
 
 /// The state is where the commands of the answers lead, and where those of them that were accepted
@@ -48,4 +63,35 @@ pub fn links_are_apart<X, C>()
         → (channel_of event == channel) ≡ false
         → answers_to channel (after_event server run event rest).answers
         ≡ answers_to channel run.answers }
+{}
+
+/// Each answer to a link is to the next message of its talk, or the 503 of a link that gave up. It is
+/// by the state after the commands before it, whose number never falls along a link.
+pub fn answers_are_in_turn<X, C>()
+    ensures each { (server : Server X C) (first : X) (log : List Event)
+        → AllAnswer server first log (served_by server first log).answers }
+    ensures to_talk { (server : Server X C) (first : X) → TalkGoesOn server.talk → (log : List Event) (channel : ℕ)
+        → AreTo (answers_to channel (served_by server first log).answers)
+        (server.talk (heard_bytes channel log)) }
+    ensures never_fall { (server : Server X C) (first : X) (log : List Event) (channel : ℕ)
+        → NeverFall (answers_to channel (served_by server first log).answers) }
+{}
+
+/// Turns that follow one another may be joined, and no link begins them by giving up, so that their
+/// log goes on.
+pub fn turns_go_on<X, C>()
+    ensures joined { (server : Server X C) (first : X) (past : List Event) (start middle end : ℕ)
+        (one two : List Turn) → AreTurns server first past start one middle
+        → AreTurns server first (past ++ logged_by one) middle two end
+        → AreTurns server first past start (one ++ two) end }
+    ensures on { (server : Server X C) (first : X) (past : List Event) (start end : ℕ) (turns : List Turn)
+        → AreTurns server first past start turns end → GoesOnWithout (logged_by turns) }
+{}
+
+/// Where the states of one server stand for those of another, and both reply and turn alike, so do
+/// their runs: each log has the same answers.
+pub fn like_servers_serve_alike<L: Likeness>()
+    ensures { (one : Server L.One L.Command) (two : Server L.Other L.Command)
+        → SameServer L.stands_for one two → (x : L.One) (y : L.Other) → L.stands_for x y
+        → (log : List Event) → SameRun L.stands_for (served_by one x log) (served_by two y log) }
 {}
