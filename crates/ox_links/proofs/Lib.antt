@@ -8,3 +8,4 @@ mod Asked
 mod Quiet
 mod Turns
 mod Like
+mod Replay

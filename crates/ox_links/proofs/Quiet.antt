@@ -17,7 +17,7 @@ use Rattle.ox_links.proofs.GoingOn.{after_past, past_is}
 use Rattle.ox_links.proofs.Moments.{asked_at, at_event, IsMoment}
 
 -- the next event of a link, behind one of another
-gives_up-other : (channel : ℕ) (event : Event) (rest : List Event) → (channel_of event == channel) ≡ false → gives_up channel (event ∷ rest) ≡ gives_up channel rest
+pub gives_up-other : (channel : ℕ) (event : Event) (rest : List Event) → (channel_of event == channel) ≡ false → gives_up channel (event ∷ rest) ≡ gives_up channel rest
 gives_up-other channel (GaveUp c) rest other = ap (λ (b : Bool). b || gives_up channel rest) other
 gives_up-other channel event rest other = ap (λ (b : Bool). if b then false else gives_up channel rest) other
 

@@ -88,6 +88,19 @@ pub fn turns_go_on<X, C>()
         → AreTurns server first past start turns end → GoesOnWithout (logged_by turns) }
 {}
 
+/// The commands that were accepted before each answer decide what a link is replied: two logs with
+/// the same events of a link, and the same commands before its answers, give it the same replies.
+pub fn commands_decide_replies<X, C>()
+    ensures {
+        (server : Server X C) (first : X) (channel : ℕ) (one two : List Event)
+        → events_of channel one ≡ events_of channel two
+        → accepted_before channel (served_by server first one).answers
+        ≡ accepted_before channel (served_by server first two).answers
+        → replies_to channel (served_by server first one).answers
+        ≡ replies_to channel (served_by server first two).answers
+    }
+{}
+
 /// Where the states of one server stand for those of another, and both reply and turn alike, so do
 /// their runs: each log has the same answers.
 pub fn like_servers_serve_alike<L: Likeness>()

@@ -4,6 +4,7 @@
 mod laws;
 
 pub use laws::{
-    Likeness, answers_are_in_turn, commands_lead_to_the_state, events_bring_one_answer,
-    like_servers_serve_alike, links_are_apart, logs_go_on, turns_go_on,
+    answers_are_in_turn, commands_decide_replies, commands_lead_to_the_state,
+    events_bring_one_answer, like_servers_serve_alike, links_are_apart, logs_go_on, turns_go_on,
+    Likeness,
 };
