@@ -1,7 +1,6 @@
 -- Each answer of a run is to the next message of its link, by the state after the commands before.
-use Rattle.std.proofs.Common.{◌≡◌, ◌∙◌, ◌≤◌, ◌==◌, ℕ, suc, ◌+◌, Bool, true, false, List, [], ◌∷◌, ◌++◌, ◌&&◌, ◌||◌, not, length, Option, Some, None, if◌then◌else◌, refl, sym, ap, subst, arith, append_assoc, length-append}
+use Rattle.std.proofs.Common.{not, ◌≡◌, ◌∙◌, ◌≤◌, ◌==◌, ℕ, suc, ◌+◌, Bool, true, false, List, [], ◌∷◌, ◌++◌, ◌&&◌, ◌||◌, length, Option, Some, None, if◌then◌else◌, refl, sym, ap, subst, arith, append_assoc, length-append}
 use Rattle.std.specs.Prelude.{IsTrue, is_some, slice_get}
-use Rattle.std.specs.List.{AllPairs}
 use Rattle.std.proofs.Math.Bool.{or-true}
 use Rattle.std.proofs.lemmas.Bool.{eq-eqb, eqb-true}
 use Rattle.std.proofs.lemmas.List.Kept.{AllPairs-filter}
@@ -9,12 +8,12 @@ use Rattle.ox_outside.specs.Event.{Event, Opened, Heard, Ended, Showed, Broke, G
 use Rattle.ox_outside.proofs.Event.{has_given_up-append, heard_bytes-append}
 use Rattle.ox_http.specs.Talk.{Message}
 use Rattle.ox_links.specs.Answered.{AllAnswer, AreTo, IsAnswer, IsToNext, NeverFall, TalkGoesOn}
-use Rattle.ox_links.specs.Link.{Answer, all_shown, answers_to, asked_now, is_operators, is_to}
-use Rattle.ox_links.specs.Serving.{Server, Serving, answer_of, with_answer, with_event, after_event, serve_on, served_by, start_at, commands_in, state_after, next_state, one_if, reply_of}
+use Rattle.ox_links.specs.Link.{Answer, all_shown, answers_to, is_operators, is_to}
+use Rattle.ox_links.specs.Serving.{Server, Serving, answer_of, with_answer, with_event, after_event, serve_on, served_by, start_at, next_state, reply_of}
 use Rattle.ox_links.proofs.Apart.{answers_to-other, answers_to-own}
 use Rattle.ox_links.proofs.Each.{AllOf, all_more, Each, each_at, each_more, EachNumber, number_at, Rises, rises_more, rises_pairs, slice_get-front}
-use Rattle.ox_links.proofs.Moments.{asked_at, at_event, IsMoment, IsGivingUp}
-use Rattle.ox_links.proofs.States.{Leads, after_event_leads, leads_with, start_leads}
+use Rattle.ox_links.proofs.Moments.{at_event, IsMoment, IsGivingUp}
+use Rattle.ox_links.proofs.States.{Leads, leads_with, start_leads}
 
 pub giving_up : (past : List Event) (event : Event) → IsGivingUp event → has_given_up (channel_of event) (past ++ event ∷ []) ≡ true
 giving_up past (GaveUp c) is = has_given_up-append c past (GaveUp c ∷ []) ∙ ap (λ (b : Bool). has_given_up c past || (b || false)) (eq-eqb c c refl) ∙ or-true (has_given_up c past)
@@ -26,9 +25,9 @@ giving_up past (Broke c) is = absurd is
 giving_up past (Shut c) is = absurd is
 
 -- what is asked is behind answers that are shown
-pub asked_is : {A : Type 0} (a b : Bool) (o : Option A) (m : A) → (if a && b then o else None) ≡ Some m → IsTrue a × (o ≡ Some m)
-asked_is true true o m is = (refl, is)
-asked_is true false o m is = absurd (cc is)
+pub asked_is : {A : Type 0} (a b : Bool) (o : Option A) (m : A) → (if a && not b then o else None) ≡ Some m → IsTrue a × (b ≡ false) × (o ≡ Some m)
+asked_is true true o m is = absurd (cc is)
+asked_is true false o m is = (refl, refl, is)
 asked_is false b o m is = absurd (cc is)
 
 module _ {X C : Type 0} (server : Server X C) (first : X) where
@@ -122,11 +121,11 @@ module _ {X C : Type 0} (server : Server X C) (first : X) where
     is_to_next before a m own is answer =
         let c = eqb-true a.channel channel own in
         let next = subst (λ (o : Option Message). IsToNext server answer.now before a.channel o) is answer.to_next in
-        let here = subst (λ (k : ℕ). slice_get (server.talk (heard_bytes k answer.now)) (length (answers_to k before)) ≡ Some m) c next.1 in
+        let here = subst (λ (k : ℕ). slice_get (server.talk (heard_bytes k answer.now)) (length (answers_to k before)) ≡ Some m) c next.2 in
         let more = goes_on (heard_bytes channel answer.now) (heard_bytes channel answer.later) in
         ap (λ (l : List Event). slice_get (server.talk (heard_bytes channel l)) (length (answers_to channel before))) answer.logged
         ∙ ap (λ (l : List ℕ). slice_get (server.talk l) (length (answers_to channel before))) (heard_bytes-append channel answer.now answer.later)
-        ∙ ap (λ (l : List Message). slice_get l (length (answers_to channel before))) more.1
+        ∙ ap (λ (l : List Message). slice_get l (length (answers_to channel before))) (sym more.1)
         ∙ slice_get-front (server.talk (heard_bytes channel answer.now)) more.0 (length (answers_to channel before)) m here
 
     numbered : (before answers : List (Answer C)) (n : ℕ) → length (answers_to channel before) ≡ n → Each (IsAnswer server first log) before answers → EachNumber IsTo n (answers_to channel answers)

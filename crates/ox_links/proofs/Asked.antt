@@ -1,8 +1,8 @@
 -- What a link asks depends on its own events and answers alone.
-use Rattle.std.proofs.Common.{◌≡◌, ◌∙◌, ℕ, ◌==◌, Bool, true, false, List, [], ◌∷◌, ◌++◌, ◌&&◌, ◌||◌, not, length, Option, Some, None, if◌then◌else◌, refl, sym, ap}
+use Rattle.std.proofs.Common.{◌≡◌, ◌∙◌, ℕ, ◌==◌, Bool, true, false, List, [], ◌∷◌, ◌++◌, ◌&&◌, ◌||◌, not, Option, None, if◌then◌else◌, refl, ap}
 use Rattle.std.specs.Prelude.{bytes_eq, slice_get}
 use Rattle.std.proofs.lemmas.List.{append-nil}
-use Rattle.ox_outside.specs.Event.{Event, Opened, Heard, Ended, Showed, Broke, GaveUp, Shut, channel_of, heard_bytes, shown_bytes, has_given_up}
+use Rattle.ox_outside.specs.Event.{Event, Heard, Showed, GaveUp, channel_of, heard_bytes, shown_bytes, has_given_up}
 use Rattle.ox_outside.proofs.Event.{has_given_up-append, heard_bytes-append, shown_bytes-append}
 use Rattle.ox_http.specs.Talk.{Message}
 

@@ -4,7 +4,7 @@ use Rattle.std.proofs.lemmas.List.{append-nil}
 use Rattle.ox_outside.specs.Event.{Event, GaveUp, channel_of}
 use Rattle.ox_links.specs.Link.{Answer}
 use Rattle.ox_links.specs.Serving.{Server, Serving, answer_at, with_answer, with_event, after_event, serve_on, gives_up}
-use Rattle.ox_links.specs.GoesOn.{Begins}
+use Rattle.ox_links.specs.Shown.{IsFrontOf}
 
 chosen : (b x y : Bool) → x ≡ y → (if b then false else x) ≡ (if b then false else y)
 chosen true x y is = refl
@@ -33,19 +33,19 @@ pub serve_on-append : {X C : Type 0} (server : Server X C) (run : Serving X C) (
 serve_on-append server run [] more none = refl
 serve_on-append server run (event ∷ log) more none = ap (λ (r : Serving _ _). serve_on server r (log ++ more)) (after_event-append server run event log more none) ∙ serve_on-append server (after_event server run event log) log more none
 
-begins_then : {A : Type 0} (x y z : List A) → Begins x y → Begins y z → Begins x z
-begins_then x y z xy yz = (xy.0 ++ yz.0, yz.1 ∙ ap (λ (l : List _). l ++ yz.0) xy.1 ∙ append_assoc x xy.0 yz.0)
+front_then : {A : Type 0} (x y z : List A) → IsFrontOf x y → IsFrontOf y z → IsFrontOf x z
+front_then x y z xy yz = (xy.0 ++ yz.0, sym (append_assoc x xy.0 yz.0) ∙ ap (λ (l : List _). l ++ yz.0) xy.1 ∙ yz.1)
 
-answer_begins : {X C : Type 0} (server : Server X C) (run : Serving X C) (answer : Option (Answer C)) → Begins run.answers (with_answer server run answer).answers
-answer_begins server run None = ([], sym (append-nil run.answers))
-answer_begins server run (Some answer) = (answer ∷ [], refl)
+answer_front : {X C : Type 0} (server : Server X C) (run : Serving X C) (answer : Option (Answer C)) → IsFrontOf run.answers (with_answer server run answer).answers
+answer_front server run None = ([], append-nil run.answers)
+answer_front server run (Some answer) = (answer ∷ [], refl)
 
-pub serve_on_begins : {X C : Type 0} (server : Server X C) (run : Serving X C) (log : List Event) → Begins run.answers (serve_on server run log).answers
-serve_on_begins server run [] = ([], sym (append-nil run.answers))
-serve_on_begins server run (event ∷ log) =
+pub serve_on_front : {X C : Type 0} (server : Server X C) (run : Serving X C) (log : List Event) → IsFrontOf run.answers (serve_on server run log).answers
+serve_on_front server run [] = ([], append-nil run.answers)
+serve_on_front server run (event ∷ log) =
     let next = after_event server run event log in
-    begins_then run.answers next.answers (serve_on server next log).answers
-    (answer_begins server (with_event run event) (answer_at server (with_event run event) event log)) (serve_on_begins server next log)
+    front_then run.answers next.answers (serve_on server next log).answers
+    (answer_front server (with_event run event) (answer_at server (with_event run event) event log)) (serve_on_front server next log)
 
 with_past : {X C : Type 0} (server : Server X C) (run : Serving X C) (o : Option (Answer C)) → (with_answer server run o).past ≡ run.past
 with_past server run None = refl
@@ -59,7 +59,7 @@ past_is server run [] = sym (append-nil run.past)
 past_is server run (event ∷ log) =
     past_is server (after_event server run event log) log ∙ ap (λ (l : List Event). l ++ log) (after_past server run event log) ∙ append_assoc run.past (event ∷ []) log
 
-pub serve_on_keeps : {X C : Type 0} (server : Server X C) (run : Serving X C) (log more : List Event) → ((channel : ℕ) → gives_up channel more ≡ false) → Begins (serve_on server run log).answers (serve_on server run (log ++ more)).answers
+pub serve_on_keeps : {X C : Type 0} (server : Server X C) (run : Serving X C) (log more : List Event) → ((channel : ℕ) → gives_up channel more ≡ false) → IsFrontOf (serve_on server run log).answers (serve_on server run (log ++ more)).answers
 serve_on_keeps server run log more none =
     let front = serve_on server run log in
-    subst (λ (r : Serving _ _). Begins front.answers r.answers) (sym (serve_on-append server run log more none)) (serve_on_begins server front more)
+    subst (λ (r : Serving _ _). IsFrontOf front.answers r.answers) (sym (serve_on-append server run log more none)) (serve_on_front server front more)

@@ -9,3 +9,6 @@ mod Quiet
 mod Turns
 mod Like
 mod Replay
+mod Toy
+mod Rows
+mod TurnRows

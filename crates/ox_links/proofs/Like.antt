@@ -1,8 +1,8 @@
 -- Servers whose states stand for one another have the same answers.
-use Rattle.std.proofs.Common.{◌≡◌, ◌∙◌, ℕ, ◌+◌, Bool, true, false, List, [], ◌∷◌, ◌++◌, ◌&&◌, not, length, Option, Some, None, if◌then◌else◌, refl, sym, ap, subst}
+use Rattle.std.proofs.Common.{◌≡◌, ◌∙◌, ℕ, ◌+◌, Bool, List, [], ◌∷◌, ◌&&◌, not, length, Option, Some, None, if◌then◌else◌, refl, sym, ap, subst}
 use Rattle.std.specs.Prelude.{is_some, unwrap_or, slice_get}
 use Rattle.std.specs.Option.{option_map}
-use Rattle.ox_outside.specs.Event.{Event, Opened, Heard, Ended, Showed, Broke, GaveUp, Shut, channel_of, heard_bytes, has_given_up}
+use Rattle.ox_outside.specs.Event.{Event, GaveUp, channel_of, heard_bytes, has_given_up}
 use Rattle.ox_http.specs.Talk.{Message, asks, faults}
 use Rattle.ox_links.specs.Alike.{SameRun, SameServer, SameTurn}
 use Rattle.ox_links.specs.Link.{Answer, Written, all_shown, answers_to, asked_now, is_operators}

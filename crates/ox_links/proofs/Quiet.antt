@@ -1,20 +1,20 @@
 -- A link whose answers are all shown asks nothing, where no reply is empty.
-use Rattle.std.proofs.Common.{◌≡◌, ◌∙◌, ◌≤◌, ◌==◌, ℕ, ◌+◌, Bool, true, false, List, [], ◌∷◌, ◌++◌, ◌||◌, length, Option, Some, None, if◌then◌else◌, refl, sym, ap, subst, arith, length-append}
-use Rattle.std.specs.Prelude.{IsTrue, slice_get, bytes_eq, flat_map}
+use Rattle.std.proofs.Common.{◌≡◌, ◌∙◌, ◌≤◌, ◌==◌, ℕ, Bool, true, false, List, [], ◌∷◌, ◌++◌, ◌||◌, length, Option, Some, None, if◌then◌else◌, refl, sym, ap, subst, arith, length-append}
+use Rattle.std.specs.Prelude.{IsTrue, slice_get, bytes_eq}
 use Rattle.std.proofs.lemmas.Bool.{eq-eqb, eqb-true}
 use Rattle.std.proofs.lemmas.Slice.Eq.{bytes_eq-Decides}
 use Rattle.std.proofs.lemmas.Grind.{flat_map-append}
 use Rattle.std.proofs.lemmas.List.{append-nil}
-use Rattle.ox_outside.specs.Event.{Event, Opened, Heard, Ended, Showed, Broke, GaveUp, Shut, channel_of, heard_bytes, shown_bytes, has_given_up}
+use Rattle.ox_outside.specs.Event.{Event, GaveUp, channel_of, heard_bytes, shown_bytes, has_given_up}
 use Rattle.ox_http.specs.Talk.{Message, asks, faults}
 use Rattle.ox_links.specs.Link.{Answer, all_shown, answers_to, asked_now, bytes_of}
 use Rattle.ox_links.specs.Quiet.{Speaks}
-use Rattle.ox_links.specs.Serving.{Server, Serving, answer_of, answer_at, with_answer, with_event, after_event, serve_on, served_by, start_at, reply_of, gives_up}
+use Rattle.ox_links.specs.Serving.{Server, Serving, answer_of, with_answer, with_event, after_event, serve_on, served_by, start_at, reply_of, gives_up}
 use Rattle.ox_links.proofs.Answered.{asked_is, giving_up}
 use Rattle.ox_links.proofs.Apart.{after_event_apart, answers_to-own}
 use Rattle.ox_links.proofs.Asked.{asked-same, asked-given_up, heard-other, shown-other, given_up-other}
 use Rattle.ox_links.proofs.GoingOn.{after_past, past_is}
-use Rattle.ox_links.proofs.Moments.{asked_at, at_event, IsMoment}
+use Rattle.ox_links.proofs.Moments.{at_event, IsMoment}
 
 -- the next event of a link, behind one of another
 pub gives_up-other : (channel : ℕ) (event : Event) (rest : List Event) → (channel_of event == channel) ≡ false → gives_up channel (event ∷ rest) ≡ gives_up channel rest

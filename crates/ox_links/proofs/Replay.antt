@@ -1,22 +1,21 @@
 -- The replies to a link by its own events, and by the commands that were accepted before each answer.
-use Rattle.std.proofs.Common.{◌≡◌, ◌∙◌, ◌==◌, ℕ, ◌+◌, Bool, true, false, List, [], ◌∷◌, ◌++◌, ◌&&◌, ◌||◌, not, length, map, take, Option, Some, None, if◌then◌else◌, refl, sym, ap, subst, arith, append_assoc, length-append}
-use Rattle.std.specs.Prelude.{filter, is_some, flat_map, bytes_eq, slice_get}
-use Rattle.std.specs.List.{filter_map, cons_option}
+use Rattle.std.proofs.Common.{◌≡◌, ◌∙◌, ◌==◌, ℕ, ◌+◌, Bool, true, false, List, [], ◌∷◌, ◌++◌, ◌||◌, length, map, take, Option, Some, None, if◌then◌else◌, refl, sym, ap, subst, append_assoc, length-append}
+use Rattle.std.specs.List.{cons_option}
 use Rattle.std.specs.Option.{option_map}
-use Rattle.std.proofs.lemmas.Bool.{eq-eqb, eqb-true}
+use Rattle.std.proofs.lemmas.Bool.{eqb-true}
 use Rattle.std.proofs.lemmas.List.{append-nil}
 use Rattle.std.proofs.lemmas.Option.{same_Some}
 use Rattle.std.proofs.Math.Seq.{take-append_seam}
 use Rattle.std.proofs.lemmas.List.Elements.{filter-append, filter_map-append}
-use Rattle.ox_outside.specs.Event.{Event, Opened, Heard, Ended, Showed, Broke, GaveUp, Shut, channel_of, heard_bytes, shown_bytes, has_given_up}
+use Rattle.ox_outside.specs.Event.{Event, Opened, Heard, Showed, GaveUp, channel_of, heard_bytes, shown_bytes, has_given_up}
 use Rattle.ox_http.specs.Talk.{Message}
 use Rattle.ox_links.specs.Alike.{accepted_before, events_of, replies_to}
-use Rattle.ox_links.specs.Link.{Answer, Written, answers_to, asked_now, bytes_of, is_operator, is_operators, is_to}
+use Rattle.ox_links.specs.Link.{Answer, Written, answers_to, asked_now, bytes_of, is_operator, is_operators}
 use Rattle.ox_links.specs.Serving.{Server, Serving, accepted_in, accepted_command, after_event, answer_at, answer_of, gives_up, reply_of, serve_on, served_by, start_at, state_after, with_answer, with_event}
 use Rattle.ox_links.proofs.Apart.{after_event_apart, answers_to-own}
 use Rattle.ox_links.proofs.Asked.{asked_of, asked-same}
 use Rattle.ox_links.proofs.GoingOn.{after_past}
-use Rattle.ox_links.proofs.Moments.{at_event, IsMoment}
+use Rattle.ox_links.proofs.Moments.{at_event}
 use Rattle.ox_links.proofs.Quiet.{bytes_of-own, gives_up-other}
 use Rattle.ox_links.proofs.States.{Leads, after_event_leads, start_leads}
 
@@ -201,7 +200,7 @@ module _ {X C : Type 0} (server : Server X C) (first : X) (channel : ℕ) where
       by_other other is =
           let more = added server next rest in
           let same : answers_to channel (added server run (event ∷ rest)) ≡ answers_to channel more =
-              others (answer_at server now event rest) more (λ a o. ap (λ (c : ℕ). c == channel) (of_event a o) ∙ other) in
+          others (answer_at server now event rest) more (λ a o. ap (λ (c : ℕ). c == channel) (of_event a o) ∙ other) in
           let past : events_of channel next.past ≡ events_of channel run.past = ap (λ (l : List Event). events_of channel l) (after_past server run event rest) ∙ other_events other in
           let answers : answers_to channel next.answers ≡ answers_to channel run.answers = after_event_apart server channel run event rest other in
           ap (λ (l : List (Answer C)). map (λ (a : Answer C). a.reply) l) same
@@ -228,7 +227,7 @@ module _ {X C : Type 0} (server : Server X C) (first : X) (channel : ℕ) where
         same_reply m more is =
             let commands : take run.accepted all ≡ accepted_in run.answers = ap (λ (l : List C). take run.accepted l) is ∙ take-front (accepted_in run.answers) more run.accepted leads.accepted.many in
             let operator : is_operators channel own_past ≡ is_operators (channel_of event) now.past =
-                ap (λ (l : List Event). is_operators channel l) (sym (own_now own)) ∙ own_operator channel now.past ∙ ap (λ (c : ℕ). is_operators c now.past) (sym (eqb-true (channel_of event) channel own)) in
+            ap (λ (l : List Event). is_operators channel l) (sym (own_now own)) ∙ own_operator channel now.past ∙ ap (λ (c : ℕ). is_operators c now.past) (sym (eqb-true (channel_of event) channel own)) in
             ap (λ (l : List C). reply_of server (state_after server first l) (is_operators channel own_past) m) commands
             ∙ ap (λ (x : X). reply_of server x (is_operators channel own_past) m) (sym leads.accepted.state)
             ∙ ap (λ (b : Bool). reply_of server run.state b m) operator
@@ -247,10 +246,10 @@ module _ {X C : Type 0} (server : Server X C) (first : X) (channel : ℕ) where
             let oracle = before all later in
             ap (λ (l : List (Answer C)). map (λ (x : Answer C). x.reply) l) front
             ∙ ap (λ (l : List Written). a.reply ∷ l)
-                (is
-                ∙ ap (λ (l : List Event). replay l (bytes_of (answers_to channel (run.answers ++ a ∷ []))) (length (answers_to channel (run.answers ++ a ∷ []))) (events_of channel rest) oracle) (own_now own)
-                ∙ ap (λ (l : List ℕ). replay own_past l (length (answers_to channel (run.answers ++ a ∷ []))) (events_of channel rest) oracle) (bytes_of-own channel run.answers a own)
-                ∙ ap (λ (k : ℕ). replay own_past (bytes ++ a.reply.bytes) k (events_of channel rest) oracle) (ap (λ (l : List (Answer C)). length l) (answers_to-own channel run.answers a own) ∙ length-append (answers_to channel run.answers) (a ∷ [])))
+            (is
+            ∙ ap (λ (l : List Event). replay l (bytes_of (answers_to channel (run.answers ++ a ∷ []))) (length (answers_to channel (run.answers ++ a ∷ []))) (events_of channel rest) oracle) (own_now own)
+            ∙ ap (λ (l : List ℕ). replay own_past l (length (answers_to channel (run.answers ++ a ∷ []))) (events_of channel rest) oracle) (bytes_of-own channel run.answers a own)
+            ∙ ap (λ (k : ℕ). replay own_past (bytes ++ a.reply.bytes) k (events_of channel rest) oracle) (ap (λ (l : List (Answer C)). length l) (answers_to-own channel run.answers a own) ∙ length-append (answers_to channel run.answers) (a ∷ [])))
             ∙ ap (λ (r : Written). r ∷ replay own_past (bytes ++ r.bytes) (many + 1) (events_of channel rest) oracle) (sym (same_reply m more whole))
             ∙ ap (λ (l : List (Answer C)). replay_own (Some m) (map (λ (x : Answer C). take x.accepted all) l)) (sym front)
 
@@ -262,18 +261,18 @@ module _ {X C : Type 0} (server : Server X C) (first : X) (channel : ℕ) where
             ∙ ap (λ (k : ℕ). answer_to (message_at event (gives_up k rest) (asked_now server.talk k now.past run.answers))) c
             ∙ ap (λ (b : Bool). answer_to (message_at event b (asked_now server.talk channel now.past run.answers))) (sym (own_next channel rest))
             ∙ ap (λ (o : Option Message). answer_to (message_at event (gives_up channel (events_of channel rest)) o))
-                (asked-same server.talk (heard_bytes channel now.past) (heard_bytes channel own_past) (shown_bytes channel now.past) (shown_bytes channel own_past)
-                (has_given_up channel now.past) (has_given_up channel own_past) bytes bytes many many
-                (sym (own_heard channel now.past) ∙ ap (λ (l : List Event). heard_bytes channel l) (own_now own))
-                (sym (own_shown channel now.past) ∙ ap (λ (l : List Event). shown_bytes channel l) (own_now own))
-                (sym (own_up channel now.past) ∙ ap (λ (l : List Event). has_given_up channel l) (own_now own)) refl refl)
+            (asked-same server.talk (heard_bytes channel now.past) (heard_bytes channel own_past) (shown_bytes channel now.past) (shown_bytes channel own_past)
+            (has_given_up channel now.past) (has_given_up channel own_past) bytes bytes many many
+            (sym (own_heard channel now.past) ∙ ap (λ (l : List Event). heard_bytes channel l) (own_now own))
+            (sym (own_shown channel now.past) ∙ ap (λ (l : List Event). shown_bytes channel l) (own_now own))
+            (sym (own_up channel now.past) ∙ ap (λ (l : List Event). has_given_up channel l) (own_now own)) refl refl)
 
         by_self : (more : List C) → all ≡ accepted_in run.answers ++ more → IsReplayed next all rest
             → replies_of (added server run (event ∷ rest)) ≡ replay (events_of channel run.past) bytes many (event ∷ events_of channel rest) (before all (added server run (event ∷ rest)))
         by_self more whole is =
             let asked = asked_in own_past bytes many event (events_of channel rest) in
             subst (λ (o : Option (Answer C)). IsReplayed (with_answer server now o) all rest → replies_of (cons_option o (added server (with_answer server now o) rest)) ≡ replay_own asked (before all (cons_option o (added server (with_answer server now o) rest))))
-                (sym same_asked) (by_asked asked more whole) is
+            (sym same_asked) (by_asked asked more whole) is
 
   more_commands : (run : Serving X C) (o : Option (Answer C)) (more : List (Answer C)) (all : List C) → all ≡ accepted_in run.answers ++ accepted_in (cons_option o more) → all ≡ accepted_in (with_answer server run o).answers ++ accepted_in more
   more_commands run None more all is = is
@@ -286,8 +285,8 @@ module _ {X C : Type 0} (server : Server X C) (first : X) (channel : ℕ) where
   is_replayed run [] all leads whole = refl
   is_replayed run (event ∷ rest) all leads whole =
       by_own (channel_of event == channel) refl
-          (is_replayed (after_event server run event rest) rest all (after_event_leads server first run event rest leads)
-          (more_commands (with_event run event) (answer_at server (with_event run event) event rest) (added server (after_event server run event rest) rest) all whole))
+      (is_replayed (after_event server run event rest) rest all (after_event_leads server first run event rest leads)
+      (more_commands (with_event run event) (answer_at server (with_event run event) event rest) (added server (after_event server run event rest) rest) all whole))
     where
       by_own : (b : Bool) → (channel_of event == channel) ≡ b → IsReplayed (after_event server run event rest) all rest
           → replies_of (added server run (event ∷ rest))

@@ -1,14 +1,13 @@
 -- Turns that follow one another, and their log.
-use Rattle.std.proofs.Common.{◌≡◌, ◌∙◌, ◌≤◌, ◌==◌, ℕ, suc, Bool, true, false, List, [], ◌∷◌, ◌++◌, ◌&&◌, ◌||◌, not, if◌then◌else◌, refl, sym, ap, subst, append_assoc, inl, inr, ◌⊎◌}
+use Rattle.std.proofs.Common.{◌≡◌, ◌∙◌, ◌==◌, ℕ, suc, Bool, true, false, List, [], ◌∷◌, ◌++◌, ◌&&◌, ◌||◌, if◌then◌else◌, refl, sym, ap, subst, append_assoc, inl, inr, ◌⊎◌}
 use Rattle.std.specs.Prelude.{IsTrue}
 use Rattle.std.proofs.lemmas.List.{append-nil}
 use Rattle.std.proofs.lemmas.Bool.{eqb-true}
-use Rattle.ox_outside.specs.Event.{Event, Opened, Heard, Ended, Showed, Broke, GaveUp, Shut, channel_of}
+use Rattle.ox_outside.specs.Event.{Event, Opened, Heard, Ended, Showed, Broke, GaveUp, Shut}
 use Rattle.ox_links.specs.GoesOn.{GoesOnWithout}
-use Rattle.ox_links.specs.Link.{all_shown}
 use Rattle.ox_links.specs.Rotation.{Who, door_of, link_of}
-use Rattle.ox_links.specs.Serving.{Server, gives_up, served_by}
-use Rattle.ox_links.specs.Turned.{AreTurns, IsFirst, IsRest, IsTurn, Turn, is_first, logged_by}
+use Rattle.ox_links.specs.Serving.{Server, gives_up}
+use Rattle.ox_links.specs.Turned.{AreTurns, IsTurn, Turn, is_first, logged_by}
 
 pub turns_join : {X C : Type 0} (server : Server X C) (first : X) (past : List Event) (start middle end : ℕ) (one two : List Turn)
     → AreTurns server first past start one middle → AreTurns server first (past ++ logged_by one) middle two end → AreTurns server first past start (one ++ two) end

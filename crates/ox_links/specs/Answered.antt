@@ -1,17 +1,18 @@
 -- What each answer of a run is.
-use Rattle.std.specs.Prelude.{◌≡◌, ◌≤◌, ℕ, IsTrue, List, [], ◌∷◌, ◌++◌, length, slice_get, Option, Some, None, is_some}
+use Rattle.std.specs.Prelude.{false, ◌≡◌, ◌≤◌, ℕ, IsTrue, List, [], ◌∷◌, ◌++◌, length, slice_get, Option, Some, None, is_some}
 use Rattle.std.specs.List.{AllPairs}
 use Rattle.ox_outside.specs.Event.{Event, heard_bytes, has_given_up}
 use Rattle.ox_http.specs.Talk.{Message}
 use Rattle.ox_links.specs.Link.{Answer, answers_to, all_shown, is_operators}
+use Rattle.ox_links.specs.Shown.{IsFrontOf}
 use Rattle.ox_links.specs.Serving.{Server, reply_of, command_of, next_state, state_after, commands_in, accepted_in}
 
--- where the log is this, an answer behind those before is to the next message of its link, once all
--- that was answered before is shown; or to a link that has given up
+-- With this log, an answer behind those before is to the next message of its link, which hasn't
+-- given up, once all that was answered before is shown; or to a link that gives up.
 abbrev pub IsToNext : {X C : Type 0} → Server X C → List Event → List (Answer C) → ℕ
     → Option Message → Type 0
 IsToNext server log before channel (Some message) =
-    IsTrue (all_shown channel log before)
+    IsTrue (all_shown channel log before) × (has_given_up channel log ≡ false)
     × (slice_get (server.talk (heard_bytes channel log)) (length (answers_to channel before))
     ≡ Some message)
 IsToNext server log before channel None = IsTrue (has_given_up channel log)
@@ -53,4 +54,4 @@ NeverFall answers = AllPairs (λ (a b : Answer _). a.commands ≤ b.commands) an
 
 -- what a stream says stays, whatever follows it
 abbrev pub TalkGoesOn : (List ℕ → List Message) → Type 0
-TalkGoesOn talk = (x y : List ℕ) → (more : List Message) × (talk (x ++ y) ≡ talk x ++ more)
+TalkGoesOn talk = (x y : List ℕ) → IsFrontOf (talk x) (talk (x ++ y))

@@ -4,10 +4,6 @@ use Rattle.ox_outside.specs.Event.{Event}
 use Rattle.ox_links.specs.Link.{Answer}
 use Rattle.ox_links.specs.Serving.{gives_up}
 
--- the second list begins with the first
-abbrev pub Begins : {A : Type 0} → List A → List A → Type 0
-Begins front whole = (more : List _) × (whole ≡ front ++ more)
-
 -- one answer to this link comes to others, or none
 abbrev pub AddsOne : {C : Type 0} → ℕ → List (Answer C) → List (Answer C) → Type 0
 AddsOne channel old new =

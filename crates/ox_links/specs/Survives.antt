@@ -1,20 +1,17 @@
 -- What a crash leaves of a server's run.
-use Rattle.std.specs.Prelude.{◌≡◌, ◌⊎◌, ℕ, suc, ◌≤◌, List, [], ◌∷◌, ◌++◌, length, take, drop, All}
+use Rattle.std.specs.Prelude.{◌≡◌, ◌⊎◌, ℕ, suc, ◌≤◌, List, take, map, All}
 use Rattle.ox_outside.specs.Event.{Event, shown_bytes}
 use Rattle.ox_outside.specs.Files.{Files}
 use Rattle.ox_links.specs.Link.{Answer, answers_to, bytes_of}
+use Rattle.ox_links.specs.Shown.{IsFrontOf, acknowledgements}
 use Rattle.ox_links.specs.Serving.{Server, served_by, commands_in, state_after}
 
--- these bytes begin all of those
-abbrev pub IsFrontOf : List ℕ → List ℕ → Type 0
-IsFrontOf front whole = (rest : List ℕ) × (front ++ rest ≡ whole)
-
--- the answers of which a byte is shown, with so much shown
-unfoldable pub begun_answers : {C : Type 0} → List (Answer C) → List ℕ → List (Answer C)
-begun_answers [] shown = []
-begun_answers (answer ∷ answers) [] = []
-begun_answers (answer ∷ answers) (b ∷ shown) =
-    answer ∷ begun_answers answers (drop (length answer.reply.bytes) (b ∷ shown))
+-- the answers to a link of which a byte is shown
+abbrev pub acknowledged_to : {C : Type 0} → ℕ → List Event → List (Answer C) → List (Answer C)
+acknowledged_to channel log answers =
+    let own = answers_to channel answers in
+    take
+    (acknowledgements (map (λ (a : Answer _). a.reply.bytes) own) (shown_bytes channel log)) own
 
 -- Files that survive these events of a server that began in this state; `stands` says what files
 -- stand for.
@@ -29,8 +26,8 @@ pub record Survives {X C : Type 0} (server : Server X C) (first : X) (stands : F
       ⊎ ((served_by server first events).commands ≡ suc kept)
   -- no byte was shown of an answer with more commands
   pub acknowledged : (channel : ℕ)
-      → All (λ (a : Answer C). a.commands ≤ kept) (begun_answers
-      (answers_to channel (served_by server first events).answers) (shown_bytes channel events))
+      → All (λ (a : Answer C). a.commands ≤ kept)
+      (acknowledged_to channel events (served_by server first events).answers)
   -- on each link a front of its answers was shown
   pub shown : (channel : ℕ) → 1 ≤ channel
       → IsFrontOf (shown_bytes channel events)

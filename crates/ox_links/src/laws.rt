@@ -4,10 +4,11 @@ ghost use Rattle.std.specs.Prelude.{◌≡◌, ◌⊎◌, ◌==◌, ◌++◌, �
 ghost use Rattle.ox_outside.specs.Event.{Event, channel_of, heard_bytes};
 ghost use Rattle.ox_links.specs.Alike.{SameRun, SameServer, accepted_before, events_of, replies_to};
 ghost use Rattle.ox_links.specs.Answered.{AllAnswer, AreTo, NeverFall, TalkGoesOn};
-ghost use Rattle.ox_links.specs.GoesOn.{AddsOne, Begins, GoesOnWithout};
+ghost use Rattle.ox_links.specs.GoesOn.{AddsOne, GoesOnWithout};
 ghost use Rattle.ox_links.specs.Link.{Answer, all_shown, answers_to, asked_now};
 ghost use Rattle.ox_links.specs.Quiet.{Speaks};
 ghost use Rattle.ox_links.specs.Serving.{Server, Serving, accepted_in, after_event, commands_in, serve_on, served_by, state_after};
+ghost use Rattle.ox_links.specs.Shown.{IsFrontOf};
 ghost use Rattle.ox_links.specs.Turned.{AreTurns, Turn, logged_by};
 
 /// States of one server that stand for those of another with the same commands.
@@ -27,7 +28,7 @@ pub fn logs_go_on<X, C>()
     ensures joined { (server : Server X C) (run : Serving X C) (log more : List Event) → GoesOnWithout more
         → serve_on server run (log ++ more) ≡ serve_on server (serve_on server run log) more }
     ensures kept { (server : Server X C) (run : Serving X C) (log more : List Event) → GoesOnWithout more
-        → Begins (serve_on server run log).answers (serve_on server run (log ++ more)).answers }
+        → IsFrontOf (serve_on server run log).answers (serve_on server run (log ++ more)).answers }
 {}
 
 /// An event brings one answer at most, and that to its own link. Where no reply is empty, a link
@@ -91,14 +92,12 @@ pub fn turns_go_on<X, C>()
 /// The commands that were accepted before each answer decide what a link is replied: two logs with
 /// the same events of a link, and the same commands before its answers, give it the same replies.
 pub fn commands_decide_replies<X, C>()
-    ensures {
-        (server : Server X C) (first : X) (channel : ℕ) (one two : List Event)
+    ensures { (server : Server X C) (first : X) (channel : ℕ) (one two : List Event)
         → events_of channel one ≡ events_of channel two
         → accepted_before channel (served_by server first one).answers
         ≡ accepted_before channel (served_by server first two).answers
         → replies_to channel (served_by server first one).answers
-        ≡ replies_to channel (served_by server first two).answers
-    }
+        ≡ replies_to channel (served_by server first two).answers }
 {}
 
 /// Where the states of one server stand for those of another, and both reply and turn alike, so do

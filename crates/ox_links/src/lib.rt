@@ -4,7 +4,6 @@
 mod laws;
 
 pub use laws::{
-    answers_are_in_turn, commands_decide_replies, commands_lead_to_the_state,
+    Likeness, answers_are_in_turn, commands_decide_replies, commands_lead_to_the_state,
     events_bring_one_answer, like_servers_serve_alike, links_are_apart, logs_go_on, turns_go_on,
-    Likeness,
 };
