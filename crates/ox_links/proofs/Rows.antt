@@ -1,13 +1,17 @@
 -- Logs written by hand, and what they say that the toy server answered.
-use Rattle.std.proofs.Common.{◌≡◌, ℕ, true, false, List, [], ◌∷◌, ◌++◌, refl}
+use Rattle.std.proofs.Common.{◌⊎◌, ◌≤◌, zero, suc, take, inl, inr, arith, ◌≡◌, ℕ, true, false, List, [], ◌∷◌, ◌++◌, refl}
 use Rattle.ox_outside.specs.Event.{Event, Opened, Heard, Showed, GaveUp, Shut}
+use Rattle.std.specs.Prelude.{All, None}
+use Rattle.ox_outside.specs.Files.{Files}
 use Rattle.ox_outside.specs.declared.site.Doorway.TheVariants.{Public, Operator}
 use Rattle.ox_http.specs.Rows.{status_twice, closing_then_status}
 use Rattle.ox_http.specs.Talk.{talk}
 use Rattle.ox_http.proofs.Computed.{http_on_literals}
 use Rattle.ox_links.specs.Counted.{requests_in, hits_in}
-use Rattle.ox_links.specs.Link.{answers_to, bytes_of, is_over}
-use Rattle.ox_links.specs.Serving.{Server, commands_in, served_by, state_after}
+use Rattle.ox_links.specs.Link.{Answer, answers_to, bytes_of, is_over}
+use Rattle.ox_links.specs.Shown.{acknowledgements}
+use Rattle.ox_links.specs.Survives.{Survives}
+use Rattle.ox_links.specs.Serving.{answer_of, Server, commands_in, served_by, state_after}
 use Rattle.ox_links.proofs.Toy.{toy, ran, bytes_to, pages}
 
 -- ---- a page, an operator's command, the page again, and a command of the public door
@@ -117,3 +121,23 @@ just_before = Opened 2 Operator ∷ Heard 2 (0 ∷ 5 ∷ []) ∷ []
 just_before_is : (ran just_before).state ∷ (ran just_before).commands ∷ bytes_to 2 just_before ≡ 1 ∷ 1 ∷ 200 ∷ 0 ∷ []
 unfolding just_before
 just_before_is = refl
+
+-- ---- a crash once a byte of a command's reply was shown
+acknowledged : List Event
+acknowledged = Opened 2 Operator ∷ Heard 2 (0 ∷ []) ∷ Showed 2 (200 ∷ []) ∷ []
+
+-- files that tell a number
+tells : Files → ℕ → Type 0
+tells files n = files.a ≡ n ∷ []
+
+-- files that tell the number before the command don't survive
+not_before : Survives toy 0 tells acknowledged (record { a = 0 ∷ []; b = [] }) → ⊥
+unfolding acknowledged tells acknowledgements
+not_before survives = lost survives.kept survives.counted survives.stands_for (survives.acknowledged 2)
+  where
+    lost : (kept : ℕ) → (1 ≡ kept) ⊎ (1 ≡ suc kept) → 0 ∷ [] ≡ state_after toy 0 (take kept (0 ∷ [])) ∷ []
+        → All (λ (a : Answer ℕ). a.commands ≤ kept) (answers_to 2 (ran acknowledged).answers) → ⊥
+    lost zero counted stands all = absurd (let none : 1 ≤ 0 = all 0 (answer_of toy (ran []) 0 None) (omega arith) in omega (arith, none))
+    lost (suc zero) counted stands all = absurd (cc stands)
+    lost (suc (suc k)) (inl counted) stands all = absurd (omega (arith, counted))
+    lost (suc (suc k)) (inr counted) stands all = absurd (omega (arith, counted))

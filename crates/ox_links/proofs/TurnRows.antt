@@ -1,9 +1,15 @@
 -- Turns written by hand.
-use Rattle.std.proofs.Common.{◌≡◌, ℕ, zero, suc, ◌+◌, Bool, true, false, List, [], ◌∷◌, ◌++◌, Option, Some, None, refl, ap, inl, inr, arith}
-use Rattle.ox_outside.specs.Event.{Event, Opened, Heard, Showed, Broke, GaveUp, Shut}
+use Rattle.std.proofs.Common.{if◌then◌else◌, length, sym, ◌≡◌, ◌∙◌, ◌==◌, ◌&&◌, ℕ, zero, suc, ◌+◌, Bool, true, false, List, [], ◌∷◌, ◌++◌, Option, Some, None, refl, ap, inl, inr, arith}
+use Rattle.std.specs.List.{AllByRecursion, count_by, filter}
+use Rattle.std.proofs.Math.Bool.{and-false}
+use Rattle.std.proofs.lemmas.List.Sums.{length-filter}
+use Rattle.std.proofs.lemmas.List.Elements.{All-nil, All-cons}
+use Rattle.ox_outside.specs.Counts.{Counts}
+use Rattle.ox_outside.specs.Event.{Event, Opened, Heard, Showed, Broke, GaveUp, Shut, channel_of}
+use Rattle.ox_outside.specs.declared.site.Doorway.{Doorway}
 use Rattle.ox_outside.specs.declared.site.Doorway.TheVariants.{Public, Operator}
 use Rattle.ox_links.specs.Rotation.{Who, door_of, link_of, next_turn, slots_in}
-use Rattle.ox_links.specs.Turned.{AreTurns, CutShort, IsTurn, Turn, idle_turns}
+use Rattle.ox_links.specs.Turned.{AreTurns, CutShort, IsTurn, RoseBy, Turn, Turned, idle_turns, is_idle, is_same, logged_by}
 use Rattle.ox_links.proofs.Toy.{toy}
 
 abbrev turn_of : Who → List Event → Turn
@@ -83,6 +89,49 @@ nine_made = (
 nine_idle : idle_turns (door_of Public) nine ∷ idle_turns (door_of Operator) nine ∷ idle_turns (link_of 1) nine ∷ [] ≡ 2 ∷ 3 ∷ 0 ∷ []
 unfolding nine
 nine_idle = refl
+
+no_counts : Counts
+no_counts = record { disk = 0; door = 0; hear = λ c. 0; show = λ c. 0; not_yets = λ c. 0; door_idles = λ d. 0 }
+
+idles : Doorway → ℕ
+idles Public = 2
+idles Operator = 3
+
+idled : Counts
+idled = record { disk = 0; door = 0; hear = λ c. 0; show = λ c. 0; not_yets = λ c. 0; door_idles = idles }
+
+filter_none : {A : Type 0} (p : A → Bool) (list : List A) → AllByRecursion (λ (a : A). p a ≡ false) list → filter p list ≡ []
+filter_none p [] none = refl
+filter_none p (a ∷ list) none = ap (λ (b : Bool). if b then a ∷ filter p list else filter p list) none.0 ∙ filter_none p list none.1
+
+count_none : {A : Type 0} (p : A → Bool) (list : List A) → AllByRecursion (λ (a : A). p a ≡ false) list → count_by p list ≡ 0
+count_none p list none = sym (length-filter p list) ∙ ap length (filter_none p list none)
+
+-- no link has an idle turn
+nine_links : (channel : ℕ) → idle_turns (link_of channel) nine ≡ 0
+unfolding nine
+nine_links channel =
+    let heard = and-false (channel == 1) in
+    count_none (λ (t : Turn). is_same (link_of channel) t.who && is_idle t) nine
+    (refl, (refl, (heard, (refl, (refl, (heard, (refl, (refl, (heard, tt)))))))))
+
+-- with the line that is shown behind them they make a run
+nine_turned : Turned toy 0 9 no_counts idled (logged_by nine ++ Showed 0 (10 ∷ []) ∷ [])
+unfolding nine no_counts idled idles
+nine_turned = record {
+  turns = nine;
+  many = refl;
+  end = 3;
+  made = nine_made;
+  idles = record { doors = doors; links = λ channel. inl (let none = nine_links channel in omega (arith, none)) };
+  own = Showed 0 (10 ∷ []) ∷ [];
+  only_own = All-cons (λ (e : Event). channel_of e ≡ 0) (Showed 0 (10 ∷ [])) [] refl (All-nil (λ (e : Event). channel_of e ≡ 0));
+  logged = refl;
+}
+  where
+    doors : (door : Doorway) → RoseBy (idle_turns (door_of door) nine) 0 (idles door)
+    doors Public = inl (omega arith)
+    doors Operator = inl (omega arith)
 
 -- ---- turns with a link that gives up
 giving_up : List Turn

@@ -1,11 +1,13 @@
 -- What each answer of a run is.
-use Rattle.std.specs.Prelude.{false, ◌≡◌, ◌≤◌, ℕ, IsTrue, List, [], ◌∷◌, ◌++◌, length, slice_get, Option, Some, None, is_some}
+use Rattle.std.specs.Prelude.{false, ◌≡◌, ◌≤◌, ℕ, IsTrue, List, [], ◌∷◌, ◌++◌, length, slice_get}
+use Rattle.std.specs.Prelude.{Option, Some, None, is_some}
 use Rattle.std.specs.List.{AllPairs}
 use Rattle.ox_outside.specs.Event.{Event, heard_bytes, has_given_up}
 use Rattle.ox_http.specs.Talk.{Message}
 use Rattle.ox_links.specs.Link.{Answer, answers_to, all_shown, is_operators}
 use Rattle.ox_links.specs.Shown.{IsFrontOf}
-use Rattle.ox_links.specs.Serving.{Server, reply_of, command_of, next_state, state_after, commands_in, accepted_in}
+use Rattle.ox_links.specs.Serving.{Server, reply_of, command_of, next_state, state_after}
+use Rattle.ox_links.specs.Serving.{commands_in, accepted_in}
 
 -- With this log, an answer behind those before is to the next message of its link, which hasn't
 -- given up, once all that was answered before is shown; or to a link that gives up.

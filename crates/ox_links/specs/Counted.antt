@@ -1,5 +1,6 @@
 -- What is counted of the answers of a run: requests, and hits of a cache of 64 replies.
-use Rattle.std.specs.Prelude.{ℕ, ◌+◌, ◌==◌, nat_le, Bool, true, false, ◌&&◌, not, bytes_eq, if◌then◌else◌}
+use Rattle.std.specs.Prelude.{ℕ, ◌+◌, ◌==◌, nat_le, Bool, true, false, ◌&&◌, not, bytes_eq}
+use Rattle.std.specs.Prelude.{if◌then◌else◌}
 use Rattle.std.specs.Prelude.{List, [], ◌∷◌, take, filter, count_by, Option, Some, None}
 use Rattle.std.specs.List.{list_any}
 use Rattle.ox_http.specs.declared.Method.{Method}

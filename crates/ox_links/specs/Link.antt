@@ -1,7 +1,9 @@
 -- What a log and the answers so far say of one link.
 use Rattle.std.specs.Prelude.{ℕ, ◌==◌, Bool, true, false, ◌&&◌, ◌||◌, not, bytes_eq}
-use Rattle.std.specs.Prelude.{List, [], ◌∷◌, length, filter, flat_map, slice_get, Option, None, if◌then◌else◌}
-use Rattle.ox_outside.specs.Event.{Event, Opened, heard_bytes, shown_bytes, has_ended, has_broken, has_given_up}
+use Rattle.std.specs.Prelude.{List, [], ◌∷◌, length, filter, flat_map, slice_get, Option, None}
+use Rattle.std.specs.Prelude.{if◌then◌else◌}
+use Rattle.ox_outside.specs.Event.{Event, Opened, heard_bytes, shown_bytes, has_ended, has_broken}
+use Rattle.ox_outside.specs.Event.{has_given_up}
 use Rattle.ox_outside.specs.declared.site.Doorway.{Doorway}
 use Rattle.ox_outside.specs.declared.site.Doorway.TheVariants.{Public, Operator}
 use Rattle.ox_http.specs.Talk.{Message}

@@ -95,7 +95,8 @@ answer_at server run event rest =
 abbrev pub with_event : {X C : Type 0} → Serving X C → Event → Serving X C
 with_event run event = record run { past = run.past ++ event ∷ [] }
 
-abbrev pub with_answer : {X C : Type 0} → Server X C → Serving X C → Option (Answer C) → Serving X C
+abbrev pub with_answer : {X C : Type 0} → Server X C → Serving X C → Option (Answer C)
+    → Serving X C
 with_answer server run None = run
 with_answer server run (Some answer) = record {
   past = run.past;
@@ -106,7 +107,8 @@ with_answer server run (Some answer) = record {
 }
 
 -- after one event, with these behind it
-abbrev pub after_event : {X C : Type 0} → Server X C → Serving X C → Event → List Event → Serving X C
+abbrev pub after_event : {X C : Type 0} → Server X C → Serving X C → Event → List Event
+    → Serving X C
 after_event server run event rest =
     let run = with_event run event in with_answer server run (answer_at server run event rest)
 

@@ -1,8 +1,10 @@
 -- The turns of a server: what one of them logs, and what so many come to.
-use Rattle.std.specs.Prelude.{◌≡◌, ◌⊎◌, ◌≤◌, ◌<◌, ℕ, suc, ◌+◌, ◌==◌, Bool, true, false, ◌&&◌, not, IsTrue, if◌then◌else◌}
+use Rattle.std.specs.Prelude.{◌≡◌, ◌⊎◌, ◌≤◌, ◌<◌, ℕ, suc, ◌+◌, ◌==◌, Bool, true, false, ◌&&◌, not}
+use Rattle.std.specs.Prelude.{IsTrue, if◌then◌else◌}
 use Rattle.std.specs.Prelude.{List, [], ◌∷◌, ◌++◌, length, flat_map, count_by, All, Some}
 use Rattle.ox_outside.specs.Counts.{Counts, greatest}
-use Rattle.ox_outside.specs.Event.{Event, Opened, Heard, Ended, Showed, Broke, GaveUp, Shut, channel_of, was_opened}
+use Rattle.ox_outside.specs.Event.{Event, Opened, Heard, Ended, Showed, Broke, GaveUp, Shut}
+use Rattle.ox_outside.specs.Event.{channel_of, was_opened}
 use Rattle.ox_outside.specs.declared.site.Doorway.{Doorway}
 use Rattle.ox_outside.specs.declared.site.Doorway.TheVariants.{Public, Operator}
 use Rattle.ox_links.specs.Link.{all_shown, is_over}

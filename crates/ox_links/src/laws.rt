@@ -1,17 +1,20 @@
 //! Laws of what a log says that a server answered, whatever the states and the commands.
 
-ghost use Rattle.std.specs.Prelude.{◌≡◌, ◌⊎◌, ◌==◌, ◌++◌, ◌∷◌, [], ℕ, false, length, IsTrue, List, None, Option};
+ghost use Rattle.std.specs.Prelude.{◌≡◌, ◌⊎◌, ◌==◌, ◌++◌, ◌∷◌, [], ℕ, false, length, IsTrue};
+ghost use Rattle.std.specs.Prelude.{List, None, Option};
 ghost use Rattle.ox_outside.specs.Event.{Event, channel_of, heard_bytes};
 ghost use Rattle.ox_links.specs.Alike.{SameRun, SameServer, accepted_before, events_of, replies_to};
 ghost use Rattle.ox_links.specs.Answered.{AllAnswer, AreTo, NeverFall, TalkGoesOn};
 ghost use Rattle.ox_links.specs.GoesOn.{AddsOne, GoesOnWithout};
 ghost use Rattle.ox_links.specs.Link.{Answer, all_shown, answers_to, asked_now};
 ghost use Rattle.ox_links.specs.Quiet.{Speaks};
-ghost use Rattle.ox_links.specs.Serving.{Server, Serving, accepted_in, after_event, commands_in, serve_on, served_by, state_after};
+ghost use Rattle.ox_links.specs.Serving.{Server, Serving, accepted_in, after_event, commands_in};
+ghost use Rattle.ox_links.specs.Serving.{serve_on, served_by, state_after};
 ghost use Rattle.ox_links.specs.Shown.{IsFrontOf};
 ghost use Rattle.ox_links.specs.Turned.{AreTurns, Turn, logged_by};
 
-/// States of one server that stand for those of another with the same commands.
+/// States of one server that stand for those of another with the same commands. It has ghost members
+/// alone, since no clause can speak of every relation between two types.
 pub trait Likeness {
     ghost One: { Type 0 };
 
@@ -25,9 +28,11 @@ pub trait Likeness {
 /// A log that goes on, but not by giving up what was just asked, goes on from the run of its front:
 /// it keeps all answers and adds behind them.
 pub fn logs_go_on<X, C>()
-    ensures joined { (server : Server X C) (run : Serving X C) (log more : List Event) → GoesOnWithout more
+    ensures joined { (server : Server X C) (run : Serving X C) (log more : List Event)
+        → GoesOnWithout more
         → serve_on server run (log ++ more) ≡ serve_on server (serve_on server run log) more }
-    ensures kept { (server : Server X C) (run : Serving X C) (log more : List Event) → GoesOnWithout more
+    ensures kept { (server : Server X C) (run : Serving X C) (log more : List Event)
+        → GoesOnWithout more
         → IsFrontOf (serve_on server run log).answers (serve_on server run (log ++ more)).answers }
 {}
 
@@ -36,7 +41,8 @@ pub fn logs_go_on<X, C>()
 pub fn events_bring_one_answer<X, C>()
     ensures one { (server : Server X C) (run : Serving X C) (event : Event) (rest : List Event)
         → AddsOne (channel_of event) run.answers (after_event server run event rest).answers }
-    ensures quiet { (server : Server X C) (first : X) → Speaks server → (log : List Event) (channel : ℕ)
+    ensures quiet { (server : Server X C) (first : X) → Speaks server
+        → (log : List Event) (channel : ℕ)
         → IsTrue (all_shown channel log (served_by server first log).answers)
         → asked_now server.talk channel log (served_by server first log).answers ≡ None }
 {}
@@ -60,8 +66,8 @@ pub fn commands_lead_to_the_state<X, C>()
 
 /// Another link's event leaves a link's answers as they are.
 pub fn links_are_apart<X, C>()
-    ensures { (server : Server X C) (channel : ℕ) (run : Serving X C) (event : Event) (rest : List Event)
-        → (channel_of event == channel) ≡ false
+    ensures { (server : Server X C) (channel : ℕ) (run : Serving X C) (event : Event)
+        (rest : List Event) → (channel_of event == channel) ≡ false
         → answers_to channel (after_event server run event rest).answers
         ≡ answers_to channel run.answers }
 {}
@@ -71,7 +77,8 @@ pub fn links_are_apart<X, C>()
 pub fn answers_are_in_turn<X, C>()
     ensures each { (server : Server X C) (first : X) (log : List Event)
         → AllAnswer server first log (served_by server first log).answers }
-    ensures to_talk { (server : Server X C) (first : X) → TalkGoesOn server.talk → (log : List Event) (channel : ℕ)
+    ensures to_talk { (server : Server X C) (first : X) → TalkGoesOn server.talk
+        → (log : List Event) (channel : ℕ)
         → AreTo (answers_to channel (served_by server first log).answers)
         (server.talk (heard_bytes channel log)) }
     ensures never_fall { (server : Server X C) (first : X) (log : List Event) (channel : ℕ)
@@ -81,12 +88,12 @@ pub fn answers_are_in_turn<X, C>()
 /// Turns that follow one another may be joined, and no link begins them by giving up, so that their
 /// log goes on.
 pub fn turns_go_on<X, C>()
-    ensures joined { (server : Server X C) (first : X) (past : List Event) (start middle end : ℕ)
-        (one two : List Turn) → AreTurns server first past start one middle
+    ensures joined { (server : Server X C) (first : X) (past : List Event)
+        (start middle end : ℕ) (one two : List Turn) → AreTurns server first past start one middle
         → AreTurns server first (past ++ logged_by one) middle two end
         → AreTurns server first past start (one ++ two) end }
-    ensures on { (server : Server X C) (first : X) (past : List Event) (start end : ℕ) (turns : List Turn)
-        → AreTurns server first past start turns end → GoesOnWithout (logged_by turns) }
+    ensures on { (server : Server X C) (first : X) (past : List Event) (start end : ℕ)
+        (turns : List Turn) → AreTurns server first past start turns end → GoesOnWithout (logged_by turns) }
 {}
 
 /// The commands that were accepted before each answer decide what a link is replied: two logs with
