@@ -7,9 +7,9 @@ use Rattle.std.proofs.lemmas.List.Kept.{AllPairs-filter}
 use Rattle.ox_outside.specs.Event.{Event, Opened, Heard, Ended, Showed, Broke, GaveUp, Shut, channel_of, heard_bytes, has_given_up}
 use Rattle.ox_outside.proofs.Event.{has_given_up-append, heard_bytes-append}
 use Rattle.ox_http.specs.Talk.{Message}
-use Rattle.ox_links.specs.Answered.{AllAnswer, AreTo, IsAnswer, IsToNext, NeverFall, TalkGoesOn}
+use Rattle.ox_links.specs.Answered.{AllInTurn, AreTo, IsInTurn, IsToNext, NeverFall, TalkGoesOn}
 use Rattle.ox_links.specs.Link.{Answer, all_shown, answers_to, is_operators, is_to}
-use Rattle.ox_links.specs.Serving.{Server, Serving, answer_of, with_answer, with_event, after_event, serve_on, served_by, start_at, next_state, reply_of}
+use Rattle.ox_links.specs.Serving.{Server, Serving, answer_of, with_answer, with_event, after_event, serve_on, served_by, start_at, next_state, message_reply}
 use Rattle.ox_links.proofs.Apart.{answers_to-other, answers_to-own}
 use Rattle.ox_links.proofs.Each.{AllOf, all_more, Each, each_at, each_more, EachNumber, number_at, Rises, rises_more, rises_pairs, slice_get-front}
 use Rattle.ox_links.proofs.Moments.{at_event, IsMoment, IsGivingUp}
@@ -38,13 +38,13 @@ module _ {X C : Type 0} (server : Server X C) (first : X) where
 
   is_answer : (log : List Event) (run : Serving X C) (event : Event) (rest : List Event) (m : Option Message) → log ≡ run.past ++ event ∷ rest
       → Leads server first run → IsMoment server (with_event run event) event rest m
-      → IsAnswer server first log run.answers (answer_of server (with_event run event) (channel_of event) m)
+      → IsInTurn server first log run.answers (answer_of server (with_event run event) (channel_of event) m)
   is_answer log run event rest m logged leads moment = record {
     now = run.past ++ event ∷ [];
     later = rest;
     logged = logged ∙ sym (append_assoc run.past (event ∷ []) rest);
     to_next = to_next run event rest m moment;
-    reply = ap (λ (x : X). reply_of server x (is_operators (channel_of event) (run.past ++ event ∷ [])) m) leads.all.state;
+    reply = ap (λ (x : X). message_reply server x (is_operators (channel_of event) (run.past ++ event ∷ [])) m) leads.all.state;
     command = refl;
     is_accepted = ap (λ (x : X). is_some (next_state server x a.command)) leads.all.state;
     commands = (leads_with server first now (channel_of event) m (record { all = leads.all; accepted = leads.accepted })).all.many;
@@ -61,7 +61,7 @@ module _ {X C : Type 0} (server : Server X C) (first : X) where
   record Known (log : List Event) (run : Serving X C) (rest : List Event) : Type 0 where
     logged : log ≡ run.past ++ rest
     leads : Leads server first run
-    each : Each (IsAnswer server first log) [] run.answers
+    each : Each (IsInTurn server first log) [] run.answers
     below : AllOf (λ (a : Answer C). a.commands ≤ run.commands) run.answers
     rises : Rises (λ (a : Answer C). a.commands) run.answers
 
@@ -93,7 +93,7 @@ module _ {X C : Type 0} (server : Server X C) (first : X) where
           record {
             logged = here;
             leads = leads_with server first now (channel_of event) m leads;
-            each = each_more (IsAnswer server first log) [] run.answers a known.each (is_answer log run event rest m known.logged known.leads moment);
+            each = each_more (IsInTurn server first log) [] run.answers a known.each (is_answer log run event rest m known.logged known.leads moment);
             below = all_more (λ (b : Answer C). b.commands ≤ a.commands) run.answers a below (omega arith);
             rises = rises_more (λ (b : Answer C). b.commands) run.answers a known.rises below;
           }
@@ -105,8 +105,8 @@ module _ {X C : Type 0} (server : Server X C) (first : X) where
   known : (log : List Event) → Known log (served_by server first log) []
   known log = known_on log (start_at first) log (record { logged = refl; leads = start_leads server first; each = tt; below = tt; rises = tt })
 
-  pub all_answer : (log : List Event) → AllAnswer server first log (served_by server first log).answers
-  all_answer log before after a is = each_at (IsAnswer server first log) [] before after a (subst (Each (IsAnswer server first log) []) is (known log).each)
+  pub all_answer : (log : List Event) → AllInTurn server first log (served_by server first log).answers
+  all_answer log before after a is = each_at (IsInTurn server first log) [] before after a (subst (Each (IsInTurn server first log) []) is (known log).each)
 
   pub never_fall : (log : List Event) (channel : ℕ) → NeverFall (answers_to channel (served_by server first log).answers)
   never_fall log channel = AllPairs-filter (λ (a b : Answer C). a.commands ≤ b.commands) (is_to channel) (served_by server first log).answers
@@ -116,7 +116,7 @@ module _ {X C : Type 0} (server : Server X C) (first : X) where
     IsTo : ℕ → Answer C → Type 0
     IsTo j a = (m : Message) → a.message ≡ Some m → slice_get (server.talk (heard_bytes channel log)) j ≡ Some m
 
-    is_to_next : (before : List (Answer C)) (a : Answer C) (m : Message) → (a.channel == channel) ≡ true → a.message ≡ Some m → IsAnswer server first log before a
+    is_to_next : (before : List (Answer C)) (a : Answer C) (m : Message) → (a.channel == channel) ≡ true → a.message ≡ Some m → IsInTurn server first log before a
         → slice_get (server.talk (heard_bytes channel log)) (length (answers_to channel before)) ≡ Some m
     is_to_next before a m own is answer =
         let c = eqb-true a.channel channel own in
@@ -128,7 +128,7 @@ module _ {X C : Type 0} (server : Server X C) (first : X) where
         ∙ ap (λ (l : List Message). slice_get l (length (answers_to channel before))) (sym more.1)
         ∙ slice_get-front (server.talk (heard_bytes channel answer.now)) more.0 (length (answers_to channel before)) m here
 
-    numbered : (before answers : List (Answer C)) (n : ℕ) → length (answers_to channel before) ≡ n → Each (IsAnswer server first log) before answers → EachNumber IsTo n (answers_to channel answers)
+    numbered : (before answers : List (Answer C)) (n : ℕ) → length (answers_to channel before) ≡ n → Each (IsInTurn server first log) before answers → EachNumber IsTo n (answers_to channel answers)
     unfolding IsTo
     numbered before [] n is each = tt
     numbered before (a ∷ answers) n is each = by_channel (λ k e. numbered (before ++ a ∷ []) answers k e each.1) (is_to channel a) refl

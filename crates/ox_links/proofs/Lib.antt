@@ -1,14 +1,14 @@
-mod Each
-mod Moments
-mod GoingOn
-mod Apart
-mod States
-mod Answered
-mod Asked
-mod Quiet
-mod Turns
-mod Like
-mod Replay
+pub mod Each
+pub mod Moments
+pub mod GoingOn
+pub mod Apart
+pub mod States
+pub mod Answered
+pub mod Asked
+pub mod Quiet
+pub mod Turns
+pub mod Like
+pub mod Replay
 mod Toy
 mod Rows
 mod TurnRows

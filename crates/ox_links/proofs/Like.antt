@@ -6,7 +6,7 @@ use Rattle.ox_outside.specs.Event.{Event, GaveUp, channel_of, heard_bytes, has_g
 use Rattle.ox_http.specs.Talk.{Message, asks, faults}
 use Rattle.ox_links.specs.Alike.{SameRun, SameServer, SameTurn}
 use Rattle.ox_links.specs.Link.{Answer, Written, all_shown, answers_to, asked_now, is_operators}
-use Rattle.ox_links.specs.Serving.{Server, Serving, answer_of, answer_at, command_of, reply_of, next_state, with_answer, with_event, after_event, serve_on, served_by, start_at, one_if, gives_up}
+use Rattle.ox_links.specs.Serving.{Server, Serving, answer_of, answer_at, message_command, message_reply, next_state, with_answer, with_event, after_event, serve_on, served_by, start_at, one_if, gives_up}
 
 -- the run with another state
 abbrev with_state : {X Y C : Type 0} → Serving X C → Y → Serving Y C
@@ -29,12 +29,12 @@ module _ {X Y C : Type 0} (stands_for : X → Y → Type 0) (one : Server X C) (
   same_turn x y here None = tt
   same_turn x y here (Some c) = same.turn x y here c
 
-  same_command : (operator : Bool) (m : Option Message) → command_of two operator m ≡ command_of one operator m
+  same_command : (operator : Bool) (m : Option Message) → message_command two operator m ≡ message_command one operator m
   same_command operator (Some (asks request)) = same.command operator request
   same_command operator (Some (faults status)) = refl
   same_command operator None = refl
 
-  same_reply : (x : X) (y : Y) → stands_for x y → (operator : Bool) (m : Option Message) → reply_of two y operator m ≡ reply_of one x operator m
+  same_reply : (x : X) (y : Y) → stands_for x y → (operator : Bool) (m : Option Message) → message_reply two y operator m ≡ message_reply one x operator m
   same_reply x y here operator (Some (asks request)) = same.reply x y here operator request
   same_reply x y here operator (Some (faults status)) = same.fault_reply status
   same_reply x y here operator None = same.unavailable
@@ -54,10 +54,10 @@ module _ {X Y C : Type 0} (stands_for : X → Y → Type 0) (one : Server X C) (
     same_answer : answer_of two (with_state run y) channel m ≡ answer_of one run channel m
     same_answer =
         let operator = is_operators channel run.past in
-        let c = command_of one operator m in
-        ap (λ (r : Written). answer_with r (command_of two operator m) (is_some (next_state two y (command_of two operator m)))) (same_reply run.state y here operator m)
-        ∙ ap (λ (k : Option C). answer_with (reply_of one run.state operator m) k (is_some (next_state two y k))) (same_command operator m)
-        ∙ ap (λ (b : Bool). answer_with (reply_of one run.state operator m) c b) (same_some _ _ (same_turn run.state y here c))
+        let c = message_command one operator m in
+        ap (λ (r : Written). answer_with r (message_command two operator m) (is_some (next_state two y (message_command two operator m)))) (same_reply run.state y here operator m)
+        ∙ ap (λ (k : Option C). answer_with (message_reply one run.state operator m) k (is_some (next_state two y k))) (same_command operator m)
+        ∙ ap (λ (b : Bool). answer_with (message_reply one run.state operator m) c b) (same_some _ _ (same_turn run.state y here c))
 
   same_asked : (run : Serving X C) (channel : ℕ) → asked_now two.talk channel run.past run.answers ≡ asked_now one.talk channel run.past run.answers
   same_asked run channel =

@@ -7,9 +7,9 @@ use Rattle.std.proofs.lemmas.Grind.{flat_map-append}
 use Rattle.std.proofs.lemmas.List.{append-nil}
 use Rattle.ox_outside.specs.Event.{Event, GaveUp, channel_of, heard_bytes, shown_bytes, has_given_up}
 use Rattle.ox_http.specs.Talk.{Message, asks, faults}
-use Rattle.ox_links.specs.Link.{Answer, all_shown, answers_to, asked_now, bytes_of}
+use Rattle.ox_links.specs.Link.{Answer, all_shown, answers_to, asked_now, reply_bytes}
 use Rattle.ox_links.specs.Quiet.{Speaks}
-use Rattle.ox_links.specs.Serving.{Server, Serving, answer_of, with_answer, with_event, after_event, serve_on, served_by, start_at, reply_of, gives_up}
+use Rattle.ox_links.specs.Serving.{Server, Serving, answer_of, with_answer, with_event, after_event, serve_on, served_by, start_at, message_reply, gives_up}
 use Rattle.ox_links.proofs.Answered.{asked_is, giving_up}
 use Rattle.ox_links.proofs.Apart.{after_event_apart, answers_to-own}
 use Rattle.ox_links.proofs.Asked.{asked-same, asked-given_up, heard-other, shown-other, given_up-other}
@@ -24,14 +24,14 @@ gives_up-other channel event rest other = ap (λ (b : Bool). if b then false els
 equal_bytes : (x y : List ℕ) → bytes_eq x y ≡ true → x ≡ y
 equal_bytes x y is = (bytes_eq-Decides x y).0 is
 
-pub bytes_of-own : {C : Type 0} (channel : ℕ) (answers : List (Answer C)) (a : Answer C) → (a.channel == channel) ≡ true → bytes_of (answers_to channel (answers ++ a ∷ [])) ≡ bytes_of (answers_to channel answers) ++ a.reply.bytes
-bytes_of-own {C = C} channel answers a own =
-    ap (λ (l : List (Answer C)). bytes_of l) (answers_to-own channel answers a own)
+pub reply_bytes-own : {C : Type 0} (channel : ℕ) (answers : List (Answer C)) (a : Answer C) → (a.channel == channel) ≡ true → reply_bytes (answers_to channel (answers ++ a ∷ [])) ≡ reply_bytes (answers_to channel answers) ++ a.reply.bytes
+reply_bytes-own {C = C} channel answers a own =
+    ap (λ (l : List (Answer C)). reply_bytes l) (answers_to-own channel answers a own)
     ∙ flat_map-append (λ (x : Answer C). x.reply.bytes) (answers_to channel answers) (a ∷ [])
-    ∙ ap (λ (l : List ℕ). bytes_of (answers_to channel answers) ++ l) (append-nil a.reply.bytes)
+    ∙ ap (λ (l : List ℕ). reply_bytes (answers_to channel answers) ++ l) (append-nil a.reply.bytes)
 
 module _ {X C : Type 0} (server : Server X C) (first : X) (speaks : Speaks server) where
-  not_empty : (state : X) (operator : Bool) (m : Option Message) → 1 ≤ length (reply_of server state operator m).bytes
+  not_empty : (state : X) (operator : Bool) (m : Option Message) → 1 ≤ length (message_reply server state operator m).bytes
   not_empty state operator (Some (asks request)) = speaks.reply state operator request
   not_empty state operator (Some (faults status)) = speaks.fault_reply status
   not_empty state operator None = speaks.unavailable
@@ -60,8 +60,8 @@ module _ {X C : Type 0} (server : Server X C) (first : X) (speaks : Speaks serve
           let c = channel_of event in
           let a = answer_of server now c (Some m) in
           let before = asked_is (all_shown c now.past run.answers) _ _ m moment.1 in
-          let after = ap (λ (l : List ℕ). bytes_eq l (shown_bytes c now.past)) (sym (bytes_of-own c run.answers a (eq-eqb c c refl))) ∙ shown in
-          absurd (too_long (bytes_of (answers_to c run.answers)) a.reply.bytes (shown_bytes c now.past) (not_empty _ _ (Some m)) before.0 after)
+          let after = ap (λ (l : List ℕ). bytes_eq l (shown_bytes c now.past)) (sym (reply_bytes-own c run.answers a (eq-eqb c c refl))) ∙ shown in
+          absurd (too_long (reply_bytes (answers_to c run.answers)) a.reply.bytes (shown_bytes c now.past) (not_empty _ _ (Some m)) before.0 after)
 
   quiet_other : (channel : ℕ) (run : Serving X C) (event : Event) (rest : List Event) → (channel_of event == channel) ≡ false → IsQuiet channel run (event ∷ rest) → IsQuiet channel (after_event server run event rest) rest
   quiet_other channel run event rest other quiet none shown =
@@ -71,11 +71,11 @@ module _ {X C : Type 0} (server : Server X C) (first : X) (speaks : Speaks serve
       let heard_same = ap (λ (l : List Event). heard_bytes channel l) past ∙ heard-other channel run.past event other in
       let shown_same = ap (λ (l : List Event). shown_bytes channel l) past ∙ shown-other channel run.past event other in
       let up_same = ap (λ (l : List Event). has_given_up channel l) past ∙ given_up-other channel run.past event other in
-      let replies = ap (λ (l : List (Answer C)). bytes_of l) answers in
-      asked-same server.talk _ (heard_bytes channel run.past) _ (shown_bytes channel run.past) _ (has_given_up channel run.past) _ (bytes_of (answers_to channel run.answers)) _ (length (answers_to channel run.answers))
+      let replies = ap (λ (l : List (Answer C)). reply_bytes l) answers in
+      asked-same server.talk _ (heard_bytes channel run.past) _ (shown_bytes channel run.past) _ (has_given_up channel run.past) _ (reply_bytes (answers_to channel run.answers)) _ (length (answers_to channel run.answers))
       heard_same shown_same up_same replies (ap (λ (l : List (Answer C)). length l) answers)
       ∙ quiet (gives_up-other channel event rest other ∙ none)
-      (ap (λ (l : List ℕ). bytes_eq l (shown_bytes channel run.past)) (sym replies) ∙ ap (λ (l : List ℕ). bytes_eq (bytes_of (answers_to channel next.answers)) l) (sym shown_same) ∙ shown)
+      (ap (λ (l : List ℕ). bytes_eq l (shown_bytes channel run.past)) (sym replies) ∙ ap (λ (l : List ℕ). bytes_eq (reply_bytes (answers_to channel next.answers)) l) (sym shown_same) ∙ shown)
 
   quiet_after : (channel : ℕ) (run : Serving X C) (event : Event) (rest : List Event) (b : Bool) → (channel_of event == channel) ≡ b → IsQuiet channel run (event ∷ rest) → IsQuiet channel (after_event server run event rest) rest
   quiet_after channel run event rest true own quiet = subst (λ (c : ℕ). IsQuiet c (after_event server run event rest) rest) (eqb-true (channel_of event) channel own) (quiet_own run event rest)

@@ -10,13 +10,13 @@ use Rattle.std.proofs.lemmas.List.Elements.{filter-append, filter_map-append}
 use Rattle.ox_outside.specs.Event.{Event, Opened, Heard, Showed, GaveUp, channel_of, heard_bytes, shown_bytes, has_given_up}
 use Rattle.ox_http.specs.Talk.{Message}
 use Rattle.ox_links.specs.Alike.{accepted_before, events_of, replies_to}
-use Rattle.ox_links.specs.Link.{Answer, Written, answers_to, asked_now, bytes_of, is_operator, is_operators}
-use Rattle.ox_links.specs.Serving.{Server, Serving, accepted_in, accepted_command, after_event, answer_at, answer_of, gives_up, reply_of, serve_on, served_by, start_at, state_after, with_answer, with_event}
+use Rattle.ox_links.specs.Link.{Answer, Written, answers_to, asked_now, reply_bytes, is_operator, is_operators}
+use Rattle.ox_links.specs.Serving.{Server, Serving, accepted_in, accepted_command, after_event, answer_at, answer_of, gives_up, message_reply, serve_on, served_by, start_at, state_after, with_answer, with_event}
 use Rattle.ox_links.proofs.Apart.{after_event_apart, answers_to-own}
 use Rattle.ox_links.proofs.Asked.{asked_of, asked-same}
 use Rattle.ox_links.proofs.GoingOn.{after_past}
 use Rattle.ox_links.proofs.Moments.{at_event}
-use Rattle.ox_links.proofs.Quiet.{bytes_of-own, gives_up-other}
+use Rattle.ox_links.proofs.Quiet.{reply_bytes-own, gives_up-other}
 use Rattle.ox_links.proofs.States.{Leads, after_event_leads, start_leads}
 
 -- ---- what a log says of a link, its own events say
@@ -136,7 +136,7 @@ take-front x y n is = ap (λ (k : ℕ). take k (x ++ y)) is ∙ take-append_seam
 module _ {X C : Type 0} (server : Server X C) (first : X) (channel : ℕ) where
   abbrev replied : List Event → List ℕ → ℕ → Option Message → List C → List (List C) → Replayed C
   replied now bytes many m commands later =
-      let r = reply_of server (state_after server first commands) (is_operators channel now) m in
+      let r = message_reply server (state_after server first commands) (is_operators channel now) m in
       record { reply = Some r; bytes = bytes ++ r.bytes; many = many + 1; later = later }
 
   abbrev replay_at : List Event → List ℕ → ℕ → Option (Option Message) → List (List C) → Replayed C
@@ -165,14 +165,14 @@ module _ {X C : Type 0} (server : Server X C) (first : X) (channel : ℕ) where
   abbrev IsReplayed : Serving X C → List C → List Event → Type 0
   IsReplayed run all log =
       replies_of (added server run log)
-      ≡ replay (events_of channel run.past) (bytes_of (answers_to channel run.answers)) (length (answers_to channel run.answers)) (events_of channel log) (before all (added server run log))
+      ≡ replay (events_of channel run.past) (reply_bytes (answers_to channel run.answers)) (length (answers_to channel run.answers)) (events_of channel log) (before all (added server run log))
 
   module _ (run : Serving X C) (event : Event) (rest : List Event) where
     abbrev now : Serving X C
     now = with_event run event
 
     abbrev bytes : List ℕ
-    bytes = bytes_of (answers_to channel run.answers)
+    bytes = reply_bytes (answers_to channel run.answers)
 
     abbrev many : ℕ
     many = length (answers_to channel run.answers)
@@ -205,8 +205,8 @@ module _ {X C : Type 0} (server : Server X C) (first : X) (channel : ℕ) where
           let answers : answers_to channel next.answers ≡ answers_to channel run.answers = after_event_apart server channel run event rest other in
           ap (λ (l : List (Answer C)). map (λ (a : Answer C). a.reply) l) same
           ∙ is
-          ∙ ap (λ (l : List Event). replay l (bytes_of (answers_to channel next.answers)) (length (answers_to channel next.answers)) (events_of channel rest) (before all more)) past
-          ∙ ap (λ (l : List (Answer C)). replay (events_of channel run.past) (bytes_of l) (length l) (events_of channel rest) (before all more)) answers
+          ∙ ap (λ (l : List Event). replay l (reply_bytes (answers_to channel next.answers)) (length (answers_to channel next.answers)) (events_of channel rest) (before all more)) past
+          ∙ ap (λ (l : List (Answer C)). replay (events_of channel run.past) (reply_bytes l) (length l) (events_of channel rest) (before all more)) answers
           ∙ ap (λ (l : List (Answer C)). replay (events_of channel run.past) bytes many (events_of channel rest) (map (λ (a : Answer C). take a.accepted all) l)) (sym same)
 
       module _ (own : (channel_of event == channel) ≡ true) (leads : Leads server first run) where
@@ -223,14 +223,14 @@ module _ {X C : Type 0} (server : Server X C) (first : X) (channel : ℕ) where
             cons_option s.reply (replay own_past s.bytes s.many (events_of channel rest) s.later)
 
         same_reply : (m : Option Message) (more : List C) → all ≡ accepted_in run.answers ++ more
-            → reply_of server (state_after server first (take run.accepted all)) (is_operators channel own_past) m ≡ (answer_of server now (channel_of event) m).reply
+            → message_reply server (state_after server first (take run.accepted all)) (is_operators channel own_past) m ≡ (answer_of server now (channel_of event) m).reply
         same_reply m more is =
             let commands : take run.accepted all ≡ accepted_in run.answers = ap (λ (l : List C). take run.accepted l) is ∙ take-front (accepted_in run.answers) more run.accepted leads.accepted.many in
             let operator : is_operators channel own_past ≡ is_operators (channel_of event) now.past =
             ap (λ (l : List Event). is_operators channel l) (sym (own_now own)) ∙ own_operator channel now.past ∙ ap (λ (c : ℕ). is_operators c now.past) (sym (eqb-true (channel_of event) channel own)) in
-            ap (λ (l : List C). reply_of server (state_after server first l) (is_operators channel own_past) m) commands
-            ∙ ap (λ (x : X). reply_of server x (is_operators channel own_past) m) (sym leads.accepted.state)
-            ∙ ap (λ (b : Bool). reply_of server run.state b m) operator
+            ap (λ (l : List C). message_reply server (state_after server first l) (is_operators channel own_past) m) commands
+            ∙ ap (λ (x : X). message_reply server x (is_operators channel own_past) m) (sym leads.accepted.state)
+            ∙ ap (λ (b : Bool). message_reply server run.state b m) operator
 
         by_asked : (asked : Option (Option Message)) (more : List C)
             → all ≡ accepted_in run.answers ++ more
@@ -247,8 +247,8 @@ module _ {X C : Type 0} (server : Server X C) (first : X) (channel : ℕ) where
             ap (λ (l : List (Answer C)). map (λ (x : Answer C). x.reply) l) front
             ∙ ap (λ (l : List Written). a.reply ∷ l)
             (is
-            ∙ ap (λ (l : List Event). replay l (bytes_of (answers_to channel (run.answers ++ a ∷ []))) (length (answers_to channel (run.answers ++ a ∷ []))) (events_of channel rest) oracle) (own_now own)
-            ∙ ap (λ (l : List ℕ). replay own_past l (length (answers_to channel (run.answers ++ a ∷ []))) (events_of channel rest) oracle) (bytes_of-own channel run.answers a own)
+            ∙ ap (λ (l : List Event). replay l (reply_bytes (answers_to channel (run.answers ++ a ∷ []))) (length (answers_to channel (run.answers ++ a ∷ []))) (events_of channel rest) oracle) (own_now own)
+            ∙ ap (λ (l : List ℕ). replay own_past l (length (answers_to channel (run.answers ++ a ∷ []))) (events_of channel rest) oracle) (reply_bytes-own channel run.answers a own)
             ∙ ap (λ (k : ℕ). replay own_past (bytes ++ a.reply.bytes) k (events_of channel rest) oracle) (ap (λ (l : List (Answer C)). length l) (answers_to-own channel run.answers a own) ∙ length-append (answers_to channel run.answers) (a ∷ [])))
             ∙ ap (λ (r : Written). r ∷ replay own_past (bytes ++ r.bytes) (many + 1) (events_of channel rest) oracle) (sym (same_reply m more whole))
             ∙ ap (λ (l : List (Answer C)). replay_own (Some m) (map (λ (x : Answer C). take x.accepted all) l)) (sym front)
@@ -290,7 +290,7 @@ module _ {X C : Type 0} (server : Server X C) (first : X) (channel : ℕ) where
     where
       by_own : (b : Bool) → (channel_of event == channel) ≡ b → IsReplayed (after_event server run event rest) all rest
           → replies_of (added server run (event ∷ rest))
-          ≡ replay (events_of channel run.past) (bytes_of (answers_to channel run.answers)) (length (answers_to channel run.answers)) (if b then event ∷ events_of channel rest else events_of channel rest) (before all (added server run (event ∷ rest)))
+          ≡ replay (events_of channel run.past) (reply_bytes (answers_to channel run.answers)) (length (answers_to channel run.answers)) (if b then event ∷ events_of channel rest else events_of channel rest) (before all (added server run (event ∷ rest)))
       by_own true own is = by_self run event rest all own leads (accepted_in (added server run (event ∷ rest))) whole is
       by_own false other is = by_other run event rest all other is
 

@@ -8,7 +8,7 @@ use Rattle.ox_http.specs.Rows.{status_twice, closing_then_status}
 use Rattle.ox_http.specs.Talk.{talk}
 use Rattle.ox_http.proofs.Computed.{http_on_literals}
 use Rattle.ox_links.specs.Counted.{requests_in, hits_in}
-use Rattle.ox_links.specs.Link.{Answer, answers_to, bytes_of, is_over}
+use Rattle.ox_links.specs.Link.{Answer, answers_to, reply_bytes, is_over}
 use Rattle.ox_links.specs.Shown.{acknowledgements}
 use Rattle.ox_links.specs.Survives.{Survives}
 use Rattle.ox_links.specs.Serving.{answer_of, Server, commands_in, served_by, state_after}
@@ -63,7 +63,7 @@ http : Server ℕ ℕ
 http = record toy { talk = talk }
 
 http_to : List Event → List ℕ
-http_to log = bytes_of (answers_to 1 (served_by http 0 log).answers)
+http_to log = reply_bytes (answers_to 1 (served_by http 0 log).answers)
 
 two_heard : http_to (Opened 1 Public ∷ Heard 1 status_twice ∷ []) ≡ 7 ∷ 0 ∷ []
 unfolding http_on_literals http http_to

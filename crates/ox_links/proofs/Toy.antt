@@ -8,7 +8,7 @@ use Rattle.ox_http.specs.declared.Method.{Method}
 use Rattle.ox_http.specs.declared.Method.TheVariants.{Get, Post}
 use Rattle.ox_http.specs.declared.Request.{Request}
 use Rattle.ox_http.specs.Talk.{Message, asks, faults}
-use Rattle.ox_links.specs.Link.{Written, answers_to, bytes_of}
+use Rattle.ox_links.specs.Link.{Written, answers_to, reply_bytes}
 use Rattle.ox_links.specs.Serving.{Server, Serving, served_by}
 
 abbrev request : Method → ℕ → Bool → Request
@@ -66,7 +66,7 @@ ran log = served_by toy 0 log
 
 -- the bytes that a log gives a link
 abbrev pub bytes_to : ℕ → List Event → List ℕ
-bytes_to channel log = bytes_of (answers_to channel (ran log).answers)
+bytes_to channel log = reply_bytes (answers_to channel (ran log).answers)
 
 -- pages are asked for one after another, each shown with this number
 abbrev pub pages : ℕ → ℕ → List ℕ → List Event

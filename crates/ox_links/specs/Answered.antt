@@ -6,7 +6,7 @@ use Rattle.ox_outside.specs.Event.{Event, heard_bytes, has_given_up}
 use Rattle.ox_http.specs.Talk.{Message}
 use Rattle.ox_links.specs.Link.{Answer, answers_to, all_shown, is_operators}
 use Rattle.ox_links.specs.Shown.{IsFrontOf}
-use Rattle.ox_links.specs.Serving.{Server, reply_of, command_of, next_state, state_after}
+use Rattle.ox_links.specs.Serving.{Server, message_reply, message_command, next_state, state_after}
 use Rattle.ox_links.specs.Serving.{commands_in, accepted_in}
 
 -- With this log, an answer behind those before is to the next message of its link, which hasn't
@@ -20,7 +20,7 @@ IsToNext server log before channel (Some message) =
 IsToNext server log before channel None = IsTrue (has_given_up channel log)
 
 -- An answer of the run of a log, behind those before it.
-pub record IsAnswer {X C : Type 0} (server : Server X C) (first : X) (log : List Event)
+pub record IsInTurn {X C : Type 0} (server : Server X C) (first : X) (log : List Event)
     (before : List (Answer C)) (answer : Answer C) : Type 0 where
   -- its moment: the log as far as that, and what comes later
   pub now : List Event
@@ -29,20 +29,20 @@ pub record IsAnswer {X C : Type 0} (server : Server X C) (first : X) (log : List
   pub to_next : IsToNext server now before answer.channel answer.message
   -- it is by the state after the commands before it
   pub reply : answer.reply
-      ≡ reply_of server (state_after server first (commands_in before))
+      ≡ message_reply server (state_after server first (commands_in before))
       (is_operators answer.channel now) answer.message
   pub command : answer.command
-      ≡ command_of server (is_operators answer.channel now) answer.message
+      ≡ message_command server (is_operators answer.channel now) answer.message
   pub is_accepted : answer.is_accepted
       ≡ is_some (next_state server (state_after server first (commands_in before)) answer.command)
   pub commands : answer.commands ≡ length (commands_in (before ++ answer ∷ []))
   pub accepted : answer.accepted ≡ length (accepted_in before)
 
 -- each of these answers is so, behind those before it
-abbrev pub AllAnswer : {X C : Type 0} → Server X C → X → List Event → List (Answer C) → Type 0
-AllAnswer {C = C} server first log answers =
+abbrev pub AllInTurn : {X C : Type 0} → Server X C → X → List Event → List (Answer C) → Type 0
+AllInTurn {C = C} server first log answers =
     (before after : List (Answer C)) (answer : Answer C) → answers ≡ before ++ answer ∷ after
-    → IsAnswer server first log before answer
+    → IsInTurn server first log before answer
 
 -- answers to these messages, one after another, but for those that are to none
 abbrev pub AreTo : {C : Type 0} → List (Answer C) → List Message → Type 0

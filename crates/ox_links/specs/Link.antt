@@ -8,7 +8,8 @@ use Rattle.ox_outside.specs.declared.site.Doorway.{Doorway}
 use Rattle.ox_outside.specs.declared.site.Doorway.TheVariants.{Public, Operator}
 use Rattle.ox_http.specs.Talk.{Message}
 
--- a reply as it is shown: its bytes, how many of them are its body, and whether the link ends with it
+-- a reply as it is shown: its bytes, how many of them are its body, and whether the link ends with
+-- it
 pub record Written : Type 0 where
   pub bytes : List ℕ
   pub size : ℕ
@@ -35,13 +36,13 @@ abbrev pub answers_to : {C : Type 0} → ℕ → List (Answer C) → List (Answe
 answers_to channel answers = filter (is_to channel) answers
 
 -- the bytes of answers, joined
-abbrev pub bytes_of : {C : Type 0} → List (Answer C) → List ℕ
-bytes_of answers = flat_map (λ (a : Answer _). a.reply.bytes) answers
+abbrev pub reply_bytes : {C : Type 0} → List (Answer C) → List ℕ
+reply_bytes answers = flat_map (λ (a : Answer _). a.reply.bytes) answers
 
 -- all answers to the link are wholly shown
 abbrev pub all_shown : {C : Type 0} → ℕ → List Event → List (Answer C) → Bool
 all_shown channel log answers =
-    bytes_eq (bytes_of (answers_to channel answers)) (shown_bytes channel log)
+    bytes_eq (reply_bytes (answers_to channel answers)) (shown_bytes channel log)
 
 -- What the link asks now, with its stream read by this talk: once all its answers are shown, the
 -- message behind those that were answered. A link that gave up asks no more.

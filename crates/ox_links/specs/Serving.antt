@@ -28,15 +28,15 @@ pub record Server (X C : Type 0) : Type 0 where
   pub reply : X → Bool → Request → Written
 
 -- the command of a message, and the reply to it by this state; of none, where a link gives up
-abbrev pub command_of : {X C : Type 0} → Server X C → Bool → Option Message → Option C
-command_of server operator (Some (asks request)) = server.command operator request
-command_of server operator (Some (faults status)) = None
-command_of server operator None = None
+abbrev pub message_command : {X C : Type 0} → Server X C → Bool → Option Message → Option C
+message_command server operator (Some (asks request)) = server.command operator request
+message_command server operator (Some (faults status)) = None
+message_command server operator None = None
 
-abbrev pub reply_of : {X C : Type 0} → Server X C → X → Bool → Option Message → Written
-reply_of server state operator (Some (asks request)) = server.reply state operator request
-reply_of server state operator (Some (faults status)) = server.fault_reply status
-reply_of server state operator None = server.unavailable
+abbrev pub message_reply : {X C : Type 0} → Server X C → X → Bool → Option Message → Written
+message_reply server state operator (Some (asks request)) = server.reply state operator request
+message_reply server state operator (Some (faults status)) = server.fault_reply status
+message_reply server state operator None = server.unavailable
 
 -- the state after a command, if there is one and it is accepted
 abbrev pub next_state : {X C : Type 0} → Server X C → X → Option C → Option X
@@ -64,11 +64,11 @@ one_if b = if b then 1 else 0
 abbrev pub answer_of : {X C : Type 0} → Server X C → Serving X C → ℕ → Option Message → Answer C
 answer_of server run channel message =
     let operator = is_operators channel run.past in
-    let command = command_of server operator message in
+    let command = message_command server operator message in
     record {
       channel = channel;
       message = message;
-      reply = reply_of server run.state operator message;
+      reply = message_reply server run.state operator message;
       command = command;
       is_accepted = is_some (next_state server run.state command);
       commands = run.commands + one_if (is_some command);

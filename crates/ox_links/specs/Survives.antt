@@ -2,7 +2,7 @@
 use Rattle.std.specs.Prelude.{◌≡◌, ◌⊎◌, ℕ, suc, ◌≤◌, List, take, map, All}
 use Rattle.ox_outside.specs.Event.{Event, shown_bytes}
 use Rattle.ox_outside.specs.Files.{Files}
-use Rattle.ox_links.specs.Link.{Answer, answers_to, bytes_of}
+use Rattle.ox_links.specs.Link.{Answer, answers_to, reply_bytes}
 use Rattle.ox_links.specs.Shown.{IsFrontOf, acknowledgements}
 use Rattle.ox_links.specs.Serving.{Server, served_by, commands_in, state_after}
 
@@ -31,4 +31,4 @@ pub record Survives {X C : Type 0} (server : Server X C) (first : X) (stands : F
   -- on each link a front of its answers was shown
   pub shown : (channel : ℕ) → 1 ≤ channel
       → IsFrontOf (shown_bytes channel events)
-      (bytes_of (answers_to channel (served_by server first events).answers))
+      (reply_bytes (answers_to channel (served_by server first events).answers))

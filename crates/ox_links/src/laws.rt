@@ -4,7 +4,7 @@ ghost use Rattle.std.specs.Prelude.{◌≡◌, ◌⊎◌, ◌==◌, ◌++◌, �
 ghost use Rattle.std.specs.Prelude.{List, None, Option};
 ghost use Rattle.ox_outside.specs.Event.{Event, channel_of, heard_bytes};
 ghost use Rattle.ox_links.specs.Alike.{SameRun, SameServer, accepted_before, events_of, replies_to};
-ghost use Rattle.ox_links.specs.Answered.{AllAnswer, AreTo, NeverFall, TalkGoesOn};
+ghost use Rattle.ox_links.specs.Answered.{AllInTurn, AreTo, NeverFall, TalkGoesOn};
 ghost use Rattle.ox_links.specs.GoesOn.{AddsOne, GoesOnWithout};
 ghost use Rattle.ox_links.specs.Link.{Answer, all_shown, answers_to, asked_now};
 ghost use Rattle.ox_links.specs.Quiet.{Speaks};
@@ -13,8 +13,8 @@ ghost use Rattle.ox_links.specs.Serving.{serve_on, served_by, state_after};
 ghost use Rattle.ox_links.specs.Shown.{IsFrontOf};
 ghost use Rattle.ox_links.specs.Turned.{AreTurns, Turn, logged_by};
 
-/// States of one server that stand for those of another with the same commands. It has ghost members
-/// alone, since no clause can speak of every relation between two types.
+/// States of one server that stand for those of another with the same commands. It has ghost
+/// members alone, since no clause can speak of every relation between two types.
 pub trait Likeness {
     ghost One: { Type 0 };
 
@@ -72,11 +72,11 @@ pub fn links_are_apart<X, C>()
         ≡ answers_to channel run.answers }
 {}
 
-/// Each answer to a link is to the next message of its talk, or the 503 of a link that gave up. It is
-/// by the state after the commands before it, whose number never falls along a link.
+/// Each answer to a link is to the next message of its talk, or the 503 of a link that gave up. It
+/// is by the state after the commands before it, whose number never falls along a link.
 pub fn answers_are_in_turn<X, C>()
     ensures each { (server : Server X C) (first : X) (log : List Event)
-        → AllAnswer server first log (served_by server first log).answers }
+        → AllInTurn server first log (served_by server first log).answers }
     ensures to_talk { (server : Server X C) (first : X) → TalkGoesOn server.talk
         → (log : List Event) (channel : ℕ)
         → AreTo (answers_to channel (served_by server first log).answers)
@@ -93,7 +93,8 @@ pub fn turns_go_on<X, C>()
         → AreTurns server first (past ++ logged_by one) middle two end
         → AreTurns server first past start (one ++ two) end }
     ensures on { (server : Server X C) (first : X) (past : List Event) (start end : ℕ)
-        (turns : List Turn) → AreTurns server first past start turns end → GoesOnWithout (logged_by turns) }
+        (turns : List Turn) → AreTurns server first past start turns end
+        → GoesOnWithout (logged_by turns) }
 {}
 
 /// The commands that were accepted before each answer decide what a link is replied: two logs with
