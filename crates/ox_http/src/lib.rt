@@ -1,7 +1,10 @@
 //! What a request asks and what a reply says, as values.
 #![tactic(auto)]
 
+mod rows;
+
 use ox_bytes::Bytes;
+pub use rows::{a_closing_request_is_the_last, requests_come_in_order};
 
 /// How a request asks.
 #[derive(Clone, Copy, Debug, PartialEq, Eq)]

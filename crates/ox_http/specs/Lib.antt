@@ -1,0 +1,6 @@
+pub mod First
+pub mod Head
+pub mod Lines
+pub mod Rows
+pub mod Talk
+pub mod Written

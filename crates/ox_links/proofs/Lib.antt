@@ -1,0 +1,14 @@
+pub mod Each
+pub mod Moments
+pub mod GoingOn
+pub mod Apart
+pub mod States
+pub mod Answered
+pub mod Asked
+pub mod Quiet
+pub mod Turns
+pub mod Like
+pub mod Replay
+mod Toy
+mod Rows
+mod TurnRows

@@ -1,0 +1,11 @@
+pub mod Link
+pub mod Serving
+pub mod Rotation
+pub mod Turned
+pub mod Counted
+pub mod Shown
+pub mod Survives
+pub mod GoesOn
+pub mod Answered
+pub mod Quiet
+pub mod Alike
