@@ -1,7 +1,7 @@
 -- The head of a request (RFC 9112, sections 2 to 5): a start line, fields, and an empty line.
 use Rattle.std.specs.Prelude.{ℕ, ◌+◌, ◌==◌, ◌&&◌, Bool, true, false, List, [], ◌∷◌}
 use Rattle.std.specs.Prelude.{Option, Some, None, if◌then◌else◌, nat_lt, nat_le, length, take, drop, codes}
-use Rattle.std.specs.List.{list_all, position}
+use Rattle.std.specs.List.{list_all}
 use Rattle.std.specs.Option.{option_and_then, option_map}
 use Rattle.std.specs.Str.{bytes_eq, is_utf8}
 use Rattle.httparse.specs.Grammar.{is_token, is_uri_byte, is_value_byte, trim_ows}
@@ -25,8 +25,10 @@ pub record Head : Type 0 where
 
 -- the bytes before the first byte c, and those behind it
 abbrev pub cut_at : ℕ → List ℕ → Option (List ℕ × List ℕ)
-cut_at c bytes =
-    option_map (λ n. (take n bytes, drop (n + 1) bytes)) (position (λ b. b == c) bytes)
+cut_at c [] = None
+cut_at c (b ∷ bytes) =
+    if b == c then Some ([], bytes)
+    else option_map (λ (parts : List ℕ × List ℕ). (b ∷ parts.0, parts.1)) (cut_at c bytes)
 
 -- the last digit of a version
 abbrev pub minor_of : List ℕ → Option ℕ

@@ -2,9 +2,14 @@
 #![tactic(auto)]
 
 mod rows;
+mod writer;
 
 use ox_bytes::Bytes;
 pub use rows::{a_closing_request_is_the_last, requests_come_in_order};
+pub use writer::{
+    HEAD_ROOM, ReplyParts, UNAVAILABLE, fault_reply, put_reply, unavailable_is_503, write_parts,
+    write_reply,
+};
 
 /// How a request asks.
 #[derive(Clone, Copy, Debug, PartialEq, Eq)]
