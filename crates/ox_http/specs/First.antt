@@ -19,9 +19,17 @@ pub data First : Type 0 where
   more : First
   fault : ℕ → First
 
--- The same of the head alone: a head without a fault, and how many bytes it has.
+-- what a head without a fault asks: all but the body, of which it has the length
+pub record Asked : Type 0 where
+  pub method : Method
+  pub path : List ℕ
+  pub size : ℕ
+  pub close : Bool
+
+-- What the front of a stream is, its body left aside: a head without a fault, by its number of
+-- bytes; or too few bytes to say; or a fault.
 pub data Front : Type 0 where
-  opens : ℕ → Head → Front
+  opens : ℕ → Asked → Front
   waits : Front
   fails : ℕ → Front
 
@@ -98,12 +106,20 @@ closes head =
     || list_any (λ value. str_eq_ignore_ascii_case value (codes "close"))
     (values_of (codes "connection") head.fields)
 
--- what a head without a fault, and one at fault, are at the front of a stream
+abbrev pub asked_by : Head → Asked
+asked_by head = record {
+  method = method_of head.start.method;
+  path = head.start.target;
+  size = body_length head;
+  close = closes head;
+}
+
+-- what a head of n bytes is, which may be at fault
 abbrev pub unless_at_fault : ℕ → Head → Option ℕ → Front
-unless_at_fault n head None = opens n head
+unless_at_fault n head None = opens n (asked_by head)
 unless_at_fault n head (Some status) = fails status
 
--- 400 where the first n bytes are no head
+-- 400 where n bytes that should be a head aren't one
 abbrev pub at_head : ℕ → Option Head → Front
 at_head n None = fails 400
 at_head n (Some head) = unless_at_fault n head (fault_of head)
@@ -113,24 +129,20 @@ abbrev pub at_end : List ℕ → Option ℕ → Front
 at_end bytes None = if nat_lt (length bytes) head_limit then waits else fails 431
 at_end bytes (Some n) = at_head n (head_of (take n bytes))
 
--- what the head at the front of a stream is
+-- what the front of a stream is
 unfoldable pub front_of : List ℕ → Front
 front_of bytes = at_end bytes (head_length (take head_limit bytes))
 
--- the request of a head and of what stands behind it
-abbrev pub request_with : Head → List ℕ → Request
-request_with head behind = record {
-  method = method_of head.start.method;
-  path = head.start.target;
-  body = take (body_length head) behind;
-  close = closes head;
-}
+-- the request that is asked, with its body
+abbrev pub request_with : Asked → List ℕ → Request
+request_with asked body =
+    record { method = asked.method; path = asked.path; body = body; close = asked.close }
 
 -- a request is whole once its body has come
 abbrev pub with_body : List ℕ → Front → First
-with_body bytes (opens n head) =
-    if nat_le (n + body_length head) (length bytes)
-    then whole (request_with head (drop n bytes)) (n + body_length head) else more
+with_body bytes (opens n asked) =
+    if nat_le (n + asked.size) (length bytes)
+    then whole (request_with asked (take asked.size (drop n bytes))) (n + asked.size) else more
 with_body bytes waits = more
 with_body bytes (fails status) = fault status
 
