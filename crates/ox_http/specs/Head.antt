@@ -1,6 +1,7 @@
 -- The head of a request (RFC 9112, sections 2 to 5): a start line, fields, and an empty line.
 use Rattle.std.specs.Prelude.{ℕ, ◌==◌, ◌&&◌, Bool, true, false, List, [], ◌∷◌}
-use Rattle.std.specs.Prelude.{◌≡◌, ◌≤◌, map, Option, Some, None, if◌then◌else◌, nat_lt, nat_le, length, codes}
+use Rattle.std.specs.Prelude.{◌≡◌, ◌≤◌, map, Option, Some, None, if◌then◌else◌, nat_lt, nat_le}
+use Rattle.std.specs.Prelude.{length, codes}
 use Rattle.std.specs.List.{list_all}
 use Rattle.std.specs.Option.{option_and_then, option_map}
 use Rattle.std.specs.Str.{bytes_eq, is_utf8}

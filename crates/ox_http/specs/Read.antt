@@ -9,7 +9,8 @@ use Rattle.ox_http.specs.declared.reader.BodyLength.{BodyLength}
 use Rattle.ox_http.specs.declared.reader.BodyLength.TheVariants.{Untold, Told, Unclear}
 use Rattle.ox_http.specs.declared.reader.StartLine.{StartLine}
 use Rattle.ox_http.specs.Head.{Head, NameAndValue}
-use Rattle.ox_http.specs.First.{are_one_length, length_told, Asked, Front, opens, waits, fails, First, whole, more, fault}
+use Rattle.ox_http.specs.First.{are_one_length, length_told, Asked, Front, opens, waits, fails}
+use Rattle.ox_http.specs.First.{First, whole, more, fault}
 
 -- what a head asks that was read
 abbrev pub asked_in : HeadRead → Asked

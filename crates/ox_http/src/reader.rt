@@ -1,6 +1,7 @@
 //! The first request of a stream of bytes (RFC 9112).
 
-ghost use Rattle.std.specs.Prelude.{◌≡◌, ◌≤◌, ◌==◌, ◌&&◌, ◌||◌, not, [], length, map, min, take, codes, true, nat_lt};
+ghost use Rattle.std.specs.Prelude.{◌≡◌, ◌≤◌, ◌==◌, ◌&&◌, ◌||◌, not, [], length, map, min, take};
+ghost use Rattle.std.specs.Prelude.{codes, true, nat_lt};
 ghost use Rattle.std.specs.Prelude.{All, IfOk, MatchOption, None};
 ghost use Rattle.std.specs.List.{list_all, list_any};
 ghost use Rattle.std.specs.Char.{is_ascii_digit};

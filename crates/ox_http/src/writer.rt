@@ -2,7 +2,8 @@
 
 ghost use Rattle.std.specs.Prelude.{◌≡◌, ◌+◌, ◌≤◌, ◌++◌, [], length, false, IfOk};
 ghost use Rattle.std.specs.Option.{option_copied};
-ghost use Rattle.ox_http.specs.Written.{close_line, encoding_length, encoding_line, fault_reply as fault};
+ghost use Rattle.ox_http.specs.Written.{close_line, encoding_length, encoding_line};
+ghost use Rattle.ox_http.specs.Written.{fault_reply as fault};
 ghost use Rattle.ox_http.specs.Written.{kind_line, length_line, most_written, phrase_of, reply_of};
 ghost use Rattle.ox_http.specs.Written.{status_line, unavailable, written, written_head, Puts};
 
