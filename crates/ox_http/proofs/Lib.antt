@@ -1,1 +1,10 @@
 pub mod Computed
+pub mod Digits
+pub mod Ends
+pub mod Fields
+pub mod Fronts
+pub mod Heads
+pub mod Putting
+pub mod Stays
+pub mod Talking
+pub mod Values

@@ -19,6 +19,20 @@ pub data First : Type 0 where
   more : First
   fault : ℕ → First
 
+-- what a head without a fault asks: all but the body, of which it has the length
+pub record Asked : Type 0 where
+  pub method : Method
+  pub path : List ℕ
+  pub size : ℕ
+  pub close : Bool
+
+-- What the front of a stream is, its body left aside: a head without a fault, by its number of
+-- bytes; or too few bytes to say; or a fault.
+pub data Front : Type 0 where
+  opens : ℕ → Asked → Front
+  waits : Front
+  fails : ℕ → Front
+
 -- the bytes among which the end of a head has to stand
 abbrev pub head_limit : ℕ
 head_limit = 8192
@@ -37,11 +51,11 @@ head_length [] = None
 head_length (b ∷ bytes) =
     if starts_with nat_eq (b ∷ bytes) blank_line then Some 4 else option_map suc (head_length bytes)
 
--- the values of a head's fields of a name, which may be written in any case of letters
-abbrev pub values_of : List ℕ → Head → List (List ℕ)
-values_of name head =
+-- the values of the fields of a name, which may be written in any case of letters
+abbrev pub values_of : List ℕ → List NameAndValue → List (List ℕ)
+values_of name fields =
     map (λ (field : NameAndValue). field.1)
-    (filter (λ (field : NameAndValue). str_eq_ignore_ascii_case field.0 name) head.fields)
+    (filter (λ (field : NameAndValue). str_eq_ignore_ascii_case field.0 name) fields)
 
 -- one to nineteen digits
 abbrev pub is_length : List ℕ → Bool
@@ -59,7 +73,7 @@ length_told [] = 0
 length_told (text ∷ texts) = digits_value 10 text
 
 abbrev pub body_length : Head → ℕ
-body_length head = length_told (values_of (codes "content-length") head)
+body_length head = length_told (values_of (codes "content-length") head.fields)
 
 abbrev pub method_of : List ℕ → Method
 method_of name =
@@ -71,7 +85,7 @@ is_post head = bytes_eq head.start.method (codes "POST")
 
 abbrev pub lacks_length : Head → List (List ℕ) → Bool
 lacks_length head lengths =
-    nat_lt 0 (length (values_of (codes "transfer-encoding") head))
+    nat_lt 0 (length (values_of (codes "transfer-encoding") head.fields))
     || (is_post head && length lengths == 0)
 
 abbrev pub fault_by : Head → List (List ℕ) → Option ℕ
@@ -83,44 +97,55 @@ fault_by head lengths =
 -- The first fault of a head: 400 for lengths that are none or differ, 411 for a body without a
 -- length, 413 for a body that is too long.
 unfoldable pub fault_of : Head → Option ℕ
-fault_of head = fault_by head (values_of (codes "content-length") head)
+fault_of head = fault_by head (values_of (codes "content-length") head.fields)
 
 -- the link ends with the reply: HTTP/1.0 does, and a field that says so
 unfoldable pub closes : Head → Bool
 closes head =
     head.start.minor == 0
     || list_any (λ value. str_eq_ignore_ascii_case value (codes "close"))
-    (values_of (codes "connection") head)
+    (values_of (codes "connection") head.fields)
 
--- the request of a head and of what stands behind it
-abbrev pub request_of : Head → List ℕ → Request
-request_of head behind = record {
+abbrev pub asked_by : Head → Asked
+asked_by head = record {
   method = method_of head.start.method;
   path = head.start.target;
-  body = take (body_length head) behind;
+  size = body_length head;
   close = closes head;
 }
 
--- the request of a head of n bytes without a fault, once its body has come
-abbrev pub awaited : List ℕ → ℕ → Head → First
-awaited bytes n head =
-    if nat_le (n + body_length head) (length bytes)
-    then whole (request_of head (drop n bytes)) (n + body_length head) else more
+-- what a head of n bytes is, which may be at fault
+abbrev pub unless_at_fault : ℕ → Head → Option ℕ → Front
+unless_at_fault n head None = opens n (asked_by head)
+unless_at_fault n head (Some status) = fails status
 
-abbrev pub unless_at_fault : List ℕ → ℕ → Head → Option ℕ → First
-unless_at_fault bytes n head None = awaited bytes n head
-unless_at_fault bytes n head (Some status) = fault status
-
--- 400 where the first n bytes are no head
-abbrev pub behind_head : List ℕ → ℕ → Option Head → First
-behind_head bytes n None = fault 400
-behind_head bytes n (Some head) = unless_at_fault bytes n head (fault_of head)
+-- 400 where n bytes that should be a head aren't one
+abbrev pub at_head : ℕ → Option Head → Front
+at_head n None = fails 400
+at_head n (Some head) = unless_at_fault n head (fault_of head)
 
 -- 431 where the end of the head isn't among the bytes in which it has to stand
-abbrev pub from_head : List ℕ → Option ℕ → First
-from_head bytes None = if nat_lt (length bytes) head_limit then more else fault 431
-from_head bytes (Some n) = behind_head bytes n (head_of (take n bytes))
+abbrev pub at_end : List ℕ → Option ℕ → Front
+at_end bytes None = if nat_lt (length bytes) head_limit then waits else fails 431
+at_end bytes (Some n) = at_head n (head_of (take n bytes))
 
--- what bytes begin with
+-- what the front of a stream is
+unfoldable pub front_of : List ℕ → Front
+front_of bytes = at_end bytes (head_length (take head_limit bytes))
+
+-- the request that is asked, with its body
+abbrev pub request_with : Asked → List ℕ → Request
+request_with asked body =
+    record { method = asked.method; path = asked.path; body = body; close = asked.close }
+
+-- a request is whole once its body has come
+abbrev pub with_body : List ℕ → Front → First
+with_body bytes (opens n asked) =
+    if nat_le (n + asked.size) (length bytes)
+    then whole (request_with asked (take asked.size (drop n bytes))) (n + asked.size) else more
+with_body bytes waits = more
+with_body bytes (fails status) = fault status
+
+-- what a stream begins with
 unfoldable pub first_of : List ℕ → First
-first_of bytes = from_head bytes (head_length (take head_limit bytes))
+first_of bytes = with_body bytes (front_of bytes)

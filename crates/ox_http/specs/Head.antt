@@ -1,10 +1,13 @@
 -- The head of a request (RFC 9112, sections 2 to 5): a start line, fields, and an empty line.
-use Rattle.std.specs.Prelude.{ℕ, ◌+◌, ◌==◌, ◌&&◌, Bool, true, false, List, [], ◌∷◌}
-use Rattle.std.specs.Prelude.{Option, Some, None, if◌then◌else◌, nat_lt, nat_le, length, take, drop, codes}
-use Rattle.std.specs.List.{list_all, position}
+use Rattle.std.specs.Prelude.{ℕ, ◌==◌, ◌&&◌, Bool, true, false, List, [], ◌∷◌}
+use Rattle.std.specs.Prelude.{◌≡◌, ◌≤◌, map, Option, Some, None, if◌then◌else◌, nat_lt, nat_le}
+use Rattle.std.specs.Prelude.{length, codes}
+use Rattle.std.specs.List.{list_all}
 use Rattle.std.specs.Option.{option_and_then, option_map}
 use Rattle.std.specs.Str.{bytes_eq, is_utf8}
-use Rattle.httparse.specs.Grammar.{is_token, is_uri_byte, is_value_byte, trim_ows}
+use Rattle.httparse.specs.Grammar.{RequestHead, ReadsRequest, is_token, is_uri_byte, is_value_byte}
+use Rattle.httparse.specs.Grammar.{trim_ows}
+use Rattle.httparse.specs.Spans.{name_and_value}
 use Rattle.ox_http.specs.Lines.{lines_of}
 
 -- a field: its name, and its value without white space around it
@@ -25,8 +28,10 @@ pub record Head : Type 0 where
 
 -- the bytes before the first byte c, and those behind it
 abbrev pub cut_at : ℕ → List ℕ → Option (List ℕ × List ℕ)
-cut_at c bytes =
-    option_map (λ n. (take n bytes, drop (n + 1) bytes)) (position (λ b. b == c) bytes)
+cut_at c [] = None
+cut_at c (b ∷ bytes) =
+    if b == c then Some ([], bytes)
+    else option_map (λ (parts : List ℕ × List ℕ). (b ∷ parts.0, parts.1)) (cut_at c bytes)
 
 -- the last digit of a version
 abbrev pub minor_of : List ℕ → Option ℕ
@@ -96,3 +101,17 @@ head_in (line ∷ lines) =
 -- the head that bytes are, all of them, if they are one
 unfoldable pub head_of : List ℕ → Option Head
 head_of bytes = head_in (lines_of bytes)
+
+-- what a head of the parser's grammar is by these definitions
+abbrev pub seen : RequestHead → Head
+seen read = record {
+  start = record { method = read.method; target = read.target; minor = read.minor };
+  fields = map name_and_value read.fields;
+}
+
+-- bytes, all of them, are a head of the parser's grammar, of no more fields than a head may have
+pub record IsHead (bytes : List ℕ) (head : Head) : Type 0 where
+  pub read : RequestHead
+  pub reads : ReadsRequest bytes read []
+  pub few : length read.fields ≤ most_fields
+  pub seen_is : seen read ≡ head

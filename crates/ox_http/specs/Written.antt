@@ -1,7 +1,10 @@
 -- A reply as bytes (RFC 9112, section 4).
 use Rattle.std.specs.Prelude.{ℕ, ◌==◌, Bool, true, false, List, [], ◌++◌, length, codes, decimal}
-use Rattle.std.specs.Prelude.{Option, Some, None, if◌then◌else◌}
+use Rattle.std.specs.Prelude.{◌≡◌, ◌+◌, ◌≤◌, Option, Some, None, if◌then◌else◌}
+use Rattle.ox_bytes.specs.Place.{Space}
+use Rattle.std.specs.Option.{option_copied}
 use Rattle.ox_http.specs.declared.Reply.{Reply}
+use Rattle.ox_http.specs.declared.writer.ReplyParts.{ReplyParts}
 
 -- the end of a line
 abbrev pub crlf : List ℕ
@@ -49,6 +52,31 @@ unfoldable pub written : Reply → List ℕ
 written reply =
     written_head reply.status reply.kind reply.encoding (length reply.body) reply.close
     ++ reply.body
+
+-- the reply that has borrowed parts, and with which the link ends or not
+abbrev pub reply_of : ReplyParts → Bool → Reply
+reply_of parts close = record {
+  status = parts.status;
+  kind = parts.kind.now;
+  encoding = option_copied parts.encoding;
+  body = parts.body.now;
+  close = close;
+}
+
+-- the bytes of an encoding, if there is one
+abbrev pub encoding_length : Option (List ℕ) → ℕ
+encoding_length None = 0
+encoding_length (Some encoding) = length encoding
+
+-- the most bytes that a reply has: beside its kind, encoding and body never more than 143
+abbrev pub most_written : Reply → ℕ
+most_written reply =
+    143 + length reply.kind + encoding_length reply.encoding + length reply.body
+
+-- bytes are put at a place's end, into at most so many of the spare ones
+pub record Puts (bytes : List ℕ) (most : ℕ) (old new : Space) : Type 0 where
+  pub filled : new.filled ≡ old.filled ++ bytes
+  pub spare : old.spare ≤ new.spare + most
 
 -- the reply to a fault, with which the link ends
 abbrev pub fault_reply : ℕ → Reply

@@ -1,10 +1,19 @@
 //! What a request asks and what a reply says, as values.
 #![tactic(auto)]
 
+mod laws;
+mod reader;
 mod rows;
+mod writer;
 
+pub use laws::{heads_are_the_grammars, talks_go_on, what_is_said_stays};
 use ox_bytes::Bytes;
+pub use reader::{BODY_LIMIT, HEAD_LIMIT, HeadFound, HeadRead, Parsed, read_head, request_of};
 pub use rows::{a_closing_request_is_the_last, requests_come_in_order};
+pub use writer::{
+    HEAD_ROOM, ReplyParts, UNAVAILABLE, fault_reply, put_reply, unavailable_is_503, write_parts,
+    write_reply,
+};
 
 /// How a request asks.
 #[derive(Clone, Copy, Debug, PartialEq, Eq)]
