@@ -1,0 +1,15 @@
+pub mod Tables
+pub mod DigitLaws
+pub mod Xors
+pub mod Scripts
+pub mod ChecksumLaw
+pub mod Carrying
+pub mod Writes
+pub mod Groups
+pub mod Spelling
+pub mod Takes
+pub mod Decide
+pub mod Whole
+pub mod Cases
+pub mod AddressLaws
+pub mod Texts

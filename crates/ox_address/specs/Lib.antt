@@ -1,0 +1,4 @@
+pub mod Digits
+pub mod Checksum
+pub mod Address
+pub mod Passes

@@ -1,0 +1,15 @@
+//! Segwit addresses (BIP 173, BIP 350).
+#![tactic(auto)]
+
+mod bits;
+mod checksum;
+mod laws;
+mod letters;
+mod reading;
+mod writing;
+
+pub use laws::{
+    address_has_one_case, address_has_one_script, address_is_short, checksum_is_the_only_one,
+};
+pub use reading::{NotAddress, is_hrp, read};
+pub use writing::write;
