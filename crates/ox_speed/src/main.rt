@@ -9,8 +9,9 @@
 //! - `runes TIMES LOOKS` does the blocks on standard input to the ledger of runes, the last of them
 //!   so often, and then looks up what outputs hold (bench/runes.py);
 //! - `look ROWS TIMES`, `number ROWS TIMES`, `check ROWS TIMES` and `mark ROWS TIMES` keep so many
-//!   inscriptions, and look them up, ask their signed numbers, or go back to a mark; `reveal PARENTS TIMES` reveals what the last of the blocks on
-//!   standard input has, over so many earlier inscriptions (bench/inscriptions.py).
+//!   inscriptions, and look them up, ask their signed numbers, or go back to a mark; `reveal
+//!   PARENTS TIMES` reveals what the last of the blocks on standard input has, over so many earlier
+//!   inscriptions (bench/inscriptions.py).
 #![tactic(auto)]
 
 use anyhow::bail;

@@ -128,8 +128,8 @@ fn work(alloc: Global, feed: &[u8], parents: u32, times: u32) -> Result<(u32, u6
     Ok((shelf.len(), sum))
 }
 
-/// Reveals what the second of two blocks has, so often, over so many earlier inscriptions, and tells
-/// what the last rows say.
+/// Reveals what the second of two blocks has, so often, over so many earlier inscriptions, and
+/// tells what the last rows say.
 pub(crate) fn run(
     rt: &impl Print,
     alloc: Global,

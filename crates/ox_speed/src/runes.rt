@@ -1,5 +1,5 @@
-//! What blocks do to the ledger of runes. All but the last are done once; the last is done and taken
-//! back again and again. Then the balances of all outputs of the other blocks are looked up.
+//! What blocks do to the ledger of runes. All but the last are done once; the last is done and
+//! taken back again and again. Then the balances of all outputs of the other blocks are looked up.
 
 ghost use Rattle.std.specs.Prelude.{◌≡◌, IsSome, OnOk};
 ghost use Rattle.ox_ledger.specs.Ledger.{mark_in};
