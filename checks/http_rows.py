@@ -1,0 +1,239 @@
+#!/usr/bin/env python3
+"""Makes the rows of crates/ox_http_rows and what has to be printed for them:
+
+    checks/http_rows.py
+
+It reads streams by RFC 9112 and docs/FORMATS.md ("HTTP"), on its own: by regular expressions over the whole head.
+"""
+import pathlib
+import re
+
+CRATE = pathlib.Path(__file__).resolve().parents[1] / "crates" / "ox_http_rows"
+MOST_SHOWN = 200
+TOKEN = rb"[!#$%&'*+\-.^_`|~0-9A-Za-z]+"
+START = re.compile(rb"(?:\r?\n)*(" + TOKEN + rb") ([\x21-\x7e\x80-\xff]+) HTTP/1\.([01])\r?\n", re.S)
+FIELD = re.compile(rb"(" + TOKEN + rb"):([\t\x20-\x7e\x80-\xff]*)\r?\n", re.S)
+PHRASES = {
+    200: "OK", 400: "Bad Request", 403: "Forbidden", 404: "Not Found", 405: "Method Not Allowed", 409: "Conflict",
+    411: "Length Required", 413: "Content Too Large", 431: "Request Header Fields Too Large",
+}
+
+
+def fields_of(head):
+    """Method, target, version and fields, or None where the bytes aren't exactly one head."""
+    start = START.match(head)
+    if not start:
+        return None
+    method, target, minor = start.groups()
+    try:
+        target.decode()
+    except UnicodeDecodeError:
+        return None
+    at, fields = start.end(), []
+    while field := FIELD.match(head, at):
+        fields.append((field[1].lower(), field[2].strip(b" \t")))
+        at = field.end()
+    if head[at:] not in (b"\n", b"\r\n") or len(fields) > 64:
+        return None
+    return method, target, minor, fields
+
+
+def first(stream):
+    """What a stream begins with: None, a status, or a request and its length."""
+    end = stream[:8192].find(b"\r\n\r\n")
+    if end < 0:
+        return 431 if len(stream) >= 8192 else None
+    head = stream[:end + 4]
+    read = fields_of(head)
+    if read is None:
+        return 400
+    method, target, minor, fields = read
+    lengths = {value for name, value in fields if name == b"content-length"}
+    if len(lengths) > 1 or not all(re.fullmatch(rb"[0-9]{1,19}", value) for value in lengths):
+        return 400
+    if any(name == b"transfer-encoding" for name, _ in fields) or (method == b"POST" and not lengths):
+        return 411
+    size = int(lengths.pop()) if lengths else 0
+    if size > 4_000_000:
+        return 413
+    body = stream[end + 4:end + 4 + size]
+    if len(body) < size:
+        return None
+    close = minor == b"0" or any(name == b"connection" and value.lower() == b"close" for name, value in fields)
+    word = {b"GET": "GET", b"POST": "POST"}.get(method, "other")
+    return f"{word} {shown(target)} body {shown(body)}{' close' if close else ''}", end + 4 + size, close
+
+
+def shown(data):
+    return data.hex() if len(data) <= MOST_SHOWN else f"({len(data)} bytes)"
+
+
+def line(found):
+    return "more" if found is None else f"fault {found}" if isinstance(found, int) else found[0]
+
+
+def talk(stream):
+    lines = []
+    while True:
+        found = first(stream)
+        if found is None:
+            return lines + [f"left {len(stream)}"]
+        lines.append(line(found))
+        if isinstance(found, int) or found[2]:
+            return lines
+        stream = stream[found[1]:]
+
+
+def growth(stream):
+    for n in range(len(stream) + 1):
+        found = first(stream[:n])
+        if found is not None:
+            return [f"{n}: {line(found)}"]
+    return ["more"]
+
+
+def reply(status, kind, encoding, close, body):
+    head = f"HTTP/1.1 {status} {PHRASES.get(status, '')}\r\nContent-Type: {kind}\r\n"
+    head += f"Content-Encoding: {encoding}\r\n" if encoding is not None else ""
+    head += f"Content-Length: {len(body)}\r\n" + ("Connection: close\r\n" if close else "") + "\r\n"
+    return head.encode() + body
+
+
+class Rows:
+    def __init__(self):
+        self.rows, self.lines = [], []
+
+    def says(self, what):
+        self.rows.append(f"# {what}")
+        self.lines.append(f"# {what}")
+
+    def add(self, row, lines):
+        self.rows.append(row)
+        self.lines += lines
+
+    def stream(self, *parts, grows=True):
+        """Parts are bytes, or a number and bytes."""
+        words = " ".join(part.hex() or "-" if isinstance(part, bytes) else f"{part[0]}*{part[1].hex()}" for part in parts)
+        whole = b"".join(part if isinstance(part, bytes) else part[0] * part[1] for part in parts)
+        self.add(f"talk {words}", talk(whole))
+        if grows:
+            self.add(f"grow {words}", growth(whole))
+
+    def replies(self, status, kind, encoding=None, close=False, body=b""):
+        word = "none" if encoding is None else encoding.encode().hex() or "-"
+        row = f"reply {status} {kind.encode().hex() or '-'} {word} {'close' if close else 'open'} {body.hex() or '-'}"
+        self.add(row, [shown(reply(status, kind, encoding, close, body))])
+
+    def fault(self, status):
+        body = f'{{"error":{status}}}'.encode()
+        self.add(f"fault {status}", [shown(reply(status, "application/json", None, True, body))])
+
+
+def get(*fields, target=b"/status", method=b"GET", version=b"HTTP/1.1", end=b"\r\n"):
+    lines = [method + b" " + target + b" " + version, *fields, b""]
+    return b"".join(text + end for text in lines)
+
+
+def post(*fields, body=b"", target=b"/connect"):
+    return get(*fields, target=target, method=b"POST") + body
+
+
+def length(text):
+    return b"Content-Length: " + text
+
+
+def rows():
+    made = Rows()
+    made.says("one request, and two in a row")
+    made.stream(get(b"Host: a"))
+    made.stream(get(), get())
+    made.stream(get(b"Connection: close"), get())
+    made.stream(get(), get()[:-1])
+    made.says("bodies")
+    made.stream(post(length(b"5"), body=b"hello"), get())
+    made.stream(post(length(b"0"), target=b"/disconnect"), get())
+    made.stream(get(length(b"3")), b"abc", get())
+    made.stream(get(method=b"PUT"), get())
+    made.stream(get(length(b"2"), method=b"PUT"), b"xy")
+    made.stream(post(length(b"65537")), (65_537, b"z"), get(), grows=False)
+    made.stream(post(length(b"4000000")), (4_000_000, b"z"), get(), grows=False)
+    made.stream(post(length(b"4000000")), (3_999_999, b"z"), grows=False)
+    made.says("the end of a head, across byte 8,192 and elsewhere")
+    for left in (8192, 8191, 8190, 8189, 8188, 8187):
+        front = get(b"A: ")[:-4]
+        made.stream(front, (left - len(front), b"b"), b"\r\n\r\n", grows=False)
+    made.stream((8192, b"a"), grows=False)
+    made.stream((8191, b"a"), grows=False)
+    made.stream((9000, b"\r"), b"\r\n\r\n", grows=False)
+    made.stream(b"\r\n\r\n", get())
+    made.stream(b"\r\n", get())
+    made.stream(b"\r", get())
+    made.stream(b"\n", get())
+    made.stream(b"\n\r\n\n", get())
+    made.stream(get(end=b"\n"))
+    made.stream(get(end=b"\n"), b"\r\n\r\n")
+    made.stream(b"GET / HTTP/1.1\nHost: a\r\n\r\n")
+    made.stream(b"GET / HTTP/1.1\r\nHost: a\n\nGET / HTTP/1.1\r\n\r\n")
+    made.stream(b"GET / HTTP/1.1\r\r\n\r\n")
+    made.stream(b"GET / HTTP/1.1\r\nA: b\r\r\n\r\n")
+    made.says("start lines")
+    for text in (b"GET  / HTTP/1.1", b"GET / HTTP/1.1 ", b" GET / HTTP/1.1", b"GET /", b"GET", b"GET / HTTP/2.0",
+                 b"GET / HTTP/1.2", b"GET / http/1.1", b"GET / HTTP/1.01", b"get / HTTP/1.1", b"G(T / HTTP/1.1",
+                 b"G\x7fT / HTTP/1.1", b"GET /a\tb HTTP/1.1", b"GET /\x7f HTTP/1.1", b"GET \xff HTTP/1.1",
+                 b"GET /\xc3\xa9 HTTP/1.1", b"GET /\xc3 HTTP/1.1", b"GET /\xed\xa0\x80 HTTP/1.1", b"GET * HTTP/1.1",
+                 b"GET http://a/b HTTP/1.1", b"GET /\x00 HTTP/1.1", b"POST / HTTP/1.1", b"GET / HTTP/1.0",
+                 b"GET  HTTP/1.1", b"  HTTP/1.1", b"GET / a HTTP/1.1"):
+        made.stream(text + b"\r\n\r\n")
+    made.says("fields")
+    for text in (b" folded", b"A: b\r\n folded", b"A: b\r\n\tfolded", b"A : b", b"A", b": b", b"A:", b"A:\t b\t ",
+                 b"A: \x01", b"A: \x7f", b"A: \xff", b"A: b\x00", b"A: b:c", b"A(: b", b"A\x80: b", b"\tA: b"):
+        made.stream(get(text))
+    for count in (63, 64, 65):
+        made.stream(b"GET / HTTP/1.1\r\n", (count, b"A: b\r\n"), b"\r\n", grows=False)
+    made.says("lengths")
+    for text in (b"", b"+5", b"-5", b"5 5", b"5,5", b"0x5", b"05", b"5a", 19 * b"9", 20 * b"9", 20 * b"0", 18 * b"0" + b"5",
+                 19 * b"0" + b"5", b"4000000", b"4000001", b"4294967301", b"18446744073709551621"):
+        made.stream(post(length(text), body=b"hello"), grows=False)
+    made.stream(post(length(b"5"), length(b"5"), body=b"hello"))
+    made.stream(post(length(b"5"), length(b"05"), body=b"hello"))
+    made.stream(post(length(b"5"), length(b"6"), body=b"hello!"))
+    made.stream(post(length(b"6"), b"a: b", b"cOnTeNt-LeNgTh:5", body=b"hello!"))
+    made.stream(post(b"CONTENT-LENGTH:\t5 ", body=b"hello"))
+    made.stream(post(length(b"5"), length(b""), body=b"hello"))
+    made.says("without a length, and encodings of the transfer")
+    made.stream(post())
+    made.stream(post(b"Transfer-Encoding: chunked", body=b"5\r\nhello\r\n0\r\n\r\n"))
+    made.stream(post(b"Transfer-Encoding: chunked", length(b"5"), body=b"hello"))
+    made.stream(post(b"transfer-encoding:", length(b"4000001")))
+    made.stream(get(b"TRANSFER-ENCODING: x"))
+    made.stream(post(b"Transfer-Encoding: chunked", length(b"+5")))
+    made.stream(post(length(b"4000001"), length(b"4000002")))
+    made.says("the end of a link")
+    for text in (b"Connection: close", b"Connection: CLOSE", b"connection:close", b"Connection: close, x", b"Connection: x",
+                 b"Connection: keep-alive", b"Connection: closed", b"Connection: \tclose\t", b"A: close",
+                 b"Connection: x\r\nConnection: Close", b"Connection:"):
+        made.stream(get(text), get())
+    made.stream(get(version=b"HTTP/1.0"), get())
+    made.stream(get(b"Connection: keep-alive", version=b"HTTP/1.0"), get())
+    made.stream(post(length(b"5"), b"Connection: close", body=b"hello"), b"and more")
+    made.stream(get(), b"\x00\r\n\r\n", get())
+    made.stream(get(), post(), get())
+    made.says("replies")
+    status = b'{"blocks":0,"depth":100,"kept":0,"profile":"regtest","tip":null}'
+    made.replies(200, "application/json", body=status)
+    made.replies(200, "application/json", close=True, body=status)
+    made.replies(200, "text/plain;charset=utf-8", "br", body=b"\x00\xff")
+    made.replies(200, "text/plain", "", True)
+    for code in (*PHRASES, 0, 99, 204, 500, 503, 65535):
+        made.replies(code, "a/b", close=code % 2 == 0, body=b"x")
+    for code in (400, 411, 413, 431):
+        made.fault(code)
+    text = b"HTTP/1.1 503 Service Unavailable\r\nContent-Length: 0\r\nConnection: close\r\n\r\n"
+    made.add("unavailable", [shown(text)])
+    return made
+
+
+if __name__ == "__main__":
+    made = rows()
+    (CRATE / "stdin").write_text("".join(row + "\n" for row in made.rows))
+    (CRATE / "stdout").write_text("".join(text + "\n" for text in made.lines))
