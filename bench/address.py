@@ -29,9 +29,9 @@ def processor_time(program, work, script, times):
 
 
 def seconds(program, work, script):
-    """The processor time of all calls, the least of three runs, and what the program answered."""
+    """The processor time of all calls, the least of nine runs, and what the program answered."""
     took = []
-    for _ in range(3):
+    for _ in range(9):
         few, _ = processor_time(program, work, script, 0)
         many, answer = processor_time(program, work, script, TIMES)
         took.append(many - few)

@@ -1,17 +1,17 @@
 -- The laws of addresses.
-use Rattle.std.proofs.Common.{◌≡◌, ℕ, ◌+◌, ◌-◌, ◌*◌, ◌^◌, ◌<◌, ◌≤◌, Bool, true, false, List, [], ◌∷◌, ◌++◌, length, map, drop, get_or, All, refl, sym, ap, subst, ◌∙◌, arith, inl, inr, lit<, length-append}
+use Rattle.std.proofs.Common.{◌≡◌, ℕ, ◌+◌, ◌*◌, ◌^◌, ◌<◌, Bool, false, List, ◌∷◌, ◌++◌, length, map, drop, get_or, All, refl, sym, ap, subst, ◌∙◌, arith, inl, inr, length-append}
 use Rattle.std.specs.Prelude.{◌&&◌, nat_le, IsTrue, ◌↔◌}
 use Rattle.std.proofs.lemmas.Bool.{and_from, and_parts, le-leb, leb-true}
 use Rattle.std.proofs.lemmas.Nat.{pow_pos}
 use Rattle.std.proofs.lemmas.List.{append_cancel_left, length-map}
-use Rattle.std.proofs.lemmas.List.Elements.{All-append, All-contains, All-weaker}
+use Rattle.std.proofs.lemmas.List.Elements.{All-append, All-contains}
 use Rattle.ox_address.specs.Checksum.{checksum, IsSymbol}
-use Rattle.ox_address.specs.Address.{IsHrp, IsLetter, IsCapital, IsSegwit, IsAddress, IsProgram, HasOneScript, HasOneCase, IsShort, letter_of, symbols_of, address_of, version_of, groups, group_count, capital}
-use Rattle.ox_address.specs.Passes.{small, opcode_of, tail_of}
+use Rattle.ox_address.specs.Address.{IsCapital, IsSegwit, HasOneScript, HasOneCase, IsShort, letter_of, symbols_of, address_of, version_of, groups, group_count, capital}
+use Rattle.ox_address.specs.Passes.{opcode_of, tail_of}
 use Rattle.ox_address.proofs.Scripts.{segwit-short, segwit-long}
 use Rattle.ox_address.proofs.Groups.{length-groups, number-groups, same_program, fill_of}
 use Rattle.ox_address.proofs.Spelling.{split_same, values-back}
-use Rattle.ox_address.proofs.Decide.{symbols_of-symbols, checksum-symbols, length-checksum, opcode-version, Parts, parts_of}
+use Rattle.ox_address.proofs.Decide.{symbols_of-symbols, checksum-symbols, length-checksum, opcode-version, parts_of}
 use Rattle.ox_address.proofs.Cases.{IsLower, case-forth, address_of-lower, capitals-below, small-same}
 use Rattle.ox_address.specs.Digits.{number}
 

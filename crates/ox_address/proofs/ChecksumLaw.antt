@@ -1,7 +1,7 @@
 -- Six symbols make the polynomial what it has to be exactly where they are the checksum.
-use Rattle.std.proofs.Common.{◌≡◌, ℕ, zero, suc, ◌+◌, ◌-◌, ◌*◌, ◌/◌, ◌%◌, ◌^◌, ◌<◌, ◌≤◌, List, [], ◌∷◌, ◌++◌, length, map, All, replicate, refl, sym, ap, subst, ◌∙◌, append_assoc, arith, lit<, bit_xor, inl, inr}
-use Rattle.std.specs.Prelude.{fold, slice_index, ◌↔◌}
-use Rattle.std.proofs.lemmas.Nat.{xor_comm, xor_lt, xor_shr, xor_mod, xor_block}
+use Rattle.std.proofs.Common.{◌≡◌, ℕ, suc, ◌+◌, ◌*◌, ◌/◌, ◌%◌, ◌^◌, ◌<◌, ◌≤◌, List, [], ◌∷◌, ◌++◌, length, map, All, replicate, refl, sym, ap, subst, ◌∙◌, arith, lit<, bit_xor}
+use Rattle.std.specs.Prelude.{fold, slice_index}
+use Rattle.std.proofs.lemmas.Nat.{xor_comm, xor_lt, xor_shr, xor_mod}
 use Rattle.std.proofs.lemmas.List.Sums.{fold-append}
 use Rattle.std.proofs.lemmas.List.Elements.{All-head, All-tail, All-append, All-cons, All-map, All-weaker, All-replicate}
 use Rattle.std.proofs.Math.Nat.{pow-le-pow_right, pow-suc}

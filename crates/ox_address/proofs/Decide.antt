@@ -1,13 +1,13 @@
 -- What the letters behind the digit 1 say.
-use Rattle.std.proofs.Common.{◌≡◌, ℕ, zero, suc, ◌+◌, ◌-◌, ◌*◌, ◌/◌, ◌%◌, ◌^◌, ◌<◌, ◌≤◌, ◌⊎◌, Bool, List, [], ◌∷◌, ◌++◌, length, map, take, drop, get_or, All, refl, sym, ap, subst, ◌∙◌, append_assoc, arith, inl, inr, lit<, replicate, length-append, bit_xor}
-use Rattle.std.specs.Prelude.{fold, slice_index}
-use Rattle.std.proofs.lemmas.Bool.{cases_eq, cond-true, cond-false, eq-eqb, ne_eqb}
+use Rattle.std.proofs.Common.{◌≡◌, ℕ, ◌+◌, ◌-◌, ◌*◌, ◌/◌, ◌^◌, ◌<◌, ◌≤◌, Bool, List, [], ◌∷◌, ◌++◌, length, map, take, drop, get_or, All, refl, sym, ap, subst, ◌∙◌, arith, inl, inr, lit<, length-append}
+use Rattle.std.specs.Prelude.{fold}
+use Rattle.std.proofs.lemmas.Bool.{cases_eq, cond-false, ne_eqb}
 use Rattle.std.proofs.lemmas.List.{map-append, drop_more, take-append-drop, get_or-take, length-drop, length-map, drop-set-lt}
-use Rattle.std.proofs.lemmas.List.Elements.{All-head, All-tail, All-append, All-cons, All-weaker}
+use Rattle.std.proofs.lemmas.List.Elements.{All-head, All-tail, All-append, All-cons}
 use Rattle.std.proofs.lemmas.List.Sums.{fold-append}
-use Rattle.ox_address.specs.Digits.{number, digits}
+use Rattle.ox_address.specs.Digits.{number}
 use Rattle.ox_address.specs.Checksum.{step, polynomial, expanded, wanted, checksum, IsSymbol}
-use Rattle.ox_address.specs.Address.{IsSegwit, IsProgram, version_of, groups, group_count, symbols_of, letter_of, IsLetter}
+use Rattle.ox_address.specs.Address.{IsSegwit, IsProgram, version_of, groups, group_count, symbols_of, letter_of}
 use Rattle.ox_address.specs.Passes.{small, value_of, values_of, AreSymbols, opcode_of, tail_of, Carries, Took, ReadsLetters}
 use Rattle.std.proofs.Math.ListN.{set}
 use Rattle.ox_address.proofs.DigitLaws.{length-digits, digits-below}

@@ -1,10 +1,10 @@
 -- A program and its groups, one to one.
-use Rattle.std.proofs.Common.{◌≡◌, ℕ, zero, suc, ◌+◌, ◌-◌, ◌*◌, ◌/◌, ◌%◌, ◌^◌, ◌<◌, ◌≤◌, List, [], ◌∷◌, ◌++◌, length, All, refl, sym, ap, subst, ◌∙◌, arith, lit<}
+use Rattle.std.proofs.Common.{◌≡◌, ℕ, zero, suc, ◌+◌, ◌-◌, ◌*◌, ◌^◌, ◌<◌, ◌≤◌, List, [], ◌∷◌, length, All, sym, ap, ◌∙◌, arith, lit<}
 use Rattle.std.specs.Prelude.{fold}
 use Rattle.std.proofs.Math.Nat.{pow-suc, pow-zero}
 use Rattle.std.proofs.lemmas.Nat.{pow-add, pow_pos, same_from_place, mul-le}
 use Rattle.std.proofs.lemmas.List.Elements.{All-head, All-tail}
-use Rattle.ox_address.specs.Digits.{number, digits}
+use Rattle.ox_address.specs.Digits.{number}
 use Rattle.ox_address.specs.Address.{groups, group_count}
 use Rattle.ox_address.proofs.DigitLaws.{number-digits, length-digits, digits-below, same_from_number}
 

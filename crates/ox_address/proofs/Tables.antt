@@ -1,12 +1,11 @@
 -- The tables, place by place.
-use Rattle.std.proofs.Common.{◌≡◌, ℕ, ◌+◌, ◌<◌, ◌≤◌, ◌^◌, Bool, true, false, List, [], ◌∷◌, length, get_or, refl, sym, ap, subst, ◌∙◌, arith, eqb, ltb, lit<, inl, inr, nat_lt}
-use Rattle.std.proofs.lemmas.Bool.{agree_below_at, eqb-true, ltb-true, ne_eqb, cases_lt}
-use Rattle.std.specs.Prelude.{◌==◌, All}
+use Rattle.std.proofs.Common.{◌≡◌, ℕ, ◌<◌, ◌≤◌, ◌^◌, true, get_or, refl, arith, eqb, ltb, inl, inr}
+use Rattle.std.proofs.lemmas.Bool.{agree_below_at, eqb-true, ltb-true, cases_lt}
+use Rattle.std.specs.Prelude.{◌==◌}
 use Rattle.std.specs.List.{position_or_len}
 use Rattle.std.proofs.lemmas.List.Sums.{passes_at_first}
-use Rattle.std.proofs.lemmas.List.Elements.{All-head, All-tail, All-from_get_or}
 use Rattle.ox_address.specs.declared.checksum.TheConstants.{GENERATORS}
-use Rattle.ox_address.specs.declared.letters.TheConstants.{SYMBOLS, LETTERS}
+use Rattle.ox_address.specs.declared.letters.TheConstants.{SYMBOLS}
 use Rattle.ox_address.specs.Checksum.{generators}
 use Rattle.ox_address.specs.Address.{letters, letter_of}
 

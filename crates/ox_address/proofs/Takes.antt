@@ -1,5 +1,5 @@
 -- A script as it is read.
-use Rattle.std.proofs.Common.{◌≡◌, ℕ, zero, suc, ◌+◌, ◌-◌, ◌*◌, ◌/◌, ◌%◌, ◌^◌, ◌<◌, ◌≤◌, Bool, List, [], ◌∷◌, ◌++◌, length, map, take, drop, get_or, All, refl, sym, ap, subst, ◌∙◌, append_assoc, append-nil, arith, length-append, length-drop, lit<}
+use Rattle.std.proofs.Common.{◌≡◌, ℕ, ◌+◌, ◌*◌, ◌^◌, ◌<◌, ◌≤◌, Bool, List, [], ◌∷◌, ◌++◌, length, map, take, drop, get_or, refl, sym, ap, subst, ◌∙◌, append_assoc, append-nil, arith, length-append, length-drop, lit<}
 use Rattle.std.specs.Prelude.{fold}
 use Rattle.std.proofs.Math.ListN.{set}
 use Rattle.std.proofs.lemmas.List.{length_push, map_push, take-append-drop, length-take-le, take_more}
@@ -7,8 +7,8 @@ use Rattle.std.proofs.lemmas.List.Elements.{All-push, All-nil}
 use Rattle.std.proofs.lemmas.List.Sums.{fold-append}
 use Rattle.ox_address.specs.Digits.{number}
 use Rattle.ox_address.specs.Checksum.{step}
-use Rattle.ox_address.specs.Passes.{Unpacks, Took, AreSymbols, Carries, value_of, values_of}
-use Rattle.ox_address.proofs.DigitLaws.{number-push, number-nil}
+use Rattle.ox_address.specs.Passes.{Unpacks, Took, AreSymbols, value_of, values_of}
+use Rattle.ox_address.proofs.DigitLaws.{number-push}
 use Rattle.ox_address.proofs.Carrying.{carries-none, carries-with, carries-take}
 use Rattle.ox_address.proofs.Writes.{placed}
 

@@ -1,7 +1,7 @@
 -- A text and the letters behind its digit 1.
-use Rattle.std.proofs.Common.{◌≡◌, ℕ, ◌+◌, ◌-◌, ◌<◌, ◌≤◌, Bool, List, [], ◌∷◌, ◌++◌, length, map, take, drop, Option, Some, None, refl, sym, ap, subst, ◌∙◌, append_assoc, arith, length-append, MatchOption}
+use Rattle.std.proofs.Common.{◌≡◌, ℕ, ◌+◌, ◌≤◌, Bool, List, [], ◌∷◌, ◌++◌, length, map, take, drop, Option, Some, None, sym, ap, ◌∙◌, append_assoc, arith, MatchOption}
 use Rattle.std.proofs.lemmas.List.{take_at, drop_at, take-map, drop-map, map-append, take-append-drop, length-map, length_push}
-use Rattle.ox_address.specs.Address.{IsHrp, IsSegwit, address_of, group_count}
+use Rattle.ox_address.specs.Address.{IsSegwit, address_of}
 use Rattle.ox_address.specs.Passes.{small, tail_of, NoScript, NoScriptBehind, Reads, ReadsLetters}
 use Rattle.ox_address.proofs.Scripts.{segwit-short, segwit-long}
 use Rattle.ox_address.proofs.AddressLaws.{length-address_of}

@@ -1,5 +1,5 @@
 -- An address as it is written.
-use Rattle.std.proofs.Common.{◌≡◌, ℕ, zero, suc, ◌+◌, ◌-◌, ◌*◌, ◌/◌, ◌%◌, ◌^◌, ◌<◌, ◌≤◌, List, [], ◌∷◌, ◌++◌, length, map, take, drop, get_or, refl, sym, ap, subst, ◌∙◌, append_assoc, arith, length-append, length-drop, append-nil}
+use Rattle.std.proofs.Common.{◌≡◌, ℕ, ◌+◌, ◌*◌, ◌^◌, ◌<◌, List, [], ◌∷◌, ◌++◌, length, map, take, drop, get_or, refl, sym, ap, subst, ◌∙◌, append_assoc, arith, length-append, length-drop, append-nil}
 use Rattle.std.specs.Prelude.{fold}
 use Rattle.std.proofs.Math.ListN.{set}
 use Rattle.std.proofs.lemmas.List.{length_push, map_push, set_at, drop_more, length-map, take_more}
@@ -8,7 +8,7 @@ use Rattle.std.proofs.lemmas.List.Sums.{fold-append}
 use Rattle.ox_address.specs.Checksum.{step, polynomial, expanded}
 use Rattle.ox_address.specs.Digits.{number}
 use Rattle.ox_address.specs.Address.{letter_of, groups}
-use Rattle.ox_address.specs.Passes.{Wrote, SumIs, StandsIn, Carries, Packs, front_of}
+use Rattle.ox_address.specs.Passes.{Wrote, SumIs, StandsIn, Packs, front_of}
 use Rattle.ox_address.proofs.Carrying.{carries-none, carries-with, carries-take, groups_are}
 
 -- one element more in front of what was there before

@@ -1,5 +1,5 @@
 -- Segwit addresses (BIP 173, BIP 350) of segwit scripts (BIP 141, "Witness program").
-use Rattle.std.specs.Prelude.{◌≡◌, ◌≢◌, ℕ, ◌+◌, ◌-◌, ◌*◌, ◌/◌, ◌^◌, ◌<◌, ◌≤◌, ◌⊎◌, ◌==◌, ◌&&◌}
+use Rattle.std.specs.Prelude.{◌≡◌, ℕ, ◌+◌, ◌-◌, ◌*◌, ◌/◌, ◌^◌, ◌<◌, ◌≤◌, ◌⊎◌, ◌==◌, ◌&&◌}
 use Rattle.std.specs.Prelude.{List, [], ◌∷◌, ◌++◌, length, map, drop, codes, slice_index, All}
 use Rattle.std.specs.Prelude.{Contains, nat_le, if◌then◌else◌}
 use Rattle.ox_address.specs.Digits.{number, digits}

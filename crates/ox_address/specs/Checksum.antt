@@ -1,5 +1,5 @@
 -- The checksums Bech32 and Bech32m (BIP 173, "Checksum"; BIP 350).
-use Rattle.std.specs.Prelude.{◌≡◌, ℕ, ◌+◌, ◌*◌, ◌/◌, ◌%◌, ◌^◌, ◌<◌, ◌==◌, List, [], ◌∷◌, ◌++◌}
+use Rattle.std.specs.Prelude.{◌≡◌, ℕ, ◌*◌, ◌/◌, ◌%◌, ◌^◌, ◌<◌, ◌==◌, List, ◌∷◌, ◌++◌}
 use Rattle.std.specs.Prelude.{length, map, fold, replicate, slice_index, bit_xor, All, ◌↔◌}
 use Rattle.std.specs.Prelude.{if◌then◌else◌}
 use Rattle.ox_address.specs.Digits.{digits}

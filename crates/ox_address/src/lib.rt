@@ -1,4 +1,5 @@
-//! Segwit addresses (BIP 173, BIP 350).
+//! Segwit addresses (BIP 173, BIP 350), written of scripts (BIP 141, "Witness program") and read as
+//! scripts, exactly and without memory. Which human-readable part a chain has is the caller's.
 #![tactic(auto)]
 
 mod bits;

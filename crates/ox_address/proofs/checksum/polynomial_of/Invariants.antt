@@ -1,4 +1,4 @@
-use Rattle.std.proofs.Common.{◌≡◌, ℕ, ◌/◌, ◌%◌, ◌^◌, ◌<◌, ◌++◌, ◌∷◌, map, take}
+use Rattle.std.proofs.Common.{◌≡◌, ◌/◌, ◌%◌, ◌^◌, ◌<◌, ◌++◌, ◌∷◌, map, take}
 use Rattle.std.specs.Prelude.{fold}
 use Rattle.ox_address.specs.Checksum.{step}
 use Rattle.ox_address.proofs.checksum.polynomial_of.Given as goal

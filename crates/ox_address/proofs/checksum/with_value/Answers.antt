@@ -1,6 +1,6 @@
-use Rattle.std.proofs.Common.{◌≡◌, ◌+◌, ◌-◌, ◌*◌, ◌/◌, ◌%◌, ◌^◌, ◌<◌, ◌≤◌, ℕ, sym, ap, subst, ◌∙◌, arith, bit_xor}
+use Rattle.std.proofs.Common.{◌*◌, ◌%◌, ◌^◌, ◌<◌, ap, arith, bit_xor}
 use Rattle.std.proofs.lemmas.Nat.{xor_lt}
-use Rattle.ox_address.specs.Checksum.{step, generators}
+use Rattle.ox_address.specs.Checksum.{step}
 use Rattle.ox_address.proofs.checksum.with_value.Goals as goal
 
 pub returns-clause-bounded : goal.returns-clause-bounded

@@ -1,6 +1,5 @@
-use Rattle.std.proofs.Common.{◌≡◌, ◌<◌, ◌≤◌, ℕ, sym, ap, subst, ◌∙◌, arith, get_or}
-use Rattle.ox_address.specs.declared.letters.TheConstants.{SYMBOLS}
-use Rattle.ox_address.specs.Passes.{small, value_of}
+use Rattle.std.proofs.Common.{◌≤◌, ℕ, ap, subst, ◌∙◌}
+use Rattle.ox_address.specs.Passes.{value_of}
 use Rattle.ox_address.proofs.Tables.{place, symbols-table, place-above}
 use Rattle.ox_address.proofs.letters.symbol_at.Goals as goal
 

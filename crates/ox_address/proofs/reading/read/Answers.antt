@@ -1,4 +1,4 @@
-use Rattle.std.proofs.Common.{◌≡◌, ℕ, List, Ok, length, take, drop, ap, sym, subst, ◌∙◌}
+use Rattle.std.proofs.Common.{ℕ, List, Ok, length, take, drop, ap, sym, subst, ◌∙◌}
 use Rattle.std.proofs.lemmas.List.{take_at}
 use Rattle.ox_address.specs.Address.{IsAddress}
 use Rattle.ox_address.proofs.Cases.{case-forth, case-back}

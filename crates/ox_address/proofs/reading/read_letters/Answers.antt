@@ -1,4 +1,4 @@
-use Rattle.std.proofs.Common.{◌≡◌, ◌<◌, ◌≤◌, ℕ, List, length, get_or, ap, refl, ◌*◌, ◌/◌, sym, ◌∙◌, arith}
+use Rattle.std.proofs.Common.{ℕ, List, length, get_or, refl, ◌*◌, ◌/◌, sym, ◌∙◌, arith}
 use Rattle.std.proofs.lemmas.Bool.{iff_false}
 use Rattle.ox_address.specs.Address.{IsProgram}
 use Rattle.ox_address.specs.Passes.{opcode_of}

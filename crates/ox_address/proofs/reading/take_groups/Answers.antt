@@ -1,4 +1,4 @@
-use Rattle.std.proofs.Common.{◌≡◌, ◌<◌, ℕ, List, length, take, get_or, arith, ◌+◌, ◌*◌}
+use Rattle.std.proofs.Common.{◌<◌, ℕ, List, length, take, arith, ◌*◌}
 use Rattle.std.proofs.lemmas.List.{length-take-le}
 use Rattle.ox_address.specs.Digits.{number}
 use Rattle.ox_address.specs.Passes.{values_of}

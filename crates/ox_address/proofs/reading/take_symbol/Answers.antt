@@ -1,4 +1,4 @@
-use Rattle.std.proofs.Common.{ℕ, ◌+◌, ◌*◌, arith}
+use Rattle.std.proofs.Common.{◌+◌, ◌*◌, arith}
 use Rattle.ox_address.proofs.Takes.{unpacks-with, unpacks-take}
 use Rattle.ox_address.proofs.reading.take_symbol.Goals as goal
 

@@ -1,4 +1,4 @@
-use Rattle.std.proofs.Common.{◌++◌, ◌∷◌, [], ◌+◌, ℕ, sym, subst, arith}
+use Rattle.std.proofs.Common.{◌++◌, ◌∷◌, [], ℕ, sym, subst}
 use Rattle.ox_address.specs.Passes.{SumIs}
 use Rattle.ox_address.proofs.Writes.{sum-push}
 use Rattle.ox_address.proofs.writing.put.Goals as goal

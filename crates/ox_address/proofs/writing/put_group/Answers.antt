@@ -1,4 +1,3 @@
-use Rattle.std.proofs.Common.{arith}
 use Rattle.ox_address.proofs.Writes.{packs-take}
 use Rattle.ox_address.proofs.writing.put_group.Goals as goal
 

@@ -1,4 +1,4 @@
-use Rattle.std.proofs.Common.{◌≡◌, ◌<◌, ◌^◌, ◌-◌, ℕ, ◌+◌, ◌*◌, length, arith, sym, refl}
+use Rattle.std.proofs.Common.{◌≡◌, ◌<◌, ◌^◌, ◌-◌, ℕ, ◌+◌, ◌*◌, length, arith, refl}
 use Rattle.ox_address.specs.Digits.{number}
 use Rattle.ox_address.proofs.Writes.{packs-with, packs-end}
 use Rattle.ox_address.proofs.writing.put_last.Goals as goal

@@ -1,4 +1,4 @@
-use Rattle.std.proofs.Common.{◌≡◌, ℕ, ◌+◌, ◌*◌, ◌^◌, take, get_or, ap, ◌∙◌, refl, arith}
+use Rattle.std.proofs.Common.{◌≡◌, ℕ, ◌*◌, ◌^◌, take, ap, ◌∙◌, refl, arith}
 use Rattle.ox_address.specs.Digits.{number}
 use Rattle.ox_address.proofs.Writes.{packs-start, packs-more}
 use Rattle.ox_address.proofs.writing.put_program.Goals as goal

@@ -1,4 +1,4 @@
-use Rattle.std.proofs.Common.{◌≡◌, ℕ, ◌+◌, ◌*◌, ◌^◌, ◌<◌, ◌≤◌, List, take}
+use Rattle.std.proofs.Common.{ℕ, ◌+◌, ◌*◌, ◌^◌, ◌<◌, ◌≤◌, List, take}
 use Rattle.ox_address.specs.Digits.{number}
 use Rattle.ox_address.specs.Passes.{StandsIn, Packs}
 use Rattle.ox_address.proofs.writing.put_program.Given as goal

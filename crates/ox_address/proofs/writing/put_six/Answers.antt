@@ -1,4 +1,4 @@
-use Rattle.std.proofs.Common.{◌≡◌, ℕ, ◌+◌, ◌-◌, ◌*◌, ◌/◌, ◌%◌, ◌^◌, ◌++◌, take, refl, arith}
+use Rattle.std.proofs.Common.{ℕ, ◌-◌, ◌*◌, ◌/◌, ◌%◌, ◌^◌, ◌++◌, take, refl, arith}
 use Rattle.ox_address.specs.Digits.{digits}
 use Rattle.ox_address.proofs.Whole.{wrote-six, wrote-six_end}
 use Rattle.ox_address.proofs.writing.put_six.Goals as goal

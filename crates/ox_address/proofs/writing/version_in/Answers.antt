@@ -1,6 +1,5 @@
-use Rattle.std.proofs.Common.{◌≡◌, ◌-◌, ◌<◌, ◌⊎◌, ◌≤◌, ℕ, inl, inr, arith, sym, subst, get_or, ap, ◌∙◌}
-use Rattle.std.proofs.lemmas.Bool.{cond-true, cond-false, eq-eqb, ne_eqb}
-use Rattle.ox_address.specs.Address.{version_of, IsProgram}
+use Rattle.std.proofs.Common.{◌≤◌, inl, inr, arith, sym, get_or, ap}
+use Rattle.ox_address.specs.Address.{version_of}
 use Rattle.ox_address.proofs.Scripts.{segwit_from, version_of-above}
 use Rattle.ox_address.proofs.writing.version_in.Goals as goal
 

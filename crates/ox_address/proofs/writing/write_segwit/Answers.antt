@@ -1,6 +1,6 @@
-use Rattle.std.proofs.Common.{◌≡◌, ℕ, List, [], ◌∷◌, ◌++◌, ◌≤◌, length, subst, ap, ◌∙◌, arith}
+use Rattle.std.proofs.Common.{ℕ, List, [], ◌∷◌, ◌≤◌, length, subst, ap, arith}
 use Rattle.ox_address.specs.Address.{groups}
-use Rattle.ox_address.specs.Passes.{Wrote, StandsIn}
+use Rattle.ox_address.specs.Passes.{Wrote}
 use Rattle.ox_address.proofs.Scripts.{segwit-short}
 use Rattle.ox_address.proofs.Whole.{room-left, whole-symbols}
 use Rattle.ox_address.proofs.writing.write_segwit.Goals as goal

@@ -1,4 +1,4 @@
-use Rattle.std.proofs.Common.{◌≡◌, ◌+◌, ◌-◌, ◌*◌, ◌/◌, ◌%◌, ◌^◌, ◌<◌, ◌≤◌, ℕ, sym, ap, subst, ◌∙◌, arith, bit_and, Fits, w8, lit<}
+use Rattle.std.proofs.Common.{◌≡◌, ◌+◌, ◌-◌, ◌*◌, ◌/◌, ◌%◌, ◌^◌, ◌<◌, ◌≤◌, ℕ, sym, ap, subst, ◌∙◌, arith, bit_and, lit<}
 use Rattle.std.proofs.lemmas.Nat.{shr_below, and_mask, one_shl, shr_split}
 use Rattle.std.proofs.Math.Nat.{pow-le-pow_right}
 use Rattle.ox_address.proofs.bits.Bits.take_front.Goals as goal

@@ -1,4 +1,4 @@
-use Rattle.std.proofs.Common.{◌≡◌, ◌+◌, ◌-◌, ◌*◌, ◌/◌, ◌%◌, ◌^◌, ◌<◌, ◌≤◌, ℕ, sym, ap, subst, ◌∙◌, arith}
+use Rattle.std.proofs.Common.{◌≡◌, ◌+◌, ◌*◌, ◌%◌, ◌^◌, ◌<◌, ℕ, arith}
 use Rattle.std.proofs.lemmas.Nat.{shl_whole, mul-add-lt, pow-add}
 use Rattle.ox_address.proofs.bits.Bits.with.Goals as goal
 
