@@ -16,9 +16,9 @@ apart marks worth text texts = by (marks / worth % 2 == 1)
     by false = refl
 
 -- one text more in front
-pub mark : {old mid new : Written} {marks worth : ℕ} {text : List ℕ} {texts : List Data} {rest : List Token} → Step old mid (tokens_of_all (mark_if marks worth text [])) → Step mid new (tokens_of_all texts ++ rest)
+pub mark : {old mid new : Written} (marks worth : ℕ) (text : List ℕ) (texts : List Data) (rest : List Token) → Step old mid (tokens_of_all (mark_if marks worth text [])) → Step mid new (tokens_of_all texts ++ rest)
     → Step old new (tokens_of_all (mark_if marks worth text texts) ++ rest)
-mark {old = old} {new = new} {marks = marks} {worth = worth} {text = text} {texts = texts} {rest = rest} first others =
+mark {old = old} {new = new} marks worth text texts rest first others =
     subst (Step old new)
     (sym (append_assoc (tokens_of_all (mark_if marks worth text [])) (tokens_of_all texts) rest) ∙ ap (λ (ts : List Token). ts ++ rest) (apart marks worth text texts))
     (first ▸ others)

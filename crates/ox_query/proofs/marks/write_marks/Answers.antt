@@ -1,16 +1,29 @@
-use Rattle.std.proofs.Common.{[]}
+use Rattle.std.proofs.Common.{List, [], ◌∷◌, codes}
+use Rattle.json.specs.Token.{Token, end_array}
+use Rattle.serde_json.specs.Data.{Data}
+use Rattle.ox_ask.specs.Inscriptions.{mark_if}
 use Rattle.ox_query.proofs.MarkTexts.{bracketed_marks, mark}
 use Rattle.ox_query.proofs.Steps.{all, token, value, ◌▸◌}
 use Rattle.ox_query.proofs.marks.write_marks.Goals as goal
 
 pub returns : goal.returns
 returns c =
-    all (bracketed_marks c.args.marks (token c.in_ok-begin_array.ensures
-    ▸ mark (value _ _ _ c.in_ok-write_mark.ensures)
-    (mark (value _ _ _ c.in_ok-write_mark-2.ensures)
-    (mark (value _ _ _ c.in_ok-write_mark-3.ensures)
-    (mark (value _ _ _ c.in_ok-write_mark-4.ensures)
-    (mark (value _ _ _ c.in_ok-write_mark-5.ensures)
-    (mark (value _ _ _ c.in_ok-write_mark-6.ensures)
-    (mark (value _ _ _ c.in_ok-write_mark-7.ensures)
-    (mark {texts = []} (value _ _ _ c.in_ok-write_mark-8.ensures) (token c.in_ok-end_array.ensures))))))))))
+    let m = c.args.marks in
+    let bracket : List Token = end_array ∷ [] in
+    let none : List Data = [] in
+    let from_reinscription : List Data = mark_if m 128 (codes "reinscription") none in
+    let from_pushnum : List Data = mark_if m 64 (codes "pushnum") from_reinscription in
+    let from_pointer : List Data = mark_if m 32 (codes "pointer") from_pushnum in
+    let from_offset : List Data = mark_if m 16 (codes "offset") from_pointer in
+    let from_input : List Data = mark_if m 8 (codes "input") from_offset in
+    let from_incomplete : List Data = mark_if m 4 (codes "incomplete") from_input in
+    let from_repeated : List Data = mark_if m 2 (codes "repeated") from_incomplete in
+    all (bracketed_marks m (token c.in_ok-begin_array.ensures
+    ▸ mark m 1 (codes "even") from_repeated bracket (value c.begin_array.new.self c.write_mark.new.out _ c.in_ok-write_mark.ensures)
+    (mark m 2 (codes "repeated") from_incomplete bracket (value c.write_mark.new.out c.write_mark-2.new.out _ c.in_ok-write_mark-2.ensures)
+    (mark m 4 (codes "incomplete") from_input bracket (value c.write_mark-2.new.out c.write_mark-3.new.out _ c.in_ok-write_mark-3.ensures)
+    (mark m 8 (codes "input") from_offset bracket (value c.write_mark-3.new.out c.write_mark-4.new.out _ c.in_ok-write_mark-4.ensures)
+    (mark m 16 (codes "offset") from_pointer bracket (value c.write_mark-4.new.out c.write_mark-5.new.out _ c.in_ok-write_mark-5.ensures)
+    (mark m 32 (codes "pointer") from_pushnum bracket (value c.write_mark-5.new.out c.write_mark-6.new.out _ c.in_ok-write_mark-6.ensures)
+    (mark m 64 (codes "pushnum") from_reinscription bracket (value c.write_mark-6.new.out c.write_mark-7.new.out _ c.in_ok-write_mark-7.ensures)
+    (mark m 128 (codes "reinscription") none bracket (value c.write_mark-7.new.out c.write_mark-8.new.out _ c.in_ok-write_mark-8.ensures) (token c.in_ok-end_array.ensures))))))))))
