@@ -8,7 +8,8 @@ use Rattle.ox_outside.specs.Event.{Event, has_ended, heard_bytes, shown_bytes}
 use Rattle.ox_outside.specs.Files.{Files}
 use Rattle.ox_outside.proofs.Event.{shown_bytes-append}
 use Rattle.ox_feed.specs.Feed.{Feed, FeedLine, Hears, Listens, lines_from}
-use Rattle.ox_files.specs.Moments.{acknowledgements_in, count, lines_in, moments, acknowledgements}
+use Rattle.ox_files.specs.Moments.{acknowledgements_in, count, lines_in, moments}
+use Rattle.ox_outside.specs.Shown.{acknowledgements}
 use Rattle.ox_model.specs.Replies.{after_on, after_turn, index_on, replies_on, reply_by}
 use Rattle.ox_model.specs.Stack.{Stack, turn_on}
 use Rattle.ox_files.specs.Stands.{stands}

@@ -21,7 +21,8 @@ use Rattle.ox_files.specs.Moments.{count, lines_in}
 use Rattle.ox_model.specs.Replies.{after, replies}
 use Rattle.ox_model.specs.Stack.{Stack}
 use Rattle.ox_files.specs.Stands.{Misfit, stands}
-pub use Rattle.ox_files.specs.Survives.{IsFrontOf, Survives}
+pub use Rattle.ox_files.specs.Survives.{Survives}
+pub use Rattle.ox_outside.specs.Shown.{IsFrontOf}
 use Rattle.ox_outside.specs.Runs.{LeavesOnly}
 use Rattle.ox_app.specs.declared.status.Status.{Status}
 use Rattle.ox_app.specs.declared.status.Status.TheVariants.{Done, TooMuch}

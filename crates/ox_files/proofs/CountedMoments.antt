@@ -6,7 +6,8 @@ use Rattle.std.specs.List.{concat}
 use Rattle.std.proofs.lemmas.Bool.{le-leb, lt-leb}
 use Rattle.std.proofs.lemmas.List.{append-nil}
 use Rattle.std.proofs.lemmas.List.Elements.{All-head, All-tail}
-use Rattle.ox_files.specs.Moments.{moments, acknowledgements}
+use Rattle.ox_files.specs.Moments.{moments}
+use Rattle.ox_outside.specs.Shown.{acknowledgements}
 
 abbrev pub HasByte : List ℕ → Type 0
 HasByte answer = 0 < length answer

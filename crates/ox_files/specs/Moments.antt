@@ -3,6 +3,7 @@
 -- answers before its own are wholly shown.
 use Rattle.std.specs.Prelude.{ℕ, suc, List, [], ◌∷◌, length, drop, nat_le, if◌then◌else◌}
 use Rattle.ox_outside.specs.Event.{Event, heard_bytes, shown_bytes, has_ended}
+use Rattle.ox_outside.specs.Shown.{acknowledgements}
 use Rattle.ox_feed.specs.Feed.{FeedLine, lines_of}
 
 -- the lines that stand whole in what a run has heard on channel 0
@@ -17,13 +18,6 @@ moments (answer ∷ answers) shown =
     suc
     (if nat_le (length answer) (length shown)
     then moments answers (drop (length answer) shown) else 0)
-
--- with these answers, of how many a byte is shown
-unfoldable pub acknowledgements : List (List ℕ) → List ℕ → ℕ
-acknowledgements answers [] = 0
-acknowledgements [] (b ∷ shown) = 0
-acknowledgements (answer ∷ answers) (b ∷ shown) =
-    suc (acknowledgements answers (drop (length answer) (b ∷ shown)))
 
 -- the number of commands, accepted or refused, whose moment is in a log
 abbrev pub count : List (List ℕ) → List Event → ℕ

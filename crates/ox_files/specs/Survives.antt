@@ -3,14 +3,11 @@ use Rattle.std.specs.Prelude.{◌≡◌, ◌⊎◌, ℕ, suc, ◌≤◌, List, �
 use Rattle.std.specs.List.{concat}
 use Rattle.ox_outside.specs.Event.{Event, shown_bytes}
 use Rattle.ox_outside.specs.Files.{Files}
+use Rattle.ox_outside.specs.Shown.{IsFrontOf}
 use Rattle.ox_feed.specs.Feed.{FeedLine}
 use Rattle.ox_files.specs.Moments.{acknowledgements_in, count, lines_in}
 use Rattle.ox_model.specs.Stack.{Stack}
 use Rattle.ox_files.specs.Stands.{stands}
-
--- these bytes begin all of those
-abbrev pub IsFrontOf : List ℕ → List ℕ → Type 0
-IsFrontOf front whole = (rest : List ℕ) × (front ++ rest ≡ whole)
 
 -- Files that survive these events of a run whose lines have these answers and lead to these stacks.
 pub record Survives (answers : List FeedLine → List (List ℕ)) (leads : List FeedLine → Stack)

@@ -4,7 +4,7 @@ use Rattle.std.proofs.lemmas.List.{append-nil}
 use Rattle.ox_outside.specs.Event.{Event, GaveUp, channel_of}
 use Rattle.ox_links.specs.Link.{Answer}
 use Rattle.ox_links.specs.Serving.{Server, Serving, answer_at, with_answer, with_event, after_event, serve_on, gives_up}
-use Rattle.ox_links.specs.Shown.{IsFrontOf}
+use Rattle.ox_outside.specs.Shown.{IsFrontOf}
 
 chosen : (b x y : Bool) → x ≡ y → (if b then false else x) ≡ (if b then false else y)
 chosen true x y is = refl

@@ -9,7 +9,7 @@ use Rattle.ox_http.specs.Talk.{talk}
 use Rattle.ox_http.proofs.Computed.{http_on_literals}
 use Rattle.ox_links.specs.Counted.{requests_in, hits_in}
 use Rattle.ox_links.specs.Link.{Answer, answers_to, reply_bytes, is_over}
-use Rattle.ox_links.specs.Shown.{acknowledgements}
+use Rattle.ox_outside.specs.Shown.{acknowledgements}
 use Rattle.ox_links.specs.Survives.{Survives}
 use Rattle.ox_links.specs.Serving.{answer_of, Server, commands_in, served_by, state_after}
 use Rattle.ox_links.proofs.Toy.{toy, ran, bytes_to, pages}

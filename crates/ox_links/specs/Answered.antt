@@ -5,7 +5,7 @@ use Rattle.std.specs.List.{AllPairs}
 use Rattle.ox_outside.specs.Event.{Event, heard_bytes, has_given_up}
 use Rattle.ox_http.specs.Talk.{Message}
 use Rattle.ox_links.specs.Link.{Answer, answers_to, all_shown, is_operators}
-use Rattle.ox_links.specs.Shown.{IsFrontOf}
+use Rattle.ox_outside.specs.Shown.{IsFrontOf}
 use Rattle.ox_links.specs.Serving.{Server, message_reply, message_command, next_state, state_after}
 use Rattle.ox_links.specs.Serving.{commands_in, accepted_in}
 

@@ -3,7 +3,6 @@ pub mod Serving
 pub mod Rotation
 pub mod Turned
 pub mod Counted
-pub mod Shown
 pub mod Survives
 pub mod GoesOn
 pub mod Answered

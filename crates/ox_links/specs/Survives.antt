@@ -3,7 +3,7 @@ use Rattle.std.specs.Prelude.{◌≡◌, ◌⊎◌, ℕ, suc, ◌≤◌, List, t
 use Rattle.ox_outside.specs.Event.{Event, shown_bytes}
 use Rattle.ox_outside.specs.Files.{Files}
 use Rattle.ox_links.specs.Link.{Answer, answers_to, reply_bytes}
-use Rattle.ox_links.specs.Shown.{IsFrontOf, acknowledgements}
+use Rattle.ox_outside.specs.Shown.{IsFrontOf, acknowledgements}
 use Rattle.ox_links.specs.Serving.{Server, served_by, commands_in, state_after}
 
 -- the answers to a link of which a byte is shown

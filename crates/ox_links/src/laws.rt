@@ -10,7 +10,7 @@ ghost use Rattle.ox_links.specs.Link.{Answer, all_shown, answers_to, asked_now};
 ghost use Rattle.ox_links.specs.Quiet.{Speaks};
 ghost use Rattle.ox_links.specs.Serving.{Server, Serving, accepted_in, after_event, commands_in};
 ghost use Rattle.ox_links.specs.Serving.{serve_on, served_by, state_after};
-ghost use Rattle.ox_links.specs.Shown.{IsFrontOf};
+ghost use Rattle.ox_outside.specs.Shown.{IsFrontOf};
 ghost use Rattle.ox_links.specs.Turned.{AreTurns, Turn, logged_by};
 
 /// States of one server that stand for those of another with the same commands. It has ghost

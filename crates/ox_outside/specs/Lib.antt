@@ -6,3 +6,4 @@ pub mod Event
 pub mod Files
 pub mod Log
 pub mod Runs
+pub mod Shown
