@@ -103,21 +103,34 @@ impl Live {
         ensures profile { profile_in self.new ≡ profile_in self.old }
     {
         self.forget();
+        self.read_in(bytes)
+    }
+
+    // Reads a block and takes it in, where no mark is left.
+    fn read_in(&mut self, bytes: &[u8]) -> Result<Change, ConnectFault>
+        requires none { self.old.marked ≡ None }
+        ensures ok { OnOk result
+            (step (profile_in self.old) (index_in self.old) bytes.now ≡ Ok (index_in self.new)) }
+        ensures change { IfOk result (IsChange (index_in self.old) (index_in self.new)) }
+        ensures refused { IfErr result
+            (λ fault. Refuses fault (step (profile_in self.old) (index_in self.old) bytes.now)) }
+        ensures err { OnErr result (index_in self.new ≡ index_in self.old) }
+        ensures mark { OnOk result (marked_in self.new ≡ Some (index_in self.old)) }
+        ensures no_mark { OnErr result (marked_in self.new ≡ None) }
+        ensures profile { profile_in self.new ≡ profile_in self.old }
+    {
         let block = read_block(self.alloc, bytes)?;
         let ids = admit(self.alloc, &self.parts.profile, self.hashes(), &block)?;
         self.take_in(&block, &ids)
     }
 
-    // Takes in a block that is admitted, where no mark is left, and answers what it changed. The
-    // fault is that of the first satoshis that can't be moved.
+    // Takes in a block that is admitted, and answers what it changed. The fault is that of the
+    // first satoshis that can't be moved.
     fn take_in(&mut self, block: &Block, ids: &Txids) -> Result<Change, ConnectFault>
         requires lawful { Lawful block.now }
         requires ids { ids.now ≡ map txid block.now.txs }
         requires admitted { admission (profile_in self.old) (index_in self.old).hashes block.now
             ≡ Ok tt }
-        requires none { self.old.marked ≡ None }
-        requires blocks { length self.old.hashes.items ≡ self.old.shown.blocks }
-        requires lost { length self.old.lost ≡ self.old.shown.lost }
         ensures ok { OnOk result (index_after (profile_in self.old) (index_in self.old) block.now
             ≡ Ok (index_in self.new)) }
         ensures change { IfOk result (IsChange (index_in self.old) (index_in self.new)) }
@@ -128,6 +141,7 @@ impl Live {
         ensures no_mark { OnErr result (marked_in self.new ≡ None) }
         ensures profile { profile_in self.new ≡ profile_in self.old }
     {
+        self.forget();
         self.hashes.reserve(1)?;
         let before = self.shown;
         let change = self.parts.take_in(block, ids, before.blocks as u32)?;

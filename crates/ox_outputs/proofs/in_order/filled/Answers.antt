@@ -15,7 +15,7 @@ loop-slot-preserved-in-Continue-branch-2 c = (
   tt,
   tt,
   one_more_row c.loop-slot.rows.items c.push.new.self.items c.rank.result c.in-Some.slot.now c.in-Some.field-0-0 c.loop-slot.slot-iterator c.next.new.self _
-  c.in_ok-push.ensures.items c.rank.ensures (sym c.is_some.ensures ∙ c.if-is_some.true) c.in-Some.ensures.steps c.loop-slot.invariant.2,
+      c.in_ok-push.ensures.items c.rank.ensures (sym c.is_some.ensures ∙ c.if-is_some.true) c.in-Some.ensures.steps c.loop-slot.invariant.2,
 )
 
 pub loop-slot-preserved : goal.loop-slot-preserved
@@ -23,7 +23,7 @@ loop-slot-preserved c = (
   tt,
   tt,
   none_more_row c.loop-slot.rows.items c.in-Some.slot.now c.in-Some.field-0-0 c.loop-slot.slot-iterator c.next.new.self _
-  (sym c.is_some.ensures ∙ c.if-is_some.false) c.in-Some.ensures.steps c.loop-slot.invariant.2,
+      (sym c.is_some.ensures ∙ c.if-is_some.false) c.in-Some.ensures.steps c.loop-slot.invariant.2,
 )
 
 pub returns : goal.returns

@@ -7,7 +7,7 @@ use Rattle.ox_rules.specs.declared.refusal.Refusal.{Refusal}
 use Rattle.ox_index.specs.Fault.{Refuses}
 use Rattle.ox_index.specs.Live.{index_in}
 use Rattle.ox_index.proofs.Steps.{step_unread, step_unadmitted, step_read}
-use Rattle.ox_index.proofs.live.Live.connect.Goals as goal
+use Rattle.ox_index.proofs.live.Live.read_in.Goals as goal
 
 pub returns-in_err-block-clause-refused : goal.returns-in_err-block-clause-refused
 returns-in_err-block-clause-refused c =
