@@ -56,8 +56,8 @@ fn is_numbered(shelf: &Shelf, n: u32, number: i64) -> bool {
 
 /// Whether these are the numbers of all rows.
 fn are_numbered(shelf: &Shelf, numbers: &[i64]) -> bool {
-    for (n, number) in numbers.iter().enumerate() {
-        if !is_numbered(shelf, n as u32, *number) {
+    for (n, number) in (0..shelf.len()).zip(numbers.iter()) {
+        if !is_numbered(shelf, n, *number) {
             return false;
         }
     }

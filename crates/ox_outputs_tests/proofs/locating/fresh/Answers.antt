@@ -3,4 +3,4 @@ use Rattle.ox_outputs_tests.proofs.Rising.{none_hold_any}
 use Rattle.ox_outputs_tests.proofs.locating.fresh.Goals as goal
 
 pub returns : goal.returns
-returns c = none_hold_any (rows_in c.new.result) 0 c.new.ensures
+returns c = none_hold_any (rows_in c.new.result) 0 c.new.ensures.rows

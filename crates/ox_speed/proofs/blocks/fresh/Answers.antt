@@ -7,4 +7,4 @@ use Rattle.ox_transfer.proofs.Once.{empty_once}
 use Rattle.ox_speed.proofs.blocks.fresh.Goals as goal
 
 pub returns : goal.returns
-returns c = subst (HoldsOnce (first_at (profile_named Regtest) 0)) (sym c.new.ensures) (empty_once (first_at (profile_named Regtest) 0))
+returns c = subst (HoldsOnce (first_at (profile_named Regtest) 0)) (sym c.new.ensures.rows) (empty_once (first_at (profile_named Regtest) 0))
