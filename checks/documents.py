@@ -11,7 +11,8 @@ tells each line
 2. that names a crate which crates.txt doesn't, and each crate without a page, or whose page begins
    with another sentence than its root;
 3. of a table with a column 'Carried by', that has a word which stands nowhere in the crate or in
-   one below it, or a clause that isn't in the contract of the function that is named;
+   one below it, or a clause that isn't in the contract of the function that is named, and in
+   docs/PROMISES.md a clause that `run` doesn't have;
 4. with a command whose folder, script, verb of rt, subcommand or profile isn't there, or with a
    route or a status that isn't;
 5. with a link that leads nowhere, or a quoted section that isn't in the document;
@@ -263,8 +264,23 @@ def named_clauses(part):
     return owners, [word for word in quoted(split[1]) if re.fullmatch(r"[a-z_]\w*", word)]
 
 
+def run_clauses(repository):
+    """The words of PROMISES' column of clauses that no clause of `run` has."""
+    known = repository.contracts("ox_app")["run"]
+    for number, line in repository.lines("docs/PROMISES.md"):
+        if line.startswith("**Runs.**"):
+            named = quoted(line)
+        else:
+            cells = line.split("|")
+            named = quoted(cells[2]) if len(cells) == 5 and "[" in cells[3] else []
+        for clause in named:
+            if clause not in known:
+                yield "docs/PROMISES.md", number, f"`run` has no clause `{clause}`"
+
+
 def clauses(repository):
     """Rule 3."""
+    yield from run_clauses(repository)
     for name in repository.pages():
         crate = crate_of(name)
         below = repository.below(crate)
