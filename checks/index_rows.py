@@ -3,7 +3,7 @@
 
     checks/index_rows.py
 
-It makes blocks by docs/FORMATS.md and writes down what indexes have to hold after them, with Python's standard library
+It makes blocks by docs/RULES.md and writes down what indexes have to hold after them, with Python's standard library
 alone. What is looked up of inscriptions and runes, as the first with an id, it looks up in these lists by itself. The rows
 that ask a chain, as requests do, are those of checks/query_rows.py.
 """

@@ -1,7 +1,7 @@
 """The rows of crates/ox_index_rows that ask a chain, and what has to be printed for them. checks/index_rows.py writes them.
 
-It makes blocks by docs/FORMATS.md and writes down what they have to be replied, with Python's standard library alone.
-Where a reply names a satoshi, its notations are reckoned here. It knows hashes, ids and names that were reckoned before the
+It makes blocks by docs/RULES.md and writes down what they have to be replied by docs/FORMATS.md, with Python's standard
+library alone. Where a reply names a satoshi, its notations are reckoned here. It knows hashes, ids and names that were reckoned before the
 library answered any request, which it writes down as they are.
 """
 

@@ -3,9 +3,10 @@
 
     checks/store_rows.py
 
-Blocks, the two files, what a crash leaves of them and what they stand for are told by docs/FORMATS.md, on their own.
-What FORMATS doesn't say and the rows go by: opening syncs A and B, in this order, and then reads; making asks for both
-lengths, writes B, syncs it, writes A's first byte and the others, syncs A, writes its gate and syncs it.
+Blocks are told by docs/RULES.md, and the two files, what a crash leaves of them and what they stand for by
+docs/FORMATS.md, on their own. What these don't say and the rows go by: opening syncs A and B, in
+this order, and then reads; making asks for both lengths, writes B, syncs it, writes A's first byte
+and the others, syncs A, writes its gate and syncs it.
 """
 
 import pathlib

@@ -1,0 +1,501 @@
+#!/usr/bin/env python3
+"""Looks whether what the documents say is there.
+
+    python3 checks/documents.py [--selftest]
+
+reads the documents (README.md, CONTRIBUTING.md, docs/, bench/README.md and each crate's page) and
+tells each line
+
+1. whose path in backquotes isn't there: from the top, below crates/, on a page below its crate, or
+   beside the path before it;
+2. that names a crate which crates.txt doesn't, and each crate without a page, or whose page begins
+   with another sentence than its root;
+3. of a table with a column 'Carried by', that has a word which stands nowhere in the crate or in
+   one below it, or a clause that isn't in the contract of the function that is named, and in
+   docs/PROMISES.md a clause that `run` doesn't have;
+4. with a command whose folder, script, verb of rt, subcommand or profile isn't there, or with a
+   route or a status that isn't;
+5. with a link that leads nowhere, or a quoted section that isn't in the document;
+6. with a number that restates a constant and differs, and each document that is over its size;
+7. with a sum of the kit's logic that isn't that of `rt version` (another name of the kit is noted);
+8. of Python that passes 100 columns, where the script isn't among those that still do.
+
+The last line says how many lines were told. The status is 1 where there are any. With --selftest it
+puts one wrong line for each of the eight into a copy in memory, and says whether each is told.
+It reads files alone, but for `rt help` and `rt version`, and takes seconds.
+"""
+
+import pathlib
+import re
+import shutil
+import subprocess
+import sys
+
+TOP = pathlib.Path(__file__).resolve().parents[1]
+
+# how many bytes a document may have
+SIZES = {"README.md": 8_000, "docs/PROMISES.md": 4_000, "docs/DECISIONS.md": 20_000}
+PAGE_SIZE = 4_096
+
+# files that are somebody else's, or that a store or a build makes
+OTHERS = {"src/script/script.cpp", "chainparams.cpp", "crates/ox_main/out/ox_main"}
+FOLDERS = ("crates", "docs", "checks", "bench", "feeds", ".ci", "tools")
+KINDS = (".rt", ".antt", ".py", ".md", ".c", ".edit", ".feed", ".txt", ".cpp")
+
+# Numbers that restate a constant: where it stands in the code, and how documents say it.
+CONSTANTS = [
+    ("ox_block/src/read.rt", "MOST_BYTES: usize =", r"at most ([\d,]+) bytes in all"),
+    ("ox_block/src/read.rt", "MOST_BYTES: usize =", r"largest block, ([\d,]+) bytes"),
+    ("ox_feed/src/held.rt", "LINE_LIMIT: usize =", r"line (?:of|has) more than ([\d,]+) bytes"),
+    ("ox_app/src/subcommand.rt", "number <=", r"taken back, from 1 to ([\d,]+)"),
+    ("ox_app/src/fold.rt", "DEPTH: u16 =", r"`fold` keeps ([\d,]+)"),
+    ("ox_gated/src/layout.rt", "BODY_AT: usize =", r"`body_at` ([\d,]+)"),
+    ("ox_http/src/reader.rt", "HEAD_LIMIT: usize =", r"first ([\d,]+) bytes hold no whole"),
+    ("ox_http/src/reader.rt", "BODY_LIMIT: usize =", r"where the length is above ([\d,]+)"),
+]
+
+# scripts that still have lines of more than 100 columns
+LONG = {
+    "bench/address.py",
+    "bench/allocation.py",
+    "bench/apply_and_open.py",
+    "bench/blocks.py",
+    "bench/decipher_runestones.py",
+    "bench/find_envelopes.py",
+    "bench/fold_blocks.py",
+    "bench/fold_feed.py",
+    "bench/index_blocks.py",
+    "bench/inscriptions.py",
+    "bench/query.py",
+    "bench/read_block.py",
+    "bench/runes.py",
+    "bench/runs.py",
+    "bench/undo.py",
+    "checks/address_rows.py",
+    "checks/all_tests.py",
+    "checks/block_rows.py",
+    "checks/chain.py",
+    "checks/envelope_rows.py",
+    "checks/failing_allocations.py",
+    "checks/http_rows.py",
+    "checks/index_rows.py",
+    "checks/kills.py",
+    "checks/query_rows.py",
+    "checks/real_files.py",
+    "checks/rows.py",
+    "checks/store_rows.py",
+    "checks/table.py",
+}
+
+# verbs of rt, where there is no kit to ask
+VERBS = {"ci", "check", "doc", "fmt", "help", "must-fail", "plant", "run", "test", "tidy", "try"}
+VERBS |= {"all", "expand", "lemma", "lib", "new", "verdict", "version"}
+
+
+class Repository:
+    """What is read: the files, with some of them changed where a test wants that."""
+
+    def __init__(self, changed=None):
+        self.changed = changed or {}
+        self.kept = {}
+
+    def text(self, name):
+        if name in self.changed:
+            return self.changed[name]
+        if name not in self.kept:
+            self.kept[name] = (TOP / name).read_text()
+        return self.kept[name]
+
+    def there(self, name):
+        return name in self.changed or (TOP / name).exists()
+
+    def lines(self, name):
+        return list(enumerate(self.text(name).split("\n"), 1))
+
+    def crates(self):
+        """Each crate with the crates of the repository that it names."""
+        found = {}
+        for line in self.text("crates.txt").splitlines():
+            if line.strip() and not line.startswith("#"):
+                name, below = line.split(":", 1)
+                found[name.split()[0]] = [word for word in below.split() if word.startswith("ox_")]
+        return found
+
+    def pages(self):
+        names = [f"crates/{crate}/README.md" for crate in self.crates()]
+        return [name for name in names if self.there(name)]
+
+    def documents(self):
+        docs = sorted(f"docs/{path.name}" for path in (TOP / "docs").glob("*.md"))
+        return ["README.md", "CONTRIBUTING.md", *docs, "bench/README.md", *self.pages()]
+
+    def sources(self, crate, *folders):
+        kept = ("sources", crate, folders)
+        if kept not in self.kept:
+            paths = [
+                path
+                for folder in folders
+                for kind in ("*.rt", "*.antt")
+                for path in sorted((TOP / "crates" / crate / folder).rglob(kind))
+            ]
+            self.kept[kept] = [path.read_text() for path in paths]
+        return self.kept[kept]
+
+    def below(self, crate):
+        """A crate and all that it stands on."""
+        crates, found, rest = self.crates(), [], [crate]
+        while rest:
+            name = rest.pop()
+            if name not in found:
+                found.append(name)
+                rest += crates.get(name, [])
+        return found
+
+    def words(self, crate):
+        """Every word of a crate's sources."""
+        kept = ("words", crate)
+        if kept not in self.kept:
+            texts = self.sources(crate, "src", "specs", "proofs")
+            self.kept[kept] = {word for text in texts for word in re.findall(r"[A-Za-z_]\w*", text)}
+        return self.kept[kept]
+
+    def contracts(self, crate):
+        """The clauses of each function of a crate, those of functions of one name together."""
+        kept = ("contracts", crate)
+        if kept not in self.kept:
+            found = {}
+            for text in self.sources(crate, "src"):
+                for part in re.split(r"(?=\bfn [a-z_]\w*)", text)[1:]:
+                    name = re.match(r"fn (\w+)", part)[1]
+                    contract = re.split(r"\n\s*\{\}?\s*\n|;\n\n", part, maxsplit=1)[0]
+                    names = re.findall(r"(?:ensures|requires) (\w+) *\{", contract)
+                    found.setdefault(name, set()).update(names)
+            self.kept[kept] = found
+        return self.kept[kept]
+
+
+def quoted(line):
+    """What stands in backquotes."""
+    return re.findall(r"`([^`]+)`", line)
+
+
+def crate_of(name):
+    """The crate whose page this is."""
+    parts = name.split("/")
+    return parts[1] if parts[0] == "crates" else None
+
+
+def is_path(word):
+    if not re.fullmatch(r"\.?[\w-]+(?:[./][\w*-]+)*/?", word) or word in OTHERS:
+        return False
+    if re.search(r"NAME|FOLDER|X_", word) or word in ("src/", "specs/", "proofs/", "must-fail/"):
+        return False
+    first = word.split("/")[0]
+    inside = first in FOLDERS + ("src", "specs", "proofs", "must-fail") or first.startswith("ox_")
+    return word.endswith(KINDS) or ("/" in word and inside)
+
+
+def paths(repository):
+    """Rule 1."""
+    for name in repository.documents():
+        crate, beside = crate_of(name), None
+        for number, line in repository.lines(name):
+            plain = re.findall(r"\b(?:docs|checks|bench)/\w+\.(?:md|py)\b", line)
+            for word in filter(is_path, [*quoted(line), *plain]):
+                places = [word, f"crates/{word}"]
+                places += [f"crates/{crate}/{word}"] if crate else []
+                places += [f"{beside}/{word}"] if beside and "/" not in word else []
+                place = next((place for place in places if any(TOP.glob(place.strip("/")))), None)
+                if place is None:
+                    yield name, number, f"there is no `{word}`"
+                elif not (TOP / place).is_dir():
+                    beside = place.rpartition("/")[0]
+
+
+def root_sentence(repository, crate):
+    """The first paragraph of a crate's root."""
+    root = f"crates/{crate}/src/lib.rt"
+    if not repository.there(root):
+        root = f"crates/{crate}/src/main.rt"
+    lines = []
+    for line in repository.text(root).split("\n"):
+        if not line.startswith("//! "):
+            break
+        lines.append(line[4:])
+    return " ".join(lines)
+
+
+def crates(repository):
+    """Rule 2."""
+    known = repository.crates()
+    for name in repository.documents():
+        for number, line in repository.lines(name):
+            for word in re.findall(r"\box_[a-z]\w*", line):
+                if word not in known:
+                    yield name, number, f"crates.txt has no {word}"
+    for crate in known:
+        page = f"crates/{crate}/README.md"
+        if not repository.there(page):
+            yield page, 1, "the crate has no page"
+        elif repository.text(page).split("\n")[0] != root_sentence(repository, crate):
+            yield page, 1, "the page doesn't begin as the crate's root"
+
+
+def carried_by(repository, name):
+    """The cells of a page's columns 'Carried by'."""
+    column = None
+    for number, line in repository.lines(name):
+        cells = [cell.strip() for cell in re.split(r"(?<!\\)\|", line)[1:-1]]
+        if "Carried by" in cells:
+            column = cells.index("Carried by")
+        elif not cells:
+            column = None
+        elif column is not None and column < len(cells) and not cells[column].startswith("---"):
+            yield number, cells[column]
+
+
+def named_clauses(part):
+    """The functions or types, and the clauses of theirs, that a part of a cell names."""
+    part = re.sub(r"\([^)]*\)", "", part)
+    split = re.split(r":(?![^`]*`(?:[^`]*`[^`]*`)*[^`]*$)|, clauses? ", part, maxsplit=1)
+    if len(split) == 1:
+        return [], []
+    owners = [word.split("::")[-1] for word in quoted(split[0])]
+    return owners, [word for word in quoted(split[1]) if re.fullmatch(r"[a-z_]\w*", word)]
+
+
+def run_clauses(repository):
+    """The words of PROMISES' column of clauses that no clause of `run` has."""
+    known = repository.contracts("ox_app")["run"]
+    for number, line in repository.lines("docs/PROMISES.md"):
+        if line.startswith("**Runs.**"):
+            named = quoted(line)
+        else:
+            cells = line.split("|")
+            named = quoted(cells[2]) if len(cells) == 5 and "[" in cells[3] else []
+        for clause in named:
+            if clause not in known:
+                yield "docs/PROMISES.md", number, f"`run` has no clause `{clause}`"
+
+
+def clauses(repository):
+    """Rule 3."""
+    yield from run_clauses(repository)
+    for name in repository.pages():
+        crate = crate_of(name)
+        below = repository.below(crate)
+        words = set().union(*(repository.words(lower) for lower in below))
+        for number, cell in carried_by(repository, name):
+            for word in quoted(cell):
+                if not is_path(word):
+                    for part in re.findall(r"[A-Za-z_]\w*", word):
+                        if part not in words:
+                            yield name, number, f"`{part}` stands nowhere in {crate} or below"
+            for part in cell.split(";"):
+                owners, named = named_clauses(part)
+                for owner in owners:
+                    for clause in named:
+                        if not has_clause(repository, below, owner, clause):
+                            yield name, number, f"`{owner}` has no clause `{clause}`"
+
+
+def has_clause(repository, below, owner, clause):
+    """Whether a function, or a type, trait or record, has a clause, fact or field of this name."""
+    found = [repository.contracts(crate).get(owner) for crate in below]
+    if any(names is not None for names in found):
+        return any(names and clause in names for names in found)
+    for crate in below:
+        for text in repository.sources(crate, "src", "specs", "proofs"):
+            if re.search(rf"\b(?:struct|trait|enum|record|for) {owner}\b", text):
+                if re.search(rf"\b{clause}\b", text):
+                    return True
+    return not owner[:1].isupper() and any(clause in repository.words(crate) for crate in below[:1])
+
+
+def verbs():
+    """The verbs of rt."""
+    if shutil.which("rt") is None:
+        return VERBS
+    out = {"stdout": subprocess.PIPE, "stderr": subprocess.STDOUT, "text": True}
+    told = subprocess.run(["rt", "help"], **out).stdout
+    named = re.findall(r"^(?:usage:)? *rt ([a-z|-]+)", told, re.M)
+    found = {verb for words in named for verb in words.split("|")}
+    return found | VERBS if found else VERBS
+
+
+def commands_in(repository, name):
+    """The commands of a document: those in backquotes and those of indented lines."""
+    for number, line in repository.lines(name):
+        found = quoted(line) + ([line.strip()] if line.startswith("    ") else [])
+        for command in found:
+            for part in re.split(r"&&|[()]|;", command):
+                if re.match(r"(?:rt|cd|python3|ox_main) ", part.strip()):
+                    yield number, part.strip()
+
+
+def commands(repository):
+    """Rule 4."""
+    known, program = verbs(), repository.text("crates/ox_app/src/subcommand.rt")
+    subcommands = set(re.findall(r'b"([a-z]+)"', program))
+    profiles = set(re.findall(r'=> "([a-z]+)"', repository.text("crates/ox_sat/src/profiles.rt")))
+    routes = set(re.findall(r'=> "(/[a-z]+/?)"', repository.text("crates/ox_routes/src/route.rt")))
+    codes = set(re.findall(r"Status::\w+ => (\d)", repository.text("crates/ox_app/src/status.rt")))
+    for name in repository.documents():
+        for number, command in commands_in(repository, name):
+            for wrong in wrong_words(repository, command.split(), known, subcommands, profiles):
+                yield name, number, wrong
+        for number, line in repository.lines(name):
+            for word in quoted(line):
+                route = re.match(r"/[a-z]+(?:/(?=.)|$)", word)
+                if route and route[0] not in routes and route[0] + "/" not in routes:
+                    if not (TOP / word.strip("/")).exists() and not word.startswith("/dev/"):
+                        yield name, number, f"there is no route {route[0]}"
+            for code in re.findall(r"\b(?:exit |with |by )?status (\d)\b", line):
+                if code not in codes:
+                    yield name, number, f"no run ends with status {code}"
+
+
+def wrong_words(repository, words, known, subcommands, profiles):
+    """What of a command isn't there."""
+    if words[0] == "cd" and not repository.there(words[1]):
+        yield f"there is no folder {words[1]}"
+    if words[0] == "python3" and not repository.there(words[1]):
+        if not re.search(r"NAME|^-", words[1]):
+            yield f"there is no script {words[1]}"
+    if words[0] == "rt" and re.fullmatch(r"[a-z-]+", words[1]) and words[1] not in known:
+        yield f"rt has no {words[1]}"
+    runs = re.search(r"(?:-- |ox_main )(?:\.|out|FOLDER) (\w+)(?: (\w+))?", " ".join(words))
+    if runs and runs[1] not in subcommands:
+        yield f"there is no subcommand {runs[1]}"
+    if runs and runs[1] in ("fold", "init") and runs[2] not in profiles | {"PROFILE"}:
+        yield f"there is no profile {runs[2]}"
+
+
+def headings(repository, name):
+    return {line.lstrip("#").strip() for _, line in repository.lines(name) if line.startswith("#")}
+
+
+def bold(repository, name):
+    return set(re.findall(r"\*\*([^*]+?)\.?\*\*", repository.text(name)))
+
+
+QUOTED = r"((?:README|CONTRIBUTING|docs/\w+|bench/README)\.md), '((?:[^'\n]|'s )+)'"
+
+
+def links(repository):
+    """Rule 5."""
+    for name in repository.documents():
+        here = pathlib.PurePosixPath(name).parent
+        for number, line in repository.lines(name):
+            for target in re.findall(r"\]\(([^)#]+)(?:#[^)]*)?\)", line):
+                if not target.startswith("http") and not (TOP / here / target).exists():
+                    yield name, number, f"the link to {target} leads nowhere"
+            for target, section in re.findall(QUOTED, line):
+                if not repository.there(target):
+                    yield name, number, f"there is no {target}"
+                elif section not in headings(repository, target):
+                    yield name, number, f"{target} has no section '{section}'"
+            for section in re.findall(r"\('([A-Z][^'()]+)'\)", line):
+                if section not in headings(repository, name) | bold(repository, name):
+                    yield name, number, f"there is no section '{section}' here"
+
+
+def sizes(repository):
+    """Rule 6."""
+    for name in repository.documents():
+        most = PAGE_SIZE if crate_of(name) else SIZES.get(name)
+        size = len(repository.text(name).encode())
+        if most is not None and size > most:
+            yield name, 1, f"it has {size} bytes, of at most {most}"
+    for source, constant, said in CONSTANTS:
+        source = f"crates/{source}"
+        found = re.search(re.escape(constant) + r" ([\d_]+)", repository.text(source))
+        if found is None:
+            yield source, 1, f"there is no `{constant}`"
+            continue
+        value = int(found[1].replace("_", ""))
+        for name in repository.documents():
+            for number, line in repository.lines(name):
+                for text in re.findall(said, line):
+                    if int(text.replace(",", "")) != value:
+                        yield name, number, f"{text} is {value} in {source}"
+
+
+def logic(repository):
+    """Rule 7."""
+    if shutil.which("rt") is None:
+        return
+    told = subprocess.run(["rt", "version"], stdout=subprocess.PIPE, text=True).stdout.split()
+    kit, there = told[0], told[-1]
+    for number, line in repository.lines("README.md"):
+        for said in re.findall(r"logic `([0-9a-f]+)`", line):
+            if said != there:
+                yield "README.md", number, f"the kit's logic is {there}, and no {said}"
+        for said in re.findall(r"`(rattle-kit-\w+)`", line):
+            if said != kit:
+                print(f"note: README.md names {said}, and {kit} is here")
+
+
+def columns(repository):
+    """Rule 8."""
+    names = [
+        str(path.relative_to(TOP))
+        for folder in ("bench", "checks", "tools")
+        for path in (TOP / folder).glob("*.py")
+    ]
+    for name in sorted(names):
+        long = [number for number, line in repository.lines(name) if len(line) > 100]
+        if name in LONG and not long:
+            yield name, 1, "it has no line of more than 100 columns any more"
+        if name not in LONG:
+            for number in long:
+                yield name, number, "the line passes 100 columns"
+
+
+RULES = [paths, crates, clauses, commands, links, sizes, logic, columns]
+
+# for each rule a document and a wrong line
+WRONG = {
+    paths: ("docs/RULES.md", "See `ox_sat/src/nowhere.rt`."),
+    crates: ("docs/ARCHITECTURE.md", "See `ox_nothing`."),
+    clauses: (
+        "crates/ox_sat/README.md",
+        "\n| Promise | Carried by |\n|---|---|\n| a | `first`: `minted` |",
+    ),
+    commands: ("docs/OPERATING.md", "Try `rt run -- out follow regtest`."),
+    links: ("docs/OPERATING.md", "See docs/FORMATS.md, 'Nothing of the kind'."),
+    sizes: ("docs/RULES.md", "A block has at most 4,000,001 bytes in all."),
+    logic: ("README.md", "It is logic `0123456789abcdef`."),
+    columns: ("checks/documents.py", "#" * 101),
+}
+
+
+def selftest():
+    failed = 0
+    for rule in RULES:
+        name, line = WRONG[rule]
+        before = len(list(rule(Repository())))
+        changed = Repository({name: (TOP / name).read_text() + line + "\n"})
+        told = len(list(rule(changed))) == before + 1
+        failed += not told
+        print(f"{rule.__name__}: {'told' if told else 'not told: ' + line}")
+    print(f"{len(RULES) - failed} passed, {failed} failed")
+    return failed
+
+
+def main():
+    if sys.argv[1:] == ["--selftest"]:
+        sys.exit(selftest() != 0)
+    if sys.argv[1:]:
+        sys.exit(__doc__)
+    repository, told = Repository(), 0
+    for rule in RULES:
+        for name, number, cause in rule(repository):
+            print(f"{name}:{number}: {cause}")
+            told += 1
+    print(f"{told} told")
+    sys.exit(told != 0)
+
+
+if __name__ == "__main__":
+    main()
