@@ -1,6 +1,6 @@
--- What a transaction leaves at outpoints.
-use Rattle.std.proofs.Common.{◌≡◌, ◌≢◌, ◌∙◌, ◌<◌, ◌≤◌, ℕ, zero, suc, ◌+◌, Bool, true, false, true≢false, cond, List, [], ◌∷◌, ◌++◌, length, refl, sym, ap, subst, arith, Option, Some, None, Ordering}
-use Rattle.std.specs.Prelude.{Contains, map, slice_get, slice_index_or, unwrap_or, ◌==◌}
+-- What a transaction and a block leave at outpoints.
+use Rattle.std.proofs.Common.{◌≡◌, ◌≢◌, ◌∙◌, ◌<◌, ◌≤◌, ℕ, zero, suc, ◌+◌, Bool, true, false, true≢false, cond, List, [], ◌∷◌, ◌++◌, length, refl, sym, ap, arith, Option, Some, None, Ordering}
+use Rattle.std.specs.Prelude.{Contains, map, slice_get, unwrap_or, ◌==◌}
 use Rattle.std.specs.FinMap.{get, get-insert, get-remove, remove}
 use Rattle.std.specs.Ordering.{eq_by_cmp, is_eq}
 use Rattle.std.specs.declared.cmp.Ordering.TheVariants.{Less, Equal, Greater}
@@ -16,6 +16,8 @@ use Rattle.ox_block.specs.declared.block.Txid.{Txid}
 use Rattle.ox_runestone.specs.declared.stone.Artifact.{Artifact}
 use Rattle.ox_runestone.specs.declared.stone.Artifact.TheVariants.{Stone, Cenotaph}
 use Rattle.ox_runestone.specs.declared.stone.RuneId.{RuneId}
+use Rattle.ox_sat.specs.declared.profiles.Profile.{Profile}
+use Rattle.ox_rules.specs.declared.moved.MovedTx.{MovedTx}
 use Rattle.ox_rules.proofs.Orders.{outpoints_exact, outpoints_total}
 use Rattle.ox_rules.specs.Outputs.{outpoint_cmp}
 use Rattle.ox_rules.specs.declared.rows.OutRow.{OutRow}
@@ -23,8 +25,10 @@ use Rattle.ox_allocation.specs.Allocation.{Allocation, balances_from}
 use Rattle.ox_allocation.specs.Balances.{Balance}
 use Rattle.ox_allocation.specs.Gifts.{Gift}
 use Rattle.ox_etching.specs.Etched.{Spot}
-use Rattle.ox_ledger.specs.Leaves.{IsMade, IsSpent, LeavesAt, dealt_at}
-use Rattle.ox_ledger.specs.Runes.{BalanceMap, Brought, InHand, Placement, Runes, artifact_at, balances_at, brought_by, brought_of, burn, dealt_by, gathered_by, joined_with, place, place_all, placements, settled_by, turn, with_balances}
+use Rattle.ox_ledger.specs.Block.{turn_all, turn_at}
+use Rattle.ox_ledger.specs.Leaves.{IsMade, LeavesAt, LeavesLast, dealt_at, first_spot}
+use Rattle.ox_ledger.specs.Runes.{BalanceMap, Brought, InHand, Placement, Runes, artifact_at, balances_at, brought_by, brought_of, burn, dealt_by, end, gathered_by, joined_with, place, place_all, placements, settled_by, turn, with_balances}
+use Rattle.ox_ledger.proofs.Known.{place_all_due}
 
 -- ---- outpoints
 
@@ -216,4 +220,63 @@ module _ (at : Spot) (tx : Tx) (spent : List OutRow) (state : Runes) where
     coinbase = λ is.
         ap (λ (b : Bool). (cond b (record { bal = hand.bal; runes = burn dealt.burned hand.runes; due = state.due ++ placements at.txid 0 dealt.given }) turned).bal) (first at.tx is)
         ∙ ap (λ (b : Bool). (cond b (record { pool = []; bal = state.bal }) (brought_by tx.inputs state.bal [])).bal) (first at.tx is);
+  }
+
+-- ---- a block
+
+-- behind the coinbase no transaction changes what is due
+still_due : (at : Spot) (tx : Tx) (spent : List OutRow) (state : Runes) → at.tx ≢ 0 → (turn at tx spent state).due ≡ state.due
+still_due at tx spent state behind =
+    ap (λ (s : Runes). s.due) (turned_is at tx spent state behind)
+    ∙ place_all_due (in_midst state.due (hand at tx spent state) (dealt at tx spent state).burned) (placements at.txid 0 (dealt at tx spent state).given)
+
+all_due : (p : Profile) (height place : ℕ) (txs : List Tx) (moved : List MovedTx) (state : Runes) → 0 < place → (turn_all p height place txs moved state).due ≡ state.due
+unfolding turn_all
+all_due p height place [] moved state behind = refl
+all_due p height place (tx ∷ txs) [] state behind = refl
+all_due p height place (tx ∷ txs) (did ∷ moved) state behind =
+    all_due p height (place + 1) txs moved (turn_at p height place tx did state) (omega arith)
+    ∙ still_due (record { profile = p; height = height; tx = place; txid = did.txid }) tx did.spent state (λ is. omega (arith, is, behind))
+
+-- what is due to outputs from the first on
+record IsDue (txid : Txid) (given : List (List Balance)) (state : Runes) : Type 0 where
+  due : state.due ≡ placements txid 0 given
+
+end_is : (txid : Txid) (given : List (List Balance)) (state : Runes) → IsDue txid given state
+    → end state ≡ place_all (record { bal = state.bal; runes = state.runes; due = [] }) (placements txid 0 given)
+end_is txid given state is = ap (λ (new : List Placement). place_all (record { bal = state.bal; runes = state.runes; due = [] }) new) is.due
+
+module _ (p : Profile) (height : ℕ) (coinbase : Tx) (txs : List Tx) (did : MovedTx) (moved : List MovedTx) (state : Runes) (undue : state.due ≡ []) where
+  abbrev given : List (List Balance)
+  given = (dealt_at (first_spot p height did) coinbase did.spent state).given
+
+  abbrev last : Runes
+  last = turn_all p height 0 (coinbase ∷ txs) (did ∷ moved) state
+
+  is_due : IsDue did.txid given last
+  unfolding turn_all
+  is_due = record {
+    due = all_due p height 1 txs moved (turn (first_spot p height did) coinbase did.spent state) (omega arith)
+        ∙ ap (λ (due : List Placement). due ++ placements did.txid 0 given) undue;
+  }
+
+  abbrev ended : Runes
+  ended = place_all (record { bal = last.bal; runes = last.runes; due = [] }) (placements did.txid 0 given)
+
+  pub leaves_last : LeavesLast p height coinbase txs did moved state
+  leaves_last = record {
+    made = λ index balances there.
+        let none : index ≡ 0 + index = omega arith in
+        ap (λ (s : Runes). balances_at s.bal (record { txid = did.txid; index = index })) (end_is did.txid given last is_due)
+        ∙ ap (λ (n : ℕ). balances_at ended.bal (record { txid = did.txid; index = n })) none
+        ∙ placed did.txid 0 given (record { bal = last.bal; runes = last.runes; due = [] }) index balances there;
+    others = λ q apart.
+        ap (λ (s : Runes). get s.bal q) (end_is did.txid given last is_due)
+        ∙ stays did.txid 0 given (record { bal = last.bal; runes = last.runes; due = [] }) q
+        (λ k low high same. apart (
+          ap (λ (o : OutPoint). o.txid) same,
+          (let index = ap (λ (o : OutPoint). o.index) same in
+              let all = each (first_spot p height did) coinbase did.spent state in
+              omega (arith, index, high, all)),
+        ));
   }
