@@ -31,9 +31,9 @@ IsMade at tx o = (o.txid ≡ at.txid) × (o.index < length tx.outputs)
 
 -- What outpoints hold after a transaction at a place of its block.
 pub record LeavesAt (at : Spot) (tx : Tx) (spent : List OutRow) (state : Runes) : Type 0 where
-  -- to each output balances are dealt, if none at all
+  -- each output is dealt a list of balances, which may be empty
   pub each : length (dealt_at at tx spent state).given ≡ length tx.outputs
-  -- that output holds these
+  -- it holds these then
   pub made : at.tx ≢ 0 → (index : ℕ) (balances : List Balance)
       → slice_get (dealt_at at tx spent state).given index ≡ Some balances
       → balances_at (turn at tx spent state).bal (record { txid = at.txid; index = index })

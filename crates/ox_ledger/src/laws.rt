@@ -30,8 +30,8 @@ pub fn turns_add_mint_and_premine()
 
 /// After a transaction other than the coinbase each of its outputs holds what was dealt to it, what
 /// it spent holds nothing, and no other outpoint changes; a coinbase changes none before its
-/// block's end. Then each of its outputs holds what was dealt to it when the block began, where
-/// nothing was due before that; and no other outpoint changes by then (Runes specification,
+/// block's end. At that end each of its outputs holds what was dealt to it when the block began,
+/// where nothing was due before, and no other outpoint changes (Runes specification,
 /// "Transferring").
 pub fn turns_leave_outpoints()
     ensures turn { (at : Spot) (tx : Tx) (spent : List OutRow) (state : Runes)
