@@ -2,6 +2,7 @@ pub mod MoveLaws
 pub mod SightingLaws
 pub mod RowLaws
 pub mod PlaceLaws
+pub mod PointerLaws
 pub mod CountLaws
 pub mod ParentLaws
 pub mod NumberLaws

@@ -5,4 +5,5 @@ pub mod Reveal
 pub mod Scenes
 pub mod Moves
 pub mod Origins
+pub mod Standing
 pub mod Shelved

@@ -16,6 +16,7 @@ ghost use Rattle.ox_inscribe.specs.Origins.{AllRevealed, HasParents, IsPlaced, b
 ghost use Rattle.ox_inscribe.specs.Origins.{rows_before};
 ghost use Rattle.ox_inscribe.specs.Reveal.{reveal_of};
 ghost use Rattle.ox_inscribe.specs.Signed.{is_cursed, is_uncursed, number_at};
+ghost use Rattle.ox_inscribe.specs.Standing.{StandsWhereSaid};
 ghost use Rattle.ox_inscribe.specs.declared.row.InsRow.{InsRow};
 
 /// What a transfer tells of each transaction behind the coinbase: its id, one row for each input,
@@ -41,6 +42,15 @@ pub fn new_rows_are_on_their_inputs()
     ensures { (p : Profile) (height : ℕ) (txs : List Tx) (outs : Outputs) (after : Transferred)
         → transfer_of p height txs outs ≡ Ok after
         → (rows : List InsRow) → AllRevealed IsPlaced rows height txs after.moved.txs }
+{}
+
+/// A bound inscription is on the satoshi that its pointer names among all those of the inputs,
+/// where the outputs take that one. Else, and without a pointer, it is on the first satoshi of its
+/// own input (Ordinal Theory Handbook, "Inscriptions" and "Pointer").
+pub fn rows_stand_where_said()
+    ensures { (p : Profile) (height : ℕ) (txs : List Tx) (outs : Outputs) (after : Transferred)
+        → transfer_of p height txs outs ≡ Ok after
+        → (rows : List InsRow) → AllRevealed StandsWhereSaid rows height txs after.moved.txs }
 {}
 
 /// A new row's parents are the ids that its envelope names and whose first row before the

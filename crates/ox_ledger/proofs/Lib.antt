@@ -34,3 +34,4 @@ pub mod PartMoves
 pub mod EqualLemmas
 pub mod CountLemmas
 pub mod GoneLemmas
+pub mod LeaveLemmas

@@ -2,6 +2,7 @@ pub mod Balanced
 pub mod Block
 pub mod GoOn
 pub mod Indexed
+pub mod Leaves
 pub mod Ledger
 pub mod Marks
 pub mod Moves

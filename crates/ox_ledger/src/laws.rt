@@ -1,9 +1,17 @@
 //! What holds of blocks and runes, whatever the block.
 
+ghost use Rattle.std.specs.Prelude.{◌≡◌, ℕ, List, []};
+ghost use Rattle.ox_block.specs.declared.block.Tx.{Tx};
+ghost use Rattle.ox_etching.specs.Etched.{Spot};
 ghost use Rattle.ox_ledger.specs.Block.{StaysBalanced};
 ghost use Rattle.ox_ledger.specs.GoOn.{RunesGoOn};
+ghost use Rattle.ox_ledger.specs.Leaves.{LeavesAt, LeavesLast};
 ghost use Rattle.ox_ledger.specs.Part.{LeadsBothWays};
+ghost use Rattle.ox_ledger.specs.Runes.{Runes};
 ghost use Rattle.ox_ledger.specs.Turn.{TurnsAdd};
+ghost use Rattle.ox_rules.specs.declared.moved.MovedTx.{MovedTx};
+ghost use Rattle.ox_rules.specs.declared.rows.OutRow.{OutRow};
+ghost use Rattle.ox_sat.specs.declared.profiles.Profile.{Profile};
 
 /// Two states of runes have one part: what of a change between them is about runes. With either
 /// state it gives the other, where the later one's runes begin with those of the earlier one, but
@@ -18,6 +26,19 @@ pub fn parts_lead_both_ways()
 /// from the height on at which runes start, no rune has the id of the transaction's place.
 pub fn turns_add_mint_and_premine()
     ensures { TurnsAdd }
+{}
+
+/// After a transaction other than the coinbase each of its outputs holds what was dealt to it, what
+/// it spent holds nothing, and no other outpoint changes; a coinbase changes none before its
+/// block's end. At that end each of its outputs holds what was dealt to it when the block began,
+/// where nothing was due before, and no other outpoint changes (Runes specification,
+/// "Transferring").
+pub fn turns_leave_outpoints()
+    ensures turn { (at : Spot) (tx : Tx) (spent : List OutRow) (state : Runes)
+        → LeavesAt at tx spent state }
+    ensures block { (p : Profile) (height : ℕ) (coinbase : Tx) (txs : List Tx) (did : MovedTx)
+        (moved : List MovedTx) (state : Runes) → state.due ≡ []
+        → LeavesLast p height coinbase txs did moved state }
 {}
 
 /// What holds of runes: ids and names are distinct, numbers are within their bounds, no output has
