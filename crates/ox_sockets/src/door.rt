@@ -2,9 +2,8 @@
 
 use mio::net::{TcpListener, TcpStream};
 use mio::{Interest, Poll, Token};
-use std::io;
 use std::io::ErrorKind;
-use std::net;
+use std::{io, net};
 
 /// A listener, whether somebody may wait there, and who was taken while there was no place.
 #[derive(Drop)]
@@ -16,11 +15,7 @@ pub(crate) struct Door {
 
 impl Door {
     /// Has the system tell, under this token, when somebody comes. An error where it can't.
-    pub(crate) fn open(
-        poll: &Poll,
-        listener: net::TcpListener,
-        token: Token,
-    ) -> io::Result<Door> {
+    pub(crate) fn open(poll: &Poll, listener: net::TcpListener, token: Token) -> io::Result<Door> {
         listener.set_nonblocking(true)?;
         let mut listener = TcpListener::from_std(listener);
         poll.registry()

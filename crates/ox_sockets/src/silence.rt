@@ -48,7 +48,9 @@ impl<C: Clock + Drop> Silence<C> {
         if let Ok(read) = Instant::now(&self.clock) {
             let passed = read.duration_since(self.read);
             let most = Duration::from_secs(STEP);
-            self.now = self.now.saturating_add(if passed > most { most } else { passed });
+            self.now = self
+                .now
+                .saturating_add(if passed > most { most } else { passed });
             self.read = read;
         }
     }

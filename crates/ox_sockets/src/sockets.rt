@@ -118,8 +118,7 @@ impl<C: Clock + Drop> Sockets<C> {
     /// A link met want of memory. Nothing is done: who made it so shuts it.
     pub fn give_up(&mut self, _channel: u32)
         ensures same { self.new ≡ self.old }
-    {
-    }
+    {}
 
     /// Ends a link. Where there is no such link, nothing changes. What the other side still sends
     /// is read away, up to 8 MB, so that it gets the reply whole.

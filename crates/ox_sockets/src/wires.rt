@@ -22,6 +22,7 @@ const LINKS: usize = 32;
 
 /// What the system calls the doors. A link has its number, which is smaller.
 const PUBLIC: Token = Token(usize::MAX);
+
 const OPERATOR: Token = Token(usize::MAX - 1);
 
 /// How many things the system tells at a time.
@@ -99,7 +100,12 @@ impl<C: Clock + Drop> Wires<C> {
         let _ = stream.set_nodelay(true);
         let both = Interest::READABLE | Interest::WRITABLE;
         let token = Token(number as usize);
-        if self.poll.registry().register(&mut stream, token, both).is_err() {
+        if self
+            .poll
+            .registry()
+            .register(&mut stream, token, both)
+            .is_err()
+        {
             return false;
         }
         let link = Link::new(number, stream, self.silence.now());
