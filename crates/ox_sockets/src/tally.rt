@@ -34,7 +34,8 @@ impl Tally {
 
     /// Nobody waited at the door.
     pub(crate) fn nobody(&mut self, door: Doorway)
-        ensures rose { Rose ((counts_of self.old).door_idles door) ((counts_of self.new).door_idles door) }
+        ensures rose { Rose ((counts_of self.old).door_idles door)
+            ((counts_of self.new).door_idles door) }
         ensures none_fell { NoneFell (counts_of self.old) (counts_of self.new) }
     {
         match door {
