@@ -1,0 +1,61 @@
+//! One of the two listeners.
+
+use mio::net::{TcpListener, TcpStream};
+use mio::{Interest, Poll, Token};
+use std::io::ErrorKind;
+use std::{io, net};
+
+/// A listener, whether somebody may wait there, and who was taken while there was no place.
+#[derive(Drop)]
+pub(crate) struct Door {
+    listener: TcpListener,
+    ready: bool,
+    ahead: Option<TcpStream>,
+}
+
+impl Door {
+    /// Has the system tell, under this token, when somebody comes. An error where it can't.
+    pub(crate) fn open(poll: &Poll, listener: net::TcpListener, token: Token) -> io::Result<Door> {
+        listener.set_nonblocking(true)?;
+        let mut listener = TcpListener::from_std(listener);
+        poll.registry()
+            .register(&mut listener, token, Interest::READABLE)?;
+        Ok(Door {
+            listener,
+            ready: true,
+            ahead: None,
+        })
+    }
+
+    /// The system told that somebody came.
+    pub(crate) fn knocked(&mut self) {
+        self.ready = true;
+    }
+
+    /// Who waits at the door. Without a call of the system where nobody can be there.
+    pub(crate) fn take(&mut self) -> Option<TcpStream> {
+        if let Some(stream) = self.ahead.take() {
+            return Some(stream);
+        }
+        if !self.ready {
+            return None;
+        }
+        match self.listener.accept() {
+            Ok((stream, _)) => Some(stream),
+            Err(e) => {
+                // Any other error says nothing of who waits behind it, so the door is asked again.
+                if e.kind() == ErrorKind::WouldBlock {
+                    self.ready = false;
+                }
+                None
+            }
+        }
+    }
+
+    /// Whether somebody waits there, who is then kept for the next `take`.
+    pub(crate) fn somebody_waits(&mut self) -> bool {
+        let waiting = self.take();
+        self.ahead = waiting;
+        self.ahead.is_some()
+    }
+}
