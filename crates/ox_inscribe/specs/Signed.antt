@@ -1,5 +1,5 @@
--- The signed numbers of inscriptions. They are this project's own: nothing is claimed of the numbers
--- that the program `ord` gives.
+-- The signed numbers of inscriptions. They are this project's own: nothing is claimed of the
+-- numbers that the program `ord` gives.
 use Rattle.std.specs.Prelude.{ℕ, ℤ, pos, negsuc, Bool, true, false, not, ◌&&◌, ◌==◌, nat_lt, nat_le}
 use Rattle.std.specs.Prelude.{List, take, count_by, Option, option_map, slice_get}
 use Rattle.ox_inscribe.specs.declared.row.InsRow.{InsRow}

@@ -120,8 +120,8 @@ fn transfer_txs<O: OutTable>(
 /// at an input whose output isn't there, `Overspend` where a transaction's outputs have more
 /// satoshis than its inputs, and, after all other transactions, `Overclaim` where the coinbase's
 /// outputs have more than subsidy and fees. `Memory` where there is none. The table is as before
-/// then, without a mark. After Ok it goes back by its `cancel`, and its rows are as the next height's block needs
-/// them.
+/// then, without a mark. After Ok it goes back by its `cancel`, and its rows are as the next
+/// height's block needs them.
 ///
 /// It costs one look-up an input and one insertion an output, and otherwise grows by the runs of
 /// satoshis that move.
