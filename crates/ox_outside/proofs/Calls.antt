@@ -1,5 +1,5 @@
 -- How a run of calls goes on: what it promises, what a crash leaves during it, and that it only looks.
-use Rattle.std.proofs.Common.{◌∙◌, inl, inr, ⊎_elim, ℕ, refl, arith}
+use Rattle.std.proofs.Common.{◌∙◌, inl, inr, ⊎_elim, refl, arith}
 use Rattle.ox_outside.specs.Crash.{Remains, OneCall, AddsNothing}
 use Rattle.ox_outside.specs.Runs.{Calls, LeavesOnly, OnlyLooks}
 use Rattle.ox_outside.specs.declared.site.Site.{Ghosts as Meanings}

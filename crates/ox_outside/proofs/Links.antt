@@ -1,6 +1,6 @@
 -- What is known of a link that no event names yet, and of one that is open.
 use Rattle.std.proofs.Common.{◌≡◌, ◌∙◌, ◌≤◌, ◌++◌, ◌||◌, ◌&&◌, ◌==◌, ℕ, Bool, true, false, not, List, [], ◌∷◌, if◌then◌else◌, refl, sym, ap, subst, arith}
-use Rattle.std.specs.Prelude.{IsTrue, Option, Some, None, Result, Ok, Err}
+use Rattle.std.specs.Prelude.{Option, Some, None, Result, Ok, Err}
 use Rattle.ox_outside.specs.Answers.{IsLinkNumber, NeverNamed, IsOpenLink}
 use Rattle.ox_outside.specs.Event.{Event, Opened, Heard, Ended, Showed, Broke, GaveUp, Shut, is_named, heard_bytes, shown_bytes, has_ended, has_broken, was_opened, was_shut, has_given_up, is_there, is_open, hear_events, show_events, door_events}
 use Rattle.ox_outside.specs.declared.site.Doorway.{Doorway}

@@ -1,5 +1,5 @@
 -- How a run that only talks goes on: the files that a crash leaves during it, and how its log grows.
-use Rattle.std.proofs.Common.{◌≡◌, ◌∙◌, Bool, List, [], ◌++◌, Option, Some, refl, sym, subst}
+use Rattle.std.proofs.Common.{◌≡◌, ◌∙◌, Bool, List, [], ◌++◌, Some, refl, sym, subst}
 use Rattle.std.specs.Prelude.{IsTrue}
 use Rattle.ox_outside.specs.Event.{Event}
 use Rattle.ox_outside.specs.Files.{Files}

@@ -5,7 +5,8 @@ ghost use Rattle.std.specs.Prelude.{Option, Some, None, Ok, IsTrue, IfOk, OnOk, 
 ghost use Rattle.std.specs.Option.{ForSome};
 ghost use Rattle.ox_outside.specs.Answers.{HeardWithin, ShownWithin, IsLinkNumber, NeverOpened};
 ghost use Rattle.ox_outside.specs.Answers.{NeverNamed, IsOpenLink};
-ghost use Rattle.ox_outside.specs.Counts.{Counts, Rose};
+ghost use Rattle.ox_outside.specs.Counts.{Counts, CountsFile, CountsHearing, CountsShowing};
+ghost use Rattle.ox_outside.specs.Counts.{NoFault, Rose};
 ghost use Rattle.ox_outside.specs.Crash.{Remains, Tears, Follows, Only, AddsNothing, LeavesFiles};
 ghost use Rattle.ox_outside.specs.Crash.{OneCall};
 ghost use Rattle.ox_outside.specs.Event.{Event, is_there, is_open, has_given_up};
@@ -82,6 +83,7 @@ pub trait Site {
             n ≡ length (file_of (seen self.old) file)) }
         ensures files { AddsNothing seen log may_leave self.old self.new }
         ensures failed { OnErr result (Rose (counts self.old).disk (counts self.new).disk) }
+        ensures counted { CountsFile result (counts self.old) (counts self.new) }
         ensures call { OneCall told counts clock may_leave left_since self.old self.new };
 
     /// Fills the slice with the bytes of a file from this place on. The file has to have them.
@@ -93,6 +95,7 @@ pub trait Site {
             into.new ≡ slice_range (file_of (seen self.old) file) at (at + length into.old)) }
         ensures files { AddsNothing seen log may_leave self.old self.new }
         ensures failed { OnErr result (Rose (counts self.old).disk (counts self.new).disk) }
+        ensures counted { CountsFile result (counts self.old) (counts self.new) }
         ensures call { OneCall told counts clock may_leave left_since self.old self.new };
 
     /// Writes bytes into a file at this place, which is at most its length, over what stood there
@@ -109,6 +112,7 @@ pub trait Site {
         ensures crash { Follows (Tears file at (length bytes.now))
             (may_leave self.old) (may_leave self.new) }
         ensures failed { OnErr result (Rose (counts self.old).disk (counts self.new).disk) }
+        ensures counted { CountsFile result (counts self.old) (counts self.new) }
         ensures call { OneCall told counts clock may_leave left_since self.old self.new };
 
     /// After it, a crash leaves of this file what a read gives.
@@ -117,6 +121,7 @@ pub trait Site {
             Only file (file_of (seen self.old) file) (may_leave self.new)) }
         ensures files { AddsNothing seen log may_leave self.old self.new }
         ensures failed { OnErr result (Rose (counts self.old).disk (counts self.new).disk) }
+        ensures counted { CountsFile result (counts self.old) (counts self.new) }
         ensures call { OneCall told counts clock may_leave left_since self.old self.new };
 
     /// Takes bytes from a channel into the front of the room, at least one. Where the log isn't
@@ -130,6 +135,7 @@ pub trait Site {
         ensures files { LeavesFiles seen may_leave self.old self.new }
         ensures failed { OnErr result (
             Rose ((counts self.old).hear channel) ((counts self.new).hear channel)) }
+        ensures counted { CountsHearing channel result (counts self.old) (counts self.new) }
         ensures not_yet { result ≡ Ok Heard.NotYet
             → Rose ((counts self.old).not_yets channel) ((counts self.new).not_yets channel) }
         ensures call { OneCall told counts clock may_leave left_since self.old self.new };
@@ -146,6 +152,7 @@ pub trait Site {
         ensures files { LeavesFiles seen may_leave self.old self.new }
         ensures failed { OnErr result (
             Rose ((counts self.old).show channel) ((counts self.new).show channel)) }
+        ensures counted { CountsShowing channel result (counts self.old) (counts self.new) }
         ensures not_yet { result ≡ Ok Shown.NotYet
             → Rose ((counts self.old).not_yets channel) ((counts self.new).not_yets channel) }
         ensures call { OneCall told counts clock may_leave left_since self.old self.new };
@@ -162,6 +169,7 @@ pub trait Site {
         ensures logged { Adds (door_events door result) (log self.old) (log self.new) }
         ensures files { LeavesFiles seen may_leave self.old self.new }
         ensures failed { OnErr result (Rose (counts self.old).door (counts self.new).door) }
+        ensures counted { NoFault (counts self.old) (counts self.new) }
         ensures nobody { result ≡ Ok None
             → Rose ((counts self.old).door_idles door) ((counts self.new).door_idles door) }
         ensures call { OneCall told counts clock may_leave left_since self.old self.new };
@@ -173,6 +181,7 @@ pub trait Site {
         requires once { ForSome (log self.old) (λ log. has_given_up channel log ≡ false) }
         ensures logged { Adds (give_up_events channel) (log self.old) (log self.new) }
         ensures files { LeavesFiles seen may_leave self.old self.new }
+        ensures counted { NoFault (counts self.old) (counts self.new) }
         ensures call { OneCall told counts clock may_leave left_since self.old self.new };
 
     /// Ends a link. Where the log isn't told, a link that isn't there is left so.
@@ -180,6 +189,7 @@ pub trait Site {
         requires channel { ForSome (log self.old) (λ log. IsTrue (is_open channel log)) }
         ensures logged { Adds (shut_events channel) (log self.old) (log self.new) }
         ensures files { LeavesFiles seen may_leave self.old self.new }
+        ensures counted { NoFault (counts self.old) (counts self.new) }
         ensures call { OneCall told counts clock may_leave left_since self.old self.new };
 
     /// This moment is one of those since an earlier one.
