@@ -1,14 +1,17 @@
 -- How the hearings of one call go on: what several of them say together.
 use Rattle.std.proofs.Common.{◌≡◌, ◌∙◌, ℕ, ◌||◌, Bool, true, false, List, [], ◌++◌, length, refl, sym, ap, arith, length-append, append_assoc}
-use Rattle.std.specs.Prelude.{Option, Result, Err}
+use Rattle.std.specs.Prelude.{Option, Result, Ok, Err, IsErrOf}
+use Rattle.ox_outside.specs.Counts.{Counts, NoFault, StopsAtFault}
 use Rattle.ox_outside.specs.Event.{Event, heard_bytes, has_ended}
 use Rattle.ox_outside.specs.Log.{Grows}
+use Rattle.ox_outside.proofs.Counts.{went_on}
 use Rattle.ox_outside.proofs.Event.{heard_bytes-append, has_ended-append}
 use Rattle.ox_outside.proofs.Log.{grows_then, grows_weaker}
 use Rattle.ox_feed.specs.Feed.{Feed, Hears, Answers, lines_from}
 use Rattle.ox_feed.specs.Held.{Waits}
 use Rattle.ox_feed.specs.declared.lines.Line.{Line}
 use Rattle.ox_feed.specs.declared.lines.FeedFault.{FeedFault}
+use Rattle.ox_feed.specs.declared.lines.FeedFault.TheVariants.{HearFault}
 use Rattle.ox_feed.proofs.HearingOnlyTalks.{only_hears_then}
 
 or_assoc : (a b c : Bool) → ((a || b) || c) ≡ (a || (b || c))
@@ -53,3 +56,7 @@ waits_on old a b new first mid now heard ended same = grows_then (Waits old a) (
 pub waits_in_vain : (old new : Feed) (result : Result Line FeedFault) (fault : FeedFault) (first now : Option (List Event)) → result ≡ Err fault
     → Grows (Waits old new) first now → Grows (Answers old result new) first now
 waits_in_vain old new result fault first now fails = rw fails (grows_weaker (Waits old new) (Answers old (Err fault) new) first now (λ added waits. record { hears = waits.hears; line = tt }))
+
+-- of hearings after which a reader went on none failed
+pub hearing_worked : {T : Type 0} (x : T) (old new : Counts) → StopsAtFault ⊥ (IsErrOf {T = T} {E = FeedFault} (Ok x) HearFault) ⊥ old new → NoFault old new
+hearing_worked {T} x old new counted = went_on ⊥ (IsErrOf {T = T} {E = FeedFault} (Ok x) HearFault) ⊥ old new (λ no. no) (λ is. cc is) (λ no. no) counted

@@ -3,7 +3,7 @@
 
 ghost use Rattle.std.specs.Prelude.{◌≡◌, ◌+◌, ◌-◌, ◌<◌, ◌≤◌, ◌++◌, [], length, take, drop, vec_len};
 ghost use Rattle.std.specs.Prelude.{Ok, None, IfOk, OnOk, OnErr, IsErrOf, MatchOption, true, false};
-ghost use Rattle.ox_outside.specs.Counts.{Rose};
+ghost use Rattle.ox_outside.specs.Counts.{Rose, StopsAtFault};
 ghost use Rattle.ox_outside.specs.Runs.{OnlyTalks};
 ghost use Rattle.ox_outside.specs.Log.{Grows};
 ghost use Rattle.ox_feed.specs.Feed.{Answers, IsLine, IsTooMuch, Listens, OnlyHears, Tells};
@@ -143,6 +143,8 @@ impl Held {
         ensures left { bytes_left (feed_of self.new) ≤ bytes_left (feed_of self.old) }
         ensures hear_fault { IsErrOf result FeedFault.HearFault
             → Rose ((S.counts site.old).hear 0) ((S.counts site.new).hear 0) }
+        ensures counted { StopsAtFault ⊥ (IsErrOf result FeedFault.HearFault) ⊥
+            (S.counts site.old) (S.counts site.new) }
         ensures too_much { IsErrOf result FeedFault.TooMuch → IsTooMuch (feed_of self.new) }
         ensures talks { OnlyTalks S.Site OnlyHears site.old site.new }
     {
@@ -168,6 +170,8 @@ impl Held {
             IsLine line → bytes_left (feed_of self.new) < bytes_left (feed_of self.old)) }
         ensures hear_fault { IsErrOf result FeedFault.HearFault
             → Rose ((S.counts site.old).hear 0) ((S.counts site.new).hear 0) }
+        ensures counted { StopsAtFault ⊥ (IsErrOf result FeedFault.HearFault) ⊥
+            (S.counts site.old) (S.counts site.new) }
         ensures too_much { IsErrOf result FeedFault.TooMuch → IsTooMuch (feed_of self.new) }
         ensures talks { OnlyTalks S.Site (Listens (feed_of self.old)) site.old site.new }
     {

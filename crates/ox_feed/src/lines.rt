@@ -1,7 +1,7 @@
 //! The lines of channel 0, read one by one.
 
 ghost use Rattle.std.specs.Prelude.{◌≡◌, ◌+◌, ◌<◌, ◌≤◌, length, IfOk, IsErrOf};
-ghost use Rattle.ox_outside.specs.Counts.{Rose};
+ghost use Rattle.ox_outside.specs.Counts.{Rose, StopsAtFault};
 ghost use Rattle.ox_outside.specs.Runs.{OnlyTalks};
 ghost use Rattle.ox_outside.specs.Log.{Grows};
 ghost use Rattle.ox_feed.specs.declared.lines.FeedFault.TheVariants.{Memory as out_of_memory};
@@ -95,6 +95,8 @@ impl Lines {
 
         ensures hear_fault { IsErrOf result FeedFault.HearFault
             → Rose ((S.counts site.old).hear 0) ((S.counts site.new).hear 0) }
+        ensures counted { StopsAtFault ⊥ (IsErrOf result FeedFault.HearFault) ⊥
+            (S.counts site.old) (S.counts site.new) }
         ensures too_much { IsErrOf result FeedFault.TooMuch → IsTooMuch self.new }
 
         ensures fewer { IfOk result (λ line.

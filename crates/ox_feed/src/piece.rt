@@ -2,7 +2,7 @@
 
 ghost use Rattle.std.specs.Prelude.{◌≡◌, ◌≤◌, ◌<◌, [], length, take, drop, vec_len, true, Ok, IfOk};
 ghost use Rattle.std.specs.Prelude.{OnErr, IsErrOf};
-ghost use Rattle.ox_outside.specs.Counts.{Rose};
+ghost use Rattle.ox_outside.specs.Counts.{Rose, StopsAtFault};
 ghost use Rattle.ox_outside.specs.Runs.{OnlyTalks};
 ghost use Rattle.ox_outside.specs.Log.{Grows};
 ghost use Rattle.ox_feed.specs.Feed.{OnlyHears, room_size};
@@ -87,6 +87,8 @@ impl Piece {
         ensures empty { (result ≡ Ok true → ⊥) → self.new ≡ [] }
         ensures hear_fault { IsErrOf result FeedFault.HearFault
             → Rose ((S.counts site.old).hear 0) ((S.counts site.new).hear 0) }
+        ensures counted { StopsAtFault ⊥ (IsErrOf result FeedFault.HearFault) ⊥
+            (S.counts site.old) (S.counts site.new) }
         ensures too_much { IsErrOf result FeedFault.TooMuch → ⊥ }
         ensures talks { OnlyTalks S.Site OnlyHears site.old site.new }
     {

@@ -1,8 +1,9 @@
 use Rattle.std.proofs.Common.{◌∙◌, le_trans, sym}
 use Rattle.std.proofs.lemmas.Result.{err_from_is_err_and}
+use Rattle.ox_outside.proofs.Counts.{no_fault_then}
 use Rattle.ox_feed.specs.Held.{feed_of}
 use Rattle.ox_feed.proofs.HearingOnlyTalks.{talks_on}
-use Rattle.ox_feed.proofs.HearingsInTurn.{waits_on, waits_in_vain}
+use Rattle.ox_feed.proofs.HearingsInTurn.{hearing_worked, waits_on, waits_in_vain}
 use Rattle.ox_feed.proofs.held.Held.next.Goals as goal
 
 -- what the hearings of the loop and a further one say together, where no line was cut off between
@@ -18,6 +19,7 @@ loop-line-preserved g c =
       le_trans (le_trans c.hear.ensures.left fewer) kept.2,
       talks_on g.S.Site
           (feed_of c.args.self.now) (feed_of c.loop-line.self) c.args.site.now c.loop-line.site c.hear.new.site (sym c.in_ok-line.ensures.ended ∙ c.if-self.false) kept.1 kept.3 c.hear.ensures.talks,
+      no_fault_then _ _ _ kept.4 (hearing_worked c.in_ok-hear.field-0 _ _ c.in_ok-hear.ensures.counted),
     )
 
 pub returns-in_err-hear-clause-told : goal.returns-in_err-hear-clause-told
