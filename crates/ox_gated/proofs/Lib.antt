@@ -5,5 +5,10 @@ mod CurrentByFront
 mod NewFiles
 mod OneFile
 mod OpenedHolds
+mod OtherGate
+mod Pieces
 mod RecordWrites
 mod Stands
+mod Turning
+mod WholeFile
+pub mod Writing

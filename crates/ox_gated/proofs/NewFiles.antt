@@ -1,64 +1,25 @@
 -- Two files that were made stand for what they were made of.
-use Rattle.std.proofs.Common.{◌≡◌, ◌∙◌, ◌<◌, ◌+◌, ◌^◌, ℕ, Bool, true, false, List, [], ◌∷◌, ◌++◌, length, drop, not, ◌&&◌, if◌then◌else◌, Option, Some, None, refl, sym, ap, arith}
-use Rattle.std.specs.Prelude.{Ok, IsTrue, nat_lt}
-use Rattle.std.proofs.lemmas.Bool.{le-ltb, eq-eqb}
-use Rattle.std.proofs.lemmas.Nat.{from_le_bytes-to_le_bytes_2, from_le_bytes-to_le_bytes_8}
+use Rattle.std.proofs.Common.{◌≡◌, ◌∙◌, ◌<◌, ◌+◌, ◌^◌, ℕ, List, [], ◌∷◌, ◌++◌, length, true, Option, refl, sym, ap, arith}
+use Rattle.std.specs.Prelude.{Ok, IsTrue}
 use Rattle.std.proofs.lemmas.List.{drop_all, append-nil}
 use Rattle.ox_outside.specs.Files.{Files, file_of, with_file, with_bytes}
 use Rattle.ox_outside.specs.declared.site.Which.TheVariants.{A, B}
-use Rattle.ox_gated.specs.Layout.{has_magic, is_lawful, opening_at, head_of, head_bytes, checkpoint_bytes}
+use Rattle.ox_gated.specs.Layout.{is_lawful, head_of, checkpoint_bytes}
 use Rattle.ox_gated.specs.Pick.{lone_choice}
-use Rattle.ox_gated.specs.Reading.{Chain, chain, fault_at, found_or_fault, current_reading, reading_by, reading}
+use Rattle.ox_gated.specs.Reading.{current_reading, reading_by, reading}
 use Rattle.ox_outside.specs.Crash.{Remains, Only, Follows, Tears}
 use Rattle.ox_gated.specs.Tail.{KeepsFound, new_files, new_found}
 use Rattle.ox_gated.specs.declared.head.Head.{Head}
 use Rattle.ox_gated.specs.declared.head.Opening.{Opening}
-use Rattle.ox_gated.proofs.Chain.{chain_shut}
-use Rattle.ox_gated.proofs.CurrentByFront.{current_on}
+use Rattle.ox_gated.proofs.WholeFile.{head_there, current_whole}
 
 module _ (head : Head) (body : List ℕ) (lawful : IsTrue (is_lawful head)) (depth : head.depth < 2 ^ 16) (generation : head.generation < 2 ^ 64) (small : length body < 2 ^ 32) where
-  abbrev opening : Opening
-  opening = record { head = head; size = length body }
-
-  front : List ℕ
-  front = 1 ∷ head_bytes head (length body) ++ body
-
-  whole : 1 ∷ checkpoint_bytes head body ≡ front ++ 0 ∷ []
-  unfolding front
-  whole = sym (ap (λ (l : List ℕ). 1 ∷ l) refl)
-
-  opening_there : (t : List ℕ) → opening_at (1 ∷ head_bytes head (length body) ++ t) ≡ opening
-  opening_there t =
-      let d = from_le_bytes-to_le_bytes_2 head.depth depth in
-      let g = from_le_bytes-to_le_bytes_8 head.generation generation in
-      let s = from_le_bytes-to_le_bytes_8 (length body) (omega (arith, small)) in
-      λ i. record { head = record { version = head.version; profile = head.profile; depth = d i; generation = g i }; size = s i }
-
-  head_there : head_of (1 ∷ checkpoint_bytes head body) ≡ Some opening
-  head_there =
-      let file = 1 ∷ checkpoint_bytes head body in
-      let is : opening_at file ≡ opening = opening_there (body ++ 0 ∷ []) in
-      let long : nat_lt (length file) 26 ≡ false = le-ltb (length file) 26 (omega arith) in
-      ap (λ (b : Bool). if b then None else if has_magic file && is_lawful (opening_at file).head then Some (opening_at file) else None) long
-      ∙ ap (λ (o : Opening). if true && is_lawful o.head then Some o else None) is
-      ∙ ap (λ (b : Bool). if true && b then Some opening else None) lawful
-
-  length-front : length front ≡ 26 + length body
-  unfolding front
-  length-front = omega arith
-
-  body_there : drop 26 front ≡ body
-  unfolding front
-  body_there = refl
-
   pub stands_made : reading head.version (new_files (record { head = head; body = body })) ≡ Ok (new_found (record { head = head; body = body }))
   stands_made =
-      ap (λ (o : Option Opening). reading_by head.version (new_files (record { head = head; body = body })) (lone_choice A o)) head_there
-      ∙ ap (λ (l : List ℕ). current_reading head.version A l opening) whole
-      ∙ current_on head.version A front (0 ∷ []) opening length-front
-      ∙ ap (λ (b : Bool). if not b then fault_at A 6 else found_or_fault A head (drop 26 front) (chain (26 + length body) (0 ∷ [])).records (chain (26 + length body) (0 ∷ [])).end) (eq-eqb head.version head.version refl)
-      ∙ ap (λ (c : Chain). found_or_fault A head (drop 26 front) c.records c.end) (chain_shut (26 + length body) 0 [] refl)
-      ∙ ap (λ (l : List ℕ). found_or_fault A head l [] (Ok (26 + length body))) body_there
+      let nothing_behind : (1 ∷ checkpoint_bytes head body) ++ [] ≡ 1 ∷ checkpoint_bytes head body = append-nil (1 ∷ checkpoint_bytes head body) in
+      ap (λ (o : Option Opening). reading_by head.version (new_files (record { head = head; body = body })) (lone_choice A o)) (sym (ap head_of nothing_behind) ∙ head_there head body lawful depth generation small 1 [])
+      ∙ ap (λ (l : List ℕ). current_reading head.version A l (record { head = head; size = length body })) (sym nothing_behind)
+      ∙ current_whole head body lawful depth generation small 1 [] A
 
 -- what the writes make of two empty files
 pub written_first : (bytes : List ℕ) → with_bytes 1 bytes (0 ∷ []) ≡ 0 ∷ bytes

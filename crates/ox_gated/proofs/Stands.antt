@@ -22,6 +22,7 @@ use Rattle.ox_gated.proofs.OneFile.{file_of-with_file}
 -- what stands before the last gate of a current file, and what any bytes from there on make of it
 record Current (version : ℕ) (file : Which) (bytes : List ℕ) (opening : Opening) (found : Found) : Type 0 where
   same_file : found.file ≡ file
+  same_head : found.head ≡ opening.head
   same_version : found.head.version ≡ version
   front : List ℕ
   junk : List ℕ
@@ -59,6 +60,7 @@ current_ok version file bytes opening found is =
     subst (Current version file bytes opening) ends.2 (
     record {
       same_file = refl;
+      same_head = refl;
       same_version = eqb-true opening.head.version version checked.0;
       front = front ++ gates.front;
       junk = gates.junk;
@@ -75,6 +77,9 @@ current_ok version file bytes opening found is =
 
 pub current_file : (version : ℕ) (file : Which) (bytes : List ℕ) (opening : Opening) (found : Found) → current_reading version file bytes opening ≡ Ok found → found.file ≡ file
 current_file version file bytes opening found is = (current_ok version file bytes opening found is).same_file
+
+pub current_head : (version : ℕ) (file : Which) (bytes : List ℕ) (opening : Opening) (found : Found) → current_reading version file bytes opening ≡ Ok found → found.head ≡ opening.head
+current_head version file bytes opening found is = (current_ok version file bytes opening found is).same_head
 
 -- ---- both files
 

@@ -1,7 +1,7 @@
 -- How a file is laid out: a gate, a head of 25 bytes, a body, and records behind gates.
 use Rattle.std.specs.Prelude.{ℕ, ◌+◌, Bool, true, List, [], ◌∷◌, ◌++◌, length, nat_lt, nat_le, ◌==◌}
 use Rattle.std.specs.Prelude.{◌&&◌, ◌||◌}
-use Rattle.std.specs.Prelude.{take, drop, ◌-◌, not, Option, Some, None, slice_index, slice_range}
+use Rattle.std.specs.Prelude.{take, ◌-◌, not, Option, Some, None, slice_index, slice_range}
 use Rattle.std.specs.Prelude.{if◌then◌else◌}
 use Rattle.std.specs.Int.{w16, w32, w64, to_le_bytes, from_le_bytes}
 use Rattle.ox_gated.specs.declared.head.Head.{Head}
@@ -62,9 +62,9 @@ head_bytes head size =
 abbrev pub checkpoint_bytes : Head → List ℕ → List ℕ
 checkpoint_bytes head body = head_bytes head (length body) ++ body ++ 0 ∷ []
 
--- the body, by the bytes that stand behind the first gate of a file without records
-abbrev pub body_in : List ℕ → List ℕ
-body_in bytes = take (length bytes - body_at) (drop (body_at - 1) bytes)
+-- the body, by what stands behind the head of a file without records: all but the last gate
+abbrev pub body_before : List ℕ → List ℕ
+body_before bytes = take (length bytes - 1) bytes
 
 -- a head and a body
 pub record Whole : Type 0 where

@@ -1,6 +1,6 @@
 // What is written: a record with the closed gate behind it, and a file without records.
-ghost use Rattle.std.specs.Prelude.{◌≡◌, ◌+◌, ◌<◌, ◌^◌, ◌++◌, length, IsTrue, IfOk};
-ghost use Rattle.ox_gated.specs.Layout.{is_lawful, record_bytes, checkpoint_bytes, body_at};
+ghost use Rattle.std.specs.Prelude.{◌≡◌, ◌+◌, ◌-◌, ◌<◌, ◌^◌, ◌++◌, ◌∷◌, [], length, IsTrue, IfOk};
+ghost use Rattle.ox_gated.specs.Layout.{is_lawful, record_bytes, head_bytes, body_at};
 
 use crate::head::Head;
 use crate::layout::BODY_AT;
@@ -64,25 +64,27 @@ pub fn frame_parts(alloc: Global, front: &[u8], rest: &[u8]) -> Result<Framed, M
     })
 }
 
-/// A file without records, but for its first gate. Contracts see its head and its body.
+/// A file without records, but for its first gate, in two pieces: the bytes before the body, and the
+/// body with the closed gate behind it. Contracts see its head and its body.
 #[derive(Debug, Drop)]
 pub struct Checkpoint {
     head: Head,
-    bytes: Bytes,
+    front: Bytes,
+    behind: Bytes,
 }
 
 impl Model for Checkpoint {
-    ghost use Rattle.std.specs.Prelude.{◌≡◌, ◌<◌, ◌+◌, ◌^◌, length, take, drop, ◌-◌, IsTrue};
-    ghost use Rattle.ox_gated.specs.Layout.{Whole, is_lawful, checkpoint_bytes, body_at, body_in};
+    ghost use Rattle.std.specs.Prelude.{◌≡◌, ◌≤◌, ◌+◌, ◌^◌, length, take, ◌-◌, ◌++◌, ◌∷◌, [], IsTrue};
+    ghost use Rattle.ox_gated.specs.Layout.{Whole, is_lawful, head_bytes, body_before};
 
     ghost Value = { Whole };
 
-    ghost view = { λ c. record { head = c.head; body = body_in c.bytes } };
+    ghost view = { λ c. record { head = c.head; body = body_before c.behind } };
 
     ghost invariant = { λ c.
-        (c.bytes ≡ checkpoint_bytes c.head (body_in c.bytes))
-        × IsTrue (is_lawful c.head)
-        × (length c.bytes < 2 ^ 32 + body_at) };
+        (c.front ≡ head_bytes c.head (length (body_before c.behind)))
+        × (c.behind ≡ body_before c.behind ++ 0 ∷ [])
+        × IsTrue (is_lawful c.head) × (length c.behind ≤ 2 ^ 32) };
 }
 
 impl Checkpoint {
@@ -93,37 +95,54 @@ impl Checkpoint {
         self.head
     }
 
-    /// The bytes that are written behind the first gate.
-    pub fn as_slice(&self) -> &[u8]
-        ensures bytes { result.now ≡ checkpoint_bytes self.now.head self.now.body }
-        ensures size { length result.now ≡ body_at + length self.now.body }
+    /// The bytes between the first gate and the body: the head, and the body's length.
+    pub fn front(&self) -> &[u8]
+        ensures bytes { result.now ≡ head_bytes self.now.head (length self.now.body) }
+        ensures size { length result.now ≡ body_at - 1 }
+    {
+        self.front.as_slice()
+    }
+
+    /// The body, and the closed gate behind it.
+    pub fn behind(&self) -> &[u8]
+        ensures bytes { result.now ≡ self.now.body ++ 0 ∷ [] }
+        ensures size { length result.now ≡ length self.now.body + 1 }
         ensures small { length self.now.body < 2 ^ 32 }
         ensures lawful { IsTrue (is_lawful self.now.head) }
         ensures depth { self.now.head.depth < 2 ^ 16 }
         ensures generation { self.now.head.generation < 2 ^ 64 }
     {
         let _generation = self.head.generation;
-        self.bytes.as_slice()
+        self.behind.as_slice()
     }
 }
 
-/// The file of this head and body, without records. `Memory` where there is none for it.
-pub fn checkpoint_of(alloc: Global, head: &Head, body: &[u8]) -> Result<Checkpoint, Memory>
-    requires size { length body.now < 2 ^ 32 }
+/// The file of this head and body, without records. The body isn't copied: it is written from where
+/// it stands. `Memory` where there is none for the gate behind it or for the bytes before it.
+pub fn checkpoint_of(alloc: Global, head: &Head, body: Bytes) -> Result<Checkpoint, Memory>
+    requires size { length body < 2 ^ 32 }
     requires head { IsTrue (is_lawful head.now) }
-    ensures { IfOk result (λ checkpoint. checkpoint ≡ record { head = head.now; body = body.now }) }
+    ensures { IfOk result (λ checkpoint. checkpoint ≡ record { head = head.now; body = body }) }
 {
-    let mut bytes = Vec::with_capacity(alloc, body.len() + BODY_AT)?;
+    let front = front_of(alloc, head, body.len() as u64)?;
+    let mut behind = body.into_vec();
+    behind.push(0)?;
+    Ok(Checkpoint {
+        head: *head,
+        front,
+        behind: Bytes::from_vec(behind),
+    })
+}
+
+// What stands between the first gate and a body of this length.
+fn front_of(alloc: Global, head: &Head, size: u64) -> Result<Bytes, Memory>
+    ensures { IfOk result (λ front. front ≡ head_bytes head.now size) }
+{
+    let mut bytes = Vec::with_capacity(alloc, BODY_AT - 1)?;
     bytes.extend_from_slice(b"oxidx")?;
     bytes.extend_from_slice(&[head.version, head.profile])?;
     bytes.extend_from_slice(&head.depth.to_le_bytes())?;
     bytes.extend_from_slice(&head.generation.to_le_bytes())?;
-    let size = body.len() as u64;
     bytes.extend_from_slice(&size.to_le_bytes())?;
-    bytes.extend_from_slice(body)?;
-    bytes.push(0)?;
-    Ok(Checkpoint {
-        head: *head,
-        bytes: Bytes::from_vec(bytes),
-    })
+    Ok(Bytes::from_vec(bytes))
 }

@@ -7,9 +7,11 @@ mod framed;
 mod head;
 mod layout;
 mod open;
+mod other_file;
 mod pick;
 mod records;
 mod tail;
+mod two_pieces;
 mod writes;
 
 pub use fault::{Before, GateFault};
@@ -17,5 +19,6 @@ pub use framed::{Checkpoint, Framed, checkpoint_of, frame, frame_parts};
 pub use head::Head;
 pub use layout::BODY_AT;
 pub use open::Opened;
+pub use other_file::{Closed, Filled};
 pub use records::{Record, Records};
 pub use tail::{DiskFault, Tail};

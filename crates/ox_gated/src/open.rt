@@ -2,14 +2,14 @@
 ghost use Rattle.std.specs.Prelude.{◌≡◌, ◌+◌, ◌-◌, ◌≤◌, ◌<◌, ◌^◌, ℕ, List, length, take};
 ghost use Rattle.std.specs.Prelude.{slice_range, min, nat_lt};
 ghost use Rattle.std.specs.Prelude.{IsTrue, IfOk, IfErr, OnOk, OnErr, IsErrOf, Ok, None};
-ghost use Rattle.ox_outside.specs.Counts.{Rose};
+ghost use Rattle.ox_outside.specs.Counts.{IsFailure, Rose, StopsAtFault};
 ghost use Rattle.ox_outside.specs.Files.{Files, file_of, other};
 ghost use Rattle.ox_outside.specs.Runs.{OnlyLooks};
 ghost use Rattle.ox_gated.specs.Layout.{is_closed, is_lawful, body_at};
 ghost use Rattle.ox_gated.specs.Opened.{IsBehindLawful, IsFault, IsUnpicked, found_of, tail_of};
 ghost use Rattle.ox_gated.specs.Pick.{choice_of, of_file};
-ghost use Rattle.ox_gated.specs.Reading.{by_parts, current_reading};
-ghost use Rattle.ox_gated.specs.Tail.{IsSettled};
+ghost use Rattle.ox_gated.specs.Reading.{by_parts, current_reading, reading};
+ghost use Rattle.ox_gated.specs.Tail.{Holds, IsSettled};
 ghost use Rattle.ox_gated.specs.declared.fault.GateFault.TheVariants.{NotStore};
 
 use crate::fault::{Before, GateFault, ReadFault};
@@ -27,6 +27,7 @@ pub fn settle<S: Site>(site: &mut S) -> Result<(), Failed>
     ensures settled { OnOk result (IsSettled S.Site site.new) }
     ensures looks { OnlyLooks S.Site site.old site.new }
     ensures failed { OnErr result (Rose (S.counts site.old).disk (S.counts site.new).disk) }
+    ensures counted { StopsAtFault (IsFailure result) ⊥ ⊥ (S.counts site.old) (S.counts site.new) }
 {
     site.sync(Which::A)?;
     site.sync(Which::B)
@@ -48,6 +49,8 @@ pub fn read_part<S: Site>(
     ensures looks { OnlyLooks S.Site site.old site.new }
     ensures failed { IsErrOf result ReadFault.Disk
         → Rose (S.counts site.old).disk (S.counts site.new).disk }
+    ensures counted { StopsAtFault (IsErrOf result ReadFault.Disk) ⊥ ⊥
+        (S.counts site.old) (S.counts site.new) }
 {
     let mut bytes = blank(alloc, size as usize)?;
     site.read(file, at, &mut bytes)?;
@@ -78,6 +81,8 @@ pub fn read_front<S: Site>(alloc: Global, site: &mut S, file: Which) -> Result<F
     ensures looks { OnlyLooks S.Site site.old site.new }
     ensures failed { IsErrOf result ReadFault.Disk
         → Rose (S.counts site.old).disk (S.counts site.new).disk }
+    ensures counted { StopsAtFault (IsErrOf result ReadFault.Disk) ⊥ ⊥
+        (S.counts site.old) (S.counts site.new) }
 {
     let len = site.len(file)?;
     let bytes = read_part(alloc, site, file, 0, len.min(BODY_AT as u64))?;
@@ -147,6 +152,8 @@ pub fn examine<S: Site>(alloc: Global, site: &mut S) -> Result<Examined, GateFau
     ensures looks { OnlyLooks S.Site site.old site.new }
     ensures failed { IsErrOf result GateFault.DiskFault
         → Rose (S.counts site.old).disk (S.counts site.new).disk }
+    ensures counted { StopsAtFault (IsErrOf result GateFault.DiskFault) ⊥ ⊥
+        (S.counts site.old) (S.counts site.new) }
 {
     let a = read_front(alloc, site, Which::A)?;
     let b = read_front(alloc, site, Which::B)?;
@@ -165,7 +172,7 @@ pub struct Opened {
 }
 
 // The body, and the records behind it.
-fn judge(
+fn found_or_fault(
     alloc: Global,
     examined: &Examined,
     body: Vec<u8>,
@@ -238,6 +245,8 @@ pub fn read_current<S: Site>(
     ensures looks { OnlyLooks S.Site site.old site.new }
     ensures failed { IsErrOf result GateFault.DiskFault
         → Rose (S.counts site.old).disk (S.counts site.new).disk }
+    ensures counted { StopsAtFault (IsErrOf result GateFault.DiskFault) ⊥ ⊥
+        (S.counts site.old) (S.counts site.new) }
 {
     let file = examined.file;
     let size = examined.opening.size;
@@ -250,7 +259,7 @@ pub fn read_current<S: Site>(
     let end = BODY_AT as u64 + size;
     let body = read_part(alloc, site, file, BODY_AT as u64, size)?;
     let rest = read_part(alloc, site, file, end, examined.len - end)?;
-    judge(alloc, examined, body, &rest)
+    found_or_fault(alloc, examined, body, &rest)
 }
 
 // Whether a file of this length is too short for a body of this one.
@@ -270,16 +279,39 @@ fn refused_at(file: Which, at: u64) -> GateFault
     }
 }
 
+/// Opens two files of this version: see `Tail::open`.
+pub fn open_files<S: Site>(alloc: Global, site: &mut S, version: u8) -> Result<Opened, GateFault>
+    ensures found { IsTrue (S.told site.old)
+        → IfOk result (λ o. reading version (S.seen site.old) ≡ Ok (found_of o)) }
+    ensures holds { IsTrue (S.told site.old) → IfOk result (λ o. Holds S.Site o.tail site.new) }
+    ensures head { IfOk result (λ o. (o.tail.head ≡ o.head) × (o.head.version ≡ version)) }
+    ensures lawful { IfOk result (λ o. IsTrue (is_lawful o.head)) }
+    ensures not_store { IsTrue (S.told site.old)
+        → IfErr result (IsFault (reading version (S.seen site.old))) }
+    ensures behind { IfErr result IsBehindLawful }
+    ensures failed { IsErrOf result GateFault.DiskFault
+        → Rose (S.counts site.old).disk (S.counts site.new).disk }
+    ensures counted { StopsAtFault (IsErrOf result GateFault.DiskFault) ⊥ ⊥
+        (S.counts site.old) (S.counts site.new) }
+    ensures settled { ¬ IsErrOf result GateFault.DiskFault → IsSettled S.Site site.new }
+    ensures looks { OnlyLooks S.Site site.old site.new }
+{
+    settle(site)?;
+    let examined = match examine(alloc, site) {
+        Ok(examined) => examined,
+        Err(fault) => return Err(fault),
+    };
+    read_current(alloc, site, version, &examined)
+}
+
 /// The version that is read and written.
 const VERSION: u8 = 1;
 
 impl Tail {
-    ghost use Rattle.ox_gated.specs.Reading.{reading};
-    ghost use Rattle.ox_gated.specs.Tail.{Holds};
-
     /// Opens two files of version 1. It begins with a sync of both, and changes nothing: at no
     /// moment does a crash leave anything that it didn't leave before. What is opened has a lawful
-    /// head of version 1, whatever the site tells.
+    /// head of version 1, whatever the site tells. Unless a call failed, each crash image of the
+    /// two is then what a read gives.
     ///
     /// `NotStore` comes exactly where the files stand for nothing, with the file and the place of
     /// the first test that fails; `DiskFault` only where a call on a file failed; `Memory` where
@@ -295,13 +327,11 @@ impl Tail {
         ensures behind { IfErr result IsBehindLawful }
         ensures failed { IsErrOf result GateFault.DiskFault
             → Rose (S.counts site.old).disk (S.counts site.new).disk }
+        ensures counted { StopsAtFault (IsErrOf result GateFault.DiskFault) ⊥ ⊥
+            (S.counts site.old) (S.counts site.new) }
+        ensures settled { ¬ IsErrOf result GateFault.DiskFault → IsSettled S.Site site.new }
         ensures looks { OnlyLooks S.Site site.old site.new }
     {
-        settle(site)?;
-        let examined = match examine(alloc, site) {
-            Ok(examined) => examined,
-            Err(fault) => return Err(fault),
-        };
-        read_current(alloc, site, VERSION, &examined)
+        open_files(alloc, site, VERSION)
     }
 }

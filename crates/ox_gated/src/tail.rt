@@ -1,10 +1,12 @@
 // The tail of two files: where the next record comes.
-ghost use Rattle.std.specs.Prelude.{◌≡◌, ◌↔◌, ◌+◌, ◌<◌, ◌^◌, [], Some, IsTrue, IfOk, OnErr};
-ghost use Rattle.ox_outside.specs.Counts.{Rose};
-ghost use Rattle.ox_outside.specs.Runs.{Calls, LeavesOnly};
+ghost use Rattle.std.specs.Prelude.{◌≡◌, ◌↔◌, ◌+◌, ◌<◌, ◌^◌, [], true, IsTrue, IfOk, OnErr};
+ghost use Rattle.ox_outside.specs.Counts.{IsFailure, Rose, StopsAtFault};
+ghost use Rattle.ox_outside.specs.Runs.{LeavesOnly};
+ghost use Rattle.ox_gated.specs.Writes.{OnlyWrites};
 
 use crate::framed::{Checkpoint, Framed};
 use crate::head::Head;
+use crate::two_pieces::write_pieces_synced;
 use crate::writes::write_synced;
 use ox_outside::{Failed, Site, Which};
 use std::marker::Model;
@@ -92,6 +94,23 @@ impl Tail {
         self.records
     }
 
+    /// Whether the other file is closed.
+    pub(crate) fn is_other_closed(&self) -> bool
+        ensures { result ≡ self.now.other_closed }
+    {
+        self.other_closed
+    }
+
+    /// The same tail, once the other file is closed.
+    pub(crate) fn with_other_closed(self) -> Tail
+        ensures { result ≡ record self { other_closed = true } }
+    {
+        Tail {
+            other_closed: true,
+            ..self
+        }
+    }
+
     /// Whether a payload of so many bytes can be appended: each place of the file then still fits
     /// 64 bits.
     pub fn fits(&self, size: u64) -> bool
@@ -124,9 +143,9 @@ impl Tail {
             → LeavesOnly S.Site site.old site.new
             (λ r. IsBeforeOrAfter v framed.now (S.seen site.old) r.files) }
         ensures failed { OnErr result (Rose (S.counts site.old).disk (S.counts site.new).disk) }
-        ensures logged { S.log site.new ≡ S.log site.old }
-        ensures log_stays { LeavesOnly S.Site site.old site.new (λ r. S.log site.old ≡ Some r.log) }
-        ensures calls { Calls S.Site site.old site.new }
+        ensures counted { StopsAtFault (IsFailure result) ⊥ ⊥
+            (S.counts site.old) (S.counts site.new) }
+        ensures writes { OnlyWrites S.Site site.old site.new }
     {
         let bytes = framed.as_slice();
         write_synced(site, self.file, self.gate + 1, bytes)?;
@@ -153,20 +172,21 @@ impl Tail {
         ensures kept { IfOk result (λ tail.
             (tail.file ≡ Which.A) × (tail.head ≡ checkpoint.now.head) × (tail.records ≡ 0)) }
         ensures failed { OnErr result (Rose (S.counts site.old).disk (S.counts site.new).disk) }
-        ensures logged { S.log site.new ≡ S.log site.old }
-        ensures log_stays { LeavesOnly S.Site site.old site.new (λ r. S.log site.old ≡ Some r.log) }
-        ensures calls { Calls S.Site site.old site.new }
+        ensures counted { StopsAtFault (IsFailure result) ⊥ ⊥
+            (S.counts site.old) (S.counts site.new) }
+        ensures writes { OnlyWrites S.Site site.old site.new }
     {
-        let bytes = checkpoint.as_slice();
+        let front = checkpoint.front();
+        let behind = checkpoint.behind();
         write_synced(site, Which::B, 0, &[0])?;
         site.write(Which::A, 0, &[0])?;
-        write_synced(site, Which::A, 1, bytes)?;
+        write_pieces_synced(site, Which::A, 1, front, behind)?;
         write_synced(site, Which::A, 0, &[1])?;
         Ok(Tail {
             file: Which::A,
             head: checkpoint.head(),
             records: 0,
-            gate: bytes.len() as u64,
+            gate: front.len() as u64 + behind.len() as u64,
             other_closed: true,
         })
     }

@@ -1,10 +1,11 @@
 // A write that is on the disk before anything else is done.
-ghost use Rattle.std.specs.Prelude.{◌≡◌, ◌≤◌, IsTrue, OnOk, OnErr, Some, length};
-ghost use Rattle.ox_outside.specs.Counts.{Rose};
+ghost use Rattle.std.specs.Prelude.{◌≡◌, ◌≤◌, IsTrue, OnOk, OnErr, length};
+ghost use Rattle.ox_outside.specs.Counts.{IsFailure, Rose, StopsAtFault};
 ghost use Rattle.ox_outside.specs.Crash.{Remains, Only};
-ghost use Rattle.ox_outside.specs.Runs.{Calls, LeavesOnly};
+ghost use Rattle.ox_outside.specs.Runs.{LeavesOnly};
 ghost use Rattle.ox_outside.specs.Files.{file_of, with_file, with_bytes, other, TornFile};
 ghost use Rattle.ox_gated.specs.Tail.{IsSettled};
+ghost use Rattle.ox_gated.specs.Writes.{OnlyWrites};
 
 use ox_outside::{Failed, Site, Which};
 
@@ -24,10 +25,9 @@ pub fn write_synced<S: Site>(site: &mut S, file: Which, at: u64, bytes: &[u8]) -
     ensures moments { IsSettled S.Site site.old
         → LeavesOnly S.Site site.old site.new
         (λ r. TornFile file at (length bytes.now) (S.seen site.old) r.files) }
-    ensures logged { S.log site.new ≡ S.log site.old }
-    ensures log_stays { LeavesOnly S.Site site.old site.new (λ r. S.log site.old ≡ Some r.log) }
     ensures failed { OnErr result (Rose (S.counts site.old).disk (S.counts site.new).disk) }
-    ensures calls { Calls S.Site site.old site.new }
+    ensures counted { StopsAtFault (IsFailure result) ⊥ ⊥ (S.counts site.old) (S.counts site.new) }
+    ensures writes { OnlyWrites S.Site site.old site.new }
 {
     site.write(file, at, bytes)?;
     site.sync(file)

@@ -13,7 +13,7 @@ returns-clause-found g c told =
     let looks = c.in_ok-body.ensures.looks in
     let rest = c.deref.ensures.value ∙ c.in_ok-rest.ensures.bytes (looks.calls.as_told ∙ told) ∙ ap (λ (f : Files). slice_range (file_of f e.file) (26 + size) (26 + size + (e.len - (26 + size)))) looks.nothing.files in
     let same = current_read c.args.version e.file (file_of (g.S.Site.seen c.args.site.now) e.file) e.opening e.len c.in_ok-body.body.items c.deref.result.now (c.requires.len told) c.if-examined-version.false (sym c.is_cut.ensures ∙ c.if-is_cut.false) (c.in_ok-body.ensures.bytes told) rest in
-    subst (λ (r : Result Found Fault). IfOk c.judge.result (λ o. r ≡ Ok (found_of o))) same c.judge.ensures.found
+    subst (λ (r : Result Found Fault). IfOk c.found_or_fault.result (λ o. r ≡ Ok (found_of o))) same c.found_or_fault.ensures.found
 
 pub returns-clause-fault : goal.returns-clause-fault
 returns-clause-fault g c told =
@@ -22,4 +22,4 @@ returns-clause-fault g c told =
     let looks = c.in_ok-body.ensures.looks in
     let rest = c.deref.ensures.value ∙ c.in_ok-rest.ensures.bytes (looks.calls.as_told ∙ told) ∙ ap (λ (f : Files). slice_range (file_of f e.file) (26 + size) (26 + size + (e.len - (26 + size)))) looks.nothing.files in
     let same = current_read c.args.version e.file (file_of (g.S.Site.seen c.args.site.now) e.file) e.opening e.len c.in_ok-body.body.items c.deref.result.now (c.requires.len told) c.if-examined-version.false (sym c.is_cut.ensures ∙ c.if-is_cut.false) (c.in_ok-body.ensures.bytes told) rest in
-    subst (λ (r : Result Found Fault). IfErr c.judge.result (IsFault r)) same c.judge.ensures.fault
+    subst (λ (r : Result Found Fault). IfErr c.found_or_fault.result (IsFault r)) same c.found_or_fault.ensures.fault

@@ -49,7 +49,7 @@ write_synced-requires-2 g c told_mid =
     let b = c.as_slice-bytes.ensures in
     let i = c.self.inside in
     let first = c.in_ok-write_synced.ensures in
-    let told = sym first.calls.as_told ∙ told_mid in
+    let told = sym first.writes.calls.as_told ∙ told_mid in
     let tail : Kept = record { file = i.file; head = i.head; records = i.records; gate = i.gate; other_closed = i.other_closed } in
     let h : Holds g.S.Site tail c.args.site.now = subst (λ (t : Kept). Holds g.S.Site t c.args.site.now) (sym c.self.view_is) (c.requires.holds told) in
     staged_within g.S.Site c.args.framed.now b.small tail c.as_slice-bytes.result.now b.bytes c.args.site.now c.write_synced.new.site h (first.written told)
@@ -59,7 +59,7 @@ returns-clause-appended g c told =
     let b = c.as_slice-bytes.ensures in
     let i = c.self.inside in
     let first = c.in_ok-write_synced.ensures in
-    let told_mid = first.calls.as_told ∙ told in
+    let told_mid = first.writes.calls.as_told ∙ told in
     let tail : Kept = record { file = i.file; head = i.head; records = i.records; gate = i.gate; other_closed = i.other_closed } in
     let h : Holds g.S.Site tail c.args.site.now = subst (λ (t : Kept). Holds g.S.Site t c.args.site.now) (sym c.self.view_is) (c.requires.holds told) in
     subst (λ (t : Kept). reading t.head.version (g.S.Site.seen c.write_synced-2.new.site) ≡ with_payload c.args.framed.now (reading t.head.version (g.S.Site.seen c.args.site.now))) c.self.view_is
@@ -71,7 +71,7 @@ returns-clause-holds g c told =
     let i = c.self.inside in
     let first = c.in_ok-write_synced.ensures in
     let second = c.in_ok-write_synced-2.ensures in
-    let told_mid = first.calls.as_told ∙ told in
+    let told_mid = first.writes.calls.as_told ∙ told in
     let tail : Kept = record { file = i.file; head = i.head; records = i.records; gate = i.gate; other_closed = i.other_closed } in
     let h : Holds g.S.Site tail c.args.site.now = subst (λ (t : Kept). Holds g.S.Site t c.args.site.now) (sym c.self.view_is) (c.requires.holds told) in
     let settled = staged_settled g.S.Site c.args.framed.now b.small tail c.as_slice-bytes.result.now b.bytes c.args.site.now c.write_synced.new.site h (first.written told) first.durable first.others in

@@ -1,0 +1,29 @@
+use Rattle.std.proofs.Common.{◌≡◌, ◌∙◌, ap, subst}
+use Rattle.ox_outside.specs.Files.{other}
+use Rattle.ox_outside.specs.Runs.{LeavesOnly}
+use Rattle.ox_outside.specs.declared.site.Which.{Which}
+use Rattle.ox_gated.specs.Layout.{Whole}
+use Rattle.ox_gated.specs.OtherFile.{KeptBoth, IsOldOrNew, filled_with}
+use Rattle.ox_gated.specs.Tail.{Kept}
+use Rattle.ox_gated.proofs.Turning.{turn_filling, turn_opening}
+use Rattle.ox_gated.proofs.tail.Tail.turn_to.Goals as goal
+
+pub returns-in_err-filled-clause-any_moment : goal.returns-in_err-filled-clause-any_moment
+returns-in_err-filled-clause-any_moment g c told =
+    let first = c.in_ok-closed.ensures in
+    turn_filling g.S.Site (other c.args.self.file) c.args.checkpoint.now c.args.site.now c.close_other.new.site c.fill_other.new.site (first.alike told) (first.any_moment told) (c.fill_other.ensures.any_moment (first.writes.calls.as_told ∙ told))
+
+pub returns-clause-any_moment : goal.returns-clause-any_moment
+returns-clause-any_moment g c told =
+    let first = c.in_ok-closed.ensures in
+    let second = c.in_ok-filled.ensures in
+    let whole = c.args.checkpoint.now in
+    let told1 = first.writes.calls.as_told ∙ told in
+    let told2 = second.writes.calls.as_told ∙ told1 in
+    let from = c.fill_other.new.site in
+    let file_is : other c.in_ok-filled.filled.tail.file ≡ other c.args.self.file = ap (λ (b : KeptBoth). other b.tail.file) second.kept ∙ ap (λ (t : Kept). other t.file) first.kept in
+    let whole_is : filled_with c.in_ok-filled.filled whole.body ≡ whole = ap (λ (b : KeptBoth). filled_with b whole.body) second.kept in
+    let third = c.open_other.ensures.any_moment told2 whole.body (second.holds told1) in
+    turn_opening g.S.Site (other c.args.self.file) whole c.args.site.now c.close_other.new.site from (first.alike told) c.open_other.new.site (second.alike told1) (first.any_moment told) (second.any_moment told1)
+    (subst (λ (w : Which). LeavesOnly g.S.Site from c.open_other.new.site (λ r. IsOldOrNew w whole (g.S.Site.seen from) r.files)) file_is
+    (subst (λ (x : Whole). LeavesOnly g.S.Site from c.open_other.new.site (λ r. IsOldOrNew (other c.in_ok-filled.filled.tail.file) x (g.S.Site.seen from) r.files)) whole_is third))
