@@ -8,7 +8,7 @@ use ox_envelope::{Ids, InsId};
 
 /// An inscription: what its envelope says, and where it was made. Its sequence is its place among
 /// all rows, from 0.
-#[derive(Debug, Drop)]
+#[derive(Debug)]
 pub struct InsRow {
     /// The transaction that revealed it, and how many of that transaction's envelopes come before.
     pub id: InsId,
@@ -37,6 +37,26 @@ pub struct InsRow {
     pub marks: u16,
     /// The satoshi that it is on. An unbound inscription is on none.
     pub sat: Option<u64>,
+}
+
+// By hand, so that whoever drops a row makes one call, and proves nothing of its fields.
+impl Drop for InsRow {
+    fn drop(self) {
+        let InsRow {
+            id: _id,
+            height: _height,
+            content_type: _content_type,
+            body: _body,
+            metadata: _metadata,
+            metaprotocol: _metaprotocol,
+            encoding: _encoding,
+            pointer: _pointer,
+            delegate: _delegate,
+            parents: _parents,
+            marks: _marks,
+            sat: _sat,
+        } = self;
+    }
 }
 
 impl InsRow {

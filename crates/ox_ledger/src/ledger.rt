@@ -55,7 +55,6 @@ fn made_of(row: &RuneRow) -> u128
 ///
 /// What there is of each rune, with outputs, due and burned, is what its etching and its mints gave
 /// (`Balanced`).
-#[derive(Drop)]
 pub struct Ledger {
     alloc: Global,
     profile: Profile,
@@ -66,6 +65,19 @@ pub struct Ledger {
     ghost balanced: { Balanced (runes_of tables) } by { Prim.hlevel props },
     ghost balanced_then: { ForSome (mark_of tables) Balanced } by { Prim.hlevel props },
     ghost known: { marked ≡ is_some (mark_of tables) },
+}
+
+// By hand, so that whoever drops a ledger makes one call, and proves nothing of its fields.
+impl Drop for Ledger {
+    fn drop(self) {
+        let Ledger {
+            alloc: _alloc,
+            profile: _profile,
+            tables: _tables,
+            marked: _marked,
+            sum: _sum,
+        } = self;
+    }
 }
 
 impl Ledger {

@@ -28,7 +28,7 @@ pub struct CountChange {
 }
 
 /// What of a change between two states of the ledger is about runes.
-#[derive(Debug, Drop)]
+#[derive(Debug)]
 pub struct RunePart {
     /// The balances that are gone, by rising outpoint. One that changed is in both lists.
     pub before: List<Placement>,
@@ -38,6 +38,18 @@ pub struct RunePart {
     pub counts: List<CountChange>,
     /// The runes that were appended.
     pub appended: List<RuneRow>,
+}
+
+// By hand, so that whoever drops a part makes one call, and proves nothing of its fields.
+impl Drop for RunePart {
+    fn drop(self) {
+        let RunePart {
+            before: _before,
+            after: _after,
+            counts: _counts,
+            appended: _appended,
+        } = self;
+    }
 }
 
 /// What is counted of a rune.

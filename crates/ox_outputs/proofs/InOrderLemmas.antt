@@ -31,11 +31,11 @@ use Rattle.ox_outputs.proofs.SlotLemmas.{equal, get-put_slot}
 abbrev Entries : Type 0
 Entries = List (OutPoint × OutRow)
 
-rest_apart : (e : Option Slot) (slots : SlotList) → AreApart (e ∷ slots) → AreApart slots
+pub rest_apart : (e : Option Slot) (slots : SlotList) → AreApart (e ∷ slots) → AreApart slots
 rest_apart e slots apart at p q one two = cc (apart at (suc p) (suc q) one two)
 
 -- the outpoint of the first slot is that of no other
-first_alone : (s : Slot) (slots : SlotList) → AreApart (Some s ∷ slots) → IsNowhere slots s.at
+pub first_alone : (s : Slot) (slots : SlotList) → AreApart (Some s ∷ slots) → IsNowhere slots s.at
 first_alone s slots apart p is = absurd (cc (apart s.at zero (suc p) refl is))
 
 not_none : (at : OutPoint) (s : Slot) (slots : SlotList) → IsNowhere (Some s ∷ slots) at → is_same at s.at ≡ false

@@ -2,6 +2,7 @@ pub mod DifferingRows
 pub mod OutputsLemmas
 pub mod InOrderLemmas
 pub mod ListLemmas
+pub mod NextLemmas
 pub mod PlaceLemmas
 pub mod RowLemmas
 pub mod SlotLemmas

@@ -8,3 +8,4 @@ pub mod Table
 pub mod Differing
 pub mod Fronts
 pub mod InOrder
+pub mod Next

@@ -8,6 +8,7 @@ mod entry;
 mod held;
 mod in_order;
 mod locator;
+mod next;
 mod outputs;
 mod places;
 mod ranked;

@@ -3,7 +3,7 @@
 ghost use Rattle.std.specs.Prelude.{◌≡◌, ◌≢◌, ℕ, true, false, [], IsSome, IfSome, IfNone};
 ghost use Rattle.std.specs.Prelude.{IfOk, IfErr, OnOk, OnErr};
 ghost use Rattle.std.specs.Prelude.{length, if◌then◌else◌, Some, None};
-ghost use Rattle.std.specs.Option.{option_copied};
+ghost use Rattle.std.specs.Option.{option_copied, option_map};
 ghost use Rattle.std.specs.FinMap as map;
 ghost use Rattle.ox_outputs.specs.Slots.{outpoint_at, rows_of, undone, AreSpots};
 ghost use Rattle.ox_outputs.specs.Located.{StandOnce, LeadTo};
@@ -24,7 +24,6 @@ use std::alloc::Global;
 /// the mark are kept until the next mark, so that to go back takes no memory; where there is no
 /// mark, what changes is kept in the same way, and let go when one is set. Beside them stands which
 /// slot holds each satoshi.
-#[derive(Drop)]
 pub struct Outputs {
     alloc: Global,
     slots: Slots,
@@ -44,10 +43,26 @@ pub struct Outputs {
         (undone before.items changed.items (rows_of slots)) },
 }
 
+// By hand, so that whoever drops outputs makes one call, and proves nothing of its fields.
+impl Drop for Outputs {
+    fn drop(self) {
+        let Outputs {
+            alloc: _alloc,
+            slots: _slots,
+            changed: _changed,
+            before: _before,
+            marked: _marked,
+            locator: _locator,
+            ahead: _ahead,
+        } = self;
+    }
+}
+
 impl Outputs {
     ghost use Rattle.ox_rules.specs.Where.{place_among};
     ghost use Rattle.ox_rules.specs.Differences.{Differ, other_end, without_rows};
     ghost use Rattle.ox_rules.specs.Outputs.{Outputs as Rows, MayStand};
+    ghost use Rattle.ox_outputs.specs.Next.{next_of};
     ghost use Rattle.ox_outputs.specs.Table.{rows_in, marked_in, EndsIn};
 
     /// No outputs, and no mark. It takes no memory until a row is placed.
@@ -84,6 +99,16 @@ impl Outputs {
         ensures { IfOk result (λ order. order ≡ map.entries (rows_in self.now)) }
     {
         self.slots.in_order(self.alloc)
+    }
+
+    /// The first row by rising outpoint with its outpoint, or the first past an outpoint; `None`
+    /// exactly where there is none. It takes no memory. So it looks at all rows, each time that it
+    /// is called: tests alone call it, and who reads all rows in order calls `in_order`.
+    pub fn next_row(&self, past: Option<&OutPoint>) -> Option<(&OutPoint, &OutRow)>
+        ensures { option_map (λ e. (e.0.now, e.1.now)) result
+            ≡ next_of (option_copied past.entry) (map.entries (rows_in self.now)) }
+    {
+        self.slots.next_row(past)
     }
 
     /// Says which block comes next, with the ids of its transactions, in order. It is a hint, by

@@ -2,15 +2,17 @@
 
 ghost use Rattle.std.specs.Prelude.{◌≡◌, ◌≢◌, ℕ, [], Some, None, IsSome, IfSome, IfNone, IfOk};
 ghost use Rattle.std.specs.Prelude.{IfErr, OnOk, OnErr};
-ghost use Rattle.std.specs.Option.{option_copied};
+ghost use Rattle.std.specs.Option.{option_copied, option_map};
 ghost use Rattle.std.specs.FinMap as map;
 ghost use Rattle.ox_block.specs.declared.block.OutPoint.{OutPoint};
 ghost use Rattle.ox_outputs.specs.Slots.{outpoint_at, slot_at, put_slot, rows_of, unless_empty};
 ghost use Rattle.ox_outputs.specs.Slots.{KeepRows};
 ghost use Rattle.ox_outputs.specs.Located.{place_held, begins_in, counted};
+ghost use Rattle.ox_outputs.specs.Next.{next_of};
 
 use crate::held::{Held, begins_at, exchange_in, give_out, locate_in, row_in, take_back, vacate};
 use crate::in_order::{InOrder, in_order};
+use crate::next::next_in;
 use crate::places::Places;
 use ox_block::OutPoint;
 use ox_rules::{Memory, OutRow, Place, Unplaced};
@@ -78,6 +80,14 @@ impl Slots {
         ensures { IfOk result (λ order. order ≡ map.entries (rows_of self.now)) }
     {
         in_order(alloc, &self.held)
+    }
+
+    /// The first row by rising outpoint, or the first past an outpoint. It looks at all slots.
+    pub(crate) fn next_row(&self, past: Option<&OutPoint>) -> Option<(&OutPoint, &OutRow)>
+        ensures { option_map (λ e. (e.0.now, e.1.now)) result
+            ≡ next_of (option_copied past.entry) (map.entries (rows_of self.now)) }
+    {
+        next_in(&self.held, past.copied())
     }
 
     /// The row in the slot at this place.

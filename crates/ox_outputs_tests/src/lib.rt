@@ -6,4 +6,6 @@ mod crowd;
 #[cfg(test)]
 mod locating;
 #[cfg(test)]
+mod ordered;
+#[cfg(test)]
 mod tests;
