@@ -7,6 +7,8 @@
 //! - `script BYTES`: the envelopes of a script, and what each says;
 //! - `items BYTES`: how many items a script has;
 //! - `envelopes BYTES`: how many envelopes a script has, and how many of them have a body;
+//! - `made HEIGHT HEX HEX`: the bytes of the block that is made of this height behind the block of
+//!   that hash, whose coinbase has that id;
 //! - `value HEX`: a field's value as an id;
 //! - `text TEXT`: a text as an id.
 //!
@@ -21,11 +23,13 @@
 #![tactic(auto)]
 
 mod blocks;
+mod made;
 mod print;
 mod scripts;
 mod spell;
 
 use crate::blocks::{print_fronts, print_order, print_read};
+use crate::made::print_made;
 use crate::scripts::{print_id, print_items, print_script, print_tally};
 use crate::spell::{bytes_from, bytes_of};
 use anyhow::{Context, bail};
@@ -44,6 +48,7 @@ fn run(rt: &impl Print, alloc: Global, row: &str, times: u32) -> anyhow::Result<
         "script" => print_script(rt, alloc, &bytes_from(alloc, rest)?),
         "items" => Ok(print_items(rt, &bytes_from(alloc, rest)?, times)?),
         "envelopes" => print_tally(rt, alloc, &bytes_from(alloc, rest)?, times),
+        "made" => print_made(rt, alloc, rest),
         "value" => Ok(print_id(rt, read_id(&bytes_of(alloc, rest)?))?),
         "text" => Ok(print_id(rt, read_id_text(rest.as_bytes()))?),
         _ => bail!("no row"),

@@ -1,5 +1,7 @@
 pub mod Audits
 pub mod Chain
+pub mod Changes
+pub mod Earlier
 pub mod Fault
 pub mod Held
 pub mod Lengths

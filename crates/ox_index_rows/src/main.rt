@@ -6,6 +6,8 @@
 //! - `block WORD..`: connects the block that has these bytes, one word's behind the other's, and
 //!   says how that ended. A word has hex digits, or how often they stand, a `*` and hex digits;
 //! - `disconnect`: takes a chain's newest block back, and says how that ended;
+//! - `cancel block WORD..`, `cancel disconnect`: does the same in a chain and cancels it, and says
+//!   how each ended;
 //! - `both HEX WORD..`: connects a block to a live index, goes back by its change and on again, and
 //!   cancels that. It dumps the index after each step;
 //! - `dump WORD..`: prints the whole index, and looks each word up;
@@ -29,6 +31,7 @@
 #![tactic(auto)]
 
 mod both;
+mod cancel;
 mod end;
 mod look;
 mod replies;
@@ -37,6 +40,7 @@ mod show;
 mod spell;
 
 use crate::both::lead_both_ways;
+use crate::cancel::carry_out_and_cancel;
 use crate::end::print_end;
 use crate::look::{dump, print_looks};
 use crate::requests::{print_answer, reply_often};
@@ -117,6 +121,14 @@ fn disconnect_row(rt: &impl Print, alloc: Global, index: &mut Index) -> io::Resu
     print_end(rt, alloc, chain.live(), fault)
 }
 
+/// Carries out a chain's command that is spelled so, and cancels it.
+fn cancel_row(rt: &impl Print, alloc: Global, index: &mut Index, words: &str) -> io::Result<()> {
+    match index {
+        Index::Chain(chain) => carry_out_and_cancel(rt, alloc, chain, words),
+        Index::Live(_) => println!(rt; "no chain"),
+    }
+}
+
 /// Leads a live index both ways by the block that is spelled first.
 fn both_row(rt: &impl Print, alloc: Global, index: &mut Index, rest: &str) -> io::Result<()> {
     let Index::Live(live) = index else {
@@ -175,6 +187,7 @@ fn run(
         "block" => connect_row(rt, alloc, index, rest),
         "both" => both_row(rt, alloc, index, rest),
         "disconnect" => disconnect_row(rt, alloc, index),
+        "cancel" => cancel_row(rt, alloc, index, rest),
         "dump" => dump_row(rt, index, rest),
         "look" => print_looks(rt, live_in(index), rest),
         _ => request_row(rt, alloc, routes, index, row),

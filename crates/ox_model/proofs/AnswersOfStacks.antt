@@ -11,9 +11,9 @@ use Rattle.ox_feed.specs.declared.command.Command.TheVariants.{Connect, Disconne
 use Rattle.ox_sat.specs.declared.profiles.Profile.{Profile}
 use Rattle.ox_model.specs.Chain.{after_block, index_of, kept_index}
 use Rattle.ox_model.specs.Index.{Index, no_blocks}
-use Rattle.ox_model.specs.Machine.{Machine, all_but_last, chain_index, chosen, chosen_if, older_of, stack_of, turn}
-use Rattle.ox_model.specs.Stack.{Stack, back_to, stack_after_any, turn_on, with_index}
-use Rattle.ox_model.specs.Replies.{after_turn, reply_by, after_by, replies_by, after, replies, index_on, after_on, replies_on}
+use Rattle.ox_model.specs.Machine.{Machine, all_but_last, chain_index, chosen, chosen_if, older_of, stack_of, turn, turn_by_any, turn_by_command}
+use Rattle.ox_model.specs.Stack.{Stack, back_to, stack_after, stack_after_any, turn_on, with_index}
+use Rattle.ox_model.specs.Replies.{after_turn, reply_by, after_by, replies_by, after, after_commands, replies, index_on, after_commands_on, after_on, replies_on}
 use Rattle.ox_model.specs.Step.{step}
 use Rattle.ox_rules.specs.Text.{block_line, ok_text, refusal_line}
 use Rattle.ox_rules.specs.declared.refusal.Refusal.{Refusal}
@@ -96,8 +96,12 @@ obeys_alike m (Some (Connect bytes)) = connects m bytes (step m.profile (chain_i
 obeys_alike m (Some Disconnect) = goes_back m m.kept refl
 obeys_alike m None = refl
 
+turns_by_any : (m : Machine) (command : Option Command) → on_stack (turn_by_any m command) ≡ stack_after_any (stack_of m) command
+turns_by_any m (Some command) = obeys_alike m (Some command)
+turns_by_any m None = refl
+
 turns_alike : (m : Machine) (line : FeedLine) → on_stack (turn m line) ≡ turn_on (stack_of m) line
-turns_alike m (text line) = obeys_alike m (command_of line)
+turns_alike m (text line) = turns_by_any m (command_of line)
 turns_alike m too_long = refl
 
 stack_of-after_turn : (m : Machine) (r : Result Machine Refusal) → stack_of (after_turn m r) ≡ after_turn (stack_of m) (on_stack r)
@@ -129,18 +133,28 @@ unfolding after_by
 after_alike m [] = refl
 after_alike m (line ∷ lines) = after_alike (after_turn m (turn m line)) lines ∙ ap (λ (s : Stack). after_on s lines) (one_after m line)
 
--- ---- lines one after the other
+one_command_after : (m : Machine) (command : Command) → stack_of (after_turn m (turn_by_command m command)) ≡ after_turn (stack_of m) (stack_after (stack_of m) command)
+one_command_after m command = stack_of-after_turn m (turn_by_command m command) ∙ ap (after_turn (stack_of m)) (obeys_alike m (Some command))
 
-module _ {X : Type 0} (turn_by : X → FeedLine → Result X Refusal) where
+pub commands_alike : (m : Machine) (commands : List Command) → stack_of (after_commands m commands) ≡ after_commands_on (stack_of m) commands
+unfolding after_by
+commands_alike m [] = refl
+commands_alike m (command ∷ commands) =
+    commands_alike (after_turn m (turn_by_command m command)) commands
+    ∙ ap (λ (s : Stack). after_commands_on s commands) (one_command_after m command)
+
+-- ---- lines one after the other, or commands
+
+module _ {X C : Type 0} (turn_by : X → C → Result X Refusal) where
   pub after_none : (state : X) → after_by turn_by state [] ≡ state
   unfolding after_by
   after_none state = refl
 
-  pub after_one : (state : X) (line : FeedLine) → after_by turn_by state (line ∷ []) ≡ after_turn state (turn_by state line)
+  pub after_one : (state : X) (line : C) → after_by turn_by state (line ∷ []) ≡ after_turn state (turn_by state line)
   unfolding after_by
   after_one state line = refl
 
-  pub after_joined : (state : X) (x y : List FeedLine) → after_by turn_by state (x ++ y) ≡ after_by turn_by (after_by turn_by state x) y
+  pub after_joined : (state : X) (x y : List C) → after_by turn_by state (x ++ y) ≡ after_by turn_by (after_by turn_by state x) y
   unfolding after_by
   after_joined state [] y = refl
   after_joined state (line ∷ x) y = after_joined (after_turn state (turn_by state line)) x y
@@ -150,19 +164,19 @@ module _ {X : Type 0} (turn_by : X → FeedLine → Result X Refusal) where
     unfolding replies_by
     replies_none state = refl
 
-    pub replies_line : (state : X) (line : FeedLine) (lines : List FeedLine)
+    pub replies_line : (state : X) (line : C) (lines : List C)
         → replies_by turn_by index state (line ∷ lines) ≡ reply_by index (turn_by state line) ∷ replies_by turn_by index (after_turn state (turn_by state line)) lines
     unfolding replies_by
     replies_line state line lines = refl
 
-    pub replies_joined : (state : X) (x y : List FeedLine)
+    pub replies_joined : (state : X) (x y : List C)
         → replies_by turn_by index state (x ++ y) ≡ replies_by turn_by index state x ++ replies_by turn_by index (after_by turn_by state x) y
     unfolding after_by replies_by
     replies_joined state [] y = refl
     replies_joined state (line ∷ x) y =
         ap (λ (l : List (List ℕ)). reply_by index (turn_by state line) ∷ l) (replies_joined (after_turn state (turn_by state line)) x y)
 
-    pub replies_length : (state : X) (lines : List FeedLine) → length (replies_by turn_by index state lines) ≡ length lines
+    pub replies_length : (state : X) (lines : List C) → length (replies_by turn_by index state lines) ≡ length lines
     unfolding replies_by
     replies_length state [] = refl
     replies_length state (line ∷ lines) = ap suc (replies_length (after_turn state (turn_by state line)) lines)

@@ -9,9 +9,10 @@ use Rattle.ox_feed.specs.declared.command.Command.{Command}
 use Rattle.ox_feed.specs.declared.command.Command.TheVariants.{Connect, Disconnect}
 use Rattle.ox_sat.specs.declared.profiles.Profile.{Profile}
 use Rattle.ox_rules.specs.declared.refusal.Refusal.{Refusal}
+use Rattle.ox_rules.specs.declared.refusal.Refusal.TheVariants.{TooLong, Syntax}
 use Rattle.ox_model.specs.Chain.{index_of}
 use Rattle.ox_model.specs.Index.{Index}
-use Rattle.ox_model.specs.Stack.{Stack, turn_on}
+use Rattle.ox_model.specs.Stack.{Stack, stack_after}
 
 pub record Machine : Type 0 where
   -- the profile by which its chain counts
@@ -63,16 +64,22 @@ chosen machine (Some Disconnect) = record machine {
 }
 chosen machine None = machine
 
--- and after a line that is
-abbrev pub chosen_by : Machine → FeedLine → Machine
-chosen_by machine (text line) = chosen machine (command_of line)
-chosen_by machine too_long = machine
-
 -- the machine, where its stack has turned
 abbrev pub chosen_if : Machine → Result Stack Refusal → Result Machine Refusal
 chosen_if machine (Ok stack) = Ok machine
 chosen_if machine (Err refusal) = Err refusal
 
--- the machine after a line, or why it is refused: what its stack says
+-- the machine after a command, or why it is refused: what its stack says
+abbrev pub turn_by_command : Machine → Command → Result Machine Refusal
+turn_by_command machine command =
+    chosen_if (chosen machine (Some command)) (stack_after (stack_of machine) command)
+
+-- a line that is no command is refused
+abbrev pub turn_by_any : Machine → Option Command → Result Machine Refusal
+turn_by_any machine (Some command) = turn_by_command machine command
+turn_by_any machine None = Err Syntax
+
+-- the machine after a line, or why it is refused
 abbrev pub turn : Machine → FeedLine → Result Machine Refusal
-turn machine line = chosen_if (chosen_by machine line) (turn_on (stack_of machine) line)
+turn machine (text line) = turn_by_any machine (command_of line)
+turn machine too_long = Err TooLong

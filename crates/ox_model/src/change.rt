@@ -8,7 +8,7 @@ use ox_rules::TableRows;
 
 /// What one block changes in the index: with the index before it, it gives the one after it, and
 /// the other way round.
-#[derive(Debug, Drop)]
+#[derive(Debug)]
 pub struct Change {
     /// The block's hash, in serialized order.
     pub hash: [u8; 32],
@@ -22,4 +22,18 @@ pub struct Change {
     pub inscriptions: List<SharedRow>,
     /// What it changed of runes and balances.
     pub runes: RunePart,
+}
+
+// By hand, so that whoever drops a change makes one call, and proves nothing of its fields.
+impl Drop for Change {
+    fn drop(self) {
+        let Change {
+            hash: _hash,
+            gone: _gone,
+            came: _came,
+            lost: _lost,
+            inscriptions: _inscriptions,
+            runes: _runes,
+        } = self;
+    }
 }

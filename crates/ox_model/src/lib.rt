@@ -9,6 +9,7 @@ mod view;
 ghost use Rattle.std.specs.Prelude.{◌≡◌, ℕ, ℤ, ◌+◌, ◌-◌, ◌<◌, List, [], ◌∷◌, ◌++◌, length, take};
 ghost use Rattle.std.specs.Prelude.{slice_get, All, Some, Ok};
 ghost use Rattle.ox_feed.specs.Feed.{FeedLine};
+ghost use Rattle.ox_feed.specs.declared.command.Command.{Command};
 ghost use Rattle.ox_sat.specs.Profiles.{IsProfile};
 ghost use Rattle.ox_sat.specs.declared.profiles.Profile.{Profile};
 ghost use Rattle.ox_inscribe.specs.Signed.{number_at};
@@ -19,7 +20,8 @@ ghost use Rattle.ox_model.specs.Chain.{index_of};
 ghost use Rattle.ox_model.specs.Change.{IsChange, redone, undone};
 ghost use Rattle.ox_model.specs.Index.{Index};
 ghost use Rattle.ox_model.specs.Machine.{Machine, stack_of};
-ghost use Rattle.ox_model.specs.Replies.{after, after_on, replies, replies_on};
+ghost use Rattle.ox_model.specs.Replies.{after, after_commands, after_commands_on, after_on};
+ghost use Rattle.ox_model.specs.Replies.{replies, replies_on};
 ghost use Rattle.ox_model.specs.Sound.{IsSound, SoundHeights, SoundInscriptions, SoundOutputs};
 ghost use Rattle.ox_model.specs.Sound.{SoundSats};
 ghost use Rattle.ox_model.specs.Stack.{Stack};
@@ -82,12 +84,15 @@ pub fn audits_balance()
 
 /// A machine's answers to lines, each by fresh indexing of its blocks then, are those of its stack,
 /// and so is where the lines lead: each index of that stack is fresh indexing of the chain that the
-/// lines chose.
+/// lines chose. Commands lead both alike too.
 pub fn stacks_follow_chains()
     ensures answers { (machine : Machine) (lines : List FeedLine)
         → replies machine lines ≡ replies_on (stack_of machine) lines }
     ensures leads { (machine : Machine) (lines : List FeedLine)
         → stack_of (after machine lines) ≡ after_on (stack_of machine) lines }
+    ensures commands { (machine : Machine) (commands : List Command)
+        → stack_of (after_commands machine commands)
+        ≡ after_commands_on (stack_of machine) commands }
 {}
 
 /// The older indexes of a machine's stack are one for each kept block: the first is that of the

@@ -8,7 +8,7 @@ use ox_range::Ranges;
 use std::alloc::Global;
 
 /// An unspent output.
-#[derive(Debug, Drop)]
+#[derive(Debug)]
 pub struct OutRow {
     /// The output's script.
     pub script: Script,
@@ -16,6 +16,17 @@ pub struct OutRow {
     pub height: u32,
     /// The satoshis that it holds, in order.
     pub sats: Ranges,
+}
+
+// By hand, so that whoever drops a row makes one call, and proves nothing of its fields.
+impl Drop for OutRow {
+    fn drop(self) {
+        let OutRow {
+            script: _script,
+            height: _height,
+            sats: _sats,
+        } = self;
+    }
 }
 
 impl OutRow {
