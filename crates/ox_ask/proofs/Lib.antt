@@ -1,3 +1,4 @@
+pub mod Agree
 pub mod Balances
 pub mod Escapes
 pub mod Floats
@@ -6,6 +7,7 @@ pub mod Inscriptions
 pub mod Nowhere
 pub mod Pages
 pub mod Read
+pub mod Rising
 pub mod RuneIds
 pub mod Runes
 pub mod Told

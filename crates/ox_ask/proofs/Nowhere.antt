@@ -26,7 +26,7 @@ passed_by sat (x ∷ sats) none = by (x == sat) (sym (sum_by-cons (λ s. cond (s
     by true e rest = absurd (omega (arith, e))
     by false e rest = let r : position_or_len (λ s. s == sat) sats ≡ length sats = rest (omega (arith, e)) in omega (arith, r)
 
-in_no_place : (sat : ℕ) (sats : List ℕ) → times sat sats ≡ 0 → place_in sats sat ≡ None
+pub in_no_place : (sat : ℕ) (sats : List ℕ) → times sat sats ≡ 0 → place_in sats sat ≡ None
 in_no_place sat sats none =
     ap (λ n. cond (ltb n (length sats)) (Some n) None) (passed_by sat sats none)
     ∙ ap (λ b. cond b (Some (length sats)) None) (le-ltb (length sats) (length sats) (le_refl (length sats)))

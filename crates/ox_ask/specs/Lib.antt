@@ -2,6 +2,7 @@ pub mod Ask
 pub mod Audits
 pub mod Content
 pub mod Inscriptions
+pub mod Keys
 pub mod Named
 pub mod Pages
 pub mod Runes
