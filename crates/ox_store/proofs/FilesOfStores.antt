@@ -4,7 +4,6 @@ use Rattle.std.specs.Prelude.{Ok}
 use Rattle.ox_outside.specs.Files.{Files}
 use Rattle.ox_outside.specs.declared.site.Which.TheVariants.{A}
 use Rattle.ox_gated.specs.Layout.{Whole}
-use Rattle.ox_gated.specs.declared.head.Head.{Head}
 use Rattle.ox_gated.specs.Reading.{reading, with_payload}
 use Rattle.ox_gated.specs.Tail.{IsBeforeOrAfter, new_found}
 use Rattle.ox_model.specs.Stack.{Stack}
@@ -13,16 +12,11 @@ use Rattle.ox_sat.specs.Profiles.{name_at, profile_named}
 use Rattle.ox_files.proofs.FilesOfChains.{stands_more}
 use Rattle.ox_sat.specs.declared.profiles.ProfileName.{ProfileName}
 use Rattle.ox_sat.specs.declared.profiles.ProfileName.TheVariants.{Mainnet, Regtest, Lab}
-use Rattle.ox_store.specs.Make.{made_stack}
+use Rattle.ox_store.specs.Make.{first_head, made_stack}
 use Rattle.ox_store.specs.Ready.{PreparedCommand, Leads, StandsForEither}
 use Rattle.ox_replay.proofs.ReplayByRecord.{replayed_none}
 
 -- ---- a store that is made
-
--- the head of its file: version 1, generation 1
-abbrev first_head : ProfileName → ℕ → Head
-first_head name depth =
-    record { version = 1; profile = (profile_named name).byte; depth = depth; generation = 1 }
 
 -- a profile's byte names it
 name_named : (name : ProfileName) → name_at (profile_named name).byte ≡ name

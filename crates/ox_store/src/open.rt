@@ -1,12 +1,12 @@
 //! The opening of two files.
 
 ghost use Rattle.std.specs.Prelude.{◌≡◌, Ok, Result, IsTrue, IfOk, IfErr, IsErrOf};
-ghost use Rattle.ox_outside.specs.Counts.{Rose};
+ghost use Rattle.ox_outside.specs.Counts.{Rose, StopsAtFault};
 ghost use Rattle.ox_outside.specs.Runs.{OnlyLooks};
 ghost use Rattle.ox_gated.specs.Layout.{is_lawful};
 ghost use Rattle.ox_gated.specs.Opened.{IsBehindLawful, IsFault, found_of};
 ghost use Rattle.ox_gated.specs.Reading.{Found, Fault};
-ghost use Rattle.ox_gated.specs.Tail.{Holds};
+ghost use Rattle.ox_gated.specs.Tail.{Holds, IsSettled};
 ghost use Rattle.ox_files.specs.Stands.{stack_in};
 ghost use Rattle.ox_store.specs.Fault.{IsMisfit, fault_in};
 
@@ -37,6 +37,10 @@ impl Store {
             → IfErr result (IsMisfit (stands (S.seen site.old))) }
         ensures failed { IsErrOf result OpenFault.DiskFault
             → Rose (S.counts site.old).disk (S.counts site.new).disk }
+        ensures counted { StopsAtFault (IsErrOf result OpenFault.DiskFault) ⊥ ⊥
+            (S.counts site.old) (S.counts site.new) }
+        // Each crash leaves what is read, unless a call failed.
+        ensures settled { ¬ IsErrOf result OpenFault.DiskFault → IsSettled S.Site site.new }
         ensures looks { OnlyLooks S.Site site.old site.new }
     {
         match Tail::open(alloc, site) {
@@ -73,6 +77,7 @@ fn fault_of(alloc: Global, fault: GateFault) -> OpenFault
     ensures misfit { (reading : Result Found Fault) → IsFault reading fault
         → IsMisfit (stack_in reading) result }
     ensures disk { result ≡ OpenFault.DiskFault → fault ≡ GateFault.DiskFault }
+    ensures disk_alone { fault ≡ GateFault.DiskFault → result ≡ OpenFault.DiskFault }
 {
     match fault {
         GateFault::NotStore { file, at, before } => in_file(file, earliest(alloc, before, at)),

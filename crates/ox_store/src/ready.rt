@@ -1,9 +1,10 @@
 //! A command between its preparation and its record.
 
-ghost use Rattle.std.specs.Prelude.{◌≡◌, ◌+◌, Some, Ok, IsTrue, IfOk, OnErr};
-ghost use Rattle.ox_outside.specs.Counts.{Rose};
-ghost use Rattle.ox_outside.specs.Runs.{Calls, LeavesOnly};
+ghost use Rattle.std.specs.Prelude.{◌≡◌, ◌+◌, Ok, IsTrue, IfOk, OnErr};
+ghost use Rattle.ox_outside.specs.Counts.{IsFailure, Rose, StopsAtFault};
+ghost use Rattle.ox_outside.specs.Runs.{LeavesOnly};
 ghost use Rattle.ox_gated.specs.Tail.{Holds};
+ghost use Rattle.ox_gated.specs.Writes.{OnlyWrites};
 
 use crate::store::Store;
 use ox_gated::{DiskFault, Framed, Tail};
@@ -28,8 +29,6 @@ pub enum Moving<'a> {
 pub struct Ready {
     pub(crate) alloc: Global,
     pub(crate) chain: Chain,
-    /// The change of the block that a disconnect took back.
-    pub(crate) taken_back: Option<Change>,
     pub(crate) tail: Tail,
     pub(crate) commands: u64,
     pub(crate) framed: Framed,
@@ -40,7 +39,7 @@ impl Model for Ready {
     ghost use Rattle.std.specs.Coded.{codes};
     ghost use Rattle.std.specs.FinMap as map;
     ghost use Rattle.ox_gated.specs.Tail.{Fits};
-    ghost use Rattle.ox_index.specs.Chain.{stack_in};
+    ghost use Rattle.ox_index.specs.Chain.{stack_in, taken_back_in};
     ghost use Rattle.ox_store.specs.Ready.{HasChange, PreparedCommand, left_by};
 
     ghost Value = { PreparedCommand };
@@ -49,7 +48,7 @@ impl Model for Ready {
 
     ghost view = { λ r.
         record {
-          left = left_by (stack_in r.chain) (stack_in r.chain).older r.taken_back;
+          left = left_by (stack_in r.chain) (stack_in r.chain).older (taken_back_in r.chain);
           stack = stack_in r.chain;
           tail = r.tail;
           commands = r.commands;
@@ -58,7 +57,7 @@ impl Model for Ready {
 
     ghost invariant = { λ r.
         (r.tail.head.version ≡ 1) × (r.commands < 2 ^ 64 - 1)
-        × Fits r.tail (length r.framed) × HasChange (stack_in r.chain) r.taken_back };
+        × Fits r.tail (length r.framed) × HasChange (stack_in r.chain) (taken_back_in r.chain) };
 }
 
 impl Ready {
@@ -82,7 +81,7 @@ impl Ready {
     pub fn moving(&self) -> Moving<'_>
         ensures { Moves self.now.left self.now.stack.index result }
     {
-        match &self.taken_back {
+        match self.chain.taken_back() {
             Some(change) => Moving::Back(change),
             None => match self.chain.changes().get(0) {
                 Some(change) => Moving::On(change),
@@ -113,14 +112,13 @@ impl Ready {
             → LeavesOnly S.Site site.old site.new
             (λ r. StandsForEither before self.stack r.files) }
         ensures failed { OnErr result (Rose (S.counts site.old).disk (S.counts site.new).disk) }
-        ensures logged { S.log site.new ≡ S.log site.old }
-        ensures log_stays { LeavesOnly S.Site site.old site.new (λ r. S.log site.old ≡ Some r.log) }
-        ensures calls { Calls S.Site site.old site.new }
+        ensures counted { StopsAtFault (IsFailure result) ⊥ ⊥
+            (S.counts site.old) (S.counts site.new) }
+        ensures writes { OnlyWrites S.Site site.old site.new }
     {
         let Ready {
             alloc,
             chain,
-            taken_back: _taken_back,
             tail,
             commands,
             framed,

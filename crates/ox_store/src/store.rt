@@ -1,24 +1,25 @@
 //! A store between two commands.
 
-ghost use Rattle.std.specs.Prelude.{◌≡◌, ◌≢◌, ◌≤◌, ◌<◌, ◌^◌, ◌+◌, ◌-◌, ◌∷◌, ◌↔◌, ◌⊎◌, length};
-ghost use Rattle.std.specs.Prelude.{Some, Ok, Err, IsTrue, IfOk, IfErr, IsErrOf, OnOk, OnErr};
-ghost use Rattle.ox_outside.specs.Counts.{Rose};
-ghost use Rattle.ox_outside.specs.Runs.{Calls, LeavesOnly, OnlyLooks};
+ghost use Rattle.std.specs.Prelude.{◌≡◌, ◌≢◌, ◌≤◌, ◌<◌, ◌^◌, ◌+◌, ◌-◌, [], ◌∷◌, ◌↔◌, ◌⊎◌};
+ghost use Rattle.std.specs.Prelude.{length, Ok, Err, IsTrue, IfOk, IfErr, IsErrOf, OnOk, OnErr};
+ghost use Rattle.ox_outside.specs.Counts.{IsFailure, Rose, StopsAtFault};
+ghost use Rattle.ox_outside.specs.Runs.{OnlyLooks};
 ghost use Rattle.ox_gated.specs.Tail.{Holds};
-ghost use Rattle.ox_index.specs.Chain.{stack_in};
+ghost use Rattle.ox_gated.specs.Writes.{OnlyWrites};
+ghost use Rattle.ox_index.specs.Chain.{stack_in, taken_back_in};
 ghost use Rattle.ox_index.specs.Fault.{Refuses};
 ghost use Rattle.ox_model.specs.Ends.{AllEnd, LeadDown};
 ghost use Rattle.ox_model.specs.Stack.{stack_after};
-ghost use Rattle.ox_store.specs.Make.{no_files};
+ghost use Rattle.ox_store.specs.Make.{first_head, no_files};
 ghost use Rattle.ox_store.specs.Ready.{HasChange, left_by};
 
 use crate::fault::{Kept, MakeFault, Why};
 use crate::ready::Ready;
-use ox_bytes::Memory;
+use ox_bytes::{Bytes, Memory};
 use ox_feed::Command;
-use ox_gated::{Framed, Head, Tail, checkpoint_of, frame_parts};
+use ox_gated::{Checkpoint, Framed, Head, Tail, checkpoint_of, frame_parts};
 use ox_index::{Chain, Changes, ConnectFault, Live};
-use ox_model::{About, Change};
+use ox_model::About;
 use ox_outside::{Failed, Site, Which};
 use ox_replay::{CONNECT, DISCONNECT};
 use ox_sat::{ProfileName, profile_of};
@@ -96,6 +97,9 @@ impl Store {
         requires { (1 ≤ depth) × (depth ≤ 1000) }
         ensures stack { IfOk result (λ store. store.stack ≡ made_stack name depth) }
         ensures fresh { IfOk result (λ store. store.commands ≡ 0) }
+        // Its records begin in A.
+        ensures tail { IfOk result (λ store. (store.tail.file ≡ Which.A)
+            × (store.tail.head ≡ first_head name depth) × (store.tail.records ≡ 0)) }
         ensures stands { IsTrue (S.told site.old)
             → IfOk result (λ store. stands (S.seen site.new) ≡ Ok store.stack) }
         ensures holds { IsTrue (S.told site.old)
@@ -109,22 +113,15 @@ impl Store {
             → OnlyLooks S.Site site.old site.new }
         ensures failed { IsErrOf result MakeFault.DiskFault
             → Rose (S.counts site.old).disk (S.counts site.new).disk }
-        ensures logged { S.log site.new ≡ S.log site.old }
-        ensures log_stays { LeavesOnly S.Site site.old site.new (λ r. S.log site.old ≡ Some r.log) }
-        ensures calls { Calls S.Site site.old site.new }
+        ensures counted { StopsAtFault (IsErrOf result MakeFault.DiskFault) ⊥ ⊥
+            (S.counts site.old) (S.counts site.new) }
+        ensures writes { OnlyWrites S.Site site.old site.new }
     {
         if !are_empty(site)? {
             return Err(MakeFault::NotEmpty);
         }
-        let profile = profile_of(name);
-        let chain = Chain::new(alloc, &profile, depth)?;
-        let head = Head {
-            version: 1,
-            profile: profile.byte,
-            depth,
-            generation: 1,
-        };
-        let checkpoint = checkpoint_of(alloc, &head, &[])?;
+        let checkpoint = first_checkpoint(alloc, name, depth)?;
+        let chain = Chain::new(alloc, &profile_of(name), depth)?;
         let tail = Tail::make(site, &checkpoint)?;
         Ok(Store {
             alloc,
@@ -153,8 +150,8 @@ impl Store {
     /// The changes of the kept blocks, the newest first: each leads from the next older index to
     /// the newer one, and each of these indexes is sound.
     pub fn changes(&self) -> &Changes
-        ensures lead { LeadDown self.now.stack.index self.now.stack.older result.now }
-        ensures end { AllEnd self.now.stack.profile self.now.stack.index result.now }
+        ensures lead { LeadDown self.now.stack.index self.now.stack.older result.now.kept }
+        ensures end { AllEnd self.now.stack.profile self.now.stack.index result.now.kept }
     {
         self.chain.changes()
     }
@@ -198,10 +195,9 @@ impl Store {
             commands,
         } = self;
         match obey(&mut chain, command) {
-            Ok(taken_back) => Ok(Ready {
+            Ok(()) => Ok(Ready {
                 alloc,
                 chain,
-                taken_back,
                 tail,
                 commands,
                 framed,
@@ -250,25 +246,37 @@ impl Store {
     }
 }
 
-// Carries out a command in memory. It answers the change that a disconnect took back; of a connect
-// it is the newest that is kept.
-fn obey(chain: &mut Chain, command: &Command) -> Result<Option<Change>, ConnectFault>
+// The file of a store without a block. `Memory` where there is none for it.
+fn first_checkpoint(alloc: Global, name: ProfileName, depth: u16) -> Result<Checkpoint, Memory>
+    requires { (1 ≤ depth) × (depth ≤ 1000) }
+    ensures { IfOk result (λ checkpoint.
+        checkpoint ≡ record { head = first_head name depth; body = [] }) }
+{
+    let head = Head {
+        version: 1,
+        profile: profile_of(name).byte,
+        depth,
+        generation: 1,
+    };
+    checkpoint_of(alloc, &head, Bytes::empty(alloc))
+}
+
+// Carries out a command in memory. The chain then has its change: the one that was taken back, or
+// the newest that is kept.
+fn obey(chain: &mut Chain, command: &Command) -> Result<(), ConnectFault>
     ensures ok { OnOk result
         (stack_after (stack_in chain.old) command.now ≡ Ok (stack_in chain.new)) }
-    ensures change { IfOk result (HasChange (stack_in chain.new)) }
-    ensures left { IfOk result (λ taken_back.
-        left_by (stack_in chain.new) (stack_in chain.new).older taken_back
+    ensures change { OnOk result (HasChange (stack_in chain.new) (taken_back_in chain.new)) }
+    ensures left { OnOk result
+        (left_by (stack_in chain.new) (stack_in chain.new).older (taken_back_in chain.new)
         ≡ (stack_in chain.old).index) }
     ensures refused { IfErr result
         (λ fault. Refuses fault (stack_after (stack_in chain.old) command.now)) }
     ensures err { OnErr result (stack_in chain.new ≡ stack_in chain.old) }
 {
     match command {
-        Command::Connect(block) => {
-            chain.connect(block.as_slice())?;
-            Ok(None)
-        }
-        Command::Disconnect => Ok(Some(chain.disconnect()?)),
+        Command::Connect(block) => chain.connect(block.as_slice()),
+        Command::Disconnect => chain.disconnect(),
     }
 }
 
@@ -278,6 +286,7 @@ fn are_empty<S: Site>(site: &mut S) -> Result<bool, Failed>
         → IfOk result (λ empty. IsTrue empty ↔ (S.seen site.old ≡ no_files)) }
     ensures looks { OnlyLooks S.Site site.old site.new }
     ensures failed { OnErr result (Rose (S.counts site.old).disk (S.counts site.new).disk) }
+    ensures counted { StopsAtFault (IsFailure result) ⊥ ⊥ (S.counts site.old) (S.counts site.new) }
 {
     let a = site.len(Which::A)?;
     let b = site.len(Which::B)?;
