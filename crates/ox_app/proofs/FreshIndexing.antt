@@ -1,6 +1,6 @@
 -- What a run carries along is fresh indexing of the machine's blocks.
-use Rattle.std.proofs.Common.{◌≡◌, ◌∙◌, ◌⊎◌, ◌≤◌, inl, inr, ℕ, suc, Bool, true, false, List, [], ◌∷◌, take, Option, Some, refl, sym, ap, subst}
-use Rattle.std.specs.Prelude.{Ok, bytes_eq}
+use Rattle.std.proofs.Common.{◌≡◌, ◌≢◌, ◌∙◌, ◌⊎◌, ◌≤◌, inl, inr, ℕ, suc, Bool, true, false, List, [], ◌∷◌, take, Option, Some, refl, sym, ap, subst}
+use Rattle.std.specs.Prelude.{Result, Ok, bytes_eq}
 use Rattle.std.proofs.lemmas.Bool.{true≢false}
 use Rattle.std.proofs.lemmas.Slice.Eq.{bytes_eq-Decides}
 use Rattle.std.specs.List.{concat}
@@ -12,6 +12,8 @@ use Rattle.ox_outside.proofs.Log.{grows_weaker}
 use Rattle.ox_feed.specs.Feed.{FeedLine}
 use Rattle.ox_model.specs.Machine.{Machine, stack_of}
 use Rattle.ox_files.specs.Moments.{acknowledgements_in, count, lines_in}
+use Rattle.ox_files.specs.Runs.{SurvivesFrom}
+use Rattle.ox_files.specs.Stands.{Misfit, stands}
 use Rattle.ox_model.specs.Replies.{after_on, replies, replies_on}
 use Rattle.ox_model.specs.Stack.{Stack}
 use Rattle.ox_sat.specs.Profiles.{profile_word}
@@ -23,7 +25,7 @@ use Rattle.ox_app.specs.declared.status.Status.{Status}
 use Rattle.ox_app.specs.declared.status.Status.TheVariants.{DiskFault, HearFault, NotEmpty, NotStore, ShowFault}
 use Rattle.ox_app.proofs.Subcommands.{same_depth}
 use Rattle.ox_outside.proofs.Calls.{leaves_weaker}
-use Rattle.ox_app.specs.Headline.{Leaves, RunsFeed, StopsBefore, Survives, stack_after}
+use Rattle.ox_app.specs.Headline.{IsRunInTurn, Leaves, RunsFeed, StopsBefore, Survives, stack_after}
 use Rattle.ox_outside.specs.Runs.{LeavesOnly}
 use Rattle.ox_app.specs.Show.{EndsDone}
 use Rattle.ox_app.specs.Status.{IsApplyStatus, IsInitStatus, IsRefusal}
@@ -70,6 +72,26 @@ module _ {S : Type 0} (means : Meanings S) where
       leaves_weaker means old new _ _ (λ r.
       grows_weaker (Leaves means.may_leave old (replies_on (stack_of machine)) (after_on (stack_of machine)) r.files) (Leaves means.may_leave old (replies machine) (stack_after machine) r.files) (means.log old) (Some r.log)
       (leaves_by_events machine old r.files))
+
+same_standing : (standing : Result Stack Misfit) (a b : Stack) → standing ≡ Ok a → standing ≡ Ok b → a ≡ b
+same_standing standing a b e f = cc (sym e ∙ f)
+
+module _ {S : Type 0} (means : Meanings S) where
+  -- whatever machine the files stand for that a run opens, its stack is the same
+  in_turn_by_events : (machine : Machine) (old : S) (files : Files) (events : List Event) → stands (means.seen old) ≡ Ok (stack_of machine)
+      → Leaves means.may_leave old (replies_on (stack_of machine)) (after_on (stack_of machine)) files events → events ≢ [] → SurvivesFrom (means.seen old) (record { events = events; left = files })
+  in_turn_by_events machine old files [] stood leaves some = absurd (some refl)
+  in_turn_by_events machine old files (event ∷ events) stood survives some = λ other stood_other.
+      survives_alike other (event ∷ events) files
+      (subst (λ (s : Stack). Survives (replies_on s) (after_on s) (event ∷ events) files) (same_standing (stands (means.seen old)) (stack_of machine) (stack_of other) stood stood_other) survives)
+
+  pub runs_in_turn : (machine : Machine) (old new : S) → stands (means.seen old) ≡ Ok (stack_of machine)
+      → LeavesOnly means old new (λ r. Grows (Leaves means.may_leave old (replies_on (stack_of machine)) (after_on (stack_of machine)) r.files) (means.log old) (Some r.log))
+      → IsRunInTurn means old new
+  runs_in_turn machine old new stood =
+      leaves_weaker means old new _ _ (λ r.
+      grows_weaker (Leaves means.may_leave old (replies_on (stack_of machine)) (after_on (stack_of machine)) r.files) (λ events. events ≢ [] → SurvivesFrom (means.seen old) (record { events = events; left = r.files })) (means.log old) (Some r.log)
+      (λ events leaves. in_turn_by_events machine old r.files events stood leaves))
 
 -- a run that stops before a line
 stops_alike : (machine : Machine) (events : List Event) (files : Files) → StopsBefore (replies_on (stack_of machine)) (after_on (stack_of machine)) files events

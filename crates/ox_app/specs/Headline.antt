@@ -7,7 +7,7 @@
 -- by fresh indexing of the machine's blocks then, `after machine lines` is the machine that they
 -- lead to, `stack_of` is what its answers depend on, and `stands files` is the stack that files
 -- stand for.
-use Rattle.std.specs.Prelude.{◌≡◌, ◌⊎◌, ℕ, suc, ◌≤◌, true, false, IsTrue, List, [], ◌∷◌}
+use Rattle.std.specs.Prelude.{◌≡◌, ◌≢◌, ◌⊎◌, ℕ, suc, ◌≤◌, true, false, IsTrue, List, [], ◌∷◌}
 use Rattle.std.specs.Prelude.{length, take, All, Some, Ok, Err}
 use Rattle.std.specs.List.{concat}
 use Rattle.ox_outside.specs.Crash.{Remains, MayLeaveFiles}
@@ -18,6 +18,7 @@ use Rattle.ox_outside.specs.declared.site.Site.{Ghosts as Meanings}
 use Rattle.ox_feed.specs.Feed.{FeedLine, feed_limit}
 use Rattle.ox_model.specs.Machine.{Machine, stack_of}
 use Rattle.ox_files.specs.Moments.{count, lines_in}
+use Rattle.ox_files.specs.Runs.{SurvivesFrom}
 use Rattle.ox_model.specs.Replies.{after, replies}
 use Rattle.ox_model.specs.Stack.{Stack}
 use Rattle.ox_files.specs.Stands.{Misfit, stands}
@@ -105,8 +106,19 @@ pub record StopsBefore (answers : List FeedLine → List (List ℕ)) (leads : Li
   pub shown : shown_bytes 0 events ≡ concat (answers (take kept (lines_in events)))
   pub stands_for : stands files ≡ Ok (leads (take kept (lines_in events)))
 
--- a run stops before the line for which there is no memory
+-- a run stops before the line for which there is no memory, whatever of its files a crash leaves
 abbrev pub StopsAtLine : {S : Type 0} → Meanings S → Machine → S → S → Type 0
-StopsAtLine means machine old new =
-    Grows (StopsBefore (replies machine) (stack_after machine) (means.seen new)) (means.log old)
-    (means.log new)
+StopsAtLine means machine old new = (r : Remains) → means.may_leave new r
+    → Grows (StopsBefore (replies machine) (stack_after machine) r.files) (means.log old)
+    (Some r.log)
+
+-- ---- runs one after the other
+
+-- What a crash leaves behind a run's first event is a run as `runs_follow_chains` counts them:
+-- whatever machine the files stood for that it opened, those that it leaves survive its events.
+abbrev pub IsRunInTurn : {S : Type 0} → Meanings S → S → S → Type 0
+IsRunInTurn means old new =
+    LeavesOnly means old new (λ r.
+    Grows (λ events. events ≢ []
+    → SurvivesFrom (means.seen old) (record { events = events; left = r.files }))
+    (means.log old) (Some r.log))

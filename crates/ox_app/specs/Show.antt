@@ -1,15 +1,18 @@
 -- What is shown on channel 0, and which calls failed.
 use Rattle.std.specs.Prelude.{◌≡◌, ◌⊎◌, ℕ, false, true, List, [], length, codes, Result, Ok, Err}
-use Rattle.ox_outside.specs.Counts.{Rose}
+use Rattle.std.specs.Prelude.{IsErrOf}
+use Rattle.ox_outside.specs.Counts.{Counts, Rose, StopsAtFault}
 use Rattle.ox_outside.specs.Event.{Event, heard_bytes, shown_bytes, has_ended}
 use Rattle.ox_outside.specs.Log.{Grows}
 use Rattle.ox_outside.specs.declared.site.Failed.{Failed}
 use Rattle.ox_outside.specs.declared.site.Site.{Ghosts as Meanings}
 use Rattle.ox_feed.specs.Feed.{feed_limit}
 use Rattle.ox_app.specs.Headline.{IsFrontOf, OnlyOwn}
-use Rattle.ox_app.specs.Status.{IsDone}
+use Rattle.ox_app.specs.Status.{IsDone, IsRefusal}
 use Rattle.ox_app.specs.declared.status.Status.{Status}
-use Rattle.ox_app.specs.declared.status.Status.TheVariants.{Done}
+use Rattle.ox_app.specs.declared.status.Status.TheVariants.{Done, DiskFault, HearFault, ShowFault}
+use Rattle.ox_app.specs.declared.stop.Stop.{Stop}
+use Rattle.ox_app.specs.declared.stop.Stop.TheVariants as stops
 
 -- ---- faults
 
@@ -29,6 +32,23 @@ ShowFails means old new = Rose ((means.counts old).show 0) ((means.counts new).s
 abbrev pub EndsDone : Status → List Event → Type 0
 EndsDone status events =
     (length (heard_bytes 0 events) ≡ feed_limit → has_ended 0 events ≡ true) → IsDone status
+
+-- A call on files or on channel 0 fails at most once in a run, which ends with it, and the status
+-- says which kind it was. A line of refusal, once shown in part, leaves the status as it is.
+abbrev pub EndsAtFault : Status → Counts → Counts → Type 0
+EndsAtFault status old new =
+    StopsAtFault (status ≡ DiskFault) (status ≡ HearFault) ((status ≡ ShowFault) ⊎ IsRefusal status)
+    old new
+
+-- the same of a part of a run, by why it stopped
+abbrev pub EndsAtStop : {T : Type 0} → Result T Stop → Counts → Counts → Type 0
+EndsAtStop result old new =
+    StopsAtFault (IsErrOf result stops.DiskFault) (IsErrOf result stops.HearFault)
+    (IsErrOf result stops.ShowFault) old new
+
+-- of a line of which a front may be shown: at most one showing failed, the last
+abbrev pub MayFailToShow : Counts → Counts → Type 0
+MayFailToShow old new = StopsAtFault ⊥ ⊥ (Unit {0}) old new
 
 -- ---- a line or a body
 

@@ -38,11 +38,12 @@ fn answer_to(
     }
 }
 
-/// Carries out a line and answers it; `None` at the end of the feed. After `Memory` the command may
-/// have been carried out, without an answer.
-pub fn answer(alloc: Global, chain: &mut Chain, line: &Line) -> Result<Option<Bytes>, Memory>
+/// Carries out a line and answers it; `None` at the end of the feed. The line's own bytes are given
+/// back before its command is carried out. After `Memory` the command may have been carried out,
+/// without an answer.
+pub fn answer(alloc: Global, chain: &mut Chain, line: Line) -> Result<Option<Bytes>, Memory>
     ensures { IfOk result (λ answer.
-        AnswersLine line.now (stack_in chain.old) answer (stack_in chain.new)) }
+        AnswersLine line (stack_in chain.old) answer (stack_in chain.new)) }
 {
     match asked_by(alloc, line)? {
         Some(Ok(command)) => {

@@ -10,8 +10,8 @@ ghost use Rattle.ox_files.specs.Stands.{Misfit, stands};
 ghost use Rattle.ox_app.specs.Apply.{CarriesOutNext, DuringLine};
 ghost use Rattle.ox_app.specs.Headline.{AddsNoImage, Leaves, RunsFeed, StopsBefore, Survives};
 ghost use Rattle.ox_outside.specs.Runs.{Calls, LeavesOnly};
-ghost use Rattle.ox_gated.specs.Tail.{Holds};
-ghost use Rattle.ox_app.specs.Show.{DiskFails, HearFails, ShowFails};
+ghost use Rattle.ox_gated.specs.Tail.{Holds, IsSettled};
+ghost use Rattle.ox_app.specs.Show.{DiskFails, EndsAtFault, EndsAtStop, HearFails, ShowFails};
 ghost use Rattle.ox_app.specs.Status.{IsApplyStatus, IsUnopened, status_of};
 ghost use Rattle.ox_app.specs.Unopened.{SaysNotStore};
 ghost use Rattle.ox_app.specs.declared.status.Status.TheVariants as ends;
@@ -48,6 +48,8 @@ fn next_carried<S: Site>(
         (λ c. stands (S.seen site.new) ≡ Ok c.store.stack)) }
     ensures out_of_memory { IsTrue (S.told site.old) → stands (S.seen site.old) ≡ Ok store.stack
         → IsErrOf result Stop.Memory → stands (S.seen site.new) ≡ Ok store.stack }
+    ensures settled { IsTrue (S.told site.old) → IsErrOf result Stop.Memory
+        → IsSettled S.Site site.new }
     ensures one_more { IfOk result (λ carried. IfSome carried
         (λ c. c.store.commands ≤ store.commands + 1)) }
     ensures fewer { IfOk result (λ carried. IfSome carried
@@ -57,10 +59,11 @@ fn next_carried<S: Site>(
     ensures hear_fault { IsErrOf result Stop.HearFault → HearFails S.Site site.old site.new }
     ensures disk_fault { IsErrOf result Stop.DiskFault → DiskFails S.Site site.old site.new }
     ensures no_show_fault { IsErrOf result Stop.ShowFault → ⊥ }
+    ensures counted { EndsAtStop result (S.counts site.old) (S.counts site.new) }
     ensures calls { Calls S.Site site.old site.new }
 {
     let line = lines.next(site)?;
-    carry_out(alloc, store, &line, site)
+    carry_out(alloc, store, line, site)
 }
 
 // Reads the feed of channel 0 to its end; each line is carried out, and its answer shown.
@@ -80,6 +83,9 @@ fn follow<S: Site>(alloc: Global, store: Store, site: &mut S) -> Result<(), Stop
     ensures hear_fault { IsErrOf result Stop.HearFault → HearFails S.Site site.old site.new }
     ensures show_fault { IsErrOf result Stop.ShowFault → ShowFails S.Site site.old site.new }
     ensures disk_fault { IsErrOf result Stop.DiskFault → DiskFails S.Site site.old site.new }
+    ensures settled { IsTrue (S.told site.old) → IsErrOf result Stop.Memory
+        → IsSettled S.Site site.new }
+    ensures counted { EndsAtStop result (S.counts site.old) (S.counts site.new) }
     ensures calls { Calls S.Site site.old site.new }
 {
     let mut lines = Lines::new(alloc);
@@ -126,6 +132,9 @@ pub fn apply<S: Site>(alloc: Global, site: &mut S) -> Status
     ensures hear_fault { result ≡ ends.HearFault → HearFails S.Site site.old site.new }
     ensures show_fault { result ≡ ends.ShowFault → ShowFails S.Site site.old site.new }
     ensures disk_fault { result ≡ ends.DiskFault → DiskFails S.Site site.old site.new }
+    // Where memory ran out, each crash leaves what is read.
+    ensures settled { IsTrue (S.told site.old) → result ≡ ends.Memory → IsSettled S.Site site.new }
+    ensures stops { EndsAtFault result (S.counts site.old) (S.counts site.new) }
     ensures calls { Calls S.Site site.old site.new }
 {
     match Store::open(alloc, site) {

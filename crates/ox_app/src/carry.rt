@@ -1,16 +1,18 @@
 //! One line of a feed, carried out by a store and answered.
 
-ghost use Rattle.std.specs.Prelude.{◌≡◌, ◌⊎◌, ◌+◌, ◌-◌, ◌<◌, ◌≤◌, ◌^◌, Some, Ok};
+ghost use Rattle.std.specs.Prelude.{◌≡◌, ◌⊎◌, ◌+◌, ◌-◌, ◌<◌, ◌≤◌, ◌^◌, Ok};
 ghost use Rattle.std.specs.Prelude.{IsTrue, IfOk, IfErr, IfSome, IsErrOf};
-ghost use Rattle.ox_outside.specs.Runs.{Calls, LeavesOnly};
+ghost use Rattle.ox_outside.specs.Crash.{AddsNothing};
+ghost use Rattle.ox_outside.specs.Runs.{LeavesOnly};
 ghost use Rattle.ox_gated.specs.Tail.{Holds};
+ghost use Rattle.ox_gated.specs.Writes.{OnlyWrites};
 ghost use Rattle.ox_model.specs.Replies.{after_turn, index_on, reply_by};
 ghost use Rattle.ox_model.specs.Stack.{stack_after};
 ghost use Rattle.ox_files.specs.Stands.{stands};
 ghost use Rattle.ox_rules.specs.Text.{refusal_line};
 ghost use Rattle.ox_store.specs.Ready.{StandsForEither};
 ghost use Rattle.ox_app.specs.Apply.{CarriesOut, after_line};
-ghost use Rattle.ox_app.specs.Show.{DiskFails};
+ghost use Rattle.ox_app.specs.Show.{DiskFails, EndsAtStop};
 ghost use Rattle.ox_app.specs.declared.stop.Stop.TheVariants as stops;
 
 use crate::line::asked_by;
@@ -63,12 +65,12 @@ fn carry_command<S: Site>(
         → LeavesOnly S.Site site.old site.new (λ r.
         StandsForEither store.stack (after_turn store.stack (stack_after store.stack command.now))
         r.files) }
-    ensures out_of_memory { IsErrOf result Stop.Memory → S.seen site.new ≡ S.seen site.old }
-    ensures log_stays { LeavesOnly S.Site site.old site.new (λ r. S.log site.old ≡ Some r.log) }
-    ensures logged { S.log site.new ≡ S.log site.old }
+    ensures out_of_memory { IsErrOf result Stop.Memory
+        → AddsNothing S.seen S.log S.may_leave site.old site.new }
     ensures stops { IfErr result (λ stop. (stop ≡ stops.DiskFault) ⊎ (stop ≡ stops.Memory)) }
     ensures failed { IsErrOf result Stop.DiskFault → DiskFails S.Site site.old site.new }
-    ensures calls { Calls S.Site site.old site.new }
+    ensures counted { EndsAtStop result (S.counts site.old) (S.counts site.new) }
+    ensures writes { OnlyWrites S.Site site.old site.new }
 {
     let room = Room::new(alloc, LONGEST_OK)?;
     match store.prepare(command) {
@@ -84,19 +86,20 @@ fn carry_command<S: Site>(
     }
 }
 
-/// Carries out a line and answers it; `None` at the end of the feed. All memory of a command and
-/// its answer is taken before its record is written. At any moment of the call a crash leaves files
-/// that stand for the stack before the line or for the one after it. `DiskFault` only where a call
-/// on a file failed; `Memory` where there is none, and the line isn't carried out then.
+/// Carries out a line and answers it; `None` at the end of the feed. The line's own bytes are given
+/// back before its command is carried out, and all memory of a command and its answer is taken
+/// before its record is written. At any moment of the call a crash leaves files that stand for the
+/// stack before the line or for the one after it. `DiskFault` only where a call on a file failed;
+/// `Memory` where there is none, and the line isn't carried out then.
 pub fn carry_out<S: Site>(
     alloc: Global,
     store: Store,
-    line: &Line,
+    line: Line,
     site: &mut S,
 ) -> Result<Option<CarriedLine>, Stop>
     requires holds { IsTrue (S.told site.old) → Holds S.Site store.tail site.old }
     requires few { store.commands < 2 ^ 64 - 1 }
-    ensures carried { IfOk result (λ carried. CarriesOut line.now store.stack carried) }
+    ensures carried { IfOk result (λ carried. CarriesOut line store.stack carried) }
     ensures one_more { IfOk result (λ carried. IfSome carried
         (λ c. c.store.commands ≤ store.commands + 1)) }
     ensures holds { IsTrue (S.told site.old)
@@ -106,13 +109,13 @@ pub fn carry_out<S: Site>(
         (λ c. stands (S.seen site.new) ≡ Ok c.store.stack)) }
     ensures any_moment { IsTrue (S.told site.old) → stands (S.seen site.old) ≡ Ok store.stack
         → LeavesOnly S.Site site.old site.new (λ r.
-        StandsForEither store.stack (after_line store.stack line.now) r.files) }
-    ensures out_of_memory { IsErrOf result Stop.Memory → S.seen site.new ≡ S.seen site.old }
-    ensures log_stays { LeavesOnly S.Site site.old site.new (λ r. S.log site.old ≡ Some r.log) }
-    ensures logged { S.log site.new ≡ S.log site.old }
+        StandsForEither store.stack (after_line store.stack line) r.files) }
+    ensures out_of_memory { IsErrOf result Stop.Memory
+        → AddsNothing S.seen S.log S.may_leave site.old site.new }
     ensures stops { IfErr result (λ stop. (stop ≡ stops.DiskFault) ⊎ (stop ≡ stops.Memory)) }
     ensures failed { IsErrOf result Stop.DiskFault → DiskFails S.Site site.old site.new }
-    ensures calls { Calls S.Site site.old site.new }
+    ensures counted { EndsAtStop result (S.counts site.old) (S.counts site.new) }
+    ensures writes { OnlyWrites S.Site site.old site.new }
 {
     match asked_by(alloc, line)? {
         Some(Ok(command)) => Ok(Some(carry_command(alloc, store, &command, site)?)),

@@ -10,7 +10,7 @@ ghost use Rattle.ox_index.specs.Chain.{stack_in};
 ghost use Rattle.ox_app.specs.Fold.{AnswersNext, Anything, HasAnswer, fold_depth};
 ghost use Rattle.ox_app.specs.Headline.{RunsFeed};
 ghost use Rattle.ox_outside.specs.Runs.{OnlyTalks};
-ghost use Rattle.ox_app.specs.Show.{HearFails, ShowFails};
+ghost use Rattle.ox_app.specs.Show.{EndsAtStop, HearFails, ShowFails};
 ghost use Rattle.ox_app.specs.Status.{status_of};
 
 use crate::answer::answer;
@@ -40,13 +40,14 @@ fn next_answer<S: Site>(
     ensures hear_fault { IsErrOf result Stop.HearFault → HearFails S.Site site.old site.new }
     ensures no_show_fault { IsErrOf result Stop.ShowFault → ⊥ }
     ensures no_disk_fault { IsErrOf result Stop.DiskFault → ⊥ }
+    ensures counted { EndsAtStop result (S.counts site.old) (S.counts site.new) }
     ensures too_much { IsErrOf result Stop.TooMuch → IsTooMuch lines.new }
     ensures fewer { HasAnswer result → bytes_left lines.new < bytes_left lines.old }
     ensures count { lines.new.heard ≤ feed_limit }
     ensures talks { OnlyTalks S.Site (Listens lines.old) site.old site.new }
 {
     let line = lines.next(site)?;
-    Ok(answer(alloc, chain, &line)?)
+    Ok(answer(alloc, chain, line)?)
 }
 
 /// Reads the feed of channel 0 to its end, and shows the answer to each line. The chain counts by
@@ -60,6 +61,7 @@ pub fn fold<S: Site>(alloc: Global, p: &Profile, site: &mut S) -> Result<(), Sto
     ensures hear_fault { IsErrOf result Stop.HearFault → HearFails S.Site site.old site.new }
     ensures show_fault { IsErrOf result Stop.ShowFault → ShowFails S.Site site.old site.new }
     ensures no_disk_fault { IsErrOf result Stop.DiskFault → ⊥ }
+    ensures counted { EndsAtStop result (S.counts site.old) (S.counts site.new) }
     ensures talks { OnlyTalks S.Site Anything site.old site.new }
 {
     let mut lines = Lines::new(alloc);

@@ -5,7 +5,7 @@ ghost use Rattle.ox_store.specs.Make.{no_files};
 ghost use Rattle.ox_app.specs.Headline.{AddsNoImage};
 ghost use Rattle.ox_app.specs.Init.{IsMade, MakesFirst, made_line, not_empty_line};
 ghost use Rattle.ox_outside.specs.Runs.{Calls};
-ghost use Rattle.ox_app.specs.Show.{DiskFails, Says, ShowFails, ShowsText};
+ghost use Rattle.ox_app.specs.Show.{DiskFails, EndsAtFault, Says, ShowFails, ShowsText};
 ghost use Rattle.ox_app.specs.Status.{IsInitStatus, IsSparing};
 ghost use Rattle.ox_app.specs.Subcommands.{IsDepth};
 ghost use Rattle.ox_app.specs.declared.status.Status.TheVariants as ends;
@@ -37,6 +37,7 @@ pub fn init<S: Site>(alloc: Global, site: &mut S, name: ProfileName, depth: u16)
     ensures status { IsInitStatus result }
     ensures show_fault { result ≡ ends.ShowFault → ShowFails S.Site site.old site.new }
     ensures disk_fault { result ≡ ends.DiskFault → DiskFails S.Site site.old site.new }
+    ensures stops { EndsAtFault result (S.counts site.old) (S.counts site.new) }
     ensures calls { Calls S.Site site.old site.new }
 {
     match Store::make(alloc, site, name, depth) {

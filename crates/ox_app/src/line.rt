@@ -9,9 +9,9 @@ use ox_model::Refusal;
 use std::alloc::Global;
 
 /// The command that a line asks for, or why it is refused whatever the index is; `None` at the end
-/// of the feed. `Memory` where there is none for the command.
-pub fn asked_by(alloc: Global, line: &Line) -> Result<Option<Result<Command, Refusal>>, Memory>
-    ensures { IfOk result (λ asked. AsksFor line.now asked) }
+/// of the feed. The line's own bytes are given back. `Memory` where there is none for the command.
+pub fn asked_by(alloc: Global, line: Line) -> Result<Option<Result<Command, Refusal>>, Memory>
+    ensures { IfOk result (λ asked. AsksFor line asked) }
 {
     match line {
         Line::Text(text) => match command_of(alloc, text.as_slice()) {

@@ -9,13 +9,13 @@ ghost use Rattle.ox_sat.specs.Profiles.{profile_named};
 ghost use Rattle.ox_sat.specs.declared.profiles.ProfileName.{ProfileName};
 ghost use Rattle.ox_store.specs.Make.{no_files};
 ghost use Rattle.ox_app.specs.Fold.{fold_depth};
-ghost use Rattle.ox_app.specs.Headline.{AddsNoImage, AnswersFeed, StandsFor, StandsForNone};
-ghost use Rattle.ox_app.specs.Headline.{StopsAtLine, SurvivesCrash};
+ghost use Rattle.ox_app.specs.Headline.{AddsNoImage, AnswersFeed, IsRunInTurn, StandsFor};
+ghost use Rattle.ox_app.specs.Headline.{StandsForNone, StopsAtLine, SurvivesCrash};
 ghost use Rattle.ox_app.specs.Init.{IsMade, MakesFirst, made_line, not_empty_line};
 ghost use Rattle.ox_outside.specs.Runs.{Calls};
 ghost use Rattle.ox_app.specs.Query.{query_body};
-ghost use Rattle.ox_app.specs.Show.{DiskFails, EndsDone, HearFails, Says, ShowFails, ShowsText};
-ghost use Rattle.ox_app.specs.Show.{usage_line};
+ghost use Rattle.ox_app.specs.Show.{DiskFails, EndsAtFault, EndsDone, HearFails, Says};
+ghost use Rattle.ox_app.specs.Show.{ShowFails, ShowsText, usage_line};
 ghost use Rattle.ox_app.specs.Status.{IsApplyStatus, IsDone, IsFoldStatus, IsInitStatus};
 ghost use Rattle.ox_app.specs.Status.{IsQueryStatus, IsRefusal, IsSparing, IsUnopened};
 ghost use Rattle.ox_app.specs.Subcommands.{IsDepth, IsOpening, IsReading, IsUnknown, apply_words};
@@ -96,8 +96,12 @@ pub fn run<S: Site>(alloc: Global, words: &[Bytes], site: &mut S) -> Status
     ensures survives { words.now ≡ apply_words → (machine : Machine)
         → StandsFor S.Site site.old (stack_of machine)
         → SurvivesCrash S.Site machine site.old site.new }
+    // What it leaves behind its first event is a run in turn, as `runs_follow_chains` counts them.
+    ensures in_turn { words.now ≡ apply_words → (machine : Machine)
+        → StandsFor S.Site site.old (stack_of machine)
+        → IsRunInTurn S.Site site.old site.new }
     // The line at which memory ran out isn't carried out: what was shown is the answers to the
-    // lines before it, and the files stand for these.
+    // lines before it, and whatever a crash leaves stands for these.
     ensures out_of_memory { words.now ≡ apply_words → (machine : Machine)
         → StandsFor S.Site site.old (stack_of machine)
         → result ≡ ends.Memory → StopsAtLine S.Site machine site.old site.new }
@@ -181,6 +185,8 @@ pub fn run<S: Site>(alloc: Global, words: &[Bytes], site: &mut S) -> Status
     ensures disk_fault { result ≡ ends.DiskFault → DiskFails S.Site site.old site.new }
     ensures hear_fault { result ≡ ends.HearFault → HearFails S.Site site.old site.new }
     ensures show_fault { result ≡ ends.ShowFault → ShowFails S.Site site.old site.new }
+    // A call fails at most once in a run, which ends with it; the status says which kind it was.
+    ensures stops { EndsAtFault result (S.counts site.old) (S.counts site.new) }
     ensures calls { Calls S.Site site.old site.new }
 {
     match subcommand_of(words) {

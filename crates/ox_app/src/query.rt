@@ -6,7 +6,7 @@ ghost use Rattle.ox_files.specs.Stands.{Misfit, stands};
 ghost use Rattle.ox_app.specs.Headline.{AddsNoImage};
 ghost use Rattle.ox_outside.specs.Runs.{Calls};
 ghost use Rattle.ox_app.specs.Query.{get_of as get_said, query_body};
-ghost use Rattle.ox_app.specs.Show.{DiskFails, ShowFails, ShowsText};
+ghost use Rattle.ox_app.specs.Show.{DiskFails, EndsAtFault, ShowFails, ShowsText};
 ghost use Rattle.ox_app.specs.Status.{IsQueryStatus, IsUnopened};
 ghost use Rattle.ox_app.specs.Unopened.{SaysNotStore};
 ghost use Rattle.ox_app.specs.declared.status.Status.TheVariants as ends;
@@ -61,6 +61,7 @@ pub fn query<S: Site>(alloc: Global, site: &mut S, path: &[u8]) -> Status
     ensures status { IsQueryStatus result }
     ensures show_fault { result ≡ ends.ShowFault → ShowFails S.Site site.old site.new }
     ensures disk_fault { result ≡ ends.DiskFault → DiskFails S.Site site.old site.new }
+    ensures stops { EndsAtFault result (S.counts site.old) (S.counts site.new) }
     ensures calls { Calls S.Site site.old site.new }
 {
     match Store::open(alloc, site) {

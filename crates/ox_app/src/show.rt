@@ -1,9 +1,10 @@
 //! Showing bytes whole.
 
 ghost use Rattle.std.specs.Prelude.{◌≡◌, OnErr};
+ghost use Rattle.ox_outside.specs.Counts.{IsFailure, StopsAtFault};
 ghost use Rattle.ox_outside.specs.Log.{Grows};
 ghost use Rattle.ox_outside.specs.Runs.{OnlyTalks};
-ghost use Rattle.ox_app.specs.Show.{Says, ShowFails, Shows, ShowsFront};
+ghost use Rattle.ox_app.specs.Show.{MayFailToShow, Says, ShowFails, Shows, ShowsFront};
 
 use ox_outside::{Failed, Shown, Site};
 
@@ -13,6 +14,7 @@ use ox_outside::{Failed, Shown, Site};
 pub fn show_all<S: Site>(site: &mut S, bytes: &[u8]) -> Result<(), Failed>
     ensures told { Grows (Shows bytes.now result) (S.log site.old) (S.log site.new) }
     ensures failed { OnErr result (ShowFails S.Site site.old site.new) }
+    ensures counted { StopsAtFault ⊥ ⊥ (IsFailure result) (S.counts site.old) (S.counts site.new) }
     ensures talks { OnlyTalks S.Site (ShowsFront bytes.now) site.old site.new }
 {
     let mut rest = bytes;
@@ -28,6 +30,7 @@ pub fn show_all<S: Site>(site: &mut S, bytes: &[u8]) -> Result<(), Failed>
 /// Shows a line whole, or a front of it where a showing failed.
 pub fn say<S: Site>(site: &mut S, line: &[u8])
     ensures says { Says S.Site line.now site.old site.new }
+    ensures counted { MayFailToShow (S.counts site.old) (S.counts site.new) }
     ensures talks { OnlyTalks S.Site (ShowsFront line.now) site.old site.new }
 {
     let _shown = show_all(site, line);

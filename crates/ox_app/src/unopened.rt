@@ -1,9 +1,11 @@
 //! Files that weren't opened.
 
 ghost use Rattle.std.specs.Prelude.{◌≡◌, ◌≢◌, IfOk};
+ghost use Rattle.ox_outside.specs.Counts.{StopsAtFault};
 ghost use Rattle.ox_outside.specs.Runs.{OnlyTalks};
 ghost use Rattle.ox_app.specs.Status.{IsUnopened};
 ghost use Rattle.ox_app.specs.Unopened.{LogsUnopened, UnopenedAs, letter_of, not_store_line};
+ghost use Rattle.ox_app.specs.declared.status.Status.TheVariants as ends;
 
 use crate::show::say;
 use crate::status::Status;
@@ -37,6 +39,8 @@ fn not_store_text(alloc: Global, file: Which, at: u64) -> Result<Bytes, Memory>
 pub fn explain<S: Site>(alloc: Global, fault: OpenFault, site: &mut S) -> Status
     ensures status { IsUnopened result }
     ensures says { UnopenedAs S.Site fault result site.old site.new }
+    ensures counted { StopsAtFault ⊥ ⊥ (result ≡ ends.NotStore)
+        (S.counts site.old) (S.counts site.new) }
     ensures talks { OnlyTalks S.Site (LogsUnopened fault) site.old site.new }
 {
     match fault {

@@ -1,2 +1,3 @@
+pub mod Faults
 pub mod Idles
 pub mod Streams

@@ -2,7 +2,7 @@
 //! Nobody waits at its doors. It tells nothing of what it reads, hears and shows, and is trusted
 //! for it.
 
-ghost use Rattle.std.specs.Prelude.{◌≡◌, ◌≤◌, length, IfOk, IfSome, IsUtf8, OnOk};
+ghost use Rattle.std.specs.Prelude.{◌≡◌, ◌≤◌, ◌+◌, length, IfOk, IfSome, IsUtf8, OnOk};
 ghost use Rattle.ox_outside.specs.Counts.{Rose};
 
 use crate::files::FilePair;
@@ -13,7 +13,8 @@ use std::io;
 use std::io::{ErrorKind, Read, Stdin, Stdout, Write};
 use std::rt::Files;
 
-/// The folder's files and the standard streams, and how often each kind of call has failed.
+/// The folder's files and the standard streams, and how often each kind of call has failed. Those
+/// on links, of which there are none, are counted apart from those on channel 0.
 #[derive(Drop)]
 pub struct RealSite {
     files: FilePair,
@@ -21,7 +22,9 @@ pub struct RealSite {
     output: Stdout,
     disk_faults: u64,
     hear_faults: u64,
+    link_hear_faults: u64,
     show_faults: u64,
+    link_show_faults: u64,
     public_idles: u64,
     operator_idles: u64,
 }
@@ -48,7 +51,9 @@ impl RealSite {
             output,
             disk_faults: 0,
             hear_faults: 0,
+            link_hear_faults: 0,
             show_faults: 0,
+            link_show_faults: 0,
             public_idles: 0,
             operator_idles: 0,
         })
@@ -58,8 +63,11 @@ impl RealSite {
     fn disk_failed(&mut self) -> Failed
         ensures rose { Rose self.old.disk_faults self.new.disk_faults }
         ensures no_less { self.old.disk_faults ≤ self.new.disk_faults }
+        ensures once { self.new.disk_faults ≤ self.old.disk_faults + 1 }
         ensures hear { self.new.hear_faults ≡ self.old.hear_faults }
+        ensures link_hear { self.new.link_hear_faults ≡ self.old.link_hear_faults }
         ensures show { self.new.show_faults ≡ self.old.show_faults }
+        ensures link_show { self.new.link_show_faults ≡ self.old.link_show_faults }
         ensures public { self.new.public_idles ≡ self.old.public_idles }
         ensures operator { self.new.operator_idles ≡ self.old.operator_idles }
     {
@@ -100,6 +108,7 @@ fn shown<W: Write>(output: &mut W, bytes: &[u8]) -> Option<usize>
 impl Site for RealSite {
     ghost use Rattle.std.specs.Prelude.{[], false, None};
     ghost use Rattle.ox_outside.specs.Counts.{greatest};
+    ghost use Rattle.ox_main.specs.Faults.{faults_of};
     ghost use Rattle.ox_main.specs.Idles.{idles_of};
 
     ghost told = { λ _. false };
@@ -117,8 +126,8 @@ impl Site for RealSite {
     ghost counts = { λ s. record {
       disk = s.disk_faults;
       door = 0;
-      hear = λ _. s.hear_faults;
-      show = λ _. s.show_faults;
+      hear = faults_of s.hear_faults s.link_hear_faults;
+      show = faults_of s.show_faults s.link_show_faults;
       not_yets = λ _. 0;
       door_idles = idles_of s.public_idles s.operator_idles;
     } };
@@ -158,8 +167,10 @@ impl Site for RealSite {
                 Some(n) => return Ok(Heard::Bytes(n)),
                 None => {}
             }
+            self.hear_faults = self.hear_faults.saturating_add(1);
+            return Err(Failed);
         }
-        self.hear_faults = self.hear_faults.saturating_add(1);
+        self.link_hear_faults = self.link_hear_faults.saturating_add(1);
         Err(Failed)
     }
 
@@ -168,8 +179,10 @@ impl Site for RealSite {
             if let Some(n) = shown(&mut self.output, bytes) {
                 return Ok(Shown::Took(n));
             }
+            self.show_faults = self.show_faults.saturating_add(1);
+            return Err(Failed);
         }
-        self.show_faults = self.show_faults.saturating_add(1);
+        self.link_show_faults = self.link_show_faults.saturating_add(1);
         Err(Failed)
     }
 

@@ -1,6 +1,7 @@
-//! What no clause says: that the calls succeed where there is ample memory, and the bytes of an
-//! empty store.
+//! What no clause says: that the calls succeed where there is ample memory, the bytes of an empty
+//! store and of a file that took the other one's place, and that a failed call changes nothing else.
 
+use ox_bytes::Bytes;
 use ox_gated::{GateFault, Head, Opened, Tail, checkpoint_of, frame, frame_parts};
 use ox_memsite::{Choice, MemSite};
 use ox_outside::Which;
@@ -20,6 +21,23 @@ const EMPTY: [u8; 27] = [
     0x00, 0x00, 0x00, 0x00, 0x00, 0x00, 0x00, 0x00, 0x00, 0x00, 0x00,
 ];
 
+const SECOND: Head = Head {
+    version: 1,
+    profile: 1,
+    depth: 100,
+    generation: 2,
+};
+
+const THIRD: Head = Head {
+    version: 1,
+    profile: 1,
+    depth: 100,
+    generation: 3,
+};
+
+// The same of generation 2, with a body of 3 bytes.
+const TURNED: &[u8] = b"\x01oxidx\x01\x01\x64\0\x02\0\0\0\0\0\0\0\x03\0\0\0\0\0\0\0xyz\0";
+
 fn empty_site(rt: &impl Abort, alloc: Global) -> MemSite {
     MemSite::new(alloc).expect(rt, "memory")
 }
@@ -27,7 +45,7 @@ fn empty_site(rt: &impl Abort, alloc: Global) -> MemSite {
 // A site whose files were made a store.
 fn made_site(rt: &impl Abort, alloc: Global) -> MemSite {
     let mut site = MemSite::new(alloc).expect(rt, "memory");
-    let checkpoint = checkpoint_of(alloc, &HEAD, b"").expect(rt, "memory");
+    let checkpoint = checkpoint_of(alloc, &HEAD, Bytes::empty(alloc)).expect(rt, "memory");
     if Tail::make(&mut site, &checkpoint).is_err() {
         panic!(rt; "not made");
     }
@@ -178,19 +196,232 @@ fn the_greater_generation_is_current(rt: HostRuntime) {
     assert!(rt; is_refused(alloc, &mut site, Which::B, 10));
 }
 
-// The record, its sync, the gate and its sync are the moments 10 to 13.
+// The record, its sync, the gate and its sync are the moments 11 to 14.
 #[test]
 fn every_moment_of_an_append_is_before_or_after(rt: HostRuntime) {
     let alloc = rt.alloc();
     let mut site = made_site(&rt, alloc);
     assert!(rt; is_appended(&rt, alloc, &mut site));
-    assert!(rt; site.now() == 13);
+    assert!(rt; site.now() == 14);
     for fill in [0x00, 0x07, 0xff] {
-        for moment in 9..12 {
+        for moment in 10..13 {
             assert!(rt; leaves(&rt, alloc, &site, moment, fill, 0));
         }
         let opened = if fill == 0 { 0 } else { 1 };
-        assert!(rt; leaves(&rt, alloc, &site, 12, fill, opened));
-        assert!(rt; leaves(&rt, alloc, &site, 13, fill, 1));
+        assert!(rt; leaves(&rt, alloc, &site, 13, fill, opened));
+        assert!(rt; leaves(&rt, alloc, &site, 14, fill, 1));
     }
+}
+
+// ---- a whole file in place of the other one
+
+// Opens the files, and puts this head and body in place of the current file. Whether it was done.
+fn is_turned(rt: &impl Abort, alloc: Global, site: &mut MemSite, head: &Head, body: Bytes) -> bool {
+    let Ok(opened) = Tail::open(alloc, site) else {
+        return false;
+    };
+    let Opened { tail, .. } = opened;
+    if !head.is_lawful() || tail.head().generation >= head.generation || body.len() > 4000000 {
+        panic!(rt; "no such file");
+    }
+    let checkpoint = checkpoint_of(alloc, head, body).expect(rt, "memory");
+    tail.turn_to(site, &checkpoint).is_ok()
+}
+
+// The same with a body of 3 bytes.
+fn is_turned_to(rt: &impl Abort, alloc: Global, site: &mut MemSite, head: &Head) -> bool {
+    let body = Bytes::copy(alloc, b"xyz").expect(rt, "memory");
+    is_turned(rt, alloc, site, head, body)
+}
+
+// Whether this file is current, with this generation and so many records.
+fn stands_as(
+    alloc: Global,
+    site: &mut MemSite,
+    file: Which,
+    generation: u64,
+    records: usize,
+) -> bool {
+    match Tail::open(alloc, site) {
+        Ok(opened) => {
+            opened.file == file
+                && opened.head.generation == generation
+                && opened.records.len() == records
+        }
+        Err(_) => false,
+    }
+}
+
+// Whether the current file is the one that stood before, or the one that took its place.
+fn is_second(alloc: Global, site: &mut MemSite) -> bool {
+    stands_as(alloc, site, Which::B, 2, 1)
+}
+
+fn is_third(alloc: Global, site: &mut MemSite) -> bool {
+    stands_as(alloc, site, Which::A, 3, 0)
+}
+
+// B is current, with generation 2 and a record; A is open, with generation 1.
+fn second_site(rt: &impl Abort, alloc: Global) -> MemSite {
+    let mut site = made_site(rt, alloc);
+    if !is_turned_to(rt, alloc, &mut site, &SECOND) || !is_appended(rt, alloc, &mut site) {
+        panic!(rt; "not made");
+    }
+    site
+}
+
+// What a crash at this moment leaves of a site.
+fn crashed(rt: &impl Abort, site: &MemSite, moment: u64, fill: u8, keep: u64) -> MemSite {
+    if moment > site.now() {
+        panic!(rt; "no such moment");
+    }
+    let choice = Choice { moment, fill, keep };
+    site.crash(&choice).expect(rt, "memory")
+}
+
+// Whether each crash at this moment leaves the third file, or else the second one.
+fn leaves_third(
+    rt: &impl Abort,
+    alloc: Global,
+    site: &MemSite,
+    moment: u64,
+    fill: u8,
+    third: bool,
+) -> bool {
+    let mut short = crashed(rt, site, moment, fill, 0);
+    let mut long = crashed(rt, site, moment, fill, 1000);
+    if third {
+        is_third(alloc, &mut short) && is_third(alloc, &mut long)
+    } else {
+        is_second(alloc, &mut short) && is_second(alloc, &mut long)
+    }
+}
+
+// The other file is closed at the moments 24 and 25, filled at 26 to 28, and opened at 29 and 30.
+#[test]
+fn every_moment_of_a_turn_is_before_or_after(rt: HostRuntime) {
+    let alloc = rt.alloc();
+    let mut site = second_site(&rt, alloc);
+    assert!(rt; is_turned_to(&rt, alloc, &mut site, &THIRD));
+    assert!(rt; site.now() == 30);
+    for fill in [0x00, 0x07, 0xff] {
+        for moment in 23..29 {
+            assert!(rt; leaves_third(&rt, alloc, &site, moment, fill, false));
+        }
+        assert!(rt; leaves_third(&rt, alloc, &site, 29, fill, fill != 0));
+        assert!(rt; leaves_third(&rt, alloc, &site, 30, fill, true));
+    }
+}
+
+// The opening makes 8 calls; the closing 2, the filling 3 and the opening of the other file 2.
+#[test]
+fn a_failed_call_leaves_what_stood_before_it_or_the_new_file(rt: HostRuntime) {
+    let alloc = rt.alloc();
+    let site = second_site(&rt, alloc);
+    for call in 0..15 {
+        let mut other = crashed(&rt, &site, site.now(), 0, 1000);
+        other.fail(call).expect(&rt, "memory");
+        assert!(rt; !is_turned_to(&rt, alloc, &mut other, &THIRD));
+        assert!(rt;
+            if call == 14 {
+                is_third(alloc, &mut other)
+            } else {
+                is_second(alloc, &mut other)
+            }
+        );
+    }
+}
+
+#[test]
+fn a_file_of_a_gate_alone_gets_these_bytes(rt: HostRuntime) {
+    let alloc = rt.alloc();
+    let mut site = made_site(&rt, alloc);
+    assert!(rt; is_turned_to(&rt, alloc, &mut site, &SECOND));
+    assert!(rt; site.file(Which::A) == EMPTY.as_slice());
+    assert!(rt; site.file(Which::B) == TURNED);
+    assert!(rt; stands_as(alloc, &mut site, Which::B, 2, 0));
+    assert!(rt; is_appended(&rt, alloc, &mut site));
+    assert!(rt; is_second(alloc, &mut site));
+}
+
+// What the longer file had behind the last gate stays.
+#[test]
+fn a_longer_file_keeps_its_rest(rt: HostRuntime) {
+    let alloc = rt.alloc();
+    let mut site = made_site(&rt, alloc);
+    assert!(rt;
+        is_put(
+            &mut site,
+            Which::B,
+            b"\0an older, longer file, whose last bytes stay"
+        )
+    );
+    assert!(rt; is_turned_to(&rt, alloc, &mut site, &SECOND));
+    let (front, rest) = site.file(Which::B).split_at(30);
+    assert!(rt; front == TURNED && rest == b"last bytes stay".as_slice());
+    assert!(rt; is_appended(&rt, alloc, &mut site));
+    assert!(rt; is_second(alloc, &mut site));
+}
+
+// The file of generation 1 was open, and is closed before it is written.
+#[test]
+fn an_open_file_of_a_lesser_generation_is_replaced(rt: HostRuntime) {
+    let alloc = rt.alloc();
+    let mut site = second_site(&rt, alloc);
+    assert!(rt; is_turned(&rt, alloc, &mut site, &THIRD, Bytes::empty(alloc)));
+    assert!(rt; site.file(Which::A) == empty_with(&rt, 10, 3).as_slice());
+    assert!(rt; is_appended(&rt, alloc, &mut site));
+    assert!(rt; stands_as(alloc, &mut site, Which::A, 3, 1));
+}
+
+// Whether the next record has to come into the other file.
+fn must_turn(alloc: Global, site: &mut MemSite) -> bool {
+    match Tail::open(alloc, site) {
+        Ok(opened) => opened.tail.must_turn(),
+        Err(_) => false,
+    }
+}
+
+#[test]
+fn a_turn_is_due_at_64_records_but_for_the_greatest_generation(rt: HostRuntime) {
+    let alloc = rt.alloc();
+    let mut site = made_site(&rt, alloc);
+    for _ in 0..63 {
+        assert!(rt; is_appended(&rt, alloc, &mut site));
+    }
+    assert!(rt; !must_turn(alloc, &mut site));
+    assert!(rt; is_appended(&rt, alloc, &mut site));
+    assert!(rt; must_turn(alloc, &mut site));
+    assert!(rt; site.write(Which::A, 10, &[0xff; 8]).is_ok());
+    assert!(rt; !must_turn(alloc, &mut site));
+}
+
+// So many bytes.
+fn many_bytes(rt: &impl Abort, alloc: Global, size: usize) -> Bytes {
+    Bytes::from_vec(Vec::from_elem(alloc, 7, size).expect(rt, "memory"))
+}
+
+// Whether the current file has a body of 2,000,000 bytes.
+fn is_body_large(rt: &impl Abort, alloc: Global, site: &mut MemSite) -> bool {
+    let body = many_bytes(rt, alloc, 2000000);
+    match Tail::open(alloc, site) {
+        Ok(opened) => opened.body == body,
+        Err(_) => false,
+    }
+}
+
+#[test]
+fn a_large_body_is_written_and_read_back(rt: HostRuntime) {
+    let alloc = rt.alloc();
+    let mut site = made_site(&rt, alloc);
+    assert!(rt;
+        is_turned(
+            &rt,
+            alloc,
+            &mut site,
+            &SECOND,
+            many_bytes(&rt, alloc, 2000000)
+        )
+    );
+    assert!(rt; is_body_large(&rt, alloc, &mut site));
 }

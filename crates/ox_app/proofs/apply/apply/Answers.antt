@@ -6,6 +6,10 @@ use Rattle.ox_files.specs.Stands.{stands}
 use Rattle.ox_app.proofs.Images.{grows_from, looked_then_talked, memory_opens, opened_then_followed, same_stack, stopped_by_memory, stops_unopened, unopened_yet, says_nothing}
 use Rattle.ox_app.specs.Headline.{Leaves, StopsBefore}
 use Rattle.ox_outside.specs.Runs.{LeavesOnly}
+use Rattle.ox_app.proofs.Settled.{settled_talking}
+use Rattle.ox_app.proofs.Stops.{not_disk, opened_well, status_stops, unopened_stops}
+use Rattle.ox_app.specs.Show.{EndsAtFault}
+use Rattle.ox_app.specs.declared.status.Status.{Status}
 use Rattle.ox_app.proofs.apply.apply.Goals as goal
 
 pub returns-in-Ok-clause-survives : goal.returns-in-Ok-clause-survives
@@ -47,3 +51,21 @@ pub returns-in-Err-clause-out_of_memory : goal.returns-in-Err-clause-out_of_memo
 returns-in-Err-clause-out_of_memory g c told stack stood is =
     stops_unopened g.S.Site stack c.in-Err.fault c.explain.result c.args.site.now c.open.new.site c.explain.new.site stood
     c.open.ensures.looks c.explain.ensures.says (λ e. memory_opens (sym is ∙ e)) c.explain.ensures.talks
+
+pub returns-in-Ok-clause-settled : goal.returns-in-Ok-clause-settled
+returns-in-Ok-clause-settled g c told is =
+    c.follow.ensures.settled (c.open.ensures.looks.calls.as_told ∙ told) (stopped_by_memory c.follow.result (sym c.status.ensures ∙ is))
+
+pub returns-in-Err-clause-settled : goal.returns-in-Err-clause-settled
+returns-in-Err-clause-settled g c told is =
+    settled_talking g.S.Site c.open.new.site c.explain.new.site c.explain.ensures.talks.files
+    (c.in-Err.ensures.settled (not_disk g.S.Site c.in-Err.fault c.explain.result c.open.new.site c.explain.new.site c.explain.ensures.says is))
+
+pub returns-in-Ok-clause-stops : goal.returns-in-Ok-clause-stops
+returns-in-Ok-clause-stops g c =
+    subst (λ (s : Status). EndsAtFault s (g.S.Site.counts c.args.site.now) (g.S.Site.counts c.follow.new.site)) (sym c.status.ensures)
+    (status_stops c.follow.result _ _ _ (opened_well c.in-Ok.store _ _ c.in-Ok.ensures.counted) c.follow.ensures.counted)
+
+pub returns-in-Err-clause-stops : goal.returns-in-Err-clause-stops
+returns-in-Err-clause-stops g c =
+    unopened_stops g.S.Site c.in-Err.fault c.explain.result c.args.site.now c.open.new.site c.explain.new.site c.explain.ensures.says c.in-Err.ensures.counted c.explain.ensures.counted

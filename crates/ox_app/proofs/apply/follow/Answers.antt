@@ -8,7 +8,8 @@ use Rattle.ox_app.proofs.Crashes.{grows_owing_store, grows_stopped_store, grows_
 use Rattle.ox_app.specs.declared.stop.Stop.TheVariants.{Memory}
 use Rattle.ox_app.proofs.FeedState.{HasAnswered}
 use Rattle.ox_outside.proofs.Calls.{calls_then, no_call}
-use Rattle.ox_outside.proofs.Counts.{then_rose}
+use Rattle.ox_outside.proofs.Counts.{no_fault_then, no_fault_yet, stops_at_none, then_rose}
+use Rattle.ox_app.proofs.Stops.{all_shown, part_stops, part_went, show_stops}
 use Rattle.ox_app.proofs.apply.follow.Goals as goal
 
 pub loop-lines-init : goal.loop-lines-init
@@ -21,6 +22,7 @@ loop-lines-init g c =
       λ told stood. stood,
       λ told stood. survived_none g.S.Site first g.met.S.Site.only_now g.met.S.Site.logs_now c.args.site.now (c.requires.holds told).settled stood,
       omega (arith, c.requires.fresh, ap bytes_left c.new-lines.ensures),
+      no_fault_yet (g.S.Site.counts c.args.site.now),
     )
 
 pub returns-in_err-carried-clause-told : goal.returns-in_err-carried-clause-told
@@ -98,7 +100,28 @@ loop-lines-preserved g c =
           c.args.site.now c.loop-lines.site c.next_carried.new.site (kept.4 told stood) kept.0 (c.next_carried.ensures.during (kept.1.as_told ∙ told) (kept.3 told stood)))
           owed holds.settled stands talks,
       omega (arith, more, fewer, kept.5),
+      no_fault_then _ _ _ (no_fault_then _ _ _ kept.6 (part_went _ _ _ c.in_ok-carried.ensures.counted)) (all_shown _ _ c.in_ok-show_all.ensures.counted),
     )
+
+pub returns-in_err-carried-clause-counted : goal.returns-in_err-carried-clause-counted
+returns-in_err-carried-clause-counted g c =
+    let p = err_from_is_err_and c.from_residual.result c.from_residual.ensures.1 in
+    part_stops c.from_residual.result c.in_err-carried.field-0.0 _ _ _ (p.1 ∙ ap Err p.2) c.loop-lines.invariant.6 c.in_err-carried.ensures.counted
+
+pub returns-in_err-show_all-clause-counted : goal.returns-in_err-show_all-clause-counted
+returns-in_err-show_all-clause-counted g c =
+    let p = err_from_is_err_and c.from_residual-in_err-show_all.result c.from_residual-in_err-show_all.ensures.1 in
+    show_stops c.show_all.result c.from_residual-in_err-show_all.result _ _ _ (p.1 ∙ ap Err p.2)
+    (no_fault_then _ _ _ c.loop-lines.invariant.6 (part_went _ _ _ c.in_ok-carried.ensures.counted)) c.show_all.ensures.counted
+
+pub returns-clause-counted : goal.returns-clause-counted
+returns-clause-counted g c =
+    stops_at_none _ _ _ _ _ (no_fault_then _ _ _ c.loop-lines.invariant.6 (part_went _ _ _ c.in_ok-carried.ensures.counted))
+
+pub returns-in_err-carried-clause-settled : goal.returns-in_err-carried-clause-settled
+returns-in_err-carried-clause-settled g c told is =
+    let p = err_from_is_err_and c.from_residual.result c.from_residual.ensures.1 in
+    c.in_err-carried.ensures.settled (c.loop-lines.invariant.1.as_told ∙ told) (ap Err (same_stop c.in_err-carried.field-0.0 Memory (rw (p.1, p.2) at is)))
 
 pub returns-clause-told : goal.returns-clause-told
 returns-clause-told g c =

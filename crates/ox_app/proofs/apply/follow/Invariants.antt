@@ -8,6 +8,7 @@ use Rattle.ox_app.proofs.FeedState.{HasAnswered}
 use Rattle.ox_app.specs.Headline.{Survives}
 use Rattle.ox_outside.specs.Runs.{Calls, LeavesOnly}
 use Rattle.ox_gated.specs.Tail.{Holds}
+use Rattle.ox_outside.specs.Counts.{NoFault}
 use Rattle.ox_app.proofs.apply.follow.Given as goal
 
 abbrev pub invariant-loop-lines : goal.invariant-loop-lines
@@ -20,6 +21,7 @@ invariant-loop-lines g l =
     → LeavesOnly g.S.Site l.initial.site l.site
     (λ r. Grows (λ events. Survives (replies_on l.fn.store.stack) (after_on l.fn.store.stack) events r.files) (g.S.Site.log l.initial.site) (Some r.log)))
     × (l.store.commands + bytes_left l.lines ≤ feed_limit)
+    × NoFault (g.S.Site.counts l.initial.site) (g.S.Site.counts l.site)
 
 abbrev pub decreases-loop-lines : goal.decreases-loop-lines
 decreases-loop-lines g l = bytes_left l.lines

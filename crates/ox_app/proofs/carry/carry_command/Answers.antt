@@ -1,4 +1,10 @@
 use Rattle.std.proofs.Common.{◌∙◌, ap, subst, sym}
+use Rattle.std.proofs.lemmas.Result.{err_from_is_err_and}
+use Rattle.std.specs.Prelude.{Err, IsErrOf}
+use Rattle.ox_outside.specs.Counts.{IsFailure}
+use Rattle.ox_outside.proofs.Counts.{stops_as, stops_at_none}
+use Rattle.ox_app.proofs.Stops.{all_shown}
+use Rattle.ox_app.specs.declared.stop.Stop.TheVariants as stops
 use Rattle.ox_outside.specs.Runs.{LeavesOnly}
 use Rattle.ox_model.specs.Replies.{after_turn, index_on, reply_by}
 use Rattle.ox_model.specs.Stack.{Stack, stack_after}
@@ -53,23 +59,22 @@ returns-in-Ok-clause-any_moment g c told stood =
     (sym (ap (after_turn before) prepared.after))
     (c.commit.ensures.any_moment told before stood (record { command = c.args.command.now; payload = prepared.payload; after = prepared.after }))
 
-pub returns-in_err-store-in-Ok-clause-log_stays : goal.returns-in_err-store-in-Ok-clause-log_stays
-returns-in_err-store-in-Ok-clause-log_stays g c = c.commit.ensures.log_stays
+pub returns-in_err-store-in-Ok-clause-writes : goal.returns-in_err-store-in-Ok-clause-writes
+returns-in_err-store-in-Ok-clause-writes g c = c.commit.ensures.writes
 
-pub returns-in_err-store-in-Ok-clause-logged : goal.returns-in_err-store-in-Ok-clause-logged
-returns-in_err-store-in-Ok-clause-logged g c = c.commit.ensures.logged
-
-pub returns-in_err-store-in-Ok-clause-calls : goal.returns-in_err-store-in-Ok-clause-calls
-returns-in_err-store-in-Ok-clause-calls g c = c.commit.ensures.calls
-
-pub returns-in-Ok-clause-log_stays : goal.returns-in-Ok-clause-log_stays
-returns-in-Ok-clause-log_stays g c = c.commit.ensures.log_stays
-
-pub returns-in-Ok-clause-logged : goal.returns-in-Ok-clause-logged
-returns-in-Ok-clause-logged g c = c.commit.ensures.logged
-
-pub returns-in-Ok-clause-calls : goal.returns-in-Ok-clause-calls
-returns-in-Ok-clause-calls g c = c.commit.ensures.calls
+pub returns-in-Ok-clause-writes : goal.returns-in-Ok-clause-writes
+returns-in-Ok-clause-writes g c = c.commit.ensures.writes
 
 pub returns-in-Ok-clause-out_of_memory : goal.returns-in-Ok-clause-out_of_memory
 returns-in-Ok-clause-out_of_memory g c is = absurd (cc is)
+
+pub returns-in_err-store-in-Ok-clause-counted : goal.returns-in_err-store-in-Ok-clause-counted
+returns-in_err-store-in-Ok-clause-counted g c =
+    let result = c.from_residual-in_err-store-in-Ok.result in
+    let p = err_from_is_err_and result c.from_residual-in_err-store-in-Ok.ensures.1 in
+    stops_as (IsFailure c.commit.result) ⊥ ⊥ (IsErrOf result stops.DiskFault) (IsErrOf result stops.HearFault) (IsErrOf result stops.ShowFault) _ _
+    (λ failed. p.1 ∙ ap Err p.2) (λ no. absurd no) (λ no. absurd no) c.commit.ensures.counted
+
+pub returns-in-Ok-clause-counted : goal.returns-in-Ok-clause-counted
+returns-in-Ok-clause-counted g c =
+    stops_at_none _ _ _ _ _ (all_shown _ _ c.in_ok-store-in-Ok.ensures.counted)

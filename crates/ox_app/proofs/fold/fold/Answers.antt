@@ -1,4 +1,4 @@
-use Rattle.std.proofs.Common.{ap, subst, sym}
+use Rattle.std.proofs.Common.{◌∙◌, ap, subst, sym}
 use Rattle.std.specs.Prelude.{Err}
 use Rattle.std.proofs.lemmas.Result.{err_from_is_err_and}
 use Rattle.ox_outside.specs.Log.{Grows}
@@ -11,6 +11,8 @@ use Rattle.ox_app.proofs.FeedAnswers.{carried_none, grows_broken, grows_carried,
 use Rattle.ox_app.proofs.TalksOn.{talks_on}
 use Rattle.ox_app.proofs.FeedState.{HasAnswered}
 use Rattle.ox_outside.proofs.OnlyTalks.{talks_none}
+use Rattle.ox_outside.proofs.Counts.{no_fault_then, no_fault_yet, stops_at_none}
+use Rattle.ox_app.proofs.Stops.{all_shown, part_stops, part_went, show_stops}
 use Rattle.ox_app.proofs.fold.fold.Goals as goal
 
 pub loop-chain-init : goal.loop-chain-init
@@ -20,6 +22,7 @@ loop-chain-init g c =
       subst (λ (l : Feed). Grows (HasAnswered first l (stack_in c.in_ok-chain.chain)) log log) (sym c.new-lines.ensures)
           (subst (λ (s : Stack). Grows (HasAnswered first new_feed s) log log) {x = first} (sym {b = first} c.in_ok-chain.ensures) (carried_none first log)),
       talks_none g.S.Site g.met.S.Site.only_now g.met.S.Site.logs_now Anything c.args.site.now tt,
+      no_fault_yet (g.S.Site.counts c.args.site.now),
     )
 
 pub returns-in_err-chain-clause-told : goal.returns-in_err-chain-clause-told
@@ -63,7 +66,23 @@ loop-chain-preserved g c =
           (talks_on g.S.Site _ _ c.args.site.now c.loop-chain.site c.next_answer.new.site
           c.loop-chain.invariant.1 c.loop-chain.invariant.0 c.next_answer.ensures.talks)
           owed c.show_all.ensures.talks,
+      no_fault_then _ _ _ (no_fault_then _ _ _ c.loop-chain.invariant.2 (part_went _ _ _ c.in_ok-answer.ensures.counted)) (all_shown _ _ c.in_ok-show_all.ensures.counted),
     )
+
+pub returns-in_err-answer-clause-counted : goal.returns-in_err-answer-clause-counted
+returns-in_err-answer-clause-counted g c =
+    let p = err_from_is_err_and c.from_residual-in_err-answer.result c.from_residual-in_err-answer.ensures.1 in
+    part_stops c.from_residual-in_err-answer.result c.in_err-answer.field-0.0 _ _ _ (p.1 ∙ ap Err p.2) c.loop-chain.invariant.2 c.in_err-answer.ensures.counted
+
+pub returns-in_err-show_all-clause-counted : goal.returns-in_err-show_all-clause-counted
+returns-in_err-show_all-clause-counted g c =
+    let p = err_from_is_err_and c.from_residual-in_err-show_all.result c.from_residual-in_err-show_all.ensures.1 in
+    show_stops c.show_all.result c.from_residual-in_err-show_all.result _ _ _ (p.1 ∙ ap Err p.2)
+    (no_fault_then _ _ _ c.loop-chain.invariant.2 (part_went _ _ _ c.in_ok-answer.ensures.counted)) c.show_all.ensures.counted
+
+pub returns-clause-counted : goal.returns-clause-counted
+returns-clause-counted g c =
+    stops_at_none _ _ _ _ _ (no_fault_then _ _ _ c.loop-chain.invariant.2 (part_went _ _ _ c.in_ok-answer.ensures.counted))
 
 pub returns-clause-told : goal.returns-clause-told
 returns-clause-told g c =

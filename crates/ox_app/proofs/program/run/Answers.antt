@@ -1,19 +1,23 @@
-use Rattle.std.proofs.Common.{◌∙◌, ⊎_elim, ℕ, ap, inl, subst, sym}
+use Rattle.std.proofs.Common.{◌∙◌, ⊎_elim, ℕ, ap, inl, refl, subst, sym}
 use Rattle.std.specs.Prelude.{Ok}
 use Rattle.ox_outside.specs.Log.{Grows}
 use Rattle.ox_outside.proofs.Log.{grows_weaker}
 use Rattle.ox_model.specs.Machine.{empty_machine, stack_of}
-use Rattle.ox_model.specs.Replies.{replies_on}
+use Rattle.ox_model.specs.Replies.{replies, replies_on}
 use Rattle.ox_sat.specs.Profiles.{profile_named}
 use Rattle.ox_sat.specs.declared.profiles.Profile.{Profile}
 use Rattle.ox_sat.specs.declared.profiles.ProfileName.{ProfileName}
 use Rattle.ox_app.specs.Fold.{fold_depth}
-use Rattle.ox_app.specs.Headline.{RunsFeed}
+use Rattle.ox_app.specs.Headline.{RunsFeed, StopsBefore, stack_after}
 use Rattle.ox_app.specs.Init.{MakesFirst}
-use Rattle.ox_app.specs.Show.{DiskFails, EndsDone, HearFails, ShowFails}
+use Rattle.ox_app.specs.Show.{DiskFails, EndsAtFault, EndsDone, HearFails, ShowFails}
 use Rattle.ox_app.specs.Status.{status_of}
 use Rattle.ox_app.specs.declared.status.Status.{Status}
-use Rattle.ox_app.proofs.FreshIndexing.{apply_refuses, apply_writes, ends_done, fold_same, grows_alike, grows_stops_alike, init_refuses, init_same, init_writes, leaves_alike, made_same}
+use Rattle.ox_app.proofs.FreshIndexing.{apply_refuses, apply_writes, ends_done, fold_same, grows_alike, grows_stops_alike, init_refuses, init_same, init_writes, leaves_alike, made_same, runs_in_turn}
+use Rattle.ox_outside.proofs.Counts.{no_fault_yet}
+use Rattle.ox_app.proofs.Settled.{said_of_each}
+use Rattle.ox_app.proofs.Stops.{said_stops, status_stops}
+use Rattle.ox_app.specs.declared.status.Status.TheVariants as ends
 use Rattle.ox_app.proofs.program.run.Goals as goal
 
 pub returns-in-Fold-clause-folds : goal.returns-in-Fold-clause-folds
@@ -47,10 +51,21 @@ pub returns-in-Apply-clause-survives : goal.returns-in-Apply-clause-survives
 returns-in-Apply-clause-survives g c words machine opened =
     leaves_alike g.S.Site machine c.args.site.now c.apply.new.site (c.apply.ensures.survives opened.told (stack_of machine) opened.stands_for)
 
+pub returns-in-Apply-clause-in_turn : goal.returns-in-Apply-clause-in_turn
+returns-in-Apply-clause-in_turn g c words machine opened =
+    runs_in_turn g.S.Site machine c.args.site.now c.apply.new.site opened.stands_for (c.apply.ensures.survives opened.told (stack_of machine) opened.stands_for)
+
 pub returns-in-Apply-clause-out_of_memory : goal.returns-in-Apply-clause-out_of_memory
 returns-in-Apply-clause-out_of_memory g c words machine opened is =
-    grows_stops_alike machine (g.S.Site.seen c.apply.new.site) (g.S.Site.log c.args.site.now) (g.S.Site.log c.apply.new.site)
-    (c.apply.ensures.out_of_memory opened.told (stack_of machine) opened.stands_for is)
+    said_of_each g.S.Site g.met.S.Site.logs_now (StopsBefore (replies machine) (stack_after machine)) (g.S.Site.log c.args.site.now) c.apply.new.site
+    (c.apply.ensures.settled opened.told is)
+    (grows_stops_alike machine (g.S.Site.seen c.apply.new.site) (g.S.Site.log c.args.site.now) (g.S.Site.log c.apply.new.site)
+    (c.apply.ensures.out_of_memory opened.told (stack_of machine) opened.stands_for is))
+
+pub returns-in-Fold-clause-stops : goal.returns-in-Fold-clause-stops
+returns-in-Fold-clause-stops g c =
+    subst (λ (s : Status). EndsAtFault s (g.S.Site.counts c.args.site.now) (g.S.Site.counts c.fold.new.site)) (sym c.status.ensures)
+    (status_stops c.fold.result _ _ _ (no_fault_yet (g.S.Site.counts c.args.site.now)) c.fold.ensures.counted)
 
 pub returns-in-Apply-clause-no_image : goal.returns-in-Apply-clause-no_image
 returns-in-Apply-clause-no_image g c =
@@ -71,3 +86,6 @@ returns-in-Apply-clause-apply_completes g c words machine opened no_disk no_hear
     (HearFails g.S.Site c.args.site.now c.apply.new.site)
     (ShowFails g.S.Site c.args.site.now c.apply.new.site)
     events c.apply.ensures.status feeds.0 c.apply.ensures.disk_fault c.apply.ensures.hear_fault c.apply.ensures.show_fault no_disk no_hear no_show runs) feeds.1
+
+pub returns-in-Unknown-clause-stops : goal.returns-in-Unknown-clause-stops
+returns-in-Unknown-clause-stops g c = said_stops ends.Usage _ _ _ (inl refl) (no_fault_yet (g.S.Site.counts c.args.site.now)) c.say.ensures.counted

@@ -5,6 +5,7 @@ use Rattle.ox_files.specs.Stands.{stands}
 use Rattle.ox_app.proofs.Images.{done_opens, looked_then_talked, memory_opens, memory_undone, reply_front, reply_none, reply_whole, same_stack, says_nothing, show_opens, show_undone}
 use Rattle.ox_app.specs.Query.{query_body}
 use Rattle.ox_app.specs.Show.{ShowsReply}
+use Rattle.ox_app.proofs.Stops.{unopened_stops}
 use Rattle.ox_app.proofs.query.query.Goals as goal
 
 pub returns-in-Ok-show_all-clause-shows : goal.returns-in-Ok-show_all-clause-shows
@@ -46,3 +47,7 @@ returns-clause-looks g c =
 pub returns-clause-unsaid : goal.returns-clause-unsaid
 returns-clause-unsaid g c told misfit stood isnt =
     says_nothing g.S.Site c.in-Err.fault c.explain.result c.open.new.site c.explain.new.site c.explain.ensures.says isnt ∙ c.open.ensures.looks.nothing.as_logged
+
+pub returns-clause-stops : goal.returns-clause-stops
+returns-clause-stops g c =
+    unopened_stops g.S.Site c.in-Err.fault c.explain.result c.args.site.now c.open.new.site c.explain.new.site c.explain.ensures.says c.in-Err.ensures.counted c.explain.ensures.counted

@@ -2,6 +2,8 @@ use Rattle.std.proofs.lemmas.Result.{err_from_is_err_and}
 use Rattle.ox_app.proofs.Pieces.{showing_failed, showing_front, showing_on}
 use Rattle.ox_outside.proofs.OnlyTalks.{talks_call}
 use Rattle.ox_app.specs.Show.{ShowsFront}
+use Rattle.ox_outside.proofs.Counts.{no_fault_then, own_showing}
+use Rattle.ox_app.proofs.Stops.{all_shown, piece_stops}
 use Rattle.ox_app.proofs.show.show_all.Goals as goal
 
 pub returns-in_err-n-clause-told : goal.returns-in_err-n-clause-told
@@ -24,4 +26,10 @@ loop-rest-preserved g c =
       talks_call g.S.Site g.met.S.Site.logs_now (ShowsFront c.args.bytes.now)
           c.args.site.now c.loop-rest.site c.show.new.self c.loop-rest.invariant.1 c.show.ensures.files c.show.ensures.call
           (showing_front _ _ (g.S.Site.log c.args.site.now) (g.S.Site.log c.show.new.self) on),
+      no_fault_then _ _ _ c.loop-rest.invariant.2 (all_shown _ _ (own_showing _ _ _ c.in_ok-n.ensures.counted)),
     )
+
+pub returns-in_err-n-clause-counted : goal.returns-in_err-n-clause-counted
+returns-in_err-n-clause-counted g c =
+    let p = err_from_is_err_and c.from_residual.result c.from_residual.ensures.1 in
+    piece_stops c.show.result c.from_residual.result p.0 _ _ _ p.1 c.loop-rest.invariant.2 c.show.ensures.counted

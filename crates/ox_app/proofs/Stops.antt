@@ -1,0 +1,129 @@
+-- Of the calls of a run none fails but the last.
+use Rattle.std.proofs.Common.{◌≡◌, ◌∙◌, ◌⊎◌, inl, inr, ℕ, sym, ap, subst, arith}
+use Rattle.std.specs.Prelude.{Result, Ok, Err, IsErrOf}
+use Rattle.ox_outside.specs.Counts.{Counts, CountsShowing, FailsLast, IsFailure, NoFault, StopsAtFault}
+use Rattle.ox_outside.proofs.Counts.{own_showing, stops_after, stops_as, went_on}
+use Rattle.ox_outside.specs.declared.site.Site.{Ghosts as Meanings}
+use Rattle.ox_feed.specs.declared.lines.FeedFault.{FeedFault}
+use Rattle.ox_feed.specs.declared.lines.FeedFault.TheVariants as feeds
+use Rattle.ox_store.specs.declared.fault.MakeFault.{MakeFault}
+use Rattle.ox_store.specs.declared.fault.MakeFault.TheVariants as makes
+use Rattle.ox_store.specs.declared.fault.OpenFault.{OpenFault}
+use Rattle.ox_store.specs.declared.fault.OpenFault.TheVariants as opens
+use Rattle.ox_app.specs.Fold.{stop_of}
+use Rattle.ox_app.specs.Show.{EndsAtFault, EndsAtStop, MayFailToShow}
+use Rattle.ox_app.specs.Status.{IsRefusal, status_of}
+use Rattle.ox_app.specs.Unopened.{UnopenedAs}
+use Rattle.ox_app.specs.declared.status.Status.{Status}
+use Rattle.ox_app.specs.declared.status.Status.TheVariants as ends
+use Rattle.ox_app.specs.declared.stop.Stop.{Stop}
+use Rattle.ox_app.specs.declared.stop.Stop.TheVariants as stops
+
+-- ---- parts that went on
+
+-- of a part that ended well no call failed
+pub part_went : {T : Type 0} (x : T) (old new : Counts) → EndsAtStop (Ok x) old new → NoFault old new
+part_went {T} x old new stopped =
+    went_on (IsErrOf {T = T} {E = Stop} (Ok x) stops.DiskFault) (IsErrOf {T = T} {E = Stop} (Ok x) stops.HearFault) (IsErrOf {T = T} {E = Stop} (Ok x) stops.ShowFault) old new
+    (λ is. cc is) (λ is. cc is) (λ is. cc is) stopped
+
+-- of showings that all worked none failed
+pub all_shown : (old new : Counts) → StopsAtFault ⊥ ⊥ ⊥ old new → NoFault old new
+all_shown old new stopped = went_on ⊥ ⊥ ⊥ old new (λ no. no) (λ no. no) (λ no. no) stopped
+
+pub opened_well : {T : Type 0} (x : T) (old new : Counts) → StopsAtFault (IsErrOf {T = T} {E = OpenFault} (Ok x) opens.DiskFault) ⊥ ⊥ old new → NoFault old new
+opened_well {T} x old new stopped = went_on (IsErrOf {T = T} {E = OpenFault} (Ok x) opens.DiskFault) ⊥ ⊥ old new (λ is. cc is) (λ no. no) (λ no. no) stopped
+
+-- ---- parts that stopped
+
+-- why a part stopped is why the whole did
+pub part_stops : {T U : Type 0} (result : Result U Stop) (stop : Stop) (old mid new : Counts) → result ≡ Err stop → NoFault old mid → EndsAtStop {T = T} (Err stop) mid new → EndsAtStop result old new
+part_stops {T} {U} result stop old mid new is none stopped =
+    stops_after (IsErrOf result stops.DiskFault) (IsErrOf result stops.HearFault) (IsErrOf result stops.ShowFault) old mid new none
+    (stops_as (IsErrOf {T = T} (Err stop) stops.DiskFault) (IsErrOf {T = T} (Err stop) stops.HearFault) (IsErrOf {T = T} (Err stop) stops.ShowFault)
+    (IsErrOf result stops.DiskFault) (IsErrOf result stops.HearFault) (IsErrOf result stops.ShowFault) mid new
+    (λ e. let same : stop ≡ stops.DiskFault = cc e in is ∙ ap Err same)
+    (λ e. let same : stop ≡ stops.HearFault = cc e in is ∙ ap Err same)
+    (λ e. let same : stop ≡ stops.ShowFault = cc e in is ∙ ap Err same) stopped)
+
+-- a line that isn't heard
+pub feed_stops : {T U : Type 0} (result : Result U Stop) (fault : FeedFault) (old new : Counts) → result ≡ Err (stop_of fault) → StopsAtFault ⊥ (IsErrOf {T = T} {E = FeedFault} (Err fault) feeds.HearFault) ⊥ old new → EndsAtStop result old new
+feed_stops {T} {U} result fault old new is stopped =
+    stops_as ⊥ (IsErrOf {T = T} {E = FeedFault} (Err fault) feeds.HearFault) ⊥ (IsErrOf result stops.DiskFault) (IsErrOf result stops.HearFault) (IsErrOf result stops.ShowFault) old new
+    (λ no. absurd no)
+    (λ e. let same : fault ≡ feeds.HearFault = cc e in is ∙ ap (λ (f : FeedFault). Err (stop_of f)) same)
+    (λ no. absurd no) stopped
+
+-- bytes that aren't shown whole
+pub show_stops : {U E : Type 0} {T : Type 0} (answer : Result T E) (result : Result U Stop) (old mid new : Counts) → result ≡ Err stops.ShowFault → NoFault old mid → StopsAtFault ⊥ ⊥ (IsFailure answer) mid new → EndsAtStop result old new
+show_stops answer result old mid new is none stopped =
+    stops_after (IsErrOf result stops.DiskFault) (IsErrOf result stops.HearFault) (IsErrOf result stops.ShowFault) old mid new none
+    (stops_as ⊥ ⊥ (IsFailure answer) (IsErrOf result stops.DiskFault) (IsErrOf result stops.HearFault) (IsErrOf result stops.ShowFault) mid new
+    (λ no. absurd no) (λ no. absurd no) (λ failed. is) stopped)
+
+-- a showing that failed stopped the bytes
+pub piece_stops : {T E U F : Type 0} (answer : Result T E) (result : Result U F) (e : F) (old mid new : Counts) → result ≡ Err e → NoFault old mid → CountsShowing 0 answer mid new → StopsAtFault ⊥ ⊥ (IsFailure result) old new
+piece_stops answer result e old mid new is none counted =
+    stops_after ⊥ ⊥ (IsFailure result) old mid new none
+    (stops_as ⊥ ⊥ (IsFailure answer) ⊥ ⊥ (IsFailure result) mid new (λ no. no) (λ no. no) (λ failed. subst IsFailure (sym is) tt) (own_showing answer mid new counted))
+
+-- ---- runs
+
+-- a run over a feed stopped as its stop says
+pub status_stops : (result : Result (Unit {0}) Stop) (old mid new : Counts) → NoFault old mid → EndsAtStop result mid new → EndsAtFault (status_of result) old new
+status_stops result old mid new none stopped =
+    stops_after (status_of result ≡ ends.DiskFault) (status_of result ≡ ends.HearFault) ((status_of result ≡ ends.ShowFault) ⊎ IsRefusal (status_of result)) old mid new none
+    (stops_as (IsErrOf result stops.DiskFault) (IsErrOf result stops.HearFault) (IsErrOf result stops.ShowFault)
+    (status_of result ≡ ends.DiskFault) (status_of result ≡ ends.HearFault) ((status_of result ≡ ends.ShowFault) ⊎ IsRefusal (status_of result)) mid new
+    (λ is. ap status_of is) (λ is. ap status_of is) (λ is. inl (ap status_of is)) stopped)
+
+-- a failure, and then no other
+fails_before : (failed : Type 0) (old mid new : ℕ) → FailsLast failed old mid → new ≡ mid → FailsLast failed old new
+fails_before failed old mid new last same = record { most = omega (arith, same, last.most); unless = λ no. same ∙ last.unless no }
+
+stops_before : (disk hear show : Type 0) (old mid new : Counts) → StopsAtFault disk hear show old mid → NoFault mid new → StopsAtFault disk hear show old new
+stops_before disk hear show old mid new stopped none = record {
+  of_disk = fails_before disk _ _ _ stopped.of_disk none.disk;
+  of_hear = fails_before hear _ _ _ stopped.of_hear none.hear;
+  of_show = fails_before show _ _ _ stopped.of_show none.show;
+}
+
+-- only a line of refusal is shown behind an opening that failed, and none where the disk did
+shown_as : (status : Status) (old new : Counts) → StopsAtFault ⊥ ⊥ (status ≡ ends.NotStore) old new → EndsAtFault status old new
+shown_as status old new stopped =
+    stops_as ⊥ ⊥ (status ≡ ends.NotStore) (status ≡ ends.DiskFault) (status ≡ ends.HearFault) ((status ≡ ends.ShowFault) ⊎ IsRefusal status) old new
+    (λ no. absurd no) (λ no. absurd no) (λ is. inr (inr (inr is))) stopped
+
+pub unopened_stops : {S T : Type 0} (means : Meanings S) (fault : OpenFault) (status : Status) (old mid new : S) → UnopenedAs means fault status mid new
+    → StopsAtFault (IsErrOf {T = T} {E = OpenFault} (Err fault) opens.DiskFault) ⊥ ⊥ (means.counts old) (means.counts mid)
+    → StopsAtFault ⊥ ⊥ (status ≡ ends.NotStore) (means.counts mid) (means.counts new) → EndsAtFault status (means.counts old) (means.counts new)
+unopened_stops {S} {T} means (opens.NotStore file at) status old mid new says first then_ =
+    stops_after (status ≡ ends.DiskFault) (status ≡ ends.HearFault) ((status ≡ ends.ShowFault) ⊎ IsRefusal status) _ _ _
+    (went_on (IsErrOf {T = T} {E = OpenFault} (Err (opens.NotStore file at)) opens.DiskFault) ⊥ ⊥ _ _ (λ is. cc is) (λ no. no) (λ no. no) first) (shown_as status _ _ then_)
+unopened_stops {S} {T} means opens.DiskFault status old mid new says first then_ =
+    stops_before (status ≡ ends.DiskFault) (status ≡ ends.HearFault) ((status ≡ ends.ShowFault) ⊎ IsRefusal status) _ _ _
+    (stops_as (IsErrOf {T = T} {E = OpenFault} (Err opens.DiskFault) opens.DiskFault) ⊥ ⊥ (status ≡ ends.DiskFault) (status ≡ ends.HearFault) ((status ≡ ends.ShowFault) ⊎ IsRefusal status) _ _
+    (λ is. says.0) (λ no. absurd no) (λ no. absurd no) first)
+    (went_on ⊥ ⊥ (status ≡ ends.NotStore) _ _ (λ no. no) (λ no. no) (λ is. let e : ends.DiskFault ≡ ends.NotStore = sym says.0 ∙ is in cc e) then_)
+unopened_stops {S} {T} means opens.Memory status old mid new says first then_ =
+    stops_after (status ≡ ends.DiskFault) (status ≡ ends.HearFault) ((status ≡ ends.ShowFault) ⊎ IsRefusal status) _ _ _
+    (went_on (IsErrOf {T = T} {E = OpenFault} (Err opens.Memory) opens.DiskFault) ⊥ ⊥ _ _ (λ is. cc is) (λ no. no) (λ no. no) first) (shown_as status _ _ then_)
+
+-- where memory ran out, it wasn't the disk that failed
+pub not_disk : {S T : Type 0} (means : Meanings S) (fault : OpenFault) (status : Status) (old new : S) → UnopenedAs means fault status old new → status ≡ ends.Memory → IsErrOf {T = T} (Err fault) opens.DiskFault → ⊥
+not_disk means (opens.NotStore file at) status old new says is e = cc e
+not_disk means opens.DiskFault status old new says is e = let same : ends.DiskFault ≡ ends.Memory = sym says.0 ∙ is in cc same
+not_disk means opens.Memory status old new says is e = cc e
+
+-- ---- lines of refusal
+
+pub said_stops : (status : Status) (old mid new : Counts) → IsRefusal status → NoFault old mid → MayFailToShow mid new → EndsAtFault status old new
+said_stops status old mid new refuses none said =
+    stops_after (status ≡ ends.DiskFault) (status ≡ ends.HearFault) ((status ≡ ends.ShowFault) ⊎ IsRefusal status) old mid new none
+    (stops_as ⊥ ⊥ (Unit {0}) (status ≡ ends.DiskFault) (status ≡ ends.HearFault) ((status ≡ ends.ShowFault) ⊎ IsRefusal status) mid new
+    (λ no. absurd no) (λ no. absurd no) (λ _. inr refuses) said)
+
+-- a store that isn't made for another reason than the disk
+pub not_made : {T : Type 0} (fault : MakeFault) (old new : Counts) → (fault ≡ makes.DiskFault → ⊥) → StopsAtFault (IsErrOf {T = T} (Err fault) makes.DiskFault) ⊥ ⊥ old new → NoFault old new
+not_made {T} fault old new other stopped =
+    went_on (IsErrOf {T = T} (Err fault) makes.DiskFault) ⊥ ⊥ old new (λ is. let e : fault ≡ makes.DiskFault = cc is in other e) (λ no. no) (λ no. no) stopped
