@@ -88,9 +88,9 @@ impl Cache {
     }
 
     /// The bytes of the reply to a path, after so many accepted commands, with which the link ends
-    /// where `close` is so: of the one that is kept for both, and else of the one that `make` makes,
-    /// which is kept where its body has at most 65,536 bytes. `Memory` where there is none, for the
-    /// bytes, for the entry or in `make`: nothing has changed then.
+    /// where `close` is so: of the one that is kept for both, and else of the one that `make`
+    /// makes, which is kept where its body has at most 65,536 bytes. `Memory` where there is none,
+    /// for the bytes, for the entry or in `make`: nothing has changed then.
     pub fn answer<F: FnOnce() -> Result<Reply, Memory>>(
         &mut self,
         commands: u64,
@@ -100,8 +100,8 @@ impl Cache {
     ) -> Result<Bytes, Memory>
         requires { F.pre make }
         ensures answers { IfOk result (λ bytes.
-            Answers (λ reply. F.post make (Ok reply)) commands path.now close self.old bytes self.new
-            (entry_of commands path.now self.old.entries)) }
+            Answers (λ reply. F.post make (Ok reply)) commands path.now close self.old bytes
+            self.new (entry_of commands path.now self.old.entries)) }
         ensures err { OnErr result (self.new ≡ self.old) }
     {
         let key = Key {

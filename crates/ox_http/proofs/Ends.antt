@@ -53,7 +53,7 @@ none_there (b ∷ bytes) h (suc j) =
 
 -- ---- what follows changes nothing
 
-blank_kept : (x y : List ℕ) (j : ℕ) → j + 4 ≤ length x
+pub blank_kept : (x y : List ℕ) (j : ℕ) → j + 4 ≤ length x
     → is_blank (drop j (x ++ y)) ≡ is_blank (drop j x)
 blank_kept x y j h =
     let few : j ≤ length x = omega arith in

@@ -1,10 +1,12 @@
 pub mod Computed
+pub mod Cutting
 pub mod Digits
 pub mod Ends
 pub mod Fields
 pub mod Fronts
 pub mod Heads
 pub mod Putting
+pub mod Responses
 pub mod Stays
 pub mod Talking
 pub mod Values

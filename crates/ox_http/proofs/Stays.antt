@@ -70,7 +70,7 @@ fault_opens : (m n : ℕ) (head : Head) (asked : Asked) (o : Option ℕ)
 fault_opens m n head asked None h = cc
 fault_opens m n head asked (Some status) h = absurd (let none : ⊥ = cc in none)
 
-head_opens : (m n : ℕ) (asked : Asked) (o : Option Head) → at_head m o ≡ opens n asked → m ≡ n
+pub head_opens : (m n : ℕ) (asked : Asked) (o : Option Head) → at_head m o ≡ opens n asked → m ≡ n
 head_opens m n asked None h = absurd (let none : ⊥ = cc in none)
 head_opens m n asked (Some head) h = fault_opens m n head asked (fault_of head) h
 

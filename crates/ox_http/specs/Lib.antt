@@ -1,7 +1,9 @@
 pub mod First
 pub mod Head
 pub mod Lines
+pub mod Pieces
 pub mod Read
+pub mod Response
 pub mod Rows
 pub mod Talk
 pub mod Written

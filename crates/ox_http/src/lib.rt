@@ -2,13 +2,17 @@
 #![tactic(auto)]
 
 mod laws;
+mod pieces;
 mod reader;
+mod response;
 mod rows;
 mod writer;
 
 pub use laws::{heads_are_the_grammars, talks_go_on, what_is_said_stays};
 use ox_bytes::Bytes;
+pub use pieces::streams_are_their_requests;
 pub use reader::{BODY_LIMIT, HEAD_LIMIT, HeadFound, HeadRead, Parsed, read_head, request_of};
+pub use response::replies_are_responses;
 pub use rows::{a_closing_request_is_the_last, requests_come_in_order};
 pub use writer::{
     HEAD_ROOM, ReplyParts, UNAVAILABLE, fault_reply, put_reply, unavailable_is_503, write_parts,

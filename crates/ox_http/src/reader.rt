@@ -139,7 +139,7 @@ fn first_value<'h>(head: &'h [u8], fields: &[HeaderSpan], name: &[u8]) -> Option
         (λ value. IsFirstOf (values_of name.now (map (header_bytes head.now) fields.now))
         value.now) }
 {
-    for field in fields {
+    for field in fields.iter() {
         if same_letters(field.name.of(head), name) {
             return Some(field.value.of(head));
         }

@@ -98,7 +98,8 @@ fn put_kind(room: &mut Room, kind: &[u8])
 
 fn put_some_encoding(room: &mut Room, encoding: &[u8])
     requires { length encoding.now + 20 ≤ room.old.spare }
-    ensures { Puts (encoding_line (Some encoding.now)) (length encoding.now + 20) room.old room.new }
+    ensures { Puts (encoding_line (Some encoding.now)) (length encoding.now + 20)
+        room.old room.new }
 {
     put(room, b"Content-Encoding: ");
     put(room, encoding);
@@ -155,8 +156,8 @@ fn put_head(room: &mut Room, parts: ReplyParts, close: bool)
 /// enough.
 pub fn put_reply(room: &mut Room, parts: ReplyParts, close: bool)
     requires { most_written (reply_of parts close) ≤ room.old.spare }
-    ensures { Puts (written (reply_of parts.entry close)) (most_written (reply_of parts.entry close))
-        room.old room.new }
+    ensures { Puts (written (reply_of parts.entry close))
+        (most_written (reply_of parts.entry close)) room.old room.new }
 {
     put_head(room, parts, close);
     put(room, parts.body);

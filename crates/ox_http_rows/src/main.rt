@@ -5,6 +5,13 @@
 //!   the first time, and what; it is checked that this stays so to the stream's end;
 //! - `reply STATUS KIND ENCODING CLOSE BODY`: a written reply; each writer has to write the same;
 //! - `fault STATUS`: the written reply to a fault; `unavailable`: the reply 503;
+//! - `link STEP..`: what a session of one link does, step by step. Behind each it is polled until
+//!   it waits or is over, each request is replied with its path as the body, and what is due is
+//!   printed, and taken in two halves. Steps: `say:N:PART,PART..` (the link says these parts, N
+//!   bytes at a time, or all at once for 0), `end` (it says nothing more), `close` (from here on
+//!   replies say close), `busy` (requests are answered 503), `none` (503 is due, whatever is asked);
+//! - `often TIMES PART..`: what a stream begins with, read so often; `hold LINKS N PART..`: so many
+//!   sessions that hear a stream, N bytes at a time, and are kept (both are timed by bench/http.py);
 //! - a row that begins with `#` is printed as it stands.
 //!
 //! A part is hex digits, or `N*` and hex digits for so many times the same; `-` is none. Bytes are
@@ -14,44 +21,23 @@
 //! public rules and shares nothing with the library.
 #![tactic(auto)]
 
+mod link;
+mod often;
+mod parts;
+mod show;
+
+use crate::link::drive;
+use crate::often::{hold, read_often};
+use crate::parts::{bytes_of, stream_of};
+use crate::show::{print_bytes, print_request};
 use anyhow::{Context, bail};
 use ox_bytes::{Bytes, Room};
 use ox_http::{
-    HEAD_ROOM, Method, Parsed, Reply, Request, UNAVAILABLE, fault_reply, put_reply, request_of,
-    write_parts, write_reply,
+    HEAD_ROOM, Parsed, Reply, UNAVAILABLE, fault_reply, put_reply, request_of, write_parts,
+    write_reply,
 };
 use std::alloc::Global;
 use std::io::{self, BufRead, BufReader};
-
-/// Of more bytes than these the number alone is printed.
-const MOST_SHOWN: usize = 200;
-
-/// Bytes in hex digits, or how many they are.
-fn print_bytes(rt: &impl Print, bytes: &[u8]) -> io::Result<()> {
-    if bytes.len() > MOST_SHOWN {
-        return print!(rt; "({} bytes)", bytes.len());
-    }
-    for byte in bytes {
-        print!(rt; "{byte:02x}")?;
-    }
-    Ok(())
-}
-
-fn word_of(method: Method) -> &'static str {
-    match method {
-        Method::Get => "GET",
-        Method::Post => "POST",
-        Method::Other => "other",
-    }
-}
-
-fn print_request(rt: &impl Print, request: &Request) -> io::Result<()> {
-    print!(rt; "{} ", word_of(request.method))?;
-    print_bytes(rt, request.path.as_slice())?;
-    print!(rt; " body ")?;
-    print_bytes(rt, request.body.as_slice())?;
-    println!(rt; "{}", if request.close { " close" } else { "" })
-}
 
 /// What a stream begins with. `Memory` where there is none for it.
 fn first(alloc: Global, stream: &[u8]) -> anyhow::Result<Parsed> {
@@ -128,34 +114,6 @@ fn print_growth(rt: &impl Print, alloc: Global, stream: &[u8]) -> anyhow::Result
     Ok(())
 }
 
-/// The bytes that a word's hex digits spell; `-` spells none.
-fn bytes_of(alloc: Global, word: &str) -> anyhow::Result<Vec<u8>> {
-    if word == "-" {
-        return Ok(Vec::new(alloc));
-    }
-    hex::decode(alloc, word).ok().context("no hex digits")
-}
-
-/// Appends a part.
-fn append(alloc: Global, bytes: &mut Vec<u8>, word: &str) -> anyhow::Result<()> {
-    let (times, digits) = word.split_once('*').unwrap_or(("1", word));
-    let part = bytes_of(alloc, digits)?;
-    let times: u32 = times.parse().unwrap_or(0);
-    for _ in 0..times {
-        bytes.extend_from_slice(&part)?;
-    }
-    Ok(())
-}
-
-/// The stream of a row's parts.
-fn stream_of(alloc: Global, words: &[&str]) -> anyhow::Result<Vec<u8>> {
-    let mut stream = Vec::new(alloc);
-    for word in words {
-        append(alloc, &mut stream, *word)?;
-    }
-    Ok(stream)
-}
-
 /// The encoding that a word spells, `none` for none.
 fn encoding_of(alloc: Global, word: &str) -> anyhow::Result<Option<Bytes>> {
     if word == "none" {
@@ -213,6 +171,12 @@ fn run(rt: &impl Print, alloc: Global, row: &str) -> anyhow::Result<()> {
     match words.as_slice() {
         ["talk", parts @ ..] => print_talk(rt, alloc, &stream_of(alloc, parts)?),
         ["grow", parts @ ..] => print_growth(rt, alloc, &stream_of(alloc, parts)?),
+        ["link", steps @ ..] => drive(rt, alloc, steps),
+        ["often", times, parts @ ..] => read_often(rt, alloc, times.parse().unwrap_or(0), parts),
+        ["hold", links, each, parts @ ..] => {
+            let (links, each) = (links.parse().unwrap_or(0), each.parse().unwrap_or(1));
+            hold(rt, alloc, links, each, parts)
+        }
         ["reply", words @ ..] => print_reply(rt, alloc, &reply_of(alloc, words)?),
         ["fault", status] => {
             let reply = fault_reply(alloc, status.parse().unwrap_or(0)).ok();

@@ -8,7 +8,8 @@ mod stream;
 
 ghost use Rattle.std.specs.Prelude.{◌≡◌, ◌≢◌, ◌≤◌, ◌++◌, [], length, drop, true, false, Ok};
 ghost use Rattle.std.specs.Prelude.{OnOk, OnErr, IfOk};
-ghost use Rattle.ox_http.specs.Written.{fault_reply as fault, unavailable as unavailable_bytes, written};
+ghost use Rattle.ox_http.specs.Written.{fault_reply as fault, unavailable as unavailable_bytes};
+ghost use Rattle.ox_http.specs.Written.{written};
 ghost use Rattle.ox_session.specs.Link.{Says, new_link};
 
 use crate::buffer::Buffer;
