@@ -1,0 +1,5 @@
+pub mod Joined
+pub mod Leading
+pub mod Counting
+pub mod Asking
+pub mod WentOn

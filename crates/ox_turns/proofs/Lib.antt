@@ -1,0 +1,10 @@
+pub mod Answering
+pub mod Coming
+pub mod Following
+pub mod LinkCrashes
+pub mod LinkTurns
+pub mod Rotating
+pub mod Rounds
+pub mod Surviving
+pub mod Turned
+pub mod Turning

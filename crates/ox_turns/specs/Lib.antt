@@ -1,0 +1,4 @@
+pub mod Desk
+pub mod Follows
+pub mod Places
+pub mod Turn
