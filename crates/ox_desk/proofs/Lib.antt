@@ -1,0 +1,5 @@
+pub mod Bodies
+pub mod Escapes
+pub mod Machines
+pub mod Refusals
+pub mod Whole

@@ -1,0 +1,6 @@
+pub mod Asked
+pub mod Commands
+pub mod Plain
+pub mod Replies
+pub mod Servers
+pub mod Whole
