@@ -1,0 +1,2 @@
+pub mod MadeBlocks
+pub mod Commands
