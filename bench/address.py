@@ -3,16 +3,14 @@
 
     python3 bench/address.py
 
-has crates/ox_address_rows write a script of 22 bytes and one of 34 a million times each, and write each and read its
-address again, and prints calls a second. Build both first, as bench/README.md says.
+has crates/ox_address_rows write a script of 22 bytes and one of 34 a million times each, and write
+each and read its address again, and prints calls a second. bench/all.py builds both.
 """
-import pathlib
-import resource
-import subprocess
 
-TOP = pathlib.Path(__file__).resolve().parent.parent
-PROVED = TOP / "crates" / "ox_address_rows" / "out" / "ox_address_rows"
-PLAIN = TOP / "bench" / "plain" / "address" / "target" / "release" / "address"
+from runs import processor_time, report
+from tools.programs import plain_program, proved_program
+
+PROVED, PLAIN = proved_program("ox_address_rows"), plain_program("address")
 TIMES = 1_000_000
 SCRIPTS = {
     "22 bytes": "0014751e76e8199196d454941c45d1b3a323f1433bd6",
@@ -20,20 +18,16 @@ SCRIPTS = {
 }
 
 
-def processor_time(program, work, script, times):
-    row = f"repeat {work} bc {script} {times}\n".encode()
-    before = resource.getrusage(resource.RUSAGE_CHILDREN)
-    answer = subprocess.run([program], input=row, stdout=subprocess.PIPE, check=True).stdout
-    after = resource.getrusage(resource.RUSAGE_CHILDREN)
-    return after.ru_utime + after.ru_stime - before.ru_utime - before.ru_stime, answer
+def run(program, work, script, times):
+    return processor_time([program], f"repeat {work} bc {script} {times}\n".encode())
 
 
 def seconds(program, work, script):
     """The processor time of all calls, the least of nine runs, and what the program answered."""
     took = []
     for _ in range(9):
-        few, _ = processor_time(program, work, script, 0)
-        many, answer = processor_time(program, work, script, TIMES)
+        few, _ = run(program, work, script, 0)
+        many, answer = run(program, work, script, TIMES)
         took.append(many - few)
     return min(took), answer
 
@@ -47,9 +41,12 @@ def main():
             times[program] = written, both - written, (first, second)
         assert times[PROVED][2] == times[PLAIN][2], name
         for at, work in enumerate(("written", "read")):
-            proved, plain = times[PROVED][at], times[PLAIN][at]
-            print(f"{name}, {work}: {TIMES / proved / 1e6:.2f} million a second, plain Rust {TIMES / plain / 1e6:.2f}, "
-                  f"{plain / proved:.2f} of its speed")
+            proved, plain = (TIMES / times[program][at] for program in (PROVED, PLAIN))
+            print(
+                f"{name}, {work}: {proved / 1e6:.2f} million a second, plain Rust"
+                f" {plain / 1e6:.2f}, {proved / plain:.2f} of its speed"
+            )
+            report(f"an address {work}", name, "a second", proved, plain)
 
 
 main()

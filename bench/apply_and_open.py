@@ -3,13 +3,15 @@
 
     python3 bench/apply_and_open.py [APPLIED [OPENED [PROGRAM]]]
 
-makes a folder below out/ beside this script, which has to be on a disk, and in it stores that are gone at the end. It
-applies a feed of so many small regtest blocks (2,000 without a word) and, beside it, does what no store of this design can
-do without: for each block it writes the record behind the last gate, waits for the disk, writes the gate, and waits for
-the disk. The two take turns, five times each, so that others who use the disk slow both; printed are all times, the least
-and the middle ones as commands a second, and the ratio. The file that was applied has to have the bytes that
-docs/FORMATS.md says. Then it times `query /status` five times over a store of OPENED blocks (10,000 without a word), and
-over an empty one. PROGRAM is crates/ox_main/out/ox_main without a word. Nothing here is proved.
+makes a folder below out/ beside this script, which has to be on a disk, and in it stores that are
+gone at the end. It applies a feed of so many small regtest blocks (2,000 without a word) and,
+beside it, does what no store of this design can do without: for each block it writes the record
+behind the last gate, waits for the disk, writes the gate, and waits for the disk. The two take
+turns, five times each, so that others who use the disk slow both; printed are all times, the least
+and the middle ones as commands a second, and the ratio. The file that was applied has to have the
+bytes that docs/FORMATS.md says. Then it times `query /status` five times over a store of OPENED
+blocks (10,000 without a word), over one of a tenth of them, and over an empty one. PROGRAM is
+crates/ox_main/out/ox_main without a word. Nothing here is proved.
 """
 
 import json
@@ -21,12 +23,14 @@ import sys
 import tempfile
 import time
 
-HERE = pathlib.Path(__file__).resolve().parent
-sys.path.append(str(HERE.parent / "checks"))
+from runs import report
+from tools.programs import TOP, proved_program
+
+sys.path.append(str(TOP / "checks"))
 
 from chain import chain, file_a, line, record  # noqa: E402
 
-PROGRAM = HERE.parent / "crates" / "ox_main" / "out" / "ox_main"
+PROGRAM = proved_program("ox_main")
 RUNS = 5
 
 
@@ -44,11 +48,12 @@ def kind_of_disk(folder):
 def make(program, folder):
     """An empty store in a new folder."""
     folder.mkdir()
-    subprocess.run([program, folder, "init", "regtest", "100"], check=True, stdout=subprocess.DEVNULL)
+    words = [program, folder, "init", "regtest", "100"]
+    subprocess.run(words, check=True, stdout=subprocess.DEVNULL)
 
 
 def time_run(command, **streams):
-    """Runs the program: how long it takes from its start to its end, and how much processor time."""
+    """Runs the program: how long it takes from start to end, and how much processor time."""
     begun = time.perf_counter()
     child = subprocess.Popen(command, **streams)
     _, status, usage = os.wait4(child.pid, 0)
@@ -74,7 +79,7 @@ def time_apply(program, folder, feed, blocks):
 
 
 def seconds_of_floor(folder, blocks):
-    """How long two writes and two waits a block take, to a file of the same bytes at each moment."""
+    """How long two writes and two waits a block take, to a file that has the same bytes."""
     folder.mkdir()
     path = folder / "a.ox"
     path.write_bytes(file_a([]))
@@ -105,10 +110,17 @@ def compare(program, top, count):
         applied.append(seconds)
         works.append(work)
         floor.append(seconds_of_floor(top / f"floor{turn}", blocks))
-        print(f"{count:,} commands: apply {seconds:6.2f} s, bare writes {floor[-1]:6.2f} s", flush=True)
+        print(
+            f"{count:,} commands: apply {seconds:6.2f} s, bare writes {floor[-1]:6.2f} s",
+            flush=True,
+        )
     for which, of in ("least", min), ("middle", statistics.median):
         rates = [count / of(times) for times in (applied, floor)]
-        print(f"{which}: apply {rates[0]:.0f} commands a second, bare writes {rates[1]:.0f}: {rates[0] / rates[1]:.2f}")
+        print(
+            f"{which}: apply {rates[0]:.0f} commands a second, bare writes {rates[1]:.0f}:"
+            f" {rates[0] / rates[1]:.2f}"
+        )
+    report("commands applied", f"{count:,} commands", "commands a second", *rates)
     print(f"apply took {1000 * min(works) / count:.3f} ms of processor time a command")
 
 
@@ -126,13 +138,17 @@ def time_query(program, folder, count, tip):
             sys.exit(f"the store isn't of {count} blocks")
     size = (folder / "a.ox").stat().st_size / 1e6
     wall, work = (1000 * statistics.median(times) for times in (walls, works))
-    print(f"query of {count:,} blocks, {size:.2f} MB: {wall:.1f} ms, {work:.1f} ms of processor time", flush=True)
+    print(
+        f"query of {count:,} blocks, {size:.2f} MB: {wall:.1f} ms, {work:.1f} ms of processor time",
+        flush=True,
+    )
+    report("a store opened and asked", f"{count:,} blocks", "ms", wall)
 
 
 def open_stores(program, top, count):
-    """Times the opening of a large store and of an empty one."""
+    """Times the opening of a large store, of a smaller one and of an empty one."""
     blocks, tips = chain(count)
-    for name, part in (("none", 0), ("all", count)):
+    for name, part in (("none", 0), ("tenth", count // 10), ("all", count)):
         folder = top / name
         make(program, folder)
         (folder / "a.ox").write_bytes(file_a(blocks[:part]))
@@ -141,18 +157,19 @@ def open_stores(program, top, count):
 
 def main():
     words = sys.argv[1:]
-    applied, opened = [int(word) for word in words[:2]] + [2000, 10_000][len(words[:2]):]
+    applied, opened = [int(word) for word in words[:2]] + [2000, 10_000][len(words[:2]) :]
     program = pathlib.Path(words[2]).resolve() if len(words) > 2 else PROGRAM
     if not program.exists():
         sys.exit(f"{program} isn't built")
-    out = HERE / "out"
+    out = TOP / "bench" / "out"
     out.mkdir(exist_ok=True)
     with tempfile.TemporaryDirectory(dir=out) as folder:
         top = pathlib.Path(folder)
         kind = kind_of_disk(top)
         if kind in ("tmpfs", "ramfs"):
             sys.exit(f"{top} is in memory, and not on a disk")
-        print(f"{program}, {os.cpu_count()} processors with a load of {os.getloadavg()[0]:.1f}, {kind}")
+        load = os.getloadavg()[0]
+        print(f"{program}, {os.cpu_count()} processors with a load of {load:.1f}, {kind}")
         compare(program, top, applied)
         open_stores(program, top, opened)
 

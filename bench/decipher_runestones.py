@@ -3,24 +3,19 @@
 
     python3 bench/decipher_runestones.py
 
-has crates/ox_speed decipher many edicts and many tags, each also at ten times the size, so that growth shows.
-Build it first, as bench/README.md says.
+has crates/ox_speed decipher many edicts and many tags, each also at ten times the size, so that
+growth shows. bench/all.py builds it.
 """
-import pathlib
+
 import struct
 import subprocess
 import time
 
-TOP = pathlib.Path(__file__).resolve().parent.parent
-PROGRAM = TOP / "crates" / "ox_speed" / "out" / "ox_speed"
+from runs import report
+from tools.bitcoin import varint
+from tools.programs import proved_program
 
-
-def varint(n):
-    out = b""
-    while n >= 128:
-        out += bytes([n % 128 + 128])
-        n //= 128
-    return out + bytes([n])
+PROGRAM = proved_program("ox_speed")
 
 
 def script(integers):
@@ -38,17 +33,29 @@ def tags(count):
     return [n for tag in range(count) for n in (2 * (tag % 4096) + 129, 5)]
 
 
+def seconds(data, times):
+    """The seconds of a run, and what was shown."""
+    start = time.perf_counter()
+    command = [PROGRAM, "stone", str(times)]
+    shown = subprocess.run(command, input=data, stdout=subprocess.PIPE, check=True).stdout
+    return time.perf_counter() - start, shown.decode().strip()
+
+
 def main():
-    for name, make, count in (("edicts", edicts, 10_000), ("edicts", edicts, 100_000), ("tags", tags, 50_000), ("tags", tags, 500_000)):
-        integers = make(count)
-        data = script(integers)
-        took = {}
-        for times in (0, 10):
-            start = time.perf_counter()
-            answer = subprocess.run([PROGRAM, "stone", str(times)], input=data, stdout=subprocess.PIPE, check=True).stdout
-            took[times] = time.perf_counter() - start
-        seconds = (took[10] - took[0]) / 10
-        print(f"{count:,} {name}, {len(data):,} bytes: {len(integers) / seconds / 1e6:.1f} million integers a second; {answer.decode().strip()}")
+    for name, make, counts in (
+        ("edicts", edicts, (10_000, 100_000)),
+        ("tags", tags, (50_000, 500_000)),
+    ):
+        for count in counts:
+            integers = make(count)
+            data = script(integers)
+            (once, _), (often, answer) = seconds(data, 0), seconds(data, 10)
+            rate = 10 * len(integers) / (often - once) / 1e6
+            print(
+                f"{count:,} {name}, {len(data):,} bytes: {rate:.1f} million integers a second;"
+                f" {answer}"
+            )
+            report(f"a runestone of {name}", f"{count:,}", "million integers a second", rate)
 
 
 main()

@@ -3,14 +3,15 @@
 
     python3 bench/find_envelopes.py
 
-has crates/ox_block_rows go over scripts of 3,990,000 bytes, and over a tenth of each, so that growth shows. Build it
-first, as bench/README.md says.
+has crates/ox_block_rows go over scripts of 3,990,000 bytes, and over a tenth of each, so that
+growth shows. bench/all.py builds it.
 """
 
 import subprocess
 import time
 
-from runs import proved_program
+from runs import report
+from tools.programs import proved_program
 
 PROGRAM = proved_program("ox_block_rows")
 TIMES = 10
@@ -22,9 +23,9 @@ def seconds(word, script):
     for times in (1, 1 + TIMES):
         start = time.perf_counter()
         row = f"{word} {script}\n".encode()
-        answer = subprocess.run([PROGRAM, str(times)], input=row, stdout=subprocess.PIPE, check=True).stdout
+        ran = subprocess.run([PROGRAM, str(times)], input=row, stdout=subprocess.PIPE, check=True)
         took[times] = time.perf_counter() - start
-    return (took[1 + TIMES] - took[1]) / TIMES, answer.decode().strip()
+    return (took[1 + TIMES] - took[1]) / TIMES, ran.stdout.decode().strip()
 
 
 def main():
@@ -42,7 +43,11 @@ def main():
             scan, items = seconds("items", script)
             search, found = seconds("envelopes", script)
             length = len(head) + count * len(part)
-            print(f"{name}, {length:,} bytes: {items}, scan {scan * 1e3:.1f} ms; {found}, search {search * 1e3:.1f} ms")
+            print(
+                f"{name}, {length:,} bytes: {items}, scan {scan * 1e3:.1f} ms; {found},"
+                f" search {search * 1e3:.1f} ms"
+            )
+            report(f"a search: {name}", f"{size:,} bytes", "ms", search * 1e3, scan * 1e3)
 
 
 main()

@@ -1,15 +1,16 @@
 #!/usr/bin/env python3
 """Times `fold regtest` over a large feed, beside `cat` of the feed and a plain C program.
 
-    python3 bench/fold_feed.py [MEGABYTES]
+    python3 bench/fold_feed.py [MEGABYTES..]
 
-makes a feed of so many megabytes (100 without a word) in a temporary folder: blocks of one transaction with scripts of
-up to a megabyte, each following the one before, blocks that are refused at their end, and lines that are too long. It
-runs each program over it five times, prints the least processor time as megabytes of feed a second, and the ratio of
-the built program to the plain one. Nothing here is proved. Build the program first, as bench/README.md says.
+makes a feed of so many megabytes (50 and 500 without a word) in a temporary folder: blocks of one
+transaction with scripts of up to a megabyte, each following the one before, blocks that are refused
+at their end, and lines that are too long. It runs each program over it five times, prints the least
+processor time as megabytes of feed a second, and the ratio of the built program to the plain one,
+which finds lines, decodes the hex, hashes headers and what stands behind them, and checks nothing.
+Nothing here is proved. bench/all.py builds the program, and this compiles the plain one.
 """
 
-import os
 import pathlib
 import random
 import shutil
@@ -17,22 +18,23 @@ import subprocess
 import sys
 import tempfile
 
-HERE = pathlib.Path(__file__).resolve().parent
-sys.path.append(str(HERE.parent / "checks"))
+from blocks import SUBSIDY, connect
+from runs import report, run
+from tools import bitcoin
+from tools.bitcoin import string, twice
+from tools.programs import TOP, proved_program
 
-from chain import compact, line, twice  # noqa: E402
-
-PROGRAM = HERE.parent / "crates" / "ox_main" / "out" / "ox_main"
+PROGRAM = proved_program("ox_main")
+SOURCE = TOP / "bench" / "plain" / "fold_feed.c"
 RUNS = 5
 
 
 def block(previous, script):
     """A block of one transaction, a coinbase whose one output has this script; and its hash."""
     inputs = b"\x01" + bytes(32) + b"\xff" * 4 + b"\x03abc" + b"\xff" * 4
-    outputs = b"\x01" + (5_000_000_000).to_bytes(8, "little") + compact(len(script)) + script
+    outputs = b"\x01" + SUBSIDY.to_bytes(8, "little") + string(script)
     tx = (1).to_bytes(4, "little") + inputs + outputs + bytes(4)
-    header = (1).to_bytes(4, "little") + previous + twice(tx) + bytes(12)
-    return header + b"\x01" + tx, twice(header)
+    return bitcoin.block(previous, twice(tx), [tx])
 
 
 def write_feed(path, size):
@@ -45,11 +47,11 @@ def write_feed(path, size):
             bytes_, hash_ = block(previous, script)
             kind = chance.randrange(10)
             if kind == 0:
-                shown = line(bytes_[:-1])
+                shown = connect(bytes_[:-1])
             elif kind == 1 and size >= 50_000_000:
-                shown = line(bytes_ * (8_100_000 // (2 * len(bytes_)) + 1))
+                shown = connect(bytes_ * (8_100_000 // (2 * len(bytes_)) + 1))
             else:
-                shown = line(bytes_)
+                shown = connect(bytes_)
                 previous = hash_
             feed.write(shown)
             written += len(shown)
@@ -57,43 +59,40 @@ def write_feed(path, size):
     return lines, written
 
 
-def best_time(command, feed, shown):
-    """The least processor time of some runs over the feed, user and system together; the output goes to `shown`."""
-    best = float("inf")
-    for _ in range(RUNS):
-        with open(feed, "rb") as given, open(shown, "wb") as taken:
-            child = subprocess.Popen(command, stdin=given, stdout=taken)
-            _, status, usage = os.wait4(child.pid, 0)
-            child.returncode = os.waitstatus_to_exitcode(status)
-            if child.returncode != 0:
-                sys.exit(f"{command} ended with {child.returncode}")
-            best = min(best, usage.ru_utime + usage.ru_stime)
-    return best
+def rate(command, feed, size):
+    """The megabytes of feed a second of the run that took least, and what it showed."""
+    best, shown = min(run(command, feed)[::2] for _ in range(RUNS))
+    return size / 1e6 / best, shown
+
+
+def compare(plain, folder, megabytes):
+    feed = folder / "feed"
+    lines, size = write_feed(feed, megabytes * 1_000_000)
+    commands = {
+        "cat": ["sh", "-c", "exec cat > /dev/null"],
+        "plain C": [plain],
+        "ox": [PROGRAM, folder, "fold", "regtest"],
+    }
+    rates, shown = {}, b""
+    for name, command in commands.items():
+        rates[name], shown = rate(command, feed, size)
+        print(f"{name:8} {rates[name]:8.0f} MB of feed a second")
+    if shown.count(b"\n") != lines:
+        sys.exit("not each line was answered by one")
+    ratio = rates["ox"] / rates["plain C"]
+    print(f"{lines} lines, {size / 1e6:.0f} MB; ox_main to plain C: {ratio:.2f}", flush=True)
+    report("a feed", f"{megabytes} MB", "MB a second", rates["ox"], rates["plain C"])
 
 
 def main():
-    megabytes = int(sys.argv[1]) if len(sys.argv) > 1 else 100
-    if not PROGRAM.exists():
-        sys.exit(f"{PROGRAM} isn't built")
-    compiler = shutil.which("cc") or shutil.which("gcc") or shutil.which("clang") or "/opt/rattle/toolchain/bin/clang"
+    compilers = filter(None, map(shutil.which, ("cc", "gcc", "clang")))
+    compiler = next(compilers, "/opt/rattle/toolchain/bin/clang")
     with tempfile.TemporaryDirectory() as folder:
-        feed = pathlib.Path(folder) / "feed"
-        lines, size = write_feed(feed, megabytes * 1_000_000)
-        plain = pathlib.Path(folder) / "plain"
-        subprocess.run([compiler, "-O2", "-o", plain, HERE / "plain" / "fold_feed.c"], check=True)
-        rates = {}
-        answers = pathlib.Path(folder) / "answers"
-        for name, command, shown in (
-            ("cat", ["cat"], "/dev/null"),
-            ("plain C", [plain], "/dev/null"),
-            ("ox_main", [PROGRAM, folder, "fold", "regtest"], answers),
-        ):
-            seconds = best_time(command, feed, shown)
-            rates[name] = size / 1e6 / seconds
-            print(f"{name:8} {rates[name]:8.0f} MB of feed a second")
-        if answers.read_bytes().count(b"\n") != lines:
-            sys.exit("not each line was answered by one")
-        print(f"{lines} lines, {size / 1e6:.0f} MB; ox_main to plain C: {rates['ox_main'] / rates['plain C']:.2f}")
+        folder = pathlib.Path(folder)
+        plain = folder / "plain"
+        subprocess.run([compiler, "-O2", "-o", plain, SOURCE], check=True)
+        for megabytes in [int(word) for word in sys.argv[1:]] or [50, 500]:
+            compare(plain, folder, megabytes)
 
 
 if __name__ == "__main__":

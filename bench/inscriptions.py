@@ -3,26 +3,32 @@
 
     python3 bench/inscriptions.py
 
-has crates/ox_speed append 100,000 and 1,000,000 rows, of which a tenth are cursed, look each up by its id, its satoshi,
-the next one and its children, give each its signed number, and, over as many rows, set a mark, append 1,000 rows and go
-back; the plain program does the last with ordered maps too, and keeps in each row how many before it are cursed. Then it
-has a block reveal what one transaction of 2,000 and of 20,000 inputs has: nine envelopes with pointers
-for each two inputs, or five parents for each two. It prints the processor time of the runs that took least of three,
-and the memory that a row takes. Build both programs first, as bench/README.md says.
+has crates/ox_speed append 100,000 and 1,000,000 rows, of which a tenth are cursed, look each up by
+its id, its satoshi, the next one and its children, give each its signed number, and, over as many
+rows, set a mark, append 1,000 rows and go back. The plain program has hash maps by id and by parent
+and an ordered map by satoshi; it does the last with ordered maps too, and keeps in each row how
+many before it are cursed. Then it has a block reveal what one transaction of 2,000 and of 20,000
+inputs has: nine envelopes with pointers for each two inputs, or five parents for each two; the
+plain program makes this transaction itself. It prints the processor time of the runs that took
+least of three, and the memory that a row takes. bench/all.py builds both programs.
 """
 
 import pathlib
 import struct
 import tempfile
 
-from blocks import SUBSIDY, coinbase, put, size, tx
-from runs import in_another_process, least, plain_program, proved_program
+from blocks import SUBSIDY, coinbase, compact_size, put, tx
+from runs import in_another_process, least, report
+from tools.bitcoin import string
+from tools.programs import plain_program, proved_program
 
 PROGRAMS = {"proved": proved_program("ox_speed"), "plain": plain_program("inscriptions")}
 LOOKS = 1
 MARKS = 500
 NUMBERS = 20
 REVEALS = 10
+# how fast signed numbers should be told at least, by plain Rust
+SIGNED_GOAL = 0.7
 # an output of any kind, and an envelope's opening and end
 SCRIPT = b"\x51"
 OPENING, END = b"\0\x63\3ord", b"\x68"
@@ -34,9 +40,11 @@ def scattered(number, end):
 
 
 def pointers(place):
-    """The envelopes of the input at a place: nine for each two inputs, each with a pointer of eight bytes."""
+    """The envelopes of the input at a place: nine for each two inputs, each with a pointer of eight
+    bytes."""
     numbers = range(place * 9 // 2, (place + 1) * 9 // 2)
-    return b"".join(OPENING + b"\1\2\x08" + struct.pack("<Q", scattered(number, SUBSIDY)) + END for number in numbers)
+    places = (struct.pack("<Q", scattered(number, SUBSIDY)) for number in numbers)
+    return b"".join(OPENING + b"\1\2\x08" + place + END for place in places)
 
 
 def parents(count):
@@ -54,15 +62,17 @@ def scripts_of(kind, inputs):
 
 def block_of(txs):
     """A block whose header isn't looked at."""
-    return bytes(80) + size(len(txs)) + b"".join(txs)
+    return bytes(80) + compact_size(len(txs)) + b"".join(txs)
 
 
 def write_blocks(path, kind, inputs):
-    """A block whose coinbase has so many outputs, and one whose transaction spends them in a scattered order, reveals what
-    this kind has, and keeps half of the satoshis. Each stands behind its length."""
+    """A block whose coinbase has so many outputs, and one whose transaction spends them in a
+    scattered order, reveals what this kind has, and keeps half of the satoshis. Each stands behind
+    its length."""
     minted, txid = coinbase(0, [(SUBSIDY // inputs, SCRIPT)] * inputs)
-    bare, _ = tx([(txid, place * 7_919 % inputs) for place in range(inputs)], [(SUBSIDY // 2, SCRIPT)])
-    stacks = (b"\2" + size(len(script)) + script + b"\1\xc0" for script in scripts_of(kind, inputs))
+    origins = [(txid, place * 7_919 % inputs) for place in range(inputs)]
+    bare, _ = tx(origins, [(SUBSIDY // 2, SCRIPT)])
+    stacks = (b"\2" + string(script) + b"\1\xc0" for script in scripts_of(kind, inputs))
     whole = bare[:4] + b"\0\1" + bare[4:-4] + b"".join(stacks) + bare[-4:]
     with open(path, "wb") as feed:
         put(feed, block_of([minted]))
@@ -71,18 +81,25 @@ def write_blocks(path, kind, inputs):
 
 def measure(kind, count, times, programs=PROGRAMS):
     """The seconds and the memory of each program."""
-    return least({name: [program, kind, str(count), str(times)] for name, program in programs.items()})
+    words = [kind, str(count), str(times)]
+    return least({name: [program, *words] for name, program in programs.items()})
 
 
 def measure_reveals(kind, inputs, feed, times):
     """The same over blocks. The plain program makes its transaction itself."""
     earlier = 0 if kind == "pointers" else inputs // 2 * 5
     words = {"proved": ["reveal", str(earlier)], "plain": [kind, str(inputs)]}
-    return least({name: [program, *words[name], str(times)] for name, program in PROGRAMS.items()}, feed)
+    programs = PROGRAMS.items()
+    return least({name: [program, *words[name], str(times)] for name, program in programs}, feed)
 
 
-def tell(what, unit, proved, plain):
-    print(f"{what}: {proved:.2f} {unit}, plain Rust {plain:.2f} {unit}, {proved / plain:.2f} times", flush=True)
+def tell(what, size, unit, proved, plain, goal=None):
+    print(
+        f"{what}, {size}: {proved:.2f} {unit}, plain Rust {plain:.2f} {unit},"
+        f" {proved / plain:.2f} times",
+        flush=True,
+    )
+    report(what, size, unit, proved, plain, goal)
 
 
 def time_ordered_maps(count):
@@ -98,26 +115,36 @@ def reveals(kind, what, each):
             feed = pathlib.Path(folder) / "blocks"
             in_another_process(write_blocks, feed, kind, inputs)
             made, revealed = (measure_reveals(kind, inputs, feed, times) for times in (0, REVEALS))
-        tell(f"{inputs:,} inputs, {inputs // 2 * each:,} {what}", "milliseconds",
-             *((revealed[name][0] - made[name][0]) / REVEALS * 1e3 for name in PROGRAMS))
+        took = ((revealed[name][0] - made[name][0]) / REVEALS * 1e3 for name in PROGRAMS)
+        tell(f"{what} revealed by a block", f"{inputs // 2 * each:,}", "ms", *took)
+
+
+def tell_rows(count):
+    filled = measure("look", count, 0)
+    size = f"{count:,} rows"
+
+    def each(kind, times, scale):
+        """What one time of some work over the rows takes each program."""
+        done = measure(kind, count, times)
+        return [(done[name][0] - filled[name][0]) / times * scale for name in PROGRAMS]
+
+    appended = (filled[name][0] / count * 1e6 for name in PROGRAMS)
+    tell("a row appended", size, "microseconds", *appended)
+    tell("a row looked up in four ways", size, "microseconds", *each("look", LOOKS, 1e6 / count))
+    numbered = each("number", NUMBERS, 1e9 / count)
+    tell("a signed number", size, "nanoseconds", *numbered, SIGNED_GOAL)
+    marked = each("mark", MARKS, 1e3)
+    tell("a mark, 1,000 rows more and back", size, "ms", *marked)
+    ordered = time_ordered_maps(count)
+    print(f"the same in plain Rust with ordered maps: {ordered:.2f} ms", flush=True)
+    report("the same, beside ordered maps", size, "ms", marked[0], ordered)
+    memory = (filled[name][1] / count for name in PROGRAMS)
+    tell("the most memory a row", size, "bytes", *memory)
 
 
 def main():
     for count in (100_000, 1_000_000):
-        filled = measure("look", count, 0)
-        looked = measure("look", count, LOOKS)
-        marked = measure("mark", count, MARKS)
-        numbered = measure("number", count, NUMBERS)
-        proved, plain = ((filled[name], looked[name], marked[name], numbered[name]) for name in PROGRAMS)
-        tell(f"{count:,} rows, appended, a row", "microseconds", *(it[0][0] / count * 1e6 for it in (proved, plain)))
-        tell(f"{count:,} rows, looked up in four ways, a row", "microseconds",
-             *((it[1][0] - it[0][0]) / LOOKS / count * 1e6 for it in (proved, plain)))
-        tell(f"{count:,} rows, signed numbers, a row", "nanoseconds",
-             *((it[3][0] - it[0][0]) / NUMBERS / count * 1e9 for it in (proved, plain)))
-        tell(f"{count:,} rows, a mark, 1,000 more and back", "milliseconds",
-             *((it[2][0] - it[0][0]) / MARKS * 1e3 for it in (proved, plain)))
-        print(f"the same in plain Rust with ordered maps: {time_ordered_maps(count):.2f} milliseconds", flush=True)
-        tell(f"{count:,} rows, the most memory a row", "bytes", *(it[0][1] / count for it in (proved, plain)))
+        tell_rows(count)
     reveals("pointers", "pointers", 9)
     reveals("parents", "parents", 5)
 

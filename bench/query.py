@@ -1,17 +1,20 @@
 #!/usr/bin/env python3
-"""Times replies to queries over an index with inscriptions and runes, beside a plain Rust program of the same work.
+"""Times replies to queries over an index with inscriptions and runes, beside a plain Rust program
+of the same work.
 
     python3 bench/query.py [OUTPUTS..]
 
-makes blocks, each of which spends the coinbase before it into 20,000 outputs, until there are as many outputs as each
-number says (20,000, 200,000 and 2,000,000 without a word): an inscription and a balance of one of 20 runes stand on every
-tenth of them. A last block reveals eight inscriptions of 390,000 bytes. Of each route but `/runes`, whose bodies are only
-compared, it makes paths that name something chosen at random; satoshis are the first ones of outputs, so that a tenth of
-them bear an inscription. `ox_index_rows` and the plain program run in turn, three times; each shows the reply to each path
-once, and then replies to all of them again and again, or doesn't. It prints, of the runs that took least, replies a second
-of the processor time that the others took (of contents megabytes). The plain program routes by `matchit` and makes a body
-by `serde_json`: as structs that are written at once, and as a tree of values first. Nothing here is proved. Build both
-programs first, as bench/README.md says.
+makes blocks, each of which spends the coinbase before it into 20,000 outputs, until there are as
+many outputs as each number says (20,000, 200,000 and 2,000,000 without a word): an inscription and
+a balance of one of 20 runes stand on every tenth of them. A last block reveals eight inscriptions
+of 390,000 bytes. Of each route but `/runes`, whose bodies are only compared, it makes paths that
+name something chosen at random; satoshis are the first ones of outputs, so that a tenth of them
+bear an inscription. `ox_index_rows` and the plain program run in turn, three times; each shows the
+reply to each path once, and then replies to all of them again and again, or doesn't. It prints, of
+the runs that took least, replies a second of the processor time that the others took (of contents
+megabytes). The plain program routes by `matchit` and makes a body by `serde_json`: as structs that
+are written at once, and as a tree of values first. Nothing here is proved. bench/all.py builds both
+programs.
 """
 
 import pathlib
@@ -20,7 +23,9 @@ import sys
 import tempfile
 
 from blocks import SUBSIDY, block, coinbase, key, push, pushes, runestone, tx
-from runs import in_another_process, least, plain_program, proved_program, run
+from runs import in_another_process, least, report, run
+from tools.programs import plain_program, proved_program
+from tools.runes import kept_name, name_of
 
 OX, PLAIN = proved_program("ox_index_rows"), plain_program("query")
 PROGRAMS = {"ox": [OX], "structs": [PLAIN, "structs"], "tree": [PLAIN, "tree"]}
@@ -28,13 +33,12 @@ EACH = 20_000
 TENTH = 10
 RUNES = 20
 AMOUNT = 1_234_500
-# the least name that is kept for etchings without one
-RESERVED = 6_402_364_363_415_443_603_228_541_259_936_211_926
 CONTENTS, CONTENT = 8, 390_000
 CONTENT_ROUTE = "content"
 # the paths of a route are replied so often, behind the first time
 TIMES = 100
-# how many replies of each route are timed: so many that they take longer than the blocks, where that can be
+# how many replies of each route are timed: so many that they take longer than the blocks, where
+# that can be
 REPLIES = {
     "status": 2_000_000,
     "blockhash": 2_000_000,
@@ -46,6 +50,8 @@ REPLIES = {
     "audit": 200_000,
     CONTENT_ROUTE: 50_000,
 }
+# how fast a route should be replied at least, by plain Rust that writes structs
+GOALS = {"inscription": 0.9}
 CONTROL = b"\xc0" + bytes(32)
 
 
@@ -56,25 +62,16 @@ def etch(chance, origin, place):
     return tx([origin], [(SUBSIDY // RUNES, key(chance)), (0, stone)])
 
 
-def name_of(place, spacer):
-    """The name of the rune that was etched by a transaction of the block of height 1, with its spacers."""
-    number, letters = RESERVED + (1 << 32) + place, ""
-    while number >= 0:
-        letters = chr(ord("A") + number % 26) + letters
-        number = number // 26 - 1
-    spacers = 37 * (place - 1)
-    return "".join(letter + spacer * (spacers >> at & 1) for at, letter in enumerate(letters[:-1])) + letters[-1]
-
-
 def envelope_at(place):
     """The envelope of an inscription on the satoshi at a place of the transaction."""
     pointer = place.to_bytes((place.bit_length() + 7) // 8, "little")
-    return b"\0\x63\3ord\1\1" + push(b"text/plain") + b"\1\2" + push(pointer) + b"\0" + push(b"the place %d" % place) + b"\x68"
+    fields = b"\1\1" + push(b"text/plain") + b"\1\2" + push(pointer)
+    return b"\0\x63\3ord" + fields + b"\0" + push(b"the place %d" % place) + b"\x68"
 
 
 def spread(chance, origin, place):
-    """A transaction that spends a whole subsidy into the outputs of a block. It mints a rune for every tenth, and reveals an
-    inscription on the first satoshi of the same."""
+    """A transaction that spends a whole subsidy into the outputs of a block. It mints a rune for
+    every tenth, and reveals an inscription on the first satoshi of the same."""
     value, tenths = SUBSIDY // EACH, range(0, EACH, TENTH)
     edicts = [number for at in tenths for number in ((0, 0) if at else (1, place), (AMOUNT, at))]
     stone = runestone(20, 1, 20, place, 0, *(number for pair in edicts for number in pair))
@@ -86,13 +83,14 @@ def spread(chance, origin, place):
 def large(chance, origin):
     """A transaction that reveals large contents."""
     bodies = (chance.randbytes(CONTENT // 2).hex().encode() for _ in range(CONTENTS))
-    script = b"".join(b"\0\x63\3ord\1\1" + push(b"text/plain") + b"\0" + pushes(body) + b"\x68" for body in bodies)
+    head = b"\0\x63\3ord\1\1" + push(b"text/plain") + b"\0"
+    script = b"".join(head + pushes(body) + b"\x68" for body in bodies)
     return tx([origin], [(SUBSIDY, key(chance))], witness=[script, CONTROL])
 
 
 def write_blocks(path, count):
-    """The rows of a chain's blocks, of which so many have outputs. Answers the ids of their transactions, and that of the one
-    with large contents."""
+    """The rows of a chain's blocks, of which so many have outputs. Answers the ids of their
+    transactions, and that of the one with large contents."""
     chance, tip, ids = random.Random(5), bytes(32), []
     with open(path, "wb") as feed:
         feed.write(b"chain regtest 1\n")
@@ -100,7 +98,8 @@ def write_blocks(path, count):
         def put_block(height, *txs, parts=1):
             """Puts a block of a coinbase and these transactions. Answers the coinbase's id."""
             nonlocal tip
-            first = coinbase(height, [(SUBSIDY // parts, key(chance)) for _ in range(parts)], txs)
+            outputs = [(SUBSIDY // parts, key(chance)) for _ in range(parts)]
+            first = coinbase(height, outputs, txs)
             body, tip = block(tip, height, [first, *txs])
             feed.write(b"block " + body.hex().encode() + b"\n")
             return first[1]
@@ -126,14 +125,20 @@ def paths_of(route, ids, contents, count):
 
     def rune():
         place = 1 + chance.randrange(RUNES)
-        return chance.choice((f"1:{place}", name_of(place, "."), name_of(place, "\u2022"), name_of(place, "%E2%80%A2")))
+        number, spacers = kept_name(1, place), 37 * (place - 1)
+        names = (name_of(number, spacers, spacer) for spacer in (".", "\u2022", "%E2%80%A2"))
+        return chance.choice((f"1:{place}", *names))
+
+    def sat():
+        # the block of height 1 is the first whose subsidy is spent into the outputs of a block
+        number = (1 + chance.randrange(blocks)) * SUBSIDY
+        return number + chance.randrange(EACH) * (SUBSIDY // EACH)
 
     one = {
         "status": lambda: "/status",
         "blockhash": lambda: f"/blockhash/{chance.randrange(3 + blocks)}",
         "output": lambda: f"/output/{txid()}:{chance.randrange(EACH)}",
-        # the block of height 1 is the first whose subsidy is spent into the outputs of a block
-        "sat": lambda: f"/sat/{(1 + chance.randrange(blocks)) * SUBSIDY + chance.randrange(EACH) * (SUBSIDY // EACH)}",
+        "sat": lambda: f"/sat/{sat()}",
         "inscription": lambda: f"/inscription/{txid()}i{chance.randrange(EACH // TENTH)}",
         "rune": lambda: f"/rune/{rune()}",
         "inscriptions": lambda: "/inscriptions/9",
@@ -146,9 +151,12 @@ def paths_of(route, ids, contents, count):
 def compare_replies(blocks, ids, contents, folder):
     """Ends where the programs don't say the same."""
     feed = folder / "few"
-    few = b"".join(paths_of(route, ids, contents, 3 if route == CONTENT_ROUTE else 50) for route in REPLIES)
-    wrong = ("/", "/sat/-1", "/connect", "/output/0", "/rune/99:1", "/inscription/i0", "/runes/0", "/runes/1", "/inscriptions/99999")
-    feed.write_bytes(blocks.read_bytes() + few + "".join(f"GET {path}\n" for path in wrong).encode())
+    counts = {CONTENT_ROUTE: 3}
+    few = (paths_of(route, ids, contents, counts.get(route, 50)) for route in REPLIES)
+    wrong = "/", "/sat/-1", "/connect", "/output/0", "/rune/99:1", "/inscription/i0"
+    wrong += "/runes/0", "/runes/1", "/inscriptions/99999"
+    rest = "".join(f"GET {path}\n" for path in wrong).encode()
+    feed.write_bytes(b"".join([blocks.read_bytes(), *few, rest]))
     if len({run(words, feed)[2] for words in PROGRAMS.values()}) != 1:
         sys.exit("the replies differ")
 
@@ -161,10 +169,19 @@ def measure(feed, times):
 def tell(route, outputs, replies, base, often):
     seconds = {name: often[name][0] - base[name][0] for name in PROGRAMS}
     unit, each = ("MB", CONTENT / 1e6) if route == CONTENT_ROUTE else ("replies", 1)
-    rates = ", ".join(f"{name} {each * replies / it:,.0f}" for name, it in seconds.items())
-    ratios = ", ".join(f"to {name} {seconds[name] / seconds['ox']:.2f}" for name in ("structs", "tree"))
+    rates = {name: each * replies / it for name, it in seconds.items()}
+    told = ", ".join(f"{name} {rate:,.0f}" for name, rate in rates.items())
+    plain = ("structs", "tree")
+    ratios = ", ".join(f"to {name} {seconds[name] / seconds['ox']:.2f}" for name in plain)
     took = ", ".join(f"{seconds[name]:.2f} of {often[name][0]:.2f} s" for name in PROGRAMS)
-    print(f"{outputs:9,} outputs, /{route}: {rates} {unit} a second; ox {ratios} ({took})", flush=True)
+    print(
+        f"{outputs:9,} outputs, /{route}: {told} {unit} a second; ox {ratios} ({took})",
+        flush=True,
+    )
+    for name, goal in (("structs", GOALS.get(route)), ("tree", None)):
+        work = f"/{route}, beside {name}"
+        pair = rates["ox"], rates[name]
+        report(work, f"{outputs:,} outputs", f"{unit} a second", *pair, goal)
 
 
 def main():
@@ -176,7 +193,8 @@ def main():
             ids, contents = in_another_process(write_blocks, blocks, outputs // EACH)
             compare_replies(blocks, ids, contents, folder)
             for route, replies in REPLIES.items():
-                feed.write_bytes(blocks.read_bytes() + paths_of(route, ids, contents, replies // TIMES))
+                paths = paths_of(route, ids, contents, replies // TIMES)
+                feed.write_bytes(blocks.read_bytes() + paths)
                 tell(route, outputs, replies, measure(feed, 1), measure(feed, 1 + TIMES))
 
 

@@ -3,47 +3,32 @@
 
     python3 bench/read_block.py [TIMES]
 
-has crates/ox_block_rows and bench/plain/read_block read a block of 2,000 transactions with witnesses so many times (20
-without a word), hash each transaction both ways and make both roots, and prints megabytes a second. What each program
-takes to do it once isn't counted. Build both first, as bench/README.md says.
+has crates/ox_block_rows and bench/plain/read_block read a block of 2,000 transactions with
+witnesses so many times (20 without a word), and one of 200, hash each transaction both ways and
+make both roots, and prints megabytes a second. What each program takes to do it once isn't counted.
+bench/all.py builds both.
 """
 
 import random
-import struct
 import subprocess
 import sys
 import time
 
-from runs import plain_program, proved_program
+from runs import report
+from tools.bitcoin import block, transaction
+from tools.programs import plain_program, proved_program
 
 
-def size(n):
-    if n < 253:
-        return bytes([n])
-    if n < 1 << 16:
-        return b"\xfd" + struct.pack("<H", n)
-    return b"\xfe" + struct.pack("<I", n)
-
-
-def string(b):
-    return size(len(b)) + b
-
-
-def block(count):
-    rnd = random.Random(1)
-    out = b"\1\0\0\0" + bytes(32) + bytes(32) + bytes(12) + size(count)
+def make(count):
+    """A block of so many transactions, whose root isn't looked at."""
+    chance, txs = random.Random(1), []
     for _ in range(count):
-        ins = rnd.choice([2, 3, 4])
-        tx = struct.pack("<I", 2) + b"\0\1" + size(ins)
-        for _ in range(ins):
-            tx += rnd.randbytes(32) + struct.pack("<I", rnd.randrange(4)) + string(b"") + b"\xfd\xff\xff\xff"
-        tx += size(2)
-        for _ in range(2):
-            tx += struct.pack("<Q", rnd.randrange(10**9)) + string(b"\0\x14" + rnd.randbytes(20))
-        for _ in range(ins):
-            tx += size(2) + string(rnd.randbytes(72)) + string(rnd.randbytes(33))
-        out += tx + struct.pack("<I", 0)
-    return out
+        inputs = range(chance.choice([2, 3, 4]))
+        origins = [(chance.randbytes(32), chance.randrange(4)) for _ in inputs]
+        outputs = [(chance.randrange(10**9), b"\0\x14" + chance.randbytes(20)) for _ in range(2)]
+        stacks = [(chance.randbytes(72), chance.randbytes(33)) for _ in inputs]
+        txs.append(transaction(origins, outputs, b"", stacks, 0xFFFFFFFD)[1])
+    return block(bytes(32), bytes(32), txs)[0]
 
 
 def seconds(program, times, feed):
@@ -54,25 +39,34 @@ def seconds(program, times, feed):
 
 
 def both_roots(shown):
-    """The roots that `ox_block_rows` shows, one over the other bit by bit, as the plain program shows them."""
+    """The roots that `ox_block_rows` shows, one over the other bit by bit, as the plain program
+    shows them."""
     named = (line.rsplit(" ", 1) for line in shown.splitlines())
-    one, other = (bytes.fromhex(value) for name, value in named if name.strip() in ("root", "witness root"))
+    roots = ("root", "witness root")
+    one, other = (bytes.fromhex(value) for name, value in named if name.strip() in roots)
     return bytes(byte ^ over for byte, over in zip(one, other)).hex()
+
+
+def compare(count, times):
+    data = make(count)
+    print(f"a block of {len(data):,} bytes, {count:,} transactions with witnesses, {times} times")
+    feeds = {"ox_block_rows": f"block 0 {data.hex()} - -\n".encode(), "plain Rust": data}
+    programs = dict(zip(feeds, (proved_program("ox_block_rows"), plain_program("read_block"))))
+    answers, rates = {}, []
+    for name, program in programs.items():
+        once, _ = seconds(program, 1, feeds[name])
+        often, answers[name] = seconds(program, 1 + times, feeds[name])
+        rates.append(len(data) * times / (often - once) / 1e6)
+        print(f"{name}: {rates[-1]:.1f} MB a second")
+    same = both_roots(answers["ox_block_rows"]) == answers["plain Rust"].strip()
+    print("the same answer" if same else "DIFFERENT ANSWERS")
+    report("a block read and hashed", f"{count:,} transactions", "MB a second", *rates)
 
 
 def main():
     times = int(sys.argv[1]) if len(sys.argv) > 1 else 20
-    data = block(2000)
-    print(f"a block of {len(data):,} bytes, 2,000 transactions with witnesses, {times} times")
-    feeds = {"ox_block_rows": f"block 0 {data.hex()} - -\n".encode(), "plain Rust": data}
-    programs = {"ox_block_rows": proved_program("ox_block_rows"), "plain Rust": plain_program("read_block")}
-    answers = {}
-    for name, program in programs.items():
-        once, _ = seconds(program, 1, feeds[name])
-        often, answers[name] = seconds(program, 1 + times, feeds[name])
-        print(f"{name}: {len(data) * times / (often - once) / 1e6:.1f} MB a second")
-    same = both_roots(answers["ox_block_rows"]) == answers["plain Rust"].strip()
-    print("the same answer" if same else "DIFFERENT ANSWERS")
+    compare(200, 10 * times)
+    compare(2000, times)
 
 
 main()

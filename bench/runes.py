@@ -3,13 +3,14 @@
 
     python3 bench/runes.py [OUTPUTS..]
 
-makes etchings whose premine goes to 10,000 outputs each until as many outputs hold runes as each number says (100,000 and
-1,000,000 without a word), and then a block of 2,000 transactions that each spend one of those: all with a runestone that
-gives a part to another output, all with a cenotaph, or without either; a block of 2,000 transactions that spend none of
-them; and one of an etching whose tapscript has 3,900,000 pushes. `ox_speed` and the plain program run in turn,
-three times; each does the block and takes it back, as often as it is told. It prints the processor time of a block and of
-a look-up, and the memory that an output with runes takes. Nothing here is proved. Build both programs first, as
-bench/README.md says.
+makes etchings whose premine goes to 10,000 outputs each until as many outputs hold runes as each
+number says (100,000 and 1,000,000 without a word), and then a block of 2,000 transactions that each
+spend one of those: all with a runestone that gives a part to another output, all with a cenotaph,
+or without either; a block of 2,000 transactions that spend none of them; and one of an etching
+whose tapscript has 3,900,000 pushes. `ox_speed` and the plain program, which has hash maps and a
+list of changes to go back by, run in turn, three times; each does the block and takes it back, as
+often as it is told. It prints the processor time of a block and of a look-up, and the memory that
+an output with runes takes. Nothing here is proved. bench/all.py builds both programs.
 """
 
 import pathlib
@@ -17,15 +18,23 @@ import random
 import sys
 import tempfile
 
-from blocks import coinbase, key, put, runestone, size, tx
-from runs import in_another_process, least, plain_program, proved_program
+from blocks import coinbase, compact_size, key, put, runestone, tx
+from runs import in_another_process, least, report
+from tools.programs import plain_program, proved_program
 
 PROGRAMS = {"ox": [proved_program("ox_speed"), "runes"], "plain": [plain_program("runes")]}
 EACH = 10_000
 IN_A_BLOCK = 10
 LEAST_BLOCKS = 8
 SPENDS = 2_000
-KINDS = {"runestones": 200, "cenotaphs": 200, "neither": 200, "no runes": 1_000, "a long tapscript": 20}
+LOOKS = 5
+KINDS = {
+    "runestones": 200,
+    "cenotaphs": 200,
+    "neither": 200,
+    "no runes": 1_000,
+    "a long tapscript": 20,
+}
 # 13 letters: above the least name of any height
 NAME = sum(26**power for power in range(1, 13)) + 12_345
 
@@ -38,7 +47,7 @@ def worthless(origin, scripts, witness=None):
 def put_block(feed, chance, txs):
     """A block whose header isn't looked at."""
     first, _ = coinbase(0, [(0, key(chance))])
-    put(feed, bytes(80) + size(len(txs) + 1) + first + b"".join(txs))
+    put(feed, bytes(80) + compact_size(len(txs) + 1) + first + b"".join(txs))
 
 
 def fill(path, outputs):
@@ -65,7 +74,8 @@ def spend(chance, kind, held):
     origin, (block, place) = chance.choice(held)
     scripts = [key(chance), key(chance)]
     if kind == "runestones":
-        # a block of 0 adds to the transaction of the id before, which is 0:0, so that it names no rune
+        # a block of 0 adds to the transaction of the id before, which is 0:0, so that it names no
+        # rune
         scripts.append(runestone(22, 0, 0, block, place, 500, 1) if block else runestone(22, 0))
     elif kind == "cenotaphs":
         scripts.append(runestone(126, 0))
@@ -78,7 +88,8 @@ def put_last(feed, kind, held):
     chance = random.Random(9)
     if kind == "a long tapscript":
         witness = [bytes(3_900_000), b"\xc0" + bytes(32)]
-        body, _ = worthless((chance.randbytes(32), 0), [key(chance), runestone(2, 1, 4, NAME)], witness)
+        scripts = [key(chance), runestone(2, 1, 4, NAME)]
+        body, _ = worthless((chance.randbytes(32), 0), scripts, witness)
         put_block(feed, chance, [body])
     else:
         put_block(feed, chance, [spend(chance, kind, held) for _ in range(SPENDS)])
@@ -96,12 +107,17 @@ def write_feeds(folder, outputs):
 
 def measure(feed, times, looks):
     """The seconds and memory of each program."""
-    return least({name: [*words, str(times), str(looks)] for name, words in PROGRAMS.items()}, feed)
+    counts = [str(times), str(looks)]
+    return least({name: [*words, *counts] for name, words in PROGRAMS.items()}, feed)
 
 
-def tell(what, unit, values):
+def tell(what, outputs, unit, values):
     ox, plain = (values[name] for name in ("ox", "plain"))
-    print(f"{what}: {ox:.2f} {unit}, plain Rust {plain:.2f} {unit}, {ox / plain:.2f} times", flush=True)
+    print(
+        f"    {what}: {ox:.2f} {unit}, plain Rust {plain:.2f} {unit}, {ox / plain:.2f} times",
+        flush=True,
+    )
+    report(what, f"{outputs:,} outputs", unit, ox, plain)
 
 
 def main():
@@ -112,11 +128,14 @@ def main():
             print(f"{outputs:,} outputs hold runes")
             for kind, times in KINDS.items():
                 base, done = measure(folder / kind, 0, 0), measure(folder / kind, times, 0)
-                tell(f"    a block, {kind}", "ms", {name: (done[name][0] - base[name][0]) / times * 1e3 for name in PROGRAMS})
-            looked = measure(folder / "no runes", 0, 5)
-            base = measure(folder / "no runes", 0, 0)
-            tell("    a look-up", "microseconds", {name: (looked[name][0] - base[name][0]) / 5 / outputs * 1e6 for name in PROGRAMS})
-            tell("    the most memory an output", "bytes", {name: (base[name][1] - filled) / outputs for name in PROGRAMS})
+                took = {name: (done[name][0] - base[name][0]) / times * 1e3 for name in PROGRAMS}
+                tell(f"a block of runes: {kind}", outputs, "ms", took)
+            looked, base = (measure(folder / "no runes", 0, looks) for looks in (LOOKS, 0))
+            each = LOOKS * outputs / 1e6
+            took = {name: (looked[name][0] - base[name][0]) / each for name in PROGRAMS}
+            tell("a look-up of balances", outputs, "microseconds", took)
+            memory = {name: (base[name][1] - filled) / outputs for name in PROGRAMS}
+            tell("the most memory an output with runes", outputs, "bytes", memory)
 
 
 if __name__ == "__main__":

@@ -3,13 +3,15 @@
 
     python3 bench/undo.py [BLOCKS..]
 
-makes a chain as bench/fold_blocks.py does and gives the first so many blocks of it to `fold regtest` (40, 400 and 3,992
-without a word, which leave 20,000, 200,000 and 2,000,000 outputs). Then the ten newest blocks are taken back and
-connected again, ten times. Before and behind each ten it reads the processor time that the program has had, so that
-nothing else is counted. The programs run in turn, three times; it prints, of the runs that took least, disconnects and
-connects a second. Before that it tells what a row of a kept block takes, gone or come: by the greatest memory of an `apply`
-that opens a store of 1,500 blocks of which 1,000 are kept, or one, and of the plain program. Nothing here is proved.
-Build both programs first, as bench/README.md says.
+makes a chain as bench/fold_blocks.py does and gives the first so many blocks of it to `fold
+regtest` (40, 400 and 3,992 without a word, which leave 20,000, 200,000 and 2,000,000 outputs). Then
+the ten newest blocks are taken back and connected again, ten times. Before and behind each ten it
+reads the processor time that the program has had, so that nothing else is counted. The programs run
+in turn, three times; it prints, of the runs that took least, disconnects and connects a second.
+Before that it tells what a row of a kept block takes, gone or come: by the greatest memory of an
+`apply` that opens a store of 1,500 blocks of which 1,000 are kept, or one, and of the plain
+program, which keeps an ordered map of runs and what 1,000 blocks changed. Nothing here is proved.
+bench/all.py builds both programs.
 """
 
 import pathlib
@@ -19,7 +21,7 @@ import tempfile
 import threading
 
 from fold_blocks import OX, PLAIN, SPENDS, write_chain
-from runs import RUNS, in_another_process, run, write_part
+from runs import RUNS, in_another_process, report, run, write_part
 
 TURNS = 10
 OF_A_TURN = 10
@@ -33,7 +35,8 @@ class Child:
     """A program that answers each line of its feed by a line."""
 
     def __init__(self, words):
-        self.child = subprocess.Popen(words, stdin=subprocess.PIPE, stdout=subprocess.PIPE, stderr=subprocess.DEVNULL)
+        streams = {"stdin": subprocess.PIPE, "stdout": subprocess.PIPE}
+        self.child = subprocess.Popen(words, stderr=subprocess.DEVNULL, **streams)
         self.shown = []
 
     def seconds(self):
@@ -42,7 +45,8 @@ class Child:
             return int(it.read().split()[0]) / 1e9
 
     def give(self, lines, count):
-        """Gives so many lines and hears their answers. Answers the processor time that this took."""
+        """Gives so many lines and hears their answers. Answers the processor time that this
+        took."""
         before = self.seconds()
 
         def write():
@@ -94,14 +98,25 @@ def tell(chain, ends, count, folder):
             runs[name].append(measure(words, chain, ends, count))
     if len({shown for taken in runs.values() for _, _, shown in taken}) != 1:
         sys.exit("the answers differ")
-    least = {name: [min(column) for column in list(zip(*taken))[:2]] for name, taken in runs.items()}
+    columns = {name: list(zip(*taken))[:2] for name, taken in runs.items()}
+    least = {name: [min(column) for column in pair] for name, pair in columns.items()}
     outputs = 1000 + max(count - 2, 0) * (SPENDS + 1)
     turns = TURNS * OF_A_TURN
     for name, (back, again) in least.items():
-        print(f"{outputs:9,} outputs, {name:5}: {turns / back:6.0f} disconnects a second, {turns / again:6.0f} connects")
-    ratios = [plain / ox for plain, ox in zip(least["plain"], least["ox"])]
+        print(
+            f"{outputs:9,} outputs, {name:5}: {turns / back:6.0f} disconnects a second,"
+            f" {turns / again:6.0f} connects"
+        )
+    pairs = list(zip(least["plain"], least["ox"]))
+    ratios = [plain / ox for plain, ox in pairs]
     both = sum(least["plain"]) / sum(least["ox"])
-    print(f"       ox to plain: disconnects {ratios[0]:.2f}, connects {ratios[1]:.2f}, both {both:.2f}", flush=True)
+    print(
+        f"       ox to plain: disconnects {ratios[0]:.2f}, connects {ratios[1]:.2f},"
+        f" both {both:.2f}",
+        flush=True,
+    )
+    for work, (plain, ox) in zip(("blocks taken back", "and connected again"), pairs):
+        report(work, f"{outputs:,} outputs", "a second", turns / ox, turns / plain)
 
 
 def memory_of_a_store(depth, feed, folder):
@@ -118,9 +133,13 @@ def tell_memory(feed, folder):
         "ox": [memory_of_a_store(depth, feed, folder) for depth in (1, DEPTH)],
         "plain": [run([PLAIN, "locator", str(depth)], feed)[1] for depth in (1, DEPTH)],
     }
+    each = {name: (most - least) / (DEPTH - 1) / ROWS for name, (least, most) in taken.items()}
     for name, (least, most) in taken.items():
-        each = (most - least) / (DEPTH - 1) / ROWS
-        print(f"{name:5}: {each:.0f} bytes a kept row; {least / 1e6:.0f} MB with one block kept, {most / 1e6:.0f} with {DEPTH}")
+        print(
+            f"{name:5}: {each[name]:.0f} bytes a kept row; {least / 1e6:.0f} MB with one block"
+            f" kept, {most / 1e6:.0f} with {DEPTH}"
+        )
+    report("a row of a kept block", f"{DEPTH:,} blocks", "bytes", each["ox"], each["plain"])
 
 
 def main():

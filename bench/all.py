@@ -1,0 +1,209 @@
+#!/usr/bin/env python3
+"""Builds the programs that are timed, runs the scripts of this folder, and writes what they
+measured.
+
+    python3 bench/all.py [--debian] [--table] [NAME..]
+
+NAME is a script's name without `.py`; without one all are run, which takes hours. Each row that a
+script reports goes to the end of bench/results.tsv, with the machine, the date and the commit. The
+table of bench/README.md, between its two markers, is then written anew from the newest rows of the
+works that it has (PAGE), each at the least and at the greatest size that was measured. With --table
+nothing else is done.
+
+The proved programs are built by `rt run`, which proves them first, and the plain ones by cargo as
+their Cargo.lock says. Where crates.io can't be reached, --debian builds them from Debian 12's
+packages (`apt-get install librust-sha2-dev librust-serde-json-dev librust-serde-derive-dev
+librust-hex-dev librust-httparse-dev librust-memchr-dev`), in a copy without the locks, whose
+checksums those files lack. Debian 12 lacks `matchit`: the package librust-matchit-dev of Debian 13,
+0.7.3, needs nothing else of it.
+"""
+
+import datetime
+import os
+import pathlib
+import platform
+import shutil
+import subprocess
+import sys
+import tempfile
+
+from runs import RESULTS
+from tools.programs import CRATES, TOP, plain_program
+
+BENCH = TOP / "bench"
+ROWS, PAGE_FILE = BENCH / "results.tsv", BENCH / "README.md"
+BEGIN, END = "<!-- bench/all.py writes from here -->", "<!-- to here -->"
+DEBIAN = [
+    "--config",
+    'source.crates-io.replace-with="debian"',
+    "--config",
+    'source.debian.directory="/usr/share/cargo/registry"',
+]
+
+# what each script needs: proved programs, and plain ones
+NEEDS = {
+    "address": (["ox_address_rows"], ["address"]),
+    "allocation": (["ox_speed"], ["allocation"]),
+    "apply_and_open": (["ox_main"], []),
+    "decipher_runestones": (["ox_speed"], []),
+    "find_envelopes": (["ox_block_rows"], []),
+    "fold_blocks": (["ox_main"], ["fold_blocks"]),
+    "fold_feed": (["ox_main"], []),
+    "index_blocks": (["ox_main"], ["index"]),
+    "inscriptions": (["ox_speed"], ["inscriptions"]),
+    "query": (["ox_index_rows"], ["query"]),
+    "read_block": (["ox_block_rows"], ["read_block"]),
+    "runes": (["ox_speed"], ["runes"]),
+    "streams": (["ox_http_rows"], ["http"]),
+    "undo": (["ox_main"], ["fold_blocks"]),
+}
+# the words and the feed of the run by which `rt run` builds a program
+BUILDS = {
+    "ox_main": (["out", "fold", "regtest"], "../../feeds/genesis.feed"),
+    "ox_speed": (["look", "3000", "1"], os.devnull),
+}
+# the works that the page shows, in its order
+PAGE = [
+    "a feed",
+    "blocks without witnesses, beside what ours keeps",
+    "blocks with witnesses, beside what ours keeps",
+    "blocks taken back",
+    "and connected again",
+    "blocks of inscriptions and runes",
+    "commands applied",
+    "a store opened and asked",
+    "a block read and hashed",
+    "a search: one opening, then empty pushes",
+    "a runestone of edicts",
+    "edicts to all outputs",
+    "a row appended",
+    "a signed number",
+    "a block of runes: runestones",
+    "/output, beside structs",
+    "/inscription, beside structs",
+    "an address read",
+    "a head read",
+    "a body heard in pieces",
+]
+COLUMNS = "script work size unit ox plain ratio goal machine date commit note".split()
+
+
+def build_proved(name):
+    words, feed = BUILDS.get(name, ([], "stdin"))
+    crate = CRATES / name
+    with open(crate / feed, "rb") as given:
+        command = ["rt", "run", *(["--", *words] if words else [])]
+        subprocess.run(command, cwd=crate, stdin=given, stdout=subprocess.DEVNULL, check=True)
+
+
+def build_plain(name, debian):
+    folder = BENCH / "plain" / name
+    command = ["cargo", "build", "--release"]
+    if not debian:
+        command += ["--locked"] if (folder / "Cargo.lock").exists() else []
+        subprocess.run(command, cwd=folder, check=True)
+        return
+    with tempfile.TemporaryDirectory() as copy:
+        copy = pathlib.Path(copy) / "plain"
+        ignored = shutil.ignore_patterns("Cargo.lock", "target")
+        shutil.copytree(BENCH / "plain", copy, ignore=ignored)
+        place = {**os.environ, "CARGO_TARGET_DIR": str(plain_program(name).parents[1])}
+        command = ["cargo", *DEBIAN, *command[1:], "--offline"]
+        subprocess.run(command, cwd=copy / name, env=place, check=True)
+
+
+def machine():
+    """The processor, and how many there are."""
+    lines = pathlib.Path("/proc/cpuinfo").read_text().splitlines()
+    names = [line.split(":", 1)[1].strip() for line in lines if line.startswith("model name")]
+    flags = next((line for line in lines if line.startswith("flags")), "")
+    sha = "with" if " sha_ni" in flags else "without"
+    name = names[0] if names else platform.machine()
+    return f"{name}, {os.cpu_count()} processors, {sha} SHA instructions"
+
+
+def measure(name):
+    """Runs a script, and puts the rows that it reported behind the others."""
+    with tempfile.NamedTemporaryFile("r") as told:
+        where = {**os.environ, RESULTS: told.name}
+        subprocess.run([sys.executable, BENCH / f"{name}.py"], env=where, check=True)
+        commit = ["git", "-C", TOP, "rev-parse", "--short", "HEAD"]
+        ran = subprocess.run(commit, stdout=subprocess.PIPE, text=True, check=True)
+        end = [machine(), datetime.date.today().isoformat(), ran.stdout.strip(), ""]
+        with open(ROWS, "a") as rows:
+            for line in told:
+                rows.write("\t".join([line.rstrip("\n"), *end]) + "\n")
+
+
+def newest_rows():
+    """The newest row of each work and size."""
+    lines = ROWS.read_text().splitlines()
+    if lines[0].split("\t") != COLUMNS:
+        sys.exit(f"{ROWS} has other columns")
+    rows = [dict(zip(COLUMNS, line.split("\t"))) for line in lines[1:]]
+    return {(row["work"], row["size"]): row for row in rows}
+
+
+def amount(size):
+    """The number that a size begins with."""
+    return int(size.split()[0].replace(",", ""))
+
+
+def shown(rows):
+    """The rows of the page: of each work the least and the greatest size."""
+    for work in PAGE:
+        sizes = [row for row in rows if row["work"] == work]
+        sizes.sort(key=lambda row: amount(row["size"]))
+        yield from sizes[:: max(len(sizes) - 1, 1)]
+
+
+def digits(text):
+    """A figure with a comma behind each thousand."""
+    return f"{int(text):,}" if text.isdigit() else text
+
+
+def table(rows):
+    """What stands between the markers."""
+    measured = {}
+    for row in rows:
+        runs = measured.setdefault(row["machine"], {}).setdefault((row["date"], row["commit"]), [])
+        if row["script"] not in runs:
+            runs.append(row["script"])
+    for place, runs in measured.items():
+        told = (f"{', '.join(names)} {date} at {commit}" for (date, commit), names in runs.items())
+        yield f"{place}: {'; '.join(told)}."
+    yield from ("", "| Work | Size | ox | Plain | Ratio | Goal |", "|---|---|--:|--:|--:|--:|")
+    before = None
+    for row in rows:
+        work = "" if row["work"] == before else f"{row['work']}, {row['unit']}"
+        before = row["work"]
+        size = row["size"] + ("\\*" if row["note"] else "")
+        figures = (digits(row[column]) for column in ("ox", "plain", "ratio", "goal"))
+        yield f"| {' | '.join([work, size, *figures])} |"
+
+
+def write_page():
+    lines = PAGE_FILE.read_text().split("\n")
+    begin, end = lines.index(BEGIN), lines.index(END)
+    rows = list(shown(list(newest_rows().values())))
+    PAGE_FILE.write_text("\n".join([*lines[: begin + 1], *table(rows), *lines[end:]]))
+
+
+def main():
+    options = [word for word in sys.argv[1:] if word.startswith("--")]
+    names = [word for word in sys.argv[1:] if word not in options] or list(NEEDS)
+    if not set(options) <= {"--debian", "--table"} or not set(names) <= set(NEEDS):
+        sys.exit(__doc__)
+    if "--table" not in options:
+        for program in sorted({one for name in names for one in NEEDS[name][0]}):
+            build_proved(program)
+        for program in sorted({one for name in names for one in NEEDS[name][1]}):
+            build_plain(program, "--debian" in options)
+        for name in names:
+            print(f"== {name}", flush=True)
+            measure(name)
+    write_page()
+
+
+if __name__ == "__main__":
+    main()
