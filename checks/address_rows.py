@@ -3,30 +3,41 @@
 
     checks/address_rows.py
 
-It reads and writes segwit addresses as the reference decoder of BIP 173 and BIP 350 does, bit by bit and with lists, and
-shares nothing with the library. It asserts first that it agrees with the vectors of both BIPs.
+It reads and writes segwit addresses as the reference decoder of BIP 173 and BIP 350 does, bit by
+bit and with lists, and shares nothing with the library. It asserts first that it agrees with the
+vectors of both BIPs.
 """
-import pathlib
 
-CRATE = pathlib.Path(__file__).resolve().parents[1] / "crates" / "ox_address_rows"
+from tools.programs import write_rows
+
 LETTERS = "qpzry9x8gf2tvdw0s3jn54khce6mua7l"
-BECH32M = 0x2bc830a3
+BECH32M = 0x2BC830A3
 
 # text, script: valid by BIP 350
 VALID = [
     ("BC1QW508D6QEJXTDG4Y5R3ZARVARY0C5XW7KV8F3T4", "0014751e76e8199196d454941c45d1b3a323f1433bd6"),
-    ("tb1qrp33g0q5c5txsp9arysrx4k6zdkfs4nce4xj0gdcccefvpysxf3q0sl5k7",
-     "00201863143c14c5166804bd19203356da136c985678cd4d27a1b8c6329604903262"),
-    ("bc1pw508d6qejxtdg4y5r3zarvary0c5xw7kw508d6qejxtdg4y5r3zarvary0c5xw7kt5nd6y",
-     "5128751e76e8199196d454941c45d1b3a323f1433bd6751e76e8199196d454941c45d1b3a323f1433bd6"),
+    (
+        "tb1qrp33g0q5c5txsp9arysrx4k6zdkfs4nce4xj0gdcccefvpysxf3q0sl5k7",
+        "00201863143c14c5166804bd19203356da136c985678cd4d27a1b8c6329604903262",
+    ),
+    (
+        "bc1pw508d6qejxtdg4y5r3zarvary0c5xw7kw508d6qejxtdg4y5r3zarvary0c5xw7kt5nd6y",
+        "5128751e76e8199196d454941c45d1b3a323f1433bd6751e76e8199196d454941c45d1b3a323f1433bd6",
+    ),
     ("BC1SW50QGDZ25J", "6002751e"),
     ("bc1zw508d6qejxtdg4y5r3zarvaryvaxxpcs", "5210751e76e8199196d454941c45d1b3a323"),
-    ("tb1qqqqqp399et2xygdj5xreqhjjvcmzhxw4aywxecjdzew6hylgvsesrxh6hy",
-     "0020000000c4a5cad46221b2a187905e5266362b99d5e91c6ce24d165dab93e86433"),
-    ("tb1pqqqqp399et2xygdj5xreqhjjvcmzhxw4aywxecjdzew6hylgvsesf3hn0c",
-     "5120000000c4a5cad46221b2a187905e5266362b99d5e91c6ce24d165dab93e86433"),
-    ("bc1p0xlxvlhemja6c4dqv22uapctqupfhlxm9h8z3k2e72q4k9hcz7vqzk5jj0",
-     "512079be667ef9dcbbac55a06295ce870b07029bfcdb2dce28d959f2815b16f81798"),
+    (
+        "tb1qqqqqp399et2xygdj5xreqhjjvcmzhxw4aywxecjdzew6hylgvsesrxh6hy",
+        "0020000000c4a5cad46221b2a187905e5266362b99d5e91c6ce24d165dab93e86433",
+    ),
+    (
+        "tb1pqqqqp399et2xygdj5xreqhjjvcmzhxw4aywxecjdzew6hylgvsesf3hn0c",
+        "5120000000c4a5cad46221b2a187905e5266362b99d5e91c6ce24d165dab93e86433",
+    ),
+    (
+        "bc1p0xlxvlhemja6c4dqv22uapctqupfhlxm9h8z3k2e72q4k9hcz7vqzk5jj0",
+        "512079be667ef9dcbbac55a06295ce870b07029bfcdb2dce28d959f2815b16f81798",
+    ),
 ]
 
 # invalid by BIP 350, or valid by BIP 173 alone
@@ -77,8 +88,10 @@ def polymod(values):
     sum_ = 1
     for value in values:
         top = sum_ >> 25
-        sum_ = (sum_ & 0x1ffffff) << 5 ^ value
-        for place, generator in enumerate((0x3b6a57b2, 0x26508e6d, 0x1ea119fa, 0x3d4233dd, 0x2a1462b3)):
+        sum_ = (sum_ & 0x1FFFFFF) << 5 ^ value
+        for place, generator in enumerate(
+            (0x3B6A57B2, 0x26508E6D, 0x1EA119FA, 0x3D4233DD, 0x2A1462B3)
+        ):
             sum_ ^= generator if top >> place & 1 else 0
     return sum_
 
@@ -92,9 +105,9 @@ def regrouped(values, width, to, padded):
     bits = "".join(format(value, f"0{width}b") for value in values)
     if padded:
         bits += "0" * (-len(bits) % to)
-    elif len(bits) % to >= width or "1" in bits[len(bits) - len(bits) % to:]:
+    elif len(bits) % to >= width or "1" in bits[len(bits) - len(bits) % to :]:
         return None
-    return [int(bits[at:at + to], 2) for at in range(0, len(bits) - to + 1, to)]
+    return [int(bits[at : at + to], 2) for at in range(0, len(bits) - to + 1, to)]
 
 
 def is_program(version, program):
@@ -103,7 +116,11 @@ def is_program(version, program):
 
 def written(hrp, script):
     """The address of a script, or None."""
-    if len(script) < 2 or script[1] != len(script) - 2 or not (script[0] == 0 or 0x51 <= script[0] <= 0x60):
+    if (
+        len(script) < 2
+        or script[1] != len(script) - 2
+        or not (script[0] == 0 or 0x51 <= script[0] <= 0x60)
+    ):
         return None
     version = script[0] and script[0] - 0x50
     if not is_program(version, script[2:]):
@@ -114,7 +131,11 @@ def written(hrp, script):
 def spelled(hrp, symbols, wanted):
     """A text with the checksum that makes the polynomial this."""
     sum_ = polymod(expanded(hrp) + symbols + [0] * 6) ^ wanted
-    return hrp + "1" + "".join(LETTERS[s] for s in symbols + [sum_ >> 5 * (5 - i) & 31 for i in range(6)])
+    return (
+        hrp
+        + "1"
+        + "".join(LETTERS[s] for s in symbols + [sum_ >> 5 * (5 - i) & 31 for i in range(6)])
+    )
 
 
 def read(hrp, text):
@@ -128,9 +149,9 @@ def read(hrp, text):
     at = text.rfind("1")
     if at < 1 or at + 7 > len(text) or len(text) > 90 or text[:at] != hrp:
         return None
-    if any(c not in LETTERS for c in text[at + 1:]):
+    if any(c not in LETTERS for c in text[at + 1 :]):
         return None
-    symbols = [LETTERS.index(c) for c in text[at + 1:]]
+    symbols = [LETTERS.index(c) for c in text[at + 1 :]]
     sum_ = polymod(expanded(hrp) + symbols)
     symbols = symbols[:-6]
     if not symbols or sum_ != (BECH32M if symbols[0] else 1):
@@ -141,7 +162,7 @@ def read(hrp, text):
     return bytes([symbols[0] and symbols[0] + 0x50, len(program)] + program)
 
 
-class Rows:
+class Addresses:
     def __init__(self):
         self.rows, self.lines = [], []
 
@@ -159,7 +180,8 @@ class Rows:
         self.lines.append(f"{shown}, untouched: true")
 
     def tried(self, work, hrp, text, others):
-        """Texts that are like this one but for some bytes: those that are addresses, and how many aren't."""
+        """Texts that are like this one but for some bytes: those that are addresses, and how many
+        aren't."""
         self.rows.append(f"{work} {hrp} {text.hex()}")
         refused = 0
         for name, other in others:
@@ -171,23 +193,42 @@ class Rows:
 
     def changes(self, hrp, text):
         text = text.encode("ascii")
-        self.tried("changes", hrp, text, [(f"{at} {byte}", text[:at] + bytes([byte]) + text[at + 1:])
-                                          for at in range(len(text)) for byte in range(256)])
+        self.tried(
+            "changes",
+            hrp,
+            text,
+            [
+                (f"{at} {byte}", text[:at] + bytes([byte]) + text[at + 1 :])
+                for at in range(len(text))
+                for byte in range(256)
+            ],
+        )
 
     def swaps(self, hrp, text):
         text = text.encode("ascii")
-        self.tried("swaps", hrp, text, [(at, text[:at - 1] + text[at:at + 1] + text[at - 1:at] + text[at + 1:])
-                                        for at in range(1, len(text))])
+        self.tried(
+            "swaps",
+            hrp,
+            text,
+            [
+                (at, text[: at - 1] + text[at : at + 1] + text[at - 1 : at] + text[at + 1 :])
+                for at in range(1, len(text))
+            ],
+        )
 
     def repeat(self, work, hrp, script, times):
         self.rows.append(f"repeat {work} {hrp} {script.hex()} {times}")
         texts = [written(hrp, script[:-1] + bytes([turn % 256])) for turn in range(times)]
-        lasts = (turn % 256 for turn in range(times)) if work == "both" else (ord(text[-1]) for text in texts)
+        lasts = (
+            (turn % 256 for turn in range(times))
+            if work == "both"
+            else (ord(text[-1]) for text in texts)
+        )
         self.lines.append(str(sum(lasts)))
 
 
 def main():
-    rows = Rows()
+    rows = Addresses()
     for text, script in VALID:
         hrp, script = text[:2].lower(), bytes.fromhex(script)
         assert read(hrp, text.encode()) == script and written(hrp, script) == text.lower(), text
@@ -200,7 +241,7 @@ def main():
             rows.read(other, written(other, script))
             rows.read(other, written(other, script).upper())
     for text in INVALID:
-        hrp = text[:text.rfind("1")].lower()
+        hrp = text[: text.rfind("1")].lower()
         assert read(hrp, text.encode()) is None or hrp == "tc", text
         for other in {hrp: 0, "bc": 0, "tb": 0}:
             rows.read(other, text)
@@ -218,8 +259,8 @@ def main():
             rows.read("bc", text + more)
             rows.read("bc", more + text)
         for at in range(len(text)):
-            rows.read("bc", text[:at] + text[at].upper() + text[at + 1:])
-            rows.read("bc", text[:at].upper() + text[at] + text[at + 1:].upper())
+            rows.read("bc", text[:at] + text[at].upper() + text[at + 1 :])
+            rows.read("bc", text[:at].upper() + text[at] + text[at + 1 :].upper())
     # each length of program at some versions, written and read with either constant
     for version in (0, 1, 2, 16, 17):
         for size in range(42):
@@ -231,7 +272,9 @@ def main():
                 rows.read("bc", spelled("bc", symbols, wanted))
             # fill bits that aren't zero, and a group more of zeros
             if size % 5:
-                rows.read("bc", spelled("bc", symbols[:-1] + [symbols[-1] ^ 1], BECH32M if version else 1))
+                rows.read(
+                    "bc", spelled("bc", symbols[:-1] + [symbols[-1] ^ 1], BECH32M if version else 1)
+                )
             rows.read("bc", spelled("bc", symbols + [0], BECH32M if version else 1))
     # scripts that are almost one
     program = bytes(range(20))
@@ -258,8 +301,7 @@ def main():
     for script in (b"\0\x14" + program, b"\x51\x20" + 2 * bytes(16)):
         for work in ("only", "both"):
             rows.repeat(work, "bc", script, 300)
-    (CRATE / "stdin").write_text("".join(row + "\n" for row in rows.rows))
-    (CRATE / "stdout").write_text("".join(line + "\n" for line in rows.lines))
+    write_rows("ox_address_rows", rows.rows, rows.lines)
 
 
 main()

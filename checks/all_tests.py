@@ -3,10 +3,11 @@
 
     python3 checks/all_tests.py [CRATE..]
 
-runs `rt try --test` in each crate that has tests, or in those that are named, in as many at once as there are processors,
-and tells of each whether its tests passed and how long that took. Of a crate whose tests failed it shows what `rt try`
-said. The last line says how many crates passed and how many failed, and the status is 1 where one failed. Nothing is
-proved, no program is run, and a call that breaks a `requires` isn't seen.
+runs `rt try --test` in each crate that has tests, or in those that are named, in as many at once as
+there are processors, and tells of each whether its tests passed and how long that took. Of a crate
+whose tests failed it shows what `rt try` said. The last line says how many crates passed and how
+many failed, and the status is 1 where one failed. Nothing is proved, no program is run, and a call
+that breaks a `requires` isn't seen.
 """
 
 import concurrent.futures
@@ -24,7 +25,9 @@ SECONDS = 600
 def names():
     """The crates that have tests, the highest first, since their tests take longest."""
     lines = (TOP / "crates.txt").read_text().splitlines()
-    every = [line.split(":")[0].split()[0] for line in lines if line.strip() and not line.startswith("#")]
+    every = [
+        line.split(":")[0].split()[0] for line in lines if line.strip() and not line.startswith("#")
+    ]
     return [name for name in reversed(every) if has_tests(TOP / "crates" / name)]
 
 
@@ -36,11 +39,19 @@ def passes(name):
     begun = time.monotonic()
     command = ["rt", "try", "--test", "--seconds", str(SECONDS)]
     ran = subprocess.run(
-        command, cwd=TOP / "crates" / name, stdin=subprocess.DEVNULL, stdout=subprocess.PIPE, stderr=subprocess.STDOUT
+        command,
+        cwd=TOP / "crates" / name,
+        stdin=subprocess.DEVNULL,
+        stdout=subprocess.PIPE,
+        stderr=subprocess.STDOUT,
     )
     passed = ran.returncode == 0
     said = "" if passed else ran.stdout.decode(errors="replace")
-    print(f"{name}: {'passed' if passed else 'FAILED'}, {time.monotonic() - begun:.0f} s\n{said}", end="", flush=True)
+    print(
+        f"{name}: {'passed' if passed else 'FAILED'}, {time.monotonic() - begun:.0f} s\n{said}",
+        end="",
+        flush=True,
+    )
     return passed
 
 

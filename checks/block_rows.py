@@ -3,19 +3,20 @@
 
     checks/block_rows.py
 
-It reads and hashes blocks by Bitcoin's serialization and BIP 141 and 144 on its own, with Python's standard library
-alone, and knows blocks that others made: the genesis block of the main chain, and two whose bytes, ids and roots were
-made with Debian's python3-bitcoinlib 0.11.2, which it asserts first. The rows about scripts are those of
-checks/envelope_rows.py.
+It reads and hashes blocks by Bitcoin's serialization and BIP 141 and 144 on its own, with Python's
+standard library alone, and knows blocks that others made: the genesis block of the main chain, and
+two whose bytes, ids and roots were made with Debian's python3-bitcoinlib 0.11.2, which it asserts
+first. The rows about scripts are those of checks/envelope_rows.py, and those about blocks that are
+made those of checks/made_blocks.py.
 """
 
 import hashlib
-import pathlib
 import struct
 
 import envelope_rows
+import made_blocks
+from tools.programs import write_rows
 
-CRATE = pathlib.Path(__file__).resolve().parents[1] / "crates" / "ox_block_rows"
 COINS = 21_000_000 * 10 ** 8
 MOST = 4_000_000
 
@@ -46,18 +47,24 @@ class Reader:
         if self.at + count > len(self.data):
             raise Fault(self.at)
         self.at += count
-        return self.data[self.at - count:self.at]
+        return self.data[self.at - count : self.at]
 
     def compact(self, zero_is_lawful=True):
         begin = self.at
-        first = self.data[begin:begin + 1]
+        first = self.data[begin : begin + 1]
         if not first:
             raise Fault(begin)
         width = {253: 2, 254: 4, 255: 8}.get(first[0], 0)
         if begin + 1 + width > len(self.data):
             raise Fault(begin)
-        number = int.from_bytes(self.data[begin + 1:begin + 1 + width], "little") if width else first[0]
-        if number < {0: 0, 2: 253, 4: 1 << 16, 8: 1 << 32}[width] or (number == 0 and not zero_is_lawful):
+        number = (
+            int.from_bytes(self.data[begin + 1 : begin + 1 + width], "little")
+            if width
+            else first[0]
+        )
+        if number < {0: 0, 2: 253, 4: 1 << 16, 8: 1 << 32}[width] or (
+            number == 0 and not zero_is_lawful
+        ):
             raise Fault(begin)
         self.at = begin + 1 + width
         return number
@@ -67,10 +74,10 @@ class Reader:
         begin = self.at
         self.take(4)
         marker = self.at
-        marked = self.data[marker:marker + 1] == b"\0"
+        marked = self.data[marker : marker + 1] == b"\0"
         if marked:
             self.take(1)
-            if self.data[self.at:self.at + 1] != b"\1":
+            if self.data[self.at : self.at + 1] != b"\1":
                 raise Fault(self.at)
             self.take(1)
         body = self.at
@@ -96,7 +103,7 @@ class Reader:
             if not some:
                 raise Fault(marker)
         lock = self.take(4)
-        return self.data[begin:self.at], self.data[begin:begin + 4] + self.data[body:end] + lock
+        return self.data[begin : self.at], self.data[begin : begin + 4] + self.data[body:end] + lock
 
     def block(self):
         header = self.take(80 if len(self.data) >= 80 else self.header_fault())
@@ -117,25 +124,34 @@ def answer(data):
     except Fault as fault:
         return [f"fault at {fault.args[0]}"]
     ids = [(twice(bare), twice(whole)) for whole, bare in txs]
-    version, time, bits, nonce = (int.from_bytes(header[at:at + 4], "little") for at in (0, 68, 72, 76))
+    version, time, bits, nonce = (
+        int.from_bytes(header[at : at + 4], "little") for at in (0, 68, 72, 76)
+    )
     numbers = f"version {version}, time {time}, bits {bits}, nonce {nonce}, "
     lines = [f"{numbers}{len(txs)} transactions", f"  hash {twice(header).hex()}"]
     if len(txs) <= 5:
         for txid, wtxid in ids:
             lines += [f"  txid {txid.hex()}", f"  wtxid {wtxid.hex()}"]
     root = root_of([txid for txid, _ in ids])
-    lines += [f"  root {root.hex()}", f"  root is the header's: {str(root == header[36:68]).lower()}"]
-    return lines + [f"  witness root {root_of([bytes(32)] + [wtxid for _, wtxid in ids[1:]]).hex()}", "  written so: true"]
+    lines += [
+        f"  root {root.hex()}",
+        f"  root is the header's: {str(root == header[36:68]).lower()}",
+    ]
+    return lines + [
+        f"  witness root {root_of([bytes(32)] + [wtxid for _, wtxid in ids[1:]]).hex()}",
+        "  written so: true",
+    ]
 
 
 KNOWN = {
     "genesis, the main chain's first block": (
-        "0100000000000000000000000000000000000000000000000000000000000000000000003ba3edfd7a7b12b27ac72c3e67768f617fc81b"
-        "c3888a51323a9fb8aa4b1e5e4a29ab5f49ffff001d1dac2b7c010100000001000000000000000000000000000000000000000000000000"
-        "0000000000000000ffffffff4d04ffff001d0104455468652054696d65732030332f4a616e2f32303039204368616e63656c6c6f72206f"
-        "6e206272696e6b206f66207365636f6e64206261696c6f757420666f722062616e6b73ffffffff0100f2052a01000000434104678afdb0"
-        "fe5548271967f1a67130b7105cd6a828e03909a67962e0ea1f61deb649f6bc3f4cef38c4f35504e51ec112de5c384df7ba0b8d578a4c70"
-        "2b6bf11d5fac00000000",
+        "0100000000000000000000000000000000000000000000000000000000000000000000003ba3edfd7a7b12b"
+        "27ac72c3e67768f617fc81bc3888a51323a9fb8aa4b1e5e4a29ab5f49ffff001d1dac2b7c01010000000100"
+        "00000000000000000000000000000000000000000000000000000000000000ffffffff4d04ffff001d01044"
+        "55468652054696d65732030332f4a616e2f32303039204368616e63656c6c6f72206f6e206272696e6b206f"
+        "66207365636f6e64206261696c6f757420666f722062616e6b73ffffffff0100f2052a01000000434104678"
+        "afdb0fe5548271967f1a67130b7105cd6a828e03909a67962e0ea1f61deb649f6bc3f4cef38c4f35504e51e"
+        "c112de5c384df7ba0b8d578a4c702b6bf11d5fac00000000",
         [
             "version 1, time 1231006505, bits 486604799, nonce 2083236893",
             "hash 6fe28c0ab6f1b372c1a6a246ae63f74f931e8365e15a089c68d6190000000000",
@@ -143,28 +159,32 @@ KNOWN = {
         ],
     ),
     "a coinbase with a witness, and a spend of two inputs of which the second has none": (
-        "010000005555555555555555555555555555555555555555555555555555555555555555bbdfefe336241d92b1949e0ab7059331635ead"
-        "1c1e90de4ee99e48255bce855129ab5f49ffff001d2a000000020200000000010100000000000000000000000000000000000000000000"
-        "00000000000000000000ffffffff0504010000000000000002fff1052a0100000001510000000000000000266a24aa21a9ed0001020304"
-        "05060708090a0b0c0d0e0f101112131415161718191a1b1c1d1e1f01200000000000000000000000000000000000000000000000000000"
-        "000000000000000000000100000000010211111111111111111111111111111111111111111111111111111111111111110700000000fd"
-        "ffffff222222222222222222222222222222222222222222222222222222222222222200000000020151ffffffff0115cd5b0700000000"
-        "16001433333333333333333333333333333333333333330303010203000504040404040020a10700",
+        "010000005555555555555555555555555555555555555555555555555555555555555555bbdfefe336241d9"
+        "2b1949e0ab7059331635ead1c1e90de4ee99e48255bce855129ab5f49ffff001d2a00000002020000000001"
+        "010000000000000000000000000000000000000000000000000000000000000000ffffffff0504010000000"
+        "000000002fff1052a0100000001510000000000000000266a24aa21a9ed000102030405060708090a0b0c0d"
+        "0e0f101112131415161718191a1b1c1d1e1f012000000000000000000000000000000000000000000000000"
+        "000000000000000000000000001000000000102111111111111111111111111111111111111111111111111"
+        "11111111111111110700000000fdffffff22222222222222222222222222222222222222222222222222222"
+        "2222222222200000000020151ffffffff0115cd5b0700000000160014333333333333333333333333333333"
+        "33333333330303010203000504040404040020a10700",
         [
             "witness root 1016ba4971ff0871847a7bfe76416cb907a89849f3428ffa6afc834a20905f0d",
             "root is the header's: true",
         ],
     ),
     "the same and a transaction without a marker": (
-        "01000000555555555555555555555555555555555555555555555555555555555555555502f3760fd0d3b55d34ef313dfe47f08cce1414"
-        "3209c6fc9bd528aa8fbb6be1cb29ab5f49ffff001d2a000000030200000000010100000000000000000000000000000000000000000000"
-        "00000000000000000000ffffffff0504010000000000000002fff1052a0100000001510000000000000000266a24aa21a9ed0001020304"
-        "05060708090a0b0c0d0e0f101112131415161718191a1b1c1d1e1f01200000000000000000000000000000000000000000000000000000"
-        "000000000000000000000100000000010211111111111111111111111111111111111111111111111111111111111111110700000000fd"
-        "ffffff222222222222222222222222222222222222222222222222222222222222222200000000020151ffffffff0115cd5b0700000000"
-        "16001433333333333333333333333333333333333333330303010203000504040404040020a10700020000000144444444444444444444"
-        "4444444444444444444444444444444444444444444401000000016a0500000002010000000000000000ff3f075af07507000100000000"
-        "00",
+        "01000000555555555555555555555555555555555555555555555555555555555555555502f3760fd0d3b55"
+        "d34ef313dfe47f08cce14143209c6fc9bd528aa8fbb6be1cb29ab5f49ffff001d2a00000003020000000001"
+        "010000000000000000000000000000000000000000000000000000000000000000ffffffff0504010000000"
+        "000000002fff1052a0100000001510000000000000000266a24aa21a9ed000102030405060708090a0b0c0d"
+        "0e0f101112131415161718191a1b1c1d1e1f012000000000000000000000000000000000000000000000000"
+        "000000000000000000000000001000000000102111111111111111111111111111111111111111111111111"
+        "11111111111111110700000000fdffffff22222222222222222222222222222222222222222222222222222"
+        "2222222222200000000020151ffffffff0115cd5b0700000000160014333333333333333333333333333333"
+        "33333333330303010203000504040404040020a107000200000001444444444444444444444444444444444"
+        "444444444444444444444444444444401000000016a0500000002010000000000000000ff3f075af0750700"
+        "010000000000",
         [
             "hash 61fcd4cc510aec766e69d362d80cc78f9a6ffceaa2bec9f1decf432f1e711003",
             "txid da37389d1bf0511cc5f275459ce7c8738e67faf71e11704d758c11ec990e3718",
@@ -198,7 +218,8 @@ def script_of(length):
 
 
 def large_tx(inputs, outputs):
-    """A marked transaction with scripts of 300 bytes, and a stack of three byte strings behind every second input."""
+    """A marked transaction with scripts of 300 bytes, and a stack of three byte strings behind
+    every second input."""
     data = struct.pack("<I", 2) + b"\0\1" + size(inputs)
     for at in range(inputs):
         data += bytes([at + 1]) * 32 + struct.pack("<I", at) + script_of(300) + b"\xff" * 4
@@ -213,22 +234,32 @@ def large_tx(inputs, outputs):
 def rows():
     """The words of a row: how often the part stands, the head, the part and the tail."""
     genesis, two, three = known_blocks()
-    edit = lambda data, at, byte: data[:at] + bytes([byte]) + data[at + 1:]
+    edit = lambda data, at, byte: data[:at] + bytes([byte]) + data[at + 1 :]
     for data in (genesis, two, three, edit(genesis, 205, 1)):
         yield 0, data, b"", b""
-    # no transaction; a second one, which is cut; a long count; a bad flag; no output; an output above all satoshis
+    # no transaction; a second one, which is cut; a long count; a bad flag; no output; an output
+    # above all satoshis
     for at, byte in ((80, 0), (80, 2), (80, 253), (85, 0), (204, 0), (212, 8)):
         yield 0, edit(genesis, at, byte), b"", b""
-    # a flag of 2; no input; a sum above all satoshis; empty stacks; and both, of which the sum stands first
+    # a flag of 2; no input; a sum above all satoshis; empty stacks; and both, of which the sum
+    # stands first
     for at, byte in ((86, 2), (87, 0), (152, 7), (192, 0)):
         yield 0, edit(two, at, byte), b"", b""
     yield 0, edit(edit(two, 152, 7), 192, 0), b"", b""
     # counts that lie, and bytes behind
-    for end in (b"", b"\xfe\xff\xff\xff\xff", b"\xfd\1\0", b"\xff\0\0\0\0\1\0\0\0", b"\xfe\xff\xff\0\0", b"\xfd\xfc\0"):
+    for end in (
+        b"",
+        b"\xfe\xff\xff\xff\xff",
+        b"\xfd\1\0",
+        b"\xff\0\0\0\0\1\0\0\0",
+        b"\xfe\xff\xff\0\0",
+        b"\xfd\xfc\0",
+    ):
         yield 0, genesis[:80], b"", end
     for end in (b"\0", b"anything"):
         yield 0, genesis, b"", end
-    # 300 transactions; one with 5 inputs, 5 outputs and scripts of 300 bytes; as many bytes as may be and one more
+    # 300 transactions; one with 5 inputs, 5 outputs and scripts of 300 bytes; as many bytes as may
+    # be and one more
     yield 299, genesis[:80] + size(300) + genesis[81:], three[370:], b""
     yield 0, genesis[:80] + size(2) + genesis[81:], b"", large_tx(5, 5)
     yield MOST // 1000, b"", bytes(1000), b""
@@ -247,12 +278,18 @@ def main():
         stdout.append("less" if first < second else "greater" if first > second else "equal")
     two = known_blocks()[1]
     stdin.append(f"fronts {two.hex()}")
-    stdout.append("".join(" " + answer(two[:length])[0].removeprefix("fault at ") for length in range(len(two))))
+    stdout.append(
+        "".join(
+            " " + answer(two[:length])[0].removeprefix("fault at ") for length in range(len(two))
+        )
+    )
     for row in envelope_rows.rows():
         stdin.append(row)
         stdout += envelope_rows.answer(row)
-    (CRATE / "stdin").write_text("".join(line + "\n" for line in stdin))
-    (CRATE / "stdout").write_text("".join(line + "\n" for line in stdout))
+    for row, made in made_blocks.rows():
+        stdin.append(row)
+        stdout.append(made)
+    write_rows("ox_block_rows", stdin, stdout)
 
 
 main()

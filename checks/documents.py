@@ -18,10 +18,11 @@ tells each line
 5. with a link that leads nowhere, or a quoted section that isn't in the document;
 6. with a number that restates a constant and differs, and each document that is over its size;
 7. with a sum of the kit's logic that isn't that of `rt version` (another name of the kit is noted);
-8. of Python that passes 100 columns, where the script isn't among those that still do.
+8. of Python that passes 100 columns;
+9. of docs/REVIEW.md that checks/review.py tells: a definition below the headline is missing.
 
 The last line says how many lines were told. The status is 1 where there are any. With --selftest it
-puts one wrong line for each of the eight into a copy in memory, and says whether each is told.
+puts one wrong line for each of the nine into a copy in memory, and says whether each is told.
 It reads files alone, but for `rt help` and `rt version`, and takes seconds.
 """
 
@@ -31,10 +32,17 @@ import shutil
 import subprocess
 import sys
 
+import review
+
 TOP = pathlib.Path(__file__).resolve().parents[1]
 
 # how many bytes a document may have
-SIZES = {"README.md": 8_000, "docs/PROMISES.md": 4_000, "docs/DECISIONS.md": 20_000}
+SIZES = {
+    "README.md": 8_000,
+    "docs/PROMISES.md": 4_000,
+    "docs/DECISIONS.md": 20_000,
+    "bench/README.md": 4_000,
+}
 PAGE_SIZE = 4_096
 
 # files that are somebody else's, or that a store or a build makes
@@ -50,42 +58,11 @@ CONSTANTS = [
     ("ox_app/src/subcommand.rt", "number <=", r"taken back, from 1 to ([\d,]+)"),
     ("ox_app/src/fold.rt", "DEPTH: u16 =", r"`fold` keeps ([\d,]+)"),
     ("ox_gated/src/layout.rt", "BODY_AT: usize =", r"`body_at` ([\d,]+)"),
+    ("ox_gated/src/layout.rt", "BODY_AT: usize =", r"([\d,]+) bytes of head\b"),
+    ("ox_app/src/subcommand.rt", "number <=", r"\bdepth from 1 to ([\d,]+)"),
     ("ox_http/src/reader.rt", "HEAD_LIMIT: usize =", r"first ([\d,]+) bytes hold no whole"),
     ("ox_http/src/reader.rt", "BODY_LIMIT: usize =", r"where the length is above ([\d,]+)"),
 ]
-
-# scripts that still have lines of more than 100 columns
-LONG = {
-    "bench/address.py",
-    "bench/allocation.py",
-    "bench/apply_and_open.py",
-    "bench/blocks.py",
-    "bench/decipher_runestones.py",
-    "bench/find_envelopes.py",
-    "bench/fold_blocks.py",
-    "bench/fold_feed.py",
-    "bench/index_blocks.py",
-    "bench/inscriptions.py",
-    "bench/query.py",
-    "bench/read_block.py",
-    "bench/runes.py",
-    "bench/runs.py",
-    "bench/undo.py",
-    "checks/address_rows.py",
-    "checks/all_tests.py",
-    "checks/block_rows.py",
-    "checks/chain.py",
-    "checks/envelope_rows.py",
-    "checks/failing_allocations.py",
-    "checks/http_rows.py",
-    "checks/index_rows.py",
-    "checks/kills.py",
-    "checks/query_rows.py",
-    "checks/real_files.py",
-    "checks/rows.py",
-    "checks/store_rows.py",
-    "checks/table.py",
-}
 
 # verbs of rt, where there is no kit to ask
 VERBS = {"ci", "check", "doc", "fmt", "help", "must-fail", "plant", "run", "test", "tidy", "try"}
@@ -200,7 +177,7 @@ def paths(repository):
     for name in repository.documents():
         crate, beside = crate_of(name), None
         for number, line in repository.lines(name):
-            plain = re.findall(r"\b(?:docs|checks|bench)/\w+\.(?:md|py)\b", line)
+            plain = re.findall(r"\b(?:docs|checks|bench|tools|crates)(?:/\w+)+\.\w+\b", line)
             for word in filter(is_path, [*quoted(line), *plain]):
                 places = [word, f"crates/{word}"]
                 places += [f"crates/{crate}/{word}"] if crate else []
@@ -350,9 +327,12 @@ def commands(repository):
                 if route and route[0] not in routes and route[0] + "/" not in routes:
                     if not (TOP / word.strip("/")).exists() and not word.startswith("/dev/"):
                         yield name, number, f"there is no route {route[0]}"
-            for code in re.findall(r"\b(?:exit |with |by )?status (\d)\b", line):
+            for code in re.findall(r"\bstatus (\d{1,2})\b", line):
                 if code not in codes:
                     yield name, number, f"no run ends with status {code}"
+    rows = re.findall(r"^\| (\d+) \|(?! kept for)", repository.text("docs/OPERATING.md"), re.M)
+    if sorted(rows) != sorted(codes):
+        yield "docs/OPERATING.md", 1, "the table of statuses hasn't those of status.rt"
 
 
 def wrong_words(repository, words, known, subcommands, profiles):
@@ -371,6 +351,12 @@ def wrong_words(repository, words, known, subcommands, profiles):
         yield f"there is no profile {runs[2]}"
 
 
+def anchors(repository, name):
+    """The fragments by which the headings of a document are linked."""
+    words = (re.sub(r"[^\w\s-]", "", title.lower()) for title in headings(repository, name))
+    return {title.replace(" ", "-") for title in words}
+
+
 def headings(repository, name):
     return {line.lstrip("#").strip() for _, line in repository.lines(name) if line.startswith("#")}
 
@@ -379,7 +365,9 @@ def bold(repository, name):
     return set(re.findall(r"\*\*([^*]+?)\.?\*\*", repository.text(name)))
 
 
-QUOTED = r"((?:README|CONTRIBUTING|docs/\w+|bench/README)\.md), '((?:[^'\n]|'s )+)'"
+# a document, and what is said of it up to the end of the sentence or to another document
+NAMED = r"\b((?:README|CONTRIBUTING|docs/\w+|bench/README)\.md)((?:(?!\. |\w\.md).)*)"
+QUOTED = r"'([A-Z](?:[^'\n]|'s )+)'"
 
 
 def links(repository):
@@ -387,15 +375,21 @@ def links(repository):
     for name in repository.documents():
         here = pathlib.PurePosixPath(name).parent
         for number, line in repository.lines(name):
-            for target in re.findall(r"\]\(([^)#]+)(?:#[^)]*)?\)", line):
-                if not target.startswith("http") and not (TOP / here / target).exists():
+            for target, anchor in re.findall(r"\]\(([^)#]*)(?:#([^)]*))?\)", line):
+                place = (TOP / here / target).resolve() if target else TOP / name
+                if not target.startswith("http") and not place.exists():
                     yield name, number, f"the link to {target} leads nowhere"
-            for target, section in re.findall(QUOTED, line):
+                elif anchor and anchor not in anchors(repository, str(place.relative_to(TOP))):
+                    yield name, number, f"the link to {target} has no #{anchor}"
+            for target, said in re.findall(NAMED, line):
                 if not repository.there(target):
                     yield name, number, f"there is no {target}"
-                elif section not in headings(repository, target):
-                    yield name, number, f"{target} has no section '{section}'"
-            for section in re.findall(r"\('([A-Z][^'()]+)'\)", line):
+                    continue
+                for section in re.findall(QUOTED, said):
+                    if section not in headings(repository, target) | bold(repository, target):
+                        yield name, number, f"{target} has no section '{section}'"
+            own = re.findall(r"\('([A-Z][^'()]+)'\)|\b(?:in|to) '([A-Z][^'()]+)'", line)
+            for section in map("".join, own):
                 if section not in headings(repository, name) | bold(repository, name):
                     yield name, number, f"there is no section '{section}' here"
 
@@ -444,15 +438,18 @@ def columns(repository):
         for path in (TOP / folder).glob("*.py")
     ]
     for name in sorted(names):
-        long = [number for number, line in repository.lines(name) if len(line) > 100]
-        if name in LONG and not long:
-            yield name, 1, "it has no line of more than 100 columns any more"
-        if name not in LONG:
-            for number in long:
+        for number, line in repository.lines(name):
+            if len(line) > 100:
                 yield name, number, "the line passes 100 columns"
 
 
-RULES = [paths, crates, clauses, commands, links, sizes, logic, columns]
+def definitions(repository):
+    """Rule 9."""
+    for number, cause in review.told(repository.text(review.REVIEW)):
+        yield review.REVIEW, number, cause
+
+
+RULES = [paths, crates, clauses, commands, links, sizes, logic, columns, definitions]
 
 # for each rule a document and a wrong line
 WRONG = {
@@ -467,6 +464,7 @@ WRONG = {
     sizes: ("docs/RULES.md", "A block has at most 4,000,001 bytes in all."),
     logic: ("README.md", "It is logic `0123456789abcdef`."),
     columns: ("checks/documents.py", "#" * 101),
+    definitions: ("docs/REVIEW.md", "| 16 | `nothing` | `ox_sat/src/profiles.rt` | nothing |"),
 }
 
 

@@ -1,7 +1,8 @@
-"""The rows of crates/ox_block_rows about scripts, field values and ids, and what has to be printed for them.
+"""The rows of crates/ox_block_rows about scripts, field values and ids, and what has to be printed
+for them.
 
-It reads scripts by the Ordinal Theory Handbook ("Inscriptions", "Fields", "Provenance", "Delegate"), on its own: item
-by item into a list, and then by slices of that list.
+It reads scripts by the Ordinal Theory Handbook ("Inscriptions", "Fields", "Provenance",
+"Delegate"), on its own: item by item into a list, and then by slices of that list.
 """
 
 import re
@@ -13,7 +14,8 @@ MOST_SHOWN = 80
 
 
 def items(script):
-    """The items, an opcode as a number and a push as bytes, and None at the end of a script that is cut."""
+    """The items, an opcode as a number and a push as bytes, and None at the end of a script that is
+    cut."""
     at, found = 0, []
     while at < len(script):
         op = script[at]
@@ -24,11 +26,11 @@ def items(script):
         width = {76: 1, 77: 2, 78: 4}.get(op, 0)
         if at + width > len(script):
             return found + [None]
-        count = int.from_bytes(script[at:at + width], "little") if width else op
+        count = int.from_bytes(script[at : at + width], "little") if width else op
         at += width
         if at + count > len(script):
             return found + [None]
-        found.append(script[at:at + count])
+        found.append(script[at : at + count])
         at += count
     return found
 
@@ -47,15 +49,20 @@ def envelopes(script):
     if None in all_items:
         return []
     while at < len(all_items):
-        if all_items[at:at + 3] != [b"", 0x63, b"ord"]:
+        if all_items[at : at + 3] != [b"", 0x63, b"ord"]:
             at += 1
             continue
         end = at + 3
         while end < len(all_items) and bytes_pushed(all_items[end]) is not None:
             end += 1
-        inside = all_items[at + 3:end]
+        inside = all_items[at + 3 : end]
         if end < len(all_items) and all_items[end] == 0x68:
-            found.append(([bytes_pushed(item) for item in inside], any(isinstance(item, int) for item in inside)))
+            found.append(
+                (
+                    [bytes_pushed(item) for item in inside],
+                    any(isinstance(item, int) for item in inside),
+                )
+            )
         at = end + 1
     return found
 
@@ -75,12 +82,15 @@ def bytes_text(data):
 
 def envelope_line(pushes, number):
     empties = [at for at in range(0, len(pushes), 2) if not pushes[at]]
-    body = b"".join(pushes[empties[0] + 1:]) if empties else None
-    front = pushes[:empties[0]] if empties else pushes
+    body = b"".join(pushes[empties[0] + 1 :]) if empties else None
+    front = pushes[: empties[0]] if empties else pushes
     fields = list(zip(front[0::2], front[1::2]))
     of = lambda tag: [value for name, value in fields if name == bytes([tag])]
     names = [name for name, _ in fields]
-    unknown_even = any(name[0] % 2 == 0 and name not in [bytes([tag]) for tag in (1, 2, 3, 5, 7, 9, 11)] for name in names)
+    unknown_even = any(
+        name[0] % 2 == 0 and name not in [bytes([tag]) for tag in (1, 2, 3, 5, 7, 9, 11)]
+        for name in names
+    )
     single = [name for name in names if name not in (b"\3", b"\5")]
     marks = 1 * (unknown_even or len(of(2)) > 1) + 2 * (len(set(single)) < len(single))
     marks += 4 * (len(front) % 2) + 32 * bool(of(2)) + 64 * number
@@ -97,7 +107,8 @@ def envelope_line(pushes, number):
 
 
 def bytes_from(words):
-    """The bytes that a row's words spell: how often the part stands, the head, the part and the tail."""
+    """The bytes that a row's words spell: how often the part stands, the head, the part and the
+    tail."""
     times, *parts = words.split(" ")
     head, part, tail = (bytes.fromhex(word.replace("-", "")) for word in parts)
     return head + int(times) * part + tail
@@ -113,8 +124,17 @@ def script_lines(script):
 
 def scripts():
     """Scripts in hex digits, an envelope's opening written as O."""
-    # none, an empty one, one behind a key, and openings that are broken, the third by what begins a whole one
-    yield from ("-", "O68", "20" + 32 * "6b" + "acO0161" + "02626368", "0063O68", "00O016168", "0063036f727868", "0064036f726468")
+    # none, an empty one, one behind a key, and openings that are broken, the third by what begins a
+    # whole one
+    yield from (
+        "-",
+        "O68",
+        "20" + 32 * "6b" + "acO0161" + "02626368",
+        "0063O68",
+        "00O016168",
+        "0063036f727868",
+        "0064036f726468",
+    )
     # no end; a last push that takes the end; a script that is cut, before and behind an envelope
     yield from ("O0161", "O0101", "O0168", "O4c", "O680261")
     # another opcode voids one, and the search goes on behind it
@@ -128,15 +148,29 @@ def scripts():
     yield "O01050161" + "01010174" + "01070170" + "01050162" + "01090165" + "68"
     yield "O010100010500" + "68"
     # pointers are bytes
-    yield "O010202b70b68O010202b80b68O010209000000000000000001" + "68O010209e80300000000000000" + "68"
-    # marks: odd and even tags, alone and twice; longer tags; two pointers, two parents; a tag without a value; numbers
-    yield from ("O010d016168", "O010d0161010d016168", "O01040161" + "0104016168", "O020201016168", "O020102016168")
-    yield from ("O0201020161" + "020103016168", "O0201020161" + "020102016168", "O010201610102016268", "O010301610103016268")
+    yield "O010202b70b68O010202b80b68O01020900000000000000000168O010209e8030000000000000068"
+    # marks: odd and even tags, alone and twice; longer tags; two pointers, two parents; a tag
+    # without a value; numbers
+    yield from (
+        "O010d016168",
+        "O010d0161010d016168",
+        "O01040161" + "0104016168",
+        "O020201016168",
+        "O020102016168",
+    )
+    yield from (
+        "O0201020161" + "020103016168",
+        "O0201020161" + "020102016168",
+        "O010201610102016268",
+        "O010301610103016268",
+    )
     yield from (f"O01{tag:02x}016168" for tag in range(1, 17))
     yield from ("O010268", "O01010174010168", "O51017468", "O004f68")
     # parents and a delegate, and a first delegate that is no id, whatever a second says
     value = lambda tag, index: f"01{tag:02x}4c{32 + len(index) // 2:02x}{TXID}{index}"
-    yield "O" + value(3, "") + value(3, "00") + value(3, "ff") + value(3, "") + value(11, "0001") + value(11, "02") + "68"
+    yield "O" + value(3, "") + value(3, "00") + value(3, "ff") + value(3, "") + value(
+        11, "0001"
+    ) + value(11, "02") + "68"
     yield "O010b0161" + value(11, "") + "68"
 
 
@@ -153,12 +187,44 @@ def rows():
         yield f"{word} 100 {OPEN}0101017468 {OPEN}0101017400016168 51"
         yield f"{word} 100 - {OPEN}0101017400016168 4c"
         yield f"{word} 0 - - -"
-    for index in ("", "01", "ff", "0001", "010203", "01020304", "01000000", "00000000", "00", "0100", "010000", "0102030405"):
+    for index in (
+        "",
+        "01",
+        "ff",
+        "0001",
+        "010203",
+        "01020304",
+        "01000000",
+        "00000000",
+        "00",
+        "0100",
+        "010000",
+        "0102030405",
+    ):
         yield f"value {TXID}{index}"
     yield from ("value -", f"value {TXID[:62]}")
-    for text in ("i0", "i10", "i4294967295", "i4294967296", "i", "i00", "i+1", "i1 ", "i01", "i-0", "I0", "j0", ""):
+    for text in (
+        "i0",
+        "i10",
+        "i4294967295",
+        "i4294967296",
+        "i",
+        "i00",
+        "i+1",
+        "i1 ",
+        "i01",
+        "i-0",
+        "I0",
+        "j0",
+        "",
+    ):
         yield f"text {PRINTED}{text}"
-    yield from (f"text {PRINTED.replace('a', 'A', 1)}i0", f"text {PRINTED[:-3]}1g0i0", "text i0", f"text {PRINTED[1:]}i0")
+    yield from (
+        f"text {PRINTED.replace('a', 'A', 1)}i0",
+        f"text {PRINTED[:-3]}1g0i0",
+        "text i0",
+        f"text {PRINTED[1:]}i0",
+    )
 
 
 def answer(row):
@@ -172,7 +238,9 @@ def answer(row):
     if word == "envelopes":
         found = [pushes for pushes, _ in envelopes(bytes_from(rest))]
         # an empty push in a tag's place begins a body
-        return [f"{len(found)} envelopes, {sum(b'' in pushes[::2] for pushes in found)} with a body"]
+        return [
+            f"{len(found)} envelopes, {sum(b'' in pushes[::2] for pushes in found)} with a body"
+        ]
     if word == "value":
         return [" " + (id_of(bytes.fromhex(rest.replace("-", ""))) or "none")]
     is_id = re.fullmatch(r"[0-9a-f]{64}i(0|[1-9][0-9]*)", rest) and int(rest[65:]) < 2 ** 32

@@ -3,21 +3,25 @@
 
     python3 checks/failing_allocations.py [PROGRAM]
 
-No contract says that there is memory, and each says what is left where there is none: so this tries it over built
-programs. checks/failing_allocation.c, which `cc` compiles, stands before libc's `malloc` and `realloc` and refuses the
-call of one number. Build both programs first: `rt run` in crates/ox_main, and `rt run < stdin` in crates/ox_index_rows.
+No contract says that there is memory, and each says what is left where there is none: so this tries
+it over built programs. checks/failing_allocation.c, which `cc` compiles, stands before libc's
+`malloc` and `realloc` and refuses the call of one number. Build both programs first: `rt run` in
+crates/ox_main, and `rt run < stdin` in crates/ox_index_rows.
 
-- `apply` of PROGRAM (crates/ox_main/out/ox_main without a word) over a lab chain whose blocks reveal inscriptions, etch,
-  mint and burn runes, and are taken back: one run for each allocation, which fails. The run has to end with status 8, or
-  0 where nothing was lacking, or 4 where the folder couldn't be opened for it and nothing was shown, and to have shown
-  whole lines in front of those of an undisturbed run. The lines behind them are then applied with all memory, and have to
+- `apply` of PROGRAM (crates/ox_main/out/ox_main without a word) over a lab chain whose blocks
+  reveal inscriptions, etch, mint and burn runes, and are taken back: one run for each allocation,
+  which fails. The run has to end with status 8, or 0 where nothing was lacking, or 4 where the
+  folder couldn't be opened for it and nothing was shown, and to have shown whole lines in front of
+  those of an undisturbed run. The lines behind them are then applied with all memory, and have to
   be answered by the others and to leave the files as they should be.
-- crates/ox_index_rows/out/ox_index_rows over rows that connect blocks, take them back and lead both ways, each followed by
-  a dump of the whole index: one run for each allocation, which fails. Where a row finds no memory it has to say so, and the
-  index has to be as before; the same row then has to do as it does with all memory. Only where the rows can't be read, or
-  the routes of requests not made, the run may end at once, and has to print nothing.
+- crates/ox_index_rows/out/ox_index_rows over rows that connect blocks, take them back and lead both
+  ways, each followed by a dump of the whole index: one run for each allocation, which fails. Where
+  a row finds no memory it has to say so, and the index has to be as before; the same row then has
+  to do as it does with all memory. Only where the rows can't be read, or the routes of requests not
+  made, the run may end at once, and has to print nothing.
 
-The last line says how many runs there were. The status is 1 at the first that isn't as it should be.
+The last line says how many runs there were. The status is 1 at the first that isn't as it should
+be.
 """
 
 import functools
@@ -28,15 +32,17 @@ import subprocess
 import sys
 import tempfile
 
-from chain import SHORT, SUBSIDY, block_of, block_with, chain, coinbase, commitment, committing, envelope, line, reveal_into, twice
+from chain import SHORT, block_of, block_with, chain, coinbase, commitment, committing, envelope
+from chain import line, reveal_into
 from index_rows import Full, Held, Indexes, runes_of_mainnet
 from kills import Failed, demand
 from rows import hash_text, plain, reveal
+from scenarios import ETCHES, MINTS_AND_BURNS
+from tools.bitcoin import SUBSIDY, twice
+from tools.programs import TOP, proved_program
 
-HERE = pathlib.Path(__file__).resolve().parent
-CRATES = HERE.parent / "crates"
-PROGRAM = CRATES / "ox_main" / "out" / "ox_main"
-INDEXES = CRATES / "ox_index_rows" / "out" / "ox_index_rows"
+PROGRAM, INDEXES = proved_program("ox_main"), proved_program("ox_index_rows")
+SHIM = TOP / "checks" / "failing_allocation.c"
 NONE = ["no memory"]
 COUNT_TO = 3
 
@@ -44,7 +50,7 @@ COUNT_TO = 3
 def shim(folder):
     """The library that refuses an allocation."""
     made = folder / "failing_allocation.so"
-    subprocess.run(["cc", "-O2", "-shared", "-fPIC", "-o", made, HERE / "failing_allocation.c"], check=True)
+    subprocess.run(["cc", "-O2", "-shared", "-fPIC", "-o", made, SHIM], check=True)
     return made
 
 
@@ -72,11 +78,15 @@ class Memory:
 
 
 def lab_chain():
-    """Lines that connect three plain blocks, one that reveals and etches, one that reveals, mints and burns, and take the
-    last back and connect it again."""
+    """Lines that connect three plain blocks, one that reveals and etches, one that reveals, mints
+    and burns, and take the last back and connect it again."""
     blocks, _ = chain(3)
-    etching, cenotaph = bytes.fromhex("6a5d0802030607080a0a05"), bytes.fromhex("6a5d06140314017e00")
-    first = reveal_into(twice(coinbase(0, SHORT)), envelope([(1, b"text/plain")], b"hi"), [(SUBSIDY, SHORT), (0, etching)])
+    etching, cenotaph = bytes.fromhex(ETCHES), bytes.fromhex(MINTS_AND_BURNS)
+    first = reveal_into(
+        twice(coinbase(0, SHORT)),
+        envelope([(1, b"text/plain")], b"hi"),
+        [(SUBSIDY, SHORT), (0, etching)],
+    )
     block, tip = block_with(twice(blocks[2][:80]), 3, first)
     second = reveal_into(twice(first[0]), envelope([], b"on"), [(SUBSIDY, SHORT), (0, cenotaph)])
     last, _ = block_with(tip, 4, second)
@@ -107,19 +117,31 @@ def apply_in_turn(program, memory, top):
         folder = store(program, top, fails)
         ran, _ = memory.run([program, folder, "apply"], fails, b"".join(lines))
         shown = ran.stdout.splitlines(keepends=True)
-        demand(ran.returncode in (0, 8) or (ran.returncode, shown) == (4, []), f"allocation {fails}: status {ran.returncode}")
+        demand(
+            ran.returncode in (0, 8) or (ran.returncode, shown) == (4, []),
+            f"allocation {fails}: status {ran.returncode}",
+        )
         demand(shown == answers[: len(shown)], f"allocation {fails}: {ran.stdout} was shown")
-        demand(ran.returncode != 0 or shown == answers, f"allocation {fails}: status 0 and {ran.stdout}")
-        rest = subprocess.run([program, folder, "apply"], input=b"".join(lines[len(shown) :]), stdout=subprocess.PIPE)
+        demand(
+            ran.returncode != 0 or shown == answers,
+            f"allocation {fails}: status 0 and {ran.stdout}",
+        )
+        rest = subprocess.run(
+            [program, folder, "apply"], input=b"".join(lines[len(shown) :]), stdout=subprocess.PIPE
+        )
         demand(rest.returncode == 0, f"after allocation {fails}: status {rest.returncode}")
-        demand(rest.stdout == b"".join(answers[len(shown) :]), f"after allocation {fails}: {rest.stdout} was shown")
+        demand(
+            rest.stdout == b"".join(answers[len(shown) :]),
+            f"after allocation {fails}: {rest.stdout} was shown",
+        )
         demand(files(folder) == files(whole), f"after allocation {fails}: the files are others")
         shutil.rmtree(folder)
     print(f"apply: {count} allocations")
 
 
 class Scarce(Indexes):
-    """Rows, in steps: the rows of each, what they print, and what else they may print where an allocation fails in them."""
+    """Rows, in steps: the rows of each, what they print, and what else they may print where an
+    allocation fails in them."""
 
     def __init__(self):
         super().__init__()
@@ -132,7 +154,10 @@ class Scarce(Indexes):
         # a dump lacks its first line or its audit
         for place, (row, lines) in enumerate(rows):
             if row.startswith("dump"):
-                others += [printed[:place] + [lacks] + printed[place + 1 :] for lacks in dumps_without_memory(lines)]
+                others += [
+                    printed[:place] + [lacks] + printed[place + 1 :]
+                    for lacks in dumps_without_memory(lines)
+                ]
         self.steps.append(([row for row, _ in rows], printed, others))
 
     def dump_of(self, side, kept=None):
@@ -151,7 +176,9 @@ class Scarce(Indexes):
         self.tips.append(tip)
         ok, is_now = [self.ok()], self.dump_of(after, kept and kept[1])[1]
         others = [[NONE, was, ok, is_now]]
-        others += [[ok, is_now, lacks, is_now] for lacks in (NONE, ["refused, and no memory to say why"])]
+        others += [
+            [ok, is_now, lacks, is_now] for lacks in (NONE, ["refused, and no memory to say why"])
+        ]
         self.step([(row, ok), (dump, is_now), (row, unlinked), (dump, is_now)], others)
 
     def takes_back(self, before, after, kept):
@@ -168,14 +195,25 @@ class Scarce(Indexes):
         row, lines = self.rows[0]
         dump, was = self.dump_of(before)
         size = len(was)
-        ends = [place for place, line in enumerate(lines) if line in ("connected", "back", "again", "cancelled")]
+        ends = [
+            place
+            for place, line in enumerate(lines)
+            if line in ("connected", "back", "again", "cancelled")
+        ]
         parts = [lines[place + 1 : end] for place, end in zip(ends, [*ends[1:], len(lines)])]
         there = parts[0]
         assert parts == [there, was, there, was] and size == len(was)
         # no memory to connect, to go back, to go on again, and for the dumps of each step
-        others = [[NONE, was], [["connected", *there, *NONE, *there], there], [["connected", *there, "back", *was, *NONE, *was], was]]
+        others = [
+            [NONE, was],
+            [["connected", *there, *NONE, *there], there],
+            [["connected", *there, "back", *was, *NONE, *was], was],
+        ]
         for place, part in zip(ends, parts):
-            others += [[lines[: place + 1] + lacks + lines[place + 1 + len(part) :], was] for lacks in dumps_without_memory(part)]
+            others += [
+                [lines[: place + 1] + lacks + lines[place + 1 + len(part) :], was]
+                for lacks in dumps_without_memory(part)
+            ]
         self.step([(row, lines), (dump, was)], others)
 
 
@@ -183,13 +221,17 @@ def dumps_without_memory(lines):
     """The lines of a dump that lacks memory for its first line or its audit."""
     first = next(place for place, line in enumerate(lines) if line.startswith("ok "))
     audit = next(place for place, line in enumerate(lines) if line.startswith("audit "))
-    end = next((place for place, line in enumerate(lines) if place > audit and not line.startswith("  ")), len(lines))
+    end = next(
+        (place for place, line in enumerate(lines) if place > audit and not line.startswith("  ")),
+        len(lines),
+    )
     return [lines[:first] + NONE + lines[first + 1 :], lines[:audit] + NONE + lines[end:]]
 
 
 def scarce():
-    """Blocks that are connected, by themselves and in a chain of which two are kept, that are taken back, and that lead both
-    ways; one that commits to its witnesses; and the rune with which mainnet begins."""
+    """Blocks that are connected, by themselves and in a chain of which two are kept, that are taken
+    back, and that lead both ways; one that commits to its witnesses; and the rune with which
+    mainnet begins."""
     rows = Scarce()
     four = Full(Indexes())
     nothing = Held(), []
@@ -198,7 +240,12 @@ def scarce():
         rows.step([(begin, [])])
         count_kept = functools.partial(min, depth) if depth else lambda count: None
         for height in range(3):
-            rows.takes(nothing, nothing, plain(height), kept=depth and (count_kept(height), count_kept(height + 1)))
+            rows.takes(
+                nothing,
+                nothing,
+                plain(height),
+                kept=depth and (count_kept(height), count_kept(height + 1)),
+            )
         rows.takes(nothing, (four.before()[0], []), plain(3), four.tx, kept=depth and (2, 2))
         if begin == "live lab" and len(rows.steps) > 10:
             rows.leads_both_ways(four.before(), four.after(), plain(4), four.all)
@@ -233,7 +280,10 @@ def rows_in_turn(memory):
         before, behind = "".join(texts[:place]), "".join(texts[place + 1 :])
         may_be |= {before + text_of(printed) + behind for printed in others}
     ran, count = memory.run([INDEXES], 0, feed)
-    demand(ran.returncode == 0 and ran.stdout.decode() == whole, f"rows: {ran.returncode}: {ran.stdout} {ran.stderr}")
+    demand(
+        ran.returncode == 0 and ran.stdout.decode() == whole,
+        f"rows: {ran.returncode}: {ran.stdout} {ran.stderr}",
+    )
     unread, lacked = 0, set()
     for fails in range(1, count + 1):
         ran, _ = memory.run([INDEXES], fails, feed)
@@ -245,7 +295,10 @@ def rows_in_turn(memory):
             lacked.add(shown_)
             demand(shown_ in may_be, f"rows, allocation {fails}: {shown_}")
     demand(len(lacked) > len(may_be) // 2, f"only {len(lacked)} replies tell want of memory")
-    print(f"rows: {count} allocations, {unread} runs end before a row, {len(lacked)} of {len(may_be)} replies tell want of memory")
+    print(
+        f"rows: {count} allocations, {unread} runs end before a row, {len(lacked)} of"
+        f" {len(may_be)} replies tell want of memory"
+    )
 
 
 def main():

@@ -3,55 +3,88 @@
 
     checks/index_rows.py
 
-It makes blocks by docs/RULES.md and writes down what indexes have to hold after them, with Python's standard library
-alone. What is looked up of inscriptions and runes, as the first with an id, it looks up in these lists by itself. The rows
-that ask a chain, as requests do, are those of checks/query_rows.py.
+It makes blocks by docs/RULES.md and writes down what indexes have to hold after them, with Python's
+standard library alone. What is looked up of inscriptions and runes, as the first with an id, it
+looks up in these lists by itself. The rows that ask a chain, as requests do, are those of
+checks/query_rows.py.
 """
 
 import query_rows
-from chain import COMMITS, SHORT, SUBSIDY, ZEROS, block_of, coinbase_to, commitment, committing, envelope, id_value, root
-from chain import transaction, twice
-from real_files import RESERVED
+import scenarios
+from chain import SHORT, block_of, coinbase_to, commitment, committing, envelope, id_value
+from chain import transaction
 from rows import Rows, carry, etch, hash_text, id_of, inscription, outpoint, plain, reveal, spend
+from scenarios import ETCHES, MINTS_AND_BURNS, POINTERS, TEN
+from tools.bitcoin import COMMITS, RESERVED, SUBSIDY, root, twice
+from tools.runes import kept_name
 
 HALVINGS = {"mainnet": 210_000, "regtest": 210_000, "lab": 10}
-TAPROOT = b"\x51\x20" + 32 * b"\7"
 
 
 class Inscription:
-    """An inscription of a transaction: its height, its satoshi if it has one, its marks, fields as they are printed, and the
-    ids of its parents."""
+    """An inscription of a transaction: its height, its satoshi if it has one, its marks, fields as
+    they are printed, and the ids of its parents."""
 
     def __init__(self, tx, height, sat, marks=0, index=0, fields="", parents=()):
         self.id, self.height, self.sat, self.marks = inscription(tx, index), height, sat, marks
         self.fields, self.parents = fields, list(parents)
 
     def line(self, number, all_of_them):
-        children = [f" {child}" for child, other in enumerate(all_of_them) if self.id in other.parents]
-        fields = [f" {field}" for field in self.fields.split()] + [f" parent={parent}" for parent in self.parents]
+        children = [
+            f" {child}" for child, other in enumerate(all_of_them) if self.id in other.parents
+        ]
+        fields = [f" {field}" for field in self.fields.split()] + [
+            f" parent={parent}" for parent in self.parents
+        ]
         sat = "none" if self.sat is None else self.sat
         found = [other.id for other in all_of_them].index(self.id)
-        head = f"  {number}: {self.id} height {self.height} marks {self.marks} sat {sat} found {found}"
+        head = (
+            f"  {number}: {self.id} height {self.height} marks {self.marks} sat {sat} found {found}"
+        )
         return head + " children" + "".join(children + fields)
 
 
 class Rune:
-    """A rune by its id, the transaction that etched it and its premine. One without a name has the reserved one."""
+    """A rune by its id, the transaction that etched it and its premine. One without a name has the
+    reserved one."""
 
-    def __init__(self, block, tx, etching, premine=0, name=None, held=None, burned=0, mints=0, gives=0, terms=""):
+    def __init__(
+        self,
+        block,
+        tx,
+        etching,
+        premine=0,
+        name=None,
+        held=None,
+        burned=0,
+        mints=0,
+        gives=0,
+        terms="",
+    ):
         self.id, self.etching, self.premine = f"{block}:{tx}", etching, premine
-        self.name = RESERVED + (block << 32) + tx if name is None else name
+        self.name = kept_name(block, tx) if name is None else name
         self.minted = mints * gives
         self.held = premine + self.minted - burned if held is None else held
-        self.burned, self.mints, self.terms, self.shape = burned, mints, terms, "spacers 0 divisibility 0"
+        self.burned, self.mints, self.terms, self.shape = (
+            burned,
+            mints,
+            terms,
+            "spacers 0 divisibility 0",
+        )
 
     def line(self, number):
-        head = f"  {number}: {self.id} name {self.name} found {number} found {number} held {self.held} burned {self.burned}"
+        head = (
+            f"  {number}: {self.id} name {self.name} found {number} found {number} held"
+            f" {self.held} burned {self.burned}"
+        )
         by = f"by {hash_text(self.etching)}" + (f" terms {self.terms}" if self.terms else "")
         return f"{head} mints {self.mints} premine {self.premine} {self.shape} {by}"
 
     def audit(self):
-        return f"  {self.id} premine {self.premine} minted {self.minted} held {self.held} burned {self.burned}"
+        return (
+            f"  {self.id} premine {self.premine} minted {self.minted} held {self.held} burned"
+            f" {self.burned}"
+        )
 
 
 class Held:
@@ -85,7 +118,8 @@ def at(tx, index, tail):
 
 
 def runs(height, *parts, script=SHORT, runes=""):
-    """An output's height, its script, the first number and the count of each of its runs, and its runes."""
+    """An output's height, its script, the first number and the count of each of its runs, and its
+    runes."""
     ranges = "".join(f" {first}+{count}" for first, count in parts)
     return f"height {height} script {script.hex()}{ranges}" + (f" {runes}" if runes else "")
 
@@ -125,6 +159,17 @@ class Indexes(Rows):
         self.begin(what, f"chain {profile} {depth}")
         self.halving, self.depth = HALVINGS[profile], depth
 
+    def cancels(self, *txs):
+        """A block of these transactions on the newest one is taken in, and that is cancelled."""
+        block, tip = block_of(self.tip(), txs)
+        self.row(f"cancel block {block.hex()}", f"ok {len(self.tips)} {hash_text(tip)}", self.ok())
+
+    def cancels_a_disconnect(self):
+        """The newest block is taken back, and that is cancelled."""
+        newest, tip = self.ok(), self.tips.pop()
+        self.row("cancel disconnect", self.ok(), newest)
+        self.tips.append(tip)
+
     def lines(self, held, looks, tips):
         """A whole index."""
         line = f"ok {len(tips) - 1} {hash_text(tips[-1])}" if tips else "ok empty"
@@ -132,8 +177,12 @@ class Indexes(Rows):
         yield from (f"  height {height}: {hash_text(tip)}" for height, tip in enumerate(tips))
         yield f"  height {len(tips)}: none"
         yield f"{len(held.inscriptions)} inscriptions"
-        yield from (row.line(number, held.inscriptions) for number, row in enumerate(held.inscriptions))
-        yield from (f"  satoshi {sat}:{join_numbers(held.on(sat))}" for sat in held.inscribed_satoshis())
+        yield from (
+            row.line(number, held.inscriptions) for number, row in enumerate(held.inscriptions)
+        )
+        yield from (
+            f"  satoshi {sat}:{join_numbers(held.on(sat))}" for sat in held.inscribed_satoshis()
+        )
         yield f"{len(held.runes)} runes"
         yield from (rune.line(number) for number, rune in enumerate(held.runes))
         claimable = sum(SUBSIDY >> height // self.halving for height in range(len(tips)))
@@ -148,7 +197,8 @@ class Indexes(Rows):
         self.row(row, *head, *self.lines(held, looks, self.tips))
 
     def both(self, before, after, *txs):
-        """A block of these transactions leads from what is held and looked up before to what is after, and both ways."""
+        """A block of these transactions leads from what is held and looked up before to what is
+        after, and both ways."""
         block, tip = block_of(self.tip(), txs)
         words = [word for word, _ in before[1]]
         assert words == [word for word, _ in after[1]]
@@ -162,12 +212,13 @@ class Indexes(Rows):
 
 
 def with_a_fee(rows, claimed):
-    """Two plain blocks, and one in which a transaction pays a fee of 2,000,000,000 and the coinbase claims so much."""
-    rows.plain(2)
-    spends = transaction([spend(plain(0))], [(2_000_000_000, SHORT), (1_000_000_000, SHORT)])
-    paid = coinbase_to(2, [(claimed, SHORT)])
-    rows.connects(paid, spends)
-    dealt = [at(spends, 0, runs(2, (0, 2_000_000_000))), at(spends, 1, runs(2, (2_000_000_000, 1_000_000_000)))]
+    """A transaction that pays a fee of 2,000,000,000, and the coinbase, which claims so much; and
+    what is looked up behind them."""
+    paid, spends = scenarios.with_a_fee(rows, claimed)
+    dealt = [
+        at(spends, 0, runs(2, (0, 2_000_000_000))),
+        at(spends, 1, runs(2, (2_000_000_000, 1_000_000_000))),
+    ]
     return paid, [*dealt, at(plain(0), 0, "none"), at(plain(1), 0, runs(1, (SUBSIDY, SUBSIDY)))]
 
 
@@ -175,7 +226,13 @@ def satoshis(rows):
     rows.live("a coinbase gets the subsidy and then the fees", "regtest")
     paid, looks = with_a_fee(rows, 7_000_000_000)
     gets = at(paid, 0, runs(2, (10_000_000_000, SUBSIDY), (3_000_000_000, 2_000_000_000)))
-    rows.dump(Held(), gets, *looks, sat(15_000_000_000, "nowhere"), sat(3_000_000_001, place(paid, 5_000_000_001)))
+    rows.dump(
+        Held(),
+        gets,
+        *looks,
+        sat(15_000_000_000, "nowhere"),
+        sat(3_000_000_001, place(paid, 5_000_000_001)),
+    )
     rows.live("what a coinbase leaves is lost", "regtest")
     paid, looks = with_a_fee(rows, 6_000_000_000)
     gets = at(paid, 0, runs(2, (10_000_000_000, SUBSIDY), (3_000_000_000, 1_000_000_000)))
@@ -191,9 +248,16 @@ def satoshis(rows):
     rows.plain(2)
     spends = transaction([spend(plain(1))], [(4_000_000_000, SHORT)])
     rows.connects(plain(0), spends)
-    where = [sat(0, lost_place(0)), sat(SUBSIDY - 1, lost_place(SUBSIDY - 1)), sat(9_000_000_000, lost_place(SUBSIDY))]
+    where = [
+        sat(0, lost_place(0)),
+        sat(SUBSIDY - 1, lost_place(SUBSIDY - 1)),
+        sat(9_000_000_000, lost_place(SUBSIDY)),
+    ]
     where += [sat(9_999_999_999, lost_place(5_999_999_999)), sat(2 * SUBSIDY, place(plain(0), 0))]
-    dealt = [at(plain(0), 0, runs(2, (2 * SUBSIDY, SUBSIDY))), at(spends, 0, runs(2, (SUBSIDY, 4_000_000_000)))]
+    dealt = [
+        at(plain(0), 0, runs(2, (2 * SUBSIDY, SUBSIDY))),
+        at(spends, 0, runs(2, (SUBSIDY, 4_000_000_000))),
+    ]
     rows.dump(Held(6_000_000_000), *dealt, at(plain(1), 0, "none"), *where)
 
 
@@ -202,35 +266,74 @@ def refusals(rows):
     rows.plain(1)
     spends = [transaction([spend(plain(0))], [(SUBSIDY, script)]) for script in (SHORT, b"\x52")]
     rows.refuses(f"refused 8 2 0 {outpoint(plain(0))}", plain(1), *spends)
-    looks = [at(plain(0), 0, runs(0, (0, SUBSIDY))), at(plain(1), 0, "none"), at(spends[0], 0, "none")]
+    looks = [
+        at(plain(0), 0, runs(0, (0, SUBSIDY))),
+        at(plain(1), 0, "none"),
+        at(spends[0], 0, "none"),
+    ]
     rows.dump(Held(), *looks, sat(3, place(plain(0), 3)))
     rows.live("a transaction and a coinbase have no more than they may", "regtest")
     rows.plain(1)
-    rows.refuses("refused 9 1 5000000000 5000000001", plain(1), transaction([spend(plain(0))], [(SUBSIDY + 1, SHORT)]))
+    rows.refuses(
+        "refused 9 1 5000000000 5000000001",
+        plain(1),
+        transaction([spend(plain(0))], [(SUBSIDY + 1, SHORT)]),
+    )
     rows.refuses("refused 10 5000000000 5000000001", coinbase_to(1, [(SUBSIDY + 1, SHORT)]))
     rows.dump(Held(), *looks, sat(3, place(plain(0), 3)))
-    rows.live("an output that isn't there is told before what is spent too much: one named twice, and one that never was", "regtest")
+    rows.live(
+        "an output that isn't there is told before what is spent too much: one named twice, and"
+        " one that never was",
+        "regtest",
+    )
     rows.plain(1)
     for index, left in ((0, [(SUBSIDY, SHORT)]), (1, [(SUBSIDY, SHORT), (1, SHORT)])):
         names_it = transaction([spend(plain(0)), spend(plain(0), index)], [(4 * SUBSIDY, SHORT)])
         behind = transaction([spend(plain(0))], left)
         rows.refuses(f"refused 8 1 1 {outpoint(plain(0), index)}", plain(1), names_it, behind)
-        rows.dump(Held(), at(plain(0), 0, runs(0, (0, SUBSIDY))), at(names_it, 0, "none"), sat(3, place(plain(0), 3)))
-    rows.live("what a transaction has too much is told before what a coinbase has too much", "regtest")
+        rows.dump(
+            Held(),
+            at(plain(0), 0, runs(0, (0, SUBSIDY))),
+            at(names_it, 0, "none"),
+            sat(3, place(plain(0), 3)),
+        )
+    rows.live(
+        "what a transaction has too much is told before what a coinbase has too much", "regtest"
+    )
     rows.plain(1)
     greedy = transaction([spend(plain(0))], [(SUBSIDY, SHORT), (1, SHORT)])
-    rows.refuses("refused 9 1 5000000000 5000000001", coinbase_to(1, [(4 * SUBSIDY, SHORT)]), greedy)
-    rows.dump(Held(), at(plain(0), 0, runs(0, (0, SUBSIDY))), at(greedy, 0, "none"), sat(3, place(plain(0), 3)))
+    rows.refuses(
+        "refused 9 1 5000000000 5000000001", coinbase_to(1, [(4 * SUBSIDY, SHORT)]), greedy
+    )
+    rows.dump(
+        Held(),
+        at(plain(0), 0, runs(0, (0, SUBSIDY))),
+        at(greedy, 0, "none"),
+        sat(3, place(plain(0), 3)),
+    )
     rows.live("a coinbase has no more than the subsidy and the fees", "regtest")
     rows.plain(1)
     thrifty = transaction([spend(plain(0))], [(1, SHORT)])
-    rows.refuses("refused 10 9999999999 10000000000", coinbase_to(1, [(2 * SUBSIDY, SHORT)]), thrifty)
-    rows.dump(Held(), at(plain(0), 0, runs(0, (0, SUBSIDY))), at(thrifty, 0, "none"), sat(3, place(plain(0), 3)))
-    rows.live("coinbases stand first and alone: one with two inputs, a second one, and an index that isn't the greatest", "regtest")
+    rows.refuses(
+        "refused 10 9999999999 10000000000", coinbase_to(1, [(2 * SUBSIDY, SHORT)]), thrifty
+    )
+    rows.dump(
+        Held(),
+        at(plain(0), 0, runs(0, (0, SUBSIDY))),
+        at(thrifty, 0, "none"),
+        sat(3, place(plain(0), 3)),
+    )
+    rows.live(
+        "coinbases stand first and alone: one with two inputs, a second one, and an index that"
+        " isn't the greatest",
+        "regtest",
+    )
     null, named = (bytes(32), 2**32 - 1, b""), (bytes(32), 0, b"")
     lines = ("refused 7 0", "refused 7 1", f"refused 8 1 0 {64 * '0'}:0")
     for line, first, second in zip(lines, ([null, null], [null], [null]), (named, null, named)):
-        rows.refuses(line, transaction(first, [(SUBSIDY, SHORT)]), transaction([second], [(1, SHORT)]))
+        rows.refuses(
+            line, transaction(first, [(SUBSIDY, SHORT)]), transaction([second], [(1, SHORT)])
+        )
     rows.dump(Held(), sat(0, "nowhere"))
     rows.live("a root of other transactions is refused", "regtest")
     _, want = block_of(bytes(32), [plain(0)])
@@ -246,7 +349,11 @@ def last_height(rows):
         rows.connects(coinbase_to(height, [(SUBSIDY >> height // 10, SHORT)]))
     rows.refuses("refused 4 41", coinbase_to(41, [(0, SHORT)]))
     newest = coinbase_to(40, [(SUBSIDY >> 4, SHORT)])
-    rows.dump(Held(), at(newest, 0, runs(40, (93_750_000_000, 312_500_000))), sat(94_062_500_000, "nowhere"))
+    rows.dump(
+        Held(),
+        at(newest, 0, runs(40, (93_750_000_000, 312_500_000))),
+        sat(94_062_500_000, "nowhere"),
+    )
 
 
 # Inscriptions.
@@ -258,22 +365,34 @@ UNBOUND_FIELDS = f"type={b'text/plain'.hex()} body={b'hi'.hex()}"
 
 def pointers(rows):
     rows.live("pointers choose satoshis")
-    rows.plain(6)
-    values = ("b70b", "b80b", "000000000000000001", "e80300000000000000")
-    script = b"".join(envelope([(2, bytes.fromhex(value))]) for value in values)
-    tx = transaction([spend(plain(0), 0, script)], [(1_000, SHORT), (2_000, SHORT)])
-    rows.extend(tx)
+    tx = scenarios.chosen_by_pointers(rows)
     # bit 4: not the first envelope; bit 5: a pointer; bit 7: on a satoshi that bore one before
-    chosen = zip(values, (2_999, 0, 0, 1_000), (0x20, 0x30, 0xB0, 0x30))
-    inscriptions = [Inscription(tx, 6, number, marks, at_, f"pointer={value}") for at_, (value, number, marks) in enumerate(chosen)]
-    looks = [sat(0, place(tx, 0)), sat(1, place(tx, 1)), sat(1_000, place(tx, 0, 1)), sat(2_999, place(tx, 1_999, 1))]
-    dealt = [at(tx, 0, runs(6, (0, 1_000))), at(tx, 1, runs(6, (1_000, 2_000))), sat(3_000, lost_place(0))]
+    chosen = zip(POINTERS, (2_999, 0, 0, 1_000), (0x20, 0x30, 0xB0, 0x30))
+    inscriptions = [
+        Inscription(tx, 6, number, marks, at_, f"pointer={value}")
+        for at_, (value, number, marks) in enumerate(chosen)
+    ]
+    looks = [
+        sat(0, place(tx, 0)),
+        sat(1, place(tx, 1)),
+        sat(1_000, place(tx, 0, 1)),
+        sat(2_999, place(tx, 1_999, 1)),
+    ]
+    dealt = [
+        at(tx, 0, runs(6, (0, 1_000))),
+        at(tx, 1, runs(6, (1_000, 2_000))),
+        sat(3_000, lost_place(0)),
+    ]
     rows.dump(Held(4_999_997_000, inscriptions), *looks, *dealt)
     rows.live("an unknown even tag leaves an inscription unbound")
     rows.plain(6)
     tx = reveal(plain(0), UNBOUND)
     rows.extend(tx)
-    rows.dump(Held(0, [Inscription(tx, 6, None, 1, fields=UNBOUND_FIELDS)]), sat(0, place(tx, 0)), at(tx, 0, runs(6, (0, SUBSIDY))))
+    rows.dump(
+        Held(0, [Inscription(tx, 6, None, 1, fields=UNBOUND_FIELDS)]),
+        sat(0, place(tx, 0)),
+        at(tx, 0, runs(6, (0, SUBSIDY))),
+    )
 
 
 def parents(rows):
@@ -281,15 +400,17 @@ def parents(rows):
     rows.plain(6)
     first = reveal(plain(0), UNBOUND)
     rows.extend(first)
-    # P, then Q, which names P, and one that names Q
-    p = reveal(plain(1), envelope())
-    q_id = id_of(reveal(p))
-    q = reveal(p, envelope([(3, id_of(p))]) + envelope([(3, q_id)]))
-    rows.extend(p, q)
-    inscriptions = [Inscription(first, 6, None, 1, fields=UNBOUND_FIELDS), Inscription(p, 7, SUBSIDY)]
+    p, q = scenarios.parents(rows)
+    inscriptions = [
+        Inscription(first, 6, None, 1, fields=UNBOUND_FIELDS),
+        Inscription(p, 7, SUBSIDY),
+    ]
     inscriptions.append(Inscription(q, 7, SUBSIDY, 0x80, parents=[inscription(p)]))
     inscriptions.append(Inscription(q, 7, SUBSIDY, 0x90, 1))
-    ids = [look_up(f"id={inscription(*named)}", number) for number, named in enumerate([(first,), (p,), (q,), (q, 1)])]
+    ids = [
+        look_up(f"id={inscription(*named)}", number)
+        for number, named in enumerate([(first,), (p,), (q,), (q, 1)])
+    ]
     rows.dump(Held(0, inscriptions), sat(SUBSIDY, place(q, 0)), at(p, 0, "none"), *ids)
 
 
@@ -301,12 +422,23 @@ def fees(rows):
     two = reveal(plain(2), envelope())
     rows.connects(paid, one, two)
     inscriptions = [Inscription(two, 6, 2 * SUBSIDY), Inscription(one, 6, SUBSIDY, 8)]
-    looks = [sat(SUBSIDY, place(paid, SUBSIDY)), sat(2 * SUBSIDY, place(two, 0)), at(one, 0, runs(6, (0, SUBSIDY)))]
-    rows.dump(Held(0, inscriptions), *looks, at(paid, 0, runs(6, (6 * SUBSIDY, SUBSIDY), (SUBSIDY, SUBSIDY))))
+    looks = [
+        sat(SUBSIDY, place(paid, SUBSIDY)),
+        sat(2 * SUBSIDY, place(two, 0)),
+        at(one, 0, runs(6, (0, SUBSIDY))),
+    ]
+    rows.dump(
+        Held(0, inscriptions),
+        *looks,
+        at(paid, 0, runs(6, (6 * SUBSIDY, SUBSIDY), (SUBSIDY, SUBSIDY))),
+    )
 
 
 def marks(rows):
-    rows.live("envelopes are marked: an unknown even tag, not the first one, and on a satoshi that bore one before")
+    rows.live(
+        "envelopes are marked: an unknown even tag, not the first one, and on a satoshi that"
+        " bore one before"
+    )
     rows.plain(3)
     first = reveal(plain(0), 2 * envelope())
     rows.extend(first)
@@ -315,9 +447,18 @@ def marks(rows):
     rows.extend(even)
     last = reveal(plain(2), 2 * envelope())
     rows.extend(last)
-    inscriptions = [Inscription(first, 3, 0), Inscription(first, 3, 0, 0x90, 1), Inscription(even, 5, None, 1, fields=UNBOUND_FIELDS)]
+    inscriptions = [
+        Inscription(first, 3, 0),
+        Inscription(first, 3, 0, 0x90, 1),
+        Inscription(even, 5, None, 1, fields=UNBOUND_FIELDS),
+    ]
     inscriptions += [Inscription(last, 6, 2 * SUBSIDY), Inscription(last, 6, 2 * SUBSIDY, 0x90, 1)]
-    rows.dump(Held(0, inscriptions), sat(0, place(first, 0)), sat(1, place(first, 1)), sat(2 * SUBSIDY + 1, place(last, 1)))
+    rows.dump(
+        Held(0, inscriptions),
+        sat(0, place(first, 0)),
+        sat(1, place(first, 1)),
+        sat(2 * SUBSIDY + 1, place(last, 1)),
+    )
 
 
 def moves(rows):
@@ -335,7 +476,10 @@ def moves(rows):
 
 
 def finds(rows):
-    rows.live("the first of a shared id is found: an equal coinbase lets a transaction repeat with another witness")
+    rows.live(
+        "the first of a shared id is found: an equal coinbase lets a transaction repeat with"
+        " another witness"
+    )
     rows.connects(plain(0))
     tx = reveal(plain(0), envelope())
     rows.extend(tx)
@@ -344,34 +488,47 @@ def finds(rows):
     assert id_of(tx) == id_of(again)
     rows.extend(again)
     inscriptions = [Inscription(tx, 1, 0), Inscription(again, 3, None, 1, fields=UNBOUND_FIELDS)]
-    looks = [look_up(f"id={inscription(tx)}", 0), sat(0, lost_place(0)), at(tx, 0, runs(3, (2 * SUBSIDY, SUBSIDY)))]
+    looks = [
+        look_up(f"id={inscription(tx)}", 0),
+        sat(0, lost_place(0)),
+        at(tx, 0, runs(3, (2 * SUBSIDY, SUBSIDY))),
+    ]
     rows.dump(Held(SUBSIDY, inscriptions), *looks)
     rows.live("each inscription of a transaction is found")
     rows.plain(6)
     tx = reveal(plain(0), 2 * envelope())
     rows.extend(tx)
-    ids = [look_up(f"id={inscription(tx, index)}", number) for index, number in enumerate((0, 1, None))]
+    ids = [
+        look_up(f"id={inscription(tx, index)}", number) for index, number in enumerate((0, 1, None))
+    ]
     rows.dump(Held(0, [Inscription(tx, 6, 0), Inscription(tx, 6, 0, 0x90, 1)]), *ids)
 
 
 # Runes.
 
-# premine 7, cap 10, amount 5, no name
-ETCHES = "6a5d0802030607080a0a05"
 FROM_ETCHES = terms(5, 10)
-TEN = "6a5d040201060a"
 
 
 def runes_of_mainnet():
     """The runes of mainnet before its first block."""
-    rune = Rune(1, 0, bytes(32), name=2_055_900_680_524_219_742, terms=terms(1, 2**128 - 1, 840_000, 1_050_000))
+    rune = Rune(
+        1,
+        0,
+        bytes(32),
+        name=2_055_900_680_524_219_742,
+        terms=terms(1, 2**128 - 1, 840_000, 1_050_000),
+    )
     rune.shape = "spacers 128 divisibility 0 symbol ⧉"
     return [rune]
 
 
 def mainnet(rows):
     rows.live("mainnet begins with a rune", "mainnet")
-    looks = [look_up("rune=1:0", 0), look_up("name=2055900680524219742", 0), look_up("rune=0:1", None)]
+    looks = [
+        look_up("rune=1:0", 0),
+        look_up("name=2055900680524219742", 0),
+        look_up("rune=0:1", None),
+    ]
     rows.dump(Held(0, [], runes_of_mainnet()), *looks)
     rows.live("a chain of another profile begins with none", "regtest")
     rows.dump(Held(), look_up("rune=1:0", None), look_up("name=2055900680524219742", None))
@@ -381,8 +538,10 @@ def burns(rows):
     rows.live("a cenotaph burns what it mints")
     tx = etch(rows, ETCHES)
     rune = Rune(3, 1, id_of(tx), 7, gives=5, terms=FROM_ETCHES)
-    rows.dump(Held(0, [], [rune]), at(tx, 0, runs(3, (0, SUBSIDY), runes="3:1=7")), look_up("rune=3:1", 0))
-    cenotaph = carry(tx, "6a5d06140314017e00")
+    rows.dump(
+        Held(0, [], [rune]), at(tx, 0, runs(3, (0, SUBSIDY), runes="3:1=7")), look_up("rune=3:1", 0)
+    )
+    cenotaph = carry(tx, MINTS_AND_BURNS)
     rows.extend(cenotaph)
     rune = Rune(3, 1, id_of(tx), 7, burned=12, mints=1, gives=5, terms=FROM_ETCHES)
     rows.dump(Held(0, [], [rune]), at(tx, 0, "none"), at(cenotaph, 0, runs(4, (0, SUBSIDY))))
@@ -393,49 +552,64 @@ def burns(rows):
     rows.extend(moved)
     rune = Rune(3, 1, id_of(tx), 10, held=6, burned=4)
     stone = runs(4, script=bytes.fromhex("6a5d050003010401"))
-    rows.dump(Held(0, [], [rune]), at(moved, 0, runs(4, (0, SUBSIDY), runes="3:1=6")), at(moved, 1, stone))
+    rows.dump(
+        Held(0, [], [rune]), at(moved, 0, runs(4, (0, SUBSIDY), runes="3:1=6")), at(moved, 1, stone)
+    )
 
 
 def edicts(rows):
-    for stone, amounts in (("6a5d050003010004", (4, 3, 3)), ("6a5d050003010404", (4, 4, 2))):
-        rows.live(f"an edict splits a premine of 10 into {amounts[0]}, {amounts[1]} and {amounts[2]}")
-        tx = etch(rows, TEN)
-        dealt = transaction([spend(tx)], [(1, SHORT)] * 3 + [(0, bytes.fromhex(stone))])
-        rows.extend(dealt)
-        looks = [at(dealt, index, runs(4, (index, 1), runes=f"3:1={amount}")) for index, amount in enumerate(amounts)]
+    for stone, amounts in scenarios.SPLITS.items():
+        rows.live(
+            f"an edict splits a premine of 10 into {amounts[0]}, {amounts[1]} and {amounts[2]}"
+        )
+        tx, dealt = scenarios.edicts(rows, stone)
+        looks = [
+            at(dealt, index, runs(4, (index, 1), runes=f"3:1={amount}"))
+            for index, amount in enumerate(amounts)
+        ]
         rows.dump(Held(SUBSIDY - 3, [], [Rune(3, 1, id_of(tx), 10)]), *looks, sat(3, lost_place(0)))
 
 
 def names(rows):
     rows.live("a name takes a commitment that counts from its sixth block on")
-    rows.plain(4)
-    taproots = coinbase_to(4, [(SUBSIDY // 2, TAPROOT)] * 2)
-    rows.connects(taproots)
-    rows.plain(8)
-    stone, commits = bytes.fromhex("6a5d09020104cec8b6a9e802"), bytes.fromhex("054ea42d8516")
-    etches = [transaction([spend(taproots, index, commits)], [(SUBSIDY // 2, SHORT), (0, stone)]) for index in (0, 1)]
-    rows.extend(etches[0])
-    rows.dump(Held(), look_up("name=96723641422", None), look_up("rune=8:1", None))
-    rows.extend(etches[1])
-    rune = Rune(9, 1, id_of(etches[1]), name=96_723_641_422)
-    rows.dump(Held(0, [], [rune]), look_up("name=96723641422", 0), look_up("rune=9:1", 0), look_up("rune=8:1", None))
+    name, young, counts = "name=96723641422", "rune=8:1", "rune=9:1"
+
+    def early(tx):
+        rows.dump(Held(), look_up(name, None), look_up(young, None))
+
+    def late(tx):
+        rune = Rune(9, 1, id_of(tx), name=96_723_641_422)
+        rows.dump(Held(0, [], [rune]), look_up(name, 0), look_up(counts, 0), look_up(young, None))
+
+    scenarios.names(rows, early, late)
 
 
 def coinbases(rows):
     rows.live("displaced balances are burned", "regtest")
     five = coinbase_to(3, [(SUBSIDY, SHORT), (0, bytes.fromhex("6a5d0402010605"))])
     rows.connects(five)
-    rows.dump(Held(0, [], [Rune(0, 0, id_of(five), 5)]), at(five, 0, runs(0, (0, SUBSIDY), runes="0:0=5")))
+    rows.dump(
+        Held(0, [], [Rune(0, 0, id_of(five), 5)]), at(five, 0, runs(0, (0, SUBSIDY), runes="0:0=5"))
+    )
     rows.connects(five)
     runes = [Rune(0, 0, id_of(five), 5, burned=5), Rune(1, 0, id_of(five), 5)]
-    rows.dump(Held(SUBSIDY, [], runes), at(five, 0, runs(1, (SUBSIDY, SUBSIDY), runes="1:0=5")), sat(0, lost_place(0)))
-    rows.live("a coinbase etches what its block mints, and its outputs get theirs at the block's end")
+    rows.dump(
+        Held(SUBSIDY, [], runes),
+        at(five, 0, runs(1, (SUBSIDY, SUBSIDY), runes="1:0=5")),
+        sat(0, lost_place(0)),
+    )
+    rows.live(
+        "a coinbase etches what its block mints, and its outputs get theirs at the block's end"
+    )
     rows.plain(3)
     mints = carry(plain(0), "6a5d0414031400")
     etches = coinbase_to(3, [(SUBSIDY, SHORT), (0, bytes.fromhex(ETCHES))])
     rows.connects(etches, mints)
     rune = Rune(3, 0, id_of(etches), 7, mints=1, gives=5, terms=FROM_ETCHES)
-    looks = [at(mints, 0, runs(3, (0, SUBSIDY), runes="3:0=5")), at(etches, 0, runs(3, (3 * SUBSIDY, SUBSIDY), runes="3:0=7"))]
+    looks = [
+        at(mints, 0, runs(3, (0, SUBSIDY), runes="3:0=5")),
+        at(etches, 0, runs(3, (3 * SUBSIDY, SUBSIDY), runes="3:0=7")),
+    ]
     rows.dump(Held(0, [], [rune]), *looks)
 
 
@@ -443,26 +617,42 @@ def coinbases(rows):
 
 
 class Full:
-    """A chain of four blocks, whose last etches a premine of 10, and a block on it that does all at once."""
+    """A chain of four blocks, whose last etches a premine of 10, and a block on it that does all at
+    once."""
 
     def __init__(self, rows):
         self.rows, self.tx = rows, etch(rows, TEN)
-        # an envelope, an etching with a premine of 5, and an edict that gives 4 to the first output, which gets the rest too
+        # an envelope, an etching with a premine of 5, and an edict that gives 4 to the first
+        # output, which gets the rest too
         self.all = carry(self.tx, "6a5d09020106050003010400", envelope())
         self.rune = Rune(3, 1, id_of(self.tx), 10)
         self.named = [look_up(f"id={inscription(self.all)}", None), look_up("rune=4:1", None)]
-        self.named.append(look_up(f"name={RESERVED + (4 << 32) + 1}", None))
+        self.named.append(look_up(f"name={kept_name(4, 1)}", None))
 
     def before(self):
-        looks = [at(self.tx, 0, runs(3, (0, SUBSIDY), runes="3:1=10")), at(self.all, 0, "none"), at(plain(4), 0, "none")]
-        return Held(0, [], [self.rune]), [*looks, sat(0, place(self.tx, 0)), sat(4 * SUBSIDY, "nowhere"), *self.named]
+        looks = [
+            at(self.tx, 0, runs(3, (0, SUBSIDY), runes="3:1=10")),
+            at(self.all, 0, "none"),
+            at(plain(4), 0, "none"),
+        ]
+        return Held(0, [], [self.rune]), [
+            *looks,
+            sat(0, place(self.tx, 0)),
+            sat(4 * SUBSIDY, "nowhere"),
+            *self.named,
+        ]
 
     def after(self):
         whole = at(self.all, 0, runs(4, (0, SUBSIDY), runes="3:1=10 4:1=5"))
         looks = [at(self.tx, 0, "none"), whole, at(plain(4), 0, runs(4, (4 * SUBSIDY, SUBSIDY)))]
         held = Held(0, [Inscription(self.all, 4, 0)], [self.rune, Rune(4, 1, id_of(self.all), 5)])
         named = [look_up(word, number) for (word, _), number in zip(self.named, (0, 1, 1))]
-        return held, [*looks, sat(0, place(self.all, 0)), sat(4 * SUBSIDY, place(plain(4), 0)), *named]
+        return held, [
+            *looks,
+            sat(0, place(self.all, 0)),
+            sat(4 * SUBSIDY, place(plain(4), 0)),
+            *named,
+        ]
 
     def dump(self, side, **kept):
         held, looks = side
@@ -470,10 +660,15 @@ class Full:
 
 
 def refuse_a_full_block(rows):
-    rows.live("nothing stays of a refused block: it reveals, etches and moves runes, and its coinbase claims too much")
+    rows.live(
+        "nothing stays of a refused block: it reveals, etches and moves runes, and its coinbase"
+        " claims too much"
+    )
     full = Full(rows)
     full.dump(full.before())
-    rows.refuses("refused 10 5000000000 5000000001", coinbase_to(4, [(SUBSIDY + 1, SHORT)]), full.all)
+    rows.refuses(
+        "refused 10 5000000000 5000000001", coinbase_to(4, [(SUBSIDY + 1, SHORT)]), full.all
+    )
     full.dump(full.before())
     rows.extend(full.all)
     full.dump(full.after())
@@ -485,8 +680,16 @@ def refuse_a_full_block(rows):
 def keep_blocks(rows):
     rows.chain("a disconnect brings displaced satoshis back", 100, "regtest")
     rows.connects(plain(7))
-    first = [at(plain(7), 0, runs(0, (0, SUBSIDY))), sat(3, place(plain(7), 3)), sat(SUBSIDY, "nowhere")]
-    second = [at(plain(7), 0, runs(1, (SUBSIDY, SUBSIDY))), sat(3, lost_place(3)), sat(SUBSIDY, place(plain(7), 0))]
+    first = [
+        at(plain(7), 0, runs(0, (0, SUBSIDY))),
+        sat(3, place(plain(7), 3)),
+        sat(SUBSIDY, "nowhere"),
+    ]
+    second = [
+        at(plain(7), 0, runs(1, (SUBSIDY, SUBSIDY))),
+        sat(3, lost_place(3)),
+        sat(SUBSIDY, place(plain(7), 0)),
+    ]
     rows.dump(Held(), *first, kept=1)
     for _ in range(2):
         rows.connects(plain(7))
@@ -496,7 +699,9 @@ def keep_blocks(rows):
     rows.chain("no more blocks are kept than the depth", 1, "regtest")
     rows.row("disconnect", "refused 11")
     rows.plain(2)
-    rows.dump(Held(), sat(7, place(plain(0), 7)), at(plain(1), 0, runs(1, (SUBSIDY, SUBSIDY))), kept=1)
+    rows.dump(
+        Held(), sat(7, place(plain(0), 7)), at(plain(1), 0, runs(1, (SUBSIDY, SUBSIDY))), kept=1
+    )
     rows.disconnects()
     rows.row("disconnect", "refused 11")
     rows.dump(Held(), sat(7, place(plain(0), 7)), at(plain(1), 0, "none"), kept=0)
@@ -507,12 +712,18 @@ def all_back(rows):
     rows.plain(3)
     etches = carry(plain(0), ETCHES, envelope())
     # reveals, and burns by a cenotaph what it spends and mints
-    burning = carry(etches, "6a5d06140314017e00", envelope())
+    burning = carry(etches, MINTS_AND_BURNS, envelope())
     tail = runs(3, (0, SUBSIDY), runes="3:1=7")
     before = [at(etches, 0, "none"), at(burning, 0, "none"), sat(0, place(plain(0), 0))]
     first = [at(etches, 0, tail), at(burning, 0, "none"), sat(0, place(etches, 0))]
-    second = [at(etches, 0, "none"), at(burning, 0, runs(4, (0, SUBSIDY))), sat(0, place(burning, 0))]
-    one = Held(0, [Inscription(etches, 3, 0)], [Rune(3, 1, id_of(etches), 7, gives=5, terms=FROM_ETCHES)])
+    second = [
+        at(etches, 0, "none"),
+        at(burning, 0, runs(4, (0, SUBSIDY))),
+        sat(0, place(burning, 0)),
+    ]
+    one = Held(
+        0, [Inscription(etches, 3, 0)], [Rune(3, 1, id_of(etches), 7, gives=5, terms=FROM_ETCHES)]
+    )
     burned = Rune(3, 1, id_of(etches), 7, burned=12, mints=1, gives=5, terms=FROM_ETCHES)
     two = Held(0, [*one.inscriptions, Inscription(burning, 4, 0, 0x80)], [burned])
     rows.dump(Held(), *before, kept=3)
@@ -529,18 +740,36 @@ def all_back(rows):
 def both_ways(rows):
     rows.live("an equal coinbase is taken in, back, in again and back", "regtest")
     rows.connects(plain(7))
-    before = [at(plain(7), 0, runs(0, (0, SUBSIDY))), sat(0, place(plain(7), 0)), sat(SUBSIDY, "nowhere")]
-    after = [at(plain(7), 0, runs(1, (SUBSIDY, SUBSIDY))), sat(0, lost_place(0)), sat(SUBSIDY, place(plain(7), 0))]
+    before = [
+        at(plain(7), 0, runs(0, (0, SUBSIDY))),
+        sat(0, place(plain(7), 0)),
+        sat(SUBSIDY, "nowhere"),
+    ]
+    after = [
+        at(plain(7), 0, runs(1, (SUBSIDY, SUBSIDY))),
+        sat(0, lost_place(0)),
+        sat(SUBSIDY, place(plain(7), 0)),
+    ]
     rows.both((Held(), before), (Held(SUBSIDY), after), plain(7))
     rows.dump(Held(), *before)
     rows.live("inscriptions and runes are taken in, back, in again and back")
     rows.plain(3)
     etches = carry(plain(0), ETCHES, envelope())
-    looks = [at(plain(0), 0, runs(0, (0, SUBSIDY))), at(plain(2), 0, runs(2, (2 * SUBSIDY, SUBSIDY))), at(etches, 0, "none")]
+    looks = [
+        at(plain(0), 0, runs(0, (0, SUBSIDY))),
+        at(plain(2), 0, runs(2, (2 * SUBSIDY, SUBSIDY))),
+        at(etches, 0, "none"),
+    ]
     before = Held(), [*looks, sat(0, place(plain(0), 0)), at(plain(3), 0, "none")]
-    one = Held(0, [Inscription(etches, 3, 0)], [Rune(3, 1, id_of(etches), 7, gives=5, terms=FROM_ETCHES)])
+    one = Held(
+        0, [Inscription(etches, 3, 0)], [Rune(3, 1, id_of(etches), 7, gives=5, terms=FROM_ETCHES)]
+    )
     looks = [at(plain(0), 0, "none"), looks[1], at(etches, 0, runs(3, (0, SUBSIDY), runes="3:1=7"))]
-    after = one, [*looks, sat(0, place(etches, 0)), at(plain(3), 0, runs(3, (3 * SUBSIDY, SUBSIDY)))]
+    after = one, [
+        *looks,
+        sat(0, place(etches, 0)),
+        at(plain(3), 0, runs(3, (3 * SUBSIDY, SUBSIDY))),
+    ]
     rows.both(before, after, plain(3), etches)
     rows.dump(before[0], *before[1])
     rows.live("a block that reveals, etches and moves runes is taken in, back, in again and back")
@@ -551,16 +780,86 @@ def both_ways(rows):
     full.dump(full.after())
 
 
+def cancel_at_full_depth(rows):
+    rows.chain(
+        "a connect at full depth is cancelled, and the oldest of the kept blocks is kept again",
+        2,
+        "regtest",
+    )
+    rows.row("cancel disconnect", "refused 11")
+    rows.plain(3)
+    three = [at(plain(height), 0, runs(height, (height * SUBSIDY, SUBSIDY))) for height in range(3)]
+    for _ in range(2):
+        rows.cancels(plain(3))
+        rows.dump(Held(), *three, at(plain(3), 0, "none"), sat(3 * SUBSIDY, "nowhere"), kept=2)
+    refused = block_of(rows.tip(), [coinbase_to(3, [(SUBSIDY + 1, SHORT)])])[0]
+    rows.row(f"cancel block {refused.hex()}", "refused 10 5000000000 5000000001")
+    rows.disconnects()
+    rows.disconnects()
+    rows.row("disconnect", "refused 11")
+    rows.dump(Held(), three[0], at(plain(1), 0, "none"), at(plain(2), 0, "none"), kept=0)
+    rows.chain(
+        "a disconnect is cancelled, and the block that it took back is kept again", 2, "regtest"
+    )
+    rows.plain(3)
+    for _ in range(2):
+        rows.cancels_a_disconnect()
+        rows.dump(Held(), *three, sat(3 * SUBSIDY - 1, place(plain(2), SUBSIDY - 1)), kept=2)
+    rows.disconnects()
+    rows.cancels_a_disconnect()
+    rows.dump(Held(), *three[:2], at(plain(2), 0, "none"), sat(2 * SUBSIDY, "nowhere"), kept=1)
+    rows.disconnects()
+    rows.row("cancel disconnect", "refused 11")
+    rows.dump(Held(), three[0], at(plain(1), 0, "none"), kept=0)
+
+
+def cancel_others(rows):
+    rows.chain(
+        "a connect of an equal coinbase is cancelled, and so is its disconnect", 100, "regtest"
+    )
+    rows.connects(plain(7))
+    first = [
+        at(plain(7), 0, runs(0, (0, SUBSIDY))),
+        sat(3, place(plain(7), 3)),
+        sat(SUBSIDY, "nowhere"),
+    ]
+    second = [
+        at(plain(7), 0, runs(1, (SUBSIDY, SUBSIDY))),
+        sat(3, lost_place(3)),
+        sat(SUBSIDY, place(plain(7), 0)),
+    ]
+    rows.cancels(plain(7))
+    rows.dump(Held(), *first, kept=1)
+    rows.connects(plain(7))
+    rows.dump(Held(SUBSIDY), *second, kept=2)
+    rows.cancels_a_disconnect()
+    rows.dump(Held(SUBSIDY), *second, kept=2)
+    rows.disconnects()
+    rows.dump(Held(), *first, kept=1)
+    rows.chain("a block with an inscription and runes is cancelled both ways, with one kept", 1)
+    full = Full(rows)
+    rows.cancels(plain(4), full.all)
+    full.dump(full.before(), kept=1)
+    rows.extend(full.all)
+    full.dump(full.after(), kept=1)
+    rows.cancels_a_disconnect()
+    full.dump(full.after(), kept=1)
+    rows.disconnects()
+    full.dump(full.before(), kept=0)
+
+
 def burn_and_take_back(rows):
     rows.chain("a disconnect takes back what a cenotaph minted and burned", 100)
     etches = etch(rows, ETCHES)
     first = Held(0, [], [Rune(3, 1, id_of(etches), 7, gives=5, terms=FROM_ETCHES)])
     looks = [at(etches, 0, runs(3, (0, SUBSIDY), runes="3:1=7")), look_up("rune=3:1", 0)]
     rows.dump(first, *looks, kept=4)
-    cenotaph = carry(etches, "6a5d06140314017e00")
+    cenotaph = carry(etches, MINTS_AND_BURNS)
     rows.extend(cenotaph)
     rune = Rune(3, 1, id_of(etches), 7, burned=12, mints=1, gives=5, terms=FROM_ETCHES)
-    rows.dump(Held(0, [], [rune]), at(etches, 0, "none"), at(cenotaph, 0, runs(4, (0, SUBSIDY))), kept=5)
+    rows.dump(
+        Held(0, [], [rune]), at(etches, 0, "none"), at(cenotaph, 0, runs(4, (0, SUBSIDY))), kept=5
+    )
     rows.disconnects()
     rows.dump(first, *looks, at(cenotaph, 0, "none"), kept=4)
     rows.chain("no more blocks are taken back than are kept", 2, "regtest")
@@ -576,7 +875,12 @@ def spend_twice_behind_two(rows):
     rows.plain(2)
     spends = [transaction([spend(plain(0))], [(value, SHORT)]) for value in (SUBSIDY, SUBSIDY - 1)]
     rows.refuses(f"refused 8 2 0 {outpoint(plain(0))}", plain(2), *spends)
-    rows.dump(Held(), at(plain(0), 0, runs(0, (0, SUBSIDY))), at(plain(1), 0, runs(1, (SUBSIDY, SUBSIDY))), at(spends[0], 0, "none"))
+    rows.dump(
+        Held(),
+        at(plain(0), 0, runs(0, (0, SUBSIDY))),
+        at(plain(1), 0, runs(1, (SUBSIDY, SUBSIDY))),
+        at(spends[0], 0, "none"),
+    )
 
 
 def bring_balances_back(rows):
@@ -588,13 +892,20 @@ def bring_balances_back(rows):
     rows.dump(first, look, kept=1)
     rows.connects(five)
     runes = [Rune(0, 0, id_of(five), 5, burned=5), Rune(1, 0, id_of(five), 5)]
-    rows.dump(Held(SUBSIDY, [], runes), at(five, 0, runs(1, (SUBSIDY, SUBSIDY), runes="1:0=5")), look_up("rune=1:0", 1), kept=2)
+    rows.dump(
+        Held(SUBSIDY, [], runes),
+        at(five, 0, runs(1, (SUBSIDY, SUBSIDY), runes="1:0=5")),
+        look_up("rune=1:0", 1),
+        kept=2,
+    )
     rows.disconnects()
     rows.dump(first, look, look_up("rune=1:0", None), kept=1)
 
 
 def runs_that_fall(rows):
-    rows.live("an output of 5,000,000,000 satoshis has two runs that fall, each with an inscription")
+    rows.live(
+        "an output of 5,000,000,000 satoshis has two runs that fall, each with an inscription"
+    )
     rows.plain(6)
     far, near = (place.to_bytes(5, "little") for place in (6_000_000_000, 3_000_000_000))
     half = SUBSIDY // 2
@@ -604,8 +915,14 @@ def runs_that_fall(rows):
     # bit 4: not the first envelope of its input; bit 5: a pointer
     inscriptions = [Inscription(tx, 6, 1_000_000_000, 0x20, 0, f"pointer={far.hex()}")]
     inscriptions.append(Inscription(tx, 6, 8_000_000_000, 0x30, 1, f"pointer={near.hex()}"))
-    looks = [at(tx, 1, runs(6, (7_500_000_000, half), (0, half))), sat(1_000_000_000, place(tx, 3_500_000_000, 1))]
-    looks += [sat(8_000_000_000, place(tx, 500_000_000, 1)), sat(1_000_000_001, place(tx, 3_500_000_001, 1))]
+    looks = [
+        at(tx, 1, runs(6, (7_500_000_000, half), (0, half))),
+        sat(1_000_000_000, place(tx, 3_500_000_000, 1)),
+    ]
+    looks += [
+        sat(8_000_000_000, place(tx, 500_000_000, 1)),
+        sat(1_000_000_001, place(tx, 3_500_000_001, 1)),
+    ]
     rows.dump(Held(0, inscriptions), *looks)
 
 
@@ -621,7 +938,8 @@ def words_alone(rows):
 
 
 def sides(before, after, *looks):
-    """What an index holds and what is looked up in it, before a block and after it. A look is one before and one after."""
+    """What an index holds and what is looked up in it, before a block and after it. A look is one
+    before and one after."""
     return (before, [look for look, _ in looks]), (after, [look for _, look in looks])
 
 
@@ -631,8 +949,8 @@ def at_both(tx, index, before, after):
 
 
 def leads_by_its_change(rows, what, make, profile="lab"):
-    """A block is taken in, back, in again and back by its change. `make` puts the blocks before it, and answers what there is
-    before it, what there is after it, and its transactions."""
+    """A block is taken in, back, in again and back by its change. `make` puts the blocks before it,
+    and answers what there is before it, what there is after it, and its transactions."""
     rows.live(f"{what}: taken in, back, in again and back", profile)
     before, after, txs = make(rows)
     rows.both(before, after, *txs)
@@ -659,7 +977,6 @@ def leads(rows, what, make, profile="lab"):
 
 # a mint of 3:1, alone, with what makes a cenotaph, and with an edict that gives 4 of it to output 1
 MINTS = "6a5d0414031401"
-MINTS_AND_BURNS = "6a5d06140314017e00"
 MINTS_AND_GIVES = "6a5d09140314010003010401"
 RETURN = b"\x6a"
 
@@ -670,22 +987,33 @@ def etched_by(tx, **counts):
 
 
 def etch_and_mint_at_once(rows):
-    rows.live("a rune isn't minted where it is etched, and below the height at which runes start none is read")
+    rows.live(
+        "a rune isn't minted where it is etched, and below the height at which runes start none"
+        " is read"
+    )
     rows.plain(1)
     # etches as ETCHES does, and mints 3:1
     stone = "6a5d0c02030607080a0a0514031401"
     early = carry(plain(0), stone)
     rows.extend(early)
-    rows.dump(Held(), at(early, 0, runs(1, (0, SUBSIDY))), look_up("rune=1:1", None), look_up("rune=3:1", None))
+    rows.dump(
+        Held(),
+        at(early, 0, runs(1, (0, SUBSIDY))),
+        look_up("rune=1:1", None),
+        look_up("rune=3:1", None),
+    )
     rows.plain(3)
     tx = carry(early, stone)
     rows.extend(tx)
     whole = at(tx, 0, runs(3, (0, SUBSIDY), runes="3:1=7"))
-    rows.dump(Held(0, [], [etched_by(tx)]), whole, look_up("rune=1:1", None), look_up("rune=3:1", 0))
+    rows.dump(
+        Held(0, [], [etched_by(tx)]), whole, look_up("rune=1:1", None), look_up("rune=3:1", 0)
+    )
 
 
 def return_alone(rows):
-    """No output can hold the runes. Before that one behind an OP_RETURN gets them, without a runestone."""
+    """No output can hold the runes. Before that one behind an OP_RETURN gets them, without a
+    runestone."""
     etches = etch(rows, ETCHES)
     passes = transaction([spend(etches)], [(0, RETURN), (SUBSIDY, SHORT)])
     rows.extend(passes)
@@ -693,12 +1021,15 @@ def return_alone(rows):
     looks = [at_both(passes, 0, *2 * [runs(4, script=RETURN)])]
     looks.append(at_both(passes, 1, runs(4, (0, SUBSIDY), runes="3:1=7"), "none"))
     looks.append(at_both(burning, 0, "none", runs(5, (0, SUBSIDY), script=RETURN)))
-    before, after = sides(Held(0, [], [etched_by(etches)]), Held(0, [], [etched_by(etches, burned=7)]), *looks)
+    before, after = sides(
+        Held(0, [], [etched_by(etches)]), Held(0, [], [etched_by(etches, burned=7)]), *looks
+    )
     return before, after, [plain(5), burning]
 
 
 def spent_by(etches, outputs, looks, lost=0, **counts):
-    """A block of height 4 that spends what ETCHES etched into these outputs, of which these looks tell before and after."""
+    """A block of height 4 that spends what ETCHES etched into these outputs, of which these looks
+    tell before and after."""
     tx = transaction([spend(etches)], outputs)
     spent = at_both(etches, 0, runs(3, (0, SUBSIDY), runes="3:1=7"), "none")
     made = [at_both(tx, index, "none", after) for index, after in enumerate(looks)]
@@ -709,13 +1040,20 @@ def spent_by(etches, outputs, looks, lost=0, **counts):
 def two_stones(rows):
     etches = etch(rows, ETCHES)
     stones = [(0, bytes.fromhex(stone)) for stone in (MINTS, MINTS_AND_BURNS)]
-    looks = [runs(4, (0, SUBSIDY), runes="3:1=12"), *(runs(4, script=script) for _, script in stones)]
+    looks = [
+        runs(4, (0, SUBSIDY), runes="3:1=12"),
+        *(runs(4, script=script) for _, script in stones),
+    ]
     return spent_by(etches, [(SUBSIDY, SHORT), *stones], looks, mints=1)
 
 
 def mint_and_give(rows):
     etches, stone = etch(rows, ETCHES), bytes.fromhex(MINTS_AND_GIVES)
-    looks = [runs(4, (0, 1), runes="3:1=8"), runs(4, (1, SUBSIDY - 1), runes="3:1=4"), runs(4, script=stone)]
+    looks = [
+        runs(4, (0, 1), runes="3:1=8"),
+        runs(4, (1, SUBSIDY - 1), runes="3:1=4"),
+        runs(4, script=stone),
+    ]
     return spent_by(etches, [(1, SHORT), (SUBSIDY - 1, SHORT), (0, stone)], looks, mints=1)
 
 
@@ -730,7 +1068,11 @@ def mint_without_inputs(rows):
     etches, tx = etch(rows, ETCHES), carry(plain(1), MINTS_AND_BURNS)
     looks = [at_both(etches, 0, *2 * [runs(3, (0, SUBSIDY), runes="3:1=7")])]
     looks += [at_both(tx, 0, "none", runs(4, (SUBSIDY, SUBSIDY)))]
-    before, after = sides(Held(0, [], [etched_by(etches)]), Held(0, [], [etched_by(etches, mints=1, burned=5)]), *looks)
+    before, after = sides(
+        Held(0, [], [etched_by(etches)]),
+        Held(0, [], [etched_by(etches, mints=1, burned=5)]),
+        *looks,
+    )
     return before, after, [plain(4), tx]
 
 
@@ -739,7 +1081,9 @@ def mint_by_a_coinbase(rows):
     paid = coinbase_to(4, [(SUBSIDY, SHORT), (0, bytes.fromhex(MINTS))])
     looks = [at_both(etches, 0, *2 * [runs(3, (0, SUBSIDY), runes="3:1=7")])]
     looks.append(at_both(paid, 0, "none", runs(4, (4 * SUBSIDY, SUBSIDY), runes="3:1=5")))
-    before, after = sides(Held(0, [], [etched_by(etches)]), Held(0, [], [etched_by(etches, mints=1)]), *looks)
+    before, after = sides(
+        Held(0, [], [etched_by(etches)]), Held(0, [], [etched_by(etches, mints=1)]), *looks
+    )
     return before, after, [paid]
 
 
@@ -751,7 +1095,7 @@ def etch_by_a_coinbase(rows):
     rune = Rune(3, 0, id_of(etches), 7, mints=1, gives=5, terms=FROM_ETCHES)
     looks = [at_both(mints, 0, "none", runs(3, (0, SUBSIDY), runes="3:0=5"))]
     looks.append(at_both(etches, 0, "none", runs(3, (3 * SUBSIDY, SUBSIDY), runes="3:0=7")))
-    for word in ("rune=3:0", f"name={RESERVED + (3 << 32)}"):
+    for word in ("rune=3:0", f"name={kept_name(3, 0)}"):
         looks.append((look_up(word, None), look_up(word, 0)))
     return *sides(Held(), Held(0, [], [rune]), *looks), [etches, mints]
 
@@ -770,11 +1114,18 @@ def a_thousand_outputs(rows):
 
 
 def five_again(rows):
-    """The first block of a regtest chain, a coinbase that etches a premine of 5; and what is looked up of it, before and
-    after an equal one."""
+    """The first block of a regtest chain, a coinbase that etches a premine of 5; and what is looked
+    up of it, before and after an equal one."""
     five = coinbase_to(3, [(SUBSIDY, SHORT), (0, bytes.fromhex("6a5d0402010605"))])
     rows.connects(five)
-    looks = [at_both(five, 0, runs(0, (0, SUBSIDY), runes="0:0=5"), runs(1, (SUBSIDY, SUBSIDY), runes="1:0=5"))]
+    looks = [
+        at_both(
+            five,
+            0,
+            runs(0, (0, SUBSIDY), runes="0:0=5"),
+            runs(1, (SUBSIDY, SUBSIDY), runes="1:0=5"),
+        )
+    ]
     looks.append((look_up("rune=1:0", None), look_up("rune=1:0", 1)))
     return five, looks
 
@@ -782,11 +1133,14 @@ def five_again(rows):
 def made_again(rows):
     five, looks = five_again(rows)
     runes = [Rune(0, 0, id_of(five), 5, burned=5), Rune(1, 0, id_of(five), 5)]
-    return *sides(Held(0, [], [Rune(0, 0, id_of(five), 5)]), Held(SUBSIDY, [], runes), *looks), [five]
+    return *sides(Held(0, [], [Rune(0, 0, id_of(five), 5)]), Held(SUBSIDY, [], runes), *looks), [
+        five
+    ]
 
 
 def spent_and_made_again(rows):
-    """A transaction spends the output of the coinbase before, which its block's coinbase makes again."""
+    """A transaction spends the output of the coinbase before, which its block's coinbase makes
+    again."""
     five, looks = five_again(rows)
     tx = reveal(five)
     looks.append(at_both(tx, 0, "none", runs(1, (0, SUBSIDY), runes="0:0=5")))
@@ -795,14 +1149,21 @@ def spent_and_made_again(rows):
 
 
 def displaced_by_nothing(rows):
-    """A coinbase mints what can be minted once, and an equal one comes after it, which mints nothing."""
+    """A coinbase mints what can be minted once, and an equal one comes after it, which mints
+    nothing."""
     etches = etch(rows, "6a5d080203060708010a05")
     paid = coinbase_to(9, [(SUBSIDY, SHORT), (0, bytes.fromhex(MINTS))])
     rows.connects(paid)
-    both = (Rune(3, 1, id_of(etches), 7, mints=1, gives=5, terms=terms(5, 1), burned=burned) for burned in (0, 5))
+    both = (
+        Rune(3, 1, id_of(etches), 7, mints=1, gives=5, terms=terms(5, 1), burned=burned)
+        for burned in (0, 5)
+    )
     before, after = (Held(lost, [], [rune]) for lost, rune in zip((0, SUBSIDY), both))
     of_both = runs(4, (4 * SUBSIDY, SUBSIDY), runes="3:1=5"), runs(5, (5 * SUBSIDY, SUBSIDY))
-    looks = [at_both(paid, 0, *of_both), at_both(etches, 0, *2 * [runs(3, (0, SUBSIDY), runes="3:1=7")])]
+    looks = [
+        at_both(paid, 0, *of_both),
+        at_both(etches, 0, *2 * [runs(3, (0, SUBSIDY), runes="3:1=7")]),
+    ]
     return *sides(before, after, *looks), [paid]
 
 
@@ -821,14 +1182,20 @@ def runes_both_ways(rows):
     leads(rows, "a coinbase etches what its block mints", etch_by_a_coinbase)
     leads(rows, "a thousand outputs hold runes", a_thousand_outputs)
     leads(rows, "an output is made again with other runes", made_again, "regtest")
-    leads(rows, "an output is spent and made again with other runes", spent_and_made_again, "regtest")
-    leads(rows, "an output that is made again burns what stood there, though nothing comes", displaced_by_nothing)
+    leads(
+        rows, "an output is spent and made again with other runes", spent_and_made_again, "regtest"
+    )
+    leads(
+        rows,
+        "an output that is made again burns what stood there, though nothing comes",
+        displaced_by_nothing,
+    )
     leads_in_a_chain(rows, "a block reveals, etches and moves runes", etch_and_move)
 
 
 def etch_in_a_row(rows, count):
-    """So many blocks from height 3 on, each of which etches a premine of 10 in the transaction that spends the output
-    before. The runes, and the last transaction."""
+    """So many blocks from height 3 on, each of which etches a premine of 10 in the transaction that
+    spends the output before. The runes, and the last transaction."""
     tx = etch(rows, TEN)
     runes = [Rune(3, 1, id_of(tx), 10)]
     for height in range(4, 3 + count):
@@ -867,45 +1234,64 @@ def several_runes(rows):
 
 
 def on_one_satoshi(tx, sat, first, count, marks):
-    """So many inscriptions of a transaction from this index on, on one satoshi. The first has these marks."""
+    """So many inscriptions of a transaction from this index on, on one satoshi. The first has these
+    marks."""
     # bit 4: not the first envelope of its input; bit 7: on a satoshi that bore one before
-    return [Inscription(tx, 6, sat, marks | (0x90 if at_ else 0), first + at_) for at_ in range(count)]
+    return [
+        Inscription(tx, 6, sat, marks | (0x90 if at_ else 0), first + at_) for at_ in range(count)
+    ]
 
 
 def many_in_the_fees(rows):
-    """Of each of two transactions the first input's inscriptions stay, and the second's go to the fees."""
+    """Of each of two transactions the first input's inscriptions stay, and the second's go to the
+    fees."""
     rows.plain(6)
     counts = (12, 13), (13, 12)
     txs = []
     for place, pair in enumerate(counts):
-        inputs = [spend(plain(2 * place + at_), 0, count * envelope()) for at_, count in enumerate(pair)]
+        inputs = [
+            spend(plain(2 * place + at_), 0, count * envelope()) for at_, count in enumerate(pair)
+        ]
         txs.append(transaction(inputs, [(SUBSIDY, SHORT)]))
     paid = coinbase_to(6, [(3 * SUBSIDY, SHORT)])
     # bit 3: not the first input
-    stay = [row for place, tx in enumerate(txs) for row in on_one_satoshi(tx, 2 * place * SUBSIDY, 0, counts[place][0], 0)]
+    stay = [
+        row
+        for place, tx in enumerate(txs)
+        for row in on_one_satoshi(tx, 2 * place * SUBSIDY, 0, counts[place][0], 0)
+    ]
     late = []
     for place, (tx, (first, second)) in enumerate(zip(txs, counts)):
         late += on_one_satoshi(tx, (2 * place + 1) * SUBSIDY, first, second, 8)
     assert (len(stay), len(late)) == (25, 25)
     gets = runs(6, *((height * SUBSIDY, SUBSIDY) for height in (6, 1, 3)))
     looks = [at_both(paid, 0, "none", gets)]
-    looks += [at_both(tx, 0, "none", runs(6, (2 * place * SUBSIDY, SUBSIDY))) for place, tx in enumerate(txs)]
+    looks += [
+        at_both(tx, 0, "none", runs(6, (2 * place * SUBSIDY, SUBSIDY)))
+        for place, tx in enumerate(txs)
+    ]
     return *sides(Held(), Held(0, stay + late), *looks), [paid, *txs]
 
 
 def fifty_parents(rows):
-    """An envelope names 50 ids, the first of them twice: 25 stand on its input, 12 elsewhere, and 12 nowhere."""
+    """An envelope names 50 ids, the first of them twice: 25 stand on its input, 12 elsewhere, and
+    12 nowhere."""
     rows.plain(6)
     first, other = reveal(plain(0), 25 * envelope()), reveal(plain(1), 12 * envelope())
     rows.extend(first, other)
     stand = [(first, 7 * at_ % 25) for at_ in range(25)]
     absent = [(other, at_) for at_ in range(12)] + [(first, 25 + at_) for at_ in range(12)]
-    named = [pair for at_, one in enumerate(stand) for pair in (one, *absent[at_ : at_ + 1])] + stand[:1]
+    named = [
+        pair for at_, one in enumerate(stand) for pair in (one, *absent[at_ : at_ + 1])
+    ] + stand[:1]
     assert len(named) == 50
     child = reveal(first, envelope([(3, id_value(id_of(tx), index)) for tx, index in named]))
     there = on_one_satoshi(first, 0, 0, 25, 0) + on_one_satoshi(other, SUBSIDY, 0, 12, 0)
     row = Inscription(child, 7, 0, 0x80, parents=[inscription(tx, index) for tx, index in stand])
-    looks = [at_both(first, 0, runs(6, (0, SUBSIDY)), "none"), at_both(child, 0, "none", runs(7, (0, SUBSIDY)))]
+    looks = [
+        at_both(first, 0, runs(6, (0, SUBSIDY)), "none"),
+        at_both(child, 0, "none", runs(7, (0, SUBSIDY))),
+    ]
     word = f"id={inscription(child)}"
     looks.append((look_up(word, None), look_up(word, 37)))
     return *sides(Held(0, there), Held(0, [*there, row]), *looks), [plain(7), child]
@@ -916,17 +1302,25 @@ def behind_an_annex(rows):
     rows.plain(6)
     tx = transaction([spend(plain(0), 0, envelope())], [(SUBSIDY, SHORT)], annex=b"\x50")
     rows.extend(tx)
-    rows.dump(Held(0, [Inscription(tx, 6, 0)]), sat(0, place(tx, 0)), at(tx, 0, runs(6, (0, SUBSIDY))))
+    rows.dump(
+        Held(0, [Inscription(tx, 6, 0)]), sat(0, place(tx, 0)), at(tx, 0, runs(6, (0, SUBSIDY)))
+    )
 
 
 def unbound_past_the_sum(rows):
-    """The first envelope's satoshi goes to the fees, which the coinbase leaves. The second has an unknown even tag and a
-    pointer past all satoshis, and is on none."""
+    """The first envelope's satoshi goes to the fees, which the coinbase leaves. The second has an
+    unknown even tag and a pointer past all satoshis, and is on none."""
     rows.plain(6)
     script = envelope() + envelope([(0x42, b"x"), (2, 8 * b"\xff")])
     tx = transaction([spend(plain(0)), spend(plain(1), 0, script)], [(SUBSIDY, SHORT)])
-    held = Held(SUBSIDY, [Inscription(tx, 6, None, 0x39, 1, f"pointer={16 * 'f'}"), Inscription(tx, 6, SUBSIDY, 8)])
-    looks = [at_both(tx, 0, "none", runs(6, (0, SUBSIDY))), (sat(SUBSIDY, place(plain(1), 0)), sat(SUBSIDY, lost_place(0)))]
+    held = Held(
+        SUBSIDY,
+        [Inscription(tx, 6, None, 0x39, 1, f"pointer={16 * 'f'}"), Inscription(tx, 6, SUBSIDY, 8)],
+    )
+    looks = [
+        at_both(tx, 0, "none", runs(6, (0, SUBSIDY))),
+        (sat(SUBSIDY, place(plain(1), 0)), sat(SUBSIDY, lost_place(0))),
+    ]
     return *sides(Held(), held, *looks), [plain(6), tx]
 
 
@@ -940,7 +1334,10 @@ def named_twice(rows):
     there = [Inscription(first, 6, 0), Inscription(first, 6, None, 0x11, 1)]
     row = Inscription(child, 7, 0, 0x80, parents=[inscription(first)])
     words = [f"id={inscription(tx, index)}" for tx, index in ((first, 0), (first, 1), (child, 0))]
-    looks = [(look_up(word, before), look_up(word, number)) for number, (word, before) in enumerate(zip(words, (0, 1, None)))]
+    looks = [
+        (look_up(word, before), look_up(word, number))
+        for number, (word, before) in enumerate(zip(words, (0, 1, None)))
+    ]
     looks.append((sat(0, place(first, 0)), sat(0, place(child, 0))))
     return *sides(Held(0, there), Held(0, [*there, row]), *looks), [plain(7), child]
 
@@ -951,7 +1348,9 @@ def repeated(rows):
     assert id_of(first) == id_of(again)
     for txs in ([plain(0)], [plain(1), first], [plain(0)]):
         rows.connects(*txs)
-    one, two = Inscription(first, 1, 0), Inscription(again, 3, 2 * SUBSIDY + 1, 0x20, fields="pointer=01")
+    one, two = Inscription(first, 1, 0), Inscription(
+        again, 3, 2 * SUBSIDY + 1, 0x20, fields="pointer=01"
+    )
     looks = [2 * (look_up(f"id={inscription(first)}", 0),)]
     looks.append(at_both(first, 0, runs(1, (0, SUBSIDY)), runs(3, (2 * SUBSIDY, SUBSIDY))))
     looks.append((sat(0, place(first, 0)), sat(0, lost_place(0))))
@@ -961,16 +1360,24 @@ def repeated(rows):
 def inscriptions_both_ways(rows):
     leads(rows, "of fifty inscriptions one half goes to the fees", many_in_the_fees)
     leads(rows, "an envelope names fifty parents", fifty_parents)
-    leads(rows, "an unbound inscription whose pointer passes the sum doesn't go to the fees", unbound_past_the_sum)
+    leads(
+        rows,
+        "an unbound inscription whose pointer passes the sum doesn't go to the fees",
+        unbound_past_the_sum,
+    )
     leads(rows, "a parent is named twice, and one is unbound", named_twice)
     leads(rows, "a transaction is repeated", repeated)
     # behind the last of these its blocks are taken back as well
-    for kept, look, held in ((2, 0, Held(0, [Inscription(reveal(plain(0), envelope()), 1, 0)])), (1, None, Held())):
+    for kept, look, held in (
+        (2, 0, Held(0, [Inscription(reveal(plain(0), envelope()), 1, 0)])),
+        (1, None, Held()),
+    ):
         rows.disconnects()
         rows.dump(held, look_up(f"id={inscription(reveal(plain(0)))}", look), kept=kept)
 
 
 # Commitments to witnesses.
+
 
 def lone_commitments(rows):
     """Blocks of a coinbase alone, whose witness root is 32 zero bytes."""
@@ -980,9 +1387,9 @@ def lone_commitments(rows):
         "its last byte is another": committing(0, wrong),
         "the coinbase is marked, and there is none": committing(0),
         "there is no reserved value": committing(0, right, items=()),
-        "there are two": committing(0, right, items=(ZEROS, ZEROS)),
-        "the reserved value has 31 bytes": committing(0, right, items=(ZEROS[1:],)),
-        "it has 33 bytes": committing(0, right, items=(ZEROS + b"\0",)),
+        "there are two": committing(0, right, items=(RESERVED, RESERVED)),
+        "the reserved value has 31 bytes": committing(0, right, items=(RESERVED[1:],)),
+        "it has 33 bytes": committing(0, right, items=(RESERVED + b"\0",)),
         "it is another": committing(0, right, items=(sevens,)),
         "the first of two is right": committing(0, right, wrong),
         "it has 37 bytes": committing(0, right[:-1]),
@@ -1010,24 +1417,33 @@ def commitments_to_others(rows):
     rows.live("a commitment is over the whole forms, and stands in the coinbase", "regtest")
     rows.plain(2)
     others = reveal(plain(0), SHORT), reveal(plain(1))
-    sevens, row = 32 * b"\7", root([ZEROS, *(twice(whole) for _, whole in others)])
-    stripped = COMMITS + twice(root([ZEROS, *map(id_of, others)]) + ZEROS)
+    sevens, row = 32 * b"\7", root([bytes(32), *(twice(whole) for _, whole in others)])
+    stripped = COMMITS + twice(root([bytes(32), *map(id_of, others)]) + RESERVED)
     rows.refuses("refused 12", plain(2), *others)
     rows.refuses("refused 12", committing(2, stripped), *others)
-    rows.refuses("refused 12", committing(2, COMMITS + twice(sevens + row), items=(sevens,)), *others)
+    rows.refuses(
+        "refused 12", committing(2, COMMITS + twice(sevens + row), items=(sevens,)), *others
+    )
     rows.refuses("refused 12", committing(2, commitment(*others)), *reversed(others))
     elsewhere = transaction([spend(plain(1))], [(SUBSIDY, SHORT), (0, commitment(others[0]))])
     rows.refuses("refused 12", plain(2), others[0], elsewhere)
     coinbase = committing(2, commitment(*others))
     rows.connects(coinbase, *others)
-    looks = [at(other, 0, runs(2, (number * SUBSIDY, SUBSIDY))) for number, other in enumerate(others)]
+    looks = [
+        at(other, 0, runs(2, (number * SUBSIDY, SUBSIDY))) for number, other in enumerate(others)
+    ]
     rows.dump(Held(1), *looks, at(coinbase, 0, runs(2, (2 * SUBSIDY, SUBSIDY - 1))))
-    rows.extend(elsewhere := transaction([spend(others[1])], [(SUBSIDY, SHORT), (0, commitment(others[0]))]))
+    rows.extend(
+        elsewhere := transaction([spend(others[1])], [(SUBSIDY, SHORT), (0, commitment(others[0]))])
+    )
     rows.dump(Held(1), at(elsewhere, 0, runs(3, (SUBSIDY, SUBSIDY))))
     rows.live("every second of 2,000 transactions is marked", "regtest")
     first = coinbase_to(0, 1999 * [(SUBSIDY // 2000, SHORT)])
     rows.connects(first)
-    spends = [transaction([spend(first, index, SHORT if index % 2 else b"")], [(1, SHORT)]) for index in range(1999)]
+    spends = [
+        transaction([spend(first, index, SHORT if index % 2 else b"")], [(1, SHORT)])
+        for index in range(1999)
+    ]
     rows.connects(committing(1, commitment(*spends)), *spends)
 
 
@@ -1040,7 +1456,9 @@ def first_commitment(rows):
     def coinbase(height):
         return coinbase_to(height, [(subsidy(height), SHORT)])
 
-    rows.live("commitments are needed from a height on, and tested behind coinbases and before outputs")
+    rows.live(
+        "commitments are needed from a height on, and tested behind coinbases and before outputs"
+    )
     for height in range(29):
         rows.connects(coinbase(height))
     old, new, unknown = (reveal(coinbase(number), SHORT) for number in (0, 1, 40))
@@ -1056,10 +1474,44 @@ def first_commitment(rows):
     rows.dump(Held(), at(old, 0, runs(29, (0, SUBSIDY))), at(new, 0, runs(31, (SUBSIDY, SUBSIDY))))
 
 
-GROUPS = [satoshis, refusals, last_height, pointers, parents, fees, marks, moves, finds, mainnet, burns, edicts, names]
-GROUPS += [coinbases, refuse_a_full_block, keep_blocks, all_back, both_ways]
-GROUPS += [burn_and_take_back, spend_twice_behind_two, bring_balances_back, runs_that_fall, words_alone]
-GROUPS += [etch_and_mint_at_once, runes_both_ways, several_runes, behind_an_annex, inscriptions_both_ways]
+GROUPS = [
+    satoshis,
+    refusals,
+    last_height,
+    pointers,
+    parents,
+    fees,
+    marks,
+    moves,
+    finds,
+    mainnet,
+    burns,
+    edicts,
+    names,
+]
+GROUPS += [
+    coinbases,
+    refuse_a_full_block,
+    keep_blocks,
+    all_back,
+    both_ways,
+    cancel_at_full_depth,
+    cancel_others,
+]
+GROUPS += [
+    burn_and_take_back,
+    spend_twice_behind_two,
+    bring_balances_back,
+    runs_that_fall,
+    words_alone,
+]
+GROUPS += [
+    etch_and_mint_at_once,
+    runes_both_ways,
+    several_runes,
+    behind_an_annex,
+    inscriptions_both_ways,
+]
 GROUPS += [lone_commitments, commitments_to_others, first_commitment]
 
 

@@ -3,20 +3,23 @@
 
     python3 checks/kills.py [KILLS [SEED [PROGRAM]]]
 
-applies a feed of regtest blocks, most of them small and some of up to two million bytes, and of disconnects, one to about
-six blocks, to a store below out/ beside this script, and kills the program (SIGKILL, by the number of its own process):
-while it starts and opens the store, a random time after a random number of lines was shown, or as soon as file A grows by
-a large block. Then it tests that
+applies a feed of regtest blocks, most of them small and some of up to two million bytes, and of
+disconnects, one to about six blocks, to a store below out/ beside this script, and kills the
+program (SIGKILL, by the number of its own process): while it starts and opens the store, a random
+time after a random number of lines was shown, or as soon as file A grows by a large block. Then it
+tests that
 
-- `query /status` opens the store, which is as the lines shown left it, or as one line more did: its number of blocks, how
-  many of them are kept, and its newest block, which is the one that `fold regtest` shows after that many lines;
+- `query /status` opens the store, which is as the lines shown left it, or as one line more did: its
+  number of blocks, how many of them are kept, and its newest block, which is the one that `fold
+  regtest` shows after that many lines;
 - the lines that were shown, the last of them maybe in part, are those that `fold` shows;
 - file A begins with the bytes that docs/FORMATS.md says, and file B is one byte 00.
 
-The next `apply` goes on with the line behind. After fifty kills, or at the feed's end, a new store is begun. With KILLS
-(300 without a word) done it tells what the kills met and ends with `passed` and status 0. At the first test that fails it
-tells which, keeps the store, and ends with status 1. SEED is 1 and PROGRAM is crates/ox_main/out/ox_main without a word.
-What was written outlives a killed program even where the disk hasn't got it, so this tries no loss of power.
+The next `apply` goes on with the line behind. After fifty kills, or at the feed's end, a new store
+is begun. With KILLS (300 without a word) done it tells what the kills met and ends with `passed`
+and status 0. At the first test that fails it tells which, keeps the store, and ends with status 1.
+SEED is 1 and PROGRAM is crates/ox_main/out/ox_main without a word. What was written outlives a
+killed program even where the disk hasn't got it, so this tries no loss of power.
 """
 
 import collections
@@ -30,9 +33,9 @@ import tempfile
 import time
 
 from chain import DISCONNECT, SHORT, block_on, file_of, line_of, payload_of
+from tools.programs import TOP, proved_program
 
-HERE = pathlib.Path(__file__).resolve().parent
-PROGRAM = HERE.parent / "crates" / "ox_main" / "out" / "ox_main"
+PROGRAM = proved_program("ox_main")
 LINES = 1000
 DEPTH = 100
 KILLS_OF_A_STORE = 50
@@ -47,12 +50,14 @@ def demand(holds, what):
         raise Failed(what)
 
 
-# What a store tells of itself: how many blocks it has and keeps, and the newest one's hash as it is shown, or None.
+# What a store tells of itself: how many blocks it has and keeps, and the newest one's hash as it is
+# shown, or None.
 State = collections.namedtuple("State", "blocks kept tip")
 
 
 class Feed:
-    """A feed, where each line of it begins, what the store is before each, and what `fold` answers to it."""
+    """A feed, where each line of it begins, what the store is before each, and what `fold` answers
+    to it."""
 
     def __init__(self, program, top, chance):
         self.payloads, self.states = commands(chance)
@@ -63,7 +68,9 @@ class Feed:
                 feed.write(line_of(payload))
                 self.places.append(feed.tell())
         with open(self.path, "rb") as given:
-            shown = subprocess.run([program, top, "fold", "regtest"], check=True, stdin=given, stdout=subprocess.PIPE)
+            shown = subprocess.run(
+                [program, top, "fold", "regtest"], check=True, stdin=given, stdout=subprocess.PIPE
+            )
         self.answers = shown.stdout.splitlines(keepends=True)
         demand(len(self.answers) == LINES, "`fold` doesn't answer each line")
         for number, (answer, state) in enumerate(zip(self.answers, self.states[1:])):
@@ -71,7 +78,8 @@ class Feed:
 
 
 def commands(chance):
-    """The payloads of the feed's lines, none of which is refused, and the states before each and after the last."""
+    """The payloads of the feed's lines, none of which is refused, and the states before each and
+    after the last."""
     payloads, hashes, kept, states = [], [], 0, [State(0, 0, None)]
     while len(payloads) < LINES:
         if kept and chance.randrange(7) == 0:
@@ -103,7 +111,9 @@ def begin(program, folder):
     """An empty store in a folder that is made anew."""
     shutil.rmtree(folder, ignore_errors=True)
     folder.mkdir()
-    subprocess.run([program, folder, "init", "regtest", str(DEPTH)], check=True, stdout=subprocess.DEVNULL)
+    subprocess.run(
+        [program, folder, "init", "regtest", str(DEPTH)], check=True, stdout=subprocess.DEVNULL
+    )
 
 
 def wait_for(child, folder, when):
@@ -118,12 +128,14 @@ def wait_for(child, folder, when):
 
 
 def apply_and_kill(program, folder, feed, first, when):
-    """Applies the feed from this line on, waits for the moment and kills the program. Answers what it showed, and whether
-    it was still running."""
+    """Applies the feed from this line on, waits for the moment and kills the program. Answers what
+    it showed, and whether it was still running."""
     shown = folder / "shown"
     with open(feed.path, "rb", buffering=0) as given, open(shown, "wb") as taken:
         given.seek(feed.places[first])
-        child = subprocess.Popen([program, folder, "apply"], stdin=given, stdout=taken, stderr=subprocess.DEVNULL)
+        child = subprocess.Popen(
+            [program, folder, "apply"], stdin=given, stdout=taken, stderr=subprocess.DEVNULL
+        )
         wait_for(child, folder, when)
         child.kill()
         status = child.wait()
@@ -134,9 +146,13 @@ def apply_and_kill(program, folder, feed, first, when):
 def look(program, folder):
     """What the store tells of itself by `query`, and how long it took."""
     begun = time.perf_counter()
-    asked = subprocess.run([program, folder, "query", "/status"], stdout=subprocess.PIPE, stderr=subprocess.PIPE)
+    asked = subprocess.run(
+        [program, folder, "query", "/status"], stdout=subprocess.PIPE, stderr=subprocess.PIPE
+    )
     seconds = time.perf_counter() - begun
-    demand(asked.returncode == 0, f"`query` ended with {asked.returncode} and showed {asked.stdout}")
+    demand(
+        asked.returncode == 0, f"`query` ended with {asked.returncode} and showed {asked.stdout}"
+    )
     body = json.loads(asked.stdout)
     state = State(body.pop("blocks"), body.pop("kept"), body.pop("tip"))
     demand(body == {"depth": DEPTH, "profile": "regtest"}, f"`query` shows {body} besides {state}")
@@ -166,15 +182,19 @@ def moment(chance, feed, first, opening):
     kind = chance.randrange(5)
     if kind == 0:
         return Moment(0, False, chance.uniform(0, opening))
-    large = [n for n, payload in enumerate(feed.payloads[first : first + 50]) if len(payload) > 100_000]
+    large = [
+        n for n, payload in enumerate(feed.payloads[first : first + 50]) if len(payload) > 100_000
+    ]
     if kind == 1 and large:
         return Moment(large[0], True, 0)
-    return Moment(chance.randint(1, 20), False, chance.uniform(0, chance.choice([0.0002, 0.001, 0.005])))
+    return Moment(
+        chance.randint(1, 20), False, chance.uniform(0, chance.choice([0.0002, 0.001, 0.005]))
+    )
 
 
 def kill_once(program, folder, feed, before, when, met):
-    """Applies and kills once, and tests what is left. Answers how many lines the store has, and how long it took to open
-    it."""
+    """Applies and kills once, and tests what is left. Answers how many lines the store has, and how
+    long it took to open it."""
     shown, was_killed = apply_and_kill(program, folder, feed, before, when)
     answers = b"".join(feed.answers[before:])
     demand(answers.startswith(shown), "other lines were shown than `fold` shows")
@@ -184,7 +204,10 @@ def kill_once(program, folder, feed, before, when, met):
     count = before + lines
     unshown = state != feed.states[count]
     count += unshown
-    demand(count <= LINES and state == feed.states[count], f"{lines} lines were shown behind {before}, and there is {state}")
+    demand(
+        count <= LINES and state == feed.states[count],
+        f"{lines} lines were shown behind {before}, and there is {state}",
+    )
     behind = look_at_files(folder, feed, count)
     met["killed while it ran"] += was_killed
     met["killed before a line was shown"] += was_killed and not shown
@@ -212,12 +235,12 @@ def kill_often(program, top, kills, chance, met):
 
 def main():
     words = sys.argv[1:]
-    kills, seed = [int(word) for word in words[:2]] + [300, 1][len(words[:2]):]
+    kills, seed = [int(word) for word in words[:2]] + [300, 1][len(words[:2]) :]
     program = pathlib.Path(words[2]).resolve() if len(words) > 2 else PROGRAM
     if not program.exists():
         sys.exit(f"{program} isn't built")
     met = collections.Counter()
-    out = HERE / "out"
+    out = TOP / "checks" / "out"
     out.mkdir(exist_ok=True)
     top = pathlib.Path(tempfile.mkdtemp(dir=out))
     try:

@@ -1,15 +1,16 @@
 #!/usr/bin/env python3
-"""Runs the built program over real files and streams, and looks at its status, at what it shows and at the files' bytes.
+"""Runs the built program over real files and streams, and looks at its status, at what it shows and
+at the files' bytes.
 
     python3 checks/real_files.py [PROGRAM]
 
-No proof says which bytes a real file gives or takes, so this tries it: each subcommand, each status but 9, which would take
-4,611,686,018,427,387,904 bytes, the bytes of the files, satoshis among 500,000 outputs (checks/table.py),
-and fifty kills of a running `apply` (checks/kills.py). Each check
-has a new folder, below out/ beside this script, that is gone where it passed. A check that fails is told with its cause,
-and its folder stays. The last line says how many passed and how many failed, and the status is 1 where one failed.
-PROGRAM is crates/ox_main/out/ox_main without a word, which `rt ci` and `rt run` leave there. It takes half a minute to
-a minute and a half.
+No proof says which bytes a real file gives or takes, so this tries it: each subcommand, each status
+but 9, which would take 4,611,686,018,427,387,904 bytes, the bytes of the files, satoshis among
+500,000 outputs (checks/table.py), and fifty kills of a running `apply` (checks/kills.py). Each
+check has a new folder, below out/ beside this script, that is gone where it passed. A check that
+fails is told with its cause, and its folder stays. The last line says how many passed and how many
+failed, and the status is 1 where one failed. PROGRAM is crates/ox_main/out/ox_main without a word,
+which `rt ci` and `rt run` leave there. It takes half a minute to a minute and a half.
 """
 
 import collections
@@ -25,14 +26,16 @@ import sys
 import tempfile
 import traceback
 
-from chain import DISCONNECT, SHORT, SUBSIDY, block_of, block_with, chain, coinbase, commitment, committing, envelope, file_a
-from chain import file_of, id_value, line, payload_of, record, reveal_into, twice
+from chain import DISCONNECT, SHORT, block_of, block_with, chain, coinbase, commitment, committing
+from chain import envelope, file_a, file_of, id_value, line, payload_of, record, reveal_into
 from kills import Failed, demand, kill_often
 from table import BLOCKS, Table, outpoint, satoshi
+from tools.bitcoin import SUBSIDY, twice
+from tools.programs import TOP, proved_program
+from tools.runes import kept_name, name_of
 
-HERE = pathlib.Path(__file__).resolve().parent
-PROGRAM = HERE.parent / "crates" / "ox_main" / "out" / "ox_main"
-GENESIS = (HERE.parent / "feeds" / "genesis.feed").read_bytes()
+PROGRAM = proved_program("ox_main")
+GENESIS = (TOP / "feeds" / "genesis.feed").read_bytes()
 GENESIS_ANSWER = b"ok 0 000000000019d6689c085ae165831e934ff763ae46a2a6c172b3f1b60a8ce26f\n"
 KILLS = 50
 SEED = 1
@@ -66,14 +69,23 @@ class Ox:
     def run(self, *words, feed=b"", **how):
         """The status, and what was shown. The feed is bytes, or what `stdin` may be."""
         given = {"input": feed} if isinstance(feed, bytes) else {"stdin": feed}
-        how = {"stdout": subprocess.PIPE, "stderr": subprocess.DEVNULL, "timeout": SECONDS, **given, **how}
+        how = {
+            "stdout": subprocess.PIPE,
+            "stderr": subprocess.DEVNULL,
+            "timeout": SECONDS,
+            **given,
+            **how,
+        }
         ran = subprocess.run([self.program, self.folder, *words], **how)
         return ran.returncode, ran.stdout
 
     def wants(self, wanted, *words, **how):
         """Runs the program, which has to end with this status and show just this."""
         got = self.run(*words, **how)
-        demand(got == wanted, f"{value_text(words)} ended with {value_text(got)}, and {value_text(wanted)} was wanted")
+        demand(
+            got == wanted,
+            f"{value_text(words)} ended with {value_text(got)}, not with {value_text(wanted)}",
+        )
 
     def init(self):
         self.wants((0, b"ok empty\n"), "init", "regtest", "100")
@@ -88,18 +100,29 @@ class Ox:
     def has(self, a, b):
         """The files have to be these."""
         for name, got, wanted in zip("AB", self.files(), (a, b)):
-            demand(got == wanted, f"file {name} has {value_text(got)}, and {value_text(wanted)} was wanted")
+            demand(
+                got == wanted,
+                f"file {name} has {value_text(got)}, and {value_text(wanted)} was wanted",
+            )
 
     def has_blocks(self, blocks):
         self.has(file_a(blocks), EMPTY_B)
 
     def says(self, path, tree):
-        """The reply to a query has to be this tree, compact and with sorted keys; bytes are the body itself."""
-        body = tree if isinstance(tree, bytes) else json.dumps(tree, ensure_ascii=False, sort_keys=True, separators=(",", ":")).encode()
+        """The reply to a query has to be this tree, compact and with sorted keys; bytes are the
+        body itself."""
+        body = (
+            tree
+            if isinstance(tree, bytes)
+            else json.dumps(
+                tree, ensure_ascii=False, sort_keys=True, separators=(",", ":")
+            ).encode()
+        )
         self.wants((0, body), "query", path)
 
     def status_is(self, count, tip, kept=None):
-        """The reply to a query has to be this. As many blocks are kept as may be, where it isn't said."""
+        """The reply to a query has to be this. As many blocks are kept as may be, where it isn't
+        said."""
         tip = f'"{tip}"' if tip else "null"
         kept = min(count, 100) if kept is None else kept
         body = f'{{"blocks":{count},"depth":100,"kept":{kept},"profile":"regtest","tip":{tip}}}'
@@ -155,7 +178,10 @@ def first_block(ox):
     demand(len(a) == 318 and b == EMPTY_B, f"file A has {len(a)} bytes, and file B {value_text(b)}")
     demand(a[:26] == EMPTY_A[:26], "file A begins with another head")
     demand(a[26:32].hex() == "011e01000001", f"the record begins with {a[26:32].hex()}")
-    demand(a[32:317] == block and a[317] == 0, "the record has another block, or no closed gate behind it")
+    demand(
+        a[32:317] == block and a[317] == 0,
+        "the record has another block, or no closed gate behind it",
+    )
     ox.status_is(1, GENESIS_ANSWER.split()[2].decode())
 
 
@@ -175,7 +201,9 @@ def line_by_line(ox):
     blocks, tips = chain(12)
     ox.init()
     command = [ox.program, ox.folder, "apply"]
-    with subprocess.Popen(command, stdin=subprocess.PIPE, stdout=subprocess.PIPE, bufsize=0) as child:
+    with subprocess.Popen(
+        command, stdin=subprocess.PIPE, stdout=subprocess.PIPE, bufsize=0
+    ) as child:
         for height, block in enumerate(blocks):
             bytes_ = line(block)
             for at in range(0, len(bytes_), 50):
@@ -184,7 +212,10 @@ def line_by_line(ox):
             demand(got == answer(height, tips), f"{value_text(got)} was shown for block {height}")
             ox.has_blocks(blocks[: height + 1])
         child.stdin.close()
-        demand(child.stdout.read() == b"" and child.wait(SECONDS) == 0, "the end of the feed doesn't end the program")
+        demand(
+            child.stdout.read() == b"" and child.wait(SECONDS) == 0,
+            "the end of the feed doesn't end the program",
+        )
 
 
 @check("a block of nearly four million bytes is kept")
@@ -201,7 +232,9 @@ def large_block(ox):
 def refused_lines(ox):
     blocks, tips = chain(4)
     ox.init()
-    ox.wants((0, answer(0, tips) + answer(1, tips)), "apply", feed=line(blocks[0]) + line(blocks[1]))
+    ox.wants(
+        (0, answer(0, tips) + answer(1, tips)), "apply", feed=line(blocks[0]) + line(blocks[1])
+    )
     root = bytearray(blocks[2])
     root[36] ^= 1
     lines = [
@@ -210,14 +243,19 @@ def refused_lines(ox):
         (b"connect ", b"refused 3 0"),
         (line(blocks[2][:90]).rstrip(), b"refused 3 86"),
         (line(blocks[3]).rstrip(), f"refused 5 {tips[2]} {tips[1]}".encode()),
-        (line(bytes(root)).rstrip(), f"refused 6 {root[36:68][::-1].hex()} {blocks[2][36:68][::-1].hex()}".encode()),
+        (
+            line(bytes(root)).rstrip(),
+            f"refused 6 {root[36:68][::-1].hex()} {blocks[2][36:68][::-1].hex()}".encode(),
+        ),
     ]
     feed, wanted = (b"".join(part + b"\n" for part in parts) for parts in zip(*lines))
     ox.wants((0, wanted), "apply", feed=feed)
     ox.has_blocks(blocks[:2])
 
 
-@check("a block that isn't committed to its witnesses is refused, and files that hold one are no store")
+@check(
+    "a block that isn't committed to its witnesses is refused, and files that hold one are no store"
+)
 def witness_commitments(ox):
     right, wrong = commitment(), commitment()[:-1] + bytes([commitment()[-1] ^ 1])
     block, tip = block_of(bytes(32), [committing(0, right)])
@@ -265,26 +303,20 @@ def replaced_blocks(ox):
     ox.init()
     status, got = ox.run("apply", feed=lines)
     wanted = b"ok empty\n" + b"".join(answer(height, tips) for height in range(4))
-    demand(status == 0 and got.endswith(wanted), f"`apply` ended with {status} and showed {value_text(got)}")
+    demand(
+        status == 0 and got.endswith(wanted),
+        f"`apply` ended with {status} and showed {value_text(got)}",
+    )
     ox.wants((0, got), "fold", "regtest", feed=lines)
     ox.has(file_of([*map(payload_of, old), *[DISCONNECT] * 3, *map(payload_of, new)]), EMPTY_B)
     ox.status_is(4, tips[3])
 
 
 # The least reserved name, by the Runes specification.
-RESERVED = 6_402_364_363_415_443_603_228_541_259_936_211_926
-
-
-def name_of(number):
-    """The letters of a rune's name."""
-    letters = ""
-    while number >= 0:
-        letters = chr(ord("A") + number % 26) + letters
-        number = number // 26 - 1
-    return letters
-
-
-@check("inscriptions and runes are told of a store that is opened again, and taken back with their block")
+@check(
+    "inscriptions and runes are told of a store that is opened again, and taken back with their"
+    " block"
+)
 def inscriptions_and_runes(ox):
     blocks, _ = chain(3)
     spent = twice(coinbase(0, SHORT))
@@ -293,11 +325,14 @@ def inscriptions_and_runes(ox):
     stone = bytes.fromhex("6a5d0802030607080a0a05")
     outputs = [(SUBSIDY, SHORT), (0, stone)]
     hash = twice(reveal_into(spent, b"", outputs)[0])
-    txid, at, name = hash[::-1].hex(), f"{hash[::-1].hex()}:0", name_of(RESERVED + (3 << 32) + 1)
+    txid, at, name = hash[::-1].hex(), f"{hash[::-1].hex()}:0", name_of(kept_name(3, 1))
     ids = [f"{txid}i{index}" for index in range(3)]
-    # the first has a content, the second delegates to it, and the third to the second, which has a body of its own
+    # the first has a content, the second delegates to it, and the third to the second, which has a
+    # body of its own
     script = envelope([(1, b"text/plain"), (5, b"\0\xff"), (7, b"m"), (9, b"br")], b"hi")
-    script += envelope([(11, id_value(hash, 0))], b"two") + envelope([(11, id_value(hash, 1))], b"three")
+    script += envelope([(11, id_value(hash, 0))], b"two") + envelope(
+        [(11, id_value(hash, 1))], b"three"
+    )
     block, tip = block_with(previous, 3, reveal_into(spent, script, outputs))
     ox.wants((0, b"ok empty\n"), "init", "lab", "100")
     ox.run("apply", feed=b"".join(map(line, blocks)))
@@ -306,24 +341,90 @@ def inscriptions_and_runes(ox):
     for id, content in zip(ids, (b"hi", b"hi", b"two")):
         ox.says(f"/content/{id}", content)
     place = {"offset": 0, "outpoint": at}
-    inscription = {"content_length": 2, "content_type": "text/plain", "delegate": None, "encoding": "br", "height": 3, "id": ids[0]}
-    inscription |= {"metadata": "00ff", "metaprotocol": "m", "number": 0, "parents": [], "place": place, "sat": 0}
-    inscription |= {"children": [], "cursed": False, "marks": [], "sequence": 0, "vindicated": False}
+    inscription = {
+        "content_length": 2,
+        "content_type": "text/plain",
+        "delegate": None,
+        "encoding": "br",
+        "height": 3,
+        "id": ids[0],
+    }
+    inscription |= {
+        "metadata": "00ff",
+        "metaprotocol": "m",
+        "number": 0,
+        "parents": [],
+        "place": place,
+        "sat": 0,
+    }
+    inscription |= {
+        "children": [],
+        "cursed": False,
+        "marks": [],
+        "sequence": 0,
+        "vindicated": False,
+    }
     ox.says(f"/inscription/{ids[0]}", inscription)
-    third = {"content_length": 5, "content_type": None, "delegate": ids[1], "encoding": None, "id": ids[2], "metadata": None}
-    third |= {"cursed": True, "marks": ["offset", "reinscription"], "metaprotocol": None, "number": -2, "sequence": 2}
+    third = {
+        "content_length": 5,
+        "content_type": None,
+        "delegate": ids[1],
+        "encoding": None,
+        "id": ids[2],
+        "metadata": None,
+    }
+    third |= {
+        "cursed": True,
+        "marks": ["offset", "reinscription"],
+        "metaprotocol": None,
+        "number": -2,
+        "sequence": 2,
+    }
     ox.says(f"/inscription/{ids[2]}", inscription | third)
-    satoshi = {"decimal": "0.0", "degree": "0°0′0″0‴", "inscriptions": ids, "name": "lkrmvqwx", "number": 0, "place": place}
+    satoshi = {
+        "decimal": "0.0",
+        "degree": "0°0′0″0‴",
+        "inscriptions": ids,
+        "name": "lkrmvqwx",
+        "number": 0,
+        "place": place,
+    }
     ox.says("/sat/0", satoshi | {"rarity": "mythic"})
-    rune = {"amount": "5", "burned": "0", "cap": "10", "divisibility": 0, "etching": txid, "height": [None, None], "held": "7"}
-    rune |= {"id": "3:1", "mintable": True, "mints": "0", "name": name, "number": 0, "offset": [None, None], "premine": "7", "symbol": None}
+    rune = {
+        "amount": "5",
+        "burned": "0",
+        "cap": "10",
+        "divisibility": 0,
+        "etching": txid,
+        "height": [None, None],
+        "held": "7",
+    }
+    rune |= {
+        "id": "3:1",
+        "mintable": True,
+        "mints": "0",
+        "name": name,
+        "number": 0,
+        "offset": [None, None],
+        "premine": "7",
+        "symbol": None,
+    }
     for part in ("3:1", name, name[:5] + "%E2%80%A2" + name[5:]):
         ox.says(f"/rune/{part}", rune)
     balance = {"amount": "7", "id": "3:1", "name": name, "shown": "7"}
-    output = {"height": 3, "inscriptions": ids, "ranges": [[0, SUBSIDY]], "runes": [balance], "script": SHORT.hex(), "value": SUBSIDY}
+    output = {
+        "height": 3,
+        "inscriptions": ids,
+        "ranges": [[0, SUBSIDY]],
+        "runes": [balance],
+        "script": SHORT.hex(),
+        "value": SUBSIDY,
+    }
     ox.says(f"/output/{at}", output)
     audited = {"burned": "0", "held": "7", "id": "3:1", "minted": "0", "premine": "7"}
-    ox.says("/audit", {"claimable": 4 * SUBSIDY, "lost": 0, "outputs": 4 * SUBSIDY, "runes": [audited]})
+    ox.says(
+        "/audit", {"claimable": 4 * SUBSIDY, "lost": 0, "outputs": 4 * SUBSIDY, "runes": [audited]}
+    )
     ox.run("apply", feed=b"disconnect\n")
     ox.says("/audit", {"claimable": 3 * SUBSIDY, "lost": 0, "outputs": 3 * SUBSIDY, "runes": []})
     ox.says("/inscriptions/0", {"ids": [], "more": False, "page": 0})
@@ -335,18 +436,50 @@ def inscriptions_and_runes(ox):
 @check("what a cenotaph minted and burned is taken back with its block, by a later run too")
 def burns_taken_back(ox):
     blocks, _ = chain(3)
-    etches = reveal_into(twice(coinbase(0, SHORT)), b"", [(SUBSIDY, SHORT), (0, bytes.fromhex("6a5d0802030607080a0a05"))])
-    burns = reveal_into(twice(etches[0]), b"", [(SUBSIDY, SHORT), (0, bytes.fromhex("6a5d06140314017e00"))])
+    etches = reveal_into(
+        twice(coinbase(0, SHORT)),
+        b"",
+        [(SUBSIDY, SHORT), (0, bytes.fromhex("6a5d0802030607080a0a05"))],
+    )
+    burns = reveal_into(
+        twice(etches[0]), b"", [(SUBSIDY, SHORT), (0, bytes.fromhex("6a5d06140314017e00"))]
+    )
     for height, tx in ((3, etches), (4, burns)):
         blocks.append(block_with(twice(blocks[-1][:80]), height, tx)[0])
     ox.wants((0, b"ok empty\n"), "init", "lab", "100")
     ox.run("apply", feed=b"".join(map(line, blocks)))
     for count, burned, held, minted, mints in ((5, "12", "0", "5", "1"), (4, "0", "7", "0", "0")):
         audited = {"burned": burned, "held": held, "id": "3:1", "minted": minted, "premine": "7"}
-        ox.says("/audit", {"claimable": count * SUBSIDY, "lost": 0, "outputs": count * SUBSIDY, "runes": [audited]})
-        rune = {"amount": "5", "burned": burned, "cap": "10", "divisibility": 0, "etching": twice(etches[0])[::-1].hex()}
-        rune |= {"height": [None, None], "held": held, "id": "3:1", "mintable": True, "mints": mints, "number": 0}
-        rune |= {"name": name_of(RESERVED + (3 << 32) + 1), "offset": [None, None], "premine": "7", "symbol": None}
+        ox.says(
+            "/audit",
+            {
+                "claimable": count * SUBSIDY,
+                "lost": 0,
+                "outputs": count * SUBSIDY,
+                "runes": [audited],
+            },
+        )
+        rune = {
+            "amount": "5",
+            "burned": burned,
+            "cap": "10",
+            "divisibility": 0,
+            "etching": twice(etches[0])[::-1].hex(),
+        }
+        rune |= {
+            "height": [None, None],
+            "held": held,
+            "id": "3:1",
+            "mintable": True,
+            "mints": mints,
+            "number": 0,
+        }
+        rune |= {
+            "name": name_of(kept_name(3, 1)),
+            "offset": [None, None],
+            "premine": "7",
+            "symbol": None,
+        }
         ox.says("/rune/3:1", rune)
         ox.run("apply", feed=b"disconnect\n")
 
@@ -360,14 +493,25 @@ def first_replies(ox):
     ox.write(b"", b"")
     ox.wants((0, b"ok empty\n"), "init", "mainnet", "100")
     goods = (
-        '{"amount":"1","burned":"0","cap":"340282366920938463463374607431768211455","divisibility":0,"etching":"'
-        + 64 * "0" + '","height":[840000,1050000],"held":"0","id":"1:0","mintable":false,"mints":"0",'
+        '{"amount":"1","burned":"0","cap":"340282366920938463463374607431768211455",'
+        '"divisibility":0,"etching":"'
+        + 64 * "0"
+        + '","height":[840000,1050000],"held":"0","id":"1:0","mintable":false,"mints":"0",'
         '"name":"UNCOMMON•GOODS","number":0,"offset":[null,null],"premine":"0","symbol":"⧉"}'
     )
     ox.says("/rune/UNCOMMON.GOODS", goods.encode())
     ox.wants((0, GENESIS_ANSWER), "apply", feed=GENESIS)
-    place = {"offset": 0, "outpoint": "4a5e1e4baab89f3a32518a88c31bc87f618f76673e2cc77ab2127b7afdeda33b:0"}
-    told = {"decimal": "0.0", "degree": "0°0′0″0‴", "inscriptions": [], "name": "nvtdijuwxlp", "number": 0}
+    place = {
+        "offset": 0,
+        "outpoint": "4a5e1e4baab89f3a32518a88c31bc87f618f76673e2cc77ab2127b7afdeda33b:0",
+    }
+    told = {
+        "decimal": "0.0",
+        "degree": "0°0′0″0‴",
+        "inscriptions": [],
+        "name": "nvtdijuwxlp",
+        "number": 0,
+    }
     ox.says("/sat/0", told | {"place": place, "rarity": "mythic"})
 
 
@@ -377,7 +521,10 @@ def asked_satoshis(table):
     return [runs[0][0], sum(runs[-1]) - 1, sum(table.lost[-1]) - 1, BLOCKS * SUBSIDY]
 
 
-@check(f"among 500,000 outputs satoshis are found where they have to be, or nowhere, within {SECONDS} seconds")
+@check(
+    "among 500,000 outputs satoshis are found where they have to be, or nowhere, within"
+    f" {SECONDS} seconds"
+)
 def many_outputs(ox):
     table = Table(SEED)
     demand(len(table.rows) == 500_000, f"there are {len(table.rows)} outputs")
@@ -389,7 +536,13 @@ def many_outputs(ox):
         ox.says(f"/sat/{sat}", satoshi(sat, table.place(sat)))
     at, (height, runs) = max(table.rows.items(), key=lambda row: len(row[1][1]))
     ranges = [[first, first + count] for first, count in runs]
-    output = {"height": height, "inscriptions": [], "ranges": ranges, "runes": [], "script": SHORT.hex()}
+    output = {
+        "height": height,
+        "inscriptions": [],
+        "ranges": ranges,
+        "runes": [],
+        "script": SHORT.hex(),
+    }
     ox.says(f"/output/{outpoint(*at)}", output | {"value": sum(count for _, count in runs)})
     ox.says(f"/output/{outpoint(*table.spent)}", {"error": 404})
 
@@ -399,7 +552,12 @@ def only_apply_writes(ox):
     blocks, tips = chain(3)
     ox.init()
     ox.run("apply", feed=line(blocks[0]))
-    ox.wants((0, answer(0, tips) + answer(1, tips)), "fold", "regtest", feed=line(blocks[0]) + line(blocks[1]))
+    ox.wants(
+        (0, answer(0, tips) + answer(1, tips)),
+        "fold",
+        "regtest",
+        feed=line(blocks[0]) + line(blocks[1]),
+    )
     ox.wants((0, b'{"error":404}'), "query", "/nothing")
     ox.has_blocks(blocks[:1])
 
@@ -429,12 +587,21 @@ def gates(ox):
 
 @check("status 1: words that aren't a subcommand")
 def usage(ox):
-    rows = [(), ("init",), ("init", "lab", "0"), ("init", "lab", "1001"), ("init", "test", "1"), ("init", "lab", "1", "2")]
+    rows = [
+        (),
+        ("init",),
+        ("init", "lab", "0"),
+        ("init", "lab", "1001"),
+        ("init", "test", "1"),
+        ("init", "lab", "1", "2"),
+    ]
     rows += [("apply", "regtest"), ("fold",), ("fold", "Lab"), ("query",), ("serve",), (b"\xff",)]
     for words in rows:
         ox.wants((1, b"usage\n"), *words, feed=GENESIS)
     ox.has(b"", b"")
-    ran = subprocess.run([ox.program], stdin=subprocess.DEVNULL, stdout=subprocess.PIPE, timeout=SECONDS)
+    ran = subprocess.run(
+        [ox.program], stdin=subprocess.DEVNULL, stdout=subprocess.PIPE, timeout=SECONDS
+    )
     demand((ran.returncode, ran.stdout) == (1, b""), "without a word the program ends otherwise")
 
 
@@ -470,7 +637,11 @@ def not_store(ox):
         (whole[:-1] + b"\1" + record(block), EMPTY_B, f"a {len(whole) - 1}".encode()),
         (file_of([DISCONNECT]), EMPTY_B, b"a 26"),
         (file_of([payload_of(block), DISCONNECT + b"\0"]), EMPTY_B, f"a {len(whole) - 1}".encode()),
-        (file_of([payload_of(block), DISCONNECT, DISCONNECT]), EMPTY_B, f"a {len(whole) + 5}".encode()),
+        (
+            file_of([payload_of(block), DISCONNECT, DISCONNECT]),
+            EMPTY_B,
+            f"a {len(whole) + 5}".encode(),
+        ),
     ]
     for a, b, told in rows:
         ox.write(a, b)
@@ -546,7 +717,10 @@ def closed_streams(ox):
             stderr=subprocess.DEVNULL,
             timeout=SECONDS,
         )
-        demand((ran.returncode, ran.stdout) == (4, b""), f"with stream {stream} closed it ended with {ran.returncode}")
+        demand(
+            (ran.returncode, ran.stdout) == (4, b""),
+            f"with stream {stream} closed it ended with {ran.returncode}",
+        )
         ox.has(EMPTY_A, EMPTY_B)
 
 
@@ -594,7 +768,9 @@ def statuses_stay(ox):
         ox.wants((2, None), "init", "regtest", "100", stdout=stdout)
 
 
-@check("status 8: a block for which there is no memory, and the store has the blocks that were shown")
+@check(
+    "status 8: a block for which there is no memory, and the store has the blocks that were shown"
+)
 def no_memory(ox):
     blocks, tips = chain(3, lambda height: bytes(3_999_800) if height == 2 else b"\x51")
     ox.init()
@@ -641,7 +817,7 @@ def main():
         print(f"{program} isn't built")
         print("0 passed, 1 failed")
         sys.exit(1)
-    out = HERE / "out"
+    out = TOP / "checks" / "out"
     out.mkdir(exist_ok=True)
     signal.signal(signal.SIGALRM, too_long)
     results = [passes(what, function, program, out) for what, function in checks]

@@ -1,10 +1,9 @@
-"""Rows of a program that reads them on standard input, and the lines that it has to print for them."""
+"""Rows of a program that reads them on standard input, and the lines that it has to print for
+them."""
 
-import pathlib
-
-from chain import SHORT, SUBSIDY, block_of, coinbase, transaction, twice
-
-CRATES = pathlib.Path(__file__).resolve().parents[1] / "crates"
+from chain import SHORT, block_of, coinbase, transaction
+from tools.bitcoin import SUBSIDY, twice
+from tools.programs import write_rows
 
 
 def plain(mark):
@@ -32,7 +31,8 @@ def reveal(tx, tapscript=b"", index=0):
 
 
 def carry(tx, stone, tapscript=b""):
-    """A transaction that spends an output of a subsidy into the same and a script, in hex digits, behind it."""
+    """A transaction that spends an output of a subsidy into the same and a script, in hex digits,
+    behind it."""
     return transaction([spend(tx, 0, tapscript)], [(SUBSIDY, SHORT), (0, bytes.fromhex(stone))])
 
 
@@ -54,7 +54,8 @@ def inscription(tx, index=0):
 
 
 class Rows:
-    """The rows of a program, what it has to print, and the blocks of the chain that the last rows make."""
+    """The rows of a program, what it has to print, and the blocks of the chain that the last rows
+    make."""
 
     def __init__(self):
         self.rows, self.tips = [], []
@@ -105,5 +106,5 @@ class Rows:
 
     def write(self, crate):
         """The program's files."""
-        (CRATES / crate / "stdin").write_text("".join(row + "\n" for row, _ in self.rows))
-        (CRATES / crate / "stdout").write_text("".join(line + "\n" for _, lines in self.rows for line in lines))
+        lines = (line for _, lines in self.rows for line in lines)
+        write_rows(crate, (row for row, _ in self.rows), lines)

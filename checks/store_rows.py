@@ -3,17 +3,17 @@
 
     checks/store_rows.py
 
-Blocks are told by docs/RULES.md, and the two files, what a crash leaves of them and what they stand for by
-docs/FORMATS.md, on their own. What these don't say and the rows go by: opening syncs A and B, in
-this order, and then reads; making asks for both lengths, writes B, syncs it, writes A's first byte
-and the others, syncs A, writes its gate and syncs it.
+Blocks are told by docs/RULES.md, and the two files, what a crash leaves of them and what they stand
+for by docs/FORMATS.md, on their own. What these don't say and the rows go by: opening syncs A and
+B, in this order, and then reads; making asks for both lengths, writes B, syncs it, writes A's first
+byte and the others, syncs A, writes its gate and syncs it.
 """
 
-import pathlib
+from chain import DISCONNECT, GENESIS, SHORT, payload_of, record_of
+from tools import bitcoin
+from tools.bitcoin import SUBSIDY, twice
+from tools.programs import write_rows
 
-from chain import DISCONNECT, GENESIS, SHORT, SUBSIDY, compact, payload_of, record_of, twice
-
-CRATE = pathlib.Path(__file__).resolve().parents[1] / "crates" / "ox_store_rows"
 ALL = 1_000_000_000
 MOST = 4_000_000
 PROFILES = {"mainnet": (0, 210_000, None), "regtest": (1, 210_000, None), "lab": (2, 10, 40)}
@@ -33,21 +33,19 @@ class Refused(Exception):
 
 
 def block_on(previous, mark, claim=SUBSIDY, source=1, target=SHORT):
-    """The bytes of a block whose coinbase has a script of so many bytes, each the mark, and an output of this value and
-    script; and its hash."""
-    version, most = (1).to_bytes(4, "little"), b"\xff" * 4
-    spent = b"\1" + bytes(32) + most + compact(source) + source * bytes([mark]) + most
-    tx = version + spent + b"\1" + claim.to_bytes(8, "little") + compact(len(target)) + target + bytes(4)
-    header = version + previous + twice(tx) + bytes(12)
-    return header + b"\1" + tx, twice(header)
+    """The bytes of a block whose coinbase has a script of so many bytes, each the mark, and an
+    output of this value and script; and its hash."""
+    script = source * bytes([mark])
+    tx = bitcoin.coinbase([(claim, target)], script, sequence=0xFFFFFFFF, version=1)[0]
+    return bitcoin.block(previous, twice(tx), [tx])
 
 
 def claim_of(block):
     """The value of the one output of such a block's coinbase."""
     width = {253: 2, 254: 4}.get(block[122], 0)
-    script = int.from_bytes(block[123:123 + width], "little") if width else block[122]
+    script = int.from_bytes(block[123 : 123 + width], "little") if width else block[122]
     at = 123 + width + script + 5
-    return int.from_bytes(block[at:at + 8], "little")
+    return int.from_bytes(block[at : at + 8], "little")
 
 
 class Chain:
@@ -94,7 +92,8 @@ class Chain:
         self.kept = min(self.kept + 1, self.depth)
 
     def newest_change(self, way):
-        """The newest block's change: its output comes, and takes the place of an equal coinbase's."""
+        """The newest block's change: its output comes, and takes the place of an equal
+        coinbase's."""
         block_hash, txid, _ = self.blocks[-1]
         gone = any(txid == earlier[1] for earlier in self.blocks[:-1])
         return f"{way} {block_hash.hex()}, {int(gone)} gone, 1 came, "
@@ -103,7 +102,8 @@ class Chain:
         return f"tip {len(self.blocks) - 1} {self.tip().hex()}" if self.blocks else "no tip"
 
     def sats(self):
-        """The ranges of unspent outputs by txid, and the lost ones in order: the first satoshi and how many."""
+        """The ranges of unspent outputs by txid, and the lost ones in order: the first satoshi and
+        how many."""
         outs, lost, first = {}, [], 0
         for height, (_, txid, claim) in enumerate(self.blocks):
             if txid in outs:
@@ -132,7 +132,7 @@ class Chain:
 # ---- two files on a disk
 
 
-class Failed(Exception):
+class CallFailed(Exception):
     pass
 
 
@@ -149,23 +149,23 @@ class Site:
 
     def look(self):
         if not self.call():
-            raise Failed()
+            raise CallFailed()
 
     def write(self, file, at, data):
         goes = self.call()
         self.steps.append((file, at, data if goes else len(data)))
         if not goes:
-            raise Failed()
+            raise CallFailed()
         old = self.files[file]
-        self.files[file] = old[:at] + data + old[at + len(data):]
+        self.files[file] = old[:at] + data + old[at + len(data) :]
 
     def sync(self, file):
         self.look()
         self.steps.append((file, None, None))
 
     def image(self, file, moment, fill, keep):
-        """What a crash leaves of a file: bytes that were written since the last sync, and all behind the length at
-        it, are filled, and the length is `keep` as far as it may be."""
+        """What a crash leaves of a file: bytes that were written since the last sync, and all
+        behind the length at it, are filled, and the length is `keep` as far as it may be."""
         seen = synced = self.first[file]
         covered, longest = set(), len(seen)
         for named, at, data in self.steps[:moment]:
@@ -176,7 +176,7 @@ class Site:
                 continue
             size = data if isinstance(data, int) else len(data)
             if not isinstance(data, int):
-                seen = seen[:at] + data + seen[at + size:]
+                seen = seen[:at] + data + seen[at + size :]
             covered.update(range(at, at + size))
             longest = max(longest, at + size)
         left = bytes(fill if place in covered else byte for place, byte in enumerate(synced))
@@ -195,7 +195,11 @@ class NoStore(Exception):
 def lawful(head):
     profiles = [byte for byte, _, _ in PROFILES.values()]
     depth, generation = int.from_bytes(head[8:10], "little"), int.from_bytes(head[10:18], "little")
-    form = head[1:6] == b"oxidx" and head[6] in (1, 2) and head[7] in profiles if len(head) == 26 else False
+    form = (
+        head[1:6] == b"oxidx" and head[6] in (1, 2) and head[7] in profiles
+        if len(head) == 26
+        else False
+    )
     return form and 1 <= depth <= 1000 and generation != 0
 
 
@@ -218,14 +222,14 @@ def current(files):
 
 
 def records(data, place):
-    """The records from a place on, each with its place; the place of the gate behind them; and whether it is there and
-    closed, or else is missing or has a record that is cut."""
+    """The records from a place on, each with its place; the place of the gate behind them; and
+    whether it is there and closed, or else is missing or has a record that is cut."""
     found = []
     while place < len(data) and data[place]:
-        length = int.from_bytes(data[place + 1:place + 5], "little")
+        length = int.from_bytes(data[place + 1 : place + 5], "little")
         if len(data) < place + 5 + length:
             return found, place, False
-        found.append((place, data[place + 5:place + 5 + length]))
+        found.append((place, data[place + 5 : place + 5 + length]))
         place += 5 + length
     return found, place, place < len(data)
 
@@ -283,7 +287,10 @@ class Store:
 
     def line(self):
         chain = self.chain
-        kept = f"{len(chain.blocks)} blocks, {chain.kept} of {chain.depth} kept, {chain.kept} changes, "
+        kept = (
+            f"{len(chain.blocks)} blocks, {chain.kept} of {chain.depth} kept, {chain.kept}"
+            " changes, "
+        )
         return f"{kept}{chain.lost_count()} lost, {self.commands} commands, {chain.tip_line()}"
 
 
@@ -295,12 +302,12 @@ def word_of(payload):
     if len(block) < 10_000:
         return "+" + block.hex()
     part = block[1000:2000]
-    times = next(n for n in range(len(block)) if block[1000 + 1000 * n:2000 + 1000 * n] != part)
-    assert block == block[:1000] + times * part + block[1000 + 1000 * times:]
+    times = next(n for n in range(len(block)) if block[1000 + 1000 * n : 2000 + 1000 * n] != part)
+    assert block == block[:1000] + times * part + block[1000 + 1000 * times :]
     return f"+{block[:1000].hex()},{times},{part.hex()},{block[1000 + 1000 * times:].hex()}"
 
 
-class Rows:
+class Stores:
     """The rows so far, and what is printed for them."""
 
     def __init__(self):
@@ -331,7 +338,7 @@ class Rows:
         try:
             for line in lines:
                 self.stdout.append(line)
-        except Failed:
+        except CallFailed:
             self.stdout.append("a call failed")
 
     def make(self, profile="regtest", depth=100, payloads=()):
@@ -345,11 +352,18 @@ class Rows:
             yield "not empty"
             return
         byte = PROFILES[profile][0]
-        head = b"\1oxidx\1" + bytes([byte]) + depth.to_bytes(2, "little") + (1).to_bytes(8, "little") + bytes(8)
+        head = (
+            b"\1oxidx\1"
+            + bytes([byte])
+            + depth.to_bytes(2, "little")
+            + (1).to_bytes(8, "little")
+            + bytes(8)
+        )
         site.write("B", 0, b"\0")
         site.sync("B")
         site.write("A", 0, b"\0")
-        site.write("A", 1, head[1:] + b"\0")
+        site.write("A", 1, head[1:])
+        site.write("A", 26, b"\0")
         site.sync("A")
         site.write("A", 0, b"\1")
         site.sync("A")
@@ -362,7 +376,8 @@ class Rows:
     def lines_of_opening(self, site, payloads):
         site.sync("A")
         site.sync("B")
-        # the lengths and the fronts of both files; how often it reads behind them isn't told, so no later call may fail
+        # the lengths and the fronts of both files; how often it reads behind them isn't told, so no
+        # later call may fail
         for _ in range(4):
             site.look()
         assert all(call < site.calls for call in site.failing)
@@ -436,7 +451,9 @@ def makes(rows):
 
 
 def commits(rows):
-    rows.heading("a block is there when the store is opened, and its disconnect is a record of one byte")
+    rows.heading(
+        "a block is there when the store is opened, and its disconnect is a record of one byte"
+    )
     rows.make("regtest", 100, [payload_of(GENESIS)])
     rows.file("A")
     data = rows.site.files["A"]
@@ -458,7 +475,9 @@ def refuses(rows):
     unlinked, _ = block_on(NO_BLOCK, 1)
     greedy, _ = block_on(tip, 1, SUBSIDY + 1)
     bad_root = good[:36] + bytes(32) + good[68:]
-    rows.open([payload_of(block) for block in (unlinked, bad_root, greedy, b"", good)] + 3 * [DISCONNECT])
+    rows.open(
+        [payload_of(block) for block in (unlinked, bad_root, greedy, b"", good)] + 3 * [DISCONNECT]
+    )
     rows.open()
 
 
@@ -467,8 +486,14 @@ def no_store(rows):
     gate = 317
     rows.open()
     rows.make("regtest", 100, [payload_of(GENESIS)])
-    # an open gate with nothing behind it; payloads of no command, 02 and 00 with a byte more; that before a cut gate
-    for at, data in ((gate, "01"), (gate, "01010000000200"), (gate, "0102000000000000"), (gate + 7, "01")):
+    # an open gate with nothing behind it; payloads of no command, 02 and 00 with a byte more; that
+    # before a cut gate
+    for at, data in (
+        (gate, "01"),
+        (gate, "01010000000200"),
+        (gate, "0102000000000000"),
+        (gate + 7, "01"),
+    ):
         rows.overwrite("A", at, bytes.fromhex(data))
         rows.open()
         assert rows.stdout[-1] == f"not a store: A at {gate}"
@@ -512,22 +537,23 @@ def no_store(rows):
 
 def fails(rows):
     rows.heading("each call of a make and a connect fails, and a stop afterwards")
-    # the lengths; a write and a sync of B; two writes, a sync, a write and a sync of A; and as many as 4 of the block
-    for call in range(14):
+    # the lengths; a write and a sync of B; three writes, a sync, a write and a sync of A; and as
+    # many as 4 of the block
+    for call in range(15):
         rows.fresh()
         rows.fail(call)
         rows.make("regtest", 100, [payload_of(GENESIS)])
-        assert (rows.stdout[-1] == "a call failed") == (call < 13)
+        assert (rows.stdout[-1] == "a call failed") == (call < 14)
         for fill in (0x00, 0x07):
             rows.crash(len(rows.site.steps), fill, 1000)
-            # the record's sync is call 10, and the gate's write call 11
-            assert call != 10 or rows.stdout[-1].startswith("0 blocks")
+            # the record's sync is call 11, and the gate's write call 12
+            assert call != 11 or rows.stdout[-1].startswith("0 blocks")
         rows.now()
     rows.heading("the first calls of an opening fail")
     for call in range(6):
         rows.fresh()
         rows.make()
-        rows.fail(9 + call)
+        rows.fail(10 + call)
         rows.open([payload_of(GENESIS)])
         assert rows.stdout[-1] == "a call failed"
         rows.open([payload_of(GENESIS)])
@@ -537,13 +563,15 @@ def stops(rows):
     rows.heading("a stop leaves the chain before or after")
     rows.make("regtest", 100, [payload_of(GENESIS)])
     rows.now()
-    assert rows.stdout[-1] == "moment 11"
-    for moment in range(12):
+    assert rows.stdout[-1] == "moment 12"
+    for moment in range(13):
         for fill in (0x00, 0x01, 0x07, 0xFF):
             for keep in (0, 1000):
                 rows.crash(moment, fill, keep)
                 said = rows.stdout[-1]
-                assert moment < 7 or said.startswith("1 " if moment > 10 or (moment == 10 and fill) else "0 ")
+                assert moment < 8 or said.startswith(
+                    "1 " if moment > 11 or (moment == 11 and fill) else "0 "
+                )
 
 
 def state(chain):
@@ -551,7 +579,10 @@ def state(chain):
 
 
 def prefixes(rows):
-    rows.heading("at every moment of four commands a stop leaves a prefix of them that has each acknowledged one")
+    rows.heading(
+        "at every moment of four commands a stop leaves a prefix of them that has each"
+        " acknowledged one"
+    )
     first, tip = marks(1, 2)
     commands = first + [DISCONNECT, payload_of(block_on(block_on(NO_BLOCK, 1)[1], 3)[0])]
     rows.make()
@@ -572,8 +603,8 @@ def prefixes(rows):
                     allowed = states[max(acknowledged - 1, 0):acknowledged + 1]
                     assert state(stands(after.files)[0]) in allowed, (moment, fill, keep)
     rows.heading("after a stop in the last of them the store goes on")
-    # the making has 7 moments, and each command 4
-    for moment in range(7 + 12, 7 + 16 + 1):
+    # the making has 8 moments, and each command 4
+    for moment in range(8 + 12, 8 + 16 + 1):
         for fill in (0x00, 0xFF):
             rows.fresh()
             rows.make("regtest", 100, commands)
@@ -582,7 +613,8 @@ def prefixes(rows):
 
 
 def goes_on(rows):
-    """A block is connected, it and the one below it are taken back, and another one is connected."""
+    """A block is connected, it and the one below it are taken back, and another one is
+    connected."""
     hashes = [NO_BLOCK] + [block[0] for block in stands(rows.site.files)[0].blocks]
     on_newest, on_one_below = (block_on(hashes[-depth], 10 * depth)[0] for depth in (1, 2))
     rows.open([payload_of(on_newest), DISCONNECT, DISCONNECT, payload_of(on_one_below)])
@@ -669,7 +701,9 @@ def keep_what_is_kept(rows):
     rows.open(payloads + [DISCONNECT])
     rows.open(2 * [DISCONNECT])
     first, second = (twice(payload[1:81]).hex() for payload in payloads[:2])
-    assert rows.stdout[-4].startswith(f"2 blocks, 1 of 2 kept") and rows.stdout[-4].endswith(f"tip 1 {second}")
+    assert rows.stdout[-4].startswith("2 blocks, 1 of 2 kept") and rows.stdout[-4].endswith(
+        f"tip 1 {second}"
+    )
     assert rows.stdout[-3].endswith(f"tip 0 {first}") and rows.stdout[-2] == "refused 11"
 
 
@@ -677,8 +711,8 @@ def stop_in_a_second_gate(rows):
     rows.heading("a stop in a second block's gate leaves one block or two")
     payloads, _ = marks(1, 2)
     rows.make("regtest", 100, payloads)
-    # the making has 7 moments, and each block 4: a write, a sync, the gate's write and its sync
-    for moment, fill, blocks in ((13, 0x07, 1), (14, 0x00, 1), (14, 0x07, 2)):
+    # the making has 8 moments, and each block 4: a write, a sync, the gate's write and its sync
+    for moment, fill, blocks in ((14, 0x07, 1), (15, 0x00, 1), (15, 0x07, 2)):
         rows.crash(moment, fill, ALL)
         assert rows.stdout[-1].startswith(f"{blocks} blocks")
 
@@ -696,13 +730,24 @@ def spoil_a_first_byte(rows):
 
 
 def main():
-    rows = Rows()
-    for part in (makes, commits, refuses, no_store, fails, stops, prefixes, many, displaces, replaces, keeps):
+    rows = Stores()
+    for part in (
+        makes,
+        commits,
+        refuses,
+        no_store,
+        fails,
+        stops,
+        prefixes,
+        many,
+        displaces,
+        replaces,
+        keeps,
+    ):
         part(rows)
     for part in (keep_what_is_kept, stop_in_a_second_gate, spoil_a_first_byte):
         part(rows)
-    (CRATE / "stdin").write_text("".join(line + "\n" for line in rows.stdin))
-    (CRATE / "stdout").write_text("".join(line + "\n" for line in rows.stdout))
+    write_rows("ox_store_rows", rows.stdin, rows.stdout)
 
 
 main()

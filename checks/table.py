@@ -2,7 +2,8 @@
 
 import random
 
-from chain import SHORT, SUBSIDY, block_of, transaction, twice
+from chain import SHORT, block_of, transaction
+from tools.bitcoin import NO_OUTPUT, SUBSIDY, twice
 
 BLOCKS = 25
 ADDED = 20_000
@@ -10,7 +11,6 @@ SPENT = 1_000
 # of each coinbase so many satoshis are left, which are lost
 LEFT = 1_000
 SUPPLY = 2_099_999_997_690_000
-NO_OUTPUT = bytes(32), 0xFFFFFFFF
 
 
 def join(runs, more):
@@ -23,7 +23,8 @@ def join(runs, more):
 
 
 def deal(runs, values):
-    """What outputs of these values take from the front of some runs, one after another. What is left stays there."""
+    """What outputs of these values take from the front of some runs, one after another. What is
+    left stays there."""
     left, parts = runs[::-1], []
     for value in values:
         part = []
@@ -46,7 +47,8 @@ def split(chance, total, count):
 
 
 class Table:
-    """The blocks, the unspent outputs with their heights and runs, one that is spent, and the lost satoshis' runs."""
+    """The blocks, the unspent outputs with their heights and runs, one that is spent, and the lost
+    satoshis' runs."""
 
     def __init__(self, seed):
         self.chance = random.Random(seed)
@@ -56,7 +58,8 @@ class Table:
             self.add_block()
 
     def make(self, origins, runs, values, script=b""):
-        """A transaction that spends outputs with these runs into these values. What is left of the runs stays there."""
+        """A transaction that spends outputs with these runs into these values. What is left of the
+        runs stays there."""
         inputs = [(txid, index, b"") for txid, index in origins]
         tx = transaction(inputs, [(value, SHORT) for value in values], script)
         txid = twice(tx[0])
@@ -75,8 +78,8 @@ class Table:
         return tx, runs
 
     def add_block(self):
-        """Adds a block that adds so many outputs: the first by its coinbase alone, and each other one half of them by a
-        transaction that spends earlier ones."""
+        """Adds a block that adds so many outputs: the first by its coinbase alone, and each other
+        one half of them by a transaction that spends earlier ones."""
         height = len(self.blocks)
         runs, txs = [(height * SUBSIDY, SUBSIDY)], []
         if height:
@@ -123,5 +126,11 @@ def satoshi(number, place):
         letters, left = chr(ord("a") + (left - 1) % 26) + letters, (left - 1) // 26
     rarity = "common" if offset else "uncommon" if height else "mythic"
     degree = f"0°{height}′{height}″{offset}‴"
-    told = {"decimal": f"{height}.{offset}", "degree": degree, "inscriptions": [], "name": letters, "number": number}
+    told = {
+        "decimal": f"{height}.{offset}",
+        "degree": degree,
+        "inscriptions": [],
+        "name": letters,
+        "number": number,
+    }
     return told | {"place": place, "rarity": rarity}

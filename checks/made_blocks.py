@@ -1,0 +1,56 @@
+"""The blocks of a made chain, by docs/RULES.md, 'Made blocks': their bytes, from a height, the hash
+of the block before and the id of its coinbase; and the rows of crates/ox_block_rows about them.
+"""
+
+from tools.bitcoin import RESERVED, SUBSIDY, block, coinbase, commitment, root, transaction, twice
+
+OPEN = b"\x51"
+HALVING = 210_000
+
+
+def claim(height):
+    """What a coinbase claims: all that its block mints but for one satoshi."""
+    return max((SUBSIDY >> height // HALVING) - 1, 0)
+
+
+def runestone(height):
+    """The script that etches, that burns a mint or that mints."""
+    if height == 1:
+        return bytes.fromhex("6a5d0a0203066408c0843d0a07")
+    return bytes.fromhex("6a5d06140114017e00" if height % 10 == 0 else "6a5d0414011401")
+
+
+def spend(height, paid):
+    """The transaction that spends the coinbase before."""
+    digits = str(height).encode()
+    tapscript = (
+        bytes.fromhex("0063036f726401010a746578742f706c61696e00")
+        + bytes([len(digits)])
+        + digits
+        + b"\x68"
+    )
+    outputs = [(claim(height - 1), OPEN), (0, runestone(height))]
+    return transaction([(paid, 0)], outputs, stacks=[[tapscript, b"\xc0" + bytes(32)]])
+
+
+def made(height, tip, paid):
+    """The block's bytes, its hash, and its coinbase's id."""
+    others = [spend(height, paid)] if height else []
+    outputs = [(claim(height), OPEN), (0, commitment([whole for _, whole in others]))]
+    txs = [coinbase(outputs, b"\4" + height.to_bytes(4, "little"), [RESERVED]), *others]
+    ids = [twice(bare) for bare, _ in txs]
+    data, tip = block(tip, root(ids), [whole for _, whole in txs], height)
+    return data, tip, ids[0]
+
+
+def rows():
+    """The rows, and what is printed for each: the first 41 blocks of a chain, and some about
+    halvings."""
+    tip, paid = bytes(32), bytes(32)
+    for height in range(41):
+        row = f"made {height} {tip.hex()} {paid.hex()}"
+        data, tip, paid = made(height, tip, paid)
+        if height in (0, 1, 2, 3, 9, 10, 11, 20, 40):
+            yield row, data.hex()
+    for height in (209_999, 210_000, 210_001, 6_929_999, 6_930_001, 2**32 - 1):
+        yield f"made {height} {tip.hex()} {paid.hex()}", made(height, tip, paid)[0].hex()

@@ -1,0 +1,234 @@
+#!/usr/bin/env python3
+"""Looks which definitions somebody has to read who believes the headline.
+
+    python3 checks/review.py [--write]
+
+follows the words of the definitions in crates/*/specs from those that the clause `survives` of
+`run` names, into every definition and every type of the Rust code that they stand on, and tells
+how many there are: below the clause alone, which ends at the rules (which lines a feed has, which
+command a line is, what a block does), and with the rules. docs/REVIEW.md has those below the clause
+between two markers, a line a file; the script tells each line that is missing there or says
+something else, and each definition that the table above it names and that isn't in the file named
+beside it. The status is 1 where it told something. With --write it writes the lines anew.
+
+It reads words and no types: a definition whose name another one uses for something of its own is
+followed too, so that the list may be too long, but not too short.
+"""
+
+import pathlib
+import re
+import sys
+
+TOP = pathlib.Path(__file__).resolve().parents[1]
+REVIEW = "docs/REVIEW.md"
+BEGIN = "<!-- checks/review.py writes from here -->"
+END = "<!-- to here -->"
+
+HEADLINE = "Rattle.ox_app.specs.Headline"
+STARTS = [
+    (HEADLINE, "SurvivesCrash"),
+    (HEADLINE, "StandsFor"),
+    ("Rattle.ox_app.specs.Subcommands", "apply_words"),
+    ("Rattle.ox_model.specs.Machine", "stack_of"),
+]
+# where the rules begin
+RULES = {
+    ("Rattle.ox_feed.specs.Feed", "lines_of"),
+    ("Rattle.ox_feed.specs.Command", "command_of"),
+    ("Rattle.ox_model.specs.Step", "step"),
+}
+
+BEGINS = re.compile(r"(?:abbrev |unfoldable |pub |record |data |mutual )+([^\s:({]+)")
+NAME = re.compile(r"[^\s(){}\[\],;.:λ→]+")
+
+
+class Definition:
+    """A definition or a type: its file below crates/, its name, its lines, and its module."""
+
+    def __init__(self, file, name, module):
+        self.file, self.name, self.module = file, name, module
+        self.lines = []
+
+
+class Definitions:
+    """All definitions and types, and what each module takes from others."""
+
+    def __init__(self):
+        self.found, self.taken, self.renamed, self.types = {}, {}, {}, {}
+        for path in sorted((TOP / "crates").glob("*/specs/**/*.antt")):
+            self.add_definitions(path)
+        for path in sorted((TOP / "crates").glob("*/src/**/*.rt")):
+            self.add_types(path)
+
+    def add_uses(self, module, text):
+        """What a module takes from others, by the names that it gives them."""
+        self.taken[module] = taken = {}
+        uses = r"^ *(?:pub |ghost )?use ([\w.-]+?)\.\{([^}]*)\}"
+        for source, names in re.findall(uses, text, re.M):
+            for word in filter(None, map(str.strip, names.split(","))):
+                name, _, alias = word.partition(" as ")
+                taken[(alias or name).strip()] = source, name.strip()
+        renamed = re.findall(r"^ *(?:pub |ghost )?use ([\w.-]+) as (\w+)", text, re.M)
+        self.renamed[module] = {alias: source for source, alias in renamed}
+
+    def add_definitions(self, path):
+        crate, _, rest = str(path.relative_to(TOP / "crates")).partition("/specs/")
+        module = f"Rattle.{crate}.specs.{rest.removesuffix('.antt').replace('/', '.')}"
+        text, now = path.read_text(), None
+        self.add_uses(module, text)
+        for line in text.split("\n"):
+            begins = BEGINS.match(line)
+            if begins:
+                now = Definition(f"{crate}/specs/{rest}", begins[1], module)
+                self.found.setdefault((module, begins[1]), now)
+            elif line.startswith(("--", "use ", "pub use ")):
+                now = None
+            elif line[:1].strip():
+                # an equation, which may stand behind another definition's type
+                now = self.found.get((module, line.split()[0]), now)
+            if now and line.strip():
+                now.lines.append(line)
+            constructor = re.match(r"  (?:pub )?([A-Z]\w*) :", line)
+            if constructor and now and "data" in now.lines[0].split():
+                self.found.setdefault((module, constructor[1]), now)
+
+    def add_types(self, path):
+        """The types and traits of a file of Rust code, which is a module of its own here."""
+        file = str(path.relative_to(TOP / "crates"))
+        text = re.sub(r" *//.*", "", path.read_text())
+        self.add_uses(file, text)
+        for begins in re.finditer(r"^pub (?:struct|enum|trait) (\w+)", text, re.M):
+            rest = text[begins.start() :]
+            end = r"^\}" if "{" in rest.split("\n")[0] else r";$"
+            item = rest[: re.search(end, rest, re.M).end()]
+            found = Definition(file, begins[1], file)
+            found.lines = [line for line in item.split("\n") if line.strip()]
+            self.types.setdefault(begins[1], []).append(found)
+
+    def type_in(self, crate, name):
+        """The type that a crate means by a name: its own, or that of the only one that has it."""
+        types = self.types.get(name, [])
+        own = [one for one in types if one.file.startswith(f"{crate}/")]
+        return (own or types)[0] if own or len(types) == 1 else None
+
+    def one(self, module, name):
+        """The definition that a module means by a name, if it's one of the repository."""
+        if (module, name) in self.found:
+            return self.found[module, name]
+        if ".specs.declared." in module:
+            crate, _, rest = module.removeprefix("Rattle.").partition(".specs.declared.")
+            owner = rest.removesuffix(".TheVariants").split(".")[-1]
+            return self.type_in(crate, owner if owner[:1].isupper() else name)
+        if name in self.taken.get(module, {}):
+            return self.one(*self.taken[module][name])
+        return self.type_in(module.split("/")[0], name) if module.endswith(".rt") else None
+
+    def named_by(self, definition):
+        """What a definition names, some of it by way of a module that has another name there."""
+        renamed = self.renamed[definition.module]
+        for line in definition.lines:
+            yield from (self.one(definition.module, word) for word in NAME.findall(line))
+            for alias, word in re.findall(r"(\w+)\.(\w+)", line):
+                if alias in renamed:
+                    yield self.one(renamed[alias], word)
+
+    def below(self, starts, but=()):
+        """These definitions, and all that they stand on but some."""
+        seen, rest = set(), [self.one(*start) for start in starts]
+        but = {self.one(*rule) for rule in but}
+        while rest:
+            definition = rest.pop()
+            if definition is not None and definition not in seen | but:
+                seen.add(definition)
+                rest += self.named_by(definition)
+        return seen
+
+
+def by_file(definitions):
+    """The names of each file, in the order of the alphabet."""
+    files = {}
+    for file, name in sorted((one.file, one.name) for one in definitions):
+        files.setdefault(file, []).append(name)
+    return files
+
+
+def lines_of(definitions):
+    """The lines between the markers."""
+    lines = ["| File | Definitions |", "|---|---|"]
+    for file, names in by_file(definitions).items():
+        lines.append(f"| `{file}` | {', '.join(f'`{name}`' for name in names)} |")
+    return lines
+
+
+def between(text):
+    """The numbers of the lines of both markers, counted from 0."""
+    lines = text.split("\n")
+    return lines.index(BEGIN), lines.index(END)
+
+
+def lacking(text, definitions):
+    """What docs/REVIEW.md lacks, each with the number of a line."""
+    lines = text.split("\n")
+    if BEGIN not in lines or END not in lines:
+        yield 1, "the markers of checks/review.py aren't there"
+        return
+    begin, end = between(text)
+    there, wanted = lines[begin + 1 : end], lines_of(definitions)
+    for line in wanted:
+        if line not in there:
+            yield begin + 1, f"this is missing: {line}"
+    for at, line in enumerate(there, begin + 2):
+        if line not in wanted:
+            yield at, "checks/review.py finds no such line"
+
+
+def misplaced(text):
+    """The definitions of the numbered table that none of the files beside them has."""
+    for at, line in enumerate(text.split("\n"), 1):
+        cells = [cell.strip() for cell in line.split("|")[1:-1]]
+        if len(cells) != 4 or not cells[0].isdigit():
+            continue
+        files, folder = [], None
+        for word in re.findall(r"`([\w/]+\.(?:antt|rt))`", cells[2]):
+            folder = word.rpartition("/")[0] or folder
+            files.append(f"{folder}/{word.rpartition('/')[2]}")
+        texts = [TOP / "crates" / file for file in files]
+        words = set(re.findall(r"\w+", " ".join(it.read_text() for it in texts if it.exists())))
+        for name in re.findall(r"`(\w+)`", cells[1]):
+            if name not in words:
+                yield at, f"`{name}` isn't in {' or '.join(files)}"
+
+
+def told(text, every=None):
+    """All that the script tells of docs/REVIEW.md."""
+    every = every or Definitions()
+    yield from lacking(text, every.below(STARTS, RULES))
+    yield from misplaced(text)
+
+
+def tell(what, definitions):
+    count = sum(len(one.lines) for one in definitions)
+    files = len(by_file(definitions))
+    print(f"{what}: {len(definitions)} definitions, {count:,} lines, {files} files")
+
+
+def main():
+    if sys.argv[1:] not in ([], ["--write"]):
+        sys.exit(__doc__)
+    every, review = Definitions(), TOP / REVIEW
+    short = every.below(STARTS, RULES)
+    tell("below the clause, but for the rules", short)
+    tell("with the rules", every.below(STARTS))
+    text = review.read_text()
+    if sys.argv[1:]:
+        lines, (begin, end) = text.split("\n"), between(text)
+        text = "\n".join([*lines[: begin + 1], *lines_of(short), *lines[end:]])
+        review.write_text(text)
+    wrong = list(told(text, every))
+    for at, cause in wrong:
+        print(f"{REVIEW}:{at}: {cause}")
+    sys.exit(1 if wrong else 0)
+
+
+if __name__ == "__main__":
+    main()
