@@ -5,12 +5,13 @@ at the files' bytes.
     python3 checks/real_files.py [PROGRAM]
 
 No proof says which bytes a real file gives or takes, so this tries it: each subcommand, each status
-but 9, which would take 4,611,686,018,427,387,904 bytes, the bytes of the files, satoshis among
-500,000 outputs (checks/table.py), and fifty kills of a running `apply` (checks/kills.py). Each
-check has a new folder, below out/ beside this script, that is gone where it passed. A check that
-fails is told with its cause, and its folder stays. The last line says how many passed and how many
-failed, and the status is 1 where one failed. PROGRAM is crates/ox_main/out/ox_main without a word,
-which `rt ci` and `rt run` leave there. It takes half a minute to a minute and a half.
+but 9, which would take 4,611,686,018,427,387,904 bytes, the bytes of the files, a content of
+3,900,000 bytes, satoshis among 500,000 outputs (checks/table.py), and fifty kills of a running
+`apply` (checks/kills.py). Each check has a new folder, below out/ beside this script, that is gone
+where it passed. A check that fails is told with its cause, and its folder stays. The last line says
+how many passed and how many failed, and the status is 1 where one failed. PROGRAM is
+crates/ox_main/out/ox_main without a word, which `rt ci` and `rt run` leave there. It takes half a
+minute to a minute and a half.
 """
 
 import collections
@@ -431,6 +432,28 @@ def inscriptions_and_runes(ox):
     ox.says("/runes/0", {"ids": [], "more": False, "page": 0})
     for path in (f"/inscription/{ids[0]}", f"/content/{ids[0]}", "/rune/3:1", f"/output/{at}"):
         ox.says(path, {"error": 404})
+
+
+@check("a content of nearly four million bytes is given whole")
+def long_content(ox):
+    blocks, tips = chain(3)
+    # each four bytes of it tell where they stand
+    content = b"".join(at.to_bytes(4, "little") for at in range(975_000))
+    pushes = (b"\x4d\x08\x02" + content[at : at + 520] for at in range(0, len(content), 520))
+    script = b"".join([envelope([], b"")[:-1], *pushes, b"\x68"])
+    tx = reveal_into(twice(coinbase(0, SHORT)), script, [(SUBSIDY, SHORT)])
+    block, tip = block_with(twice(blocks[2][:80]), 3, tx)
+    id = f"{twice(tx[0])[::-1].hex()}i0"
+    ox.wants((0, b"ok empty\n"), "init", "lab", "100")
+    wanted = b"".join(answer(height, tips) for height in range(3))
+    wanted += f"ok 3 {tip[::-1].hex()}\n".encode()
+    ox.wants((0, wanted), "apply", feed=b"".join(map(line, [*blocks, block])))
+    ox.says(f"/content/{id}", content)
+    _, shown = ox.run("query", f"/inscription/{id}")
+    demand(
+        json.loads(shown)["content_length"] == 3_900_000,
+        f"the inscription was told as {value_text(shown)}",
+    )
 
 
 @check("what a cenotaph minted and burned is taken back with its block, by a later run too")

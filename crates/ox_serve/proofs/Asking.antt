@@ -1,10 +1,10 @@
 -- What a turn adds to the answers of a run, and to the way of a desk.
-use Rattle.std.proofs.Common.{◌≡◌, ◌∙◌, ℕ, ◌+◌, ◌==◌, Bool, true, false, List, [], ◌∷◌, ◌++◌, ◌&&◌, ◌||◌, not, Option, Some, None, if◌then◌else◌, inl, inr, ◌⊎◌, refl, sym, ap, subst, append_assoc, arith, ◌≤◌}
+use Rattle.std.proofs.Common.{◌≡◌, ◌∙◌, ℕ, ◌==◌, Bool, true, false, List, [], ◌∷◌, ◌++◌, ◌&&◌, ◌||◌, not, Option, Some, None, if◌then◌else◌, inl, inr, refl, sym, ap, subst, append_assoc, arith, ◌≤◌}
 use Rattle.std.specs.Prelude.{IsTrue, slice_get, length, is_some}
 use Rattle.std.specs.Option.{option_map}
 use Rattle.std.proofs.lemmas.Bool.{eq-eqb, eqb-true}
 use Rattle.std.proofs.lemmas.List.{append-nil}
-use Rattle.ox_outside.specs.Event.{Event, Opened, Heard, Ended, Showed, Broke, GaveUp, Shut, channel_of, heard_bytes, shown_bytes, has_given_up}
+use Rattle.ox_outside.specs.Event.{Event, Opened, Heard, Ended, Showed, Broke, GaveUp, Shut, heard_bytes, shown_bytes, has_given_up}
 use Rattle.ox_outside.specs.declared.site.Doorway.{Doorway}
 use Rattle.ox_outside.proofs.Event.{has_given_up-append, heard_bytes-append, shown_bytes-append}
 use Rattle.ox_http.specs.declared.Request.{Request}
@@ -13,8 +13,8 @@ use Rattle.ox_http.specs.Written.{written}
 use Rattle.ox_links.specs.GoesOn.{GoesOnWithout}
 use Rattle.ox_links.specs.Link.{Answer, all_shown, answers_to, asked_now, is_operator, is_operators, reply_bytes}
 use Rattle.ox_links.specs.Quiet.{Speaks}
-use Rattle.ox_links.specs.Rotation.{Who, door_of, link_of}
-use Rattle.ox_links.specs.Serving.{Server, Serving, answer_at, answer_of, after_event, gives_up, message_command, message_reply, next_state, serve_on, served_by, start_at, with_answer, with_event}
+use Rattle.ox_links.specs.Rotation.{door_of, link_of}
+use Rattle.ox_links.specs.Serving.{Server, Serving, answer_at, answer_of, after_event, gives_up, message_command, message_reply, next_state, served_by, start_at, with_answer, with_event}
 use Rattle.ox_links.specs.Turned.{IsTurn, is_first}
 use Rattle.ox_links.proofs.Asked.{asked-same}
 use Rattle.ox_links.proofs.GoingOn.{past_is, serve_on-append}

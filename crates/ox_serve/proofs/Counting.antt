@@ -108,7 +108,6 @@ module _ {X C D : Type 0} (server : Server X C) (state : D → X) (moved : D →
       let totals = led_totals 0 desk next (served_by server (state desk) events).answers first made.led in
       record {
         turned = made.turned;
-        fronts = made.fronts;
         requests_counted = omega (arith, totals.many, none);
         hits_counted = ap (λ (t : Tally). t.hits) totals.tallied ∙ ap (λ (t : Tally). (tally_after t (served_by server (state desk) events).answers).hits) untold;
       }

@@ -1,6 +1,6 @@
 -- How a run of turns goes on: what is known behind so many of them, and what the next one makes of it.
-use Rattle.std.proofs.Common.{◌≡◌, ◌∙◌, ◌≤◌, ◌<◌, ℕ, zero, suc, ◌+◌, Bool, List, [], ◌∷◌, ◌++◌, length, Option, Some, None, refl, sym, ap, subst, arith, inl, inr, ◌⊎◌, append_assoc}
-use Rattle.std.specs.Prelude.{IsTrue, get_or, replicate}
+use Rattle.std.proofs.Common.{◌≡◌, ◌∙◌, ◌≤◌, ◌<◌, ℕ, zero, suc, ◌+◌, Bool, List, [], ◌∷◌, ◌++◌, length, Option, Some, None, refl, sym, ap, subst, arith, inl, append_assoc}
+use Rattle.std.specs.Prelude.{get_or, replicate}
 use Rattle.std.proofs.lemmas.List.{append-nil}
 use Rattle.std.proofs.lemmas.List.Elements.{All-nil}
 use Rattle.std.proofs.lemmas.Option.{same_Some}
@@ -13,14 +13,15 @@ use Rattle.ox_outside.specs.Runs.{LeavesOnly}
 use Rattle.ox_outside.specs.Shown.{acknowledgements}
 use Rattle.ox_outside.specs.declared.site.Site.{Ghosts as Meanings}
 use Rattle.ox_outside.proofs.Calls.{leaves_at_first, leaves_then, leaves_weaker}
+use Rattle.ox_outside.proofs.Log.{grows_none}
 use Rattle.ox_http.specs.declared.Request.{Request}
 use Rattle.ox_links.specs.Link.{Answer}
 use Rattle.ox_links.specs.Quiet.{Speaks}
 use Rattle.ox_links.specs.Rotation.{Who, door_of, link_of}
 use Rattle.ox_links.specs.Serving.{Server, served_by}
-use Rattle.ox_links.specs.Survives.{Survives, acknowledged_to}
+use Rattle.ox_links.specs.Survives.{Survives}
 use Rattle.ox_links.specs.Turned.{AreTurns, CountsIdles, CutShort, IsTurn, Turn, Turned, logged_by}
-use Rattle.ox_turns.specs.Follows.{Follows, Start}
+use Rattle.ox_turns.specs.Follows.{Follows, ShowsFrontsIn, Start}
 use Rattle.ox_turns.specs.Places.{Places}
 use Rattle.ox_turns.specs.declared.slot.Slot.{Slot}
 use Rattle.ox_turns.specs.Turn.{DeskOf, FollowsSome, OneTurn, TurnCut}
@@ -118,7 +119,6 @@ module _ {X C D : Type 0} (server : Server X C) (speaks : Speaks server) (state 
     went.logged,
     record {
       turned = subst (λ (k : ℕ). Turned server (state desk) k counts new (logged_by went.turns)) (went.many ∙ all) (turned_so server (state desk) counts new went.turns places.place went.made went.idles);
-      fronts = went.follows.shown;
       led = went.led;
     },
   )
@@ -131,6 +131,16 @@ module _ {X C D : Type 0} (server : Server X C) (speaks : Speaks server) (state 
     cut.logged ∙ ap (λ (l : List Event). Some l) (append_assoc past (logged_by went.turns) cut.events),
     cut_so server (state desk) times went.turns places.place cut.events (let e = went.many in omega (arith, e, fewer)) went.made cut.cut,
   )
+
+  -- what was shown behind them, and where one was cut short
+  pub went_shown : (n : ℕ) (places : Places) (log : Option (List Event)) (new : Counts) (next : D) → Went n places log new next
+      → (added : List Event) × (log ≡ Some (past ++ added)) × ShowsFrontsIn server (state desk) added
+  went_shown n places log new next went = (logged_by went.turns, went.logged, went.follows.shown)
+
+  pub cut_shown : (n : ℕ) (places : Places) (log now : Option (List Event)) (new : Counts) (next : D) → (went : Went n places log new next)
+      → TurnCut server start (logged_by went.turns) places.place now → (added : List Event) × (now ≡ Some (past ++ added)) × ShowsFrontsIn server (state desk) added
+  cut_shown n places log now new next went cut =
+      (logged_by went.turns ++ cut.events, cut.logged ∙ ap (λ (l : List Event). Some l) (append_assoc past (logged_by went.turns) cut.events), cut.fronts)
 
 -- of a log that is told or isn't
 pub can_follow : {X C D : Type 0} (server : Server X C) (state : D → X) (moved : D → Request → Bool → D → Type 0) (same : D → D → Type 0)
@@ -182,6 +192,10 @@ no_slot : (n i : ℕ) (slot : Slot) → get_or (replicate n None) i None ≡ Som
 no_slot zero i slot is = cc is
 no_slot (suc n) zero slot is = cc is
 no_slot (suc n) (suc i) slot is = no_slot n i slot is
+
+-- before the first event nothing is shown
+pub shows_none : {X C : Type 0} (server : Server X C) (first : X) (log : Option (List Event)) → Grows (ShowsFrontsIn server first) log log
+shows_none server first log = grows_none (ShowsFrontsIn server first) log (λ channel some. ([], refl))
 
 -- slots that no link has come to follow any log
 pub follows_none : {X C : Type 0} (server : Server X C) (log : List Event) (state : X) → Follows server (record { log = log; state = state }) [] (replicate 32 None) state

@@ -1,21 +1,12 @@
 -- What a run of a server's turns comes to, over any desk.
-use Rattle.std.specs.Prelude.{◌≡◌, ℕ, ◌≤◌, Bool, List}
+use Rattle.std.specs.Prelude.{◌≡◌, ℕ, Bool, List}
 use Rattle.ox_outside.specs.Counts.{Counts}
-use Rattle.ox_outside.specs.Event.{Event, shown_bytes}
-use Rattle.ox_outside.specs.Shown.{IsFrontOf}
+use Rattle.ox_outside.specs.Event.{Event}
 use Rattle.ox_http.specs.declared.Request.{Request}
 use Rattle.ox_links.specs.Counted.{hits_in, requests_in}
-use Rattle.ox_links.specs.Link.{answers_to, reply_bytes}
 use Rattle.ox_links.specs.Serving.{Server, served_by}
 use Rattle.ox_links.specs.Turned.{Turned}
 use Rattle.ox_serve.specs.Led.{Led}
-
--- on each link a front of its answers is shown
-abbrev pub ShowsFronts : {X C : Type 0} → Server X C → X → List Event → Type 0
-ShowsFronts server first events =
-    (channel : ℕ) → 1 ≤ channel
-    → IsFrontOf (shown_bytes channel events)
-    (reply_bytes (answers_to channel (served_by server first events).answers))
 
 -- So many turns were made, with these counts before and after them, and the desk went from one to
 -- another along their answers.
@@ -23,13 +14,11 @@ pub record MadeTurns {X C D : Type 0} (server : Server X C) (state : D → X)
     (moved : D → Request → Bool → D → Type 0) (same : D → D → Type 0) (n : ℕ) (old new : Counts)
     (desk next : D) (events : List Event) : Type 0 where
   pub turned : Turned server (state desk) n old new events
-  pub fronts : ShowsFronts server (state desk) events
   pub led : Led server state moved same 0 desk (served_by server (state desk) events).answers next
 
 -- So many turns were made, and so many requests and hits counted of their answers.
 pub record Served {X C : Type 0} (server : Server X C) (first : X) (n : ℕ) (old new : Counts)
     (requests hits : ℕ) (events : List Event) : Type 0 where
   pub turned : Turned server first n old new events
-  pub fronts : ShowsFronts server first events
   pub requests_counted : requests ≡ requests_in (served_by server first events).answers
   pub hits_counted : hits ≡ hits_in (served_by server first events).answers

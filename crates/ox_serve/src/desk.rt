@@ -6,6 +6,7 @@ ghost use Rattle.ox_outside.specs.Log.{Grows};
 ghost use Rattle.ox_outside.specs.Runs.{Calls, LeavesOnly};
 ghost use Rattle.ox_links.specs.Survives.{Survives};
 ghost use Rattle.ox_links.specs.Turned.{CutShort};
+ghost use Rattle.ox_turns.specs.Follows.{ShowsFrontsIn};
 ghost use Rattle.ox_serve.specs.Runs.{MadeTurns};
 ghost use Rattle.ox_serve.specs.declared.fault.ServeFault.TheVariants as faults;
 
@@ -32,6 +33,8 @@ pub fn serve_from<S: Site, D: Desk<S>>(
     ensures cut { OnErr result (result ≢ Err faults.Memory
         → Grows (CutShort D.server (D.state desk.old) times) (S.log site.old) (S.log site.new)) }
     ensures memory { IsErrOf result ServeFault.Memory → site.new ≡ site.old }
+    ensures fronts { Grows (ShowsFrontsIn D.server (D.state desk.old)) (S.log site.old)
+        (S.log site.new) }
     ensures survives { IsTrue (S.told site.old) → LeavesOnly S.Site site.old site.new (λ r.
         Grows (λ events. Survives D.server (D.state desk.old) D.stands events r.files)
         (S.log site.old) (Some r.log)) }

@@ -23,7 +23,7 @@ use Rattle.ox_turns.specs.Turn.{Comes, DeskAnswers, DeskGoes, DeskTurns, Goes, H
 use Rattle.ox_turns.specs.declared.link.Came.TheVariants.{Nothing, Part, More, NoMemory, Over}
 use Rattle.ox_turns.specs.declared.link.Next.TheVariants.{Rests, NoMemory as NoneLeft, Over as Ends}
 use Rattle.ox_turns.proofs.Answering.{asks_no_more, asks_none_due, waits, asks_request, is_at_fault}
-use Rattle.ox_turns.proofs.Turning.{Middle, asks_none, asked_still, middle_heard, middle_shown, idle_turn, ended_turn, broken_turn, part_turn, waiting_turn, request_turn, fault_turn, last_turn, giving_up_turn}
+use Rattle.ox_turns.proofs.Turning.{Middle, fronts_event, asks_none, asked_still, middle_heard, middle_shown, idle_turn, ended_turn, broken_turn, part_turn, waiting_turn, request_turn, fault_turn, last_turn, giving_up_turn}
 
 -- a call that adds these events to this log
 pub after_adds : (events : List Event → List Event) (log : List Event) (old new : Option (List Event)) → old ≡ Some log → Adds events old new → new ≡ Some (log ++ events log)
@@ -226,7 +226,7 @@ module _ {S X C D : Type 0} (means : Meanings S) (server : Server X C) (http : I
     pub cut_short : (end : Option (List Event)) → end ≡ between → LinkCut server run log c end
     cut_short end same_end =
         let b = begins server http run c door old follows fronts events mid comes.0 in
-        record { event = b.event; logged = same_end ∙ logged_one events b.event between b.is adds first; first = b.middle.first }
+        record { event = b.event; logged = same_end ∙ logged_one events b.event between b.is adds first; first = b.middle.first; fronts = fronts_event server run b.event [] b.middle.shows }
 
   pub made_no_memory : (events : List Event) (mid new : Link) (between : Option (List Event)) → Comes NoMemory c old mid events → Adds (λ log. events) (means.log before) between → means.log before ≡ Some log
       → Adds (give_up_events c) between (means.log after) → now ≡ run.state → new_desk ≡ old_desk → new ≡ record mid { due = unavailable; asked = false; closing = true } → Made false new

@@ -16,20 +16,20 @@ use Rattle.ox_outside.proofs.Log.{adds_grows, grows_none, grows_same}
 use Rattle.ox_outside.proofs.OnlyTalks.{talks_once}
 use Rattle.ox_http.specs.declared.Request.{Request}
 use Rattle.ox_links.specs.Rotation.{Who, door_of, link_of, is_free, next_turn, places, slots_in}
-use Rattle.ox_links.specs.Serving.{Server, served_by}
+use Rattle.ox_links.specs.Serving.{Server, Serving, served_by}
 use Rattle.ox_links.specs.Survives.{Survives}
 use Rattle.ox_links.specs.Link.{all_shown}
 use Rattle.ox_links.specs.Turned.{IsCut, is_first}
 use Rattle.ox_turns.specs.Desk.{IsHttp}
-use Rattle.ox_turns.specs.Follows.{Follows, Holds, Start}
+use Rattle.ox_turns.specs.Follows.{Follows, Holds, ShowsFrontsIn, Start}
 use Rattle.ox_turns.specs.Places.{channels_of}
-use Rattle.ox_turns.specs.Turn.{CutOf, DoorComes, LinkCut, TurnCut, TurnOf}
+use Rattle.ox_turns.specs.Turn.{CutOf, DoorComes, LinkCut, ShowsFronts, TurnCut, TurnOf}
 use Rattle.ox_turns.specs.declared.slot.Slot.{Slot}
 use Rattle.ox_turns.proofs.Coming.{LogsNow, OnlyNow}
 use Rattle.ox_turns.proofs.LinkCrashes.{call_left, quiet_event, survives_none}
-use Rattle.ox_turns.proofs.LinkTurns.{after_adds}
+use Rattle.ox_turns.proofs.LinkTurns.{after_adds, first_own}
 use Rattle.ox_turns.proofs.Rotating.{doors_at, slot_at, slot_on}
-use Rattle.ox_turns.proofs.Surviving.{past_of}
+use Rattle.ox_turns.proofs.Surviving.{fronts_of, one_more_event, past_of}
 use Rattle.ox_turns.proofs.Turned.{door_turned, fronts_since, idle_turned}
 
 -- ---- whose place it is
@@ -76,13 +76,15 @@ cut_link server start since slot new cut = record {
   events = cut.event ∷ [];
   logged = cut.logged;
   first = inr (cut.event, refl, subst (λ (l : List Event). IsTrue (is_first slot.channel (not (all_shown slot.channel l (served_by server start.state since).answers)) cut.event)) (past_of server start.state since) cut.first);
+  fronts = fronts_of server start.state (since ++ cut.event ∷ []) (subst (λ (r : Serving _ _). ShowsFronts r) (sym (one_more_event server start.state since cut.event (first_own slot.channel _ cut.event cut.first).1)) cut.fronts);
 }
 
-pub cut_none : {X C : Type 0} (server : Server X C) (start : Start X) (since : List Event) (who : Who) (old new : Option (List Event)) → old ≡ Some (start.log ++ since) → new ≡ old → CutOf server start since who new
-cut_none server start since who old new is same = record {
+pub cut_none : {X C : Type 0} (server : Server X C) (start : Start X) (since : List Event) (who : Who) (old new : Option (List Event)) → ShowsFrontsIn server start.state since → old ≡ Some (start.log ++ since) → new ≡ old → CutOf server start since who new
+cut_none server start since who old new fronts is same = record {
   events = [];
   logged = same ∙ is ∙ ap (λ (l : List Event). Some l) (sym (append-nil (start.log ++ since)));
   first = inl refl;
+  fronts = subst (λ (l : List Event). ShowsFrontsIn server start.state l) (sym (append-nil since)) fronts;
 }
 
 pub cut_at : {X C : Type 0} (server : Server X C) (start : Start X) (since : List Event) (place at : ℕ) (who : Who) (new : Option (List Event)) → next_turn place (slots_in since) ≡ Some (at, who) → CutOf server start since who new → TurnCut server start since place new
@@ -90,6 +92,7 @@ cut_at server start since place at who new whose cut = record {
   events = cut.events;
   logged = cut.logged;
   cut = ⊎_elim (λ none. subst (IsCut server start.state since place) (sym none) tt) (λ one. subst (IsCut server start.state since place) (sym one.1) (at, who, whose, one.2)) cut.first;
+  fronts = cut.fronts;
 }
 
 -- ---- a door

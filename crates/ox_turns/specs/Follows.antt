@@ -72,6 +72,13 @@ pub record LinkFollows {X C : Type 0} (run : Serving X C) (channel : ℕ) (door 
 abbrev pub Holds : List (Option Slot) → ℕ → Slot → Type 0
 Holds slots at slot = get_or slots at None ≡ Some slot
 
+-- to each link, also one that was shut, a front of its answers was shown
+abbrev pub ShowsFrontsIn : {X C : Type 0} → Server X C → X → List Event → Type 0
+ShowsFrontsIn server first log =
+    (channel : ℕ) → 1 ≤ channel
+    → IsFrontOf (shown_bytes channel log)
+    (reply_bytes (answers_to channel (served_by server first log).answers))
+
 -- From a start, slots and the state now follow what was logged since then.
 pub record Follows {X C : Type 0} (server : Server X C) (start : Start X) (since : List Event)
     (slots : List (Option Slot)) (now : X) : Type 0 where
@@ -84,8 +91,5 @@ pub record Follows {X C : Type 0} (server : Server X C) (start : Start X) (since
       → is_named slot.channel start.log ≡ false
   pub links : (i : ℕ) (slot : Slot) → Holds slots i slot
       → LinkFollows (served_by server start.state since) slot.channel slot.door slot.session
-  -- to each link, also one that was shut, a front of its answers was shown
-  pub shown : (channel : ℕ) → 1 ≤ channel
-      → IsFrontOf (shown_bytes channel since)
-      (reply_bytes (answers_to channel (served_by server start.state since).answers))
+  pub shown : ShowsFrontsIn server start.state since
   pub state : now ≡ (served_by server start.state since).state

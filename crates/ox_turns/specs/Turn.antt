@@ -27,7 +27,7 @@ use Rattle.ox_links.specs.Serving.{Server, Serving, after_event, gives_up, serve
 use Rattle.ox_links.specs.Serving.{served_by}
 use Rattle.ox_links.specs.Turned.{IsCut, IsFirst, IsTurn, is_first}
 use Rattle.ox_turns.specs.Desk.{state_behind}
-use Rattle.ox_turns.specs.Follows.{Follows, IsAtRest, LinkFollows, Start}
+use Rattle.ox_turns.specs.Follows.{Follows, IsAtRest, LinkFollows, ShowsFrontsIn, Start}
 use Rattle.ox_turns.specs.Places.{IsSeated, Places}
 use Rattle.ox_turns.specs.declared.link.Came.{Came}
 use Rattle.ox_turns.specs.declared.link.Came.TheVariants.{Nothing, Part, More, NoMemory, Over}
@@ -179,6 +179,7 @@ pub record LinkCut {X C : Type 0} (server : Server X C) (run : Serving X C) (log
   pub event : Event
   pub logged : new ≡ Some (log ++ event ∷ [])
   pub first : IsTrue (is_first c (not (all_shown c run.past run.answers)) event)
+  pub fronts : ShowsFronts (serve_on server run (event ∷ []))
 
 -- a session between two turns
 pub record IsReady (link : Link) : Type 0 where
@@ -243,20 +244,24 @@ pub record OneTurn {S X C D : Type 0} (means : Meanings S) (server : Server X C)
   pub turn : TurnOf means server moved same start since who new.slots before after now old_desk
       new_desk
 
--- The turn of this one was cut short: nothing was logged, or its first event.
+-- The turn of this one was cut short: nothing was logged, or its first event. Of each link's answers
+-- a front is shown then.
 pub record CutOf {X C : Type 0} (server : Server X C) (start : Start X) (since : List Event)
     (who : Who) (new : Option (List Event)) : Type 0 where
   pub events : List Event
   pub logged : new ≡ Some ((start.log ++ since) ++ events)
   pub first : (events ≡ [])
       ⊎ ((event : Event) × (events ≡ event ∷ []) × IsFirst server start.state since who event)
+  pub fronts : ShowsFrontsIn server start.state (since ++ events)
 
--- A turn was cut short: nothing was logged, or its first event.
+-- A turn was cut short: nothing was logged, or its first event. Of each link's answers a front is
+-- shown then.
 pub record TurnCut {X C : Type 0} (server : Server X C) (start : Start X) (since : List Event)
     (place : ℕ) (new : Option (List Event)) : Type 0 where
   pub events : List Event
   pub logged : new ≡ Some ((start.log ++ since) ++ events)
   pub cut : IsCut server start.state since place events
+  pub fronts : ShowsFrontsIn server start.state (since ++ events)
 
 -- there is a start from which slots and state follow this log
 abbrev pub FollowsSome : {X C : Type 0} → Server X C → List (Option Slot) → X → List Event → Type 0

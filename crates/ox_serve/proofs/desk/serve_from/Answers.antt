@@ -1,5 +1,5 @@
-use Rattle.std.proofs.Common.{None, List, sym, subst}
-use Rattle.std.specs.Prelude.{[], Option, replicate}
+use Rattle.std.proofs.Common.{List, sym, subst}
+use Rattle.std.specs.Prelude.{[], Option}
 use Rattle.ox_turns.specs.Follows.{Follows}
 use Rattle.ox_turns.specs.declared.slot.Slot.{Slot}
 use Rattle.ox_serve.proofs.WentOn.{follows_none}

@@ -1,10 +1,10 @@
-use Rattle.std.proofs.Common.{◌≡◌, ◌∙◌, ◌+◌, arith}
+use Rattle.std.proofs.Common.{◌≡◌, ◌∙◌, arith}
 use Rattle.std.proofs.lemmas.Result.{err_from_is_err_and}
 use Rattle.ox_outside.proofs.Calls.{calls_then}
 use Rattle.ox_outside.proofs.Counts.{no_fault_then, went_on}
 use Rattle.ox_links.specs.Turned.{logged_by}
 use Rattle.ox_serve.proofs.Asking.{http_speaks}
-use Rattle.ox_serve.proofs.WentOn.{can_follow, grows_by, lasts_more, went_all, went_cut, went_more}
+use Rattle.ox_serve.proofs.WentOn.{can_follow, cut_shown, grows_by, lasts_more, went_all, went_cut, went_more, went_shown}
 use Rattle.ox_serve.proofs.round.go_round.Goals as goal
 
 pub turn-requires-clause-follows : goal.turn-requires-clause-follows
@@ -25,6 +25,16 @@ returns-in_err-turn-clause-cut g c =
     let went = kept.3 past is in
     went_cut desk.server (http_speaks desk.server g.met.D.Desk.http) desk.state desk.moved desk.same past _ c.args.desk.now c.loop.counter c.args.times c.loop.turns _ _ _ c.loop.desk
     c.loop-test.true went (turn.cut (record { log = past; state = desk.state c.args.desk.now }) (logged_by went.turns) went.logged went.follows)))
+
+pub returns-in_err-turn-clause-fronts : goal.returns-in_err-turn-clause-fronts
+returns-in_err-turn-clause-fronts g c =
+    let desk = g.D.Desk in
+    let kept = c.loop.invariant in
+    let turn = c.in_err-turn.ensures in
+    grows_by _ (g.S.Site.log c.args.site.now) (g.S.Site.log c.turn.new.site) (λ none. turn.untold (kept.2 none)) (λ past is.
+    let went = kept.3 past is in
+    cut_shown desk.server (http_speaks desk.server g.met.D.Desk.http) desk.state desk.moved desk.same past _ c.args.desk.now c.loop.counter c.loop.turns _ _ _ c.loop.desk
+    went (turn.cut (record { log = past; state = desk.state c.args.desk.now }) (logged_by went.turns) went.logged went.follows))
 
 pub returns-in_err-turn-clause-survives : goal.returns-in_err-turn-clause-survives
 returns-in_err-turn-clause-survives g c told =
@@ -56,6 +66,13 @@ loop-preserved g c =
       turn.rests,
       omega (arith, turn.asked, kept.6),
     )
+
+pub returns-clause-fronts : goal.returns-clause-fronts
+returns-clause-fronts g c =
+    let desk = g.D.Desk in
+    let kept = c.loop.invariant in
+    grows_by _ (g.S.Site.log c.args.site.now) (g.S.Site.log c.loop.site) kept.2 (λ past is.
+    went_shown desk.server (http_speaks desk.server g.met.D.Desk.http) desk.state desk.moved desk.same past _ c.args.desk.now c.loop.counter c.loop.turns _ _ c.loop.desk (kept.3 past is))
 
 pub returns-clause-made : goal.returns-clause-made
 returns-clause-made g c =

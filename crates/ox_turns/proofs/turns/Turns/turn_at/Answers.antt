@@ -2,7 +2,7 @@ use Rattle.std.proofs.Common.{◌≤◌, sym, subst}
 use Rattle.ox_outside.specs.Crash.{Remains}
 use Rattle.ox_links.specs.Rotation.{Who}
 use Rattle.ox_turns.specs.Turn.{CutOf, TurnOf}
-use Rattle.ox_turns.proofs.Rounds.{cut_link, door_left, door_made, either_way, held_at, is_free_at, on_err, on_ok, quiet_left, whose_door, whose_slot}
+use Rattle.ox_turns.proofs.Rounds.{cut_link, cut_none, door_left, door_made, either_way, held_at, is_free_at, on_err, on_ok, quiet_left, whose_door, whose_slot}
 use Rattle.ox_turns.proofs.turns.Turns.turn_at.Goals as goal
 
 pub turn_of_slot-requires-clause-held : goal.turn_of_slot-requires-clause-held
@@ -25,6 +25,10 @@ returns-then-at-lt2-clause-survives g c start since is follows told =
     (door_left g.S.Site g.D.Desk.server g.met.D.Desk.http start since c.args.self.now.slots (g.D.Desk.state c.args.desk.now) follows g.D.Desk.stands g.met.S.Site.only_now g.met.S.Site.logs_now c.args.site.now c.turn_of_door.new.site is stood c.turn_of_door.ensures.files c.turn_of_door.ensures.call c.door_at.result c.turn_of_door.new.self.slots)
     (quiet_left g.S.Site g.D.Desk.server g.met.D.Desk.http start since c.args.self.now.slots (g.D.Desk.state c.args.desk.now) follows g.D.Desk.stands g.met.S.Site.only_now g.met.S.Site.logs_now c.args.site.now c.turn_of_door.new.site is stood c.turn_of_door.ensures.files c.turn_of_door.ensures.call)
     c.turn_of_door.ensures.comes c.turn_of_door.ensures.fails
+
+pub returns-then-at-lt2-clause-cut : goal.returns-then-at-lt2-clause-cut
+returns-then-at-lt2-clause-cut g c start since who is follows at_who =
+    on_err c.turn_of_door.result _ _ (cut_none g.D.Desk.server start since who (g.S.Site.log c.args.site.now) (g.S.Site.log c.turn_of_door.new.site) follows.shown is) c.turn_of_door.ensures.fails
 
 pub returns-else-at-lt2-clause-turn : goal.returns-else-at-lt2-clause-turn
 returns-else-at-lt2-clause-turn g c start since who is follows at_who =
