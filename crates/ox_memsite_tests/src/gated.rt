@@ -1,5 +1,6 @@
 //! What no clause says: that the calls succeed where there is ample memory, the bytes of an empty
-//! store and of a file that took the other one's place, and that a failed call changes nothing else.
+//! store and of a file that took the other one's place, and that a failed call changes nothing
+//! else.
 
 use ox_bytes::Bytes;
 use ox_gated::{GateFault, Head, Opened, Tail, checkpoint_of, frame, frame_parts};
