@@ -1,3 +1,5 @@
+//! Groups of five bits and of eight.
+
 ghost use Rattle.std.specs.Prelude.{◌≡◌, ◌+◌, ◌-◌, ◌*◌, ◌/◌, ◌%◌, ◌^◌, ◌<◌, ◌≤◌};
 
 /// At most twelve bits that wait for more to fill a byte or a group of five.

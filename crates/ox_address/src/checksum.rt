@@ -1,3 +1,5 @@
+//! The checksum of an address (BIP 173, "Checksum"; BIP 350).
+
 ghost use Rattle.std.specs.Prelude.{◌≡◌, ℕ, ◌+◌, ◌*◌, ◌/◌, ◌%◌, ◌^◌, ◌<◌, length, All, fold};
 ghost use Rattle.ox_address.specs.Address.{IsHrp};
 ghost use Rattle.ox_address.specs.Checksum.{step, polynomial, expanded, wanted, generators};

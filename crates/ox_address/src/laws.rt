@@ -1,3 +1,5 @@
+//! Laws of addresses and of their checksums.
+
 ghost use Rattle.ox_address.specs.Checksum.{IsTheChecksum};
 ghost use Rattle.ox_address.specs.Address.{HasOneScript, HasOneCase, IsShort};
 

@@ -1,3 +1,5 @@
+//! The 32 letters of an address, and their numbers.
+
 ghost use Rattle.std.specs.Prelude.{◌≡◌, ◌<◌, ◌≤◌, MatchOption, Contains};
 ghost use Rattle.ox_address.specs.Address.{letter_of};
 ghost use Rattle.ox_address.specs.Passes.{small, value_of};

@@ -1,3 +1,5 @@
+//! The reading of an address.
+
 ghost use Rattle.std.specs.Prelude.{◌≡◌, ℕ, ◌+◌, ◌*◌, ◌^◌, ◌<◌, ◌≤◌, ◌↔◌, ◌∷◌, [], ◌++◌, List};
 ghost use Rattle.std.specs.Prelude.{length, map, take, drop, fold, All, IsTrue, MatchOption};
 ghost use Rattle.std.specs.Prelude.{MatchResult, IfOk, Ok, slice_index};

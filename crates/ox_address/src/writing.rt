@@ -1,8 +1,11 @@
+//! The writing of an address.
+
 ghost use Rattle.std.specs.Prelude.{◌≡◌, ℕ, ◌+◌, ◌-◌, ◌*◌, ◌^◌, ◌<◌, ◌≤◌, ◌∷◌, [], ◌++◌, List};
 ghost use Rattle.std.specs.Prelude.{length, take, drop, slice_index, fold, replicate, bit_xor};
 ghost use Rattle.std.specs.Prelude.{MatchOption, IfSome};
 ghost use Rattle.ox_address.specs.Digits.{number, digits};
-ghost use Rattle.ox_address.specs.Address.{IsHrp, IsSegwit, address_of, version_of, groups, symbols_of};
+ghost use Rattle.ox_address.specs.Address.{IsHrp, IsSegwit, address_of, version_of, groups};
+ghost use Rattle.ox_address.specs.Address.{symbols_of};
 ghost use Rattle.ox_address.specs.Checksum.{step, wanted, checksum};
 ghost use Rattle.ox_address.specs.Passes.{Wrote, Packs, SumIs, StandsIn};
 

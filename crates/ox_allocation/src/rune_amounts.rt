@@ -22,7 +22,7 @@ pub(crate) struct Amounts {
     form: Form,
 }
 
-// By hand, so that whoever drops amounts makes one call, and proves nothing of their forms.
+/// By hand, so that whoever drops amounts makes one call, and proves nothing of their forms.
 impl Drop for Amounts {
     fn drop(self) {
         let Amounts {

@@ -13,7 +13,7 @@ use std::process::Abort;
 
 const PORTIONS: [Portion; 2] = [Portion::OneByte, Portion::Half];
 
-// A site in memory that takes a portion at a time, and of whose writes so many are whole.
+/// A site in memory that takes a portion at a time, and of whose writes so many are whole.
 fn short_site(inner: MemSite, portion: Portion, whole_writes: u64) -> ShortSite<MemSite> {
     ShortSite {
         inner,
@@ -23,7 +23,7 @@ fn short_site(inner: MemSite, portion: Portion, whole_writes: u64) -> ShortSite<
     }
 }
 
-// Whether a run of these words ends with this exit status and shows these bytes.
+/// Whether a run of these words ends with this exit status and shows these bytes.
 fn ends_so(
     rt: &impl Abort,
     alloc: Global,
@@ -36,13 +36,13 @@ fn ends_so(
     code_of(rt, alloc, site, words) == code && has_shown(rt, &site.inner, before, shown)
 }
 
-// Whether `fold` over a feed shows these answers.
+/// Whether `fold` over a feed shows these answers.
 fn folds(rt: &impl Abort, alloc: Global, portion: Portion, feed: &[u8], answers: &[u8]) -> bool {
     let mut site = short_site(site_of(rt, alloc, feed, None), portion, 0);
     ends_so(rt, alloc, &mut site, &[b"fold", b"regtest"], 0, answers) && site.inner.starved() == 0
 }
 
-// The same lines as `tests::each_line_is_answered_by_one` has.
+/// The same lines as `tests::each_line_is_answered_by_one` has.
 #[test]
 fn a_fold_shows_the_lines_that_it_shows_over_whole_calls(rt: HostRuntime) {
     let alloc = rt.alloc();
@@ -57,8 +57,8 @@ fn a_fold_shows_the_lines_that_it_shows_over_whole_calls(rt: HostRuntime) {
     }
 }
 
-// Each byte is heard by a call of its own, then the end, and each of the two lines' 20 bytes is
-// shown by a call of its own.
+/// Each byte is heard by a call of its own, then the end, and each of the two lines' 20 bytes is
+/// shown by a call of its own.
 #[test]
 fn each_byte_is_an_event_of_its_own(rt: HostRuntime) {
     let alloc = rt.alloc();
@@ -69,7 +69,7 @@ fn each_byte_is_an_event_of_its_own(rt: HostRuntime) {
     assert!(rt; site.inner.now() == 9 + 1 + 20);
 }
 
-// Whether the files of a site are those that an `apply` of the feed makes over whole calls.
+/// Whether the files of a site are those that an `apply` of the feed makes over whole calls.
 fn has_files_of(rt: &impl Abort, alloc: Global, site: &MemSite, feed: &[u8]) -> bool {
     let mut whole = store_hearing(rt, alloc, feed);
     ends(rt, alloc, &mut whole, &[b"apply"], 0, THREE_OK)
@@ -77,7 +77,7 @@ fn has_files_of(rt: &impl Abort, alloc: Global, site: &MemSite, feed: &[u8]) -> 
         && site.file(Which::B) == whole.file(Which::B)
 }
 
-// Whether an `apply` of the feed shows and writes what it does over whole calls.
+/// Whether an `apply` of the feed shows and writes what it does over whole calls.
 fn applies(rt: &impl Abort, alloc: Global, portion: Portion, feed: &[u8]) -> bool {
     let mut site = short_site(store_hearing(rt, alloc, feed), portion, u64::MAX);
     ends_so(rt, alloc, &mut site, &[b"apply"], 0, THREE_OK)
@@ -93,16 +93,16 @@ fn an_apply_shows_and_writes_what_it_does_over_whole_calls(rt: HostRuntime) {
     }
 }
 
-// The answers of the first so many of the three blocks, each a line of 70 bytes.
+/// The answers of the first so many of the three blocks, each a line of 70 bytes.
 fn first_answers(blocks: u8) -> &'static [u8] {
     THREE_OK.get(..usize::from(blocks) * 70).unwrap_or(b"")
 }
 
-// Whether an `apply` of three blocks ends with status 4 at the write behind so many whole ones,
-// and what is read then has the blocks and leads on to all three. Each block is two writes: its
-// record behind a closed gate, of which a portion is left, and the one byte of its gate, of which
-// the portion is all. So where a gate's write fails the files have the block too, whose answer
-// wasn't shown.
+/// Whether an `apply` of three blocks ends with status 4 at the write behind so many whole ones,
+/// and what is read then has the blocks and leads on to all three. Each block is two writes: its
+/// record behind a closed gate, of which a portion is left, and the one byte of its gate, of which
+/// the portion is all. So where a gate's write fails the files have the block too, whose answer
+/// wasn't shown.
 fn cut_at(rt: &impl Abort, alloc: Global, portion: Portion, writes: u8, feed: &[u8]) -> bool {
     let inner = store_hearing(rt, alloc, feed);
     let mut site = short_site(inner, portion, u64::from(writes));

@@ -8,7 +8,7 @@ use ox_outside::{Site, Which};
 use std::alloc::Global;
 use std::process::Abort;
 
-// Bitcoin's first block.
+/// Bitcoin's first block.
 pub const GENESIS: &str = "\
     0100000000000000000000000000000000000000000000000000000000000000000000003ba3edfd7a7b\
     12b27ac72c3e67768f617fc81bc3888a51323a9fb8aa4b1e5e4a29ab5f49ffff001d1dac2b7c01010000\
@@ -27,15 +27,15 @@ const TWICE: &[u8] = b"ok 0 000000000019d6689c085ae165831e934ff763ae46a2a6c172b3
 pub const AFTER_BAD_LINES: &[u8] = b"refused 1\nrefused 1\n\
     ok 0 000000000019d6689c085ae165831e934ff763ae46a2a6c172b3f1b60a8ce26f\nok empty\n";
 
-// The header's root, and that of the changed transaction, by a script of another language.
+/// The header's root, and that of the changed transaction, by a script of another language.
 const OTHER_ROOT: &[u8] = b"refused 6 \
     4a5e1e4baab89f3a32518a88c31bc87f618f76673e2cc77ab2127b7afdeda33b \
     77c2c6d62b888ab7a74667ac10d8d9c14b411666e1b42a9188efe4f9ee73171c\n";
 
-// The head of file A of an empty regtest store of depth 100, and a closed gate behind it.
+/// The head of file A of an empty regtest store of depth 100, and a closed gate behind it.
 const EMPTY_A: &str = "016f78696478010164000100000000000000000000000000000000";
 
-// Three blocks of a coinbase alone that claims the whole subsidy, each on the one before.
+/// Three blocks of a coinbase alone that claims the whole subsidy, each on the one before.
 const FIRST: &str = "\
     0100000000000000000000000000000000000000000000000000000000000000000000003d088146d51a\
     e5e5d243f549e5a5c4dc908e744770b36889c9d07661de16d18e00000000000000000000000001020000\
@@ -54,7 +54,7 @@ const THIRD: &str = "\
     00010000000000000000000000000000000000000000000000000000000000000000ffffffff02010200\
     0000000100f2052a01000000015100000000";
 
-// Their hashes are by a script of another language.
+/// Their hashes are by a script of another language.
 const FIRST_OK: &[u8] = b"ok 0 9df1369ffe84c7f9f18795eda8438c9452ca65ebb35668f5a83ab42b94430908\n";
 
 const FIRST_THEN_EMPTY: &[u8] =
@@ -65,15 +65,15 @@ pub const THREE_OK: &[u8] =
     ok 1 0722e5045444f199ce474c0d06e47da62974b16d17bf01d351665bc1f12e3b4f\n\
     ok 2 7054e587fec28cf6b25c1f9597629789b86bae696e32960fd80b6521aa1c8a2a\n";
 
-// The three blocks, of which the last is taken back.
+/// The three blocks, of which the last is taken back.
 const THREE_THEN_TWO: &[u8] =
     b"ok 0 9df1369ffe84c7f9f18795eda8438c9452ca65ebb35668f5a83ab42b94430908\n\
     ok 1 0722e5045444f199ce474c0d06e47da62974b16d17bf01d351665bc1f12e3b4f\n\
     ok 2 7054e587fec28cf6b25c1f9597629789b86bae696e32960fd80b6521aa1c8a2a\n\
     ok 1 0722e5045444f199ce474c0d06e47da62974b16d17bf01d351665bc1f12e3b4f\n";
 
-// What `query /status` shows of the regtest store with the first so many of the three blocks, all
-// of which are kept.
+/// What `query /status` shows of the regtest store with the first so many of the three blocks, all
+/// of which are kept.
 fn status_body(blocks: u64) -> &'static str {
     match blocks {
         0 => r#"{"blocks":0,"depth":100,"kept":0,"profile":"regtest","tip":null}"#,
@@ -94,7 +94,7 @@ fn status_body(blocks: u64) -> &'static str {
 
 // ---- runs
 
-// The program's words.
+/// The program's words.
 fn words_of(rt: &impl Abort, alloc: Global, words: &[&[u8]]) -> Vec<Bytes> {
     let mut all = Vec::new(alloc);
     for word in words {
@@ -151,7 +151,7 @@ pub(crate) fn site_of(rt: &impl Abort, alloc: Global, feed: &[u8], fails: Option
     site
 }
 
-// Whether `fold` over a feed without a fault shows these answers.
+/// Whether `fold` over a feed without a fault shows these answers.
 fn folds(rt: &impl Abort, alloc: Global, profile: &[u8], feed: &[u8], answers: &[u8]) -> bool {
     let mut site = site_of(rt, alloc, feed, None);
     ends(rt, alloc, &mut site, &[b"fold", profile], 0, answers) && site.starved() == 0
@@ -171,7 +171,7 @@ pub(crate) fn connect(rt: &impl Abort, alloc: Global, digits: &str) -> Bytes {
     join_lines(rt, alloc, &[b"connect ", digits.as_bytes(), b"\n"])
 }
 
-// The line of the first block, with one byte of the block changed.
+/// The line of the first block, with one byte of the block changed.
 fn changed_block(rt: &impl Abort, alloc: Global, at: usize, to: u8) -> Bytes {
     let mut block = hex::decode(alloc, GENESIS).expect(rt, "digits");
     if let Some(byte) = block.get_mut(at) {
@@ -181,7 +181,7 @@ fn changed_block(rt: &impl Abort, alloc: Global, at: usize, to: u8) -> Bytes {
     connect(rt, alloc, digits.as_str())
 }
 
-// Whether a feed of the first block, so changed, has this answer.
+/// Whether a feed of the first block, so changed, has this answer.
 fn is_refused(rt: &impl Abort, alloc: Global, at: usize, to: u8, answer: &[u8]) -> bool {
     let line = changed_block(rt, alloc, at, to);
     folds(rt, alloc, b"regtest", line.as_slice(), answer)
@@ -201,8 +201,8 @@ fn each_line_is_answered_by_one(rt: HostRuntime) {
     assert!(rt; folds(&rt, alloc, b"regtest", b"disconnect", b"refused 11\n"));
 }
 
-// Byte 205 is the lowest of the output's value; bytes 80 and 85 count the transactions and the
-// inputs.
+/// Byte 205 is the lowest of the output's value; bytes 80 and 85 count the transactions and the
+/// inputs.
 #[test]
 fn a_block_that_is_not_taken_in_has_its_refusal(rt: HostRuntime) {
     let alloc = rt.alloc();
@@ -215,7 +215,7 @@ fn a_block_that_is_not_taken_in_has_its_refusal(rt: HostRuntime) {
     assert!(rt; folds(&rt, alloc, b"regtest", b"connect 0\n", b"refused 1\n"));
 }
 
-// The feed has no line feed at its end.
+/// The feed has no line feed at its end.
 #[test]
 fn each_profile_begins_with_any_first_block(rt: HostRuntime) {
     let alloc = rt.alloc();
@@ -225,7 +225,7 @@ fn each_profile_begins_with_any_first_block(rt: HostRuntime) {
     assert!(rt; folds(&rt, alloc, b"lab", first.as_slice(), OK));
 }
 
-// A line of so many digits 0 behind `connect `.
+/// A line of so many digits 0 behind `connect `.
 fn zeros(rt: &impl Abort, alloc: Global, count: usize) -> Bytes {
     let mut line = Bytes::copy(alloc, b"connect ").expect(rt, "memory");
     let digits = vec![in alloc; b'0'; count].expect(rt, "memory");
@@ -234,8 +234,8 @@ fn zeros(rt: &impl Abort, alloc: Global, count: usize) -> Bytes {
     line
 }
 
-// A block of 4,000,000 bytes has 8,000,008 in its line: eighty bytes of header, and then a count of
-// 0.
+/// A block of 4,000,000 bytes has 8,000,008 in its line: eighty bytes of header, and then a count
+/// of 0.
 #[test]
 fn a_line_may_have_as_many_bytes_as_the_largest_block(rt: HostRuntime) {
     let alloc = rt.alloc();
@@ -247,14 +247,14 @@ fn a_line_may_have_as_many_bytes_as_the_largest_block(rt: HostRuntime) {
     assert!(rt; folds(&rt, alloc, b"regtest", feed.as_slice(), answers));
 }
 
-// Whether a `fold` of one block, at which the call of this number fails, ends so.
+/// Whether a `fold` of one block, at which the call of this number fails, ends so.
 fn fails(rt: &impl Abort, alloc: Global, call: u64, code: u8, shown: &[u8]) -> bool {
     let line = connect(rt, alloc, GENESIS);
     let mut site = site_of(rt, alloc, line.as_slice(), Some(call));
     ends(rt, alloc, &mut site, &[b"fold", b"regtest"], code, shown)
 }
 
-// A run over one line hears it, shows its answer, and hears the end.
+/// A run over one line hears it, shows its answer, and hears the end.
 #[test]
 fn a_fault_at_any_call_ends_the_run(rt: HostRuntime) {
     let alloc = rt.alloc();
@@ -266,13 +266,13 @@ fn a_fault_at_any_call_ends_the_run(rt: HostRuntime) {
 
 // ---- words
 
-// Whether both files are empty.
+/// Whether both files are empty.
 fn is_empty(site: &MemSite) -> bool {
     site.file(Which::A).is_empty() && site.file(Which::B).is_empty()
 }
 
-// Whether words are no subcommand: the usage line is shown, or nothing where showing fails, and the
-// files stay empty.
+/// Whether words are no subcommand: the usage line is shown, or nothing where showing fails, and
+/// the files stay empty.
 fn is_usage(rt: &impl Abort, alloc: Global, words: &[&[u8]]) -> bool {
     let mut site = site_of(rt, alloc, b"connect \n", None);
     let mut broken = site_of(rt, alloc, b"", Some(0));
@@ -305,7 +305,7 @@ fn subcommands_of_a_store_have_exact_words(rt: HostRuntime) {
 
 // ---- stores
 
-// Whether the files are these: A by its digits, and B a closed gate.
+/// Whether the files are these: A by its digits, and B a closed gate.
 fn has_files(rt: &impl Abort, alloc: Global, site: &MemSite, a: &str) -> bool {
     let a = hex::decode(alloc, a).expect(rt, "digits");
     site.file(Which::A) == a.as_slice() && site.file(Which::B) == b"\0".as_slice()
@@ -322,7 +322,7 @@ fn init_makes_two_files_and_makes_them_once(rt: HostRuntime) {
     assert!(rt; has_files(&rt, alloc, &site, EMPTY_A));
 }
 
-// Whether `init` of this profile and depth makes file A these bytes.
+/// Whether `init` of this profile and depth makes file A these bytes.
 fn makes(rt: &impl Abort, alloc: Global, profile: &[u8], depth: &[u8], a: &str) -> bool {
     let mut site = MemSite::new(alloc).expect(rt, "memory");
     ends(
@@ -335,7 +335,7 @@ fn makes(rt: &impl Abort, alloc: Global, profile: &[u8], depth: &[u8], a: &str) 
     ) && has_files(rt, alloc, &site, a)
 }
 
-// The depths 1 and 1,000 are the least and the greatest.
+/// The depths 1 and 1,000 are the least and the greatest.
 #[test]
 fn init_takes_the_least_and_the_greatest_depth(rt: HostRuntime) {
     let alloc = rt.alloc();
@@ -345,14 +345,14 @@ fn init_takes_the_least_and_the_greatest_depth(rt: HostRuntime) {
     assert!(rt; makes(&rt, alloc, b"mainnet", b"1000", greatest));
 }
 
-// Writes a file whole and syncs it.
+/// Writes a file whole and syncs it.
 fn put_file(rt: &impl Abort, site: &mut MemSite, file: Which, bytes: &[u8]) {
     assert!(rt; site.file(file).is_empty());
     assert!(rt; site.write(file, 0, bytes).is_ok());
     assert!(rt; site.sync(file).is_ok());
 }
 
-// A store whose file A has these bytes, all on the disk, with an empty log and no call made.
+/// A store whose file A has these bytes, all on the disk, with an empty log and no call made.
 fn store_of(rt: &impl Abort, alloc: Global, a: &[u8]) -> MemSite {
     let mut site = MemSite::new(alloc).expect(rt, "memory");
     put_file(rt, &mut site, Which::A, a);
@@ -360,7 +360,7 @@ fn store_of(rt: &impl Abort, alloc: Global, a: &[u8]) -> MemSite {
     after_crash(rt, &site, 0, 0)
 }
 
-// The site as a crash now leaves it.
+/// The site as a crash now leaves it.
 fn after_crash(rt: &impl Abort, site: &MemSite, fill: u8, keep: u64) -> MemSite {
     let choice = Choice {
         moment: site.now(),
@@ -370,7 +370,7 @@ fn after_crash(rt: &impl Abort, site: &MemSite, fill: u8, keep: u64) -> MemSite 
     site.crash(&choice).expect(rt, "memory")
 }
 
-// An empty regtest store of depth 100.
+/// An empty regtest store of depth 100.
 fn empty_store(rt: &impl Abort, alloc: Global) -> MemSite {
     let a = hex::decode(alloc, EMPTY_A).expect(rt, "digits");
     store_of(rt, alloc, a.as_slice())
@@ -383,8 +383,8 @@ pub(crate) fn store_hearing(rt: &impl Abort, alloc: Global, feed: &[u8]) -> MemS
     site
 }
 
-// The digits of file A once the first block is connected: behind the head of 26 bytes an open gate,
-// the length 286, the byte of a connect, the block, and a closed gate.
+/// The digits of file A once the first block is connected: behind the head of 26 bytes an open
+/// gate, the length 286, the byte of a connect, the block, and a closed gate.
 fn is_record_of_first(rt: &impl Abort, alloc: Global, site: &MemSite) -> bool {
     let head = EMPTY_A.get(..52).unwrap_or("").as_bytes();
     let digits = join_lines(
@@ -406,7 +406,7 @@ fn a_connected_block_is_a_record_of_its_bytes(rt: HostRuntime) {
     assert!(rt; is_record_of_first(&rt, alloc, &site));
 }
 
-// Whether `apply` and `query` say of a site that its files are no store.
+/// Whether `apply` and `query` say of a site that its files are no store.
 fn is_no_store(rt: &impl Abort, alloc: Global, site: &mut MemSite) -> bool {
     let line = b"not a store a 0\n";
     ends(rt, alloc, site, &[b"apply"], 3, line)
@@ -423,7 +423,7 @@ fn files_that_are_no_store_are_not_opened(rt: HostRuntime) {
     assert!(rt; is_no_store(&rt, alloc, &mut none));
 }
 
-// Four lines that are refused, and one that is too long.
+/// Four lines that are refused, and one that is too long.
 fn refused_lines(rt: &impl Abort, alloc: Global) -> Bytes {
     let mut feed = connect(rt, alloc, GENESIS.get(..400).unwrap_or(""));
     feed.append(b"connect \nconnect 0\ndisconnect\n")
@@ -476,7 +476,7 @@ fn a_status_tells_of_the_blocks_that_were_applied(rt: HostRuntime) {
     assert!(rt; has_blocks(&rt, alloc, &mut site, 3));
 }
 
-// Whether a query of this path shows these bytes and ends well.
+/// Whether a query of this path shows these bytes and ends well.
 fn shows(rt: &impl Abort, alloc: Global, site: &mut MemSite, path: &[u8], body: &[u8]) -> bool {
     ends(rt, alloc, site, &[b"query", path], 0, body)
 }
@@ -525,13 +525,13 @@ fn a_query_tells_of_a_block_that_was_applied(rt: HostRuntime) {
     assert!(rt; shows(&rt, alloc, &mut site, b"/blockhash/0", block.as_bytes()));
 }
 
-// Whether these lines of commands, applied to a site's store, have these answers.
+/// Whether these lines of commands, applied to a site's store, have these answers.
 fn answers(rt: &impl Abort, alloc: Global, site: &mut MemSite, feed: &[u8], wanted: &[u8]) -> bool {
     site.input(feed).expect(rt, "memory");
     ends(rt, alloc, site, &[b"apply"], 0, wanted)
 }
 
-// A regtest store of this depth that has heard the three blocks and a disconnect.
+/// A regtest store of this depth that has heard the three blocks and a disconnect.
 fn two_of_three(rt: &impl Abort, alloc: Global, depth: &[u8]) -> MemSite {
     let mut site = MemSite::new(alloc).expect(rt, "memory");
     assert!(rt;
@@ -549,7 +549,7 @@ fn two_of_three(rt: &impl Abort, alloc: Global, depth: &[u8]) -> MemSite {
     site
 }
 
-// Each run opens the store again.
+/// Each run opens the store again.
 #[test]
 fn as_many_blocks_are_taken_back_as_are_kept(rt: HostRuntime) {
     let alloc = rt.alloc();
@@ -562,7 +562,7 @@ fn as_many_blocks_are_taken_back_as_are_kept(rt: HostRuntime) {
 
 // ---- crashes
 
-// How many lines a site has shown.
+/// How many lines a site has shown.
 fn lines_shown(rt: &impl Abort, site: &MemSite) -> u64 {
     let shown = site.shown(0).expect(rt, "memory");
     shown.as_slice().iter().filter(|b| **b == b'\n').count() as u64
@@ -580,27 +580,27 @@ pub(crate) fn leads_on(
     code_of(rt, alloc, site, &[b"apply"]) == 0 && has_blocks(rt, alloc, site, blocks)
 }
 
-// How many blocks there are after so many lines: three connect one each, and one takes one back.
+/// How many blocks there are after so many lines: three connect one each, and one takes one back.
 fn blocks_after(lines: u64) -> u64 {
     if lines < 4 { lines } else { 2 }
 }
 
-// Whether what this crash leaves has the blocks of the lines that were answered, or of one more.
+/// Whether what this crash leaves has the blocks of the lines that were answered, or of one more.
 fn keeps_answered(rt: &impl Abort, alloc: Global, site: &mut MemSite) -> bool {
     let lines = lines_shown(rt, site);
     has_blocks(rt, alloc, site, blocks_after(lines))
         || has_blocks(rt, alloc, site, blocks_after(lines.saturating_add(1)))
 }
 
-// Whether this crash keeps what was answered, and the feed leads on from it.
+/// Whether this crash keeps what was answered, and the feed leads on from it.
 fn survives(rt: &impl Abort, alloc: Global, site: &MemSite, feed: &[u8], choice: &Choice) -> bool {
     assert!(rt; choice.moment <= site.now());
     let mut left = site.crash(choice).expect(rt, "memory");
     keeps_answered(rt, alloc, &mut left) && leads_on(rt, alloc, &mut left, feed, 2)
 }
 
-// The same of crashes at this moment, which change bytes to 00, 01 and 255 and cut the files to
-// some lengths.
+/// The same of crashes at this moment, which change bytes to 00, 01 and 255 and cut the files to
+/// some lengths.
 fn survive_at(rt: &impl Abort, alloc: Global, site: &MemSite, feed: &[u8], moment: u64) {
     for fill in [0, 1, 255] {
         for keep in [0, 30, 200, u64::MAX] {
@@ -623,10 +623,10 @@ fn a_stop_at_any_moment_keeps_what_was_answered(rt: HostRuntime) {
 
 // ---- faults of a store
 
-// The exit status of an `apply` of one block and a disconnect at which the call of this number
-// fails. Calls 0 to 7 open the store and 8 hears both lines; 9 to 12 write the block's record and
-// its gate and sync each, and 13 shows the answer; 14 to 18 do the same of the disconnect; 19 hears
-// the end.
+/// The exit status of an `apply` of one block and a disconnect at which the call of this number
+/// fails. Calls 0 to 7 open the store and 8 hears both lines; 9 to 12 write the block's record and
+/// its gate and sync each, and 13 shows the answer; 14 to 18 do the same of the disconnect; 19
+/// hears the end.
 fn code_by(call: u64) -> u8 {
     match call {
         8 | 19 => 5,
@@ -636,7 +636,7 @@ fn code_by(call: u64) -> u8 {
     }
 }
 
-// What is shown then: the answer of a line whose showing didn't fail.
+/// What is shown then: the answer of a line whose showing didn't fail.
 fn shown_by(call: u64) -> &'static [u8] {
     match call {
         0..=13 => b"",
@@ -645,8 +645,8 @@ fn shown_by(call: u64) -> &'static [u8] {
     }
 }
 
-// How many blocks a crash leaves then that changes bytes to this one: until a gate's write its
-// record doesn't count, and from its sync on it does.
+/// How many blocks a crash leaves then that changes bytes to this one: until a gate's write its
+/// record doesn't count, and from its sync on it does.
 fn blocks_by(call: u64, fill: u8) -> u64 {
     match call {
         0..=10 => 0,
@@ -657,13 +657,13 @@ fn blocks_by(call: u64, fill: u8) -> u64 {
     }
 }
 
-// Whether a crash now leaves so many blocks.
+/// Whether a crash now leaves so many blocks.
 fn leaves(rt: &impl Abort, alloc: Global, site: &MemSite, fill: u8, blocks: u64) -> bool {
     let mut left = after_crash(rt, site, fill, u64::MAX);
     has_blocks(rt, alloc, &mut left, blocks)
 }
 
-// One block is applied and taken back, and the call of this number fails.
+/// One block is applied and taken back, and the call of this number fails.
 fn fail_at(rt: &impl Abort, alloc: Global, call: u64) {
     let first = connect(rt, alloc, FIRST);
     let feed = join_lines(rt, alloc, &[first.as_slice(), b"disconnect\n"]);

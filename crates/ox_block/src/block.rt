@@ -57,7 +57,7 @@ pub struct Tx {
     pub lock: u32,
 }
 
-// By hand, so that whoever drops a transaction makes one call, and proves nothing of its fields.
+/// By hand, so that whoever drops a transaction makes one call, and proves nothing of its fields.
 impl Drop for Tx {
     fn drop(self) {
         let Tx {
@@ -96,7 +96,7 @@ pub struct Block {
     pub txs: Txs,
 }
 
-// By hand, as for a transaction.
+/// By hand, as for a transaction.
 impl Drop for Block {
     fn drop(self) {
         let Block {

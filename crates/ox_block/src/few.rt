@@ -20,7 +20,7 @@ pub struct Few<T> {
     pub(crate) form: Form<T>,
 }
 
-// By hand, so that whoever drops a list makes one call, and proves nothing of its forms.
+/// By hand, so that whoever drops a list makes one call, and proves nothing of its forms.
 impl<T: Drop> Drop for Few<T> {
     fn drop(self) {
         let Few {

@@ -1,4 +1,5 @@
-//! Bitcoin blocks: read from bytes exactly by the grammar, written, and hashed.
+//! Bitcoin blocks: read from bytes exactly by the grammar, written, and hashed, up to the Merkle
+//! root.
 #![tactic(auto)]
 
 mod block;

@@ -10,7 +10,7 @@ ghost use Rattle.ox_block.specs.declared.block.Txid.{Txid};
 use crate::block::Txid;
 use std::cmp::Ordering;
 
-// The first eight bytes as one number, the first byte the highest.
+/// The first eight bytes as one number, the first byte the highest.
 fn front(bytes: &[u8]) -> u64
     requires { 8 ≤ length bytes.now }
     ensures { result ≡ big_endian 0 (take 8 bytes.now) }
@@ -20,7 +20,7 @@ fn front(bytes: &[u8]) -> u64
     ])
 }
 
-// The order of two byte strings, each of eight bytes at least.
+/// The order of two byte strings, each of eight bytes at least.
 fn order_of(mine: &[u8], others: &[u8]) -> Ordering
     requires mine { 8 ≤ length mine.now }
     requires others { 8 ≤ length others.now }

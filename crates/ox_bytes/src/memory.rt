@@ -2,7 +2,7 @@
 
 use std::alloc::{AllocError, AllocFailed};
 
-/// The allocator had no memory for what was asked. What was to be changed is as it was.
+/// The allocator had no memory for what was asked. What is left then, each call says.
 #[derive(Clone, Copy, Debug, PartialEq, Eq)]
 pub struct Memory;
 

@@ -16,7 +16,7 @@ use std::num::NonZeroUsize;
 /// The most bytes that the body of a kept reply has.
 pub const BODY_KEPT: usize = 65_536;
 
-// What a reply answers.
+/// What a reply answers.
 #[derive(PartialEq, Eq, Hash, Drop)]
 struct Key {
     // How many commands had been accepted.
@@ -54,7 +54,7 @@ impl Cache {
         })
     }
 
-    // The bytes of the reply that is kept for a key, if there is one.
+    /// The bytes of the reply that is kept for a key, if there is one.
     fn peek(&self, key: &Key, close: bool) -> Result<Option<Bytes>, Memory>
         ensures { IfOk result (λ found. Peeked close found
             (entry_of key.now.commands key.now.path.items self.now.entries)) }
@@ -65,7 +65,7 @@ impl Cache {
         }
     }
 
-    // The reply that is kept for the key was the answer.
+    /// The reply that is kept for the key was the answer.
     fn hit(&mut self, key: &Key)
         ensures { Hits key.now.commands key.now.path.items
             (entry_of key.now.commands key.now.path.items self.old.entries) self.old self.new }
@@ -74,8 +74,8 @@ impl Cache {
         self.hits = self.hits.saturating_add(1);
     }
 
-    // Keeps a reply that was made, unless its body is too long. `Memory` where there is none for
-    // it: nothing has changed then.
+    /// Keeps a reply that was made, unless its body is too long. `Memory` where there is none for
+    /// it: nothing has changed then.
     fn keep(&mut self, key: Key, reply: Reply) -> Result<(), Memory>
         requires { entry_of key.commands key.path.items self.old.entries ≡ None }
         ensures ok { OnOk result (self.new ≡ after_miss (entry_in (key, reply)) self.old) }

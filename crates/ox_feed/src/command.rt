@@ -35,7 +35,7 @@ impl From<AllocError> for SyntaxFault {
     }
 }
 
-// The connect that a line is.
+/// The connect that a line is.
 fn connect_in(alloc: Global, line: &[u8]) -> Result<Command, SyntaxFault>
     ensures found { IfOk result (λ command. connect_spelled line.now ≡ Some command) }
     ensures syntax { IsErrOf result SyntaxFault.Syntax → connect_spelled line.now ≡ None }

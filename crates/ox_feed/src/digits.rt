@@ -6,7 +6,7 @@ ghost use Rattle.ox_feed.specs.Digits.{digit_or_none};
 
 use std::alloc::{AllocError, Global};
 
-// The value of each byte as a digit, of either case; 255 where it is none.
+/// The value of each byte as a digit, of either case; 255 where it is none.
 static VALUES: [u8; 256] = [
     255, 255, 255, 255, 255, 255, 255, 255, 255, 255, 255, 255, 255, 255, 255, 255, 255, 255, 255,
     255, 255, 255, 255, 255, 255, 255, 255, 255, 255, 255, 255, 255, 255, 255, 255, 255, 255, 255,
@@ -24,7 +24,7 @@ static VALUES: [u8; 256] = [
     255, 255, 255,
 ];
 
-// The value of a digit, below 16; or 255.
+/// The value of a digit, below 16; or 255.
 #[inline(always)]
 fn digit(c: u8) -> u8
     ensures { result ≡ digit_or_none c }
@@ -32,7 +32,7 @@ fn digit(c: u8) -> u8
     VALUES[c as usize]
 }
 
-// The byte of two digits, and whether both are digits.
+/// The byte of two digits, and whether both are digits.
 #[inline(always)]
 fn byte_of(high: u8, low: u8) -> (u8, bool)
     ensures good { result.1 ≡ true → (i : ℕ) → pair_value high low i ≡ Ok result.0 }
@@ -44,7 +44,7 @@ fn byte_of(high: u8, low: u8) -> (u8, bool)
     (byte, high < 16 && low < 16)
 }
 
-// Decodes pairs of digits into the bytes. Whether all are digits.
+/// Decodes pairs of digits into the bytes. Whether all are digits.
 fn decode_into(digits: &[u8], bytes: &mut [u8]) -> bool
     requires { length digits.now ≡ 2 * length bytes.old }
     ensures good { result ≡ true → decode_pairs 0 digits.now ≡ Ok bytes.new }

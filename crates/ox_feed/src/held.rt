@@ -34,14 +34,14 @@ pub struct Held {
     pub ended: bool,
 }
 
-// The place of the first line feed.
+/// The place of the first line feed.
 fn line_end(bytes: &[u8]) -> Option<usize>
     ensures { MatchOption result (HasNoFeed bytes.now) (λ n. EndsAt n bytes.now) }
 {
     memchr(b'\n', bytes)
 }
 
-// Appends bytes to a line, as many as it takes to show whether it is too long.
+/// Appends bytes to a line, as many as it takes to show whether it is too long.
 fn add(begun: &mut Bytes, bytes: &[u8]) -> Result<(), Memory>
     ensures ok { OnOk result
         (begun.new ≡ begun.old ++ take (line_limit + 1 - length begun.old) bytes.now) }
@@ -52,7 +52,7 @@ fn add(begun: &mut Bytes, bytes: &[u8]) -> Result<(), Memory>
     begun.append(kept)
 }
 
-// The line that has these bytes.
+/// The line that has these bytes.
 fn line_from(bytes: Bytes) -> Line
     ensures { result ≡ line_as (line_of bytes) }
 {
@@ -78,8 +78,8 @@ impl Held {
         }
     }
 
-    // Cuts off the line that the first line feed ends. Without one, all bytes are of the line that
-    // has begun.
+    /// Cuts off the line that the first line feed ends. Without one, all bytes are of the line that
+    /// has begun.
     fn whole_line(&mut self) -> Result<Option<Line>, Memory>
         requires { IsHeld self.old }
         ensures sound { IsHeld self.new }
@@ -104,7 +104,7 @@ impl Held {
         }
     }
 
-    // The line that has begun, which is over.
+    /// The line that has begun, which is over.
     fn close(&mut self) -> Line
         ensures line { result ≡ line_as (line_of self.old.begun) }
         ensures rest { self.new ≡ record self.old { begun = [] } }
@@ -112,7 +112,7 @@ impl Held {
         line_from(mem::replace(&mut self.begun, Bytes::empty(self.alloc)))
     }
 
-    // The line that has begun, where the feed has ended, or the end.
+    /// The line that has begun, where the feed has ended, or the end.
     fn last_line(&mut self) -> Line
         requires sound { IsHeld self.old }
         requires none { self.old.piece ≡ [] }
@@ -131,7 +131,7 @@ impl Held {
         }
     }
 
-    // Hears more bytes, or that the feed has ended.
+    /// Hears more bytes, or that the feed has ended.
     fn hear<S: Site>(&mut self, site: &mut S) -> Result<(), FeedFault>
         requires sound { IsHeld self.old }
         requires none { self.old.piece ≡ [] }

@@ -31,7 +31,7 @@ impl Model for Piece {
     ghost invariant = { λ p. (p.from ≤ p.to) × (p.to ≤ vec_len p.room) × (vec_len p.room ≤ 65536) };
 }
 
-// The room of a hearing.
+/// The room of a hearing.
 fn room(alloc: Global) -> Result<Vec<u8>, AllocError>
     ensures { IfOk result (λ room. vec_len room ≡ 65536) }
 {

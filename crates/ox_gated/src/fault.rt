@@ -1,4 +1,5 @@
-// What can be wrong with two files that are opened.
+//! What can be wrong with two files that are opened.
+
 ghost use Rattle.std.specs.Prelude.{◌≡◌};
 
 use crate::head::Head;

@@ -1,4 +1,5 @@
-// What is written: a record with the closed gate behind it, and a file without records.
+//! What is written: a record with the closed gate behind it, and a file without records.
+
 ghost use Rattle.std.specs.Prelude.{◌≡◌, ◌+◌, ◌-◌, ◌<◌, ◌^◌, ◌++◌, ◌∷◌, [], length, IsTrue, IfOk};
 ghost use Rattle.ox_gated.specs.Layout.{is_lawful, record_bytes, head_bytes, body_at};
 
@@ -64,8 +65,8 @@ pub fn frame_parts(alloc: Global, front: &[u8], rest: &[u8]) -> Result<Framed, M
     })
 }
 
-/// A file without records, but for its first gate, in two pieces: the bytes before the body, and the
-/// body with the closed gate behind it. Contracts see its head and its body.
+/// A file without records, but for its first gate, in two pieces: the bytes before the body, and
+/// the body with the closed gate behind it. Contracts see its head and its body.
 #[derive(Debug, Drop)]
 pub struct Checkpoint {
     head: Head,
@@ -74,7 +75,8 @@ pub struct Checkpoint {
 }
 
 impl Model for Checkpoint {
-    ghost use Rattle.std.specs.Prelude.{◌≡◌, ◌≤◌, ◌+◌, ◌^◌, length, take, ◌-◌, ◌++◌, ◌∷◌, [], IsTrue};
+    ghost use Rattle.std.specs.Prelude.{◌≡◌, ◌≤◌, ◌+◌, ◌^◌, length, take, ◌-◌, ◌++◌, ◌∷◌, []};
+    ghost use Rattle.std.specs.Prelude.{IsTrue};
     ghost use Rattle.ox_gated.specs.Layout.{Whole, is_lawful, head_bytes, body_before};
 
     ghost Value = { Whole };
@@ -134,7 +136,7 @@ pub fn checkpoint_of(alloc: Global, head: &Head, body: Bytes) -> Result<Checkpoi
     })
 }
 
-// What stands between the first gate and a body of this length.
+/// What stands between the first gate and a body of this length.
 fn front_of(alloc: Global, head: &Head, size: u64) -> Result<Bytes, Memory>
     ensures { IfOk result (λ front. front ≡ head_bytes head.now size) }
 {

@@ -1,4 +1,5 @@
-// The head of a file.
+//! The head of a file.
+
 ghost use Rattle.std.specs.Prelude.{◌≡◌, ◌+◌, ◌≤◌, IfSome, IsTrue, length, slice_range};
 ghost use Rattle.std.specs.Int.{w16, w64, from_le_bytes};
 ghost use Rattle.ox_gated.specs.Layout.{is_lawful, has_magic, is_closed, head_of, body_at};

@@ -1,4 +1,4 @@
-// Where the parts of a file stand, in bytes. Its first gate stands at 0.
+//! Where the parts of a file stand, in bytes. Its first gate stands at 0.
 
 /// The five bytes `oxidx`.
 pub const MAGIC_AT: usize = 1;

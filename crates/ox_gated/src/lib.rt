@@ -1,5 +1,5 @@
-//! Records in two files that survive a crash at any moment: heads, gates, and the tail behind which
-//! the next record comes.
+//! A write-ahead journal in two files that survives a crash at any moment: heads, gates, and the
+//! tail behind which the next record comes.
 #![tactic(auto)]
 
 mod fault;

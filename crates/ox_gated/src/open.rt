@@ -1,4 +1,5 @@
-// The opening of two files.
+//! The opening of two files.
+
 ghost use Rattle.std.specs.Prelude.{◌≡◌, ◌+◌, ◌-◌, ◌≤◌, ◌<◌, ◌^◌, ℕ, List, length, take};
 ghost use Rattle.std.specs.Prelude.{slice_range, min, nat_lt};
 ghost use Rattle.std.specs.Prelude.{IsTrue, IfOk, IfErr, OnOk, OnErr, IsErrOf, Ok, None};
@@ -57,7 +58,7 @@ pub fn read_part<S: Site>(
     Ok(bytes)
 }
 
-// Room for so many bytes.
+/// Room for so many bytes.
 fn blank(alloc: Global, size: usize) -> Result<Vec<u8>, AllocError>
     ensures { IfOk result (λ bytes. length bytes.items ≡ size) }
 {
@@ -171,7 +172,7 @@ pub struct Opened {
     pub records: Records,
 }
 
-// The body, and the records behind it.
+/// The body, and the records behind it.
 fn found_or_fault(
     alloc: Global,
     examined: &Examined,
@@ -262,7 +263,7 @@ pub fn read_current<S: Site>(
     found_or_fault(alloc, examined, body, &rest)
 }
 
-// Whether a file of this length is too short for a body of this one.
+/// Whether a file of this length is too short for a body of this one.
 fn is_cut(len: u64, size: u64) -> bool
     ensures { result ≡ nat_lt len (body_at + size) }
 {

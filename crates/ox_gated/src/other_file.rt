@@ -1,4 +1,5 @@
-// A whole file in place of the current one: the other file is closed, filled and opened.
+//! A whole file in place of the current one: the other file is closed, filled and opened.
+
 ghost use Rattle.std.specs.Prelude.{◌≡◌, ◌↔◌, ◌+◌, ◌≤◌, ◌<◌, ◌^◌, List, ℕ, true, length};
 ghost use Rattle.std.specs.Prelude.{IsTrue, IfOk, OnOk, OnErr};
 ghost use Rattle.ox_outside.specs.Counts.{IsFailure, Rose, StopsAtFault};
@@ -64,7 +65,7 @@ impl Model for Filled {
 /// How many records a file has at the least when the other one takes its place.
 const MOST_RECORDS: u64 = 64;
 
-// The file that isn't this one.
+/// The file that isn't this one.
 fn other_file(file: Which) -> Which
     ensures { result ≡ other file }
 {
@@ -98,7 +99,8 @@ impl Tail {
         ensures any_moment { IsTrue (S.told site.old)
             → LeavesOnly S.Site site.old site.new (λ r. ReadsAlike (S.seen site.old) r.files) }
         ensures failed { OnErr result (Rose (S.counts site.old).disk (S.counts site.new).disk) }
-        ensures counted { StopsAtFault (IsFailure result) ⊥ ⊥ (S.counts site.old) (S.counts site.new) }
+        ensures counted { StopsAtFault (IsFailure result) ⊥ ⊥
+            (S.counts site.old) (S.counts site.new) }
         ensures writes { OnlyWrites S.Site site.old site.new }
     {
         if self.is_other_closed() {
@@ -128,7 +130,8 @@ impl Tail {
             → LeavesOnly S.Site site.old site.new
             (λ r. IsOldOrNew (other self.file) checkpoint.now (S.seen site.old) r.files) }
         ensures failed { OnErr result (Rose (S.counts site.old).disk (S.counts site.new).disk) }
-        ensures counted { StopsAtFault (IsFailure result) ⊥ ⊥ (S.counts site.old) (S.counts site.new) }
+        ensures counted { StopsAtFault (IsFailure result) ⊥ ⊥
+            (S.counts site.old) (S.counts site.new) }
         ensures writes { OnlyWrites S.Site site.old site.new }
     {
         let closed = self.close_other(site)?;
@@ -162,7 +165,8 @@ impl Closed {
         ensures any_moment { IsTrue (S.told site.old)
             → LeavesOnly S.Site site.old site.new (λ r. ReadsAlike (S.seen site.old) r.files) }
         ensures failed { OnErr result (Rose (S.counts site.old).disk (S.counts site.new).disk) }
-        ensures counted { StopsAtFault (IsFailure result) ⊥ ⊥ (S.counts site.old) (S.counts site.new) }
+        ensures counted { StopsAtFault (IsFailure result) ⊥ ⊥
+            (S.counts site.old) (S.counts site.new) }
         ensures writes { OnlyWrites S.Site site.old site.new }
     {
         let front = checkpoint.front();
@@ -197,7 +201,8 @@ impl Filled {
             → LeavesOnly S.Site site.old site.new (λ r.
             IsOldOrNew (other self.tail.file) (filled_with self body) (S.seen site.old) r.files) }
         ensures failed { OnErr result (Rose (S.counts site.old).disk (S.counts site.new).disk) }
-        ensures counted { StopsAtFault (IsFailure result) ⊥ ⊥ (S.counts site.old) (S.counts site.new) }
+        ensures counted { StopsAtFault (IsFailure result) ⊥ ⊥
+            (S.counts site.old) (S.counts site.new) }
         ensures writes { OnlyWrites S.Site site.old site.new }
     {
         let file = other_file(self.tail.file());

@@ -1,4 +1,5 @@
-// Which of two files is current.
+//! Which of two files is current.
+
 ghost use Rattle.std.specs.Prelude.{◌≡◌, IfOk, IfSome, IsTrue};
 ghost use Rattle.ox_gated.specs.Layout.{head_of, is_lawful};
 ghost use Rattle.ox_gated.specs.Pick.{choice_of, lone_choice, greater_of};

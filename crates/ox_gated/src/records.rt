@@ -1,4 +1,5 @@
-// The records of a file.
+//! The records of a file.
+
 ghost use Rattle.std.specs.Prelude.{◌≡◌, ◌+◌, ◌<◌, ◌≤◌, ◌^◌, length, MatchOption, IfOk, OnErr};
 ghost use Rattle.ox_bytes.specs.Reading.{Gives};
 ghost use Rattle.ox_gated.specs.Gate.{IsShut, IsOpen, IsBroken, gates_of};
@@ -59,11 +60,11 @@ fn walk_on(alloc: Global, place: u64, bytes: &[u8]) -> Result<Walk, Memory>
     Ok(Walk { records, end })
 }
 
-// A gate that is missing, or whose record is cut.
+/// A gate that is missing, or whose record is cut.
 struct Broken;
 
-// What the first of these bytes is as a gate: none behind a closed one, else its record's payload
-// and what follows.
+/// What the first of these bytes is as a gate: none behind a closed one, else its record's payload
+/// and what follows.
 fn gate_at(bytes: &[u8]) -> Result<Option<(&[u8], &[u8])>, Broken>
     ensures there { IfOk result (λ gate.
         MatchOption gate (IsShut bytes.now) (λ g. IsOpen bytes.now g.0.now g.1.now)) }
@@ -79,7 +80,7 @@ fn gate_at(bytes: &[u8]) -> Result<Option<(&[u8], &[u8])>, Broken>
     }
 }
 
-// A record's payload and what stands behind it.
+/// A record's payload and what stands behind it.
 #[tactic(auto, unfolding(crate::specs::Reading::payload_at))]
 fn payload_field(bytes: &[u8]) -> Result<(&[u8], &[u8]), FieldFault>
     ensures { Gives (λ x. (x.0.now, x.1.now)) result (payload_at bytes.now) }

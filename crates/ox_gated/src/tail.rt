@@ -1,4 +1,5 @@
-// The tail of two files: where the next record comes.
+//! The tail of two files: where the next record comes.
+
 ghost use Rattle.std.specs.Prelude.{◌≡◌, ◌↔◌, ◌+◌, ◌<◌, ◌^◌, [], true, IsTrue, IfOk, OnErr};
 ghost use Rattle.ox_outside.specs.Counts.{IsFailure, Rose, StopsAtFault};
 ghost use Rattle.ox_outside.specs.Runs.{LeavesOnly};

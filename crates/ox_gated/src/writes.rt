@@ -1,4 +1,5 @@
-// A write that is on the disk before anything else is done.
+//! A write that is on the disk before anything else is done.
+
 ghost use Rattle.std.specs.Prelude.{◌≡◌, ◌≤◌, IsTrue, OnOk, OnErr, length};
 ghost use Rattle.ox_outside.specs.Counts.{IsFailure, Rose, StopsAtFault};
 ghost use Rattle.ox_outside.specs.Crash.{Remains, Only};

@@ -63,7 +63,7 @@ pub enum Parsed {
     Bad(u16),
 }
 
-// The parts of a start line.
+/// The parts of a start line.
 #[derive(Clone, Copy)]
 struct StartLine<'h> {
     method: &'h [u8],
@@ -71,7 +71,7 @@ struct StartLine<'h> {
     minor: u8,
 }
 
-// What the fields say of the length of the body.
+/// What the fields say of the length of the body.
 #[derive(Clone, Copy)]
 enum BodyLength {
     Untold,
@@ -87,14 +87,14 @@ fn all_digits(text: &[u8]) -> bool
     text.iter().all(|b| b.is_ascii_digit())
 }
 
-// Whether a text is one to nineteen digits.
+/// Whether a text is one to nineteen digits.
 fn is_a_length(text: &[u8]) -> bool
     ensures { result ≡ is_length text.now }
 {
     !text.is_empty() && text.len() <= 19 && all_digits(text)
 }
 
-// The number that digits write, or one more than a body's limit where that is less.
+/// The number that digits write, or one more than a body's limit where that is less.
 fn capped_length(text: &[u8]) -> usize
     requires { list_all is_ascii_digit text.now ≡ true }
     ensures { result ≡ min (digits_value 10 text.now) 4000001 }
@@ -106,14 +106,14 @@ fn capped_length(text: &[u8]) -> usize
     number
 }
 
-// Whether two texts are the same, in any case of letters.
+/// Whether two texts are the same, in any case of letters.
 fn same_letters(a: &[u8], b: &[u8]) -> bool
     ensures { result ≡ str_eq_ignore_ascii_case a.now b.now }
 {
     a.eq_ignore_ascii_case(b)
 }
 
-// Whether a field has a name and another value than a text.
+/// Whether a field has a name and another value than a text.
 fn is_other(head: &[u8], field: HeaderSpan, name: &[u8], text: &[u8]) -> bool
     requires { IsHeaderWithin (length head.now) field }
     ensures { result ≡ (str_eq_ignore_ascii_case (header_bytes head.now field).0 name.now
@@ -122,7 +122,7 @@ fn is_other(head: &[u8], field: HeaderSpan, name: &[u8], text: &[u8]) -> bool
     same_letters(field.name.of(head), name) && text != field.value.of(head)
 }
 
-// Whether a field has a name and a value, in any case of letters.
+/// Whether a field has a name and a value, in any case of letters.
 fn is_one(head: &[u8], field: HeaderSpan, name: &[u8], text: &[u8]) -> bool
     requires { IsHeaderWithin (length head.now) field }
     ensures { result ≡ (str_eq_ignore_ascii_case (header_bytes head.now field).0 name.now
@@ -131,7 +131,7 @@ fn is_one(head: &[u8], field: HeaderSpan, name: &[u8], text: &[u8]) -> bool
     same_letters(field.name.of(head), name) && same_letters(field.value.of(head), text)
 }
 
-// The first value of the fields of a name.
+/// The first value of the fields of a name.
 fn first_value<'h>(head: &'h [u8], fields: &[HeaderSpan], name: &[u8]) -> Option<&'h [u8]>
     requires { All (IsHeaderWithin (length head.now)) fields.now }
     ensures { MatchOption result
@@ -147,7 +147,7 @@ fn first_value<'h>(head: &'h [u8], fields: &[HeaderSpan], name: &[u8]) -> Option
     None
 }
 
-// Whether all values of the fields of a name are one text.
+/// Whether all values of the fields of a name are one text.
 fn all_are(head: &[u8], fields: &[HeaderSpan], name: &[u8], text: &[u8]) -> bool
     requires { All (IsHeaderWithin (length head.now)) fields.now }
     ensures { result ≡ list_all (bytes_eq text.now)
@@ -161,7 +161,7 @@ fn all_are(head: &[u8], fields: &[HeaderSpan], name: &[u8], text: &[u8]) -> bool
     true
 }
 
-// Whether a value of the fields of a name is a text, in any case of letters.
+/// Whether a value of the fields of a name is a text, in any case of letters.
 fn any_is(head: &[u8], fields: &[HeaderSpan], name: &[u8], text: &[u8]) -> bool
     requires { All (IsHeaderWithin (length head.now)) fields.now }
     ensures { result ≡ list_any (λ value. str_eq_ignore_ascii_case value text.now)
@@ -175,7 +175,7 @@ fn any_is(head: &[u8], fields: &[HeaderSpan], name: &[u8], text: &[u8]) -> bool
     false
 }
 
-// The length of the body that the fields tell.
+/// The length of the body that the fields tell.
 fn body_length(head: &[u8], fields: &[HeaderSpan]) -> BodyLength
     requires { All (IsHeaderWithin (length head.now)) fields.now }
     ensures { Tells result
@@ -193,7 +193,7 @@ fn body_length(head: &[u8], fields: &[HeaderSpan]) -> BodyLength
     }
 }
 
-// Whether fields have a name.
+/// Whether fields have a name.
 fn has_field(head: &[u8], fields: &[HeaderSpan], name: &[u8]) -> bool
     requires { All (IsHeaderWithin (length head.now)) fields.now }
     ensures { result ≡ nat_lt 0
@@ -220,7 +220,7 @@ fn is_post_named(name: &[u8]) -> bool
     name == b"POST".as_slice()
 }
 
-// Whether the link ends with the reply.
+/// Whether the link ends with the reply.
 fn says_close(head: &[u8], fields: &[HeaderSpan], minor: u8) -> bool
     requires { All (IsHeaderWithin (length head.now)) fields.now }
     ensures { result ≡ (minor == 0 || list_any
@@ -230,7 +230,7 @@ fn says_close(head: &[u8], fields: &[HeaderSpan], minor: u8) -> bool
     minor == 0 || any_is(head, fields, b"connection", b"close")
 }
 
-// What a head is, of which the start line and the fields are known.
+/// What a head is, of which the start line and the fields are known.
 fn read_fields<'h>(head: &'h [u8], start: StartLine<'h>, fields: &[HeaderSpan]) -> HeadFound<'h>
     requires { All (IsHeaderWithin (length head.now)) fields.now }
     ensures { let known = head_with start.entry (map (header_bytes head.now) fields.now) in
@@ -258,14 +258,14 @@ fn read_fields<'h>(head: &'h [u8], start: StartLine<'h>, fields: &[HeaderSpan]) 
     })
 }
 
-// Spans for as many fields as a head may have.
+/// Spans for as many fields as a head may have.
 fn no_spans() -> [HeaderSpan; 64]
     ensures { length result ≡ 64 }
 {
     [EMPTY_HEADER_SPAN; 64]
 }
 
-// What bytes are that begin with a head.
+/// What bytes are that begin with a head.
 fn read_found<'h>(head: &'h [u8], found: RequestSpans, spans: &[HeaderSpan]) -> HeadFound<'h>
     requires within { IsRequestWithin head.now spans.now found }
     requires is { IsRequestOf head.now spans.now found }
@@ -283,7 +283,7 @@ fn read_found<'h>(head: &'h [u8], found: RequestSpans, spans: &[HeaderSpan]) -> 
     read_fields(head, start, spans.split_at(found.headers).0)
 }
 
-// What bytes that should be a head are.
+/// What bytes that should be a head are.
 fn read_whole(head: &[u8]) -> HeadFound<'_>
     ensures { front_in result ≡ at_head (length head.now) (head_of head.now) }
 {
@@ -295,8 +295,8 @@ fn read_whole(head: &[u8]) -> HeadFound<'_>
     }
 }
 
-// How many bytes there are up to and with the first blank line, of which none stands in the first
-// `looked` bytes.
+/// How many bytes there are up to and with the first blank line, of which none stands in the first
+/// `looked` bytes.
 fn head_end(bytes: &[u8], looked: usize) -> Option<usize>
     requires within { looked ≤ length bytes.now }
     requires none { head_length (take looked bytes.now) ≡ None }
@@ -310,7 +310,7 @@ fn head_end(bytes: &[u8], looked: usize) -> Option<usize>
     }
 }
 
-// The bytes among which the end of a head has to stand.
+/// The bytes among which the end of a head has to stand.
 fn front(bytes: &[u8]) -> &[u8]
     ensures { result.now ≡ take head_limit bytes.now }
 {
@@ -333,7 +333,7 @@ pub fn read_head(bytes: &[u8], looked: usize) -> HeadFound<'_>
     }
 }
 
-// The request of a head, once its body has come.
+/// The request of a head, once its body has come.
 fn with_body_of(alloc: Global, bytes: &[u8], head: HeadRead) -> Result<Parsed, Memory>
     requires { IsBounded (HeadFound.Opens head) (length bytes.now) }
     ensures { IfOk result (λ parsed.

@@ -49,7 +49,7 @@ impl Reply {
     }
 }
 
-// The phrase of a status (RFC 9110, section 15).
+/// The phrase of a status (RFC 9110, section 15).
 fn phrase(status: u16) -> &'static [u8]
     ensures phrase { result.now ≡ phrase_of status }
     ensures short { length result.now ≤ 31 }
@@ -68,7 +68,7 @@ fn phrase(status: u16) -> &'static [u8]
     }
 }
 
-// Puts bytes.
+/// Puts bytes.
 fn put(room: &mut Room, bytes: &[u8])
     requires { length bytes.now ≤ room.old.spare }
     ensures { Puts bytes.now (length bytes.now) room.old room.new }
@@ -163,7 +163,7 @@ pub fn put_reply(room: &mut Room, parts: ReplyParts, close: bool)
     put(room, parts.body);
 }
 
-// Room that is enough for a reply.
+/// Room that is enough for a reply.
 fn room_for(alloc: Global, parts: ReplyParts) -> Result<Room, Memory>
     ensures empty { IfOk result (λ room. room.filled ≡ []) }
     ensures enough { IfOk result (λ room.

@@ -18,8 +18,8 @@ use ox_model::Refusal;
 use ox_sat::Profile;
 use std::alloc::Global;
 
-// What the next block has to name as the one before it: the newest block's hash, or 32 zero bytes
-// on an empty chain.
+/// What the next block has to name as the one before it: the newest block's hash, or 32 zero bytes
+/// on an empty chain.
 fn newest(hashes: &[[u8; 32]]) -> [u8; 32]
     ensures { result ≡ newest_of hashes.now }
 {
@@ -29,35 +29,35 @@ fn newest(hashes: &[[u8; 32]]) -> [u8; 32]
     }
 }
 
-// Whether an input names no output.
+/// Whether an input names no output.
 fn is_null(input: &TxIn) -> bool
     ensures { result ≡ names_none input.now }
 {
     input.from.txid.0 == [0; 32] && input.from.index == u32::MAX
 }
 
-// Whether one of a transaction's inputs names no output.
+/// Whether one of a transaction's inputs names no output.
 fn has_null(tx: &Tx) -> bool
     ensures { result ≡ names_none_somewhere tx.now }
 {
     tx.inputs.as_slice().iter().any(|input| is_null(input))
 }
 
-// Whether a transaction has one input, and it names no output.
+/// Whether a transaction has one input, and it names no output.
 fn is_coinbase(tx: &Tx) -> bool
     ensures { result ≡ is_only_null tx.now }
 {
     tx.inputs.len() == 1 && has_null(tx)
 }
 
-// The place of the first transaction that has an input which names no output.
+/// The place of the first transaction that has an input which names no output.
 fn first_null(txs: &[Tx]) -> Option<usize>
     ensures { result ≡ position names_none_somewhere txs.now }
 {
     txs.iter().position(|tx| has_null(tx))
 }
 
-// The first transaction that is a coinbase and mustn't be one, or isn't and must.
+/// The first transaction that is a coinbase and mustn't be one, or isn't and must.
 fn misplaced_coinbase(txs: &[Tx]) -> Option<usize>
     ensures first { result ≡ first_misplaced txs.now }
     ensures within { IfSome result (λ place. place ≤ length txs.now) }
@@ -68,8 +68,8 @@ fn misplaced_coinbase(txs: &[Tx]) -> Option<usize>
     }
 }
 
-// Whether a block at a height of which the profile asks for a commitment to witnesses isn't
-// committed to its own. These are the ids of its transactions.
+/// Whether a block at a height of which the profile asks for a commitment to witnesses isn't
+/// committed to its own. These are the ids of its transactions.
 fn lacks_commitment(
     alloc: Global,
     p: &Profile,

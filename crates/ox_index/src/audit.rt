@@ -11,7 +11,7 @@ use ox_ledger::Ledger;
 use ox_model::{RuneAudit, RuneRow};
 use std::alloc::Global;
 
-// What a rune's mints gave.
+/// What a rune's mints gave.
 fn amount_minted(row: &RuneRow) -> u128
     requires { made_of row.now < 2 ^ 128 }
     ensures { result ≡ row.now.mints * amount_per_mint row.now.terms }
@@ -22,7 +22,7 @@ fn amount_minted(row: &RuneRow) -> u128
     }
 }
 
-// Where the rune with a number is, and where it came from.
+/// Where the rune with a number is, and where it came from.
 fn rune_audit(ledger: &Ledger, n: u32) -> RuneAudit
     requires { n < length (runes_in ledger.now).runes }
     ensures { IfSome (slice_get (runes_in ledger.now).runes n)

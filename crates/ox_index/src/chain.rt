@@ -32,7 +32,7 @@ pub struct Chain {
     ghost lead_then: { EndThen live changes.before } by { Prim.hlevel AllEnd-prop },
 }
 
-// By hand, so that whoever drops a chain makes one call, and proves nothing of its fields.
+/// By hand, so that whoever drops a chain makes one call, and proves nothing of its fields.
 impl Drop for Chain {
     fn drop(self) {
         let Chain {

@@ -141,7 +141,7 @@ impl Changes {
     }
 }
 
-// Takes away the last of these, if they are one more than so many.
+/// Takes away the last of these, if they are one more than so many.
 fn shorten(items: &mut VecDeque<Change>, depth: usize) -> Option<Change>
     requires { deque_len items.old ≤ depth + 1 }
     ensures fallen { items.old.items ≡ items.new.items ++ option_to_list result }

@@ -1,4 +1,5 @@
-//! The index of a chain, as it stands after each block.
+//! The index of a chain, as it stands after each block, and back over the newest ones in a
+//! reorganisation (reorg).
 #![tactic(auto)]
 
 mod admit;

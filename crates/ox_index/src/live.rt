@@ -40,7 +40,7 @@ pub struct Live {
         IsMark parts.profile hashes.items (mark_of parts) lost lengths) } by { Prim.hlevel props },
 }
 
-// By hand, so that whoever drops an index makes one call, and proves nothing of its fields.
+/// By hand, so that whoever drops an index makes one call, and proves nothing of its fields.
 impl Drop for Live {
     fn drop(self) {
         let Live {
@@ -106,7 +106,7 @@ impl Live {
         self.read_in(bytes)
     }
 
-    // Reads a block and takes it in, where no mark is left.
+    /// Reads a block and takes it in, where no mark is left.
     fn read_in(&mut self, bytes: &[u8]) -> Result<Change, ConnectFault>
         requires none { self.old.marked ≡ None }
         ensures ok { OnOk result
@@ -124,8 +124,8 @@ impl Live {
         self.take_in(&block, &ids)
     }
 
-    // Takes in a block that is admitted, and answers what it changed. The fault is that of the
-    // first satoshis that can't be moved.
+    /// Takes in a block that is admitted, and answers what it changed. The fault is that of the
+    /// first satoshis that can't be moved.
     fn take_in(&mut self, block: &Block, ids: &Txids) -> Result<Change, ConnectFault>
         requires lawful { Lawful block.now }
         requires ids { ids.now ≡ map txid block.now.txs }
@@ -221,14 +221,14 @@ impl Live {
         }
     }
 
-    // The hashes of the chain's blocks, by height.
+    /// The hashes of the chain's blocks, by height.
     fn hashes(&self) -> &[[u8; 32]]
         ensures { result.now ≡ (index_in self.now).hashes }
     {
         &self.hashes[..self.shown.blocks]
     }
 
-    // The place of a satoshi among the lost ones.
+    /// The place of a satoshi among the lost ones.
     fn lost_at(&self, sat: u64) -> Option<u64>
         ensures { result ≡ place_in (index_in self.now).lost sat }
     {
@@ -238,7 +238,7 @@ impl Live {
         }
     }
 
-    // Drops what doesn't count of the lists, and the mark, which might have counted it again.
+    /// Drops what doesn't count of the lists, and the mark, which might have counted it again.
     fn forget(&mut self)
         ensures index { index_in self.new ≡ index_in self.old }
         ensures profile { profile_in self.new ≡ profile_in self.old }
@@ -261,7 +261,7 @@ impl Live {
         Ok(ok_line_in(room, self.tip()))
     }
 
-    // The newest block's height and hash.
+    /// The newest block's height and hash.
     fn tip(&self) -> Option<(u32, [u8; 32])>
         ensures { tip_line result ≡ ok_line (index_in self.now) }
     {

@@ -117,8 +117,8 @@ impl Parts {
         }
     }
 
-    // What a block reveals, and what it does to runes, once its satoshis have moved since the
-    // marks. It answers what the block changed. `Memory` where there is none: the marks stay.
+    /// What a block reveals, and what it does to runes, once its satoshis have moved since the
+    /// marks. It answers what the block changed. `Memory` where there is none: the marks stay.
     fn follow(&mut self, block: &Block, moved: Moved, height: u32) -> Result<Change, Memory>
         requires lawful { Lawful block.now }
         requires moved { HasMoved self.old.profile height block.now moved (mark_of self.old)
@@ -135,8 +135,8 @@ impl Parts {
         self.changed(hash(&block.header), moved.lost, before)
     }
 
-    // What was changed since the marks, by a block with this hash that lost these satoshis, behind
-    // so many inscriptions. `Memory` where there is none for it.
+    /// What was changed since the marks, by a block with this hash that lost these satoshis, behind
+    /// so many inscriptions. `Memory` where there is none for it.
     fn changed(&self, hash: [u8; 32], lost: Ranges, from: u32) -> Result<Change, Memory>
         requires marked { IsSome (mark_of self.now) }
         requires from { from ≤ length (held_in self.now).inscriptions }
@@ -179,7 +179,7 @@ impl Parts {
         }
     }
 
-    // The same under marks, which stay.
+    /// The same under marks, which stay.
     fn put_back(&mut self, change: &Change) -> Result<(), Memory>
         requires marked { IsSome (mark_of self.old) }
         requires rows { EndsAt (held_in self.old).outs (outputs_changed change.now) }
@@ -216,7 +216,7 @@ impl Parts {
         }
     }
 
-    // The same under marks, which stay.
+    /// The same under marks, which stay.
     fn put_again(&mut self, change: &Change) -> Result<(), Memory>
         requires marked { IsSome (mark_of self.old) }
         requires rows { EndsAt (held_in self.old).outs (reverse_of (outputs_changed change.now)) }
@@ -230,7 +230,7 @@ impl Parts {
         append(&mut self.shelf, change.inscriptions.as_slice())
     }
 
-    // Sets all marks. `Memory` where there is none: nothing has changed then.
+    /// Sets all marks. `Memory` where there is none: nothing has changed then.
     fn begin(&mut self) -> Result<(), Memory>
         ensures held { held_in self.new ≡ held_in self.old }
         ensures ok { OnOk result (mark_of self.new ≡ Some (held_in self.old)) }
@@ -254,8 +254,8 @@ impl Parts {
     }
 }
 
-// The runes of a block, whose satoshis moved so: each transaction in order, and the block's end.
-// After `Memory` they are as at the mark, which stays.
+/// The runes of a block, whose satoshis moved so: each transaction in order, and the block's end.
+/// After `Memory` they are as at the mark, which stays.
 fn move_runes(ledger: &mut Ledger, block: &Block, moved: &Moved, height: u32) -> Result<(), Memory>
     requires lawful { Lawful block.now }
     requires none { NoneOf ledger.old.profile height (runes_in ledger.old).runes }
@@ -275,7 +275,7 @@ fn move_runes(ledger: &mut Ledger, block: &Block, moved: &Moved, height: u32) ->
     ledger.end()
 }
 
-// Before the first of some transactions, tells the ledger all of these.
+/// Before the first of some transactions, tells the ledger all of these.
 fn expect_from(ledger: &mut Ledger, txs: &[Tx], all: &[MovedTx], place: usize)
     ensures runes { runes_in ledger.new ≡ runes_in ledger.old }
     ensures mark { rune_mark ledger.new ≡ rune_mark ledger.old }
@@ -286,7 +286,7 @@ fn expect_from(ledger: &mut Ledger, txs: &[Tx], all: &[MovedTx], place: usize)
     }
 }
 
-// What is at a place and behind it, as much as is told at a time.
+/// What is at a place and behind it, as much as is told at a time.
 fn batch_from<T>(all: &[T], place: usize) -> &[T] {
     match all.get(place..) {
         Some(left) => &left[..left.len().min(BATCH)],
@@ -294,7 +294,7 @@ fn batch_from<T>(all: &[T], place: usize) -> &[T] {
     }
 }
 
-// Puts inscriptions behind the others. `Memory` where there is none, or where there would be 2^32.
+/// Puts inscriptions behind the others. `Memory` where there is none, or where there would be 2^32.
 fn append(shelf: &mut Shelf, rows: &[SharedRow]) -> Result<(), Memory>
     ensures ok { OnOk result (shelf.new.rows ≡ shelf.old.rows ++ rows.now) }
     ensures mark { shelf.new.mark ≡ shelf.old.mark }

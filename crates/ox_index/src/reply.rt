@@ -20,7 +20,7 @@ pub fn empty_line() -> &'static [u8]
     b"ok empty\n"
 }
 
-// Puts the line of a newest block.
+/// Puts the line of a newest block.
 #[tactic(auto, unfolding(ox_rules::specs::Text::block_line, ox_rules::specs::Text::hash_text))]
 fn put_block_line(room: &mut Room, height: u32, hash: &[u8; 32])
     requires { 79 ≤ room.old.spare }

@@ -25,7 +25,7 @@ pub(crate) fn read_ahead(ids: &Shards<InsId, u32>, txs: &[Tx], moved: &[MovedTx]
     sum
 }
 
-// The id of the first inscription that a transaction may reveal.
+/// The id of the first inscription that a transaction may reveal.
 fn first_of(txid: Txid) -> InsId {
     let Txid(txid) = txid;
     InsId { txid, index: 0 }

@@ -39,7 +39,7 @@ pub struct InsRow {
     pub sat: Option<u64>,
 }
 
-// By hand, so that whoever drops a row makes one call, and proves nothing of its fields.
+/// By hand, so that whoever drops a row makes one call, and proves nothing of its fields.
 impl Drop for InsRow {
     fn drop(self) {
         let InsRow {

@@ -22,8 +22,8 @@ use ox_rules::Moved;
 use std::alloc::Global;
 use std::marker::Model;
 
-/// Inscriptions in order, with a mark to which they can go back. A row's sequence is its place among
-/// them; beside it a row has a signed number, for which the shelf is told its jubilee once.
+/// Inscriptions in order, with a mark to which they can go back. A row's sequence is its place
+/// among them; beside it a row has a signed number, for which the shelf is told its jubilee once.
 /// Contracts see the list of rows, beside it the list at the mark or none, and the jubilee.
 ///
 /// The mark copies nothing: rows that stood there and are dropped stay, unseen, until the next
@@ -40,7 +40,7 @@ pub struct Shelf {
     mark: Option<usize>,
 }
 
-// By hand, so that whoever drops a shelf makes one call, and proves nothing of its fields.
+/// By hand, so that whoever drops a shelf makes one call, and proves nothing of its fields.
 impl Drop for Shelf {
     fn drop(self) {
         let Shelf {

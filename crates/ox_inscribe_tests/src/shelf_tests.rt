@@ -1,3 +1,5 @@
+//! A shelf on its own: rows that are appended, dropped, hidden and shared.
+
 ghost use Rattle.std.specs.Prelude.{◌≡◌};
 
 use ox_bytes::{Bytes, List};

@@ -17,7 +17,7 @@ pub(crate) fn read_ahead(holders: &Holders, txs: &[Tx], moved: &[MovedTx]) -> u3
     lists.wrapping_add(read_entries(holders, txs))
 }
 
-// Reads what leads to the outputs that these transactions spend and make.
+/// Reads what leads to the outputs that these transactions spend and make.
 fn read_lists(holders: &Holders, txs: &[Tx], moved: &[MovedTx]) -> u32 {
     let mut sum = 0u32;
     for (tx, did) in txs.iter().zip(moved) {
@@ -28,7 +28,7 @@ fn read_lists(holders: &Holders, txs: &[Tx], moved: &[MovedTx]) -> u32 {
     sum
 }
 
-// Reads what leads to the outputs that these inputs spend.
+/// Reads what leads to the outputs that these inputs spend.
 fn spent_lists(holders: &Holders, inputs: &[TxIn]) -> u32 {
     let mut sum = 0u32;
     for input in inputs {
@@ -37,7 +37,7 @@ fn spent_lists(holders: &Holders, inputs: &[TxIn]) -> u32 {
     sum
 }
 
-// Reads what leads to the first so many outputs of a transaction.
+/// Reads what leads to the first so many outputs of a transaction.
 fn made_lists(holders: &Holders, txid: Txid, count: usize) -> u32 {
     let mut sum = 0u32;
     let mut at = OutPoint { txid, index: 0 };
@@ -48,7 +48,7 @@ fn made_lists(holders: &Holders, txid: Txid, count: usize) -> u32 {
     sum
 }
 
-// Reads the entries of the outputs that these transactions spend.
+/// Reads the entries of the outputs that these transactions spend.
 fn read_entries(holders: &Holders, txs: &[Tx]) -> u32 {
     let mut sum = 0u32;
     for tx in txs {
@@ -84,7 +84,7 @@ pub(crate) fn count_then(changes: &[(OutPoint, Option<&Balances>)]) -> usize {
     count
 }
 
-// Whether there are runes.
+/// Whether there are runes.
 fn holds(balances: Option<&Balances>) -> bool {
     match balances {
         Some(balances) => !balances.is_empty(),

@@ -21,7 +21,7 @@ use ox_marked::Marked;
 use ox_runestone::RuneId;
 use std::alloc::Global;
 
-// What so many changed outputs held and hold is read ahead at a time.
+/// What so many changed outputs held and hold is read ahead at a time.
 const BATCH: usize = 32;
 
 /// The runes of an output that is made.

@@ -67,7 +67,7 @@ pub struct Ledger {
     ghost known: { marked ≡ is_some (mark_of tables) },
 }
 
-// By hand, so that whoever drops a ledger makes one call, and proves nothing of its fields.
+/// By hand, so that whoever drops a ledger makes one call, and proves nothing of its fields.
 impl Drop for Ledger {
     fn drop(self) {
         let Ledger {

@@ -40,7 +40,7 @@ pub struct RunePart {
     pub appended: List<RuneRow>,
 }
 
-// By hand, so that whoever drops a part makes one call, and proves nothing of its fields.
+/// By hand, so that whoever drops a part makes one call, and proves nothing of its fields.
 impl Drop for RunePart {
     fn drop(self) {
         let RunePart {

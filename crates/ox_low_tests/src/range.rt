@@ -69,8 +69,8 @@ fn has_at(list: &Ranges, place: u64, number: u64) -> bool {
     place < list.len() && list.at(place) == number
 }
 
-// Block 2 spends the output of block 0 into two outputs of 2,000,000,000 and 1,000,000,000, and its
-// coinbase claims its own subsidy and the rest as a fee.
+/// Block 2 spends the output of block 0 into two outputs of 2,000,000,000 and 1,000,000,000, and
+/// its coinbase claims its own subsidy and the rest as a fee.
 #[test]
 fn satoshis_are_dealt_first_in_first_out(rt: HostRuntime) {
     let mut spent = one(&rt, rt.alloc(), 0, 5_000_000_000);
@@ -146,7 +146,7 @@ fn an_empty_list_has_no_runs(rt: HostRuntime) {
     assert!(rt; rest.is_empty());
 }
 
-// Runs of more than one list, so that they don't fit a list's own place.
+/// Runs of more than one list, so that they don't fit a list's own place.
 #[test]
 fn lists_of_several_runs_are_joined_and_copied(rt: HostRuntime) {
     let mut list = comb(&rt, rt.alloc(), 0, 3);

@@ -103,7 +103,7 @@ fn each_rarity_has_its_satoshis(rt: HostRuntime) {
     }
 }
 
-// An example of ord's own.
+/// An example of ord's own.
 #[test]
 fn a_satoshi_has_its_degree_and_its_height(rt: HostRuntime) {
     let mainnet = profile_of(ProfileName::Mainnet);

@@ -1,4 +1,5 @@
-//! A map that goes back to a mark: what stood where something was put since is kept in a log.
+//! A map with a savepoint, the mark: what stood where something was put since is kept in a log, by
+//! which the map goes back to it.
 #![tactic(auto)]
 
 mod marked;

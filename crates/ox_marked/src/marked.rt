@@ -17,7 +17,7 @@ use ox_shards::{Sharded, Shards};
 use std::alloc::Global;
 use std::marker::Model;
 
-// The entries of so many changes are read ahead at a time.
+/// The entries of so many changes are read ahead at a time.
 const BATCH: usize = 64;
 
 /// A map that goes back to a mark. Values change in place, and what stood where something was put
@@ -192,7 +192,7 @@ impl<K: Sharded, V> Marked<K, V> {
     }
 }
 
-// Whether there is an entry without a value.
+/// Whether there is an entry without a value.
 fn is_empty<V>(entry: &Option<Option<V>>) -> bool {
     match entry {
         Some(value) => value.is_none(),
@@ -200,7 +200,7 @@ fn is_empty<V>(entry: &Option<Option<V>>) -> bool {
     }
 }
 
-// Puts back what stood before some changes, the newest first. It takes no memory.
+/// Puts back what stood before some changes, the newest first. It takes no memory.
 fn put_back<K: Sharded, V: Drop>(entries: &mut Shards<K, Option<V>>, log: &mut [(K, Option<V>)])
     requires { AreLogged K.cmp log.old entries.old }
     ensures { (q : K) → standing K.cmp entries.new q
@@ -214,7 +214,7 @@ fn put_back<K: Sharded, V: Drop>(entries: &mut Shards<K, Option<V>>, log: &mut [
     }
 }
 
-// Puts a value, or none, in the place of what stands at a key. It takes no memory.
+/// Puts a value, or none, in the place of what stands at a key. It takes no memory.
 fn set<K: Sharded, V: Drop>(entries: &mut Shards<K, Option<V>>, key: K, value: Option<V>)
     requires { IsSome (value_at K.cmp entries.old key) }
     ensures { (q : K) → value_at K.cmp entries.new q
@@ -224,8 +224,8 @@ fn set<K: Sharded, V: Drop>(entries: &mut Shards<K, Option<V>>, key: K, value: O
     let _stood = entries.insert(key, value);
 }
 
-// Takes the entries without a value away, of those that changed, and answers what it read ahead,
-// added up. Without `all` it looks at those changes alone before which a value stood.
+/// Takes the entries without a value away, of those that changed, and answers what it read ahead,
+/// added up. Without `all` it looks at those changes alone before which a value stood.
 fn sweep_all<K: Sharded, V: Drop>(
     entries: &mut Shards<K, Option<V>>,
     log: &[(K, Option<V>)],
@@ -241,8 +241,8 @@ fn sweep_all<K: Sharded, V: Drop>(
     sum
 }
 
-// Reads what leads to the entries of some changes, and then a little of these entries, so that the
-// processor fetches them side by side.
+/// Reads what leads to the entries of some changes, and then a little of these entries, so that the
+/// processor fetches them side by side.
 fn read_ahead<K: Sharded, V>(
     entries: &Shards<K, Option<V>>,
     changes: &[(K, Option<V>)],
@@ -262,7 +262,7 @@ fn read_ahead<K: Sharded, V>(
     sum
 }
 
-// Whether the entry that may be that of a key has a value. A little of its key is read too.
+/// Whether the entry that may be that of a key has a value. A little of its key is read too.
 fn glance_value<K: Sharded, V>(entries: &Shards<K, Option<V>>, key: &K) -> bool {
     match entries.candidate(key) {
         Some((other, value)) => other.tag() == key.tag() && value.is_some(),
@@ -270,7 +270,7 @@ fn glance_value<K: Sharded, V>(entries: &Shards<K, Option<V>>, key: &K) -> bool 
     }
 }
 
-// Takes the entries without a value away, of some that changed.
+/// Takes the entries without a value away, of some that changed.
 fn sweep<K: Sharded, V: Drop>(
     entries: &mut Shards<K, Option<V>>,
     changes: &[(K, Option<V>)],
@@ -285,7 +285,7 @@ fn sweep<K: Sharded, V: Drop>(
     }
 }
 
-// Takes the entry at a key away, if there is one and it has no value.
+/// Takes the entry at a key away, if there is one and it has no value.
 fn take_empty<K: Sharded, V: Drop>(entries: &mut Shards<K, Option<V>>, key: &K)
     ensures { (q : K) → standing K.cmp entries.new q ≡ standing K.cmp entries.old q }
 {
@@ -294,7 +294,7 @@ fn take_empty<K: Sharded, V: Drop>(entries: &mut Shards<K, Option<V>>, key: &K)
     }
 }
 
-// Whether a key has an entry, and no value.
+/// Whether a key has an entry, and no value.
 fn is_gone<K: Sharded, V>(entries: &Shards<K, Option<V>>, key: &K) -> bool
     ensures { IsTrue result → standing K.cmp entries.now key.now ≡ None }
 {
@@ -304,7 +304,7 @@ fn is_gone<K: Sharded, V>(entries: &Shards<K, Option<V>>, key: &K) -> bool
     }
 }
 
-// What the oldest change at each key says, by rising key.
+/// What the oldest change at each key says, by rising key.
 fn oldest<'a, K: Sharded, V>(
     alloc: Global,
     log: &'a [(K, Option<V>)],
@@ -320,7 +320,7 @@ fn oldest<'a, K: Sharded, V>(
     Ok(changes)
 }
 
-// Each key with what its change says, in the changes' order.
+/// Each key with what its change says, in the changes' order.
 fn shown<'a, K: Sharded, V>(
     alloc: Global,
     log: &'a [(K, Option<V>)],
@@ -335,7 +335,7 @@ fn shown<'a, K: Sharded, V>(
     Ok(changes)
 }
 
-// Sorts these by key. Those of one key keep their order.
+/// Sorts these by key. Those of one key keep their order.
 fn sort<K: Sharded, V>(changes: &mut Vec<(K, Option<&V>)>) -> Result<(), Memory>
     ensures sorted { OnOk result (IsSorted (λ a b. K.cmp a.0 b.0) changes.new.items) }
     ensures stable { OnOk result
@@ -344,14 +344,14 @@ fn sort<K: Sharded, V>(changes: &mut Vec<(K, Option<&V>)>) -> Result<(), Memory>
     Ok(changes.sort_by(|a, b| a.0.cmp(&b.0))?)
 }
 
-// Keeps the first of those that stand side by side and have one key.
+/// Keeps the first of those that stand side by side and have one key.
 fn keep_first<K: Sharded, V>(changes: &mut Vec<(K, Option<&V>)>)
     ensures { changes.new.items ≡ dedup (λ a b. eq_by_cmp K.cmp a.0 b.0) changes.old.items }
 {
     changes.dedup_by(|later, kept| have_one(later, kept));
 }
 
-// Whether two have one key.
+/// Whether two have one key.
 fn have_one<K: Sharded, V>(a: &(K, Option<&V>), b: &(K, Option<&V>)) -> bool
     ensures { result ≡ eq_by_cmp K.cmp a.now.0 b.now.0 }
 {

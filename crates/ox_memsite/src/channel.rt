@@ -1,4 +1,5 @@
-// What each channel will still give, and what is counted of it.
+//! What each channel will still give, and what is counted of it.
+
 ghost use Rattle.std.specs.Prelude.{◌≡◌, ◌+◌, ◌<◌, ◌≤◌, length, replicate, IfOk, OnOk, OnErr};
 ghost use Rattle.ox_memsite.specs.Channels.{at_channel, silent_channel, script_of, next_script};
 ghost use Rattle.ox_memsite.specs.Channels.{hear_fault, show_fault, nothing_yet};

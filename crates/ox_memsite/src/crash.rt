@@ -1,4 +1,5 @@
-// A crash at a chosen moment, and what a site has shown.
+//! A crash at a chosen moment, and what a site has shown.
+
 ghost use Rattle.std.specs.Prelude.{◌≡◌, ◌≤◌, ◌++◌, [], ◌∷◌, MatchOption, IfOk, OnOk};
 ghost use Rattle.ox_outside.specs.Disk.{synced_disk, image_with};
 ghost use Rattle.ox_outside.specs.Event.{shown_bytes};
@@ -34,7 +35,7 @@ pub fn crashed_bytes(
     Ok(replay.image(choice.fill, choice.keep)?)
 }
 
-// The file after these steps.
+/// The file after these steps.
 fn replay_of(alloc: Global, first: &[u8], steps: &[Step], file: Which) -> Result<Replay, Memory>
     ensures { IfOk result (λ replay. replay ≡ disk_after file (synced_disk first.now) steps.now) }
 {

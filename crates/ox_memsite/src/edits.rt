@@ -1,4 +1,5 @@
-// Writes into bytes, each whole or not at all.
+//! Writes into bytes, each whole or not at all.
+
 ghost use Rattle.std.specs.Prelude.{◌≡◌, ◌+◌, ◌≤◌, ◌++◌, length, take, drop, slice_range};
 ghost use Rattle.std.specs.Prelude.{if◌then◌else◌, OnOk, OnErr};
 ghost use Rattle.ox_outside.specs.Files.{with_bytes};

@@ -1,4 +1,5 @@
-// The site in memory as a site: it tells all.
+//! The site in memory as a site: it tells all.
+
 ghost use Rattle.std.specs.Prelude.{true, Some, length};
 
 use crate::site::MemSite;

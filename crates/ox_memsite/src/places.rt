@@ -1,4 +1,5 @@
-// The numbers of the channels of a log, and which of them have broken.
+//! The numbers of the channels of a log, and which of them have broken.
+
 ghost use Rattle.std.specs.Prelude.{◌≡◌, ◌≤◌, max, true, false, slice_set, replicate, IfOk};
 ghost use Rattle.ox_memsite.specs.Flags.{flags_with, flags_after};
 ghost use Rattle.ox_memsite.specs.Room.{channels_in};

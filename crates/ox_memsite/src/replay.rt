@@ -1,4 +1,5 @@
-// A file on a disk, made again from what happened to it.
+//! A file on a disk, made again from what happened to it.
+
 ghost use Rattle.std.specs.Prelude.{◌≡◌, ◌++◌, replicate, slice_get, IfOk, OnOk};
 ghost use Rattle.ox_outside.specs.Disk.{synced_disk, after_write, after_torn, filled_bytes};
 ghost use Rattle.ox_outside.specs.Disk.{image_with};
@@ -79,7 +80,7 @@ impl Replay {
     }
 }
 
-// The bytes that no write has covered since the last sync, and `fill` in the place of the others.
+/// The bytes that no write has covered since the last sync, and `fill` in the place of the others.
 fn kept_bytes(
     alloc: Global,
     bytes: &[u8],

@@ -1,4 +1,5 @@
-// What a link will say, one hearing after another.
+//! What a link will say, one hearing after another.
+
 ghost use Rattle.std.specs.Prelude.{◌≡◌, [], ◌++◌, drop, IfOk, OnOk, OnErr};
 ghost use Rattle.ox_memsite.specs.Script.{said_next, said_bytes, left_after, without_empty};
 ghost use Rattle.ox_memsite.specs.Script.{kept_said};
@@ -86,7 +87,7 @@ impl Script {
     }
 }
 
-// The bytes behind the first so many.
+/// The bytes behind the first so many.
 fn bytes_past(bytes: &[u8], count: usize) -> &[u8]
     ensures { result.now ≡ drop count bytes.now }
 {
@@ -94,7 +95,7 @@ fn bytes_past(bytes: &[u8], count: usize) -> &[u8]
     rest
 }
 
-// As many of the bytes as there is room for, or nothing yet where there are none.
+/// As many of the bytes as there is room for, or nothing yet where there are none.
 fn say_bytes(alloc: Global, bytes: &[u8], room: usize) -> Result<Said, Memory>
     ensures { IfOk result (λ said. said ≡ said_bytes room bytes.now) }
 {
@@ -105,7 +106,7 @@ fn say_bytes(alloc: Global, bytes: &[u8], room: usize) -> Result<Said, Memory>
     Ok(Said::Bytes(Bytes::copy(alloc, front)?))
 }
 
-// Copies of the entries, but for those of no bytes.
+/// Copies of the entries, but for those of no bytes.
 fn copies(alloc: Global, script: &[Said]) -> Result<Vec<Said>, Memory>
     ensures { IfOk result (λ said. said.items ≡ without_empty script.now) }
 {

@@ -1,4 +1,5 @@
-// The site in memory: what each call does, exactly.
+//! The site in memory: what each call does, exactly.
+
 ghost use Rattle.std.specs.Prelude.{◌≡◌, ◌+◌, ◌*◌, ◌<◌, ◌≤◌, [], ◌∷◌, ◌++◌, length, drop};
 ghost use Rattle.std.specs.Prelude.{slice_range};
 ghost use Rattle.std.specs.Prelude.{false, nat_lt, slice_index_or, IsTrue};
@@ -273,7 +274,7 @@ impl MemSite {
             (after_hear_fault channel) (after_hear_fault channel) result self.old self.new }
         ensures kept { OnErr result (into.new ≡ into.old) }
     {
-        self.find(channel);
+        self.channel_is_kept(channel);
         if self.next_call() {
             self.fail_hear(channel);
             return Err(Failed);
@@ -297,7 +298,7 @@ impl MemSite {
         ensures outcome { Ends (Shows channel bytes.now)
             (after_show_fault channel) (after_show_fault channel) result self.old self.new }
     {
-        self.find(channel);
+        self.channel_is_kept(channel);
         if self.next_call() {
             self.fail_show(channel);
             return Err(Failed);
@@ -370,8 +371,8 @@ impl MemSite {
         self.steps.put(Step::Shut { channel });
     }
 
-    // A channel that is there has its place among the channels.
-    fn find(&self, channel: u32)
+    /// A channel that is there has its place among the channels.
+    fn channel_is_kept(&self, channel: u32)
         requires { IsTrue (is_there channel (log_of self.now)) }
         ensures { channel < length self.now.channels }
     {
@@ -387,7 +388,7 @@ impl MemSite {
         }
     }
 
-    // The least number that no channel had, where there is one.
+    /// The least number that no channel had, where there is one.
     fn next_number(&self) -> Option<u32>
         ensures is { MatchOption result
             (last_number < length self.now.channels) (λ n. n ≡ length self.now.channels) }
@@ -432,7 +433,7 @@ impl MemSite {
         self.door_faults = self.door_faults.saturating_add(1);
     }
 
-    // Counts a call, and says whether it is to fail.
+    /// Counts a call, and says whether it is to fail.
     fn next_call(&mut self) -> bool
         ensures listed { result ≡ is_listed self.old }
         ensures called { self.new ≡ after_call self.old }
@@ -455,7 +456,7 @@ impl MemSite {
     }
 }
 
-// What is put into the record. `Memory` where there is none: nothing has changed then.
+/// What is put into the record. `Memory` where there is none: nothing has changed then.
 impl MemSite {
     ghost use Rattle.ox_memsite.specs.Heard.{Hears};
     ghost use Rattle.ox_outside.specs.Event.{has_broken};
@@ -531,8 +532,8 @@ impl MemSite {
         Ok(())
     }
 
-    // What the channel says next, into the front of the room: its bytes, or nothing yet, or its
-    // end.
+    /// What the channel says next, into the front of the room: its bytes, or nothing yet, or its
+    /// end.
     fn hear_into(&mut self, channel: u32, into: &mut [u8]) -> Result<Heard, Memory>
         requires { channel < length self.old.channels }
         ensures ok { IfOk result (λ heard.
@@ -551,7 +552,7 @@ impl MemSite {
         Ok(note_said(&mut self.steps, &mut self.channels, channel, said, into))
     }
 
-    // The first failure of the channel is logged.
+    /// The first failure of the channel is logged.
     fn break_channel(&mut self, channel: u32)
         requires { channel < length self.old.channels }
         ensures { self.new ≡ after_break channel self.old }
@@ -578,7 +579,7 @@ impl MemSite {
     }
 }
 
-// A site over these files, all of them on the disk, with the log of these steps.
+/// A site over these files, all of them on the disk, with the log of these steps.
 fn restart(alloc: Global, a: Vec<u8>, b: Vec<u8>, past: Vec<Step>) -> Result<MemSite, Memory>
     ensures { IfOk result (λ site. site ≡ first_site a.items b.items (events_of past.items)) }
 {
@@ -607,8 +608,8 @@ fn restart(alloc: Global, a: Vec<u8>, b: Vec<u8>, past: Vec<Step>) -> Result<Mem
     })
 }
 
-// What a channel says next: channel 0 of the input, of which so much was heard, a link of its
-// script. `Memory` where there is none for the bytes: all is as before then.
+/// What a channel says next: channel 0 of the input, of which so much was heard, a link of its
+/// script. `Memory` where there is none for the bytes: all is as before then.
 fn say_next(
     alloc: Global,
     input: &[u8],
@@ -634,7 +635,7 @@ fn say_next(
     }
 }
 
-// Notes what a channel said, and puts its bytes into the front of the room.
+/// Notes what a channel said, and puts its bytes into the front of the room.
 fn note_said(
     steps: &mut Steps,
     channels: &mut [Channel],
@@ -669,7 +670,7 @@ fn note_said(
     }
 }
 
-// Takes the first of the scripts that wait at a door.
+/// Takes the first of the scripts that wait at a door.
 fn take_first(
     at_public: &mut VecDeque<Script>,
     at_operator: &mut VecDeque<Script>,
@@ -705,7 +706,7 @@ fn say_input(alloc: Global, input: &[u8], heard: &mut usize, room: usize) -> Res
     Ok(Said::Bytes(bytes))
 }
 
-// So much room the channels below this number need at most.
+/// So much room the channels below this number need at most.
 fn most_owed(count: usize) -> usize
     requires { count ≤ 4294967297 }
     ensures { result ≡ 3 * count }

@@ -1,4 +1,5 @@
-// What has happened at a site, one thing at a time.
+//! What has happened at a site, one thing at a time.
+
 use ox_bytes::Bytes;
 use ox_outside::{Doorway, Which};
 

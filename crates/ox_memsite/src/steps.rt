@@ -1,4 +1,5 @@
-// The record of steps, with room that is taken before it is filled.
+//! The record of steps, with room that is taken before it is filled.
+
 ghost use Rattle.std.specs.Prelude.{◌≡◌, ◌+◌, ◌≤◌, [], ◌∷◌, ◌++◌, IfOk, OnOk, OnErr};
 
 use crate::step::Step;

@@ -7,7 +7,7 @@ use ox_memsite::MemSite;
 use std::alloc::Global;
 use std::process::Abort;
 
-// Whether the line is the connect of these bytes.
+/// Whether the line is the connect of these bytes.
 fn connects(alloc: Global, line: &[u8], bytes: &[u8]) -> bool {
     match command_of(alloc, line) {
         Ok(Command::Connect(block)) => block.as_slice() == bytes,
@@ -15,26 +15,26 @@ fn connects(alloc: Global, line: &[u8], bytes: &[u8]) -> bool {
     }
 }
 
-// Whether the line is no command.
+/// Whether the line is no command.
 fn is_none(alloc: Global, line: &[u8]) -> bool {
     matches!(command_of(alloc, line), Err(SyntaxFault::Syntax))
 }
 
-// A site whose channel 0 gives these bytes.
+/// A site whose channel 0 gives these bytes.
 fn site_of(rt: &impl Abort, alloc: Global, input: &[u8]) -> MemSite {
     let mut site = MemSite::new(alloc).expect(rt, "memory");
     site.input(input).expect(rt, "memory");
     site
 }
 
-// The same byte so many times, and a line feed.
+/// The same byte so many times, and a line feed.
 fn long_line(rt: &impl Abort, alloc: Global, byte: u8, size: usize) -> Bytes {
     let mut line = Bytes::from_vec(Vec::from_elem(alloc, byte, size).expect(rt, "memory"));
     line.append(b"\n").expect(rt, "memory");
     line
 }
 
-// Whether the next line has these bytes.
+/// Whether the next line has these bytes.
 fn is_next(lines: &mut Lines, site: &mut MemSite, bytes: &[u8]) -> bool {
     match lines.next(site) {
         Ok(Line::Text(line)) => line.as_slice() == bytes,
@@ -42,7 +42,7 @@ fn is_next(lines: &mut Lines, site: &mut MemSite, bytes: &[u8]) -> bool {
     }
 }
 
-// Whether the next line is this byte so many times.
+/// Whether the next line is this byte so many times.
 fn is_next_long(lines: &mut Lines, site: &mut MemSite, byte: u8, size: usize) -> bool {
     match lines.next(site) {
         Ok(Line::Text(line)) => { line.len() == size && line.as_slice().iter().all(|b| *b == byte) }
@@ -50,7 +50,7 @@ fn is_next_long(lines: &mut Lines, site: &mut MemSite, byte: u8, size: usize) ->
     }
 }
 
-// Whether the feed is at its end.
+/// Whether the feed is at its end.
 fn is_at_end(lines: &mut Lines, site: &mut MemSite) -> bool {
     matches!(lines.next(site), Ok(Line::End))
 }
@@ -109,7 +109,7 @@ fn a_line_feed_ends_a_line_and_a_last_line_needs_none(rt: HostRuntime) {
     assert!(rt; is_at_end(&mut lines, &mut site));
 }
 
-// At most 65,536 bytes are heard at a time.
+/// At most 65,536 bytes are heard at a time.
 #[test]
 fn a_line_may_come_in_many_pieces(rt: HostRuntime) {
     let alloc = rt.alloc();

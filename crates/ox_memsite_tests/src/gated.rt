@@ -1,5 +1,6 @@
 //! What no clause says: that the calls succeed where there is ample memory, the bytes of an empty
-//! store and of a file that took the other one's place, and that a failed call changes nothing else.
+//! store and of a file that took the other one's place, and that a failed call changes nothing
+//! else.
 
 use ox_bytes::Bytes;
 use ox_gated::{GateFault, Head, Opened, Tail, checkpoint_of, frame, frame_parts};
@@ -15,7 +16,7 @@ const HEAD: Head = Head {
     generation: 1,
 };
 
-// Regtest, depth 100, no records.
+/// Regtest, depth 100, no records.
 const EMPTY: [u8; 27] = [
     0x01, 0x6f, 0x78, 0x69, 0x64, 0x78, 0x01, 0x01, 0x64, 0x00, 0x01, 0x00, 0x00, 0x00, 0x00, 0x00,
     0x00, 0x00, 0x00, 0x00, 0x00, 0x00, 0x00, 0x00, 0x00, 0x00, 0x00,
@@ -35,14 +36,14 @@ const THIRD: Head = Head {
     generation: 3,
 };
 
-// The same of generation 2, with a body of 3 bytes.
+/// The same of generation 2, with a body of 3 bytes.
 const TURNED: &[u8] = b"\x01oxidx\x01\x01\x64\0\x02\0\0\0\0\0\0\0\x03\0\0\0\0\0\0\0xyz\0";
 
 fn empty_site(rt: &impl Abort, alloc: Global) -> MemSite {
     MemSite::new(alloc).expect(rt, "memory")
 }
 
-// A site whose files were made a store.
+/// A site whose files were made a store.
 fn made_site(rt: &impl Abort, alloc: Global) -> MemSite {
     let mut site = MemSite::new(alloc).expect(rt, "memory");
     let checkpoint = checkpoint_of(alloc, &HEAD, Bytes::empty(alloc)).expect(rt, "memory");
@@ -52,7 +53,7 @@ fn made_site(rt: &impl Abort, alloc: Global) -> MemSite {
     site
 }
 
-// The empty store with another byte at this place.
+/// The empty store with another byte at this place.
 fn empty_with(rt: &impl Abort, at: usize, byte: u8) -> [u8; 27] {
     let mut bytes = EMPTY;
     match bytes.get_mut(at) {
@@ -62,17 +63,17 @@ fn empty_with(rt: &impl Abort, at: usize, byte: u8) -> [u8; 27] {
     bytes
 }
 
-// Overwrites the front of a file. Whether it was written.
+/// Overwrites the front of a file. Whether it was written.
 fn is_put(site: &mut MemSite, file: Which, bytes: &[u8]) -> bool {
     site.write(file, 0, bytes).is_ok()
 }
 
-// Writes these bytes over a part of a file that has bytes before it.
+/// Writes these bytes over a part of a file that has bytes before it.
 fn is_put_at(site: &mut MemSite, file: Which, at: u64, bytes: &[u8]) -> bool {
     (site.file(file).len() as u64) >= at && site.write(file, at, bytes).is_ok()
 }
 
-// How many records two files have; 99 where they are no store.
+/// How many records two files have; 99 where they are no store.
 fn count_in(alloc: Global, site: &mut MemSite) -> usize {
     match Tail::open(alloc, site) {
         Ok(opened) => opened.records.len(),
@@ -80,7 +81,7 @@ fn count_in(alloc: Global, site: &mut MemSite) -> usize {
     }
 }
 
-// Whether the files are no store by this test.
+/// Whether the files are no store by this test.
 fn is_refused(alloc: Global, site: &mut MemSite, file: Which, at: u64) -> bool {
     match Tail::open(alloc, site) {
         Err(
@@ -94,7 +95,7 @@ fn is_refused(alloc: Global, site: &mut MemSite, file: Which, at: u64) -> bool {
     }
 }
 
-// Whether this file is current.
+/// Whether this file is current.
 fn is_current(alloc: Global, site: &mut MemSite, file: Which) -> bool {
     match Tail::open(alloc, site) {
         Ok(opened) => opened.file == file,
@@ -102,7 +103,7 @@ fn is_current(alloc: Global, site: &mut MemSite, file: Which) -> bool {
     }
 }
 
-// Opens the files and appends a record of 3 bytes. Whether it is there.
+/// Opens the files and appends a record of 3 bytes. Whether it is there.
 fn is_appended(rt: &impl Abort, alloc: Global, site: &mut MemSite) -> bool {
     let Ok(opened) = Tail::open(alloc, site) else {
         panic!(rt; "not opened");
@@ -115,8 +116,8 @@ fn is_appended(rt: &impl Abort, alloc: Global, site: &mut MemSite) -> bool {
     tail.append(site, &framed).is_ok()
 }
 
-// How many records there are after a crash at this moment that leaves these bytes where it may, and
-// files of this length at most.
+/// How many records there are after a crash at this moment that leaves these bytes where it may,
+/// and files of this length at most.
 fn count_after(
     rt: &impl Abort,
     alloc: Global,
@@ -133,7 +134,7 @@ fn count_after(
     count_in(alloc, &mut after)
 }
 
-// Whether each crash at this moment leaves so many records where it leaves `fill`.
+/// Whether each crash at this moment leaves so many records where it leaves `fill`.
 fn leaves(
     rt: &impl Abort,
     alloc: Global,
@@ -174,7 +175,7 @@ fn what_is_no_store_is_refused_at_its_place(rt: HostRuntime) {
     assert!(rt; is_refused(alloc, &mut site, Which::A, 0));
 }
 
-// The depth 0x03e8 is 1,000.
+/// The depth 0x03e8 is 1,000.
 #[test]
 fn a_head_is_refused_at_its_place(rt: HostRuntime) {
     let alloc = rt.alloc();
@@ -201,7 +202,7 @@ fn the_greater_generation_is_current(rt: HostRuntime) {
     assert!(rt; is_refused(alloc, &mut site, Which::B, 10));
 }
 
-// The record, its sync, the gate and its sync are the moments 11 to 14.
+/// The record, its sync, the gate and its sync are the moments 11 to 14.
 #[test]
 fn every_moment_of_an_append_is_before_or_after(rt: HostRuntime) {
     let alloc = rt.alloc();
@@ -220,7 +221,7 @@ fn every_moment_of_an_append_is_before_or_after(rt: HostRuntime) {
 
 // ---- a whole file in place of the other one
 
-// Opens the files, and puts this head and body in place of the current file. Whether it was done.
+/// Opens the files, and puts this head and body in place of the current file. Whether it was done.
 fn is_turned(rt: &impl Abort, alloc: Global, site: &mut MemSite, head: &Head, body: Bytes) -> bool {
     let Ok(opened) = Tail::open(alloc, site) else {
         return false;
@@ -233,13 +234,13 @@ fn is_turned(rt: &impl Abort, alloc: Global, site: &mut MemSite, head: &Head, bo
     tail.turn_to(site, &checkpoint).is_ok()
 }
 
-// The same with a body of 3 bytes.
+/// The same with a body of 3 bytes.
 fn is_turned_to(rt: &impl Abort, alloc: Global, site: &mut MemSite, head: &Head) -> bool {
     let body = Bytes::copy(alloc, b"xyz").expect(rt, "memory");
     is_turned(rt, alloc, site, head, body)
 }
 
-// Whether this file is current, with this generation and so many records.
+/// Whether this file is current, with this generation and so many records.
 fn stands_as(
     alloc: Global,
     site: &mut MemSite,
@@ -257,7 +258,7 @@ fn stands_as(
     }
 }
 
-// Whether the current file is the one that stood before, or the one that took its place.
+/// Whether the current file is the one that stood before, or the one that took its place.
 fn is_second(alloc: Global, site: &mut MemSite) -> bool {
     stands_as(alloc, site, Which::B, 2, 1)
 }
@@ -266,7 +267,7 @@ fn is_third(alloc: Global, site: &mut MemSite) -> bool {
     stands_as(alloc, site, Which::A, 3, 0)
 }
 
-// B is current, with generation 2 and a record; A is open, with generation 1.
+/// B is current, with generation 2 and a record; A is open, with generation 1.
 fn second_site(rt: &impl Abort, alloc: Global) -> MemSite {
     let mut site = made_site(rt, alloc);
     if !is_turned_to(rt, alloc, &mut site, &SECOND) || !is_appended(rt, alloc, &mut site) {
@@ -275,7 +276,7 @@ fn second_site(rt: &impl Abort, alloc: Global) -> MemSite {
     site
 }
 
-// What a crash at this moment leaves of a site.
+/// What a crash at this moment leaves of a site.
 fn crashed(rt: &impl Abort, site: &MemSite, moment: u64, fill: u8, keep: u64) -> MemSite {
     if moment > site.now() {
         panic!(rt; "no such moment");
@@ -284,7 +285,7 @@ fn crashed(rt: &impl Abort, site: &MemSite, moment: u64, fill: u8, keep: u64) ->
     site.crash(&choice).expect(rt, "memory")
 }
 
-// Whether each crash at this moment leaves the third file, or else the second one.
+/// Whether each crash at this moment leaves the third file, or else the second one.
 fn leaves_third(
     rt: &impl Abort,
     alloc: Global,
@@ -302,7 +303,7 @@ fn leaves_third(
     }
 }
 
-// The other file is closed at the moments 24 and 25, filled at 26 to 28, and opened at 29 and 30.
+/// The other file is closed at the moments 24 and 25, filled at 26 to 28, and opened at 29 and 30.
 #[test]
 fn every_moment_of_a_turn_is_before_or_after(rt: HostRuntime) {
     let alloc = rt.alloc();
@@ -318,7 +319,7 @@ fn every_moment_of_a_turn_is_before_or_after(rt: HostRuntime) {
     }
 }
 
-// The opening makes 8 calls; the closing 2, the filling 3 and the opening of the other file 2.
+/// The opening makes 8 calls; the closing 2, the filling 3 and the opening of the other file 2.
 #[test]
 fn a_failed_call_leaves_what_stood_before_it_or_the_new_file(rt: HostRuntime) {
     let alloc = rt.alloc();
@@ -349,7 +350,7 @@ fn a_file_of_a_gate_alone_gets_these_bytes(rt: HostRuntime) {
     assert!(rt; is_second(alloc, &mut site));
 }
 
-// Whether bytes are these two parts.
+/// Whether bytes are these two parts.
 fn has_parts(bytes: &[u8], front: &[u8], rest: &[u8]) -> bool {
     if bytes.len() < front.len() {
         return false;
@@ -358,7 +359,7 @@ fn has_parts(bytes: &[u8], front: &[u8], rest: &[u8]) -> bool {
     first == front && last == rest
 }
 
-// What the longer file had behind the last gate stays.
+/// What the longer file had behind the last gate stays.
 #[test]
 fn a_longer_file_keeps_its_rest(rt: HostRuntime) {
     let alloc = rt.alloc();
@@ -376,7 +377,7 @@ fn a_longer_file_keeps_its_rest(rt: HostRuntime) {
     assert!(rt; is_second(alloc, &mut site));
 }
 
-// The file of generation 1 was open, and is closed before it is written.
+/// The file of generation 1 was open, and is closed before it is written.
 #[test]
 fn an_open_file_of_a_lesser_generation_is_replaced(rt: HostRuntime) {
     let alloc = rt.alloc();
@@ -387,7 +388,7 @@ fn an_open_file_of_a_lesser_generation_is_replaced(rt: HostRuntime) {
     assert!(rt; stands_as(alloc, &mut site, Which::A, 3, 1));
 }
 
-// Whether the next record has to come into the other file.
+/// Whether the next record has to come into the other file.
 fn must_turn(alloc: Global, site: &mut MemSite) -> bool {
     match Tail::open(alloc, site) {
         Ok(opened) => opened.tail.must_turn(),
@@ -409,12 +410,12 @@ fn a_turn_is_due_at_64_records_but_for_the_greatest_generation(rt: HostRuntime) 
     assert!(rt; !must_turn(alloc, &mut site));
 }
 
-// So many bytes.
+/// So many bytes.
 fn many_bytes(rt: &impl Abort, alloc: Global, size: usize) -> Bytes {
     Bytes::from_vec(Vec::from_elem(alloc, 7, size).expect(rt, "memory"))
 }
 
-// Whether the current file has a body of 2,000,000 bytes.
+/// Whether the current file has a body of 2,000,000 bytes.
 fn is_body_large(rt: &impl Abort, alloc: Global, site: &mut MemSite) -> bool {
     let body = many_bytes(rt, alloc, 2000000);
     match Tail::open(alloc, site) {

@@ -9,22 +9,22 @@ use ox_outside::{Doorway, Failed, Heard, Shown, Site, Which};
 use std::alloc::Global;
 use std::process::Abort;
 
-// Two empty files, and nobody at the doors.
+/// Two empty files, and nobody at the doors.
 fn empty_site(rt: &impl Abort, alloc: Global) -> MemSite {
     MemSite::new(alloc).expect(rt, "memory")
 }
 
-// An entry of a script: these bytes.
+/// An entry of a script: these bytes.
 fn bytes_said(rt: &impl Abort, alloc: Global, bytes: &[u8]) -> Said {
     Said::Bytes(Bytes::copy(alloc, bytes).expect(rt, "memory"))
 }
 
-// Lets a link wait at a door.
+/// Lets a link wait at a door.
 fn add_link(rt: &impl Abort, site: &mut MemSite, door: Doorway, script: &[Said]) {
     site.link(door, script).expect(rt, "memory");
 }
 
-// A site where one link waits at each door, the operator's first; neither says anything.
+/// A site where one link waits at each door, the operator's first; neither says anything.
 fn two_links(rt: &impl Abort, alloc: Global) -> MemSite {
     let mut site = empty_site(rt, alloc);
     add_link(rt, &mut site, Doorway::Operator, &[]);
@@ -32,7 +32,7 @@ fn two_links(rt: &impl Abort, alloc: Global) -> MemSite {
     site
 }
 
-// The number of the link that comes at a door; 0 where nobody waits there, 99 where it fails.
+/// The number of the link that comes at a door; 0 where nobody waits there, 99 where it fails.
 fn number_at(site: &mut MemSite, door: Doorway) -> u32 {
     match site.door(door) {
         Ok(Some(number)) => number,
@@ -41,7 +41,7 @@ fn number_at(site: &mut MemSite, door: Doorway) -> u32 {
     }
 }
 
-// Takes the link that waits at a door.
+/// Takes the link that waits at a door.
 fn come(rt: &impl Abort, site: &mut MemSite, door: Doorway) -> u32
     ensures { IsLive result site.new }
 {
@@ -59,7 +59,7 @@ fn hear_link(site: &mut MemSite, link: u32, room: &mut [u8]) -> Result<Heard, Fa
     Site::hear(site, link, room)
 }
 
-// Whether a link says these bytes where there is room for so many, up to 4.
+/// Whether a link says these bytes where there is room for so many, up to 4.
 fn says(site: &mut MemSite, link: u32, room: usize, want: &[u8]) -> bool
     requires room { (1 ≤ room) × (room ≤ 4) }
     requires live { IsLive link site.old }
@@ -74,7 +74,7 @@ fn says(site: &mut MemSite, link: u32, room: usize, want: &[u8]) -> bool
     front == want
 }
 
-// Whether a link has nothing to say yet.
+/// Whether a link has nothing to say yet.
 fn is_silent(site: &mut MemSite, link: u32) -> bool
     requires live { IsLive link site.old }
     ensures live { IsLive link site.new }
@@ -82,7 +82,7 @@ fn is_silent(site: &mut MemSite, link: u32) -> bool
     hear_link(site, link, &mut [0; 4]) == Ok(Heard::NotYet)
 }
 
-// Whether a link says that it is at its end.
+/// Whether a link says that it is at its end.
 fn is_at_end(site: &mut MemSite, link: u32) -> bool
     requires live { IsLive link site.old }
     ensures live { IsLive link site.new }
@@ -90,7 +90,7 @@ fn is_at_end(site: &mut MemSite, link: u32) -> bool
     hear_link(site, link, &mut [0; 4]) == Ok(Heard::End)
 }
 
-// The site as a crash now leaves it.
+/// The site as a crash now leaves it.
 fn site_after_crash(rt: &impl Abort, site: &MemSite) -> MemSite {
     let choice = Choice {
         moment: site.now(),
@@ -100,7 +100,7 @@ fn site_after_crash(rt: &impl Abort, site: &MemSite) -> MemSite {
     site.crash(&choice).expect(rt, "memory")
 }
 
-// Which of seven calls fails, counted from 0; 7 where none does.
+/// Which of seven calls fails, counted from 0; 7 where none does.
 fn failing_call(site: &mut MemSite) -> u64 {
     if site.len(Which::A).is_err() {
         return 0;
@@ -126,7 +126,7 @@ fn failing_call(site: &mut MemSite) -> u64 {
     7
 }
 
-// How much happens where a link is heard, given up and shut.
+/// How much happens where a link is heard, given up and shut.
 fn last_events(site: &mut MemSite, link: u32) -> u64
     requires live { IsLive link site.old }
 {
@@ -258,8 +258,8 @@ fn new_links_get_new_numbers_after_a_crash(rt: HostRuntime) {
     assert!(rt; says(&mut site, link, 4, b"new"));
 }
 
-// Where one allocation fails, the hearing breaks the link in place of giving its bytes, and the
-// events that end the link are logged all the same.
+/// Where one allocation fails, the hearing breaks the link in place of giving its bytes, and the
+/// events that end the link are logged all the same.
 #[test]
 fn the_last_events_of_a_link_find_room(rt: HostRuntime) {
     let mut site = empty_site(&rt, rt.alloc());

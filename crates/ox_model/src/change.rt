@@ -24,7 +24,7 @@ pub struct Change {
     pub runes: RunePart,
 }
 
-// By hand, so that whoever drops a change makes one call, and proves nothing of its fields.
+/// By hand, so that whoever drops a change makes one call, and proves nothing of its fields.
 impl Drop for Change {
     fn drop(self) {
         let Change {

@@ -1,3 +1,5 @@
+//! Amounts with a decimal point.
+
 ghost use Rattle.std.specs.Prelude.{◌≡◌, ◌<◌, ◌≤◌, ◌++◌, ◌^◌, length, take, drop};
 ghost use Rattle.std.specs.Fmt.{decimal};
 ghost use Rattle.ox_name.specs.Amount.{amount_text, SaysAmount};

@@ -1,3 +1,5 @@
+//! Letters as the digits of a number.
+
 ghost use Rattle.std.specs.Prelude.{◌≡◌, ◌≤◌, ◌++◌, length, take, drop, reverse};
 ghost use Rattle.ox_name.specs.Name.{IsName, number_of, name_of, AreOneToOne};
 

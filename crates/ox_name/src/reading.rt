@@ -1,3 +1,5 @@
+//! The reading of a name.
+
 ghost use Rattle.std.specs.Prelude.{◌≡◌, ◌↔◌, ◌^◌, ◌<◌, ◌∷◌, ◌≤◌, length, true, false, None, Some};
 ghost use Rattle.std.specs.Prelude.{IfOk, IsErr, MatchOption, nat_lt, if◌then◌else◌};
 ghost use Rattle.ox_name.specs.Name.{IsLetter, number_with};

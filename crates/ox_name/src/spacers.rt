@@ -1,3 +1,5 @@
+//! Spacers between letters.
+
 ghost use Rattle.std.specs.Prelude.{◌≡◌, ◌≤◌, ◌+◌, ◌++◌, [], ◌∷◌, ◌%◌, ◌==◌, ◌&&◌, length, take};
 ghost use Rattle.std.specs.Prelude.{drop, if◌then◌else◌};
 ghost use Rattle.ox_name.specs.Name.{name_of};

@@ -1,3 +1,5 @@
+//! Which names are free at a height.
+
 ghost use Rattle.std.specs.Prelude.{◌≡◌, ◌≢◌, ◌<◌, ◌≤◌, ◌^◌, ◌-◌, ◌++◌, ◌⊎◌, ◌↔◌, IsTrue, length};
 ghost use Rattle.std.specs.Prelude.{take, drop, slice_index};
 ghost use Rattle.ox_name.specs.Name.{first_of};

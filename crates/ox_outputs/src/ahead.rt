@@ -137,12 +137,12 @@ impl Ahead {
     }
 }
 
-// Whether there are so many slots that it is worthwhile to read ahead.
+/// Whether there are so many slots that it is worthwhile to read ahead.
 fn are_many(slots: &Slots) -> bool {
     slots.len() >= WORTHWHILE
 }
 
-// The outpoints from one on, as many as are read at a time.
+/// The outpoints from one on, as many as are read at a time.
 fn batch_from(wanted: &[OutPoint], from: usize) -> &[OutPoint] {
     match wanted.get(from..) {
         Some(left) => &left[..left.len().min(BATCH)],
@@ -150,8 +150,8 @@ fn batch_from(wanted: &[OutPoint], from: usize) -> &[OutPoint] {
     }
 }
 
-// Reads what leads to each of these, and then the slots that are there. Which slots these are is
-// found out before any of them is read, so that no search waits for one.
+/// Reads what leads to each of these, and then the slots that are there. Which slots these are is
+/// found out before any of them is read, so that no search waits for one.
 fn read(slots: &Slots, wanted: &[OutPoint]) -> u32 {
     let mut sum = 0u32;
     for at in wanted {
@@ -165,7 +165,7 @@ fn read(slots: &Slots, wanted: &[OutPoint]) -> u32 {
     sum
 }
 
-// Puts down the places of slots that may be those of these outpoints, and answers how many.
+/// Puts down the places of slots that may be those of these outpoints, and answers how many.
 fn candidates(slots: &Slots, wanted: &[OutPoint], places: &mut [u32; BATCH]) -> usize {
     let mut count = 0;
     for at in wanted {

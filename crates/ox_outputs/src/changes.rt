@@ -39,8 +39,8 @@ pub(crate) fn take_from(slots: &mut Slots, locator: &mut Locator, spot: Spot) ->
     taken
 }
 
-// Copies a row whose satoshis leave the locator, and those of the row come that displaces it in the
-// slot at this place. `Memory` where there is none: the locator is as before.
+/// Copies a row whose satoshis leave the locator, and those of the row come that displaces it in
+/// the slot at this place. `Memory` where there is none: the locator is as before.
 fn displace_copied(
     locator: &mut Locator,
     row: &OutRow,
@@ -61,8 +61,8 @@ fn displace_copied(
     Ok(copy)
 }
 
-// The satoshis of a row that now stands where none did come into the locator. It answers the place
-// of the row's slot. Where there is no memory, the row is handed back, and its slot is empty.
+/// The satoshis of a row that now stands where none did come into the locator. It answers the place
+/// of the row's slot. Where there is no memory, the row is handed back, and its slot is empty.
 fn arrive_at(slots: &mut Slots, locator: &mut Locator, spot: Spot) -> Result<u32, Unplaced>
     requires spot { outpoint_at slots.old spot.place ≡ Some spot.at }
     requires runs { LeadTo (live_at locator.old) slots.old
@@ -181,7 +181,7 @@ pub(crate) fn settle(slots: &mut Slots, changed: &mut Vec<Spot>, before: &mut Ve
     before.clear();
 }
 
-// Takes the slots away in which changes left no row, of those changes before which one stood.
+/// Takes the slots away in which changes left no row, of those changes before which one stood.
 fn tidy_filled(slots: &mut Slots, changed: &[Spot], before: &[Option<OutRow>])
     ensures rows { rows_of slots.new ≡ rows_of slots.old }
     ensures tidied { (p : ℕ) → slot_at slots.new p

@@ -48,8 +48,8 @@ pub(crate) fn differing(
     Ok((gone, came))
 }
 
-// How many rows stood before the changes at these places, and how many stand now. Room is taken by
-// these numbers, and the slots are read ahead.
+/// How many rows stood before the changes at these places, and how many stand now. Room is taken by
+/// these numbers, and the slots are read ahead.
 fn counts(
     slots: &Slots,
     changed: &[Spot],
@@ -65,7 +65,7 @@ fn counts(
     (stood, stand)
 }
 
-// Whether a row stands where the change at this place was.
+/// Whether a row stands where the change at this place was.
 fn stands(slots: &Slots, changed: &[Spot], place: usize) -> bool {
     match changed.get(place) {
         Some(spot) => slots.row(spot.place).is_some(),
@@ -73,7 +73,7 @@ fn stands(slots: &Slots, changed: &[Spot], place: usize) -> bool {
     }
 }
 
-// What stood before the change at this place, if a row did.
+/// What stood before the change at this place, if a row did.
 fn row_before(before: &[Option<OutRow>], place: usize) -> Option<&OutRow>
     ensures { option_copied result ≡ slice_index_or before.now place None }
 {
@@ -83,7 +83,7 @@ fn row_before(before: &[Option<OutRow>], place: usize) -> Option<&OutRow>
     }
 }
 
-// The place of the oldest change at each outpoint, by rising outpoint.
+/// The place of the oldest change at each outpoint, by rising outpoint.
 fn oldest(alloc: Global, changed: &[Spot]) -> Result<Vec<(OutPoint, usize)>, Memory>
     ensures places { IfOk result (λ places. (at : OutPoint)
         → lookup (is_at (outpoint_cmp at)) places.items
@@ -97,7 +97,7 @@ fn oldest(alloc: Global, changed: &[Spot]) -> Result<Vec<(OutPoint, usize)>, Mem
     Ok(places)
 }
 
-// The outpoint of each change, with its place.
+/// The outpoint of each change, with its place.
 fn numbered(alloc: Global, changed: &[Spot]) -> Result<Vec<(OutPoint, usize)>, Memory>
     ensures { IfOk result (λ places. places.items ≡ numbered_from 0 changed.now) }
 {
@@ -109,7 +109,7 @@ fn numbered(alloc: Global, changed: &[Spot]) -> Result<Vec<(OutPoint, usize)>, M
     Ok(places)
 }
 
-// Sorts these by outpoint. Those of one outpoint keep their order.
+/// Sorts these by outpoint. Those of one outpoint keep their order.
 fn sort(places: &mut Vec<(OutPoint, usize)>) -> Result<(), Memory>
     ensures sorted { OnOk result (IsSorted (λ a b. outpoint_cmp a.0 b.0) places.new.items) }
     ensures stable { OnOk result
@@ -118,7 +118,7 @@ fn sort(places: &mut Vec<(OutPoint, usize)>) -> Result<(), Memory>
     Ok(places.sort_by(|a, b| a.0.cmp(&b.0))?)
 }
 
-// Keeps the first of those that stand side by side and have one outpoint.
+/// Keeps the first of those that stand side by side and have one outpoint.
 fn keep_first(places: &mut Vec<(OutPoint, usize)>)
     ensures { places.new.items
         ≡ dedup (λ a b. eq_by_cmp outpoint_cmp a.0 b.0) places.old.items }
@@ -126,14 +126,14 @@ fn keep_first(places: &mut Vec<(OutPoint, usize)>)
     places.dedup_by(|later, kept| have_one(later, kept));
 }
 
-// Whether two have one outpoint.
+/// Whether two have one outpoint.
 fn have_one(a: &(OutPoint, usize), b: &(OutPoint, usize)) -> bool
     ensures { result ≡ eq_by_cmp outpoint_cmp a.now.0 b.now.0 }
 {
     a.0.cmp(&b.0).is_eq()
 }
 
-// Puts a row behind the others, where there is one and the other one isn't the same.
+/// Puts a row behind the others, where there is one and the other one isn't the same.
 fn push_unless(
     alloc: Global,
     rows: &mut TableRows,
@@ -151,7 +151,7 @@ fn push_unless(
     }
 }
 
-// Whether two rows are the same.
+/// Whether two rows are the same.
 fn is_same_row(row: &OutRow, other: &OutRow) -> bool
     ensures { IsTrue result ↔ (row.now ≡ other.now) }
 {
@@ -160,7 +160,7 @@ fn is_same_row(row: &OutRow, other: &OutRow) -> bool
         && are_same(&row.sats, &other.sats)
 }
 
-// Whether two lists of satoshis are the same.
+/// Whether two lists of satoshis are the same.
 fn are_same(sats: &Ranges, others: &Ranges) -> bool
     ensures { IsTrue result ↔ (sats.now ≡ others.now) }
 {

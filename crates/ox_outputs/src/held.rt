@@ -60,7 +60,7 @@ pub(crate) fn begins_at(held: &Held, place: u32, first: u64) -> bool
     }
 }
 
-// Whether one of these runs begins with a number.
+/// Whether one of these runs begins with a number.
 fn is_first(runs: &[Run], first: u64) -> bool
     ensures { result ≡ is_among (firsts_of runs.now) first }
 {

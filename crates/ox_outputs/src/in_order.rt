@@ -66,7 +66,7 @@ pub(crate) fn in_order(alloc: Global, held: &Held) -> Result<InOrder<'_>, Memory
     Ok(InOrder { rows })
 }
 
-// Those of these slots that hold rows.
+/// Those of these slots that hold rows.
 fn filled(alloc: Global, held: &Held) -> Result<Vec<Ranked<'_>>, Memory>
     ensures { IfOk result (λ rows. map entry_of rows.items ≡ entries_in held.now.slots) }
 {

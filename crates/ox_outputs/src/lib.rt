@@ -1,4 +1,5 @@
-//! The unspent outputs in memory: rows by outpoint, with a mark to which they can go back.
+//! The unspent outputs in memory (the UTXO set): rows by outpoint, with a mark (a savepoint) to
+//! which they can go back.
 #![tactic(auto)]
 
 mod ahead;

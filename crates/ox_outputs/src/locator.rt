@@ -116,8 +116,8 @@ impl Locator {
     }
 }
 
-// Takes the entries away that count for nothing, of the runs of the rows that stood in changed
-// slots before.
+/// Takes the entries away that count for nothing, of the runs of the rows that stood in changed
+/// slots before.
 fn tidy_starts(starts: &mut Starts, slots: &Slots, changed: &[Spot], before: &[Option<OutRow>])
     ensures { (q : ℕ) → standing slots.now (slot_from starts.new.entries) q
         ≡ standing slots.now (slot_from starts.old.entries) q }

@@ -28,7 +28,7 @@ pub(crate) fn next_in(held: &Held, past: Option<OutPoint>) -> Option<Entry<'_>>
     best
 }
 
-// The next row as far as is known, when a slot is known too.
+/// The next row as far as is known, when a slot is known too.
 fn nearer_of<'a>(
     past: Option<OutPoint>,
     best: Option<Entry<'a>>,
@@ -44,7 +44,7 @@ fn nearer_of<'a>(
     }
 }
 
-// Whether an outpoint comes behind another one, where there is another one.
+/// Whether an outpoint comes behind another one, where there is another one.
 fn is_past(past: Option<OutPoint>, at: &OutPoint) -> bool
     ensures { result ≡ is_past past at.now }
 {
@@ -54,7 +54,7 @@ fn is_past(past: Option<OutPoint>, at: &OutPoint) -> bool
     }
 }
 
-// The one of two rows that comes first, where there is another one.
+/// The one of two rows that comes first, where there is another one.
 fn earlier_of<'a>(best: Option<Entry<'a>>, row: Entry<'a>) -> Entry<'a>
     ensures { option_map (λ e. (e.0.now, e.1.now)) (Some result)
         ≡ earlier (option_map (λ e. (e.0.now, e.1.now)) best.entry)

@@ -43,7 +43,7 @@ pub struct Outputs {
         (undone before.items changed.items (rows_of slots)) },
 }
 
-// By hand, so that whoever drops outputs makes one call, and proves nothing of its fields.
+/// By hand, so that whoever drops outputs makes one call, and proves nothing of its fields.
 impl Drop for Outputs {
     fn drop(self) {
         let Outputs {
@@ -121,8 +121,8 @@ impl Outputs {
         self.ahead.expect_block(&self.slots, block, ids);
     }
 
-    // Takes the row out of a slot, and keeps it for the way back to the mark. `Memory` where there
-    // is none: all is as before.
+    /// Takes the row out of a slot, and keeps it for the way back to the mark. `Memory` where there
+    /// is none: all is as before.
     fn set_aside(&mut self, spot: Spot) -> Result<(), Memory>
         requires { outpoint_at self.old.slots spot.place ≡ Some spot.at }
         ensures ok { OnOk result (rows_in self.new ≡ map.remove (rows_in self.old) spot.at) }
@@ -137,8 +137,8 @@ impl Outputs {
         Ok(())
     }
 
-    // Takes the rows at the outpoints of these out, the last first. After `Memory` some of them may
-    // be out.
+    /// Takes the rows at the outpoints of these out, the last first. After `Memory` some of them
+    /// may be out.
     fn take_out(&mut self, rows: &TableRows) -> Result<(), Memory>
         ensures ok { OnOk result (rows_in self.new ≡ without_rows (rows_in self.old) rows.now) }
         ensures mark { marked_in self.new ≡ marked_in self.old }
@@ -152,8 +152,8 @@ impl Outputs {
         Ok(())
     }
 
-    // Takes the row at an outpoint out, if there is one, and keeps it for the way back to the mark.
-    // `Memory` where there is none: all is as before.
+    /// Takes the row at an outpoint out, if there is one, and keeps it for the way back to the
+    /// mark. `Memory` where there is none: all is as before.
     fn take_one(&mut self, at: &OutPoint) -> Result<(), Memory>
         ensures ok { OnOk result (rows_in self.new ≡ map.remove (rows_in self.old) at.now) }
         ensures mark { marked_in self.new ≡ marked_in self.old }
@@ -165,8 +165,8 @@ impl Outputs {
         }
     }
 
-    // Places a row at an outpoint at which none stands. There may be an empty slot, whose place was
-    // found. Where there is no memory, the row is handed back and all is as before.
+    /// Places a row at an outpoint at which none stands. There may be an empty slot, whose place
+    /// was found. Where there is no memory, the row is handed back and all is as before.
     fn place_new(&mut self, at: OutPoint, found: Option<u32>, row: OutRow) -> Result<(), Unplaced>
         requires found { IfSome found (λ place. outpoint_at self.old.slots place ≡ Some at) }
         requires nowhere { IfNone found
@@ -187,8 +187,8 @@ impl Outputs {
         Ok(())
     }
 
-    // Places a row where another stands, and answers the other, which is also kept for the way
-    // back. Where there is no memory, the row is handed back and all is as before.
+    /// Places a row where another stands, and answers the other, which is also kept for the way
+    /// back. Where there is no memory, the row is handed back and all is as before.
     fn displace(&mut self, spot: Spot, row: OutRow) -> Result<OutRow, Unplaced>
         requires spot { outpoint_at self.old.slots spot.place ≡ Some spot.at }
         requires stands { IsSome (map.get (rows_in self.old) spot.at) }

@@ -56,7 +56,7 @@ impl Places {
         }
     }
 
-    // The list in which an outpoint's place stands, if it stands in a list.
+    /// The list in which an outpoint's place stands, if it stands in a list.
     fn list_of(&self, at: &OutPoint) -> &[Entry]
         ensures { result.now ≡ list_at self.now at.now }
     {
@@ -137,8 +137,8 @@ impl Places {
     }
 }
 
-// The part of an outpoint that stands beside its place: four bytes of the transaction's id that
-// don't say in which list it stands, and the index.
+/// The part of an outpoint that stands beside its place: four bytes of the transaction's id that
+/// don't say in which list it stands, and the index.
 fn tag_of(at: &OutPoint) -> u32
     ensures { result ≡ tag at.now }
 {
@@ -146,7 +146,7 @@ fn tag_of(at: &OutPoint) -> u32
     u32::from_le_bytes([id[2], id[3], id[4], id[5]]).wrapping_add(at.index)
 }
 
-// The place, of these, of the slot of an outpoint.
+/// The place, of these, of the slot of an outpoint.
 fn place_in(list: &[Entry], held: &Held, at: &OutPoint) -> Option<u32>
     ensures some { IfSome result (λ place. outpoint_at held.now.slots place ≡ Some at.now) }
     ensures none { IfNone result ((place : ℕ) → is_in list.now (tag at.now) place ≡ true
@@ -161,7 +161,7 @@ fn place_in(list: &[Entry], held: &Held, at: &OutPoint) -> Option<u32>
     None
 }
 
-// Takes a place out of the list with this index, if there is one.
+/// Takes a place out of the list with this index, if there is one.
 fn take_out(lists: &mut Vec<List>, index: usize, place: u32)
     ensures gone { (tag : ℕ) → is_in (items_at lists.new.items index) tag place ≡ false }
     ensures left { (tag other : ℕ) → other ≢ place
@@ -176,8 +176,8 @@ fn take_out(lists: &mut Vec<List>, index: usize, place: u32)
     }
 }
 
-// Drops the entries of a place. The order of a list says nothing, so the last entry comes to where
-// one went.
+/// Drops the entries of a place. The order of a list says nothing, so the last entry comes to where
+/// one went.
 fn drop_entries(list: &mut List, place: u32)
     ensures gone { (tag : ℕ) → is_in list.new.items tag place ≡ false }
     ensures left { (tag other : ℕ) → other ≢ place
@@ -192,7 +192,7 @@ fn drop_entries(list: &mut List, place: u32)
     }
 }
 
-// Makes the lists, if there are none. `Memory` where there is none for them.
+/// Makes the lists, if there are none. `Memory` where there is none for them.
 fn ensure_lists(lists: &mut Vec<List>, alloc: Global) -> Result<(), Memory>
     requires shards { NoneOrAll lists.old.items }
     ensures shards { NoneOrAll lists.new.items }

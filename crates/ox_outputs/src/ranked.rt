@@ -46,7 +46,7 @@ pub(crate) fn rank(slot: &Slot) -> Ranked<'_>
     }
 }
 
-// The first eight bytes of an id as one number, the first byte the highest.
+/// The first eight bytes of an id as one number, the first byte the highest.
 fn front(id: &[u8]) -> u64
     requires { 8 ≤ length id.now }
     ensures number { result ≡ front_of id.now }

@@ -206,7 +206,7 @@ impl Slots {
     }
 }
 
-// A part of what is read of a row.
+/// A part of what is read of a row.
 fn part_of(row: Option<&OutRow>) -> u32 {
     match row {
         Some(row) => row.height.wrapping_add(u32::from(row.sats.is_empty())),

@@ -67,7 +67,7 @@ pub(crate) fn put_runs(
     Ok(over)
 }
 
-// The same of a run that begins with one number. After `Memory` it hasn't come.
+/// The same of a run that begins with one number. After `Memory` it hasn't come.
 fn put_run(
     starts: &mut Starts,
     changes: &mut Vec<Before>,
@@ -129,7 +129,7 @@ pub(crate) fn drop_stale(starts: &mut Starts, slots: &Slots, place: u32, runs: &
     }
 }
 
-// The same of the run that begins with one number.
+/// The same of the run that begins with one number.
 fn drop_one(starts: &mut Starts, slots: &Slots, place: u32, first: u64)
     ensures { (q : ℕ) → standing slots.now (slot_from starts.new.entries) q
         ≡ standing slots.now (slot_from starts.old.entries) q }

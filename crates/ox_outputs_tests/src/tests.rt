@@ -1,3 +1,5 @@
+//! A table over a thousand changes, and back.
+
 ghost use Rattle.std.specs.Prelude.{◌≡◌, [], IsSome};
 ghost use Rattle.ox_outputs.specs.Table.{rows_in};
 ghost use Rattle.ox_outputs_tests.specs.Empty.{HoldNothing};

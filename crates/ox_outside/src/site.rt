@@ -1,5 +1,6 @@
-// The one trait that reaches out. Its ghost members say what is read, logged, counted and left by a
-// crash.
+//! The one trait that reaches out. Its ghost members say what is read, logged, counted and left by
+//! a crash.
+
 ghost use Rattle.std.specs.Prelude.{◌≡◌, ℕ, ◌+◌, ◌<◌, ◌≤◌, Bool, false, List, length, slice_range};
 ghost use Rattle.std.specs.Prelude.{Option, Some, None, Ok, IsTrue, IfOk, OnOk, OnErr};
 ghost use Rattle.std.specs.Option.{ForSome};

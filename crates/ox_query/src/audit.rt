@@ -15,7 +15,7 @@ use ox_bytes::{Bytes, Memory};
 use ox_model::{Audit, RuneAudit, View};
 use std::alloc::Global;
 
-// Writes where a rune is and where it came from.
+/// Writes where a rune is and where it came from.
 fn write_rune_audit(out: &mut Writer, rune: &RuneAudit) -> Result<(), Memory>
     ensures { AddsTokens result out.old out.new (tokens_of (rune_audit_tree rune.now)) }
 {
@@ -33,7 +33,7 @@ fn write_rune_audit(out: &mut Writer, rune: &RuneAudit) -> Result<(), Memory>
     Ok(out.end_object()?)
 }
 
-// Writes runes, in order.
+/// Writes runes, in order.
 fn write_runes(out: &mut Writer, runes: &[RuneAudit]) -> Result<(), Memory>
     ensures { AddsTokens result out.old out.new
         (tokens_of (array (items_of (map rune_audit_tree runes.now)))) }
@@ -45,7 +45,7 @@ fn write_runes(out: &mut Writer, runes: &[RuneAudit]) -> Result<(), Memory>
     Ok(out.end_array()?)
 }
 
-// Writes where all satoshis and all runes are.
+/// Writes where all satoshis and all runes are.
 fn write_audit(out: &mut Writer, audit: &Audit) -> Result<(), Memory>
     ensures { AddsTokens result out.old out.new (tokens_of (audit_tree audit.now)) }
 {

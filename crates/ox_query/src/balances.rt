@@ -12,7 +12,7 @@ use ox_block::OutPoint;
 use ox_bytes::Memory;
 use ox_model::{RuneId, RuneRow, View};
 
-// Writes so much of a rune.
+/// Writes so much of a rune.
 fn write_held(out: &mut Writer, amount: u128, row: &RuneRow) -> Result<(), Memory>
     requires { row.now.divisibility ≤ 38 }
     ensures { AddsTokens result out.old out.new (tokens_of (balance_tree amount row.now)) }
@@ -29,7 +29,7 @@ fn write_held(out: &mut Writer, amount: u128, row: &RuneRow) -> Result<(), Memor
     Ok(out.end_object()?)
 }
 
-// Writes a balance, if its rune is there.
+/// Writes a balance, if its rune is there.
 fn write_balance<V: View>(
     out: &mut Writer,
     live: &V,

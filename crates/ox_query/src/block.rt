@@ -12,7 +12,7 @@ use ox_bytes::{Bytes, Memory};
 use ox_model::View;
 use std::alloc::Global;
 
-// Writes the block of a height and its hash.
+/// Writes the block of a height and its hash.
 fn write_block(out: &mut Writer, height: u64, hash: &[u8; 32]) -> Result<(), Memory>
     ensures { AddsTokens result out.old out.new (tokens_of (block_tree height hash.now)) }
 {
@@ -24,7 +24,7 @@ fn write_block(out: &mut Writer, height: u64, hash: &[u8; 32]) -> Result<(), Mem
     Ok(out.end_object()?)
 }
 
-// The block of a height and its hash.
+/// The block of a height and its hash.
 fn block_body(alloc: Global, height: u64, hash: &[u8; 32]) -> Result<Bytes, Memory>
     ensures { IfOk result (λ body. body ≡ compact_text (block_tree height hash.now)) }
 {

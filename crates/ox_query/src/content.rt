@@ -15,7 +15,7 @@ use ox_http::Reply;
 use ox_model::{InsId, InsRow, View};
 use std::alloc::Global;
 
-// The inscription that a part names, if there is one.
+/// The inscription that a part names, if there is one.
 fn row_named<'a, V: View>(live: &'a V, part: &[u8]) -> Option<&'a InsRow>
     ensures { option_copied result ≡ option_and_then (slice_get (V.index live.now).inscriptions)
         (inscription_named (V.index live.now).inscriptions part.now) }
@@ -26,7 +26,7 @@ fn row_named<'a, V: View>(live: &'a V, part: &[u8]) -> Option<&'a InsRow>
     }
 }
 
-// The inscription with an id, if it is there.
+/// The inscription with an id, if it is there.
 fn row_with<'a, V: View>(live: &'a V, id: &InsId) -> Option<&'a InsRow>
     ensures { option_copied result ≡ row_said (V.index live.now).inscriptions id.now }
 {
@@ -36,8 +36,8 @@ fn row_with<'a, V: View>(live: &'a V, id: &InsId) -> Option<&'a InsRow>
     }
 }
 
-// The inscription whose content is shown for this one, if it is there: the one that it delegates
-// to, whatever that delegates to, or itself.
+/// The inscription whose content is shown for this one, if it is there: the one that it delegates
+/// to, whatever that delegates to, or itself.
 fn shown_for<'a, V: View>(live: &'a V, row: &'a InsRow) -> Option<&'a InsRow>
     ensures { option_copied result ≡ shown_said (V.index live.now).inscriptions row.now }
 {
@@ -47,21 +47,21 @@ fn shown_for<'a, V: View>(live: &'a V, row: &'a InsRow) -> Option<&'a InsRow>
     }
 }
 
-// Whether a byte is printable ASCII.
+/// Whether a byte is printable ASCII.
 fn is_printable(byte: u8) -> bool
     ensures { result ≡ (nat_le 32 byte && nat_le byte 126) }
 {
     32 <= byte && byte <= 126
 }
 
-// Whether all bytes are printable ASCII.
+/// Whether all bytes are printable ASCII.
 fn are_printable(bytes: &[u8]) -> bool
     ensures { result ≡ list_all (λ b. nat_le 32 b && nat_le b 126) bytes.now }
 {
     bytes.iter().all(|byte| is_printable(*byte))
 }
 
-// Whether a header of a reply can carry these bytes: one or more, all of them printable ASCII.
+/// Whether a header of a reply can carry these bytes: one or more, all of them printable ASCII.
 fn is_header_text(bytes: &[u8]) -> bool
     ensures { result ≡ is_headers bytes.now }
 {
@@ -71,7 +71,7 @@ fn is_header_text(bytes: &[u8]) -> bool
     are_printable(bytes)
 }
 
-// The bytes once more, if there are any that a header of a reply can carry.
+/// The bytes once more, if there are any that a header of a reply can carry.
 fn header_text(alloc: Global, bytes: &Option<Bytes>) -> Result<Option<Bytes>, Memory>
     ensures { IfOk result (λ text. text ≡ header_said bytes.now) }
 {
@@ -84,7 +84,7 @@ fn header_text(alloc: Global, bytes: &Option<Bytes>) -> Result<Option<Bytes>, Me
     Ok(Some(Bytes::copy(alloc, bytes.as_slice())?))
 }
 
-// The kind of a reply that has this content type.
+/// The kind of a reply that has this content type.
 fn kind_of(alloc: Global, content_type: &Option<Bytes>) -> Result<Bytes, Memory>
     ensures { IfOk result (λ kind. kind
         ≡ unwrap_or (header_said content_type.now) (codes "application/octet-stream")) }
@@ -95,7 +95,7 @@ fn kind_of(alloc: Global, content_type: &Option<Bytes>) -> Result<Bytes, Memory>
     }
 }
 
-// A body, with the kind and the encoding that its inscription says.
+/// A body, with the kind and the encoding that its inscription says.
 fn body_reply(alloc: Global, close: bool, row: &InsRow, body: &Bytes) -> Result<Reply, Memory>
     ensures { IfOk result (λ reply. reply ≡ body_said close row.now body.now) }
 {

@@ -23,7 +23,7 @@ pub(crate) fn write_id(out: &mut Writer, id: &InsId) -> Result<(), Memory>
     Ok(out.string(text_of(&letters[..len]))?)
 }
 
-// Writes the ids of the inscriptions with these sequences, one behind the other.
+/// Writes the ids of the inscriptions with these sequences, one behind the other.
 fn write_ids<V: View>(out: &mut Writer, live: &V, numbers: &[u32]) -> Result<(), Memory>
     requires { All (λ n. n < length (V.index live.now).inscriptions) numbers.now }
     ensures { AddsTokens result out.old out.new
@@ -58,8 +58,8 @@ pub(crate) fn write_children<V: View>(out: &mut Writer, live: &V, of: u32) -> Re
     Ok(out.end_array()?)
 }
 
-// Writes the ids of the inscriptions on a run of satoshis, from one satoshi that bears some to the
-// next.
+/// Writes the ids of the inscriptions on a run of satoshis, from one satoshi that bears some to the
+/// next.
 fn write_ids_on_run<V: View>(out: &mut Writer, live: &V, run: &Run) -> Result<(), Memory>
     requires { run.now.first + run.now.count < 2 ^ 64 }
     ensures { AddsTokens result out.old out.new
@@ -78,7 +78,7 @@ fn write_ids_on_run<V: View>(out: &mut Writer, live: &V, run: &Run) -> Result<()
     Ok(())
 }
 
-// Writes the ids of the inscriptions on the satoshis of these runs.
+/// Writes the ids of the inscriptions on the satoshis of these runs.
 fn write_ids_on_runs<V: View>(out: &mut Writer, live: &V, runs: &[Run]) -> Result<(), Memory>
     requires { AreMaximal runs.now }
     ensures { AddsTokens result out.old out.new

@@ -30,7 +30,7 @@ use ox_envelope::read_id_text;
 use ox_model::{InsId, InsRow, Place, View};
 use std::alloc::Global;
 
-// Writes how many bytes there are, or null without any.
+/// Writes how many bytes there are, or null without any.
 fn write_length_or_null(out: &mut Writer, bytes: &Option<Bytes>) -> Result<(), Memory>
     ensures { AddsTokens result out.old out.new
         (tokens_of (or_null (λ bytes. count (length bytes)) bytes.now)) }
@@ -41,7 +41,7 @@ fn write_length_or_null(out: &mut Writer, bytes: &Option<Bytes>) -> Result<(), M
     }
 }
 
-// Writes bytes as text, or null where there are none or they aren't UTF-8.
+/// Writes bytes as text, or null where there are none or they aren't UTF-8.
 fn write_text_or_null(out: &mut Writer, bytes: &Option<Bytes>) -> Result<(), Memory>
     ensures { AddsTokens result out.old out.new (tokens_of (or_null text_said bytes.now)) }
 {
@@ -54,7 +54,7 @@ fn write_text_or_null(out: &mut Writer, bytes: &Option<Bytes>) -> Result<(), Mem
     }
 }
 
-// Writes bytes as hexadecimal digits, or null without any.
+/// Writes bytes as hexadecimal digits, or null without any.
 fn write_hex_or_null(alloc: Global, out: &mut Writer, bytes: &Option<Bytes>) -> Result<(), Memory>
     ensures { AddsTokens result out.old out.new (tokens_of (or_null hex_said bytes.now)) }
 {
@@ -64,7 +64,7 @@ fn write_hex_or_null(alloc: Global, out: &mut Writer, bytes: &Option<Bytes>) -> 
     }
 }
 
-// Writes an id, or null without one.
+/// Writes an id, or null without one.
 fn write_id_or_null(out: &mut Writer, id: &Option<InsId>) -> Result<(), Memory>
     ensures { AddsTokens result out.old out.new (tokens_of (or_null id_tree id.now)) }
 {
@@ -74,7 +74,7 @@ fn write_id_or_null(out: &mut Writer, id: &Option<InsId>) -> Result<(), Memory>
     }
 }
 
-// Writes ids, in order.
+/// Writes ids, in order.
 fn write_id_list(out: &mut Writer, ids: &[InsId]) -> Result<(), Memory>
     ensures { AddsTokens result out.old out.new
         (tokens_of (array (items_of (map id_tree ids.now)))) }
@@ -86,14 +86,14 @@ fn write_id_list(out: &mut Writer, ids: &[InsId]) -> Result<(), Memory>
     Ok(out.end_array()?)
 }
 
-// Where an inscription is that is on this satoshi, if it is anywhere.
+/// Where an inscription is that is on this satoshi, if it is anywhere.
 fn place_on<V: View>(live: &V, sat: Option<u64>) -> Option<Place>
     ensures { result ≡ option_and_then (where_is (V.index live.now)) sat }
 {
     live.locate(sat?)
 }
 
-// Writes an inscription with its sequence.
+/// Writes an inscription with its sequence.
 fn write_inscription<V: View>(
     alloc: Global,
     out: &mut Writer,
@@ -155,7 +155,7 @@ pub(crate) fn number_named<V: View>(live: &V, part: &[u8]) -> Option<u32>
     }
 }
 
-// The body of an inscription with its sequence.
+/// The body of an inscription with its sequence.
 fn row_body<V: View>(alloc: Global, live: &V, n: u32, row: &InsRow) -> Result<Bytes, Memory>
     requires { slice_get (V.index live.now).inscriptions n ≡ Some row.now }
     ensures { IfOk result (λ body. body ≡ compact_text
@@ -182,7 +182,7 @@ pub(crate) fn inscription_body<V: View>(
     }
 }
 
-// Writes the ids of the inscriptions from one up to another, without that.
+/// Writes the ids of the inscriptions from one up to another, without that.
 fn write_row_ids<V: View>(out: &mut Writer, live: &V, first: u32, end: u32) -> Result<(), Memory>
     requires rising { first ≤ end }
     requires there { end ≤ length (V.index live.now).inscriptions }
@@ -196,7 +196,7 @@ fn write_row_ids<V: View>(out: &mut Writer, live: &V, first: u32, end: u32) -> R
     Ok(out.end_array()?)
 }
 
-// Writes a page of inscriptions.
+/// Writes a page of inscriptions.
 fn write_page<V: View>(out: &mut Writer, live: &V, page: u64) -> Result<(), Memory>
     ensures { AddsTokens result out.old out.new
         (tokens_of (page_tree inscription_id (V.index live.now).inscriptions page)) }
@@ -209,7 +209,7 @@ fn write_page<V: View>(out: &mut Writer, live: &V, page: u64) -> Result<(), Memo
     Ok(out.end_object()?)
 }
 
-// The body of a page of inscriptions.
+/// The body of a page of inscriptions.
 fn page_body<V: View>(alloc: Global, live: &V, page: u64) -> Result<Bytes, Memory>
     ensures { IfOk result (λ body. body
         ≡ compact_text (page_tree inscription_id (V.index live.now).inscriptions page)) }

@@ -7,7 +7,7 @@ ghost use Rattle.ox_query.specs.Written.{AddsTokens, tokens_of, tokens_of_all};
 use json::Writer;
 use ox_bytes::Memory;
 
-// Writes a mark's text, if the bit of this worth is set.
+/// Writes a mark's text, if the bit of this worth is set.
 fn write_mark(out: &mut Writer, marks: u16, worth: u16, text: &str) -> Result<(), Memory>
     requires { 0 < worth }
     ensures { AddsTokens result out.old out.new

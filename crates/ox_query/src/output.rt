@@ -19,7 +19,7 @@ use ox_model::{OutRow, View};
 use ox_range::Run;
 use std::alloc::Global;
 
-// Writes a run's first satoshi, and the one behind its last.
+/// Writes a run's first satoshi, and the one behind its last.
 fn write_run(out: &mut Writer, run: &Run) -> Result<(), Memory>
     requires { run.now.first + run.now.count < 2 ^ 64 }
     ensures { AddsTokens result out.old out.new (tokens_of (run_tree run.now)) }
@@ -30,7 +30,7 @@ fn write_run(out: &mut Writer, run: &Run) -> Result<(), Memory>
     Ok(out.end_array()?)
 }
 
-// Writes runs, in order.
+/// Writes runs, in order.
 fn write_runs(out: &mut Writer, runs: &[Run]) -> Result<(), Memory>
     requires { AreMaximal runs.now }
     ensures { AddsTokens result out.old out.new (tokens_of (array (run_items runs.now))) }
@@ -42,7 +42,7 @@ fn write_runs(out: &mut Writer, runs: &[Run]) -> Result<(), Memory>
     Ok(out.end_array()?)
 }
 
-// Writes an unspent output.
+/// Writes an unspent output.
 fn write_output<V: View>(
     alloc: Global,
     out: &mut Writer,
@@ -69,7 +69,7 @@ fn write_output<V: View>(
     Ok(out.end_object()?)
 }
 
-// An unspent output.
+/// An unspent output.
 fn output_body<V: View>(
     alloc: Global,
     live: &V,

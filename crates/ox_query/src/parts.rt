@@ -46,15 +46,15 @@ pub(crate) fn digits_of(bytes: &[u8; 32]) -> [u8; 64]
     }
 }
 
-// Whether there is a capital letter among these bytes.
+/// Whether there is a capital letter among these bytes.
 fn has_capitals(bytes: &[u8]) -> bool
     ensures { result ≡ list_any (λ c. nat_le 65 c && nat_le c 90) bytes.now }
 {
     bytes.iter().any(|byte| byte.is_ascii_uppercase())
 }
 
-// The hash that is printed as these digits, if any. Capital letters would be decoded too, but no
-// hash is printed with them.
+/// The hash that is printed as these digits, if any. Capital letters would be decoded too, but no
+/// hash is printed with them.
 fn hash(digits: &[u8]) -> Option<[u8; 32]>
     ensures read { IfSome result (λ hash. digits.now ≡ hash_text hash) }
     ensures long { IfSome result (λ hash. length hash ≡ 32) }
@@ -73,7 +73,7 @@ fn hash(digits: &[u8]) -> Option<[u8; 32]>
     Some(hash)
 }
 
-// What stands on both sides of the colon behind 64 bytes, if there is one.
+/// What stands on both sides of the colon behind 64 bytes, if there is one.
 fn sides(part: &[u8]) -> Option<(&[u8], &[u8])>
     ensures cut { IfSome result (λ x. Sides part.now x.0.now x.1.now) }
     ensures none { IfNone result ((digits rest : List ℕ) → length digits ≡ 64

@@ -28,7 +28,7 @@ use ox_model::{About, View};
 use ox_routes::{Found, Route, Routes};
 use std::alloc::Global;
 
-// A reply whose body is the compact JSON of a tree.
+/// A reply whose body is the compact JSON of a tree.
 fn tree_reply(alloc: Global, status: u16, body: Bytes, close: bool) -> Result<Reply, Memory>
     ensures { (tree : Data) → body ≡ compact_text tree
         → IfOk result (λ reply. reply ≡ tree_said status tree close) }
@@ -42,7 +42,7 @@ fn tree_reply(alloc: Global, status: u16, body: Bytes, close: bool) -> Result<Re
     })
 }
 
-// Writes what a status that isn't 200 says.
+/// Writes what a status that isn't 200 says.
 fn write_error(out: &mut Writer, status: u16) -> Result<(), Memory>
     ensures { AddsTokens result out.old out.new (tokens_of (error_tree status)) }
 {
@@ -52,7 +52,7 @@ fn write_error(out: &mut Writer, status: u16) -> Result<(), Memory>
     Ok(out.end_object()?)
 }
 
-// What a status that isn't 200 says.
+/// What a status that isn't 200 says.
 fn error_body(alloc: Global, status: u16) -> Result<Bytes, Memory>
     ensures { IfOk result (λ body. body ≡ compact_text (error_tree status)) }
 {
@@ -61,7 +61,7 @@ fn error_body(alloc: Global, status: u16) -> Result<Bytes, Memory>
     Ok(body_of(out))
 }
 
-// A status that isn't 200.
+/// A status that isn't 200.
 fn error_reply(alloc: Global, status: u16, close: bool) -> Result<Reply, Memory>
     ensures { IfOk result (λ reply. reply ≡ error_said status close) }
 {
@@ -69,8 +69,8 @@ fn error_reply(alloc: Global, status: u16, close: bool) -> Result<Reply, Memory>
     tree_reply(alloc, status, body, close)
 }
 
-// The body of the tree that a route has for its part, if the part names something; a content isn't
-// a tree.
+/// The body of the tree that a route has for its part, if the part names something; a content isn't
+/// a tree.
 fn body_at<V: View>(
     alloc: Global,
     live: &V,
@@ -104,7 +104,7 @@ fn body_at<V: View>(
     }
 }
 
-// The reply of 200 with the tree that a route has for its part, or 404 where it names nothing.
+/// The reply of 200 with the tree that a route has for its part, or 404 where it names nothing.
 fn found_tree<V: View>(
     alloc: Global,
     live: &V,
@@ -122,8 +122,8 @@ fn found_tree<V: View>(
     }
 }
 
-// The reply of 200 to what a part names, a content as it is and all else as a tree, or 404 where it
-// names nothing.
+/// The reply of 200 to what a part names, a content as it is and all else as a tree, or 404 where
+/// it names nothing.
 fn found_reply<V: View>(
     alloc: Global,
     live: &V,
@@ -144,14 +144,14 @@ fn found_reply<V: View>(
     }
 }
 
-// Whether two methods are the same.
+/// Whether two methods are the same.
 fn same_method(a: Method, b: Method) -> bool
     ensures { result ≡ is_same a b }
 {
     a == b
 }
 
-// What a route that the path takes replies.
+/// What a route that the path takes replies.
 fn route_reply<V: View>(
     alloc: Global,
     live: &V,

@@ -22,7 +22,7 @@ use ox_model::{RuneRow, View};
 use ox_runestone::Terms;
 use std::alloc::Global;
 
-// Writes an amount, or null without one.
+/// Writes an amount, or null without one.
 fn write_amount_or_null(out: &mut Writer, amount: Option<u128>) -> Result<(), Memory>
     ensures { AddsTokens result out.old out.new (tokens_of (or_null amount_said amount)) }
 {
@@ -32,7 +32,7 @@ fn write_amount_or_null(out: &mut Writer, amount: Option<u128>) -> Result<(), Me
     }
 }
 
-// Writes a start and an end, each null where it is missing.
+/// Writes a start and an end, each null where it is missing.
 fn write_span(out: &mut Writer, start: Option<u64>, end: Option<u64>) -> Result<(), Memory>
     ensures { AddsTokens result out.old out.new (tokens_of (span_tree start end)) }
 {
@@ -42,21 +42,21 @@ fn write_span(out: &mut Writer, start: Option<u64>, end: Option<u64>) -> Result<
     Ok(out.end_array()?)
 }
 
-// What a mint gives, if the terms say it.
+/// What a mint gives, if the terms say it.
 fn amount_of(terms: Option<Terms>) -> Option<u128>
     ensures { result ≡ option_and_then (λ t. t.amount) terms }
 {
     terms?.amount
 }
 
-// How many mints there may be, if the terms say it.
+/// How many mints there may be, if the terms say it.
 fn cap_of(terms: Option<Terms>) -> Option<u128>
     ensures { result ≡ option_and_then (λ t. t.cap) terms }
 {
     terms?.cap
 }
 
-// Writes the first open and the first closed height, or null without terms.
+/// Writes the first open and the first closed height, or null without terms.
 fn write_heights(out: &mut Writer, terms: Option<Terms>) -> Result<(), Memory>
     ensures { AddsTokens result out.old out.new
         (tokens_of (or_null (λ t. span_tree t.height_start t.height_end) terms)) }
@@ -67,8 +67,8 @@ fn write_heights(out: &mut Writer, terms: Option<Terms>) -> Result<(), Memory>
     }
 }
 
-// Writes the first open and the first closed height, counted from the etching's, or null without
-// terms.
+/// Writes the first open and the first closed height, counted from the etching's, or null without
+/// terms.
 fn write_offsets(out: &mut Writer, terms: Option<Terms>) -> Result<(), Memory>
     ensures { AddsTokens result out.old out.new
         (tokens_of (or_null (λ t. span_tree t.offset_start t.offset_end) terms)) }
@@ -79,7 +79,7 @@ fn write_offsets(out: &mut Writer, terms: Option<Terms>) -> Result<(), Memory>
     }
 }
 
-// Writes a character, or null without one.
+/// Writes a character, or null without one.
 fn write_symbol(out: &mut Writer, symbol: Option<char>) -> Result<(), Memory>
     ensures { AddsTokens result out.old out.new (tokens_of (or_null character symbol)) }
 {
@@ -89,7 +89,7 @@ fn write_symbol(out: &mut Writer, symbol: Option<char>) -> Result<(), Memory>
     }
 }
 
-// How much of a rune outputs hold.
+/// How much of a rune outputs hold.
 fn amount_held<V: View>(live: &V, n: u32, row: &RuneRow) -> u128
     requires { slice_get (V.index live.now).runes n ≡ Some row.now }
     ensures { result ≡ held_of (V.index live.now) row.now }
@@ -97,14 +97,14 @@ fn amount_held<V: View>(live: &V, n: u32, row: &RuneRow) -> u128
     live.held(n)
 }
 
-// Whether a rune's mint is open for the next block.
+/// Whether a rune's mint is open for the next block.
 fn is_mintable<V: View>(live: &V, row: &RuneRow) -> bool
     ensures { result ≡ is_some (minted_at row.now (length (V.index live.now).hashes)) }
 {
     minted(row, live.blocks()).is_some()
 }
 
-// Writes a rune with its number.
+/// Writes a rune with its number.
 fn write_rune<V: View>(out: &mut Writer, live: &V, n: u32, row: &RuneRow) -> Result<(), Memory>
     requires { slice_get (V.index live.now).runes n ≡ Some row.now }
     ensures { AddsTokens result out.old out.new
@@ -144,7 +144,7 @@ fn write_rune<V: View>(out: &mut Writer, live: &V, n: u32, row: &RuneRow) -> Res
     Ok(out.end_object()?)
 }
 
-// The body of a rune with its number.
+/// The body of a rune with its number.
 fn body_with<V: View>(alloc: Global, live: &V, n: u32, row: &RuneRow) -> Result<Bytes, Memory>
     requires { slice_get (V.index live.now).runes n ≡ Some row.now }
     ensures { IfOk result

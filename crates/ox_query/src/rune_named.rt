@@ -12,7 +12,7 @@ use ox_name::read_name;
 use ox_sat::read_number;
 use std::alloc::Global;
 
-// The id that a part spells, if any.
+/// The id that a part spells, if any.
 fn rune_id(part: &[u8]) -> Option<RuneId>
     ensures { result ≡ rune_id_in part.now }
 {
@@ -25,7 +25,7 @@ fn rune_id(part: &[u8]) -> Option<RuneId>
     Some(RuneId { block, tx })
 }
 
-// The number of the rune with the id that a part spells, if there is one.
+/// The number of the rune with the id that a part spells, if there is one.
 fn with_id<V: View>(live: &V, part: &[u8]) -> Option<u32>
     ensures { result
         ≡ option_and_then (by_id (V.index live.now).runes) (rune_id_in part.now) }
@@ -33,8 +33,8 @@ fn with_id<V: View>(live: &V, part: &[u8]) -> Option<u32>
     live.by_id(rune_id(part)?)
 }
 
-// What the front of a text says, and the text behind it: U+2022 where the front is `%E2%80%A2`, and
-// else a byte.
+/// What the front of a text says, and the text behind it: U+2022 where the front is `%E2%80%A2`,
+/// and else a byte.
 fn front_of(text: &[u8]) -> Option<(&[u8], &[u8])>
     ensures { MatchOption result (text.now ≡ []) (λ x.
         (text_said text.now ≡ x.0.now ++ text_said x.1.now)
@@ -46,7 +46,7 @@ fn front_of(text: &[u8]) -> Option<(&[u8], &[u8])>
     }
 }
 
-// A text with U+2022 for each `%E2%80%A2`. `Memory` where there is none for it.
+/// A text with U+2022 for each `%E2%80%A2`. `Memory` where there is none for it.
 fn without_escapes(alloc: Global, text: &[u8]) -> Result<Bytes, Memory>
     ensures { IfOk result (λ read. read ≡ text_said text.now) }
 {
@@ -59,8 +59,8 @@ fn without_escapes(alloc: Global, text: &[u8]) -> Result<Bytes, Memory>
     Ok(read)
 }
 
-// The number of the rune with the name that a part spells, if there is one. `Memory` where there is
-// none to read it.
+/// The number of the rune with the name that a part spells, if there is one. `Memory` where there
+/// is none to read it.
 fn with_name<V: View>(alloc: Global, live: &V, part: &[u8]) -> Result<Option<u32>, Memory>
     ensures { IfOk result (λ found. found ≡ option_and_then
         (λ named. by_name (V.index live.now).runes named.name)

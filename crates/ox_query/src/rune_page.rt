@@ -19,7 +19,7 @@ use ox_bytes::{Bytes, Memory};
 use ox_model::View;
 use std::alloc::Global;
 
-// Writes the ids of the runes from one up to another, without that.
+/// Writes the ids of the runes from one up to another, without that.
 fn write_rune_ids<V: View>(out: &mut Writer, live: &V, first: u32, end: u32) -> Result<(), Memory>
     requires rising { first ≤ end }
     requires there { end ≤ length (V.index live.now).runes }
@@ -33,7 +33,7 @@ fn write_rune_ids<V: View>(out: &mut Writer, live: &V, first: u32, end: u32) -> 
     Ok(out.end_array()?)
 }
 
-// Writes a page of runes.
+/// Writes a page of runes.
 fn write_rune_page<V: View>(out: &mut Writer, live: &V, page: u64) -> Result<(), Memory>
     ensures { AddsTokens result out.old out.new
         (tokens_of (page_tree rune_id (V.index live.now).runes page)) }
@@ -46,7 +46,7 @@ fn write_rune_page<V: View>(out: &mut Writer, live: &V, page: u64) -> Result<(),
     Ok(out.end_object()?)
 }
 
-// The body of a page of runes.
+/// The body of a page of runes.
 fn body_with<V: View>(alloc: Global, live: &V, page: u64) -> Result<Bytes, Memory>
     ensures { IfOk result (λ body. body
         ≡ compact_text (page_tree rune_id (V.index live.now).runes page)) }

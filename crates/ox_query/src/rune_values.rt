@@ -23,7 +23,7 @@ pub(crate) fn write_amount(out: &mut Writer, amount: u128) -> Result<(), Memory>
     Ok(out.string(Buffer::new().format(amount))?)
 }
 
-// A rune's id: the height and the place of its etching, with a colon between.
+/// A rune's id: the height and the place of its etching, with a colon between.
 fn rune_id_text(id: &RuneId) -> ArrayString<31>
     ensures { result.bytes ≡ rune_id_said id.now }
 {

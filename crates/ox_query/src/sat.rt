@@ -38,7 +38,7 @@ pub(crate) fn write_place(out: &mut Writer, place: Option<Place>) -> Result<(), 
     Ok(out.end_object()?)
 }
 
-// Writes a satoshi.
+/// Writes a satoshi.
 fn write_sat<V: View>(out: &mut Writer, live: &V, sat: u64) -> Result<(), Memory>
     requires { sat < (V.chain live.now).supply }
     ensures { AddsTokens result out.old out.new

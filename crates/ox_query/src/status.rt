@@ -14,14 +14,14 @@ use ox_model::{About, View};
 use ox_sat::ProfileName;
 use std::alloc::Global;
 
-// The newest block's hash.
+/// The newest block's hash.
 fn newest<V: View>(live: &V) -> Option<&[u8; 32]>
     ensures { option_copied result ≡ tip (V.index live.now).hashes }
 {
     live.hash_of(live.blocks().checked_sub(1)?)
 }
 
-// Writes what is asked of a chain's blocks.
+/// Writes what is asked of a chain's blocks.
 fn write_status<V: View>(out: &mut Writer, live: &V, about: &About) -> Result<(), Memory>
     ensures { AddsTokens result out.old out.new (tokens_of
         (status_tree (asked_of (V.chain live.now) (V.index live.now) about.now))) }

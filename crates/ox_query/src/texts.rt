@@ -31,7 +31,7 @@ pub(crate) fn decimal_text(p: &Profile, sat: u64) -> ArrayString<41>
     text
 }
 
-// Puts a number and the mark behind it.
+/// Puts a number and the mark behind it.
 fn push_part(text: &mut ArrayString<91>, number: u64, mark: &str)
     requires { length text.old.bytes + 20 + length mark.now ≤ 91 }
     ensures bytes { text.new.bytes ≡ text.old.bytes ++ decimal number ++ mark.now }
@@ -78,7 +78,7 @@ pub(crate) fn write_sat_name(out: &mut Writer, p: &Profile, sat: u64) -> Result<
     Ok(out.string(text_of(&letters[..len]))?)
 }
 
-// An outpoint as it is printed.
+/// An outpoint as it is printed.
 #[tactic(auto, unfolding(ox_rules::specs::Text::outpoint_text))]
 fn outpoint_text(at: &OutPoint) -> ArrayString<75>
     ensures { result.bytes ≡ outpoint_printed at.now }

@@ -35,7 +35,7 @@ pub struct Ranges {
     len: u64,
 }
 
-// By hand, so that whoever drops a list makes one call, and proves nothing of its runs.
+/// By hand, so that whoever drops a list makes one call, and proves nothing of its runs.
 impl Drop for Ranges {
     fn drop(self) {
         let Ranges {

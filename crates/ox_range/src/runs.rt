@@ -1,3 +1,5 @@
+//! A run of satoshis: its first number and how many there are.
+
 ghost use Rattle.std.specs.Prelude.{◌≡◌, ℕ, ◌+◌, ◌^◌, ◌<◌, ◌==◌, List, length, slice_index};
 ghost use Rattle.std.specs.Prelude.{position};
 ghost use Rattle.ox_range.specs.Runs.{numbers_of, AreMaximal, runs_of};

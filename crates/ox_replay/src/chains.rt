@@ -71,7 +71,7 @@ pub fn earliest(alloc: Global, before: Option<Before>, at: u64) -> Unjudged
     }
 }
 
-// The profile of a head's byte.
+/// The profile of a head's byte.
 fn name_at(byte: u8) -> ProfileName
     ensures { result ≡ name_there byte }
 {
@@ -82,7 +82,7 @@ fn name_at(byte: u8) -> ProfileName
     }
 }
 
-// The chain of a file with this head and no record. `Memory` where there is none for it.
+/// The chain of a file with this head and no record. `Memory` where there is none for it.
 fn begin(alloc: Global, head: &Head) -> Result<Chain, Memory>
     requires { IsTrue (is_lawful head.now) }
     ensures { IfOk result (λ chain. stack_in chain ≡ empty_stack_at head.now) }
@@ -90,7 +90,7 @@ fn begin(alloc: Global, head: &Head) -> Result<Chain, Memory>
     Chain::new(alloc, &profile_of(name_at(head.profile)), head.depth)
 }
 
-// Why the chain doesn't take the command of the record at this place.
+/// Why the chain doesn't take the command of the record at this place.
 fn unjudged_by(fault: ConnectFault, place: u64) -> Unjudged
     ensures { (wanted : Result Stack Refusal) → Refuses fault wanted
         → IsUnjudged (or_place place (result_ok wanted)) result }
@@ -101,8 +101,8 @@ fn unjudged_by(fault: ConnectFault, place: u64) -> Unjudged
     }
 }
 
-// Carries out the command of a record again. `At`, with the place of its gate, exactly where there
-// is none that the chain accepts; `Memory` where there is none for it.
+/// Carries out the command of a record again. `At`, with the place of its gate, exactly where there
+/// is none that the chain accepts; `Memory` where there is none for it.
 fn redo(chain: &mut Chain, record: &Record) -> Result<(), Unjudged>
     ensures stack { OnOk result
         (stack_after_record (stack_in chain.old) «record».now ≡ Ok (stack_in chain.new)) }

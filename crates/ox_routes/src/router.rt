@@ -61,7 +61,7 @@ impl Routes {
         })
     }
 
-    // The route whose row takes a text.
+    /// The route whose row takes a text.
     fn route_of(&self, text: &str) -> Option<Route>
         ensures { result ≡ route_taken text.now }
     {
@@ -77,7 +77,7 @@ pub fn one_row_takes_a_path()
     ensures { (path : List ℕ) → count_by (λ route. takes (row_of route) path) routes ≤ 1 }
 {}
 
-// Adds a route that can stand beside the others.
+/// Adds a route that can stand beside the others.
 fn add(router: &mut Router<Route>, text: &str, route: Route) -> Result<(), Memory>
     requires { MayJoin (parse_route text.now) router.old }
     ensures { OnOk result

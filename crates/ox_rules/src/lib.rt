@@ -1,4 +1,5 @@
-//! What a block does to satoshis, in definitions, and the plain types that they and the crates
+//! What a block does to satoshis, in definitions: satoshis' rules alone, those of inscriptions and
+//! runes stand in ox_inscribe and ox_ledger. Beside them the plain types that they and the crates
 //! above share.
 #![tactic(auto)]
 

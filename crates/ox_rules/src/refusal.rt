@@ -98,7 +98,7 @@ pub fn outpoint_text(alloc: Global, at: &OutPoint) -> Result<String, AllocError>
     Ok(format!(in alloc; "{txid}:{index}")?)
 }
 
-// The line of a block that follows another than the newest.
+/// The line of a block that follows another than the newest.
 fn unlinked_line(alloc: Global, have: &[u8; 32], want: &[u8; 32]) -> Result<String, AllocError>
     ensures { IfOk result
         (λ text. string_bytes text
@@ -109,7 +109,7 @@ fn unlinked_line(alloc: Global, have: &[u8; 32], want: &[u8; 32]) -> Result<Stri
     Ok(format!(in alloc; "refused 5 {have} {want}\n")?)
 }
 
-// The line of a block with another root than its transactions.
+/// The line of a block with another root than its transactions.
 fn bad_root_line(alloc: Global, have: &[u8; 32], want: &[u8; 32]) -> Result<String, AllocError>
     ensures { IfOk result
         (λ text. string_bytes text
@@ -120,7 +120,7 @@ fn bad_root_line(alloc: Global, have: &[u8; 32], want: &[u8; 32]) -> Result<Stri
     Ok(format!(in alloc; "refused 6 {have} {want}\n")?)
 }
 
-// The line of an input that names an output that isn't there.
+/// The line of an input that names an output that isn't there.
 fn unknown_output_line(
     alloc: Global,
     tx: u32,
@@ -136,7 +136,7 @@ fn unknown_output_line(
     Ok(format!(in alloc; "refused 8 {tx} {input} {at}\n")?)
 }
 
-// Two numbers with a space between.
+/// Two numbers with a space between.
 #[tactic(auto, unfolding(crate::specs::Text::pair_text))]
 fn pair_text(alloc: Global, first: u64, second: u64) -> Result<String, AllocError>
     ensures { IfOk result (λ text. string_bytes text ≡ printed_pair first second) }
@@ -144,7 +144,7 @@ fn pair_text(alloc: Global, first: u64, second: u64) -> Result<String, AllocErro
     Ok(format!(in alloc; "{first} {second}")?)
 }
 
-// The line of a transaction whose outputs have more than its inputs.
+/// The line of a transaction whose outputs have more than its inputs.
 fn overspend_line(alloc: Global, tx: u32, inputs: u64, outputs: u64) -> Result<String, AllocError>
     ensures { IfOk result
         (λ text. string_bytes text
@@ -155,7 +155,7 @@ fn overspend_line(alloc: Global, tx: u32, inputs: u64, outputs: u64) -> Result<S
     Ok(format!(in alloc; "refused 9 {tx} {values}\n")?)
 }
 
-// The line of a coinbase that has more than it may claim.
+/// The line of a coinbase that has more than it may claim.
 fn overclaim_line(alloc: Global, claimable: u64, claimed: u64) -> Result<String, AllocError>
     ensures { IfOk result
         (λ text. string_bytes text

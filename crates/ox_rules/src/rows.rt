@@ -18,7 +18,7 @@ pub struct OutRow {
     pub sats: Ranges,
 }
 
-// By hand, so that whoever drops a row makes one call, and proves nothing of its fields.
+/// By hand, so that whoever drops a row makes one call, and proves nothing of its fields.
 impl Drop for OutRow {
     fn drop(self) {
         let OutRow {

@@ -1,3 +1,5 @@
+//! Degrees of satoshis.
+
 ghost use Rattle.std.specs.Prelude.{◌≡◌, ℕ, ◌<◌};
 ghost use Rattle.ox_sat.specs.Profiles.{IsProfile};
 ghost use Rattle.ox_sat.specs.Degrees.{degree_at, rarity_by};

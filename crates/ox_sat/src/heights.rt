@@ -1,3 +1,5 @@
+//! Which satoshis a height mints.
+
 ghost use Rattle.std.specs.Prelude.{◌≡◌, ℕ, ◌+◌, ◌*◌, ◌/◌, ◌^◌, ◌<◌, ◌≤◌};
 ghost use Rattle.ox_sat.specs.Profiles.{IsProfile};
 ghost use Rattle.ox_sat.specs.Heights.{subsidy_at, first_at, Mints, height_minting};

@@ -1,3 +1,5 @@
+//! The profiles of chains, by word and byte.
+
 ghost use Rattle.std.specs.Prelude.{◌≡◌, Some, IfSome};
 ghost use Rattle.ox_sat.specs.declared.profiles.ProfileName.{ProfileName};
 ghost use Rattle.ox_sat.specs.Profiles.{profile_named, profile_word, profile_byte, name_at};

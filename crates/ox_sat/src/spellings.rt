@@ -1,3 +1,5 @@
+//! The three spellings of a satoshi.
+
 ghost use Rattle.std.specs.Prelude.{◌≡◌, ◌≢◌, ℕ, ◌+◌, ◌^◌, ◌<◌, ◌≤◌, ◌↔◌, ◌⊎◌, List, ◌∷◌, ◌++◌};
 ghost use Rattle.std.specs.Prelude.{length, slice_index, All, IsTrue, IfSome, IfNone, IfOk, OnErr};
 ghost use Rattle.std.specs.Prelude.{decimal};

@@ -6,7 +6,7 @@ use ox_bytes::{Bytes, Memory};
 use std::alloc::Global;
 use std::marker::Model;
 
-// The memory that is kept where no bytes are.
+/// The memory that is kept where no bytes are.
 const KEPT: usize = 65_536;
 
 /// Bytes of which those in front were taken off. Contracts see the list of the others.
@@ -57,7 +57,7 @@ impl Buffer {
         self.bytes.as_slice().split_at(self.start).1
     }
 
-    // Moves the bytes to the front of the memory.
+    /// Moves the bytes to the front of the memory.
     fn move_to_front(&mut self)
         ensures { self.new ≡ self.old }
     {
@@ -69,8 +69,8 @@ impl Buffer {
         }
     }
 
-    // Takes memory for so many bytes more: twice what there is, but at most so much in all, unless
-    // that is too little.
+    /// Takes memory for so many bytes more: twice what there is, but at most so much in all, unless
+    /// that is too little.
     fn grow(&mut self, more: usize, most: usize) -> Result<(), Memory>
         ensures { self.new ≡ self.old }
     {
@@ -109,7 +109,7 @@ impl Buffer {
         }
     }
 
-    // Gives back what is too much memory for no bytes.
+    /// Gives back what is too much memory for no bytes.
     fn give_back(&mut self)
         ensures { self.new ≡ self.old }
     {

@@ -93,7 +93,7 @@ impl Session {
         self.ended = true;
     }
 
-    // Makes the reply to a fault due.
+    /// Makes the reply to a fault due.
     fn answer(&mut self, status: u16) -> Result<Poll, Memory>
         ensures ok { OnOk result (self.new ≡ record self.old {
           due = written (fault status);
@@ -109,7 +109,7 @@ impl Session {
         Ok(Poll::Answered)
     }
 
-    // What a link asks of which the last reply doesn't say close.
+    /// What a link asks of which the last reply doesn't say close.
     fn ask(&mut self) -> Result<Poll, Memory>
         ensures says { IfOk result (λ poll. Says poll self.old self.new) }
         ensures err { OnErr result (self.new ≡ self.old) }

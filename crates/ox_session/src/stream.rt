@@ -13,7 +13,7 @@ use ox_http::{HEAD_LIMIT, HeadFound, HeadRead, Method, Request, read_head};
 use std::alloc::Global;
 use std::marker::Model;
 
-// The most bytes that are heard at once.
+/// The most bytes that are heard at once.
 const PIECE: usize = 65_536;
 
 /// A head that was read, whose body hasn't wholly come.
@@ -62,7 +62,7 @@ impl Model for Stream {
         × ForSome s.head (λ known. front_of s.bytes ≡ opens known.len (asked_in known)) };
 }
 
-// Keeps a head that was read. `Memory` where there is none for its path.
+/// Keeps a head that was read. `Memory` where there is none for its path.
 fn known_of(alloc: Global, head: HeadRead) -> Result<Known, Memory>
     ensures len { IfOk result (λ known. known.len ≡ head.entry.len) }
     ensures asked { IfOk result (λ known. asked_in known ≡ asked_in_head head.entry) }
@@ -76,7 +76,7 @@ fn known_of(alloc: Global, head: HeadRead) -> Result<Known, Memory>
     })
 }
 
-// The most memory that a stream needs while its bytes come piece by piece.
+/// The most memory that a stream needs while its bytes come piece by piece.
 fn most(head: &Option<Known>) -> usize {
     match head {
         Some(known) => known
@@ -109,7 +109,7 @@ impl Stream {
         self.bytes.put(bytes, most)
     }
 
-    // The request of a head, once its body has come.
+    /// The request of a head, once its body has come.
     fn cut(&mut self, known: Known) -> Result<Next, Memory>
         requires { front_of self.old ≡ opens known.len (asked_in known) }
         ensures cuts { IfOk result (λ next. Cuts next self.old self.new) }
@@ -139,7 +139,7 @@ impl Stream {
         }
     }
 
-    // Reads the head, if it has come.
+    /// Reads the head, if it has come.
     fn begin(&mut self) -> Result<Next, Memory>
         ensures cuts { IfOk result (λ next. Cuts next self.old self.new) }
         ensures err { OnErr result (self.new ≡ self.old) }

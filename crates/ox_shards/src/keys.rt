@@ -42,14 +42,14 @@ pub trait Sharded: Ord + Copy {
     ghost same_tag: { (a b : Self) → is_eq (Self.cmp a b) ≡ true → tag a ≡ tag b };
 }
 
-// So many shards for keys that are a transaction's id and an index.
+/// So many shards for keys that are a transaction's id and an index.
 const SHARDS: usize = 65_536;
 
-// So many of them stand in the list of a shard.
+/// So many of them stand in the list of a shard.
 const MOST: usize = 64;
 
-// The shard of such a key: by the first two bytes of the id, which is a hash, and the index, so
-// that what belongs to one transaction stands in as many shards.
+/// The shard of such a key: by the first two bytes of the id, which is a hash, and the index, so
+/// that what belongs to one transaction stands in as many shards.
 fn shard_of(id: &[u8; 32], index: u32) -> usize
     ensures value { result ≡ shard_of id.now index }
     ensures in_range { result < 65536 }
@@ -57,7 +57,7 @@ fn shard_of(id: &[u8; 32], index: u32) -> usize
     (usize::from(id[0]) * 256 + usize::from(id[1]) + index as usize) % SHARDS
 }
 
-// The tag of such a key: the next four bytes of the id, and the index.
+/// The tag of such a key: the next four bytes of the id, and the index.
 fn tag_of(id: &[u8; 32], index: u32) -> u32
     ensures { result ≡ tag_of id.now index }
 {

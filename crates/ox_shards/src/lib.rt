@@ -1,5 +1,5 @@
-//! A map over many short lists: a key says in which of them it stands. Those that find their list
-//! full stand in one ordered map.
+//! A hash table whose keys are hashes already: a key says in which of many short lists it stands.
+//! Those that find their list full stand in one ordered map.
 #![tactic(auto)]
 
 mod keys;

@@ -14,7 +14,7 @@ use std::alloc::{AllocError, AllocFailed, Global};
 use std::marker::Model;
 use std::mem;
 
-// So many tags stand in the shard itself.
+/// So many tags stand in the shard itself.
 const INSIDE: usize = 6;
 
 /// Keys with their values. The tags of the keys stand in front, so that a look-up reads four bytes
@@ -128,8 +128,8 @@ impl<K: Sharded, V> Shard<K, V> {
     }
 }
 
-// Makes room for one more entry. A first one takes room for itself alone, since shards are many,
-// and most have few. `AllocError` where there is no memory for it.
+/// Makes room for one more entry. A first one takes room for itself alone, since shards are many,
+/// and most have few. `AllocError` where there is no memory for it.
 fn reserve_one<T>(entries: &mut Vec<T>) -> Result<(), AllocError>
     ensures items { entries.new.items ≡ entries.old.items }
     ensures ok { OnOk result (vec_len entries.new < vec_capacity entries.new) }
@@ -142,7 +142,7 @@ fn reserve_one<T>(entries: &mut Vec<T>) -> Result<(), AllocError>
     }
 }
 
-// Where a key stands among keys that have these tags.
+/// Where a key stands among keys that have these tags.
 fn place_in<K: Sharded, V>(tags: &[u32], entries: &[(K, V)], key: &K) -> Option<usize>
     requires { tags.now ≡ map (λ entry. K.tag entry.0) entries.now }
     ensures { result ≡ position (λ entry. is_at (K.cmp key.now) entry.0) entries.now }

@@ -120,7 +120,7 @@ impl<K: Sharded, V> Shards<K, V> {
     }
 }
 
-// The value at a key in its list.
+/// The value at a key in its list.
 fn value_in<'a, K: Sharded, V>(lists: &'a [Shard<K, V>], key: &K) -> Option<&'a V>
     ensures { option_copied result
         ≡ value_at K.cmp (items_at lists.now (K.shard key.now)) key.now }
@@ -128,8 +128,8 @@ fn value_in<'a, K: Sharded, V>(lists: &'a [Shard<K, V>], key: &K) -> Option<&'a 
     lists.get(key.shard())?.get(key)
 }
 
-// Puts a value at a key where it stands, else into its list, or into the ordered map where that is
-// full.
+/// Puts a value at a key where it stands, else into its list, or into the ordered map where that is
+/// full.
 fn put<K: Sharded, V>(
     list: &mut Shard<K, V>,
     others: &mut BTreeMap<K, V>,
@@ -156,7 +156,7 @@ fn put<K: Sharded, V>(
     Ok(None)
 }
 
-// Takes the value at a key out of its list or out of the ordered map.
+/// Takes the value at a key out of its list or out of the ordered map.
 fn take<K: Sharded, V>(list: &mut Shard<K, V>, others: &mut BTreeMap<K, V>, key: &K) -> Option<V>
     requires { IsSound K.cmp list.old others.old.entries }
     ensures taken { result ≡ value_with K.cmp list.old others.old.entries key.now }
@@ -169,7 +169,7 @@ fn take<K: Sharded, V>(list: &mut Shard<K, V>, others: &mut BTreeMap<K, V>, key:
     }
 }
 
-// Makes the lists, if there are none. `AllocError` where there is no memory for them.
+/// Makes the lists, if there are none. `AllocError` where there is no memory for them.
 fn ensure_lists<K: Sharded, V>(
     lists: &mut Vec<Shard<K, V>>,
     alloc: Global,
@@ -189,8 +189,8 @@ fn ensure_lists<K: Sharded, V>(
     Ok(())
 }
 
-// Makes as many lists as there are shards, without an entry. `AllocError` where there is no memory
-// for them: there are none.
+/// Makes as many lists as there are shards, without an entry. `AllocError` where there is no memory
+/// for them: there are none.
 fn make_lists<K: Sharded, V>(lists: &mut Vec<Shard<K, V>>, alloc: Global) -> Result<(), AllocError>
     requires { lists.old.items ≡ [] }
     ensures count { OnOk result (length lists.new.items ≡ K.SHARDS) }

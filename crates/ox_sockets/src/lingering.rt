@@ -27,7 +27,7 @@ struct Leaving {
     left: usize,
 }
 
-// What is known of a connection after a reading.
+/// What is known of a connection after a reading.
 #[derive(Clone, Copy, PartialEq, Eq)]
 enum State {
     Full,
@@ -43,7 +43,7 @@ pub(crate) struct Lingering {
 }
 
 impl Leaving {
-    // Reads at most one room full.
+    /// Reads at most one room full.
     fn read(&mut self, room: &mut [u8]) -> State {
         match (&self.stream).read(room) {
             Ok(0) => State::Over,
@@ -63,7 +63,7 @@ impl Leaving {
         }
     }
 
-    // Reads some away, and answers whether the connection is over.
+    /// Reads some away, and answers whether the connection is over.
     fn is_over(&mut self, room: &mut [u8]) -> bool {
         if !self.readable {
             return false;

@@ -165,13 +165,13 @@ impl<C: Clock + Drop> Wires<C> {
         }
     }
 
-    // Where the link of this number is.
+    /// Where the link of this number is.
     fn place_of(&self, number: u32) -> Option<usize> {
         self.links.iter().position(|link| link.number == number)
     }
 
-    // Counts a call, and first asks the system where that is due. Each call has brought nothing
-    // until it says that it did.
+    /// Counts a call, and first asks the system where that is due. Each call has brought nothing
+    /// until it says that it did.
     fn begin(&mut self) {
         let rotation = self.links.len().saturating_add(3);
         if self.quiet >= rotation && !self.busy {
@@ -183,8 +183,8 @@ impl<C: Clock + Drop> Wires<C> {
         self.calls = self.calls.saturating_add(1);
     }
 
-    // Asks the system what is ready, and waits so long for it. Where it can't tell, it is asked
-    // again later.
+    /// Asks the system what is ready, and waits so long for it. Where it can't tell, it is asked
+    /// again later.
     fn ask(&mut self, pause: Duration) {
         self.quiet = 0;
         self.calls = 0;
@@ -205,7 +205,7 @@ impl<C: Clock + Drop> Wires<C> {
     }
 }
 
-// Keeps what the system told of a link, or of one that lingers.
+/// Keeps what the system told of a link, or of one that lingers.
 fn note(links: &mut Vec<Link>, lingering: &mut Lingering, event: &Event) {
     let Ok(number) = u32::try_from(event.token().0) else {
         return;

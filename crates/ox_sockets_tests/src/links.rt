@@ -14,17 +14,17 @@ use std::rt::Clock;
 /// times, so this is some seconds.
 const TRIES: usize = 4000;
 
-// A listener on a free port of loopback.
+/// A listener on a free port of loopback.
 fn listener<R: Net<Listener = TcpListener, Stream = TcpStream> + Abort>(rt: &R) -> TcpListener {
     TcpListener::bind(rt, "127.0.0.1:0").expect(rt, "a listener")
 }
 
-// Who listens on a port.
+/// Who listens on a port.
 fn address_of(rt: &impl Abort, listener: &TcpListener) -> SocketAddr {
     listener.local_addr().expect(rt, "an address")
 }
 
-// A client of whoever listens there.
+/// A client of whoever listens there.
 fn client_of<R: Net<Listener = TcpListener, Stream = TcpStream> + Abort>(
     rt: &R,
     address: SocketAddr,
@@ -32,7 +32,7 @@ fn client_of<R: Net<Listener = TcpListener, Stream = TcpStream> + Abort>(
     TcpStream::connect(rt, address).expect(rt, "a client")
 }
 
-// Two listeners and no links.
+/// Two listeners and no links.
 fn sockets_of<R: Net + Clock + Abort>(
     rt: &R,
     alloc: Global,
@@ -42,19 +42,19 @@ fn sockets_of<R: Net + Clock + Abort>(
     Sockets::new(rt, rt, alloc, public, operator).expect(rt, "sockets")
 }
 
-// Sends all of the bytes.
+/// Sends all of the bytes.
 fn sends(rt: &impl Abort, client: &mut TcpStream, bytes: &[u8]) {
     client.write_all(bytes).expect(rt, "what is sent");
 }
 
-// What the client gets until the other side ends.
+/// What the client gets until the other side ends.
 fn gets(rt: &impl Abort, alloc: Global, client: &mut TcpStream) -> Vec<u8> {
     let mut got = Vec::new(alloc);
     client.read_to_end(&mut got).expect(rt, "a whole reply");
     got
 }
 
-// The number of the next link that comes by this door, 0 where none comes.
+/// The number of the next link that comes by this door, 0 where none comes.
 fn comes<C: Clock + Drop>(sockets: &mut Sockets<C>, door: Doorway) -> u32 {
     for _ in 0..TRIES {
         match sockets.door(door) {
@@ -66,7 +66,7 @@ fn comes<C: Clock + Drop>(sockets: &mut Sockets<C>, door: Doorway) -> u32 {
     0
 }
 
-// What the link gives into eight bytes of room, once it isn't nothing, and the room then.
+/// What the link gives into eight bytes of room, once it isn't nothing, and the room then.
 fn hears<C: Clock + Drop>(sockets: &mut Sockets<C>, link: u32) -> Option<(Heard, [u8; 8])> {
     for _ in 0..TRIES {
         let mut room = [0u8; 8];
@@ -79,7 +79,7 @@ fn hears<C: Clock + Drop>(sockets: &mut Sockets<C>, link: u32) -> Option<(Heard,
     None
 }
 
-// Whether the link takes so much of a piece.
+/// Whether the link takes so much of a piece.
 fn takes<C: Clock + Drop>(sockets: &mut Sockets<C>, link: u32, piece: &[u8]) -> bool
     requires { 1 ≤ length piece.now }
 {
@@ -145,8 +145,8 @@ fn a_link_that_is_shut_or_never_was_fails(rt: HostRuntime) {
     assert!(rt; client.shutdown(Shutdown::Both).is_ok());
 }
 
-// Without reading away what was sent and never heard, the system would answer it with a reset, and
-// the reply would be lost.
+/// Without reading away what was sent and never heard, the system would answer it with a reset, and
+/// the reply would be lost.
 #[test]
 fn a_reply_is_whole_though_more_was_sent_than_heard(rt: HostRuntime) {
     let public = listener(&rt);

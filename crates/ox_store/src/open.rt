@@ -50,7 +50,7 @@ impl Store {
     }
 }
 
-// The store of files that were read.
+/// The store of files that were read.
 fn store_of(alloc: Global, opened: Opened) -> Result<Store, OpenFault>
     requires head { (opened.tail.head ≡ opened.head) × (opened.head.version ≡ 1) }
     requires lawful { IsTrue (is_lawful opened.head) }
@@ -71,7 +71,7 @@ fn store_of(alloc: Global, opened: Opened) -> Result<Store, OpenFault>
     }
 }
 
-// What is wrong with files that weren't read.
+/// What is wrong with files that weren't read.
 fn fault_of(alloc: Global, fault: GateFault) -> OpenFault
     requires { IsBehindLawful fault }
     ensures misfit { (reading : Result Found Fault) → IsFault reading fault
@@ -86,7 +86,7 @@ fn fault_of(alloc: Global, fault: GateFault) -> OpenFault
     }
 }
 
-// What it says of a file that a part of it gives no chain.
+/// What it says of a file that a part of it gives no chain.
 fn in_file(file: Which, unjudged: Unjudged) -> OpenFault
     ensures { result ≡ fault_in file unjudged }
 {

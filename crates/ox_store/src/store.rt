@@ -40,7 +40,7 @@ pub struct Store {
     pub(crate) commands: u64,
 }
 
-// By hand, so that whoever drops a store makes one call, and proves nothing of its fields.
+/// By hand, so that whoever drops a store makes one call, and proves nothing of its fields.
 impl Drop for Store {
     fn drop(self) {
         let Store {
@@ -178,8 +178,8 @@ impl Store {
         }
     }
 
-    // Prepares a command whose record is made. The chain turns last, so that want of memory leaves
-    // all as it was.
+    /// Prepares a command whose record is made. The chain turns last, so that want of memory leaves
+    /// all as it was.
     fn prepare_with(self, command: &Command, framed: Framed) -> Result<Ready, Kept>
         requires few { self.commands < 2 ^ 64 - 1 }
         requires payload { framed ≡ recorded command.now }
@@ -214,7 +214,7 @@ impl Store {
         }
     }
 
-    // The record of a command.
+    /// The record of a command.
     fn record_of(&self, command: &Command) -> Result<Framed, Memory>
         ensures payload { IfOk result (λ framed. framed ≡ recorded command.now) }
         ensures fits { IfOk result (λ framed. Fits self.now.tail (length framed)) }
@@ -225,8 +225,8 @@ impl Store {
         }
     }
 
-    // A record of this kind with this block behind it. `Memory` where the block is too long for
-    // one, where the file has no room for it, and where there is none.
+    /// A record of this kind with this block behind it. `Memory` where the block is too long for
+    /// one, where the file has no room for it, and where there is none.
     fn frame_of(&self, kind: u8, block: &[u8]) -> Result<Framed, Memory>
         ensures payload { IfOk result (λ framed. framed ≡ kind ∷ block.now) }
         ensures fits { IfOk result (λ framed. Fits self.now.tail (length framed)) }
@@ -237,7 +237,7 @@ impl Store {
         frame_parts(self.alloc, &[kind], block)
     }
 
-    // The store as it is, and why a command isn't prepared.
+    /// The store as it is, and why a command isn't prepared.
     fn store_with_reason(self, why: Why) -> Kept
         ensures store { result.store ≡ self }
         ensures why { result.why ≡ why }
@@ -246,7 +246,7 @@ impl Store {
     }
 }
 
-// The file of a store without a block. `Memory` where there is none for it.
+/// The file of a store without a block. `Memory` where there is none for it.
 fn first_checkpoint(alloc: Global, name: ProfileName, depth: u16) -> Result<Checkpoint, Memory>
     requires { (1 ≤ depth) × (depth ≤ 1000) }
     ensures { IfOk result (λ checkpoint.
@@ -261,8 +261,8 @@ fn first_checkpoint(alloc: Global, name: ProfileName, depth: u16) -> Result<Chec
     checkpoint_of(alloc, &head, Bytes::empty(alloc))
 }
 
-// Carries out a command in memory. The chain then has its change: the one that was taken back, or
-// the newest that is kept.
+/// Carries out a command in memory. The chain then has its change: the one that was taken back, or
+/// the newest that is kept.
 fn obey(chain: &mut Chain, command: &Command) -> Result<(), ConnectFault>
     ensures ok { OnOk result
         (stack_after (stack_in chain.old) command.now ≡ Ok (stack_in chain.new)) }
@@ -280,7 +280,7 @@ fn obey(chain: &mut Chain, command: &Command) -> Result<(), ConnectFault>
     }
 }
 
-// Whether the length of both files is 0.
+/// Whether the length of both files is 0.
 fn are_empty<S: Site>(site: &mut S) -> Result<bool, Failed>
     ensures empty { IsTrue (S.told site.old)
         → IfOk result (λ empty. IsTrue empty ↔ (S.seen site.old ≡ no_files)) }

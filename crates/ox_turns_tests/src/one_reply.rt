@@ -23,14 +23,14 @@ pub struct OneReply {
 }
 
 impl OneReply {
-    // Counts a call, and says whether it finds memory.
+    /// Counts a call, and says whether it finds memory.
     fn next_call(&mut self) -> bool {
         let call = self.calls;
         self.calls = call.saturating_add(1);
         call < self.starved_from || self.starved_until <= call
     }
 
-    // The reply, with which the link ends or not. `Memory` where there is none.
+    /// The reply, with which the link ends or not. `Memory` where there is none.
     fn made(&mut self, close: bool) -> Result<Made, Memory>
         ensures bytes { IfOk result (λ made. made.bytes ≡ codes "ok") }
         ensures close { IfOk result (λ made. made.close ≡ close) }

@@ -12,14 +12,14 @@ use ox_turns::TurnFault;
 use std::alloc::Global;
 use std::process::Abort;
 
-// A request that is whole.
+/// A request that is whole.
 const REQUEST: &[u8] = b"GET / HTTP/1.1\r\nHost: a\r\n\r\n";
 
-// The first reply, and then the one to a link that gives up.
+/// The first reply, and then the one to a link that gives up.
 const OK_AND_503: &[u8] =
     b"okHTTP/1.1 503 Service Unavailable\r\nContent-Length: 0\r\nConnection: close\r\n\r\n";
 
-// A desk that finds no memory at the calls from this one up to the other.
+/// A desk that finds no memory at the calls from this one up to the other.
 fn desk(alloc: Global, starved_from: u64, starved_until: u64) -> OneReply {
     OneReply {
         alloc,
@@ -29,7 +29,7 @@ fn desk(alloc: Global, starved_from: u64, starved_until: u64) -> OneReply {
     }
 }
 
-// A server of this site whose desk finds memory always.
+/// A server of this site whose desk finds memory always.
 fn served(rt: &impl Abort, alloc: Global, site: MemSite) -> Served
     ensures { IsServed result.turns result.site }
 {
@@ -40,12 +40,12 @@ fn bytes_said(rt: &impl Abort, alloc: Global, bytes: &[u8]) -> Said {
     Said::Bytes(Bytes::copy(alloc, bytes).expect(rt, "memory"))
 }
 
-// Lets a link wait at the public door.
+/// Lets a link wait at the public door.
 fn add_link(rt: &impl Abort, site: &mut MemSite, script: &[Said]) {
     site.link(Doorway::Public, script).expect(rt, "memory");
 }
 
-// Lets a link wait that says so often nothing yet, and then this.
+/// Lets a link wait that says so often nothing yet, and then this.
 fn add_slow_link(rt: &impl Abort, alloc: Global, site: &mut MemSite, wait: usize, last: Said) {
     let mut script = Vec::new(alloc);
     for _ in 0..wait {
@@ -55,7 +55,7 @@ fn add_slow_link(rt: &impl Abort, alloc: Global, site: &mut MemSite, wait: usize
     add_link(rt, site, script.as_slice());
 }
 
-// So many requests, one behind the other.
+/// So many requests, one behind the other.
 fn requests(rt: &impl Abort, alloc: Global, count: usize) -> Said {
     let mut bytes = Bytes::empty(alloc);
     for _ in 0..count {
@@ -64,7 +64,7 @@ fn requests(rt: &impl Abort, alloc: Global, count: usize) -> Said {
     Said::Bytes(bytes)
 }
 
-// Lets a link wait that asks in so many pieces, each of so many requests.
+/// Lets a link wait that asks in so many pieces, each of so many requests.
 fn add_asking_link(
     rt: &impl Abort,
     alloc: Global,
@@ -79,8 +79,8 @@ fn add_asking_link(
     add_link(rt, site, script.as_slice());
 }
 
-// A site at whose public door two links wait, each of which asks in so many pieces of so many
-// requests.
+/// A site at whose public door two links wait, each of which asks in so many pieces of so many
+/// requests.
 fn two_asking_links(rt: &impl Abort, alloc: Global, pieces: usize, count: usize) -> MemSite {
     let mut site = MemSite::new(alloc).expect(rt, "memory");
     add_asking_link(rt, alloc, &mut site, pieces, count);
@@ -88,17 +88,17 @@ fn two_asking_links(rt: &impl Abort, alloc: Global, pieces: usize, count: usize)
     site
 }
 
-// Whether these bytes were shown to a link, and no more.
+/// Whether these bytes were shown to a link, and no more.
 fn has_shown(rt: &impl Abort, site: &MemSite, link: u32, bytes: &[u8]) -> bool {
     site.shown(link).expect(rt, "memory").as_slice() == bytes
 }
 
-// How many bytes were shown to a link.
+/// How many bytes were shown to a link.
 fn shown_count(rt: &impl Abort, site: &MemSite, link: u32) -> usize {
     site.shown(link).expect(rt, "memory").len()
 }
 
-// A site with 33 links at the public door. The fifth ends in its 29th turn, and the last asks.
+/// A site with 33 links at the public door. The fifth ends in its 29th turn, and the last asks.
 fn crowded_site(rt: &impl Abort, alloc: Global) -> MemSite {
     let mut site = MemSite::new(alloc).expect(rt, "memory");
     for number in 1..33 {
@@ -112,10 +112,10 @@ fn crowded_site(rt: &impl Abort, alloc: Global) -> MemSite {
     site
 }
 
-// Each round before the 32nd has a turn of each door and one of each link; the 32nd has none of the
-// operator's door, since no slot is free. The fifth link came in the fifth round, so it ends in the
-// 33rd, which has no door's turn. The next turn of the public door takes the 33rd link, which then
-// has its turn between the fourth link and the sixth.
+/// Each round before the 32nd has a turn of each door and one of each link; the 32nd has none of
+/// the operator's door, since no slot is free. The fifth link came in the fifth round, so it ends
+/// in the 33rd, which has no door's turn. The next turn of the public door takes the 33rd link,
+/// which then has its turn between the fourth link and the sixth.
 #[test]
 fn a_link_waits_for_a_slot_and_takes_the_one_that_is_left(rt: HostRuntime) {
     let mut server = served(&rt, rt.alloc(), crowded_site(&rt, rt.alloc()));
@@ -138,8 +138,8 @@ fn a_link_waits_for_a_slot_and_takes_the_one_that_is_left(rt: HostRuntime) {
     assert!(rt; has_shown(&rt, &server.site, 33, b"ok"));
 }
 
-// The second link comes in the second round. Before it is heard there, the first link was shown its
-// first reply and asked its second request, which is the desk's second call.
+/// The second link comes in the second round. Before it is heard there, the first link was shown
+/// its first reply and asked its second request, which is the desk's second call.
 #[test]
 fn a_link_without_memory_leaves_anothers_replies(rt: HostRuntime) {
     let alloc = rt.alloc();
@@ -171,7 +171,7 @@ fn a_desk_that_never_finds_memory_gives_up_each_link(rt: HostRuntime) {
     assert!(rt; server.desk.calls == 2);
 }
 
-// It came, was heard, ended and was shut.
+/// It came, was heard, ended and was shut.
 #[test]
 fn a_link_that_ends_in_a_head_is_shut_without_a_reply(rt: HostRuntime) {
     let alloc = rt.alloc();
@@ -188,8 +188,8 @@ fn a_link_that_ends_in_a_head_is_shut_without_a_reply(rt: HostRuntime) {
     assert!(rt; server.desk.calls == 0);
 }
 
-// Each round has a turn of both doors and one of the link. The request is heard in the 51st, and
-// the reply is shown in the next.
+/// Each round has a turn of both doors and one of the link. The request is heard in the 51st, and
+/// the reply is shown in the next.
 #[test]
 fn a_link_that_says_nothing_fifty_times_is_waited_for(rt: HostRuntime) {
     let alloc = rt.alloc();
@@ -204,9 +204,10 @@ fn a_link_that_says_nothing_fifty_times_is_waited_for(rt: HostRuntime) {
     assert!(rt; has_shown(&rt, &server.site, 1, b"ok"));
 }
 
-// The first round has three turns, and each later one four, of which two are a door's. So the first
-// link has 2,500 turns, and the second, which comes in the second round, one less. A hearing brings
-// 100 requests, and so 101 turns: 24 times that, then one more hearing, and 75 replies or 74.
+/// The first round has three turns, and each later one four, of which two are a door's. So the
+/// first link has 2,500 turns, and the second, which comes in the second round, one less. A hearing
+/// brings 100 requests, and so 101 turns: 24 times that, then one more hearing, and 75 replies or
+/// 74.
 #[test]
 fn two_links_are_served_in_turn(rt: HostRuntime) {
     let alloc = rt.alloc();
@@ -217,9 +218,9 @@ fn two_links_are_served_in_turn(rt: HostRuntime) {
     assert!(rt; server.site.starved() == 0);
 }
 
-// A server with two links, of whose calls this one fails. Those of the first round are 0 and 1 at
-// the doors, 2 for the hearing, and 3 for the desk's look at a file; those of the second begin with
-// 4 and 5 at the doors and 6 for the showing.
+/// A server with two links, of whose calls this one fails. Those of the first round are 0 and 1 at
+/// the doors, 2 for the hearing, and 3 for the desk's look at a file; those of the second begin
+/// with 4 and 5 at the doors and 6 for the showing.
 fn failing_server(rt: &impl Abort, alloc: Global, call: u64) -> Served
     ensures { IsServed result.turns result.site }
 {

@@ -3,7 +3,7 @@ use Rattle.std.specs.Prelude.{IsTrue}
 use Rattle.ox_outside.specs.Event.{is_there}
 use Rattle.ox_memsite.specs.World.{World, log_of}
 use Rattle.ox_memsite.proofs.Kept.{there_below}
-use Rattle.ox_memsite.proofs.site.MemSite.find.Goals as goal
+use Rattle.ox_memsite.proofs.site.MemSite.channel_is_kept.Goals as goal
 
 pub returns : goal.returns
 returns c = subst (λ (w : World). c.args.channel < length w.channels) c.self.view_is (
