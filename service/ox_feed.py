@@ -296,9 +296,9 @@ def watch(place: Place, numbers: Numbers) -> None:
 def notify(text: str) -> None:
     """Tells systemd, where it asked for that."""
     place = os.environ.get("NOTIFY_SOCKET", "")
-    with socket.socket(socket.AF_UNIX, socket.SOCK_DGRAM) as wire, contextlib.suppress(OSError):
-        if place:
-            wire.sendto(text.encode(), "\0" + place[1:] if place[0] == "@" else place)
+    kind = socket.SOCK_DGRAM | socket.SOCK_NONBLOCK
+    with socket.socket(socket.AF_UNIX, kind) as wire, contextlib.suppress(OSError):
+        wire.sendto(text.encode(), "\0" + place[1:] if place[:1] == "@" else place)
 
 
 class Feeder:

@@ -4,6 +4,7 @@ imitates was read, and was not compared with a running one.
 """
 
 import base64
+import contextlib
 import http.server
 import json
 import pathlib
@@ -24,19 +25,49 @@ class Fault(Exception):
 
 def lawful(height, tip, paid, mark):
     """A made block (docs/RULES.md, 'Made blocks') whose coinbase this number makes another: its
-    bytes, its hash and its coinbase's id."""
+    bytes, its hash and its transactions' ids."""
     others = [spend(height, paid)] if height else []
     outputs = [(claim(height), OPEN), (0, commitment([whole for _, whole in others]))]
     script = b"\4" + height.to_bytes(4, "little") + mark.to_bytes(4, "little")
     txs = [coinbase(outputs, script, [RESERVED]), *others]
     ids = [twice(bare) for bare, _ in txs]
     data, tip = block(tip, root(ids), [whole for _, whole in txs], height)
-    return data, tip, ids[0]
+    return data, tip, ids
 
 
 def shown(hash_):
     """A hash as it is shown."""
     return hash_[::-1].hex()
+
+
+class Doors(http.server.ThreadingHTTPServer):
+    """A server that says nothing of links that are cut."""
+
+    request_queue_size = 64
+
+    def __init__(self, *words):
+        self.links = set()
+        super().__init__(*words)
+
+    def process_request(self, request, client_address):
+        self.links.add(request)
+        super().process_request(request, client_address)
+
+    def shutdown_request(self, request):
+        self.links.discard(request)
+        super().shutdown_request(request)
+
+    def end(self):
+        """Closes the door and all links."""
+        self.shutdown()
+        self.server_close()
+        for link in list(self.links):
+            with contextlib.suppress(OSError):
+                link.shutdown(socket.SHUT_RDWR)
+
+    def handle_error(self, request, client_address):
+        if not isinstance(sys.exc_info()[1], OSError):
+            super().handle_error(request, client_address)
 
 
 class StubNode:
@@ -50,9 +81,9 @@ class StubNode:
         self.silent.set()
         # blocks that it has thrown away, and blocks in whose place it gives other bytes
         self.pruned, self.wrong = set(), {}
-        # bytes by hash, the id of each block's coinbase, and the chain
-        self.blocks, self.paid, self.active = {}, {}, []
-        self.asked, self.marks = [], 0
+        # bytes and transactions' ids by hash, and the chain
+        self.blocks, self.ids, self.active = {}, {}, []
+        self.asked, self.posts, self.marks = [], 0, 0
         self.lock = threading.RLock()
         self.new_cookie()
         self.door = None
@@ -66,16 +97,12 @@ class StubNode:
         class Door(Replies):
             node = stub
 
-        class Doors(http.server.ThreadingHTTPServer):
-            request_queue_size = 64
-
         self.door = Doors(("127.0.0.1", self.port), Door)
         self.port = self.door.server_address[1]
         threading.Thread(target=self.door.serve_forever, args=(0.05,), daemon=True).start()
 
     def stop(self):
-        self.door.shutdown()
-        self.door.server_close()
+        self.door.end()
 
     @property
     def address(self):
@@ -92,15 +119,16 @@ class StubNode:
             for _ in range(count):
                 height = len(self.active)
                 tip = bytes.fromhex(self.active[-1])[::-1] if height else bytes(32)
-                paid = self.paid[self.active[-1]] if height else bytes(32)
+                paid = self.ids[self.active[-1]][0] if height else bytes(32)
                 self.marks += 1
                 self.take(lawful(height, tip, paid, self.marks))
 
     def take(self, made):
-        data, tip, paid = made
+        """A block on the chain."""
+        data, tip, ids = made
         with self.lock:
             name = shown(tip)
-            self.blocks[name], self.paid[name] = data, paid
+            self.blocks[name], self.ids[name] = data, ids
             self.active.append(name)
 
     def turn(self, back, on):
@@ -187,6 +215,7 @@ class Replies(http.server.BaseHTTPRequestHandler):
             self.reply(401, "text/html", b"")
             return
         with node.lock:
+            node.posts += 1
             if node.busy:
                 node.busy -= 1
                 status, kind, body = 503, "text/plain", b"Work queue depth exceeded"
