@@ -680,6 +680,10 @@ class ReadyReply(http.server.BaseHTTPRequestHandler):
         pass
 
 
+TRUSTING = ssl.SSLContext(ssl.PROTOCOL_TLS_CLIENT)
+TRUSTING.check_hostname, TRUSTING.verify_mode = False, ssl.CERT_NONE
+
+
 class Proxy:
     """HAProxy in front of two replicas, as haproxy.cfg has it."""
 
@@ -726,10 +730,8 @@ class Proxy:
 
     def link(self):
         """A link by TLS."""
-        trusting = ssl.create_default_context()
-        trusting.check_hostname, trusting.verify_mode = False, ssl.CERT_NONE
         port = port_of(self.address)
-        return http.client.HTTPSConnection("127.0.0.1", port, timeout=SECONDS, context=trusting)
+        return http.client.HTTPSConnection("127.0.0.1", port, timeout=SECONDS, context=TRUSTING)
 
     def ask(self, *requests):
         """The replies to requests on one link: status, head and body of each."""
@@ -747,19 +749,23 @@ class Proxy:
         except (OSError, http.client.HTTPException):
             return None
 
-    def storm(self, clients, requests, path="/status"):
+    def storm(self, clients, requests, path="/status", bodies=None):
         """The bodies that so many clients get, each by so many requests on one link."""
-        bodies, begin = [], threading.Barrier(clients)
+        bodies, begin = [] if bodies is None else bodies, threading.Barrier(clients)
 
         def client(_):
+            link = self.link()
             begin.wait()
-            return [reply for reply in self.ask(*[("GET", path)] * requests)]
+            for _ in range(requests):
+                link.request("GET", path)
+                reply = link.getresponse()
+                body = reply.read()
+                demand(reply.status == 200, f"{path} was answered by {reply.status}")
+                bodies.append(body)
+            link.close()
 
         with concurrent.futures.ThreadPoolExecutor(clients) as pool:
-            for replies in pool.map(client, range(clients)):
-                for status, _, body in replies:
-                    demand(status == 200, f"{path} was answered by {status}")
-                    bodies.append(body)
+            list(pool.map(client, range(clients)))
         demand(len(bodies) == clients * requests, f"{len(bodies)} replies came")
         return bodies
 
@@ -857,9 +863,11 @@ def failover(desk):
     # a client stays with one replica, so each of them is killed once
     for served in (one, two):
         with concurrent.futures.ThreadPoolExecutor(1) as pool:
-            storm = pool.submit(proxy.storm, 40, 25)
-            time.sleep(0.3)
+            bodies = []
+            storm = pool.submit(proxy.storm, 40, 25, "/status", bodies)
+            wait_for(lambda: len(bodies) >= 100, "a hundred replies")
             served.kill()
+            demand(len(bodies) < 1000, "it was killed too late")
             storm.result()
         served.start()
         time.sleep(2.5)
