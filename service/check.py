@@ -871,9 +871,12 @@ def failover(desk):
             storm.result()
         served.start()
         time.sleep(2.5)
-    for ready in proxy.ready:
-        ready.status = 503
-    time.sleep(2.5)
+    with concurrent.futures.ThreadPoolExecutor(1) as pool:
+        storm = pool.submit(proxy.storm, 100, 100)
+        for ready in proxy.ready:
+            ready.status = 503
+        time.sleep(2.5)
+        storm.result()
     demand(proxy.status() == 200, "where none is at the tip nobody answers")
 
 
