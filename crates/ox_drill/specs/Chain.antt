@@ -1,6 +1,6 @@
 -- A chain of made blocks, the commands by which it is connected, taken back a little and connected
 -- again, and where commands lead that are all accepted.
-use Rattle.std.specs.Prelude.{◌≡◌, ℕ, zero, suc, ◌-◌, min, List, [], ◌∷◌, ◌++◌, map, drop}
+use Rattle.std.specs.Prelude.{◌≡◌, ℕ, zero, suc, ◌+◌, ◌-◌, min, List, [], ◌∷◌, ◌++◌, map, drop}
 use Rattle.std.specs.Prelude.{replicate, Ok}
 use Rattle.ox_feed.specs.declared.command.Command.{Command}
 use Rattle.ox_feed.specs.declared.command.Command.TheVariants.{Connect, Disconnect}
@@ -29,6 +29,12 @@ drill_block (suc height) =
 unfoldable pub drill_chain : ℕ → List (List ℕ)
 drill_chain zero = []
 drill_chain (suc height) = drill_chain height ++ spell (drill_block height) ∷ []
+
+-- the bytes of so many from a height on
+unfoldable pub blocks_from : ℕ → ℕ → List (List ℕ)
+blocks_from height zero = []
+blocks_from height (suc more) =
+    blocks_from height more ++ spell (drill_block (height + more)) ∷ []
 
 -- the commands that connect these blocks
 abbrev pub connects : List (List ℕ) → List Command
