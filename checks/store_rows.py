@@ -750,4 +750,5 @@ def main():
     write_rows("ox_store_rows", rows.stdin, rows.stdout)
 
 
-main()
+if __name__ == "__main__":
+    main()

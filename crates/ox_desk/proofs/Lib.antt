@@ -1,4 +1,8 @@
+pub mod Answering
 pub mod Bodies
+pub mod Cached
+pub mod Closing
+pub mod Commanded
 pub mod Escapes
 pub mod Machines
 pub mod Refusals

@@ -1,5 +1,7 @@
 pub mod Asked
 pub mod Commands
+pub mod Desk
+pub mod DeskLaws
 pub mod Plain
 pub mod Replies
 pub mod Servers

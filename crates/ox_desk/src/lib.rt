@@ -1,13 +1,18 @@
-//! What a server answers: which requests are commands, and what each request is replied.
+//! What a server answers, and the desk that answers so from a store and the replies that are kept of
+//! it.
 #![tactic(auto)]
 
+mod carry;
 mod command;
+mod desk;
 mod laws;
 mod newest;
 mod plain;
 mod refused;
+mod told;
 
 pub use command::command_of;
+pub use desk::StoreDesk;
 pub use laws::{
     doors_answer_alike, machines_serve_as_their_stacks, nothing_is_left_unsaid,
     refusals_are_told_alike, replies_are_whole,

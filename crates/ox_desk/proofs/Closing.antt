@@ -1,0 +1,85 @@
+-- The reply to a GET depends on its path and `close` alone, and on the latter as it is told.
+use Rattle.std.proofs.Common.{◌≡◌, ◌∙◌, Bool, true, false, cond, not, List, ℕ, Option, Some, None, refl, sym, ap, unwrap_or}
+use Rattle.std.specs.Option.{option_and_then, option_map}
+use Rattle.ox_http.specs.declared.Method.{Method}
+use Rattle.ox_http.specs.declared.Method.TheVariants.{Get}
+use Rattle.ox_http.specs.declared.Reply.{Reply}
+use Rattle.ox_http.specs.declared.Request.{Request}
+use Rattle.ox_routes.specs.declared.route.Route.{Route}
+use Rattle.ox_routes.specs.declared.route.Route.TheVariants.{Audit, BlockHash, Connect, Content, Disconnect, Inscription, Inscriptions, Output, Rune, Runes, Sat, Status}
+use Rattle.ox_routes.specs.Table.{row_of, route_and_part}
+use Rattle.serde_json.specs.Data.{Data}
+use Rattle.ox_ask.specs.Ask.{error_reply, named_reply, path_reply, reply_of, same_method, tree_at, tree_reply}
+use Rattle.ox_ask.specs.Content.{body_reply, shown_reply}
+use Rattle.ox_ask.specs.Trees.{Asked}
+use Rattle.ox_cache.specs.Kept.{closing}
+use Rattle.ox_desk.specs.Desk.{get_of}
+
+-- ---- what is replied, with another `close`
+
+mapped : {X : Type 0} (f g : X → Reply) (close : Bool) (o : Option X) → ((x : X) → closing close (f x) ≡ g x) → option_map (closing close) (option_map f o) ≡ option_map g o
+mapped f g close None same = refl
+mapped f g close (Some x) same = ap Some (same x)
+
+chosen : {X : Type 0} (f g : X → Option Reply) (close : Bool) (o : Option X) → ((x : X) → option_map (closing close) (f x) ≡ g x) → option_map (closing close) (option_and_then f o) ≡ option_and_then g o
+chosen f g close None same = refl
+chosen f g close (Some x) same = same x
+
+trees : (a b : Bool) (tree : Option Data) → option_map (closing b) (option_map (λ t. tree_reply 200 t a) tree) ≡ option_map (λ t. tree_reply 200 t b) tree
+trees a b tree = mapped (λ t. tree_reply 200 t a) (λ t. tree_reply 200 t b) b tree (λ t. refl)
+
+named : (asked : Asked) (route : Route) (part : List ℕ) (a b : Bool) → option_map (closing b) (named_reply asked route part a) ≡ named_reply asked route part b
+named asked Content part a b =
+    chosen (shown_reply a) (shown_reply b) b _ (λ row. mapped (body_reply a row) (body_reply b row) b row.body (λ body. refl))
+named asked Audit part a b = trees a b (tree_at asked Audit part)
+named asked BlockHash part a b = trees a b (tree_at asked BlockHash part)
+named asked Connect part a b = trees a b (tree_at asked Connect part)
+named asked Disconnect part a b = trees a b (tree_at asked Disconnect part)
+named asked Inscription part a b = trees a b (tree_at asked Inscription part)
+named asked Inscriptions part a b = trees a b (tree_at asked Inscriptions part)
+named asked Output part a b = trees a b (tree_at asked Output part)
+named asked Rune part a b = trees a b (tree_at asked Rune part)
+named asked Runes part a b = trees a b (tree_at asked Runes part)
+named asked Sat part a b = trees a b (tree_at asked Sat part)
+named asked Status part a b = trees a b (tree_at asked Status part)
+
+or_error : (o p : Option Reply) (a b : Bool) → option_map (closing b) o ≡ p → closing b (unwrap_or o (error_reply 404 a)) ≡ unwrap_or p (error_reply 404 b)
+or_error None p a b is = ap (λ (q : Option Reply). unwrap_or q (error_reply 404 b)) is
+or_error (Some reply) p a b is = ap (λ (q : Option Reply). unwrap_or q (error_reply 404 b)) is
+
+either : (test : Bool) (close : Bool) (x y u v : Reply) → closing close x ≡ u → closing close y ≡ v → closing close (cond test x y) ≡ cond test u v
+either true close x y u v first second = first
+either false close x y u v first second = second
+
+taken : (asked : Asked) (path body : List ℕ) (a b : Bool) (at : Option (Route × List ℕ))
+    → closing b (path_reply asked (record { method = Get; path = path; body = body; close = a }) at) ≡ path_reply asked (get_of path b) at
+taken asked path body a b None = refl
+taken asked path body a b (Some at) =
+    either (not (same_method Get (row_of at.0).method)) b _ _ _ _ refl
+    (or_error (named_reply asked at.0 at.1 a) (named_reply asked at.0 at.1 b) a b (named asked at.0 at.1 a b))
+
+get_closes : (asked : Asked) (path body : List ℕ) (a b : Bool) → closing b (reply_of asked (record { method = Get; path = path; body = body; close = a })) ≡ reply_of asked (get_of path b)
+unfolding reply_of
+get_closes asked path body a b = taken asked path body a b (route_and_part path)
+
+-- of a request
+pub closes : (asked : Asked) (request : Request) (close : Bool) → request.method ≡ Get → closing close (reply_of asked request) ≡ reply_of asked (get_of request.path close)
+closes asked request close get =
+    ap (λ (m : Method). closing close (reply_of asked (record { method = m; path = request.path; body = request.body; close = request.close }))) get
+    ∙ get_closes asked request.path request.body request.close close
+
+-- a body changes nothing
+own_taken : (asked : Asked) (path body : List ℕ) (close : Bool) (at : Option (Route × List ℕ))
+    → path_reply asked (get_of path close) at ≡ path_reply asked (record { method = Get; path = path; body = body; close = close }) at
+own_taken asked path body close None = refl
+own_taken asked path body close (Some at) = refl
+
+own_get : (asked : Asked) (path body : List ℕ) (close : Bool) → reply_of asked (get_of path close) ≡ reply_of asked (record { method = Get; path = path; body = body; close = close })
+unfolding reply_of
+own_get asked path body close = own_taken asked path body close (route_and_part path)
+
+-- with its own `close`
+pub closes_own : (asked : Asked) (request : Request) → request.method ≡ Get → reply_of asked (get_of request.path request.close) ≡ reply_of asked request
+closes_own asked request get =
+    own_get asked request.path request.body request.close
+    ∙ ap (λ (m : Method). reply_of asked (record { method = m; path = request.path; body = request.body; close = request.close })) (sym get)

@@ -1,0 +1,76 @@
+//! Replies to requests that carry out nothing.
+
+ghost use Rattle.std.specs.Prelude.{◌≡◌, ◌-◌, ◌<◌, ◌^◌, IfOk, OnErr};
+ghost use Rattle.ox_http.specs.Written.{written};
+ghost use Rattle.ox_http.specs.declared.Method.TheVariants as methods;
+ghost use Rattle.ox_ask.specs.Ask.{reply_of};
+ghost use Rattle.ox_desk.specs.Asked.{asked_on};
+ghost use Rattle.ox_desk.specs.Desk.{KeepsTrue, LooksUp};
+
+use ox_bytes::{Bytes, Memory};
+use ox_cache::Cache;
+use ox_feed::Command;
+use ox_http::{Reply, Request, write_reply};
+use ox_query::answer_by;
+use ox_routes::Routes;
+use ox_store::Store;
+use std::alloc::Global;
+
+/// What is made of a request without the site.
+#[derive(Drop)]
+pub(crate) enum Step {
+    /// The bytes of the reply.
+    Told(Bytes),
+    /// The request's command, which isn't carried out yet.
+    Carries(Command),
+}
+
+// The reply of a store's stack.
+fn reply_to(
+    alloc: Global,
+    routes: &Routes,
+    store: &Store,
+    request: &Request,
+) -> Result<Reply, Memory>
+    ensures { IfOk result (λ reply. reply ≡ reply_of (asked_on store.now.stack) request.now) }
+{
+    answer_by(alloc, routes, store.live(), &store.about(), request)
+}
+
+/// The bytes of a reply that isn't kept. `Memory` where there is none for it.
+pub(crate) fn tell(
+    alloc: Global,
+    routes: &Routes,
+    store: &Store,
+    request: &Request,
+) -> Result<Bytes, Memory>
+    ensures { IfOk result (λ bytes.
+        bytes ≡ written (reply_of (asked_on store.now.stack) request.now)) }
+{
+    let reply = reply_to(alloc, routes, store, request)?;
+    write_reply(alloc, &reply)
+}
+
+/// The bytes of the reply to a GET: of the reply that is kept, and else of one that is made, and
+/// then kept. `Memory` where there is none for it: nothing has changed then.
+pub(crate) fn look_up(
+    alloc: Global,
+    routes: &Routes,
+    store: &Store,
+    cache: &mut Cache,
+    request: &Request,
+) -> Result<Bytes, Memory>
+    requires get { request.now.method ≡ methods.Get }
+    requires keeps { KeepsTrue store.now.stack store.now.commands cache.old }
+    requires few { cache.old.hits < 2 ^ 64 - 1 }
+    ensures ok { IfOk result (λ bytes. LooksUp store.now.stack store.now.commands request.now
+        cache.old bytes cache.new) }
+    ensures err { OnErr result (cache.new ≡ cache.old) }
+{
+    cache.answer(
+        store.commands(),
+        request.path.as_slice(),
+        request.close,
+        || reply_to(alloc, routes, store, request),
+    )
+}
