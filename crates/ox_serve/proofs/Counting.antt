@@ -8,17 +8,13 @@ use Rattle.ox_http.specs.declared.Method.{Method}
 use Rattle.ox_http.specs.declared.Method.TheVariants.{Get}
 use Rattle.ox_http.specs.declared.Request.{Request}
 use Rattle.ox_http.specs.Talk.{Message, asks, faults}
-use Rattle.ox_links.specs.Counted.{Key, Tally, is_request, no_tally, requests_in, tally_after, with_answer_to, with_get, with_request}
+use Rattle.ox_links.specs.Counted.{Key, Tally, is_request, no_tally, requests_in, tally_after, with_answer_to, with_request}
 use Rattle.ox_links.specs.Link.{Answer, Written}
 use Rattle.ox_links.specs.Serving.{Server, message_command, message_reply, next_state, one_if, served_by}
+use Rattle.ox_desk.specs.Desk.{tally_by}
 use Rattle.ox_serve.specs.Led.{ByMessage, Led}
 use Rattle.ox_serve.specs.Runs.{MadeTurns, Served}
 use Rattle.ox_serve.proofs.Leading.{many_after}
-
--- a tally behind a request, of which only a GET is counted
-abbrev pub tally_by : Method → Key → ℕ → Tally → Tally
-tally_by Get key size tally = with_get key size tally
-tally_by method key size tally = tally
 
 abbrev key_at : ℕ → List ℕ → Key
 key_at accepted path = record { accepted = accepted; path = path }

@@ -1,11 +1,14 @@
 -- What a run of a server's turns comes to, over any desk.
-use Rattle.std.specs.Prelude.{◌≡◌, ℕ, Bool, List}
+use Rattle.std.specs.Prelude.{◌≡◌, ℕ, Bool, List, Ok}
 use Rattle.ox_outside.specs.Counts.{Counts}
 use Rattle.ox_outside.specs.Event.{Event}
+use Rattle.ox_outside.specs.Files.{Files}
 use Rattle.ox_http.specs.declared.Request.{Request}
 use Rattle.ox_links.specs.Counted.{hits_in, requests_in}
 use Rattle.ox_links.specs.Serving.{Server, served_by}
 use Rattle.ox_links.specs.Turned.{Turned}
+use Rattle.ox_model.specs.Stack.{Stack}
+use Rattle.ox_files.specs.Stands.{stands}
 use Rattle.ox_serve.specs.Led.{Led}
 
 -- So many turns were made, with these counts before and after them, and the desk went from one to
@@ -22,3 +25,7 @@ pub record Served {X C : Type 0} (server : Server X C) (first : X) (n : ℕ) (ol
   pub turned : Turned server first n old new events
   pub requests_counted : requests ≡ requests_in (served_by server first events).answers
   pub hits_counted : hits ≡ hits_in (served_by server first events).answers
+
+-- files stand for a stack
+abbrev pub StandFor : Files → Stack → Type 0
+StandFor files stack = stands files ≡ Ok stack
