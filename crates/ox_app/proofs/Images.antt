@@ -122,7 +122,7 @@ module _ {S : Type 0} (means : Meanings S) where
 -- ---- files that are opened
 
 -- files that stand for a stack are no misfit, so nothing is said of them
-no_misfit : (standing : Result Stack Misfit) (stack : Stack) (fault : OpenFault) (events : List Event) → standing ≡ Ok stack → IsMisfit standing fault → LogsUnopened fault events → events ≡ []
+pub no_misfit : (standing : Result Stack Misfit) (stack : Stack) (fault : OpenFault) (events : List Event) → standing ≡ Ok stack → IsMisfit standing fault → LogsUnopened fault events → events ≡ []
 no_misfit standing stack (opens.NotStore file at) events is misfit logs = cc (sym is ∙ misfit)
 no_misfit standing stack opens.DiskFault events is misfit logs = logs
 no_misfit standing stack opens.Memory events is misfit logs = logs

@@ -7,6 +7,7 @@ pub mod FreshIndexing
 pub mod Images
 pub mod Pieces
 pub mod Prefixes
+pub mod Serving
 pub mod Settled
 pub mod Stops
 pub mod Subcommands

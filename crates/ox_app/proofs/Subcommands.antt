@@ -4,7 +4,7 @@ use Rattle.std.specs.Str.Parse.{digits_value}
 use Rattle.std.specs.Str.{IsUtf8}
 use Rattle.std.proofs.lemmas.Fmt.{IsAscii-decimal, decimal_is_IsNumeral}
 use Rattle.std.proofs.lemmas.Str.{IsUtf8-from_ascii}
-use Rattle.ox_app.specs.Subcommands.{IsDepth}
+use Rattle.ox_app.specs.Subcommands.{IsDepth, IsTurns}
 
 same_one : (a x : List ℕ) → a ≡ x → a ∷ [] ≡ x ∷ []
 same_one a x e = rw e refl
@@ -37,7 +37,7 @@ three_words (a ∷ b ∷ c ∷ d ∷ words) row word last x y z low high r w l f
 
 -- ---- depths
 
-same_number : (m n : ℕ) → m < 2 ^ 64 → n < 2 ^ 64 → decimal m ≡ decimal n → m ≡ n
+pub same_number : (m n : ℕ) → m < 2 ^ 64 → n < 2 ^ 64 → decimal m ≡ decimal n → m ≡ n
 same_number m n few few' is = sym (decimal_is_IsNumeral m few).1 ∙ ap (digits_value 10) is ∙ (decimal_is_IsNumeral n few').1
 
 pub same_depth : (m n : ℕ) → IsDepth m → IsDepth n → decimal m ≡ decimal n → m ≡ n
@@ -51,3 +51,14 @@ no_depth number text few is isnt depth fits written =
 -- a depth is written as text
 pub depth_text : (depth : ℕ) (word : List ℕ) → IsDepth depth → word ≡ decimal depth → IsUtf8 word
 depth_text depth word fits written = subst IsUtf8 (sym written) (IsUtf8-from_ascii (decimal depth) (IsAscii-decimal depth (omega (arith, fits.few))))
+
+-- ---- numbers of turns
+
+-- a number that is none of turns isn't written as one
+pub no_turns : (number : ℕ) (text : List ℕ) → number < 2 ^ 64 → text ≡ decimal number → (IsTurns number → ⊥) → (turns : ℕ) → IsTurns turns → text ≢ decimal turns
+no_turns number text few is isnt turns fits written =
+    isnt (subst IsTurns (sym (same_number number turns few (omega (arith, fits.few)) (sym is ∙ written))) fits)
+
+-- a number of turns is written as text
+pub turns_text : (turns : ℕ) (word : List ℕ) → IsTurns turns → word ≡ decimal turns → IsUtf8 word
+turns_text turns word fits written = subst IsUtf8 (sym written) (IsUtf8-from_ascii (decimal turns) (IsAscii-decimal turns (omega (arith, fits.few))))

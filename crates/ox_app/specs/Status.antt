@@ -3,7 +3,9 @@ use Rattle.std.specs.Prelude.{◌≡◌, ◌⊎◌, ℕ, Result, Ok, Err}
 use Rattle.ox_app.specs.declared.status.Status.{Status}
 use Rattle.ox_app.specs.declared.status.Status.TheVariants.{Done, Usage, NotEmpty, NotStore}
 use Rattle.ox_app.specs.declared.status.Status.TheVariants.{DiskFault, HearFault, ShowFault}
-use Rattle.ox_app.specs.declared.status.Status.TheVariants.{Memory, TooMuch}
+use Rattle.ox_app.specs.declared.status.Status.TheVariants.{DoorFault, Memory, TooMuch}
+use Rattle.ox_serve.specs.declared.fault.ServeFault.{ServeFault}
+use Rattle.ox_serve.specs.declared.fault.ServeFault.TheVariants as serves
 use Rattle.ox_app.specs.declared.stop.Stop.{Stop}
 use Rattle.ox_app.specs.declared.stop.Stop.TheVariants as stops
 
@@ -16,6 +18,7 @@ code_of NotStore = 3
 code_of DiskFault = 4
 code_of HearFault = 5
 code_of ShowFault = 6
+code_of DoorFault = 7
 code_of Memory = 8
 code_of TooMuch = 9
 
@@ -27,6 +30,12 @@ status_of (Err stops.HearFault) = HearFault
 status_of (Err stops.ShowFault) = ShowFault
 status_of (Err stops.Memory) = Memory
 status_of (Err stops.TooMuch) = TooMuch
+
+-- how a server ends whose turns a fault ended
+abbrev pub fault_status : ServeFault → Status
+fault_status serves.DiskFault = DiskFault
+fault_status serves.DoorFault = DoorFault
+fault_status serves.Memory = Memory
 
 -- how `fold` may end
 abbrev pub IsFoldStatus : Status → Type 0
@@ -51,6 +60,12 @@ abbrev pub IsQueryStatus : Status → Type 0
 IsQueryStatus status =
     (status ≡ Done) ⊎ (status ≡ NotStore) ⊎ (status ≡ DiskFault) ⊎ (status ≡ ShowFault)
     ⊎ (status ≡ Memory)
+
+-- how `serve` may end
+abbrev pub IsServeStatus : Status → Type 0
+IsServeStatus status =
+    (status ≡ Done) ⊎ (status ≡ NotStore) ⊎ (status ≡ DiskFault) ⊎ (status ≡ ShowFault)
+    ⊎ (status ≡ DoorFault) ⊎ (status ≡ Memory)
 
 -- how a run may end that doesn't open its files
 abbrev pub IsUnopened : Status → Type 0

@@ -1,10 +1,11 @@
 -- The words of the program, subcommand by subcommand.
 use Rattle.std.specs.Prelude.{◌≡◌, ◌≢◌, ◌⊎◌, ℕ, ◌≤◌, List, [], ◌∷◌, codes, decimal}
+use Rattle.ox_outside.specs.Counts.{greatest}
 use Rattle.ox_sat.specs.Profiles.{profile_word}
 use Rattle.ox_sat.specs.declared.profiles.ProfileName.{ProfileName}
 use Rattle.ox_app.specs.declared.subcommand.Subcommand.{Subcommand}
 use Rattle.ox_app.specs.declared.subcommand.Subcommand.TheVariants.{Fold, Init, Apply, Query}
-use Rattle.ox_app.specs.declared.subcommand.Subcommand.TheVariants.{Unknown}
+use Rattle.ox_app.specs.declared.subcommand.Subcommand.TheVariants.{Serve, Unknown}
 
 -- a run over a feed, by its profile
 abbrev pub fold_words : ProfileName → List (List ℕ)
@@ -22,10 +23,19 @@ apply_words = codes "apply" ∷ []
 abbrev pub query_words : List ℕ → List (List ℕ)
 query_words path = codes "query" ∷ path ∷ []
 
+-- so many turns of a server
+abbrev pub serve_words : ℕ → List (List ℕ)
+serve_words turns = codes "serve" ∷ decimal turns ∷ []
+
 -- how many blocks a store may keep
 pub record IsDepth (depth : ℕ) : Type 0 where
   pub some : 1 ≤ depth
   pub few : depth ≤ 1000
+
+-- how many turns a server may make
+pub record IsTurns (turns : ℕ) : Type 0 where
+  pub some : 1 ≤ turns
+  pub few : turns ≤ greatest
 
 -- the words are no subcommand
 pub record IsUnknown (words : List (List ℕ)) : Type 0 where
@@ -33,6 +43,7 @@ pub record IsUnknown (words : List (List ℕ)) : Type 0 where
   pub no_init : (name : ProfileName) (depth : ℕ) → IsDepth depth → words ≢ init_words name depth
   pub no_apply : words ≢ apply_words
   pub no_query : (path : List ℕ) → words ≢ query_words path
+  pub no_serve : (turns : ℕ) → IsTurns turns → words ≢ serve_words turns
 
 -- the words are this subcommand
 abbrev pub IsSubcommand : List (List ℕ) → Subcommand → Type 0
@@ -40,11 +51,14 @@ IsSubcommand words (Fold name) = words ≡ fold_words name
 IsSubcommand words (Init name depth) = IsDepth depth × (words ≡ init_words name depth)
 IsSubcommand words Apply = words ≡ apply_words
 IsSubcommand words (Query path) = words ≡ query_words path.now
+IsSubcommand words (Serve turns) = IsTurns turns × (words ≡ serve_words turns)
 IsSubcommand words Unknown = IsUnknown words
 
 -- the words of a run that opens files
 abbrev pub IsOpening : List (List ℕ) → Type 0
-IsOpening words = (words ≡ apply_words) ⊎ ((path : List ℕ) × (words ≡ query_words path))
+IsOpening words =
+    (words ≡ apply_words) ⊎ ((path : List ℕ) × (words ≡ query_words path))
+    ⊎ ((turns : ℕ) × IsTurns turns × (words ≡ serve_words turns))
 
 -- the words of a run that writes no file
 abbrev pub IsReading : List (List ℕ) → Type 0

@@ -9,6 +9,7 @@ mod init;
 mod line;
 mod program;
 mod query;
+mod serve;
 mod show;
 mod status;
 mod stop;

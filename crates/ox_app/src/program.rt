@@ -14,12 +14,15 @@ ghost use Rattle.ox_app.specs.Headline.{StandsForNone, StopsAtLine, SurvivesCras
 ghost use Rattle.ox_app.specs.Init.{IsMade, MakesFirst, made_line, not_empty_line};
 ghost use Rattle.ox_outside.specs.Runs.{Calls};
 ghost use Rattle.ox_app.specs.Query.{query_body};
+ghost use Rattle.ox_app.specs.Serve.{AnswersLinks, DoorFails, SurvivesServing};
 ghost use Rattle.ox_app.specs.Show.{DiskFails, EndsAtFault, EndsDone, HearFails, Says};
 ghost use Rattle.ox_app.specs.Show.{ShowFails, ShowsText, usage_line};
 ghost use Rattle.ox_app.specs.Status.{IsApplyStatus, IsDone, IsFoldStatus, IsInitStatus};
-ghost use Rattle.ox_app.specs.Status.{IsQueryStatus, IsRefusal, IsSparing, IsUnopened};
-ghost use Rattle.ox_app.specs.Subcommands.{IsDepth, IsOpening, IsReading, IsUnknown, apply_words};
-ghost use Rattle.ox_app.specs.Subcommands.{fold_words, init_words, query_words};
+ghost use Rattle.ox_app.specs.Status.{IsQueryStatus, IsRefusal, IsServeStatus, IsSparing};
+ghost use Rattle.ox_app.specs.Status.{IsUnopened};
+ghost use Rattle.ox_app.specs.Subcommands.{IsDepth, IsOpening, IsReading, IsTurns, IsUnknown};
+ghost use Rattle.ox_app.specs.Subcommands.{apply_words, fold_words, init_words, query_words};
+ghost use Rattle.ox_app.specs.Subcommands.{serve_words};
 ghost use Rattle.ox_app.specs.Unopened.{SaysNotStore};
 ghost use Rattle.ox_app.specs.declared.status.Status.TheVariants as ends;
 
@@ -27,6 +30,7 @@ use crate::apply::apply;
 use crate::fold::fold;
 use crate::init::init;
 use crate::query::query;
+use crate::serve::serve;
 use crate::show::say;
 use crate::status::Status;
 use crate::stop::status;
@@ -47,6 +51,8 @@ use std::alloc::Global;
 /// | | by one, once its record is on the disk. |
 /// | `query <path>` | Opens the store and shows the body of the reply to a GET of that path, with |
 /// | | nothing added. |
+/// | `serve <turns>` | Opens the store, makes so many turns of a server, and shows what it |
+/// | | counted: `requests <n> hits <m>`. From 1 to 18,446,744,073,709,551,615 turns. |
 /// | `fold <profile>` | As `apply`, from no block on and without files. |
 ///
 /// The profile is `mainnet`, `regtest` or `lab`, and a number has decimal digits with no sign and
@@ -54,8 +60,8 @@ use std::alloc::Global;
 ///
 /// | Status | Comes | Shown |
 /// |---|---|---|
-/// | `Done` | where channel 0 was read to its end and each line answered, or the line or body | |
-/// | | was shown | |
+/// | `Done` | where channel 0 was read to its end and each line answered, the line or body was | |
+/// | | shown, or all turns were made and what was counted was shown | |
 /// | `Usage` | exactly where the words are no subcommand | `usage` |
 /// | `NotEmpty` | of `init`, exactly where a file isn't empty | `not empty` |
 /// | `NotStore` | exactly where the files are no store | `not a store`, the file's letter and the |
@@ -63,11 +69,14 @@ use std::alloc::Global;
 /// | `DiskFault` | only where a call on a file failed in this run | nothing further |
 /// | `HearFault` | only where hearing on channel 0 failed in this run | nothing further |
 /// | `ShowFault` | only where showing on channel 0 failed in this run | nothing further |
+/// | `DoorFault` | of `serve`, only where a call on a door failed in this run | nothing further |
 /// | `Memory` | where there is no memory | nothing further |
 /// | `TooMuch` | exactly where 4,611,686,018,427,387,904 bytes were heard and channel 0 | nothing |
 /// | | hasn't ended | further |
 ///
-/// From `DiskFault` on a status ends the run at once. If showing the line of `Usage`, `NotEmpty` or
+/// From `DiskFault` on a status ends the run at once. A link's fault ends that link alone, and in
+/// `serve` a command that meets want of memory is answered 503 and changes nothing; `Memory` comes
+/// before the first turn. If showing the line of `Usage`, `NotEmpty` or
 /// `NotStore` fails, the status stays. In `apply`, `Memory` leaves the line at which memory ran out
 /// undone.
 pub fn run<S: Site>(alloc: Global, words: &[Bytes], site: &mut S) -> Status
@@ -160,7 +169,29 @@ pub fn run<S: Site>(alloc: Global, words: &[Bytes], site: &mut S) -> Status
         → ¬ DiskFails S.Site site.old site.new → ¬ ShowFails S.Site site.old site.new
         → IsDone result }
 
-    // ---- `apply` and `query` on files that stand for no stack
+    // ---- `serve`, on files that stand for a machine's stack
+
+    // Each link is shown a front of its answers, each by fresh indexing of the blocks that the
+    // commands before it chose; all turns are made and counted, unless a fault ends them.
+    ensures serves { (turns : ℕ) → IsTurns turns → words.now ≡ serve_words turns
+        → (machine : Machine) → StandsFor S.Site site.old (stack_of machine)
+        → (result ≢ ends.NotStore) × AnswersLinks S.Site machine turns result site.old site.new }
+    // Whatever the links do and at whatever moment the run stops: the files stand for where the
+    // commands led, all of them or all but one; no byte was shown of an answer behind more.
+    ensures serve_survives { (turns : ℕ) → IsTurns turns → words.now ≡ serve_words turns
+        → (machine : Machine) → StandsFor S.Site site.old (stack_of machine)
+        → SurvivesServing S.Site machine site.old site.new }
+    ensures serve_memory { (turns : ℕ) → IsTurns turns → words.now ≡ serve_words turns
+        → result ≡ ends.Memory → S.log site.new ≡ S.log site.old }
+    ensures serve_status { (turns : ℕ) → IsTurns turns → words.now ≡ serve_words turns
+        → IsServeStatus result }
+    ensures serve_completes { (turns : ℕ) → IsTurns turns → words.now ≡ serve_words turns
+        → (machine : Machine) → StandsFor S.Site site.old (stack_of machine)
+        → ¬ DiskFails S.Site site.old site.new → ¬ DoorFails S.Site site.old site.new
+        → ¬ ShowFails S.Site site.old site.new → IsDone result }
+    ensures door_fault { result ≡ ends.DoorFault → DoorFails S.Site site.old site.new }
+
+    // ---- `apply`, `query` and `serve` on files that stand for no stack
 
     // The first test that fails is shown, and nothing else; and the files are spared.
     ensures unopened { IsOpening words.now → (misfit : Misfit)
@@ -194,6 +225,7 @@ pub fn run<S: Site>(alloc: Global, words: &[Bytes], site: &mut S) -> Status
         Subcommand::Init(name, depth) => init(alloc, site, name, depth),
         Subcommand::Apply => apply(alloc, site),
         Subcommand::Query(path) => query(alloc, site, path),
+        Subcommand::Serve(turns) => serve(alloc, site, turns),
         Subcommand::Unknown => {
             say(site, b"usage\n");
             Status::Usage

@@ -6,7 +6,8 @@ ghost use Rattle.ox_app.specs.Status.{code_of};
 /// How a run ended.
 #[derive(Clone, Copy, Debug, PartialEq, Eq)]
 pub enum Status {
-    /// Channel 0 was read to its end and each line was answered, or the line or body was shown.
+    /// Channel 0 was read to its end and each line was answered, the line or body was shown, or all
+    /// turns were made and what was counted was shown.
     Done,
     /// The words are no subcommand.
     Usage,
@@ -20,6 +21,8 @@ pub enum Status {
     HearFault,
     /// Showing on channel 0 failed.
     ShowFault,
+    /// A call on a door failed.
+    DoorFault,
     /// There is no memory.
     Memory,
     /// As many bytes were heard as a feed may have, and channel 0 hasn't ended.
@@ -27,7 +30,7 @@ pub enum Status {
 }
 
 impl Status {
-    /// The exit status of the process: 0 to 6, 8 and 9, in the order above.
+    /// The exit status of the process: 0 to 9, in the order above.
     pub fn code(self) -> u8
         ensures { result ≡ code_of self }
     {
@@ -39,6 +42,7 @@ impl Status {
             Status::DiskFault => 4,
             Status::HearFault => 5,
             Status::ShowFault => 6,
+            Status::DoorFault => 7,
             Status::Memory => 8,
             Status::TooMuch => 9,
         }

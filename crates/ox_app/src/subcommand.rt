@@ -1,7 +1,7 @@
 //! The subcommands.
 
 ghost use Rattle.std.specs.Prelude.{◌≡◌, ◌≢◌, ℕ, IfSome, IfNone, decimal};
-ghost use Rattle.ox_app.specs.Subcommands.{IsDepth, IsSubcommand};
+ghost use Rattle.ox_app.specs.Subcommands.{IsDepth, IsSubcommand, IsTurns};
 
 use ox_bytes::Bytes;
 use ox_sat::{ProfileName, read_number};
@@ -17,6 +17,8 @@ pub enum Subcommand<'a> {
     Apply,
     /// A query of a path.
     Query(&'a [u8]),
+    /// So many turns of a server.
+    Serve(u64),
     /// The words are no subcommand.
     Unknown,
 }
@@ -43,6 +45,29 @@ fn depth_in(word: &[u8]) -> Option<u16>
     }
 }
 
+// The number of turns that a text writes.
+fn read_turns(text: &str) -> Option<u64>
+    ensures found { IfSome result (λ turns. IsTurns turns × (text.now ≡ decimal turns)) }
+    ensures only { IfNone result ((turns : ℕ) → IsTurns turns → text.now ≢ decimal turns) }
+{
+    match read_number(text) {
+        Some(number) if 1 <= number => Some(number),
+        _ => None,
+    }
+}
+
+// The number of turns that a word writes: decimal digits with no sign and no leading zero, from 1 to
+// 18,446,744,073,709,551,615.
+fn turns_in(word: &[u8]) -> Option<u64>
+    ensures found { IfSome result (λ turns. IsTurns turns × (word.now ≡ decimal turns)) }
+    ensures only { IfNone result ((turns : ℕ) → IsTurns turns → word.now ≢ decimal turns) }
+{
+    match str::from_utf8(word) {
+        Ok(text) => read_turns(text),
+        Err(_) => None,
+    }
+}
+
 /// The subcommand that words are.
 pub fn subcommand_of(words: &[Bytes]) -> Subcommand<'_>
     ensures { IsSubcommand words.now result }
@@ -56,6 +81,12 @@ pub fn subcommand_of(words: &[Bytes]) -> Subcommand<'_>
             profile.as_slice(),
         ) {
             Some(name) => Subcommand::Fold(name),
+            None => Subcommand::Unknown,
+        },
+        [first, turns] if first.as_slice() == b"serve".as_slice() => match turns_in(
+            turns.as_slice(),
+        ) {
+            Some(turns) => Subcommand::Serve(turns),
             None => Subcommand::Unknown,
         },
         [first, profile, depth] if first.as_slice() == b"init".as_slice() => {

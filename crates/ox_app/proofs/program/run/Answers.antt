@@ -7,14 +7,17 @@ use Rattle.ox_model.specs.Replies.{replies, replies_on}
 use Rattle.ox_sat.specs.Profiles.{profile_named}
 use Rattle.ox_sat.specs.declared.profiles.Profile.{Profile}
 use Rattle.ox_sat.specs.declared.profiles.ProfileName.{ProfileName}
+use Rattle.ox_desk.specs.Servers.{server_on}
 use Rattle.ox_app.specs.Fold.{fold_depth}
 use Rattle.ox_app.specs.Headline.{RunsFeed, StopsBefore, stack_after}
 use Rattle.ox_app.specs.Init.{MakesFirst}
+use Rattle.ox_app.specs.Serve.{RunsServer}
 use Rattle.ox_app.specs.Show.{DiskFails, EndsAtFault, EndsDone, HearFails, ShowFails}
 use Rattle.ox_app.specs.Status.{status_of}
 use Rattle.ox_app.specs.declared.status.Status.{Status}
 use Rattle.ox_app.proofs.FreshIndexing.{apply_refuses, apply_writes, ends_done, fold_same, grows_alike, grows_stops_alike, init_refuses, init_same, init_writes, leaves_alike, made_same, runs_in_turn}
 use Rattle.ox_outside.proofs.Counts.{no_fault_yet}
+use Rattle.ox_app.proofs.Serving.{grows_of_machine, serve_refuses, serve_writes, serving_of_machine, turns_same}
 use Rattle.ox_app.proofs.Settled.{said_of_each}
 use Rattle.ox_app.proofs.Stops.{said_stops, status_stops}
 use Rattle.ox_app.specs.declared.status.Status.TheVariants as ends
@@ -89,3 +92,21 @@ returns-in-Apply-clause-apply_completes g c words machine opened no_disk no_hear
 
 pub returns-in-Unknown-clause-stops : goal.returns-in-Unknown-clause-stops
 returns-in-Unknown-clause-stops g c = said_stops ends.Usage _ _ _ (inl refl) (no_fault_yet (g.S.Site.counts c.args.site.now)) c.say.ensures.counted
+
+pub returns-in-Serve-clause-serves : goal.returns-in-Serve-clause-serves
+returns-in-Serve-clause-serves g c turns fits words machine opened =
+    let log = g.S.Site.log in
+    let counts = g.S.Site.counts in
+    let same = turns_same c.in-Serve.turns turns c.in-Serve.ensures.0 fits (sym c.in-Serve.ensures.1 ∙ words) in
+    let serves = c.serve.ensures.serves opened.told (stack_of machine) opened.stands_for in
+    (serves.0, grows_of_machine machine turns c.serve.result (counts c.args.site.now) (counts c.serve.new.site) (log c.args.site.now) (log c.serve.new.site)
+    (subst (λ (n : ℕ). Grows (RunsServer server_on (stack_of machine) n c.serve.result (counts c.args.site.now) (counts c.serve.new.site)) (log c.args.site.now) (log c.serve.new.site)) same serves.1))
+
+pub returns-in-Serve-clause-serve_survives : goal.returns-in-Serve-clause-serve_survives
+returns-in-Serve-clause-serve_survives g c turns fits words machine opened =
+    serving_of_machine machine g.S.Site c.args.site.now c.serve.new.site (c.serve.ensures.survives opened.told (stack_of machine) opened.stands_for)
+
+pub returns-in-Serve-clause-no_image : goal.returns-in-Serve-clause-no_image
+returns-in-Serve-clause-no_image g c =
+    ⊎_elim (λ reading. absurd (serve_writes c.args.words.now c.in-Serve.turns c.in-Serve.ensures.1 reading))
+    (λ refuses. c.serve.ensures.no_store (serve_refuses c.serve.result c.serve.ensures.status refuses))

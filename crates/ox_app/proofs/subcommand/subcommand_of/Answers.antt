@@ -27,11 +27,21 @@ returns-in-Some c =
 
 pub returns-in-Some-Some : goal.returns-in-Some-Some
 returns-in-Some-Some c =
-    let first = rw (c.as_slice-then-words-lt4.ensures, c.as_slice-then-words-lt4-2.ensures) at c.if-eq-4.ensures in
+    let first = rw (c.as_slice-then-words-lt4.ensures, c.as_slice-then-words-lt4-2.ensures) at c.if-eq-5.ensures in
     let depth = c.in-Some-Some.ensures'.found in (
       depth.0,
       three_words c.args.words.now c.first-item-then-words-lt4.result c.profile-item-then-words-lt4.result c.depth-item.result
           (codes "init") (profile_word c.in-Some-Some.name) (decimal c.in-Some-Some.depth)
           c.in-len3.len_at_least c.in-len3.len_below c.first-item-then-words-lt4.is c.profile-item-then-words-lt4.is c.depth-item.is
           ((bytes_eq-Decides c.first-item-then-words-lt4.result (codes "init")).0 (sym first)) (sym c.as_slice-in-len3.ensures ∙ c.in-Some-Some.ensures.found) (sym c.as_slice-in-len3-2.ensures ∙ depth.1),
+    )
+
+pub returns-in-Some-turns_in : goal.returns-in-Some-turns_in
+returns-in-Some-turns_in c =
+    let first = rw (c.as_slice-then-words-lt3-5.ensures, c.as_slice-then-words-lt3-6.ensures) at c.if-eq-4.ensures in
+    let turns = c.in-Some-turns_in.ensures.found in (
+      turns.0,
+      two_words c.args.words.now c.first-item-then-words-lt3-3.result c.turns-item.result (codes "serve") (decimal c.in-Some-turns_in.turns)
+          c.in-len2.len_at_least c.in-len2.len_below c.first-item-then-words-lt3-3.is c.turns-item.is
+          ((bytes_eq-Decides c.first-item-then-words-lt3-3.result (codes "serve")).0 (sym first)) (sym c.as_slice-in-len2-3.ensures ∙ turns.1),
     )
