@@ -54,6 +54,7 @@ NEEDS = {
     "query": (["ox_index_rows"], ["query"]),
     "read_block": (["ox_block_rows"], ["read_block"]),
     "runes": (["ox_speed"], ["runes"]),
+    "serve": (["ox_main"], ["serve"]),
     "streams": (["ox_http_rows"], ["http"]),
     "undo": (["ox_main"], ["fold_blocks"]),
 }
@@ -84,6 +85,8 @@ PAGE = [
     "an address read",
     "a head read",
     "a body heard in pieces",
+    "/status served, 1,000 blocks",
+    "/blockhash/0 served, 1,000 blocks",
 ]
 COLUMNS = "script work size unit ox plain ratio goal machine date commit note".split()
 

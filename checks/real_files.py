@@ -618,7 +618,7 @@ def usage(ox):
         ("init", "test", "1"),
         ("init", "lab", "1", "2"),
     ]
-    rows += [("apply", "regtest"), ("fold",), ("fold", "Lab"), ("query",), ("serve",), (b"\xff",)]
+    rows += [("apply", "regtest"), ("fold",), ("fold", "Lab"), ("query",), ("served",), (b"\xff",)]
     for words in rows:
         ox.wants((1, b"usage\n"), *words, feed=GENESIS)
     ox.has(b"", b"")
@@ -785,7 +785,7 @@ def cut_pipe(ox):
 @check("statuses 1, 2 and 3 stay where their line can't be shown")
 def statuses_stay(ox):
     with full() as stdout:
-        ox.wants((1, None), "serve", stdout=stdout)
+        ox.wants((1, None), "served", stdout=stdout)
         ox.wants((3, None), "query", "/status", stdout=stdout)
         ox.write(EMPTY_A, EMPTY_B)
         ox.wants((2, None), "init", "regtest", "100", stdout=stdout)

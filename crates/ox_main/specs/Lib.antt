@@ -1,3 +1,4 @@
 pub mod Faults
 pub mod Idles
 pub mod Streams
+pub mod Tallied

@@ -26,7 +26,8 @@ impl FilePair {
     /// absent. Then waits until the disk has the folder's list of names, which may be new, whether
     /// this run made the files or one before it that was stopped. An error where the folder's name
     /// isn't UTF-8, one of them can't be opened or made, a standard stream is closed, so that a
-    /// file would get its number, or the system can't say that the disk has the list.
+    /// file would get its number, another program has them, or the system can't say that the disk
+    /// has the list. They are locked until the program ends, so that no second one opens them.
     pub fn open<R: Files<File = File>>(rt: &R, alloc: Global, folder: &[u8]) -> io::Result<FilePair>
         ensures text { OnOk result (IsUtf8 folder.now) }
         ensures apart { IfOk result (λ pair. IsApart pair.a × IsApart pair.b) }
@@ -43,6 +44,9 @@ impl FilePair {
         };
         if !is_apart(&pair.a) || !is_apart(&pair.b) {
             return Err(io::Error::from(ErrorKind::InvalidInput));
+        }
+        if pair.a.try_lock().is_err() || pair.b.try_lock().is_err() {
+            return Err(io::Error::from(ErrorKind::WouldBlock));
         }
         File::open(rt, folder)?.sync_all()?;
         Ok(pair)

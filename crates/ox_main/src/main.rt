@@ -1,33 +1,77 @@
-//! The program: the top call over a folder, the real streams and the words of the command line.
+//! The program: the top call over a folder, the real streams, the doors of a server and the words of
+//! the command line.
 #![tactic(auto)]
 
+mod doors;
 mod files;
 mod real;
 mod words;
 
+use crate::doors::listen;
 use crate::real::RealSite;
-use crate::words::words_of;
+use crate::words::{addresses_in, lacks_words, words_of};
 use ox_app::{Status, run};
+use ox_bytes::Bytes;
+use std::alloc::Global;
+use std::env::Env;
+use std::fs::File;
+use std::io::{Stdin, Stdout};
+use std::net::{Net, TcpListener, TcpStream};
 use std::process::ExitCode;
+use std::rt::{Clock, Files};
 
-/// Takes the folder as its first word and hands the others to `run`, whose status gives the exit
-/// status. It ends as `Usage` where there is no word, as `Memory` where there is none for the
-/// words, and as `DiskFault` where the folder's files can't be opened, the folder can't be synced,
-/// or standard input or output is closed; it prints nothing then.
+/// Takes the folder as its first word, of `serve` the addresses of both doors behind the turns, and
+/// hands the others to `run`, whose status gives the exit status. It ends, in this order, as `Usage`
+/// where its own words are missing, as `Memory` where there is none for the words, as `DiskFault`
+/// where the folder's files can't be opened, another program has them, the folder can't be synced,
+/// or standard input or output is closed, and as `DoorFault` where it can't listen; it prints
+/// nothing then.
 fn main(rt: HostRuntime) -> ExitCode {
-    let alloc = rt.alloc();
-    let Ok(words) = words_of(&rt, alloc) else {
-        return exit(Status::Memory);
-    };
-    let Some((folder, others)) = words.as_slice().split_first() else {
-        return exit(Status::Usage);
-    };
-    let Ok(mut site) = RealSite::open(&rt, alloc, folder.as_slice(), rt.stdin(), rt.stdout()) else {
-        return exit(Status::DiskFault);
-    };
-    exit(run(alloc, others, &mut site))
+    ExitCode::from(ended(&rt, rt.alloc(), rt.stdin(), rt.stdout()).code())
 }
 
-fn exit(status: Status) -> ExitCode {
-    ExitCode::from(status.code())
+// How the program ends with this input and output.
+fn ended<R>(rt: &R, alloc: Global, input: Stdin, output: Stdout) -> Status
+where
+    R: Env + Files<File = File> + Net<Listener = TcpListener, Stream = TcpStream> + Clock,
+{
+    if lacks_words(rt) {
+        return Status::Usage;
+    }
+    let Ok(mut words) = words_of(rt, alloc) else {
+        return Status::Memory;
+    };
+    let addresses = addresses_in(&mut words);
+    let Some((folder, others)) = words.as_slice().split_first() else {
+        return Status::Usage;
+    };
+    let Ok(mut site) = RealSite::open(rt, alloc, folder.as_slice(), input, output) else {
+        return Status::DiskFault;
+    };
+    if !opens(rt, alloc, addresses, &mut site) {
+        return Status::DoorFault;
+    }
+    run(alloc, others, &mut site)
+}
+
+// Opens the doors at these addresses, if there are any. Whether that worked.
+fn opens<'a, R>(
+    rt: &'a R,
+    alloc: Global,
+    addresses: Option<(Bytes, Bytes)>,
+    site: &mut RealSite<&'a R>,
+) -> bool
+where
+    R: Net<Listener = TcpListener, Stream = TcpStream> + Clock,
+{
+    let Some((public, operator)) = addresses else {
+        return true;
+    };
+    match listen(rt, alloc, public.as_slice(), operator.as_slice()) {
+        Ok(links) => {
+            site.open_doors(links);
+            true
+        }
+        Err(_) => false,
+    }
 }

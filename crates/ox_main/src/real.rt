@@ -1,45 +1,53 @@
-//! The real site: the files of a folder, and the program's standard input and output as channel 0.
-//! Nobody waits at its doors. It tells nothing of what it reads, hears and shows, and is trusted
-//! for it.
+//! The real site: the files of a folder, the program's standard input and output as channel 0, and
+//! the links of a server as the others. It tells nothing of what it reads, hears and shows, and is
+//! trusted for it.
 
 ghost use Rattle.std.specs.Prelude.{◌≡◌, ◌≤◌, ◌+◌, length, IfOk, IfSome, IsUtf8, OnOk};
+ghost use Rattle.ox_outside.specs.Answers.{HeardWithin, IsLinkNumber, ShownWithin};
 ghost use Rattle.ox_outside.specs.Counts.{Rose};
+ghost use Rattle.ox_main.specs.Tallied.{SameTally};
 
 use crate::files::FilePair;
 use ox_outside::{Doorway, Failed, Heard, Shown, Site, Which};
+use ox_sockets::Sockets;
 use std::alloc::Global;
 use std::fs::File;
 use std::io;
 use std::io::{ErrorKind, Read, Stdin, Stdout, Write};
-use std::rt::Files;
+use std::rt::{Clock, Files};
 
-/// The folder's files and the standard streams, and how often each kind of call has failed. Those
-/// on links, of which there are none, are counted apart from those on channel 0.
+/// The folder's files, the standard streams, and the links of a server if it is one; and how often
+/// each kind of call has failed or had nothing to give. Calls on links are counted apart from those
+/// on channel 0, all links together.
 #[derive(Drop)]
-pub struct RealSite {
+pub struct RealSite<C> {
     files: FilePair,
     input: Stdin,
     output: Stdout,
+    links: Option<Sockets<C>>,
     disk_faults: u64,
+    door_faults: u64,
     hear_faults: u64,
     link_hear_faults: u64,
     show_faults: u64,
     link_show_faults: u64,
+    not_yets: u64,
     public_idles: u64,
     operator_idles: u64,
 }
 
-impl RealSite {
-    /// Opens the folder's files and syncs the folder; nothing has failed yet. An error where the
-    /// folder's name isn't UTF-8, one of the files can't be opened or made, a standard stream is
-    /// closed, or the folder can't be synced.
+impl<C: Clock + Drop> RealSite<C> {
+    /// Opens the folder's files, locks them, and syncs the folder; nothing has failed yet, and there
+    /// is no door. An error where the folder's name isn't UTF-8, one of the files can't be opened or
+    /// made, a standard stream is closed, another program has the files, or the folder can't be
+    /// synced.
     pub fn open<R: Files<File = File>>(
         rt: &R,
         alloc: Global,
         folder: &[u8],
         input: Stdin,
         output: Stdout,
-    ) -> io::Result<RealSite>
+    ) -> io::Result<RealSite<C>>
         ensures text { OnOk result (IsUtf8 folder.now) }
         ensures disk { IfOk result (λ site. site.disk_faults ≡ 0) }
         ensures hear { IfOk result (λ site. site.hear_faults ≡ 0) }
@@ -49,14 +57,26 @@ impl RealSite {
             files: FilePair::open(rt, alloc, folder)?,
             input,
             output,
+            links: None,
             disk_faults: 0,
+            door_faults: 0,
             hear_faults: 0,
             link_hear_faults: 0,
             show_faults: 0,
             link_show_faults: 0,
+            not_yets: 0,
             public_idles: 0,
             operator_idles: 0,
         })
+    }
+
+    /// Opens the doors of a server.
+    pub fn open_doors(&mut self, links: Sockets<C>)
+        ensures disk { self.new.disk_faults ≡ self.old.disk_faults }
+        ensures hear { self.new.hear_faults ≡ self.old.hear_faults }
+        ensures show { self.new.show_faults ≡ self.old.show_faults }
+    {
+        self.links = Some(links);
     }
 
     // Counts a failure of a call on a file.
@@ -68,11 +88,49 @@ impl RealSite {
         ensures link_hear { self.new.link_hear_faults ≡ self.old.link_hear_faults }
         ensures show { self.new.show_faults ≡ self.old.show_faults }
         ensures link_show { self.new.link_show_faults ≡ self.old.link_show_faults }
+        ensures door { self.new.door_faults ≡ self.old.door_faults }
+        ensures not_yets { self.new.not_yets ≡ self.old.not_yets }
         ensures public { self.new.public_idles ≡ self.old.public_idles }
         ensures operator { self.new.operator_idles ≡ self.old.operator_idles }
     {
         self.disk_faults = self.disk_faults.saturating_add(1);
         Failed
+    }
+
+    // What a link gives into the room. `Failed` where there is no such link.
+    fn link_hears(&mut self, channel: u32, into: &mut [u8]) -> Result<Heard, Failed>
+        requires room { 1 ≤ length into.old }
+        ensures within { HeardWithin (length into.old) result }
+        ensures same_room { length into.new ≡ length into.old }
+        ensures counts { SameTally self.old self.new }
+    {
+        match &mut self.links {
+            Some(links) => links.hear(channel, into),
+            None => Err(Failed),
+        }
+    }
+
+    // What a link takes of a piece. `Failed` where there is no such link.
+    fn link_takes(&mut self, channel: u32, bytes: &[u8]) -> Result<Shown, Failed>
+        requires piece { 1 ≤ length bytes.now }
+        ensures within { ShownWithin (length bytes.now) result }
+        ensures counts { SameTally self.old self.new }
+    {
+        match &mut self.links {
+            Some(links) => links.show(channel, bytes),
+            None => Err(Failed),
+        }
+    }
+
+    // Who waits at a door. Where there are no doors, nobody.
+    fn comes(&mut self, door: Doorway) -> Result<Option<u32>, Failed>
+        ensures number { IsLinkNumber result }
+        ensures counts { SameTally self.old self.new }
+    {
+        match &mut self.links {
+            Some(links) => links.door(door),
+            None => Ok(None),
+        }
     }
 }
 
@@ -105,7 +163,7 @@ fn shown<W: Write>(output: &mut W, bytes: &[u8]) -> Option<usize>
     None
 }
 
-impl Site for RealSite {
+impl<C: Clock + Drop> Site for RealSite<C> {
     ghost use Rattle.std.specs.Prelude.{[], false, None};
     ghost use Rattle.ox_outside.specs.Counts.{greatest};
     ghost use Rattle.ox_main.specs.Faults.{faults_of};
@@ -125,10 +183,10 @@ impl Site for RealSite {
 
     ghost counts = { λ s. record {
       disk = s.disk_faults;
-      door = 0;
+      door = s.door_faults;
       hear = faults_of s.hear_faults s.link_hear_faults;
       show = faults_of s.show_faults s.link_show_faults;
-      not_yets = λ _. 0;
+      not_yets = λ _. s.not_yets;
       door_idles = idles_of s.public_idles s.operator_idles;
     } };
 
@@ -170,8 +228,17 @@ impl Site for RealSite {
             self.hear_faults = self.hear_faults.saturating_add(1);
             return Err(Failed);
         }
-        self.link_hear_faults = self.link_hear_faults.saturating_add(1);
-        Err(Failed)
+        match self.link_hears(channel, into) {
+            Ok(Heard::NotYet) => {
+                self.not_yets = self.not_yets.saturating_add(1);
+                Ok(Heard::NotYet)
+            }
+            Ok(heard) => Ok(heard),
+            Err(Failed) => {
+                self.link_hear_faults = self.link_hear_faults.saturating_add(1);
+                Err(Failed)
+            }
+        }
     }
 
     fn show(&mut self, channel: u32, bytes: &[u8]) -> Result<Shown, Failed> {
@@ -182,21 +249,45 @@ impl Site for RealSite {
             self.show_faults = self.show_faults.saturating_add(1);
             return Err(Failed);
         }
-        self.link_show_faults = self.link_show_faults.saturating_add(1);
-        Err(Failed)
+        match self.link_takes(channel, bytes) {
+            Ok(Shown::NotYet) => {
+                self.not_yets = self.not_yets.saturating_add(1);
+                Ok(Shown::NotYet)
+            }
+            Ok(shown) => Ok(shown),
+            Err(Failed) => {
+                self.link_show_faults = self.link_show_faults.saturating_add(1);
+                Err(Failed)
+            }
+        }
     }
 
     fn door(&mut self, door: Doorway) -> Result<Option<u32>, Failed> {
-        match door {
-            Doorway::Public => self.public_idles = self.public_idles.saturating_add(1),
-            Doorway::Operator => self.operator_idles = self.operator_idles.saturating_add(1),
+        match self.comes(door) {
+            Ok(Some(number)) => Ok(Some(number)),
+            Ok(None) => {
+                match door {
+                    Doorway::Public => self.public_idles = self.public_idles.saturating_add(1),
+                    Doorway::Operator => {
+                        self.operator_idles = self.operator_idles.saturating_add(1);
+                    }
+                }
+                Ok(None)
+            }
+            Err(Failed) => {
+                self.door_faults = self.door_faults.saturating_add(1);
+                Err(Failed)
+            }
         }
-        Ok(None)
     }
 
     fn give_up(&mut self, _channel: u32) {}
 
-    fn shut(&mut self, _channel: u32) {}
+    fn shut(&mut self, channel: u32) {
+        if let Some(links) = &mut self.links {
+            links.shut(channel);
+        }
+    }
 
     ghost counts_now = { λ site t r le may. may };
 

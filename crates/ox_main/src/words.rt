@@ -4,6 +4,42 @@ use ox_bytes::{Bytes, Memory};
 use std::alloc::Global;
 use std::env::{Env, FillError};
 
+// Whether there is a word of this place.
+fn has_word(env: &impl Env, place: usize) -> bool {
+    let mut room = [0u8; 0];
+    match env.arg(place, &mut room[..]) {
+        Ok(_) => true,
+        Err(FillError::TooLong) => true,
+        Err(FillError::NotPresent) => false,
+    }
+}
+
+// Whether the word behind the folder is `serve`.
+fn serves(env: &impl Env) -> bool {
+    let mut room = [0u8; 5];
+    match env.arg(2, &mut room[..]) {
+        Ok(5) => room == *b"serve",
+        _ => false,
+    }
+}
+
+/// Whether the program's own words are missing: the folder, or, where `serve` stands behind it, the
+/// two addresses behind the turns. It takes no memory.
+pub fn lacks_words(env: &impl Env) -> bool {
+    !has_word(env, 1) || serves(env) && !has_word(env, 5)
+}
+
+/// Takes the two addresses out of the words of `serve`: the public door's and the operator's, which
+/// stand behind folder, `serve` and turns. `None` of other words.
+pub fn addresses_in(words: &mut Vec<Bytes>) -> Option<(Bytes, Bytes)> {
+    if words.len() < 5 || words[1].as_slice() != b"serve".as_slice() {
+        return None;
+    }
+    let operator = words.remove(4);
+    let public = words.remove(3);
+    Some((public, operator))
+}
+
 /// The words behind the program's name, copied byte for byte: they need not be text. `Memory` where
 /// there is none for the copies.
 pub fn words_of(env: &impl Env, alloc: Global) -> Result<Vec<Bytes>, Memory> {

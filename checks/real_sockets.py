@@ -1,0 +1,582 @@
+#!/usr/bin/env python3
+"""Runs the built program as a server on loopback, and looks at what real clients get.
+
+    python3 checks/real_sockets.py [PROGRAM]
+
+No proof says which bytes a socket gives or takes, so this tries it: curl and Python's client,
+requests in single bytes and a thousand at once, clients that close half of a link, reset it or
+never read, more links than there are slots, bodies that are too long, a block of four million
+bytes, addresses that can't be had, a folder that another program has, kills during posts, and the
+processor that an idle server takes. Each check has a new folder below out/ beside this script,
+that is gone where it passed. A check that fails is told with its cause, and its folder stays. The
+last line says how many passed and how many failed, and the status is 1 where one failed. PROGRAM is
+crates/ox_main/out/ox_main without a word, which `rt ci` and `rt run` leave there. It takes about a
+minute.
+"""
+
+import contextlib
+import http.client
+import json
+import pathlib
+import random
+import shutil
+import signal
+import socket
+import struct
+import subprocess
+import sys
+import tempfile
+import time
+import traceback
+
+from chain import chain, file_a
+from kills import Failed, demand
+from tools.programs import proved_program
+
+PROGRAM = proved_program("ox_main")
+SECONDS = 60
+# more turns than any check takes
+TURNS = "18446744073709551615"
+SLOTS = 32
+KILLS = 20
+SEED = 1
+IDLE_NANOSECONDS = 20_000_000
+PHRASES = {
+    200: "OK",
+    400: "Bad Request",
+    403: "Forbidden",
+    404: "Not Found",
+    405: "Method Not Allowed",
+    409: "Conflict",
+    411: "Length Required",
+    413: "Content Too Large",
+    431: "Request Header Fields Too Large",
+}
+
+checks = []
+
+
+def check(what):
+    """Has the function below looked at, and tells it as `what` where it fails."""
+
+    def keep(function):
+        checks.append((what, function))
+        return function
+
+    return keep
+
+
+# What is to be shown, by docs/FORMATS.md.
+
+
+def text(tree):
+    """The compact text of a tree with sorted keys."""
+    return json.dumps(tree, ensure_ascii=False, sort_keys=True, separators=(",", ":")).encode()
+
+
+def reply(status, tree, close=False):
+    """A whole reply of JSON."""
+    body = text(tree)
+    head = (
+        f"HTTP/1.1 {status} {PHRASES[status]}\r\nContent-Type: application/json\r\n"
+        f"Content-Length: {len(body)}\r\n{'Connection: close' if close else ''}"
+    )
+    return (head + ("\r\n\r\n" if close else "\r\n")).encode() + body
+
+
+def refusal(status, close=False):
+    return reply(status, {"error": status}, close)
+
+
+def status_tree(blocks, tip, depth=100):
+    return {
+        "blocks": blocks,
+        "depth": depth,
+        "kept": min(blocks, depth),
+        "profile": "regtest",
+        "tip": tip,
+    }
+
+
+def status_of(blocks, tip, close=False):
+    return reply(200, status_tree(blocks, tip), close)
+
+
+def newest(tips, height):
+    return reply(200, {"hash": tips[height], "height": height})
+
+
+# What is asked.
+
+
+def get(path, *fields):
+    return "".join(part + "\r\n" for part in (f"GET {path} HTTP/1.1", *fields, "")).encode()
+
+
+def post(path, body):
+    return f"POST {path} HTTP/1.1\r\nContent-Length: {len(body)}\r\n\r\n".encode() + body
+
+
+STATUS = get("/status")
+
+
+# A program that serves.
+
+
+class Server:
+    """The program over a folder of its own, at two ports."""
+
+    def __init__(self, program, folder):
+        self.program, self.folder = program, folder
+        self.public, self.operator = free_ports()
+        self.child = None
+
+    def run(self, *words, **how):
+        """The status of another subcommand, and what was shown."""
+        ran = subprocess.run(
+            [self.program, self.folder, *words],
+            stdin=subprocess.DEVNULL,
+            stdout=subprocess.PIPE,
+            stderr=subprocess.DEVNULL,
+            timeout=SECONDS,
+            **how,
+        )
+        return ran.returncode, ran.stdout
+
+    def init(self):
+        got = self.run("init", "regtest", "100")
+        demand(got == (0, b"ok empty\n"), f"`init` ended with {got}")
+
+    def addresses(self):
+        return f"127.0.0.1:{self.public}", f"127.0.0.1:{self.operator}"
+
+    @contextlib.contextmanager
+    def serving(self, turns=TURNS):
+        """Serves, and is stopped in the end, where it hasn't ended by itself."""
+        words = [self.program, self.folder, "serve", turns, *self.addresses()]
+        self.child = subprocess.Popen(
+            words, stdin=subprocess.DEVNULL, stdout=subprocess.PIPE, stderr=subprocess.DEVNULL
+        )
+        try:
+            self.wait()
+            yield self
+        finally:
+            self.child.terminate()
+            self.child.wait(SECONDS)
+            self.child.stdout.close()
+
+    def wait(self):
+        """Waits until both doors are open."""
+        for port in (self.public, self.operator):
+            until = time.monotonic() + SECONDS
+            while True:
+                with socket.socket() as probe:
+                    if probe.connect_ex(("127.0.0.1", port)) == 0:
+                        break
+                demand(self.child.poll() is None, f"it ended with {self.child.poll()}")
+                demand(time.monotonic() < until, "nobody listens")
+                time.sleep(0.01)
+
+    def link(self, port=None):
+        link = socket.create_connection(("127.0.0.1", port or self.public), SECONDS)
+        link.setsockopt(socket.IPPROTO_TCP, socket.TCP_NODELAY, 1)
+        return link
+
+    def asks(self, request, port=None):
+        """What a new link is shown until it is closed, of a request that says so."""
+        with self.link(port) as link:
+            link.sendall(request)
+            return everything(link)
+
+    def is_served(self):
+        """A new link is answered."""
+        got = self.asks(get("/status", "Connection: close"))
+        demand(got.startswith(b"HTTP/1.1 200 OK\r\n"), f"another link was shown {got[:100]}")
+
+
+def free_ports():
+    """Two ports that nobody listens at."""
+    with socket.socket() as one, socket.socket() as two:
+        one.bind(("127.0.0.1", 0))
+        two.bind(("127.0.0.1", 0))
+        return one.getsockname()[1], two.getsockname()[1]
+
+
+def exactly(link, count):
+    """The next so many bytes, or fewer where the link ends."""
+    got = b""
+    while len(got) < count:
+        piece = link.recv(min(count - len(got), 1 << 20))
+        if not piece:
+            break
+        got += piece
+    return got
+
+
+def everything(link):
+    got = b""
+    while piece := link.recv(1 << 20):
+        got += piece
+    return got
+
+
+def wants(got, wanted):
+    demand(got == wanted, f"{got[:300]} was shown, not {wanted[:300]}")
+
+
+# Clients.
+
+
+@check("curl is answered, and posts a block")
+def by_curl(server):
+    blocks, tips = chain(1)
+    server.init()
+    body = server.folder / "block"
+    body.write_bytes(blocks[0])
+    with server.serving():
+        public, operator = (f"http://{address}" for address in server.addresses())
+        curl = ["curl", "--silent", "--show-error", "--max-time", str(SECONDS), "--include"]
+        ran = [
+            (curl + [f"{public}/status"], status_of(0, None)),
+            (
+                curl + ["-H", "Expect:", "--data-binary", f"@{body}", f"{operator}/connect"],
+                newest(tips, 0),
+            ),
+            (curl + [f"{operator}/status"], status_of(1, tips[0])),
+            (curl + ["--data-binary", "", f"{public}/disconnect"], refusal(403)),
+        ]
+        for words, wanted in ran:
+            wants(subprocess.run(words, stdout=subprocess.PIPE, timeout=SECONDS).stdout, wanted)
+    body.unlink()
+
+
+@check("Python's client asks a hundred times on one link")
+def by_client(server):
+    server.init()
+    with server.serving():
+        client = http.client.HTTPConnection("127.0.0.1", server.public, timeout=SECONDS)
+        for number in range(100):
+            path, wanted = [("/status", 200), ("/sat/0", 200), ("/none", 404)][number % 3]
+            client.request("GET", path)
+            got = client.getresponse()
+            body = got.read()
+            demand(got.status == wanted, f"{path} was answered {got.status}")
+            if path == "/status":
+                wants(body, text(status_tree(0, None)))
+        client.close()
+
+
+@check("a body above 4,000,000 bytes is refused, and Python's client reads the reply")
+def too_long(server):
+    server.init()
+    with server.serving():
+        for _ in range(10):
+            client = http.client.HTTPConnection("127.0.0.1", server.operator, timeout=SECONDS)
+            with contextlib.suppress(BrokenPipeError, ConnectionResetError):
+                client.request("POST", "/connect", body=bytes(6_000_000))
+            got = client.getresponse()
+            demand(got.status == 413, f"it was answered {got.status}")
+            wants(got.read(), text({"error": 413}))
+            client.close()
+
+
+@check("a thousand requests that are sent at once are answered in order")
+def pipelined(server):
+    server.init()
+    with server.serving(), server.link() as link:
+        asked = [("/status", status_of(0, None)), ("/none", refusal(404))]
+        parts = [asked[number % 2] for number in range(1000)]
+        link.sendall(b"".join(get(path) for path, _ in parts))
+        wanted = b"".join(part for _, part in parts)
+        wants(exactly(link, len(wanted)), wanted)
+
+
+@check("a request may come in single bytes")
+def single_bytes(server):
+    blocks, tips = chain(1)
+    server.init()
+    with server.serving():
+        with server.link(server.operator) as link:
+            for byte in post("/connect", blocks[0]):
+                link.sendall(bytes([byte]))
+            wanted = newest(tips, 0)
+            wants(exactly(link, len(wanted)), wanted)
+        wants(server.asks(get("/status", "Connection: close")), status_of(1, tips[0], True))
+
+
+@check("a client that closes its half of a link gets its replies, and the link ends")
+def half_closed(server):
+    server.init()
+    with server.serving(), server.link() as link:
+        link.sendall(STATUS * 3)
+        link.shutdown(socket.SHUT_WR)
+        wants(everything(link), status_of(0, None) * 3)
+
+
+@check("a client that resets a link ends it alone")
+def reset(server):
+    server.init()
+    with server.serving():
+        for request in (b"", b"GET /sta", STATUS, STATUS * 1000):
+            link = server.link()
+            link.setsockopt(socket.SOL_SOCKET, socket.SO_LINGER, struct.pack("ii", 1, 0))
+            link.sendall(request)
+            link.close()
+            server.is_served()
+
+
+@check("beside a client that never reads another one is served")
+def never_reads(server):
+    server.init()
+    with server.serving(), server.link() as idle:
+        idle.setblocking(False)
+        with contextlib.suppress(BlockingIOError):
+            while True:
+                idle.send(STATUS * 1000)
+        with server.link() as link:
+            for _ in range(100):
+                link.sendall(STATUS)
+                wants(exactly(link, len(status_of(0, None))), status_of(0, None))
+
+
+@check("a 33rd link waits until another one ends")
+def more_than_slots(server):
+    server.init()
+    with server.serving(), contextlib.ExitStack() as links:
+        wanted = status_of(0, None)
+        opened = []
+        # the two that waited for the doors are gone by now, or go meanwhile
+        for _ in range(SLOTS):
+            link = links.enter_context(server.link())
+            link.sendall(STATUS)
+            wants(exactly(link, len(wanted)), wanted)
+            opened.append(link)
+        late = links.enter_context(server.link())
+        late.sendall(STATUS)
+        late.settimeout(0.5)
+        with contextlib.suppress(TimeoutError):
+            raise Failed(f"it was shown {late.recv(1)}")
+        opened[4].close()
+        late.settimeout(SECONDS)
+        wants(exactly(late, len(wanted)), wanted)
+
+
+# Commands.
+
+
+@check("an operator's link posts commands, and a public one may not")
+def commands(server):
+    blocks, tips = chain(3)
+    server.init()
+    with server.serving(), server.link() as public, server.link(server.operator) as operator:
+        for link, request, wanted in [
+            (public, STATUS, status_of(0, None)),
+            (operator, post("/connect", blocks[0]), newest(tips, 0)),
+            (public, STATUS, status_of(1, tips[0])),
+            (public, post("/connect", blocks[1]), refusal(403)),
+            (operator, post("/connect", blocks[1][:-1]), None),
+            (operator, post("/connect", blocks[1]), newest(tips, 1)),
+            (operator, post("/disconnect", b""), newest(tips, 0)),
+            (operator, post("/disconnect", b"any"), reply(200, {"hash": None, "height": None})),
+            (operator, post("/disconnect", b""), reply(409, {"refused": "11"})),
+            (operator, STATUS, status_of(0, None)),
+        ]:
+            link.sendall(request)
+            if wanted is None:
+                wanted = reply(409, {"refused": f"3 {len(blocks[1]) - 1}"})
+                got = exactly(link, 12)
+                demand(got == b"HTTP/1.1 409", f"{got} was shown")
+                got += exactly(link, len(wanted) - 12)
+            else:
+                got = exactly(link, len(wanted))
+                wants(got, wanted)
+
+
+@check("a block of nearly four million bytes is posted and kept")
+def large_block(server):
+    blocks, tips = chain(3, lambda height: bytes(3_999_800))
+    server.init()
+    with server.serving(), server.link(server.operator) as operator:
+        for height, block in enumerate(blocks):
+            operator.sendall(post("/connect", block))
+            wanted = newest(tips, height)
+            wants(exactly(operator, len(wanted)), wanted)
+            demand(
+                (server.folder / "a.ox").read_bytes() == file_a(blocks[: height + 1]),
+                "the file doesn't have the blocks",
+            )
+    got = server.run("query", "/status")
+    demand(got == (0, text(status_tree(3, tips[2]))), f"{got} was told then")
+
+
+# Ends.
+
+
+@check("so many turns are made, and the requests and hits of them are told")
+def counted(server):
+    blocks, tips = chain(1)
+    server.init()
+    with server.serving("3000"):
+        with server.link() as public, server.link(server.operator) as operator:
+            for link, request, wanted in [
+                (public, STATUS, status_of(0, None)),
+                (public, STATUS, status_of(0, None)),
+                (operator, post("/connect", blocks[0]), newest(tips, 0)),
+                (public, STATUS, status_of(1, tips[0])),
+                (public, STATUS, status_of(1, tips[0])),
+                (public, get("/none"), refusal(404)),
+                (public, get("/none"), refusal(404)),
+            ]:
+                link.sendall(request)
+                wants(exactly(link, len(wanted)), wanted)
+        shown, _ = server.child.communicate(timeout=SECONDS)
+        wants(shown, b"requests 7 hits 3\n")
+        demand(server.child.returncode == 0, f"it ended with {server.child.returncode}")
+
+
+@check("words that are missing, wrong or too many")
+def words(server):
+    server.init()
+    public, operator = server.addresses()
+    for given, wanted in [
+        (["serve"], (1, b"")),
+        (["serve", "10"], (1, b"")),
+        (["serve", "10", public], (1, b"")),
+        (["serve", "0", public, operator], (1, b"usage\n")),
+        (["serve", "01", public, operator], (1, b"usage\n")),
+        (["serve", "18446744073709551616", public, operator], (1, b"usage\n")),
+        (["serve", "10", public, operator, "more"], (1, b"usage\n")),
+        (["serve", "5", public, operator], (0, b"requests 0 hits 0\n")),
+    ]:
+        got = server.run(*given)
+        demand(got == wanted, f"{given} ended with {got}, not with {wanted}")
+
+
+@check("status 3: files that are no store")
+def no_store(server):
+    for name in ("a.ox", "b.ox"):
+        (server.folder / name).write_bytes(b"\0")
+    got = server.run("serve", "5", *server.addresses())
+    demand(got == (3, b"not a store a 0\n"), f"it ended with {got}")
+
+
+@check("status 4: a second program over one folder, whatever it is asked for")
+def second_program(server):
+    server.init()
+    files = [(server.folder / name).read_bytes() for name in ("a.ox", "b.ox")]
+    with server.serving():
+        for given in (
+            ["query", "/status"],
+            ["apply"],
+            ["init", "regtest", "100"],
+            ["fold", "regtest"],
+            ["serve", "5", "127.0.0.1:0", "127.0.0.1:0"],
+            ["none"],
+        ):
+            got = server.run(*given)
+            demand(got == (4, b""), f"{given} ended with {got}")
+        server.is_served()
+    demand(
+        files == [(server.folder / name).read_bytes() for name in ("a.ox", "b.ox")],
+        "a file was changed",
+    )
+    got = server.run("query", "/status")
+    demand(got == (0, text(status_tree(0, None))), f"{got} was told then")
+
+
+@check("status 7: an address that is in use or can't be read")
+def no_address(server):
+    server.init()
+    public, operator = server.addresses()
+    with socket.socket() as taken:
+        taken.bind(("127.0.0.1", 0))
+        taken.listen()
+        used = f"127.0.0.1:{taken.getsockname()[1]}"
+        for one, two in [
+            (used, operator),
+            (public, used),
+            (public, public),
+            ("localhost:80", operator),
+            (public, ""),
+            (b"\xff", operator),
+            ("127.0.0.1", operator),
+            (public, "127.0.0.1:65536"),
+        ]:
+            got = server.run("serve", "5", one, two)
+            demand(got == (7, b""), f"at {one} and {two} it ended with {got}")
+
+
+@check("whatever is posted when the program is killed, the store has what was answered")
+def killed(server):
+    chance = random.Random(SEED)
+    blocks, tips = chain(400)
+    server.init()
+    have = 0
+    for _ in range(KILLS):
+        if have == len(blocks):
+            break
+        with server.serving(), server.link(server.operator) as operator:
+            ends = time.monotonic() + chance.uniform(0, 0.2)
+            with contextlib.suppress(ConnectionResetError, BrokenPipeError):
+                while time.monotonic() < ends and have < len(blocks):
+                    operator.sendall(post("/connect", blocks[have]))
+                    if chance.randrange(20) == 0:
+                        break
+                    wanted = newest(tips, have)
+                    wants(exactly(operator, len(wanted)), wanted)
+                    have += 1
+            server.child.send_signal(chance.choice([signal.SIGKILL, signal.SIGTERM]))
+            server.child.wait(SECONDS)
+        code, shown = server.run("query", "/status")
+        demand(code == 0, f"the store opens with {code}")
+        now = json.loads(shown)["blocks"]
+        demand(now in (have, have + 1), f"{now} blocks are opened, and {have} were answered")
+        wants(shown, text(status_tree(now, tips[now - 1] if now else None)))
+        have = now
+
+
+@check("an idle server takes next to no processor, with and without links")
+def idle(server):
+    server.init()
+    with server.serving(), contextlib.ExitStack() as links:
+        for count in (0, 8):
+            for _ in range(count):
+                link = links.enter_context(server.link())
+                link.sendall(STATUS)
+                wants(exactly(link, len(status_of(0, None))), status_of(0, None))
+            time.sleep(0.2)
+            before = processor_time(server.child.pid)
+            time.sleep(1)
+            taken = processor_time(server.child.pid) - before
+            demand(
+                taken < IDLE_NANOSECONDS,
+                f"with {count} links an idle second takes {taken / 1e6:.1f} ms of processor",
+            )
+
+
+def processor_time(pid):
+    """The nanoseconds of processor that a process took."""
+    return int(pathlib.Path(f"/proc/{pid}/schedstat").read_text().split()[0])
+
+
+def main():
+    program = pathlib.Path(sys.argv[1] if len(sys.argv) > 1 else PROGRAM).resolve()
+    out = pathlib.Path(__file__).resolve().parent / "out"
+    out.mkdir(exist_ok=True)
+    failed = 0
+    for what, function in checks:
+        folder = pathlib.Path(tempfile.mkdtemp(dir=out))
+        try:
+            function(Server(program, folder))
+        except Exception as fault:
+            failed += 1
+            told = fault if isinstance(fault, Failed) else traceback.format_exc()
+            print(f"FAILED: {what}\n  {told}\n  {folder}", flush=True)
+        else:
+            shutil.rmtree(folder)
+    print(f"real sockets: {len(checks) - failed} passed, {failed} failed")
+    return 1 if failed else 0
+
+
+if __name__ == "__main__":
+    sys.exit(main())
