@@ -1,0 +1,9 @@
+pub mod Widths
+pub mod ReaderLaws
+pub mod RisingLaws
+pub mod SatsLaws
+pub mod Loops
+pub mod Putting
+pub mod RowLaws
+pub mod InOrder
+pub mod Fronts

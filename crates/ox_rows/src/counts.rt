@@ -1,0 +1,98 @@
+//! What is counted of runes.
+
+ghost use Rattle.std.specs.Prelude.{◌≡◌, map, IfOk};
+ghost use Rattle.ox_bytes.specs.Reading.{GivesOrMemory};
+ghost use Rattle.ox_rows.specs.RowFits.{FitsCountChange};
+ghost use Rattle.ox_rows.specs.RowSpelling.{count_change};
+ghost use Rattle.ox_rows.specs.RowReading.{count_change_of, counts_at, counts_then_at};
+
+use crate::readable::Readable;
+use crate::rising::rising_of;
+use crate::writable::Writable;
+use ox_bytes::{Bytes, List, Memory, ReadError, u32le_field};
+use ox_ledger::{CountChange, Counts};
+use std::alloc::Global;
+
+/// What is counted of a rune before a change and after it.
+#[derive(Clone, Copy)]
+pub(crate) struct CountsThen {
+    pub(crate) mints_before: u128,
+    pub(crate) mints_after: u128,
+    pub(crate) burned_before: u128,
+    pub(crate) burned_after: u128,
+}
+
+impl Readable for CountsThen {
+    ghost at = { counts_then_at };
+
+    #[tactic(auto, unfolding(crate::specs::RowReading::counts_then_at))]
+    fn read(alloc: Global, bytes: &[u8]) -> Result<(CountsThen, &[u8]), ReadError> {
+        let (mints_before, rest) = u128::read(alloc, bytes)?;
+        let (mints_after, rest) = u128::read(alloc, rest)?;
+        let (burned_before, rest) = u128::read(alloc, rest)?;
+        let (burned_after, rest) = u128::read(alloc, rest)?;
+        let counts = CountsThen {
+            mints_before,
+            mints_after,
+            burned_before,
+            burned_after,
+        };
+        Ok((counts, rest))
+    }
+}
+
+impl Writable for CountChange {
+    ghost spelling = { count_change };
+
+    ghost fits = { FitsCountChange };
+
+    ghost keeps = { λ c. Unit {0} };
+
+    fn put(&self, bytes: &mut Bytes) -> Result<(), Memory> {
+        self.place.put(bytes)?;
+        self.before.mints.put(bytes)?;
+        self.after.mints.put(bytes)?;
+        self.before.burned.put(bytes)?;
+        self.after.burned.put(bytes)
+    }
+}
+
+/// Changed counts: how many in 4 bytes, and these by rising place.
+#[tactic(auto, unfolding(crate::specs::RowReading::counts_at))]
+pub(crate) fn counts_of(
+    alloc: Global,
+    bytes: &[u8],
+) -> Result<(List<CountChange>, &[u8]), ReadError>
+    ensures { GivesOrMemory (λ x. (x.0, x.1.now)) result (counts_at bytes.now) }
+{
+    let (count, rest) = u32le_field(bytes)?;
+    let (rows, rest) = rising_of(alloc, count, rest)?;
+    Ok((changes_of(alloc, &rows)?, rest))
+}
+
+fn changes_of(alloc: Global, rows: &[(u32, CountsThen)]) -> Result<List<CountChange>, Memory>
+    ensures { IfOk result (λ changes. changes ≡ map count_change_of rows.now) }
+{
+    let mut changes = Vec::with_capacity(alloc, rows.len())?;
+    for row in rows {
+        changes.push(change_of(*row))?;
+    }
+    Ok(List::from_vec(changes))
+}
+
+fn change_of(row: (u32, CountsThen)) -> CountChange
+    ensures { result ≡ count_change_of row }
+{
+    let (place, counts) = row;
+    CountChange {
+        place,
+        before: Counts {
+            mints: counts.mints_before,
+            burned: counts.burned_before,
+        },
+        after: Counts {
+            mints: counts.mints_after,
+            burned: counts.burned_after,
+        },
+    }
+}

@@ -1,0 +1,16 @@
+//! What the definitions say, for any bytes and any satoshis.
+
+ghost use Rattle.std.specs.Prelude.{◌≡◌, ℕ, ◌<◌, List, ◌++◌, All, Ok};
+ghost use Rattle.ox_rows.specs.Fits.{FitsSats};
+ghost use Rattle.ox_rows.specs.Reading.{sats_at};
+ghost use Rattle.ox_rows.specs.Spelling.{sats};
+
+/// What is read as satoshis are satoshis that there can be, spelled so; and those are read from
+/// their spelling, whatever follows it.
+pub fn satoshis_have_one_spelling()
+    ensures read { (bytes numbers rest : List ℕ) → All (λ byte. byte < 256) bytes
+        → sats_at bytes ≡ Ok (numbers, rest)
+        → FitsSats numbers × (bytes ≡ sats numbers ++ rest) }
+    ensures again { (numbers rest : List ℕ) → FitsSats numbers
+        → sats_at (sats numbers ++ rest) ≡ Ok (numbers, rest) }
+{}

@@ -1,0 +1,135 @@
+//! Rows of runes.
+
+ghost use Rattle.std.specs.Prelude.{◌≡◌, IsTrue};
+ghost use Rattle.std.specs.Int.{w32, to_le_bytes};
+ghost use Rattle.ox_rows.specs.RowFits.{FitsRune, FitsTerms, is_character};
+ghost use Rattle.ox_rows.specs.RowReading.{character_at, optional_128_at, optional_64_at};
+ghost use Rattle.ox_rows.specs.RowReading.{optional_character_at, optional_terms_at, rune_at};
+ghost use Rattle.ox_rows.specs.RowReading.{terms_at};
+ghost use Rattle.ox_rows.specs.RowSpelling.{rune, terms};
+
+use crate::put::put_optional;
+use crate::readable::{Readable, optional_of};
+use crate::writable::Writable;
+use ox_block::Txid;
+use ox_bytes::{Bytes, FieldFault, Memory, ReadError, put_u32le};
+use ox_etching::RuneRow;
+use ox_runestone::{RuneId, Terms};
+use std::alloc::Global;
+
+impl Readable for char {
+    ghost at = { character_at };
+
+    #[tactic(auto, unfolding(crate::specs::RowReading::character_at))]
+    fn read(alloc: Global, bytes: &[u8]) -> Result<(char, &[u8]), ReadError> {
+        let (number, rest) = u32::read(alloc, bytes)?;
+        match char::from_u32(number) {
+            Some(character) => Ok((character, rest)),
+            None => Err(ReadError::Fault(FieldFault { left: bytes.len() })),
+        }
+    }
+}
+
+impl Writable for char {
+    ghost spelling = { to_le_bytes w32 };
+
+    ghost fits = { λ c. IsTrue (is_character c) };
+
+    ghost keeps = { λ c. Unit {0} };
+
+    fn put(&self, bytes: &mut Bytes) -> Result<(), Memory> {
+        put_u32le(bytes, *self as u32)
+    }
+}
+
+impl Readable for Terms {
+    ghost at = { terms_at };
+
+    #[tactic(auto, unfolding(crate::specs::RowReading::terms_at, crate::specs::RowReading::optional_128_at, crate::specs::RowReading::optional_64_at))]
+    fn read(alloc: Global, bytes: &[u8]) -> Result<(Terms, &[u8]), ReadError> {
+        let (amount, rest) = optional_of(alloc, bytes)?;
+        let (cap, rest) = optional_of(alloc, rest)?;
+        let (height_start, rest) = optional_of(alloc, rest)?;
+        let (height_end, rest) = optional_of(alloc, rest)?;
+        let (offset_start, rest) = optional_of(alloc, rest)?;
+        let (offset_end, rest) = optional_of(alloc, rest)?;
+        let terms = Terms {
+            amount,
+            cap,
+            height_start,
+            height_end,
+            offset_start,
+            offset_end,
+        };
+        Ok((terms, rest))
+    }
+}
+
+impl Writable for Terms {
+    ghost spelling = { terms };
+
+    ghost fits = { FitsTerms };
+
+    ghost keeps = { λ terms. Unit {0} };
+
+    fn put(&self, bytes: &mut Bytes) -> Result<(), Memory> {
+        put_optional(bytes, &self.amount)?;
+        put_optional(bytes, &self.cap)?;
+        put_optional(bytes, &self.height_start)?;
+        put_optional(bytes, &self.height_end)?;
+        put_optional(bytes, &self.offset_start)?;
+        put_optional(bytes, &self.offset_end)
+    }
+}
+
+impl Readable for RuneRow {
+    ghost at = { rune_at };
+
+    #[tactic(auto, unfolding(crate::specs::RowReading::rune_at, crate::specs::RowReading::optional_character_at, crate::specs::RowReading::optional_terms_at))]
+    fn read(alloc: Global, bytes: &[u8]) -> Result<(RuneRow, &[u8]), ReadError> {
+        let (id, rest) = RuneId::read(alloc, bytes)?;
+        let (name, rest) = u128::read(alloc, rest)?;
+        let (spacers, rest) = u32::read(alloc, rest)?;
+        let (divisibility, rest) = u8::read(alloc, rest)?;
+        let (symbol, rest) = optional_of(alloc, rest)?;
+        let (premine, rest) = u128::read(alloc, rest)?;
+        let (terms, rest) = optional_of(alloc, rest)?;
+        let (mints, rest) = u128::read(alloc, rest)?;
+        let (burned, rest) = u128::read(alloc, rest)?;
+        let (etching, rest) = <[u8; 32] as Readable>::read(alloc, rest)?;
+        let row = RuneRow {
+            id,
+            name,
+            spacers,
+            divisibility,
+            symbol,
+            premine,
+            terms,
+            mints,
+            burned,
+            etching: Txid(etching),
+        };
+        Ok((row, rest))
+    }
+}
+
+impl Writable for RuneRow {
+    ghost spelling = { rune };
+
+    ghost fits = { FitsRune };
+
+    ghost keeps = { λ row. Unit {0} };
+
+    fn put(&self, bytes: &mut Bytes) -> Result<(), Memory> {
+        self.id.put(bytes)?;
+        self.name.put(bytes)?;
+        self.spacers.put(bytes)?;
+        self.divisibility.put(bytes)?;
+        put_optional(bytes, &self.symbol)?;
+        self.premine.put(bytes)?;
+        put_optional(bytes, &self.terms)?;
+        self.mints.put(bytes)?;
+        self.burned.put(bytes)?;
+        self.etching.0.put(bytes)
+    }
+}

@@ -1,0 +1,59 @@
+//! Outputs and balances by outpoint.
+
+ghost use Rattle.std.specs.Prelude.{◌≡◌, ◌++◌, OnOk};
+ghost use Rattle.std.specs.List.{AllByRecursion, flat_map};
+ghost use Rattle.ox_bytes.specs.Reading.{GivesOrMemory};
+ghost use Rattle.ox_block.specs.Spelling.{outpoint};
+ghost use Rattle.ox_rows.specs.RowFits.{FitsOutPoint};
+ghost use Rattle.ox_rows.specs.RowReading.{outputs_at, placements_at};
+
+use crate::rising::rising_table_of;
+use crate::writable::Writable;
+use ox_allocation::Balances;
+use ox_block::OutPoint;
+use ox_bytes::{Bytes, Memory, ReadError, u32le_field};
+use ox_rules::OutRow;
+use std::alloc::Global;
+use std::collections::BTreeMap;
+
+/// Outputs: how many in 4 bytes, and these by rising outpoint.
+#[tactic(auto, unfolding(crate::specs::RowReading::outputs_at))]
+pub(crate) fn outputs_table_of(
+    alloc: Global,
+    bytes: &[u8],
+) -> Result<(BTreeMap<OutPoint, OutRow>, &[u8]), ReadError>
+    ensures { GivesOrMemory (λ x. (x.0.entries, x.1.now)) result (outputs_at bytes.now) }
+{
+    let (count, rest) = u32le_field(bytes)?;
+    rising_table_of(alloc, count, rest)
+}
+
+/// Balances of outputs: how many outputs in 4 bytes, and these by rising outpoint.
+#[tactic(auto, unfolding(crate::specs::RowReading::placements_at))]
+pub(crate) fn placements_table_of(
+    alloc: Global,
+    bytes: &[u8],
+) -> Result<(BTreeMap<OutPoint, Balances>, &[u8]), ReadError>
+    ensures { GivesOrMemory (λ x. (x.0.entries, x.1.now)) result (placements_at bytes.now) }
+{
+    let (count, rest) = u32le_field(bytes)?;
+    rising_table_of(alloc, count, rest)
+}
+
+/// Puts each outpoint and what is there, without a count.
+pub(crate) fn put_rows<X: Writable>(
+    bytes: &mut Bytes,
+    table: &BTreeMap<OutPoint, X>,
+) -> Result<(), Memory>
+    requires { AllByRecursion (λ e. X.keeps e.1) table.now.entries }
+    ensures ok { OnOk result (bytes.new
+        ≡ bytes.old ++ flat_map (λ e. outpoint e.0 ++ X.spelling e.1) table.now.entries) }
+    ensures fits { OnOk result
+        (AllByRecursion (λ e. FitsOutPoint e.0 × X.fits e.1) table.now.entries) }
+{
+    for (at, row) in table {
+        at.put(bytes)?;
+        row.put(bytes)?;
+    }
+    Ok(())
+}
