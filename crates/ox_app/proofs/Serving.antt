@@ -1,12 +1,12 @@
 -- A server in a run of the program: what is told behind its turns, what a crash leaves, and machines for stacks.
-use Rattle.std.proofs.Common.{◌≡◌, ◌≢◌, ◌∙◌, ◌⊎◌, false, true≢false, codes, ◌≤◌, ◌<◌, ◌+◌, ◌^◌, ℕ, zero, suc, List, [], ◌∷◌, ◌++◌, take, decimal, Option, Some, None, refl, sym, ap, subst, arith, inl, inr, ⊎_elim}
-use Rattle.std.specs.Prelude.{IsTrue, Result, Ok, Err, IsErrOf, bytes_eq}
+use Rattle.std.proofs.Common.{◌≡◌, ◌≢◌, ◌∙◌, ◌⊎◌, false, true≢false, codes, ◌≤◌, ℕ, zero, suc, List, [], ◌∷◌, ◌++◌, take, Option, Some, None, refl, sym, ap, subst, arith, inl, inr, ⊎_elim}
+use Rattle.std.specs.Prelude.{Result, Ok, Err, bytes_eq}
 use Rattle.std.proofs.lemmas.Slice.Eq.{bytes_eq-Decides}
 use Rattle.std.proofs.lemmas.List.{append-nil, append_cancel_left}
 use Rattle.std.proofs.lemmas.List.Elements.{All-nil}
 use Rattle.std.proofs.lemmas.Option.{same_Some}
 use Rattle.ox_outside.specs.Counts.{Counts, IsFailure, NoneFell, StopsAtFault}
-use Rattle.ox_outside.specs.Crash.{Remains, MayLeaveFiles}
+use Rattle.ox_outside.specs.Crash.{Remains}
 use Rattle.ox_outside.specs.Event.{Event, channel_of}
 use Rattle.ox_outside.specs.Files.{Files}
 use Rattle.ox_outside.specs.Log.{Grows}
@@ -15,9 +15,9 @@ use Rattle.ox_outside.specs.declared.site.Site.{Ghosts as Meanings}
 use Rattle.ox_outside.proofs.Calls.{leaves_at_first, leaves_then, leaves_weaker}
 use Rattle.ox_outside.proofs.Counts.{stops_after, stops_as, went_on}
 use Rattle.ox_outside.proofs.Log.{grows_none, grows_same, grows_then, grows_weaker}
-use Rattle.ox_links.specs.Serving.{Server, commands_in, served_by, state_after}
+use Rattle.ox_links.specs.Serving.{Server, state_after}
 use Rattle.ox_links.specs.Survives.{Survives}
-use Rattle.ox_links.specs.Turned.{CountsIdles, CutShort, RoseBy}
+use Rattle.ox_links.specs.Turned.{CutShort, RoseBy}
 use Rattle.ox_turns.specs.Follows.{ShowsFrontsIn}
 use Rattle.ox_model.specs.Machine.{Machine, stack_of}
 use Rattle.ox_model.specs.Stack.{Stack}
@@ -31,8 +31,7 @@ use Rattle.ox_serve.specs.Runs.{Served, StandFor}
 use Rattle.ox_serve.specs.declared.fault.ServeFault.{ServeFault}
 use Rattle.ox_serve.specs.declared.fault.ServeFault.TheVariants as serves
 use Rattle.ox_serve.proofs.Alike.{counted_alike, fronts_alike, short_alike, survives_alike}
-use Rattle.ox_app.specs.Headline.{OnlyOwn}
-use Rattle.ox_app.specs.Serve.{LeavesServing, RunsServer, ServesAll, StandForMachine, SurvivesLinks, totals_line}
+use Rattle.ox_app.specs.Serve.{LeavesServing, RunsServer, StandForMachine, SurvivesLinks, totals_line}
 use Rattle.ox_app.specs.Show.{EndsAtFault, ShowsFront, ShowsReply}
 use Rattle.ox_app.specs.Status.{IsRefusal, IsServeStatus, fault_status}
 use Rattle.ox_app.specs.Subcommands.{IsReading, IsTurns, serve_words}
@@ -228,7 +227,7 @@ module _ {S X C : Type 0} (means : Meanings S) (server : Server X C) (first : X)
       let left = talked.files.1 in
       let lasts = served.each q (counts_now mid (means.clock old) q served.later left) in
       let lasts_mid = subst (λ (l : Option (List Event)). Grows (λ events. Survives server first stood events r.files) (means.log old) l) (sym (logs_now mid q left))
-          (subst (λ (f : Files). Grows (λ events. Survives server first stood events f) (means.log old) (Some q.log)) (sym talked.files.2) lasts) in
+      (subst (λ (f : Files). Grows (λ events. Survives server first stood events f) (means.log old) (Some q.log)) (sym talked.files.2) lasts) in
       grows_then (λ events. Survives server first stood events r.files) (ShowsFront line) (SurvivesLinks server first stood r.files) (means.log old) (means.log mid) (Some r.log)
       (λ x y survives shows. record { links = x; own = y; logged = refl; only_own = shows.quiet.only; survives = survives }) lasts_mid talked.grown) talks.moments)
 

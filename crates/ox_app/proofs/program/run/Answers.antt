@@ -98,9 +98,11 @@ returns-in-Serve-clause-serves g c turns fits words machine opened =
     let log = g.S.Site.log in
     let counts = g.S.Site.counts in
     let same = turns_same c.in-Serve.turns turns c.in-Serve.ensures.0 fits (sym c.in-Serve.ensures.1 ∙ words) in
-    let serves = c.serve.ensures.serves opened.told (stack_of machine) opened.stands_for in
-    (serves.0, grows_of_machine machine turns c.serve.result (counts c.args.site.now) (counts c.serve.new.site) (log c.args.site.now) (log c.serve.new.site)
-    (subst (λ (n : ℕ). Grows (RunsServer server_on (stack_of machine) n c.serve.result (counts c.args.site.now) (counts c.serve.new.site)) (log c.args.site.now) (log c.serve.new.site)) same serves.1))
+    let serves = c.serve.ensures.serves opened.told (stack_of machine) opened.stands_for in (
+      serves.0,
+      grows_of_machine machine turns c.serve.result (counts c.args.site.now) (counts c.serve.new.site) (log c.args.site.now) (log c.serve.new.site)
+          (subst (λ (n : ℕ). Grows (RunsServer server_on (stack_of machine) n c.serve.result (counts c.args.site.now) (counts c.serve.new.site)) (log c.args.site.now) (log c.serve.new.site)) same serves.1),
+    )
 
 pub returns-in-Serve-clause-serve_survives : goal.returns-in-Serve-clause-serve_survives
 returns-in-Serve-clause-serve_survives g c turns fits words machine opened =

@@ -1,4 +1,4 @@
-use Rattle.std.proofs.Common.{◌∙◌, Some, ap, refl, subst}
+use Rattle.std.proofs.Common.{◌∙◌, Some, refl, subst}
 use Rattle.ox_outside.specs.Log.{Grows}
 use Rattle.ox_outside.specs.Runs.{LeavesOnly}
 use Rattle.ox_model.specs.Stack.{Stack}

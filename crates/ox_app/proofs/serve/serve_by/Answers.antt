@@ -1,11 +1,11 @@
-use Rattle.std.proofs.Common.{◌≡◌, ◌∙◌, ◌≢◌, ℕ, List, ap, inl, inr, refl, subst, sym}
+use Rattle.std.proofs.Common.{◌≡◌, ◌∙◌, ℕ, List, ap, inl, inr, refl, subst, sym}
 use Rattle.std.specs.Prelude.{Err}
 use Rattle.ox_outside.specs.Log.{Grows}
 use Rattle.ox_desk.specs.Servers.{server_on}
 use Rattle.ox_serve.specs.Runs.{StandFor}
 use Rattle.ox_serve.specs.declared.fault.ServeFault.TheVariants as serves
 use Rattle.ox_app.specs.Serve.{RunsServer}
-use Rattle.ox_app.specs.Show.{EndsAtFault, ShowsReply}
+use Rattle.ox_app.specs.Show.{ShowsReply}
 use Rattle.ox_app.specs.declared.status.Status.{Status}
 use Rattle.ox_app.specs.declared.status.Status.TheVariants as ends
 use Rattle.ox_app.proofs.Images.{reply_front, reply_whole, show_undone}
