@@ -1,7 +1,7 @@
 -- The parts of a drill, one after the other.
-use Rattle.std.proofs.Common.{◌≡◌, ◌∙◌, ◌+◌, ℕ, List, [], ◌∷◌, ◌++◌, ◌⊎◌, inl, inr, length, take, refl, sym, ap, subst, arith, length-append}
+use Rattle.std.proofs.Common.{◌≡◌, ◌≢◌, ◌∙◌, ◌+◌, ℕ, List, [], ◌∷◌, ◌++◌, ◌⊎◌, inl, inr, length, take, refl, sym, ap, subst, arith, length-append}
 use Rattle.std.specs.Prelude.{Result, Ok, Err, IsErrOf, IsTrue, Some}
-use Rattle.ox_outside.specs.Counts.{IsFailure, NoFault, Rose, StopsAtFault}
+use Rattle.ox_outside.specs.Counts.{Counts, IsFailure, NoFault, Rose, StopsAtFault}
 use Rattle.ox_outside.specs.Crash.{Remains}
 use Rattle.ox_outside.specs.Runs.{LeavesOnly, OnlyLooks}
 use Rattle.ox_outside.specs.declared.site.Site.{Ghosts as Meanings}
@@ -16,19 +16,29 @@ use Rattle.ox_model.specs.Replies.{after_by, after_commands_on, after_turn}
 use Rattle.ox_model.specs.Stack.{Stack, stack_after}
 use Rattle.ox_files.specs.Stands.{stands}
 use Rattle.ox_store.specs.Ready.{StandsForEither}
+use Rattle.ox_store.specs.Make.{no_files}
 use Rattle.ox_store.specs.Store.{StoreContents}
 use Rattle.ox_store.specs.declared.fault.MakeFault.{MakeFault}
 use Rattle.ox_store.specs.declared.fault.MakeFault.TheVariants as makes
 use Rattle.ox_drill.specs.Chain.{drill_commands, drill_start}
-use Rattle.ox_drill.specs.Drill.{Carries, Drills, DrillsInTurn, InStep, IsDrilled, MakesNone, StopsOnDisk, fault_of}
+use Rattle.ox_drill.specs.Drill.{Carries, Drills, DrillsInTurn, InStep, IsDrilled, Makes, MakesNone, StopsOnDisk, fault_of}
 use Rattle.ox_drill.specs.InTurn.{InTurn, after_command}
 use Rattle.ox_drill.specs.declared.fault.DrillFault.{DrillFault}
-use Rattle.ox_drill.specs.declared.fault.DrillFault.TheVariants.{DiskFault, Memory}
+use Rattle.ox_drill.specs.declared.fault.DrillFault.TheVariants.{DiskFault, Memory, NotEmpty}
 use Rattle.ox_drill.proofs.Lists.{take_all}
 use Rattle.ox_drill.proofs.Turns.{after_more, at_most, one_turn, take_front, take_past, turns_then}
 
 same_fault : {V : Type 0} (a b : DrillFault) → IsErrOf {T = V} (Err a) b → a ≡ b
 same_fault a b e = cc e
+
+-- a making that ended well, and one that didn't
+pub made_well : {T : Type 0} (x : T) (old new : Counts) → StopsAtFault (IsErrOf {T = T} {E = MakeFault} (Ok x) makes.DiskFault) ⊥ ⊥ old new → StopsAtFault (IsErrOf {T = T} {E = DrillFault} (Ok x) DiskFault) ⊥ ⊥ old new
+made_well {T} x old new counted =
+    stops_at_none _ _ _ _ _ (went_on (IsErrOf {T = T} {E = MakeFault} (Ok x) makes.DiskFault) ⊥ ⊥ old new (λ is. cc is) (λ no. no) (λ no. no) counted)
+
+pub made_not : {T : Type 0} (fault : MakeFault) (old new : Counts) → StopsAtFault (IsErrOf {T = T} (Err fault) makes.DiskFault) ⊥ ⊥ old new → StopsAtFault (fault ≡ makes.DiskFault) ⊥ ⊥ old new
+made_not {T} fault old new counted =
+    stops_as (IsErrOf {T = T} (Err fault) makes.DiskFault) ⊥ ⊥ (fault ≡ makes.DiskFault) ⊥ ⊥ old new (λ e. cc e) (λ no. no) (λ no. no) counted
 
 -- ---- commands
 
@@ -246,11 +256,35 @@ module _ {S : Type 0} (means : Meanings S) where
       subst (λ (r : Result T DrillFault). DrillsInTurn means n r old new) (sym is) (inr (begun, drills))
 
   -- no store was made
-  pub fault_before : {T : Type 0} (n : ℕ) (result : Result T DrillFault) (made : MakeFault) (fault : DrillFault) (old new : S) → result ≡ Err fault → fault ≡ fault_of made → OnlyWrites means old new
-      → ((made ≡ makes.NotEmpty) ⊎ (made ≡ makes.Memory) → OnlyLooks means old new) → DrillsInTurn means n result old new
-  fault_before {T} n result made fault old new is same writes looks =
-      subst (λ (r : Result T DrillFault). DrillsInTurn means n r old new) (sym (is ∙ ap Err same)) (inl (none made looks)) where
-        none : (f : MakeFault) → ((f ≡ makes.NotEmpty) ⊎ (f ≡ makes.Memory) → OnlyLooks means old new) → MakesNone means (fault_of f) old new
+  pub makes_none : (result : Result StoreContents DrillFault) (made : MakeFault) (fault : DrillFault) (old new : S) → result ≡ Err fault → fault ≡ fault_of made
+      → (IsErrOf {T = StoreContents} (Err made) makes.NotEmpty ⊎ IsErrOf {T = StoreContents} (Err made) makes.Memory → OnlyLooks means old new)
+      → (IsTrue (means.told old) → IsErrOf {T = StoreContents} (Err made) makes.NotEmpty → means.seen old ≢ no_files)
+      → (IsTrue (means.told old) → means.seen old ≢ no_files → OnlyLooks means old new) → (IsErrOf {T = StoreContents} (Err made) makes.DiskFault → Rose (means.counts old).disk (means.counts new).disk)
+      → StopsAtFault (made ≡ makes.DiskFault) ⊥ ⊥ (means.counts old) (means.counts new) → OnlyWrites means old new → Makes means result old new
+  makes_none result made fault old new is same looks filled spared rose counted writes =
+      subst (λ (r : Result StoreContents DrillFault). Makes means r old new) (sym (is ∙ ap Err same)) (record {
+        stack = tt;
+        fresh = tt;
+        in_step = λ told. tt;
+        empty = λ told. tt;
+        not_empty = λ told e. filled told (ap Err (was_not_empty made (same_fault {V = StoreContents} _ _ e)));
+        spared = spared;
+        none = none made looks;
+        failed = λ e. rose (ap Err (was_disk made (same_fault {V = StoreContents} _ _ e)));
+        counted = stops_as (made ≡ makes.DiskFault) ⊥ ⊥ (IsErrOf {T = StoreContents} (Err (fault_of made)) DiskFault) ⊥ ⊥ _ _ (λ e. ap (λ (f : MakeFault). Err (fault_of f)) e) (λ no. no) (λ no. no) counted;
+        writes = writes;
+      }) where
+        was_not_empty : (f : MakeFault) → fault_of f ≡ NotEmpty → f ≡ makes.NotEmpty
+        was_not_empty makes.NotEmpty e = refl
+        was_not_empty makes.DiskFault e = absurd (cc e)
+        was_not_empty makes.Memory e = absurd (cc e)
+
+        was_disk : (f : MakeFault) → fault_of f ≡ DiskFault → f ≡ makes.DiskFault
+        was_disk makes.NotEmpty e = absurd (cc e)
+        was_disk makes.DiskFault e = refl
+        was_disk makes.Memory e = absurd (cc e)
+
+        none : (f : MakeFault) → (IsErrOf {T = StoreContents} (Err f) makes.NotEmpty ⊎ IsErrOf {T = StoreContents} (Err f) makes.Memory → OnlyLooks means old new) → MakesNone means (fault_of f) old new
         none makes.NotEmpty looked = looked (inl refl)
         none makes.DiskFault looked = writes
         none makes.Memory looked = looked (inr refl)

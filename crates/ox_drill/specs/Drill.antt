@@ -1,6 +1,6 @@
 -- What a drill does to the files and to what a site counts, part by part.
-use Rattle.std.specs.Prelude.{◌≡◌, ◌⊎◌, ℕ, ◌+◌, ◌≤◌, IsTrue, List, length, take, Result, Ok, Err}
-use Rattle.std.specs.Prelude.{IfOk, IsErrOf}
+use Rattle.std.specs.Prelude.{◌≡◌, ◌≢◌, ◌⊎◌, ℕ, ◌+◌, ◌≤◌, IsTrue, List, length, take}
+use Rattle.std.specs.Prelude.{Result, Ok, Err, IfOk, IfErr, OnOk, IsErrOf}
 use Rattle.ox_outside.specs.Counts.{Rose, StopsAtFault}
 use Rattle.ox_outside.specs.Runs.{OnlyLooks}
 use Rattle.ox_outside.specs.declared.site.Site.{Ghosts as Meanings}
@@ -11,6 +11,7 @@ use Rattle.ox_model.specs.Machine.{stack_of}
 use Rattle.ox_model.specs.Replies.{after_commands_on}
 use Rattle.ox_model.specs.Stack.{Stack}
 use Rattle.ox_files.specs.Stands.{stands}
+use Rattle.ox_store.specs.Make.{no_files}
 use Rattle.ox_store.specs.Store.{StoreContents}
 use Rattle.ox_store.specs.declared.fault.MakeFault.{MakeFault}
 use Rattle.ox_store.specs.declared.fault.MakeFault.TheVariants as makes
@@ -51,6 +52,26 @@ MakesNone means NotEmpty old new = OnlyLooks means old new
 MakesNone means Memory old new = OnlyLooks means old new
 MakesNone means DiskFault old new = OnlyWrites means old new
 
+-- a store is in step with the files
+pub record InStep {S : Type 0} (means : Meanings S) (store : StoreContents) (site : S)
+    : Type 0 where
+  pub holds : Holds means store.tail site
+  pub stands_for : stands (means.seen site) ≡ Ok store.stack
+
+-- The store of a drill is made of two empty files, or why not.
+pub record Makes {S : Type 0} (means : Meanings S) (result : Result StoreContents DrillFault)
+    (old new : S) : Type 0 where
+  pub stack : IfOk result (λ store. store.stack ≡ stack_of drill_start)
+  pub fresh : IfOk result (λ store. store.commands ≡ 0)
+  pub in_step : IsTrue (means.told old) → IfOk result (λ store. InStep means store new)
+  pub empty : IsTrue (means.told old) → OnOk result (means.seen old ≡ no_files)
+  pub not_empty : IsTrue (means.told old) → IsErrOf result NotEmpty → means.seen old ≢ no_files
+  pub spared : IsTrue (means.told old) → means.seen old ≢ no_files → OnlyLooks means old new
+  pub none : IfErr result (λ fault. MakesNone means fault old new)
+  pub failed : IsErrOf result DiskFault → Rose (means.counts old).disk (means.counts new).disk
+  pub counted : StopsAtFault (IsErrOf result DiskFault) ⊥ ⊥ (means.counts old) (means.counts new)
+  pub writes : OnlyWrites means old new
+
 -- All commands were carried out in turn; or, at a fault, some first ones, or no store was made.
 abbrev pub DrillsInTurn : {S T : Type 0} → Meanings S → ℕ → Result T DrillFault → S → S → Type 0
 DrillsInTurn means n (Ok line) old new = Drills means n (length (drill_commands n)) old new
@@ -58,12 +79,6 @@ DrillsInTurn means n (Err fault) old new =
     MakesNone means fault old new ⊎ ((begun : ℕ) × Drills means n begun old new)
 
 -- ---- a part
-
--- a store is in step with the files
-pub record InStep {S : Type 0} (means : Meanings S) (store : StoreContents) (site : S)
-    : Type 0 where
-  pub holds : Holds means store.tail site
-  pub stands_for : stands (means.seen site) ≡ Ok store.stack
 
 -- Commands are carried out in turn from a stack on, and the store is in step with the files then;
 -- or, at a fault, some first ones.

@@ -6,8 +6,8 @@ ghost use Rattle.ox_outside.specs.Runs.{OnlyLooks};
 ghost use Rattle.ox_gated.specs.Writes.{OnlyWrites};
 ghost use Rattle.ox_store.specs.Make.{no_files};
 ghost use Rattle.ox_drill.specs.Chain.{drill_commands};
-ghost use Rattle.ox_drill.specs.Drill.{Carries, DrillsInTurn, InStep, IsDrilled, StopsOnDisk};
-ghost use Rattle.ox_drill.specs.Drill.{drill_stack};
+ghost use Rattle.ox_drill.specs.Drill.{Carries, DrillsInTurn, InStep, IsDrilled, Makes};
+ghost use Rattle.ox_drill.specs.Drill.{StopsOnDisk, drill_stack};
 ghost use Rattle.ox_drill.specs.Line.{drill_line};
 
 use crate::blocks::first_behind;
@@ -25,6 +25,14 @@ const DEPTH: u16 = 100;
 
 /// How many of the newest blocks are taken back at most.
 const NEWEST: u32 = 10;
+
+// Makes the store of a drill.
+fn make_store<S: Site>(alloc: Global, site: &mut S) -> Result<Store, DrillFault>
+    ensures { Makes S.Site result site.old site.new }
+{
+    let store = Store::make(alloc, site, ProfileName::Regtest, DEPTH)?;
+    Ok(store)
+}
 
 // Carries out the commands of a drill of n blocks. The newest blocks are made again from what they
 // stand behind, so no bytes are kept for it.
@@ -75,7 +83,7 @@ pub fn drill_store<S: Site>(alloc: Global, site: &mut S, n: u32) -> Result<Bytes
         (S.counts site.old) (S.counts site.new) }
     ensures writes { OnlyWrites S.Site site.old site.new }
 {
-    let store = Store::make(alloc, site, ProfileName::Regtest, DEPTH)?;
+    let store = make_store(alloc, site)?;
     let store = carry_all(alloc, store, n, site)?;
     Ok(line_of(alloc, n, store.live())?)
 }

@@ -13,18 +13,18 @@ line_of-requires g c =
 
 pub returns-in_err-line_of-clause-in_turn : goal.returns-in_err-line_of-clause-in_turn
 returns-in_err-line_of-clause-in_turn g c told =
-    let told_made = c.make.ensures.writes.calls.as_told ∙ told in
+    let told_made = c.in_ok-store.ensures.writes.calls.as_told ∙ told in
     let p = err_from_is_err_and c.from_residual-in_err-line_of.result c.from_residual-in_err-line_of.ensures.1 in
     fault_behind g.S.Site c.args.n (length (drill_commands c.args.n)) c.from_residual-in_err-line_of.result p.0 c.args.site.now c.carry_all.new.site p.1
-    (drills_all g.S.Site c.args.n c.in_ok-store.store c.in_ok-store-2.store c.args.site.now c.make.new.site c.carry_all.new.site c.make.ensures.writes
-    (record { holds = c.in_ok-store.ensures.holds told; stands_for = c.in_ok-store.ensures.stands told }) c.in_ok-store.ensures.stack told_made c.in_ok-store-2.ensures.carries)
+    (drills_all g.S.Site c.args.n c.in_ok-store.store c.in_ok-store-2.store c.args.site.now c.make_store.new.site c.carry_all.new.site c.in_ok-store.ensures.writes
+    (c.in_ok-store.ensures.in_step told) c.in_ok-store.ensures.stack told_made c.in_ok-store-2.ensures.carries)
 
 pub returns-clause-in_turn : goal.returns-clause-in_turn
 returns-clause-in_turn g c told =
-    let told_made = c.make.ensures.writes.calls.as_told ∙ told in
-    drills_all g.S.Site c.args.n c.in_ok-store.store c.in_ok-store-2.store c.args.site.now c.make.new.site c.carry_all.new.site c.make.ensures.writes
-    (record { holds = c.in_ok-store.ensures.holds told; stands_for = c.in_ok-store.ensures.stands told }) c.in_ok-store.ensures.stack told_made c.in_ok-store-2.ensures.carries
+    let told_made = c.in_ok-store.ensures.writes.calls.as_told ∙ told in
+    drills_all g.S.Site c.args.n c.in_ok-store.store c.in_ok-store-2.store c.args.site.now c.make_store.new.site c.carry_all.new.site c.in_ok-store.ensures.writes
+    (c.in_ok-store.ensures.in_step told) c.in_ok-store.ensures.stack told_made c.in_ok-store-2.ensures.carries
 
 pub returns-clause-drilled : goal.returns-clause-drilled
 returns-clause-drilled g c told =
-    drilled_all g.S.Site c.args.n c.in_ok-store.store c.in_ok-store-2.store c.make.new.site c.carry_all.new.site c.in_ok-store.ensures.stack (c.make.ensures.writes.calls.as_told ∙ told) c.in_ok-store-2.ensures.carries
+    drilled_all g.S.Site c.args.n c.in_ok-store.store c.in_ok-store-2.store c.make_store.new.site c.carry_all.new.site c.in_ok-store.ensures.stack (c.in_ok-store.ensures.writes.calls.as_told ∙ told) c.in_ok-store-2.ensures.carries
