@@ -68,8 +68,8 @@ pub record Unpacks (head before into : List ℕ) (len whole total value count : 
   pub place : len ≡ length (head ++ out)
   pub carries : Carries 8 out whole total value count
 
--- Letters behind a polynomial were taken: each is a symbol's, and their bytes stand behind the first
--- two of what was there before.
+-- Letters behind a polynomial were taken: each is a symbol's, and their bytes stand behind the
+-- first two of what was there before.
 pub record Took (is_capital : Bool) (letters : List ℕ) (first : ℕ) (before into : List ℕ)
     (len value count sum : ℕ) : Type 0 where
   pub symbols : AreSymbols is_capital letters

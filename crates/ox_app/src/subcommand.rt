@@ -56,8 +56,8 @@ fn read_turns(text: &str) -> Option<u64>
     }
 }
 
-// The number of turns that a word writes: decimal digits with no sign and no leading zero, from 1 to
-// 18,446,744,073,709,551,615.
+// The number of turns that a word writes: decimal digits with no sign and no leading zero, from 1
+// to 18,446,744,073,709,551,615.
 fn turns_in(word: &[u8]) -> Option<u64>
     ensures found { IfSome result (λ turns. IsTurns turns × (word.now ≡ decimal turns)) }
     ensures only { IfNone result ((turns : ℕ) → IsTurns turns → word.now ≢ decimal turns) }

@@ -1,5 +1,5 @@
--- The servers: what a machine answers, each reply by fresh indexing of its blocks then, and what its
--- stack answers.
+-- The servers: what a machine answers, each reply by fresh indexing of its blocks then, and what
+-- its stack answers.
 use Rattle.std.specs.Prelude.{◌≡◌, Bool, true, length, Result}
 use Rattle.std.specs.Result.{result_ok}
 use Rattle.ox_feed.specs.declared.command.Command.{Command}

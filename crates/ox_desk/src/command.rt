@@ -29,8 +29,8 @@ fn command_at(
     }
 }
 
-/// The command of a request, if it has one; whether its link is the operator's. `Memory` where there
-/// is none for its block.
+/// The command of a request, if it has one; whether its link is the operator's. `Memory` where
+/// there is none for its block.
 pub fn command_of(
     alloc: Global,
     routes: &Routes,

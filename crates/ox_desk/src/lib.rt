@@ -1,5 +1,5 @@
-//! What a server answers, and the desk that answers so from a store and the replies that are kept of
-//! it.
+//! What a server answers, and the desk that answers so from a store and the replies that are kept
+//! of it.
 #![tactic(auto)]
 
 mod carry;

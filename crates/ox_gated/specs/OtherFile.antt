@@ -1,5 +1,5 @@
--- A whole file in place of the current one: the other file is closed, filled behind its closed gate,
--- and opened; and when it is time for that.
+-- A whole file in place of the current one: the other file is closed, filled behind its closed
+-- gate, and opened; and when it is time for that.
 use Rattle.std.specs.Prelude.{◌≡◌, ◌≢◌, ◌⊎◌, ℕ, ◌+◌, ◌≤◌, false, List, [], ◌∷◌, ◌++◌, length}
 use Rattle.std.specs.Prelude.{Ok}
 use Rattle.ox_outside.specs.Files.{Files, file_of, other}

@@ -1,5 +1,5 @@
-//! The program: the top call over a folder, the real streams, the doors of a server and the words of
-//! the command line.
+//! The program: the top call over a folder, the real streams, the doors of a server and the words
+//! of the command line.
 #![tactic(auto)]
 
 mod doors;
@@ -21,11 +21,11 @@ use std::process::ExitCode;
 use std::rt::{Clock, Files};
 
 /// Takes the folder as its first word, of `serve` the addresses of both doors behind the turns, and
-/// hands the others to `run`, whose status gives the exit status. It ends, in this order, as `Usage`
-/// where its own words are missing, as `Memory` where there is none for the words, as `DiskFault`
-/// where the folder's files can't be opened, another program has them, the folder can't be synced,
-/// or standard input or output is closed, and as `DoorFault` where it can't listen; it prints
-/// nothing then.
+/// hands the others to `run`, whose status gives the exit status. It ends, in this order, as
+/// `Usage` where its own words are missing, as `Memory` where there is none for the words, as
+/// `DiskFault` where the folder's files can't be opened, another program has them, the folder can't
+/// be synced, or standard input or output is closed, and as `DoorFault` where it can't listen; it
+/// prints nothing then.
 fn main(rt: HostRuntime) -> ExitCode {
     ExitCode::from(ended(&rt, rt.alloc(), rt.stdin(), rt.stdout()).code())
 }

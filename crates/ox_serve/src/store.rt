@@ -26,14 +26,15 @@ pub struct Totals {
     /// The requests that were answered. What was no request, and what met want of memory, isn't
     /// counted.
     pub requests: u64,
-    /// Those of them that were GETs for whose path a reply was kept since the last accepted command.
+    /// Those of them that were GETs for whose path a reply was kept since the last accepted
+    /// command.
     pub hits: u64,
 }
 
-/// Serves links by a store that was just opened, for so many turns: it answers requests, and carries
-/// out the commands of the operator's links. All memory of its own is taken before the first turn,
-/// so that `Memory` comes with nothing done. `DiskFault` and `DoorFault` only where that count rose
-/// in the call, which ends with it; a link's faults end that link alone.
+/// Serves links by a store that was just opened, for so many turns: it answers requests, and
+/// carries out the commands of the operator's links. All memory of its own is taken before the
+/// first turn, so that `Memory` comes with nothing done. `DiskFault` and `DoorFault` only where
+/// that count rose in the call, which ends with it; a link's faults end that link alone.
 pub fn serve<S: Site>(
     alloc: Global,
     store: Store,

@@ -244,8 +244,8 @@ pub record OneTurn {S X C D : Type 0} (means : Meanings S) (server : Server X C)
   pub turn : TurnOf means server moved same start since who new.slots before after now old_desk
       new_desk
 
--- The turn of this one was cut short: nothing was logged, or its first event. Of each link's answers
--- a front is shown then.
+-- The turn of this one was cut short: nothing was logged, or its first event. Of each link's
+-- answers a front is shown then.
 pub record CutOf {X C : Type 0} (server : Server X C) (start : Start X) (since : List Event)
     (who : Who) (new : Option (List Event)) : Type 0 where
   pub events : List Event
