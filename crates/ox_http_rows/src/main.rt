@@ -9,9 +9,11 @@
 //!   it waits or is over, each request is replied with its path as the body, and what is due is
 //!   printed, and taken in two halves. Steps: `say:N:PART,PART..` (the link says these parts, N
 //!   bytes at a time, or all at once for 0), `end` (it says nothing more), `close` (from here on
-//!   replies say close), `busy` (requests are answered 503), `none` (503 is due, whatever is asked);
+//!   replies say close), `busy` (requests are answered 503), `none` (503 is due, whatever is
+//!   asked);
 //! - `often TIMES PART..`: what a stream begins with, read so often; `hold LINKS N PART..`: so many
-//!   sessions that hear a stream, N bytes at a time, and are kept (both are timed by bench/http.py);
+//!   sessions that hear a stream, N bytes at a time, and are kept (both are timed by
+//!   bench/http.py);
 //! - a row that begins with `#` is printed as it stands.
 //!
 //! A part is hex digits, or `N*` and hex digits for so many times the same; `-` is none. Bytes are

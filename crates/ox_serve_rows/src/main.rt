@@ -12,8 +12,8 @@
 //! - `now`: the moment;
 //! - `# ..`: a heading, which is printed.
 //!
-//! The rows and what has to be printed are made by checks/serve_rows.py, which has its own rotation,
-//! store and disk, and shares nothing with the library.
+//! The rows and what has to be printed are made by checks/serve_rows.py, which has its own
+//! rotation, store and disk, and shares nothing with the library.
 #![tactic(auto)]
 
 mod words;
@@ -35,7 +35,9 @@ fn fresh(alloc: Global) -> anyhow::Result<MemSite> {
 fn words_of(alloc: Global, row: &[&str]) -> anyhow::Result<Vec<Bytes>> {
     let mut words = Vec::new(alloc);
     for word in row {
-        let word = Bytes::copy(alloc, word.as_bytes()).ok().context("no memory")?;
+        let word = Bytes::copy(alloc, word.as_bytes())
+            .ok()
+            .context("no memory")?;
         words.push(word)?;
     }
     Ok(words)
@@ -111,12 +113,7 @@ struct Desktop {
 }
 
 /// Carries out a row.
-fn carry_out(
-    rt: &impl Print,
-    alloc: Global,
-    on: &mut Desktop,
-    row: &[&str],
-) -> anyhow::Result<()> {
+fn carry_out(rt: &impl Print, alloc: Global, on: &mut Desktop, row: &[&str]) -> anyhow::Result<()> {
     match row {
         ["fresh"] => {
             *on = Desktop {
