@@ -9,6 +9,7 @@ looks up in these lists by itself. The rows that ask a chain, as requests do, ar
 checks/query_rows.py.
 """
 
+import made_blocks
 import query_rows
 import scenarios
 from chain import SHORT, block_of, coinbase_to, commitment, committing, envelope, id_value
@@ -199,7 +200,10 @@ class Indexes(Rows):
     def both(self, before, after, *txs):
         """A block of these transactions leads from what is held and looked up before to what is
         after, and both ways."""
-        block, tip = block_of(self.tip(), txs)
+        self.leads(before, after, *block_of(self.tip(), txs))
+
+    def leads(self, before, after, block, tip):
+        """The same of a block by its bytes and its hash."""
         words = [word for word, _ in before[1]]
         assert words == [word for word, _ in after[1]]
         there = list(self.lines(*after, [*self.tips, tip]))
@@ -778,6 +782,59 @@ def both_ways(rows):
     full.dump(full.before())
     rows.extend(full.all)
     full.dump(full.after())
+
+
+# the terms of the rune that the made block of height 1 etches
+MADE_TERMS = terms(7, 1_000_000)
+
+
+def made_state(blocks):
+    """What the first made blocks leave: what is held, where their newest inscription's satoshi is,
+    and what the newest transactions' outputs have."""
+    inscriptions, minted, burned = [], 0, 0
+    for height, (_, _, txs) in enumerate(blocks[1:], 1):
+        fields = f"type={b'text/plain'.hex()} body={str(height).encode().hex()}"
+        inscriptions.append(Inscription(txs[1], height, (height - 1) * SUBSIDY, fields=fields))
+        minted += height > 1
+        burned += 7 * (height % 10 == 0)
+    runes = []
+    if inscriptions:
+        etching = id_of(blocks[1][2][1])
+        runes.append(
+            Rune(1, 1, etching, 100, burned=burned, mints=minted, gives=7, terms=MADE_TERMS)
+        )
+    return Held(len(blocks), inscriptions, runes)
+
+
+def made_looks(blocks, height):
+    """What is looked up before the block of a height and after it."""
+    paid, (coinbase, spends) = blocks[height - 1][2][0], blocks[height][2]
+    first, count = (height - 1) * SUBSIDY, SUBSIDY - 1
+    runes = {1: "1:1=100"}.get(height, "" if height % 10 == 0 else "1:1=7")
+    stone, commits = made_blocks.runestone(height), made_blocks.commitment([spends[1]])
+    looks = [
+        at_both(paid, 0, runs(height - 1, (first, count)), "none"),
+        at_both(spends, 0, "none", runs(height, (first, count), runes=runes)),
+        at_both(spends, 1, "none", runs(height, script=stone)),
+        at_both(coinbase, 0, "none", runs(height, (height * SUBSIDY, count))),
+        at_both(coinbase, 1, "none", runs(height, script=commits)),
+    ]
+    lost = height * SUBSIDY + count
+    looks.append((sat(lost, "nowhere"), sat(lost, lost_place(height))))
+    looks.append((sat(first, place(paid, 0)), sat(first, place(spends, 0))))
+    return looks
+
+
+def made_both_ways(rows):
+    blocks = made_blocks.chain(12)
+    for height in (1, 10, 11):
+        what = f"the made block of height {height} is taken in, back, in again and back"
+        rows.live(what, "regtest")
+        for data, tip, _ in blocks[:height]:
+            rows.takes(data.hex(), tip)
+        data, tip, _ = blocks[height]
+        held = made_state(blocks[:height]), made_state(blocks[: height + 1])
+        rows.leads(*sides(*held, *made_looks(blocks, height)), data, tip)
 
 
 def cancel_at_full_depth(rows):
@@ -1495,6 +1552,7 @@ GROUPS += [
     keep_blocks,
     all_back,
     both_ways,
+    made_both_ways,
     cancel_at_full_depth,
     cancel_others,
 ]

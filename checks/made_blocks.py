@@ -33,14 +33,32 @@ def spend(height, paid):
     return transaction([(paid, 0)], outputs, stacks=[[tapscript, b"\xc0" + bytes(32)]])
 
 
-def made(height, tip, paid):
-    """The block's bytes, its hash, and its coinbase's id."""
+def txs_of(height, paid):
+    """The coinbase, and from height 1 on the transaction that spends the one before."""
     others = [spend(height, paid)] if height else []
     outputs = [(claim(height), OPEN), (0, commitment([whole for _, whole in others]))]
-    txs = [coinbase(outputs, b"\4" + height.to_bytes(4, "little"), [RESERVED]), *others]
+    return [coinbase(outputs, b"\4" + height.to_bytes(4, "little"), [RESERVED]), *others]
+
+
+def block_of(height, tip, txs):
+    """The block's bytes, its hash, and its coinbase's id."""
     ids = [twice(bare) for bare, _ in txs]
-    data, tip = block(tip, root(ids), [whole for _, whole in txs], height)
-    return data, tip, ids[0]
+    return *block(tip, root(ids), [whole for _, whole in txs], height), ids[0]
+
+
+def made(height, tip, paid):
+    """The same of a height, behind the hash of the block before and the id of its coinbase."""
+    return block_of(height, tip, txs_of(height, paid))
+
+
+def chain(count):
+    """The blocks of the first heights, each by its bytes, its hash and its transactions."""
+    blocks, tip, paid = [], bytes(32), bytes(32)
+    for height in range(count):
+        txs = txs_of(height, paid)
+        data, tip, paid = block_of(height, tip, txs)
+        blocks.append((data, tip, txs))
+    return blocks
 
 
 def rows():

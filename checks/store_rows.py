@@ -9,6 +9,7 @@ B, in this order, and then reads; making asks for both lengths, writes B, syncs 
 byte and the others, syncs A, writes its gate and syncs it.
 """
 
+import made_blocks
 from chain import DISCONNECT, GENESIS, SHORT, payload_of, record_of
 from tools import bitcoin
 from tools.bitcoin import SUBSIDY, twice
@@ -25,11 +26,17 @@ GENESIS_HASH = "6fe28c0ab6f1b372c1a6a246ae63f74f931e8365e15a089c68d6190000000000
 EMPTY = bytes.fromhex("01 6f78696478 01 01 6400 0100000000000000 0000000000000000 00")
 
 
-# ---- a chain of blocks of a coinbase alone, each with one output
+# ---- a chain of blocks of a coinbase alone, each with one output, or of made blocks
 
 
 class Refused(Exception):
     pass
+
+
+# the first made blocks, by their bytes: the id of the coinbase, and how many outputs go and come
+MADE = {
+    block: (twice(txs[0][0]), len(txs) - 1, 2 * len(txs)) for block, _, txs in made_blocks.chain(12)
+}
 
 
 def block_on(previous, mark, claim=SUBSIDY, source=1, target=SHORT):
@@ -83,11 +90,17 @@ class Chain:
             raise Refused(f"refused 4 {height}")
         if previous != self.tip():
             raise Refused(f"refused 5 {previous[::-1].hex()} {self.tip()[::-1].hex()}")
+        if block in MADE:
+            self.add(block, MADE[block][0], SUBSIDY - 1)
+            return
         txid, claim = twice(block[81:]), claim_of(block)
         if root != txid:
             raise Refused(f"refused 6 {root[::-1].hex()} {txid[::-1].hex()}")
         if claim > self.subsidy(height):
             raise Refused(f"refused 10 {self.subsidy(height)} {claim}")
+        self.add(block, txid, claim)
+
+    def add(self, block, txid, claim):
         self.blocks.append((twice(block[:80]), txid, claim))
         self.kept = min(self.kept + 1, self.depth)
 
@@ -95,8 +108,11 @@ class Chain:
         """The newest block's change: its output comes, and takes the place of an equal
         coinbase's."""
         block_hash, txid, _ = self.blocks[-1]
-        gone = any(txid == earlier[1] for earlier in self.blocks[:-1])
-        return f"{way} {block_hash.hex()}, {int(gone)} gone, 1 came, "
+        gone, came = int(any(txid == earlier[1] for earlier in self.blocks[:-1])), 1
+        for made, made_gone, made_came in MADE.values():
+            if txid == made:
+                gone, came = made_gone, made_came
+        return f"{way} {block_hash.hex()}, {gone} gone, {came} came, "
 
     def tip_line(self):
         return f"tip {len(self.blocks) - 1} {self.tip().hex()}" if self.blocks else "no tip"
@@ -694,6 +710,41 @@ def keeps(rows):
     rows.open()
 
 
+def drill(count):
+    """The commands of a drill of so many blocks."""
+    blocks = [payload_of(block) for block in list(MADE)[:count]]
+    newest = min(count, 10)
+    return blocks + newest * [DISCONNECT] + blocks[count - newest :]
+
+
+def drills(rows):
+    rows.heading("a drill of twelve blocks, and a stop at each moment of its last three commands")
+    commands = drill(12)
+    rows.make("regtest", 100, commands)
+    assert rows.stdout[-1].startswith("12 blocks, 12 of 100 kept, 12 changes, 12 lost, 32 commands")
+    rows.now()
+    # the making has 8 moments, and each command 4
+    first, last = 8 + 4 * (len(commands) - 3), 8 + 4 * len(commands)
+    assert rows.stdout[-1] == f"moment {last}"
+    for moment in range(first, last + 1):
+        for fill in (0x00, 0xFF):
+            for keep in (0, ALL):
+                rows.crash(moment, fill, keep)
+                done, begun = (moment - 8) // 4, (moment - 8 + 3) // 4
+                blocks = int(rows.stdout[-1].split()[0])
+                assert done - 20 <= blocks <= begun - 20, (moment, fill, keep)
+    rows.heading("each call of a drill of two blocks fails, and a stop afterwards")
+    commands = drill(2)
+    # 10 calls of the making, and 4 of each command
+    for call in range(10 + 4 * len(commands) + 1):
+        rows.fresh()
+        rows.fail(call)
+        rows.make("regtest", 100, commands)
+        assert (rows.stdout[-1] == "a call failed") == (call < 10 + 4 * len(commands))
+        for fill in (0x00, 0xFF):
+            rows.crash(len(rows.site.steps), fill, ALL)
+
+
 def keep_what_is_kept(rows):
     rows.heading("an opening keeps how many blocks may be taken back")
     payloads, _ = marks(1, 3)
@@ -745,7 +796,7 @@ def main():
         keeps,
     ):
         part(rows)
-    for part in (keep_what_is_kept, stop_in_a_second_gate, spoil_a_first_byte):
+    for part in (drills, keep_what_is_kept, stop_in_a_second_gate, spoil_a_first_byte):
         part(rows)
     write_rows("ox_store_rows", rows.stdin, rows.stdout)
 
