@@ -13,9 +13,9 @@ nothing else is done.
 The proved programs are built by `rt run`, which proves them first, and the plain ones by cargo as
 their Cargo.lock says. Where crates.io can't be reached, --debian builds them from Debian 12's
 packages (`apt-get install librust-sha2-dev librust-serde-json-dev librust-serde-derive-dev
-librust-hex-dev librust-httparse-dev librust-memchr-dev`), in a copy without the locks, whose
-checksums those files lack. Debian 12 lacks `matchit`: the package librust-matchit-dev of Debian 13,
-0.7.3, needs nothing else of it.
+librust-hex-dev librust-httparse-dev librust-memchr-dev librust-lru-dev`), in a copy without the
+locks, whose checksums those files lack. Debian 12 lacks `matchit`: the package librust-matchit-dev
+of Debian 13, 0.7.3, needs nothing else of it.
 """
 
 import datetime
@@ -46,6 +46,7 @@ NEEDS = {
     "allocation": (["ox_speed"], ["allocation"]),
     "apply_and_open": (["ox_main"], []),
     "decipher_runestones": (["ox_speed"], []),
+    "desk": (["ox_desk_rows", "ox_main"], ["desk"]),
     "find_envelopes": (["ox_block_rows"], []),
     "fold_blocks": (["ox_main"], ["fold_blocks"]),
     "fold_feed": (["ox_main"], []),
@@ -85,6 +86,11 @@ PAGE = [
     "an address read",
     "a head read",
     "a body heard in pieces",
+    "a kept reply, /status",
+    "a reply made anew, /blockhash",
+    "a kept page of inscriptions",
+    "a page of inscriptions made anew",
+    "a block posted, beside `apply`",
     "/status served, 1,000 blocks",
     "/blockhash/0 served, 1,000 blocks",
 ]
@@ -167,14 +173,11 @@ def digits(text):
 
 def table(rows):
     """What stands between the markers."""
-    measured = {}
+    places = {}
     for row in rows:
-        runs = measured.setdefault(row["machine"], {}).setdefault((row["date"], row["commit"]), [])
-        if row["script"] not in runs:
-            runs.append(row["script"])
-    for place, runs in measured.items():
-        told = (f"{', '.join(names)} {date} at {commit}" for (date, commit), names in runs.items())
-        yield f"{place}: {'; '.join(told)}."
+        places.setdefault(row["machine"], set()).add(row["date"])
+    for place, dates in places.items():
+        yield f"{place}: {' to '.join(sorted({min(dates), max(dates)}))}."
     yield from ("", "| Work | Size | ox | Plain | Ratio | Goal |", "|---|---|--:|--:|--:|--:|")
     before = None
     for row in rows:

@@ -5,13 +5,14 @@
 
 has `serve` over a store of 100 and of 1,000 blocks answer `/status` and `/blockhash/0` for five
 seconds at a time, to 1 link and to 32, one request after the other on each, and to 1 link beside 31
-silent ones. bench/plain/serve is the client, and the plain program, which has one reply for all
+silent ones. The client is `wrk` (`apt-get install wrk`). The plain program has one reply for all
 and makes no sessions: by epoll, and by asking every socket at every turn. Then it says what memory
 32 links take behind bodies of 4,000,000 bytes that aren't whole. bench/all.py builds the programs.
 """
 
 import contextlib
 import pathlib
+import re
 import socket
 import subprocess
 import sys
@@ -84,12 +85,21 @@ def plain(mode):
         yield port, child.pid
 
 
+def asked(port, links, path):
+    """How many requests a second are answered to so many links."""
+    words = ["wrk", "-t1", f"-c{links}", f"-d{SECONDS}", f"http://127.0.0.1:{port}{path}"]
+    ran = subprocess.run(words, stdout=subprocess.PIPE, text=True, check=True)
+    if re.search("Non-2xx|Socket errors", ran.stdout):
+        sys.exit(ran.stdout)
+    return float(re.search(r"Requests/sec: *([\d.]+)", ran.stdout)[1])
+
+
 def answered(server, links, silent, path):
-    """How many requests a second a server answers, at most of several runs."""
-    with server as (port, _):
-        words = [PLAIN, "ask", str(port), str(links), str(silent), str(SECONDS), path]
-        runs = [subprocess.run(words, stdout=subprocess.PIPE, check=True) for _ in range(RUNS)]
-    return max(float(run.stdout) for run in runs)
+    """How many requests a second a server answers beside silent links, at most of several runs."""
+    with server as (port, _), contextlib.ExitStack() as others:
+        for _ in range(silent):
+            others.enter_context(socket.create_connection(("127.0.0.1", port)))
+        return max(asked(port, links, path) for _ in range(RUNS))
 
 
 def memory(pid):

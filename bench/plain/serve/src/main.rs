@@ -1,17 +1,12 @@
-//! A server of one reply with the rotation of `ox_main`'s, and the client that both are asked by.
+//! A server of one reply with the rotation of `ox_main`'s.
 //!
 //! `serve epoll PORT` and `serve all PORT` answer each request with the same reply, by two doors, at
 //! PORT and the next one, and 32 slots. `epoll` asks the system what is ready where several turns
 //! brought nothing; `all` asks each socket at each turn.
-//!
-//! `serve ask PORT LINKS SILENT SECONDS PATH` opens so many silent links and so many that ask for
-//! the path again and again, one request at a time each, and prints how many were answered a
-//! second.
 
 use std::io::{ErrorKind, Read, Write};
 use std::net::{TcpListener, TcpStream};
 use std::os::fd::AsRawFd;
-use std::time::{Duration, Instant};
 
 #[repr(C, packed)]
 #[derive(Clone, Copy)]
@@ -214,59 +209,8 @@ fn add(epoll: i32, fd: i32, what: u32, place: usize) {
     unsafe { epoll_ctl(epoll, ADD, fd, &mut event) };
 }
 
-/// The length of the first whole reply of these bytes, if there is one.
-fn reply_length(bytes: &[u8]) -> Option<usize> {
-    let head = bytes.windows(4).position(|four| four == b"\r\n\r\n")? + 4;
-    let text = std::str::from_utf8(&bytes[..head]).unwrap();
-    let length = text.split("Content-Length: ").nth(1).unwrap();
-    let length: usize = length.split("\r\n").next().unwrap().parse().unwrap();
-    (bytes.len() >= head + length).then_some(head + length)
-}
-
-fn ask(port: u16, links: usize, silent: usize, seconds: f64, path: &str) {
-    let connect = || {
-        let stream = TcpStream::connect(("127.0.0.1", port)).unwrap();
-        stream.set_nodelay(true).unwrap();
-        stream
-    };
-    let _silent: Vec<TcpStream> = (0..silent).map(|_| connect()).collect();
-    let mut links: Vec<TcpStream> = (0..links).map(|_| connect()).collect();
-    let request = format!("GET {path} HTTP/1.1\r\nHost: a\r\n\r\n");
-    let mut room = vec![0; 1 << 20];
-    let (mut answered, mut length) = (0u64, 0);
-    let start = Instant::now();
-    while start.elapsed() < Duration::from_secs_f64(seconds) {
-        for link in &mut links {
-            link.write_all(request.as_bytes()).unwrap();
-        }
-        for link in &mut links {
-            let mut got = 0;
-            while got == 0 || got < length {
-                let n = link.read(&mut room[got..]).unwrap();
-                assert!(n > 0, "the link ended");
-                got += n;
-                if length == 0 {
-                    length = reply_length(&room[..got]).unwrap_or(0);
-                }
-            }
-            answered += 1;
-        }
-    }
-    println!("{:.0}", answered as f64 / start.elapsed().as_secs_f64());
-}
-
 fn main() {
     let words: Vec<String> = std::env::args().collect();
     let port = words[2].parse().unwrap();
-    match words[1].as_str() {
-        "epoll" => Server::new(port, true).run(),
-        "all" => Server::new(port, false).run(),
-        _ => ask(
-            port,
-            words[3].parse().unwrap(),
-            words[4].parse().unwrap(),
-            words[5].parse().unwrap(),
-            &words[6],
-        ),
-    }
+    Server::new(port, words[1] == "epoll").run();
 }
