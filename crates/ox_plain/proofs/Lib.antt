@@ -1,0 +1,5 @@
+pub mod SameLemmas
+pub mod DifferenceEnds
+pub mod CountEnds
+pub mod EndLaws
+pub mod TableLemmas

@@ -1,1 +1,4 @@
 pub mod Plain
+pub mod Same
+pub mod Ends
+pub mod Tables
