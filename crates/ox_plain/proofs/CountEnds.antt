@@ -1,12 +1,12 @@
 -- Changed counts are those between runes and the runes at the changes' other side where the test
 -- says so.
-use Rattle.std.proofs.Common.{◌≡◌, ◌≢◌, ◌∙◌, ℕ, zero, suc, ◌+◌, ◌-◌, ◌<◌, ◌≤◌, Bool, true, false, cond, not, List, [], ◌∷◌, ◌++◌, length, take, drop, refl, sym, ap, subst, Option, Some, None, arith}
+use Rattle.std.proofs.Common.{◌≡◌, ◌∙◌, ℕ, zero, suc, ◌+◌, ◌-◌, ◌≤◌, Bool, true, false, cond, not, List, [], ◌∷◌, ◌++◌, length, refl, sym, ap, subst, Option, Some, None, arith}
 use Rattle.std.specs.Prelude.{◌==◌, ◌&&◌, nat_le, slice_get, slice_set, IfNone}
 use Rattle.std.specs.Option.{IfSome}
 use Rattle.std.proofs.lemmas.List.{nil_from_length}
 use Rattle.std.specs.Bool.{Decides}
 use Rattle.std.specs.List.{list_all, AllByRecursion}
-use Rattle.std.proofs.lemmas.Bool.Decides.{Decides-and, Decides-eqb, Decides-like, nat_tests}
+use Rattle.std.proofs.lemmas.Bool.Decides.{Decides-eqb, nat_tests}
 use Rattle.ox_etching.specs.declared.row.RuneRow.{RuneRow}
 use Rattle.ox_ledger.specs.declared.part.CountChange.{CountChange}
 use Rattle.ox_ledger.specs.declared.part.Counts.{Counts}
@@ -14,7 +14,7 @@ use Rattle.ox_ledger.specs.Part.{counts_of, with_counts, Continues, counts_alike
 use Rattle.ox_plain.specs.Same.{same_counts}
 use Rattle.ox_plain.specs.Ends.{places_rise, has_counts, counts_stand}
 use Rattle.ox_ledger.proofs.PartLemmas.{skips}
-use Rattle.ox_ledger.proofs.MoveLemmas.{length-rows, recounted, rows_last, rows_none}
+use Rattle.ox_ledger.proofs.MoveLemmas.{recounted, rows_last, rows_none}
 use Rattle.ox_plain.proofs.SameLemmas.{same_counts-Decides}
 use Rattle.ox_plain.proofs.DifferenceEnds.{first_true, second_true, both_true}
 
@@ -213,16 +213,16 @@ leads_back [] p changes rise all = sym (none_stand later p changes all)
 leads_back (row ∷ rows) p [] rise all = back_skips p row rows [] refl (leads_back rows (p + 1) [] refl tt)
 leads_back (row ∷ rows) p (change ∷ changes) rise all =
     by_test (leads_back rows (p + 1) (change ∷ changes)) (leads_back rows (p + 1) changes) (change.place == p) refl where
-  by_test : (places_rise (p + 1) (change ∷ changes) ≡ true → AllStand later (p + 1) rows (change ∷ changes) → Backward (p + 1) rows (change ∷ changes))
-      → (places_rise (p + 1) changes ≡ true → AllStand later (p + 1) rows changes → Backward (p + 1) rows changes)
-      → (b : Bool) → (change.place == p) ≡ b → Backward p (row ∷ rows) (change ∷ changes)
-  by_test whole rest true is =
-      let at : change.place ≡ p = (Decides-eqb change.place p).0 is in
-      let rises = after_first p change changes at rise in
-      back_changes p row rows change changes at all.0 (rest rises (all_next later p row rows changes rises all.1))
-  by_test whole rest false is =
-      let rises = behind p change changes is rise in
-      back_skips p row rows (change ∷ changes) rises (whole rises (all_next later p row rows (change ∷ changes) rises all))
+      by_test : (places_rise (p + 1) (change ∷ changes) ≡ true → AllStand later (p + 1) rows (change ∷ changes) → Backward (p + 1) rows (change ∷ changes))
+          → (places_rise (p + 1) changes ≡ true → AllStand later (p + 1) rows changes → Backward (p + 1) rows changes)
+          → (b : Bool) → (change.place == p) ≡ b → Backward p (row ∷ rows) (change ∷ changes)
+      by_test whole rest true is =
+          let at : change.place ≡ p = (Decides-eqb change.place p).0 is in
+          let rises = after_first p change changes at rise in
+          back_changes p row rows change changes at all.0 (rest rises (all_next later p row rows changes rises all.1))
+      by_test whole rest false is =
+          let rises = behind p change changes is rise in
+          back_skips p row rows (change ∷ changes) rises (whole rises (all_next later p row rows (change ∷ changes) rises all))
 
 leads_forth : (rows : List RuneRow) (p : ℕ) (changes : List CountChange) → places_rise p changes ≡ true → AllStand earlier p rows changes → Forward p rows changes
 unfolding changes_from rows_at_end
@@ -230,16 +230,16 @@ leads_forth [] p changes rise all = sym (none_stand earlier p changes all)
 leads_forth (row ∷ rows) p [] rise all = forth_skips p row rows [] refl (leads_forth rows (p + 1) [] refl tt)
 leads_forth (row ∷ rows) p (change ∷ changes) rise all =
     by_test (leads_forth rows (p + 1) (change ∷ changes)) (leads_forth rows (p + 1) changes) (change.place == p) refl where
-  by_test : (places_rise (p + 1) (change ∷ changes) ≡ true → AllStand earlier (p + 1) rows (change ∷ changes) → Forward (p + 1) rows (change ∷ changes))
-      → (places_rise (p + 1) changes ≡ true → AllStand earlier (p + 1) rows changes → Forward (p + 1) rows changes)
-      → (b : Bool) → (change.place == p) ≡ b → Forward p (row ∷ rows) (change ∷ changes)
-  by_test whole rest true is =
-      let at : change.place ≡ p = (Decides-eqb change.place p).0 is in
-      let rises = after_first p change changes at rise in
-      forth_changes p row rows change changes at all.0 (rest rises (all_next earlier p row rows changes rises all.1))
-  by_test whole rest false is =
-      let rises = behind p change changes is rise in
-      forth_skips p row rows (change ∷ changes) rises (whole rises (all_next earlier p row rows (change ∷ changes) rises all))
+      by_test : (places_rise (p + 1) (change ∷ changes) ≡ true → AllStand earlier (p + 1) rows (change ∷ changes) → Forward (p + 1) rows (change ∷ changes))
+          → (places_rise (p + 1) changes ≡ true → AllStand earlier (p + 1) rows changes → Forward (p + 1) rows changes)
+          → (b : Bool) → (change.place == p) ≡ b → Forward p (row ∷ rows) (change ∷ changes)
+      by_test whole rest true is =
+          let at : change.place ≡ p = (Decides-eqb change.place p).0 is in
+          let rises = after_first p change changes at rise in
+          forth_changes p row rows change changes at all.0 (rest rises (all_next earlier p row rows changes rises all.1))
+      by_test whole rest false is =
+          let rises = behind p change changes is rise in
+          forth_skips p row rows (change ∷ changes) rises (whole rises (all_next earlier p row rows (change ∷ changes) rises all))
 
 -- ---- the converse
 

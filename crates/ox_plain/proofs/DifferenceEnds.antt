@@ -1,6 +1,6 @@
 -- A difference ends in a map where the test says so.
-use Rattle.std.proofs.Common.{◌≡◌, ◌≢◌, ◌∙◌, Bool, true, false, cond, not, T, List, [], ◌∷◌, refl, sym, ap, subst, Option, Some, None, Ordering}
-use Rattle.std.specs.Prelude.{◌↔◌, ◌==◌, ◌&&◌, IsTrue, is_some}
+use Rattle.std.proofs.Common.{◌≡◌, ◌≢◌, ◌∙◌, Bool, true, false, cond, not, List, [], ◌∷◌, refl, sym, ap, subst, Option, Some, None, Ordering}
+use Rattle.std.specs.Prelude.{◌↔◌, ◌&&◌, is_some}
 use Rattle.std.specs.Bool.{Decides}
 use Rattle.std.specs.List.{list_all, AllByRecursion}
 use Rattle.std.specs.Ordering.{eq_by_cmp, is_eq, is_lt}
@@ -8,7 +8,7 @@ use Rattle.std.specs.declared.cmp.Ordering.TheVariants.{Less, Equal, Greater}
 use Rattle.std.specs.Cmp.{IsTotalOrder, tied_itself}
 use Rattle.std.specs.FinMap.{FinMap, IsAntisymmetric, find, get, is_sorted}
 use Rattle.std.specs.FinMap.Entries.{below_all}
-use Rattle.ox_rules.specs.Differences.{AreGone, Difference, Differ, without_rows, with_rows, other_end}
+use Rattle.ox_rules.specs.Differences.{Difference, Differ, without_rows, other_end}
 use Rattle.ox_plain.specs.Ends.{stands, gave_way, difference_ends}
 use Rattle.ox_rules.proofs.DifferenceLemmas.{or_else, get-with_rows, get-without_rows}
 
@@ -168,11 +168,11 @@ module _ {K X : Type 0} {R : K → K → Ordering} (o : IsTotalOrder R) (exact :
         let gave = list_all (λ row. gave_way same (get after row.0) (find R row.0 d.came) row.1) d.gone in
         let rest : (stand && gave) ≡ true = second_true came (stand && gave) (second_true gone (came && (stand && gave)) is) in
         let ways = λ (at : K) (row : X). both_ways same decides (get after at) (find R at d.gone) (find R at d.came) row
-            (λ s. all_found (λ row. stands same (get after row.0) row.1) d.came (first_true stand gave rest) at s)
-            (λ r. all_found (λ row. gave_way same (get after row.0) (find R row.0 d.came) row.1) d.gone (second_true stand gave rest) at r) in
+        (λ s. all_found (λ row. stands same (get after row.0) row.1) d.came (first_true stand gave rest) at s)
+        (λ r. all_found (λ row. gave_way same (get after row.0) (find R row.0 d.came) row.1) d.gone (second_true stand gave rest) at r) in
         let by_ways = λ (at : K) (row : X). subst
-            (λ (before : Option X). ((find R at d.gone ≡ Some row) ↔ ((before ≡ Some row) × (get after at ≢ Some row))) × ((find R at d.came ≡ Some row) ↔ ((get after at ≡ Some row) × (before ≢ Some row))))
-            (sym (get-other_end after d at)) (ways at row) in
+        (λ (before : Option X). ((find R at d.gone ≡ Some row) ↔ ((before ≡ Some row) × (get after at ≢ Some row))) × ((find R at d.came ≡ Some row) ↔ ((get after at ≡ Some row) × (before ≢ Some row))))
+        (sym (get-other_end after d at)) (ways at row) in
         record {
           gone = record { rising = first_true gone (came && (stand && gave)) is; rows = λ at row. (by_ways at row).0 };
           came = record { rising = first_true came (stand && gave) (second_true gone (came && (stand && gave)) is); rows = λ at row. (by_ways at row).1 };
@@ -181,10 +181,10 @@ module _ {K X : Type 0} {R : K → K → Ordering} (o : IsTotalOrder R) (exact :
     pub differ_ends : (before after : FinMap R X) (d : Difference K X) → Differ before after d → difference_ends same after d ≡ true
     differ_ends before after d is =
         let stand : list_all (λ row. stands same (get after row.0) row.1) d.came ≡ true =
-            found_all (λ row. stands same (get after row.0) row.1) d.came is.came.rising (λ at s found. is_stands same decides (get after at) s ((is.came.rows at s).0 found).0) in
+        found_all (λ row. stands same (get after row.0) row.1) d.came is.came.rising (λ at s found. is_stands same decides (get after at) s ((is.came.rows at s).0 found).0) in
         let gave : list_all (λ row. gave_way same (get after row.0) (find R row.0 d.came) row.1) d.gone ≡ true =
-            found_all (λ row. gave_way same (get after row.0) (find R row.0 d.came) row.1) d.gone is.gone.rising
-            (λ at r found.
-            let went = (is.gone.rows at r).0 found in
-            gave_way_is same decides (get after at) (find R at d.gone) (find R at d.came) (get before at) r went.0 went.1 (λ row comes. (is.came.rows at row).1 comes)) in
+        found_all (λ row. gave_way same (get after row.0) (find R row.0 d.came) row.1) d.gone is.gone.rising
+        (λ at r found.
+        let went = (is.gone.rows at r).0 found in
+        gave_way_is same decides (get after at) (find R at d.gone) (find R at d.came) (get before at) r went.0 went.1 (λ row comes. (is.came.rows at row).1 comes)) in
         both_true _ _ is.gone.rising (both_true _ _ is.came.rising (both_true _ _ stand gave))

@@ -1,12 +1,12 @@
 -- A change ends or begins in an index where the test says so.
-use Rattle.std.proofs.Common.{◌≡◌, ◌∙◌, ℕ, ◌+◌, ◌-◌, ◌≤◌, Bool, true, false, List, [], ◌∷◌, ◌++◌, length, take, drop, refl, sym, ap, subst, arith, length-append, length-drop}
+use Rattle.std.proofs.Common.{◌≡◌, ◌∙◌, ℕ, ◌-◌, Bool, true, false, List, [], ◌∷◌, ◌++◌, length, take, drop, refl, sym, ap, subst, arith}
 use Rattle.std.specs.Prelude.{◌==◌, ◌&&◌, ◌↔◌, IsTrue, bytes_eq}
 use Rattle.std.specs.Bool.{Decides}
 use Rattle.std.specs.List.{ends_with}
 use Rattle.std.proofs.lemmas.Bool.Decides.{Decides-eqb}
 use Rattle.std.proofs.lemmas.Slice.Eq.{bytes_eq-Decides, ends_is}
 use Rattle.std.proofs.lemmas.List.{drop_at, length-take-le, take-append-drop}
-use Rattle.ox_rules.specs.Differences.{AreGone, Difference, Differ, other_end, reverse_of}
+use Rattle.ox_rules.specs.Differences.{reverse_of}
 use Rattle.ox_rules.proofs.DifferenceLemmas.{from_the_other}
 use Rattle.ox_rules.proofs.Orders.{outpoints_total, outpoints_exact}
 use Rattle.ox_etching.specs.declared.row.RuneRow.{RuneRow}
@@ -74,7 +74,7 @@ lead_ends after part is =
     let before = before_of after part in
     let appended : part.appended ≡ drop (length after.runes - length part.appended) after.runes = is.appended ∙ ap (λ (n : ℕ). drop n after.runes) (fewer after part) in
     let whole : after.runes ≡ rows ++ part.appended =
-        sym (take-append-drop (length after.runes - length part.appended) after.runes) ∙ ap (λ (tail : List RuneRow). rows ++ tail) (sym appended) in
+    sym (take-append-drop (length after.runes - length part.appended) after.runes) ∙ ap (λ (tail : List RuneRow). rows ++ tail) (sym appended) in
     let long : length before ≡ length rows = length-rows (counts_at true) part.counts 0 rows in
     let counts : part.counts ≡ changes_from 0 before rows = is.counts ∙ ap (changes_from 0 before) whole ∙ changes_within_front 0 before rows part.appended long in
     both_true _ _ (differ_ends outpoints_total outpoints_exact same_balances same_balances-Decides (earlier_end after part).bal after.bal (balances_of part) is.balances)
@@ -145,7 +145,7 @@ begins_change index change is =
     let outs = difference_ends same_output index.outs (reverse_of (outputs_changed change)) in
     let part = part_begins (runes_of index) change.runes in
     let differs = from_the_other (redone index change).outs index.outs (reverse_of (outputs_changed change))
-        (ends_differ outpoints_total outpoints_exact same_output same_output-Decides index.outs (reverse_of (outputs_changed change)) (first_true outs part is)) in
+    (ends_differ outpoints_total outpoints_exact same_output same_output-Decides index.outs (reverse_of (outputs_changed change)) (first_true outs part is)) in
     let leads = begins_lead (runes_of index) change.runes (second_true outs part is) in
     record {
       hash = refl;

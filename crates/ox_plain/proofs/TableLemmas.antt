@@ -1,15 +1,14 @@
 -- Tables by outpoint as finite maps, step by step.
-use Rattle.std.proofs.Common.{◌≡◌, ◌∙◌, ℕ, zero, suc, ◌+◌, ◌<◌, ◌≤◌, Bool, true, false, cond, T, List, [], ◌∷◌, ◌++◌, length, take, drop, append_assoc, append-nil, refl, sym, ap, subst, Option, Some, None, Ordering, arith}
-use Rattle.std.specs.Prelude.{◌&&◌, IsTrue, is_some, slice_index_or}
+use Rattle.std.proofs.Common.{◌≡◌, ◌∙◌, ℕ, ◌+◌, ◌<◌, ◌≤◌, Bool, true, false, cond, List, [], ◌∷◌, ◌++◌, length, drop, append_assoc, refl, sym, ap, subst, Option, Some, None, Ordering}
+use Rattle.std.specs.Prelude.{◌&&◌, is_some, slice_index_or}
 use Rattle.std.specs.List.{AllByRecursion, list_all}
 use Rattle.std.specs.List.Sorted.{IsStrictlySortedBy}
 use Rattle.std.specs.Map.{keys_of, lookup}
-use Rattle.std.specs.BTreeMap as tree
-use Rattle.std.specs.BTreeMap.{BTreeMap, insert_entry, is_at}
+use Rattle.std.specs.BTreeMap.{insert_entry, is_at}
 use Rattle.std.specs.Ordering.{eq_by_cmp, is_eq, is_lt, ordering_reverse}
 use Rattle.std.specs.declared.cmp.Ordering.TheVariants.{Less, Equal, Greater}
 use Rattle.std.specs.Cmp.{IsTotalOrder, eq_by_cmp_equiv}
-use Rattle.std.specs.FinMap.{FinMap, find, from_entries, get, get-from_entries, get-insert, get-remove, insert, is_sorted, remove, same_map}
+use Rattle.std.specs.FinMap.{FinMap, find, get, get-from_entries, get-insert, get-remove, insert, is_sorted, remove, same_map}
 use Rattle.std.specs.FinMap.Entries.{below_all}
 use Rattle.std.proofs.lemmas.List.{at_drop_all, at_drop_more, nil_from_length}
 use Rattle.ox_block.specs.declared.block.OutPoint.{OutPoint}
@@ -126,7 +125,7 @@ module _ {K X : Type 0} {R : K → K → Ordering} (o : IsTotalOrder R) where
       → rises_from R last (drop i es) ≡ all → rises_from R (Some key) (drop (i + 1) es) ≡ all
   rises_on last es i e key all less is named behind whole =
       let here : rises_from R last (drop i es) ≡ (is_behind R last e.0 && rises_from R (Some e.0) (drop (i + 1) es)) =
-          at_drop_more (rises_from R last) es i e less ∙ ap (λ (x : K × X). is_behind R last x.0 && rises_from R (Some x.0) (drop (i + 1) es)) (sym is) in
+      at_drop_more (rises_from R last) es i e less ∙ ap (λ (x : K × X). is_behind R last x.0 && rises_from R (Some x.0) (drop (i + 1) es)) (sym is) in
       let passes : is_behind R last e.0 ≡ true = ap (is_behind R last) (sym named) ∙ behind in
       ap (λ (k : K). rises_from R (Some k) (drop (i + 1) es)) named ∙ sym (ap (λ (b : Bool). b && rises_from R (Some e.0) (drop (i + 1) es)) passes) ∙ sym here ∙ whole
 
@@ -134,7 +133,7 @@ module _ {K X : Type 0} {R : K → K → Ordering} (o : IsTotalOrder R) where
       → rises_from R last (drop i es) ≡ all → false ≡ all
   rises_not last es i e all less is falls whole =
       let here : rises_from R last (drop i es) ≡ (is_behind R last e.0 && rises_from R (Some e.0) (drop (i + 1) es)) =
-          at_drop_more (rises_from R last) es i e less ∙ ap (λ (x : K × X). is_behind R last x.0 && rises_from R (Some x.0) (drop (i + 1) es)) (sym is) in
+      at_drop_more (rises_from R last) es i e less ∙ ap (λ (x : K × X). is_behind R last x.0 && rises_from R (Some x.0) (drop (i + 1) es)) (sym is) in
       sym (ap (λ (b : Bool). b && rises_from R (Some e.0) (drop (i + 1) es)) falls) ∙ sym here ∙ whole
 
   pub rises_all : (last : Option K) (es : List (K × X)) (i : ℕ) (all : Bool) → length es ≤ i → rises_from R last (drop i es) ≡ all → true ≡ all

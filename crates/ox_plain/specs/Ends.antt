@@ -1,6 +1,7 @@
 -- Whether a change ends or begins in an index, as a test of the change against that index alone.
 use Rattle.std.specs.Prelude.{ℕ, ◌+◌, ◌-◌, Bool, true, false, not, ◌&&◌, ◌==◌, List, [], ◌∷◌}
-use Rattle.std.specs.Prelude.{length, take, Option, Some, None, is_some, nat_le, slice_get, bytes_eq}
+use Rattle.std.specs.Prelude.{length, take, Option, Some, None, is_some, nat_le, slice_get}
+use Rattle.std.specs.Prelude.{bytes_eq}
 use Rattle.std.specs.List.{ends_with, list_all}
 use Rattle.std.specs.FinMap.{FinMap, find, get, is_sorted}
 use Rattle.std.specs.declared.cmp.Ordering.{Ordering}
@@ -38,7 +39,7 @@ difference_ends {R = R} same after difference =
     && (is_sorted R difference.came
     && (list_all (λ row. stands same (get after row.0) row.1) difference.came
     && list_all (λ row. gave_way same (get after row.0) (find R row.0 difference.came) row.1)
-        difference.gone))
+    difference.gone))
 
 -- ---- runes
 

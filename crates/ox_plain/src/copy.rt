@@ -14,7 +14,9 @@ impl Index {
     /// The same index once more. Its inscriptions are shared, all else is copied. It costs by the
     /// index. `Memory` where there is none for it.
     pub fn copy(&self, alloc: Global) -> Result<Index, Memory>
-        ensures { IfOk result (λ copy. index_in copy ≡ index_in self.now) }
+        ensures same { IfOk result (λ copy. index_in copy ≡ index_in self.now) }
+        ensures outs { IfOk result (λ copy. copy.outs.entries ≡ self.now.outs.entries) }
+        ensures balances { IfOk result (λ copy. copy.bal.entries ≡ self.now.bal.entries) }
     {
         let inscriptions = share_all(alloc, &self.inscriptions)?;
         let outs = copy_table(alloc, &self.outs)?;

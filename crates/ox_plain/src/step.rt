@@ -1,7 +1,7 @@
 //! To the other end of a change.
 
-ghost use Rattle.std.specs.Prelude.{◌≡◌, ◌-◌, false, ◌&&◌, ◌∷◌, [], length, take, is_some, bytes_eq};
-ghost use Rattle.std.specs.Prelude.{IfOk, OnOk};
+ghost use Rattle.std.specs.Prelude.{◌≡◌, ◌-◌, false, ◌&&◌, ◌∷◌, [], length, take, is_some};
+ghost use Rattle.std.specs.Prelude.{bytes_eq, IfOk, OnOk};
 ghost use Rattle.std.specs.Option.{IfSome};
 ghost use Rattle.std.specs.Bool.{OnFalse, OnTrue};
 ghost use Rattle.std.specs.List.{ends_with};
@@ -27,16 +27,16 @@ use ox_model::Change;
 use std::alloc::Global;
 use std::collections::BTreeMap;
 
-/// Balances and runes.
+/// Balances by outpoint.
 type Table = BTreeMap<OutPoint, Balances>;
 
 impl Index {
     /// Goes to the other end of a change: where `back` is true, to the index before a change that
-    /// ends in this one, else to the index after a change that begins in this one. It costs by the
-    /// change, by the logarithm of the index for each row of it, and by the hashes, inscriptions
-    /// and runes not at all. `false` exactly where the change doesn't end here, or doesn't begin
-    /// here: the index is as before. `Memory` where there is none left, and where the index would
-    /// have more lost satoshis than a `u64` counts: the index is to be dropped then.
+    /// ends in this one, else to the index after a change that begins in this one. `false` exactly
+    /// where the change doesn't end here, or doesn't begin here: the index is as before. It costs
+    /// by the change, and by the logarithm of a table for each of its rows. `Memory` where there is
+    /// none left, and where the index would have more lost satoshis than a `u64` counts: the index
+    /// is to be dropped then.
     pub fn step(&mut self, alloc: Global, change: &Change, back: bool) -> Result<bool, Memory>
         ensures told { IfOk result
             (λ is. is ≡ is_at_end back (index_in self.old) change.now) }

@@ -96,12 +96,7 @@ fn all_gave_way<X: Row>(
 
 /// Whether a row gave way to what stands, where those came: nothing stands, or another row that
 /// came.
-fn gave_way<X: Row>(
-    stood: Option<&X>,
-    came: &[(OutPoint, X)],
-    at: &OutPoint,
-    row: &X,
-) -> bool
+fn gave_way<X: Row>(stood: Option<&X>, came: &[(OutPoint, X)], at: &OutPoint, row: &X) -> bool
     requires { IsTrue (map.is_sorted outpoint_cmp came.now) }
     ensures { result ≡ gave_way X.same (option_copied stood.entry)
         (map.find outpoint_cmp at.now came.now) row.now }

@@ -9,8 +9,7 @@ use Rattle.ox_plain.proofs.row.are_same.Goals as goal
 pub returns : goal.returns
 returns c =
     let decides = slice_eq-Decides {E = same_run} same_run-Decides c.runs.result.now c.runs-2.result.now c.eq.result c.eq.ensures in
-    same_from_decides c.eq.result (bytes_eq c.args.sats.now c.args.others.now)
-    (
+    same_from_decides c.eq.result (bytes_eq c.args.sats.now c.args.others.now) (
       λ same. sym c.runs.ensures.numbers ∙ ap numbers_of (decides.0 same) ∙ c.runs-2.ensures.numbers,
       λ same. decides.1 (c.runs.ensures.exact ∙ ap runs_of same ∙ sym c.runs-2.ensures.exact),
     )
