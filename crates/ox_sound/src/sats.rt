@@ -1,9 +1,9 @@
 //! Satoshis, each in one place.
 
 ghost use Rattle.std.specs.Prelude.{◌≡◌, ◌++◌, All, IfOk};
-ghost use Rattle.std.specs.BTreeMap.{values};
 ghost use Rattle.ox_range.specs.Runs.{numbers_of};
-ghost use Rattle.ox_rules.specs.Outputs.{sats_of};
+ghost use Rattle.ox_rules.specs.Outputs.{sats_held};
+ghost use Rattle.ox_sound.specs.Amounts.{outputs_in};
 ghost use Rattle.ox_sound.specs.Once.{IsRun, stand_once, tiles};
 
 use ox_block::OutPoint;
@@ -21,7 +21,7 @@ fn runs_in(
     lost: &Ranges,
 ) -> Result<Vec<Run>, Memory>
     ensures numbers { IfOk result (λ runs.
-        numbers_of runs.items ≡ sats_of (values outs.now) ++ lost.now) }
+        numbers_of runs.items ≡ sats_held (outputs_in outs.now) ++ lost.now) }
     ensures runs { IfOk result (λ runs. All IsRun runs.items) }
 {
     let mut runs = Vec::new(alloc);
@@ -51,14 +51,14 @@ fn do_tile(runs: &[Run], end: u64) -> bool
 /// Whether each number below `end` is in one place, an output's list or the lost one, and no other
 /// number is in any. No list of numbers is made: it costs by the runs, and by a logarithm for their
 /// order. `Memory` where there is none for the runs.
-pub fn are_once(
+pub(crate) fn are_once(
     alloc: Global,
     outs: &BTreeMap<OutPoint, OutRow>,
     lost: &Ranges,
     end: u64,
 ) -> Result<bool, Memory>
     ensures { IfOk result (λ once.
-        once ≡ stand_once end (sats_of (values outs.now) ++ lost.now)) }
+        once ≡ stand_once end (sats_held (outputs_in outs.now) ++ lost.now)) }
 {
     let mut runs = runs_in(alloc, outs, lost)?;
     runs.sort_unstable_by_key(|run| run.first);

@@ -1,0 +1,217 @@
+-- What outputs hold of runes: that ids rise, that runes are there, and what all that comes to.
+use Rattle.std.proofs.Common.{◌≡◌, ◌≢◌, ◌∙◌, ℕ, zero, suc, ◌+◌, ◌*◌, ◌-◌, ◌<◌, ◌≤◌, ◌^◌, Bool, true, false, cond, List, [], ◌∷◌, ◌++◌, length, get_or, take, drop, map, refl, sym, ap, subst, arith, inl, inr, ◌⊎◌, Option, Some, None, Ordering}
+use Rattle.std.specs.Prelude.{◌&&◌, ◌==◌, ◌↔◌, nat_lt, if◌then◌else◌, is_some, IsSome, IsTrue, sum_by, unwrap_or, slice_get, All, Decides}
+use Rattle.std.specs.BTreeMap.{BTreeMap, get, is_at}
+use Rattle.std.specs.List.{AllByRecursion, list_all}
+use Rattle.std.specs.List.Sorted.{IsStrictlySortedBy}
+use Rattle.std.specs.Map.{keys_of, lookup, values_of}
+use Rattle.std.specs.Option.{option_map}
+use Rattle.std.specs.Ordering.{is_eq, is_lt}
+use Rattle.std.specs.declared.cmp.Ordering.TheVariants.{Less, Equal, Greater}
+use Rattle.std.proofs.lemmas.Bool.{and_from, and_parts, cases_Bool, cond-false, cond-true, eq-eqb, eqb-true, false≢true, lt-ltb, ltb-true, true≢false}
+use Rattle.std.proofs.lemmas.Bool.Decides.{Decides-eqb, same_from_decides}
+use Rattle.std.proofs.lemmas.List.{drop_more, drop_all, length-drop}
+use Rattle.std.proofs.lemmas.List.Elements.{All-from_recursion, recursion_from_All}
+use Rattle.std.proofs.lemmas.List.Sums.{get_or-le-sum_by, sum_by-cons}
+use Rattle.std.proofs.Math.Nat.{mul-le-mul_right}
+use Rattle.ox_runestone.specs.declared.stone.RuneId.{RuneId}
+use Rattle.ox_allocation.specs.Balances.{AreBalances, Balance, amount_in, id_cmp, ids_of, is_same}
+use Rattle.ox_allocation.proofs.Ids.{ids_total, same_id, same_itself, same_turned}
+use Rattle.ox_etching.specs.declared.row.RuneRow.{RuneRow}
+use Rattle.ox_ledger.specs.Balanced.{AreDistinct, AreKnown, made_of}
+use Rattle.ox_ledger.specs.Runes.{by_id}
+use Rattle.ox_sound.specs.Amounts.{AreAmounts, as_amount, burned_in, sum_of}
+use Rattle.ox_sound.specs.Rows.{are_known, rise}
+use Rattle.ox_sound.proofs.AmountLemmas.{amount_is, small_amount}
+use Rattle.ox_sound.proofs.DifferLemmas.{all_by_place, each_passes}
+
+-- ---- ids that rise
+
+pub rise_stop : (balances : List Balance) (i : ℕ) (d : Balance) → i + 1 < length balances → is_lt (id_cmp (get_or balances i d).0 (get_or balances (i + 1) d).0) ≡ false → rise (drop i balances) ≡ false
+unfolding rise
+rise_stop balances i d h not_less =
+    let first : drop i balances ≡ get_or balances i d ∷ get_or balances (i + 1) d ∷ drop (i + 1 + 1) balances = drop_more balances i d (omega (arith, h)) ∙ ap (λ (bs : List Balance). get_or balances i d ∷ bs) (drop_more balances (i + 1) d h) in
+    ap rise first ∙ ap (λ (b : Bool). b && rise (get_or balances (i + 1) d ∷ drop (i + 1 + 1) balances)) not_less
+
+pub rise_on : (balances : List Balance) (i : ℕ) (d : Balance) → i + 1 < length balances → is_lt (id_cmp (get_or balances i d).0 (get_or balances (i + 1) d).0) ≡ true → rise (drop i balances) ≡ rise (drop (i + 1) balances)
+unfolding rise
+rise_on balances i d h less =
+    let second : drop (i + 1) balances ≡ get_or balances (i + 1) d ∷ drop (i + 1 + 1) balances = drop_more balances (i + 1) d h in
+    let first : drop i balances ≡ get_or balances i d ∷ get_or balances (i + 1) d ∷ drop (i + 1 + 1) balances = drop_more balances i d (omega (arith, h)) ∙ ap (λ (bs : List Balance). get_or balances i d ∷ bs) second in
+    ap rise first ∙ ap (λ (b : Bool). b && rise (get_or balances (i + 1) d ∷ drop (i + 1 + 1) balances)) less ∙ sym (ap rise second)
+
+short_rises : (balances : List Balance) → length balances ≤ 1 → rise balances ≡ true
+unfolding rise
+short_rises [] h = refl
+short_rises (b ∷ []) h = refl
+short_rises (b ∷ next ∷ more) h = absurd (omega (arith, h))
+
+pub rise_end : (balances : List Balance) (i : ℕ) → length balances ≤ i + 1 → rise (drop i balances) ≡ true
+rise_end balances i h = short_rises (drop i balances) (simp length-drop (omega (arith, h)))
+
+less_from : (r : Ordering) → is_lt r ≡ true → r ≡ Less
+less_from Less is = refl
+less_from Equal is = absurd (false≢true is)
+less_from Greater is = absurd (false≢true is)
+
+above : (x y : RuneId) (ids : List RuneId) → id_cmp x y ≡ Less → AllByRecursion (λ (k : RuneId). id_cmp y k ≡ Less) ids → AllByRecursion (λ (k : RuneId). id_cmp x k ≡ Less) ids
+above x y [] less all = tt
+above x y (k ∷ ids) less all = (ids_total.trans x y k less all.0, above x y ids less all.1)
+
+pub rising_from : (balances : List Balance) → rise balances ≡ true → IsStrictlySortedBy id_cmp (ids_of balances)
+unfolding rise IsStrictlySortedBy
+rising_from [] is = tt
+rising_from (b ∷ []) is = (tt, tt)
+rising_from (b ∷ next ∷ more) is =
+    let parts = and_parts (is_lt (id_cmp b.0 next.0)) (rise (next ∷ more)) is in
+    let less : id_cmp b.0 next.0 ≡ Less = less_from (id_cmp b.0 next.0) parts.0 in
+    let rest = rising_from (next ∷ more) parts.1 in
+    ((less, above b.0 next.0 (ids_of more) less rest.0), rest)
+
+rise_from : (balances : List Balance) → IsStrictlySortedBy id_cmp (ids_of balances) → rise balances ≡ true
+unfolding rise IsStrictlySortedBy
+rise_from [] sorted = refl
+rise_from (b ∷ []) sorted = refl
+rise_from (b ∷ next ∷ more) sorted = and_from (is_lt (id_cmp b.0 next.0)) (rise (next ∷ more)) (ap is_lt sorted.0.0) (rise_from (next ∷ more) sorted.1)
+
+-- ---- the amount of a rune
+
+sum-cons : (b : Balance) (balances : List Balance) (id : RuneId) → sum_of (b ∷ balances) id ≡ (if is_same b.0 id then b.1 else 0) + sum_of balances id
+sum-cons b balances id = sum_by-cons (λ (balance : Balance). if is_same balance.0 id then balance.1 else 0) b balances
+
+none_above : (id : RuneId) (balances : List Balance) → AllByRecursion (λ (k : RuneId). id_cmp id k ≡ Less) (ids_of balances) → sum_of balances id ≡ 0
+none_above id [] all = refl
+none_above id (b ∷ balances) all =
+    let differs : is_same b.0 id ≡ false = same_turned b.0 id ∙ ap is_eq all.0 in
+    let here : ◌≡◌ {A = ℕ} (if is_same b.0 id then b.1 else 0) 0 = cond-false (is_same b.0 id) b.1 0 differs in
+    let rest : sum_of balances id ≡ 0 = none_above id balances all.1 in
+    sum-cons b balances id ∙ omega (arith, here, rest)
+
+sum_sorted : (balances : List Balance) (id : RuneId) → IsStrictlySortedBy id_cmp (ids_of balances) → sum_of balances id ≡ amount_in balances id
+unfolding IsStrictlySortedBy
+sum_sorted [] id sorted = refl
+sum_sorted (b ∷ balances) id sorted = sum-cons b balances id ∙ by_test (sum_sorted balances id sorted.1) (is_same b.0 id) refl where
+  by_test : sum_of balances id ≡ amount_in balances id → (t : Bool) → is_same b.0 id ≡ t → (if t then b.1 else 0) + sum_of balances id ≡ amount_in (b ∷ balances) id
+  by_test rest true is =
+      let none : sum_of balances id ≡ 0 = none_above id balances (subst (λ (q : RuneId). AllByRecursion (λ (k : RuneId). id_cmp q k ≡ Less) (ids_of balances)) (same_id b.0 id is) sorted.0) in
+      let at : is_same id b.0 ≡ true = same_turned id b.0 ∙ is in
+      let here : amount_in (b ∷ balances) id ≡ b.1 = ap (λ (t : Bool). unwrap_or (cond t (Some b.1) (lookup (is_at (id_cmp id)) balances)) 0) at in
+      omega (arith, none, here)
+  by_test rest false is =
+      let at : is_same id b.0 ≡ false = same_turned id b.0 ∙ is in
+      let behind : amount_in (b ∷ balances) id ≡ amount_in balances id = ap (λ (t : Bool). unwrap_or (cond t (Some b.1) (lookup (is_at (id_cmp id)) balances)) 0) at in
+      omega (arith, rest, behind)
+
+pub sum_is_amount : (balances : List Balance) (id : RuneId) → rise balances ≡ true → sum_of balances id ≡ amount_in balances id
+sum_is_amount balances id is = sum_sorted balances id (rising_from balances is)
+
+-- ---- balances of runes that are there
+
+-- a test of each balance, of its rune and its amount
+abbrev pub each_there : (RuneId → Bool) → Balance → Bool
+each_there known balance = nat_lt 0 balance.1 && known balance.0
+
+known_id : (known : RuneId → Bool) (balances : List Balance) (id : RuneId) → list_all (each_there known) balances ≡ true → amount_in balances id ≢ 0 → known id ≡ true
+known_id known [] id all some = absurd (some refl)
+known_id known (b ∷ balances) id all some = by_test (λ rest is. known_id known balances id rest is) (is_same id b.0) refl where
+  parts : (each_there known b ≡ true) × (list_all (each_there known) balances ≡ true)
+  parts = and_parts (each_there known b) (list_all (each_there known) balances) all
+
+  by_test : (list_all (each_there known) balances ≡ true → amount_in balances id ≢ 0 → known id ≡ true) → (t : Bool) → is_same id b.0 ≡ t → known id ≡ true
+  by_test later true is = ap known (same_id id b.0 is) ∙ (and_parts (nat_lt 0 b.1) (known b.0) parts.0).1
+  by_test later false is =
+      let behind : amount_in (b ∷ balances) id ≡ amount_in balances id = ap (λ (t : Bool). unwrap_or (cond t (Some b.1) (lookup (is_at (id_cmp id)) balances)) 0) is in
+      later parts.1 (λ none. some (behind ∙ none))
+
+some_from : (known : RuneId → Bool) (balances : List Balance) → list_all (each_there known) balances ≡ true → AllByRecursion (λ (n : ℕ). 0 < n) (values_of balances)
+some_from known [] all = tt
+some_from known (b ∷ balances) all =
+    let parts = and_parts (each_there known b) (list_all (each_there known) balances) all in
+    (ltb-true 0 b.1 (and_parts (nat_lt 0 b.1) (known b.0) parts.0).0, some_from known balances parts.1)
+
+some_each : (balances : List Balance) → AllByRecursion (λ (n : ℕ). 0 < n) (values_of balances) → (k : ℕ) (d : Balance) → k < length balances → 0 < (get_or balances k d).1
+some_each [] all k d h = absurd (omega (arith, h))
+some_each (b ∷ balances) all zero d h = all.0
+some_each (b ∷ balances) all (suc k) d h = some_each balances all.1 k d (omega (arith, h))
+
+abbrev pub Known : List RuneRow → List Balance → Type 0
+Known runes balances = (balances ≢ []) × AreKnown runes balances
+
+some_in : (b : Balance) (balances : List Balance) → 0 < length (b ∷ balances)
+some_in b balances = omega arith
+
+known_from : (runes : List RuneRow) (balances : List Balance) → are_known runes balances ≡ true → Known runes balances
+unfolding are_known
+known_from runes balances is = (
+  λ none. absurd (false≢true (ap (λ (bs : List Balance). nat_lt 0 (length bs)) (sym none) ∙ parts.0)),
+  record {
+    proper = record {
+      rising = rising_from balances parts.1.0;
+      some = All-from_recursion (λ (n : ℕ). 0 < n) (values_of balances) (some_from (λ (id : RuneId). is_some (by_id runes id)) balances parts.1.1);
+    };
+    known = λ id some. known_id (λ (q : RuneId). is_some (by_id runes q)) balances id parts.1.1 some;
+  },
+) where
+  whole : Bool
+  whole = list_all (each_there (λ (id : RuneId). is_some (by_id runes id))) balances
+
+  parts : (nat_lt 0 (length balances) ≡ true) × ((rise balances ≡ true) × (whole ≡ true))
+  parts =
+      let outer = and_parts (nat_lt 0 (length balances) && rise balances) whole is in
+      let inner = and_parts (nat_lt 0 (length balances)) (rise balances) outer.0 in
+      (inner.0, (inner.1, outer.1))
+
+to_known : (runes : List RuneRow) (balances : List Balance) → Known runes balances → are_known runes balances ≡ true
+unfolding are_known
+to_known runes [] known = absurd (known.0 refl)
+to_known runes (b ∷ more) known =
+    let balances = b ∷ more in
+    and_from (nat_lt 0 (length balances) && rise balances) (list_all (each_there (λ (id : RuneId). is_some (by_id runes id))) balances)
+        (and_from (nat_lt 0 (length balances)) (rise balances) (lt-ltb 0 (length balances) (some_in b more)) (rise_from balances known.1.proper.rising))
+        (all_by_place (each_there (λ (id : RuneId). is_some (by_id runes id))) balances b each)
+  where
+  each : (k : ℕ) → k < length (b ∷ more) → each_there (λ (id : RuneId). is_some (by_id runes id)) (get_or (b ∷ more) k b) ≡ true
+  each k h =
+      let one = get_or (b ∷ more) k b in
+      let some : 0 < one.1 = some_each (b ∷ more) (recursion_from_All (λ (n : ℕ). 0 < n) (values_of (b ∷ more)) known.1.proper.some) k b h in
+      let own : ◌≡◌ {A = ℕ} (if is_same one.0 one.0 then one.1 else 0) one.1 = cond-true (is_same one.0 one.0) one.1 0 (same_itself one.0) in
+      let within : (if is_same one.0 one.0 then one.1 else 0) ≤ sum_of (b ∷ more) one.0 = get_or-le-sum_by (λ (balance : Balance). if is_same balance.0 one.0 then balance.1 else 0) (b ∷ more) k b h in
+      let is : sum_of (b ∷ more) one.0 ≡ amount_in (b ∷ more) one.0 = sum_sorted (b ∷ more) one.0 known.1.proper.rising in
+      and_from (nat_lt 0 one.1) (is_some (by_id runes one.0)) (lt-ltb 0 one.1 some) (known.1.known one.0 (λ none. absurd (omega (arith, some, own, within, is, none))))
+
+pub Decides-known : (runes : List RuneRow) (balances : List Balance) → Decides (are_known runes balances) (Known runes balances)
+Decides-known runes balances = (known_from runes balances, to_known runes balances)
+
+-- ---- what there is of a rune
+
+pub found_own : (runes : List RuneRow) → AreDistinct (λ row. row.id) runes → (i : ℕ) (row : RuneRow) → slice_get runes i ≡ Some row → by_id runes row.id ≡ Some row
+unfolding by_id
+found_own [] distinct i row there = let none : None ≡ Some row = there in absurd (cc none)
+found_own (first ∷ runes) distinct zero row there =
+    let here : first ≡ row = cc there in
+    cond-true (is_same first.id row.id) (Some first) (by_id runes row.id) (ap (λ (r : RuneRow). is_same r.id row.id) here ∙ same_itself row.id) ∙ ap Some here
+found_own (first ∷ runes) distinct (suc i) row there =
+    by_test (found_own runes (λ a b x y p q e. let both : suc a ≡ suc b = distinct (suc a) (suc b) x y p q e in omega (arith, both)) i row there) (is_same first.id row.id) refl
+  where
+  by_test : by_id runes row.id ≡ Some row → (b : Bool) → is_same first.id row.id ≡ b → (if b then Some first else by_id runes row.id) ≡ Some row
+  by_test later true is = let never : 0 ≡ suc i = distinct 0 (suc i) first row refl there (same_id first.id row.id is) in absurd (omega (arith, never))
+  by_test later false is = later
+
+pub is_settled : (amounts : BTreeMap RuneId (Option ℕ)) (runes : List RuneRow) (held : RuneId → ℕ) (row : RuneRow) (r : Bool) → AreAmounts amounts (burned_in runes) held → by_id runes row.id ≡ Some row
+    → made_of row < 2 ^ 128 → (IsTrue r ↔ (get id_cmp amounts row.id ≡ Some (Some (made_of row)))) → r ≡ (held row.id + row.burned == made_of row)
+is_settled amounts runes held row r are found small iff =
+    same_from_decides r (held row.id + row.burned == made_of row) (to, from) (Decides-eqb (held row.id + row.burned) (made_of row)) where
+  at : get id_cmp amounts row.id ≡ Some (as_amount (row.burned + held row.id))
+  at = are.at row.id ∙ ap (λ (o : Option RuneRow). option_map (λ n. as_amount (n + held row.id)) (option_map (λ (one : RuneRow). one.burned) o)) found
+
+  to : r ≡ true → held row.id + row.burned ≡ made_of row
+  to is =
+      let some : Some (as_amount (row.burned + held row.id)) ≡ Some (Some (made_of row)) = sym at ∙ iff.0 is in
+      let amount : as_amount (row.burned + held row.id) ≡ Some (made_of row) = cc some in
+      let equal : row.burned + held row.id ≡ made_of row = (amount_is (row.burned + held row.id) (made_of row) amount).0 in
+      omega (arith, equal)
+
+  from : held row.id + row.burned ≡ made_of row → r ≡ true
+  from equal =
+      let turned : row.burned + held row.id ≡ made_of row = omega (arith, equal) in
+      iff.1 (at ∙ ap (λ n. Some (as_amount n)) turned ∙ ap Some (small_amount (made_of row) small))

@@ -1,0 +1,10 @@
+use Rattle.ox_sound.proofs.amounts.add.Goals as goal
+
+pub loop-id-init : goal.loop-id-init
+loop-id-init c = ?
+
+pub loop-id-preserved : goal.loop-id-preserved
+loop-id-preserved c = ?
+
+pub returns : goal.returns
+returns c = ?
