@@ -13,6 +13,8 @@ use Rattle.ox_allocation.specs.Balances.{Balance, id_cmp, is_same}
 use Rattle.ox_allocation.proofs.Ids.{same_id, same_itself}
 use Rattle.ox_etching.specs.declared.row.RuneRow.{RuneRow}
 use Rattle.ox_ledger.specs.Runes.{by_id}
+use Rattle.ox_sound.specs.Rows.{ids_differ}
+use Rattle.ox_sound.proofs.DifferLemmas.{differ_more, not_alone}
 use Rattle.ox_sound.specs.Amounts.{AreAmounts, as_amount, burned_in, sum_held, sum_of}
 
 -- ---- numbers of 128 bits
@@ -157,3 +159,50 @@ is_there amounts runes held id are = ap is_some (are.at id) ∙ by_rune (by_id r
   by_rune : (r : Option RuneRow) → is_some (option_map (λ n. as_amount (n + held id)) (option_map (λ (row : RuneRow). row.burned) r)) ≡ is_some r
   by_rune None = refl
   by_rune (Some row) = refl
+
+-- ---- what was burned of one rune after another
+
+pub id_met : (runes : List RuneRow) (i : ℕ) (d : RuneRow) (amounts : BTreeMap RuneId (Option ℕ)) (old : Option (Option ℕ)) → i < length runes → AreAmounts amounts (burned_in (take i runes)) (λ id. 0)
+    → old ≡ get id_cmp amounts (get_or runes i d).id → is_some old ≡ true → ids_differ runes ≡ false
+unfolding ids_differ
+id_met runes i d amounts old h are is some =
+    let id = (get_or runes i d).id in
+    not_alone (λ (row : RuneRow). row.id) is_same same_id same_itself runes i d h
+        (sym (found_some (take i runes) id) ∙ sym (is_there amounts (take i runes) (λ q. 0) id are) ∙ ap is_some (sym is) ∙ some)
+
+is_new : (runes : List RuneRow) (i : ℕ) (d : RuneRow) (amounts : BTreeMap RuneId (Option ℕ)) (old : Option (Option ℕ)) → AreAmounts amounts (burned_in (take i runes)) (λ id. 0)
+    → old ≡ get id_cmp amounts (get_or runes i d).id → is_some old ≡ false → is_some (by_id (take i runes) (get_or runes i d).id) ≡ false
+is_new runes i d amounts old are is none = sym (is_there amounts (take i runes) (λ q. 0) (get_or runes i d).id are) ∙ ap is_some (sym is) ∙ none
+
+pub id_new : (runes : List RuneRow) (i : ℕ) (d : RuneRow) (amounts : BTreeMap RuneId (Option ℕ)) (old : Option (Option ℕ)) → i < length runes → AreAmounts amounts (burned_in (take i runes)) (λ id. 0)
+    → old ≡ get id_cmp amounts (get_or runes i d).id → is_some old ≡ false → ids_differ (take i runes) ≡ true → ids_differ (take (i + 1) runes) ≡ true
+unfolding ids_differ
+id_new runes i d amounts old h are is none before =
+    differ_more (λ (row : RuneRow). row.id) is_same same_id same_itself runes i d h before
+        (sym (found_some (take i runes) (get_or runes i d).id) ∙ is_new runes i d amounts old are is none)
+
+pub id_burned : (runes : List RuneRow) (i : ℕ) (d : RuneRow) (amounts new : BTreeMap RuneId (Option ℕ)) (old : Option (Option ℕ)) → i < length runes → AreAmounts amounts (burned_in (take i runes)) (λ id. 0)
+    → old ≡ get id_cmp amounts (get_or runes i d).id → is_some old ≡ false → (get_or runes i d).burned < 2 ^ 128
+    → ((id : RuneId) → get id_cmp new id ≡ cond (is_same (get_or runes i d).id id) (Some (Some (get_or runes i d).burned)) (get id_cmp amounts id))
+    → AreAmounts new (burned_in (take (i + 1) runes)) (λ id. 0)
+id_burned runes i d amounts new old h are is none small written =
+    subst (λ (rs : List RuneRow). AreAmounts new (burned_in rs) (λ id. 0)) (sym (take_more runes i d h))
+        (one_burned (take i runes) (get_or runes i d) amounts new are (is_new runes i d amounts old are is none) small written)
+
+-- what stands in a slice past its end
+abbrev pub no_rune : RuneRow
+no_rune = record {
+  id = record { block = 0; tx = 0 };
+  name = 0;
+  spacers = 0;
+  divisibility = 0;
+  symbol = None;
+  premine = 0;
+  terms = None;
+  mints = 0;
+  burned = 0;
+  etching = record { 0 = [] };
+}
+
+abbrev pub no_balance : Balance
+no_balance = (record { block = 0; tx = 0 }, 0)

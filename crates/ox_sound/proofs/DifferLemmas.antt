@@ -1,10 +1,12 @@
 -- Lists of runes of which no two have one id, or one name.
-use Rattle.std.proofs.Common.{◌≡◌, ◌≢◌, ◌∙◌, ℕ, zero, suc, ◌+◌, ◌<◌, ◌≤◌, Bool, true, false, cond, List, [], ◌∷◌, ◌++◌, length, get_or, take, refl, sym, ap, subst, arith, inl, inr, ◌⊎◌, Some}
+use Rattle.std.proofs.Common.{◌≡◌, ◌≢◌, ◌∙◌, ℕ, zero, suc, ◌+◌, ◌<◌, ◌≤◌, Bool, true, false, not, cond, List, [], ◌∷◌, ◌++◌, length, get_or, take, refl, sym, ap, subst, arith, inl, inr, ◌⊎◌, Some}
 use Rattle.std.specs.Prelude.{◌&&◌, ◌||◌, ◌==◌, count_by, sum_by, slice_get, All, Decides}
 use Rattle.std.specs.List.{list_all, list_any}
-use Rattle.std.proofs.lemmas.Bool.{and_from, cases_Bool, cases_order, cond-false, cond-true, eq-eqb, eqb-true, false≢true, ne_eqb, or_cases, or_parts}
+use Rattle.std.specs.Ordering.{is_eq, nat_cmp}
+use Rattle.std.proofs.lemmas.Bool.Decides.{nat_tests}
+use Rattle.std.proofs.lemmas.Bool.{and_from, cases_Bool, cases_order, cond-false, cond-true, eq-eqb, eqb-true, false≢true, ne_eqb, not-false, not-true, or_cases, or_parts}
 use Rattle.std.proofs.lemmas.List.{get_or-take, length-take-le, take_all, take_more}
-use Rattle.std.proofs.lemmas.List.Folds.{list_all-append, list_all_at, list_any_at}
+use Rattle.std.proofs.lemmas.List.Folds.{list_all-append, list_all_at, list_any_at, list_any_more}
 use Rattle.std.proofs.lemmas.List.Sums.{count_by_more_yes, sum_by-append, sum_by-cons, sum_by-take-le}
 use Rattle.std.proofs.lemmas.Option.{get_or_from_slice_get, slice_get-get_or, slice_get_within}
 use Rattle.ox_runestone.specs.declared.stone.RuneId.{RuneId}
@@ -169,3 +171,38 @@ Decides-ids runes = Decides-differ (λ (row : RuneRow). row.id) is_same same_id 
 pub Decides-names : (runes : List RuneRow) → Decides (names_differ runes) (AreDistinct (λ row. row.name) runes)
 unfolding names_differ
 Decides-names runes = Decides-differ (λ (row : RuneRow). row.name) ◌==◌ eqb-true (λ a. eq-eqb a a refl) runes
+
+-- ---- names one by one
+
+eq_is : (a b : ℕ) → is_eq (nat_cmp a b) ≡ (a == b)
+eq_is a b = grind (arith, nat_tests)
+
+or_cond : (b c : Bool) → cond b true c ≡ (c || b)
+or_cond true true = refl
+or_cond true false = refl
+or_cond false true = refl
+or_cond false false = refl
+
+-- some rune has the name
+abbrev pub has_name : ℕ → List RuneRow → Bool
+has_name name runes = list_any (λ (other : RuneRow). other.name == name) runes
+
+pub name_met : (runes : List RuneRow) (i : ℕ) (d : RuneRow) (met : ℕ → Bool) (added : Bool) → i < length runes → ((name : ℕ) → met name ≡ has_name name (take i runes)) → added ≡ not (met (get_or runes i d).name)
+    → added ≡ false → names_differ runes ≡ false
+unfolding names_differ
+name_met runes i d met added h are is none =
+    let there : met (get_or runes i d).name ≡ true = not-false (met (get_or runes i d).name) (sym is ∙ none) in
+    not_alone (λ (row : RuneRow). row.name) ◌==◌ eqb-true (λ a. eq-eqb a a refl) runes i d h (sym (are (get_or runes i d).name) ∙ there)
+
+pub name_new : (runes : List RuneRow) (i : ℕ) (d : RuneRow) (met : ℕ → Bool) (added : Bool) → i < length runes → ((name : ℕ) → met name ≡ has_name name (take i runes)) → added ≡ not (met (get_or runes i d).name)
+    → added ≡ true → names_differ (take i runes) ≡ true → names_differ (take (i + 1) runes) ≡ true
+unfolding names_differ
+name_new runes i d met added h are is new before =
+    let none : met (get_or runes i d).name ≡ false = not-true (met (get_or runes i d).name) (sym is ∙ new) in
+    differ_more (λ (row : RuneRow). row.name) ◌==◌ eqb-true (λ a. eq-eqb a a refl) runes i d h before (sym (are (get_or runes i d).name) ∙ none)
+
+pub names_met : (runes : List RuneRow) (i : ℕ) (d : RuneRow) (met new : ℕ → Bool) → i < length runes → ((name : ℕ) → met name ≡ has_name name (take i runes))
+    → ((name : ℕ) → new name ≡ cond (is_eq (nat_cmp (get_or runes i d).name name)) true (met name)) → (name : ℕ) → new name ≡ has_name name (take (i + 1) runes)
+names_met runes i d met new h are written name =
+    written name ∙ ap (λ b. cond b true (met name)) (eq_is (get_or runes i d).name name) ∙ ap (cond ((get_or runes i d).name == name) true) (are name)
+    ∙ or_cond ((get_or runes i d).name == name) (has_name name (take i runes)) ∙ sym (list_any_more (λ (other : RuneRow). other.name == name) runes i d h)

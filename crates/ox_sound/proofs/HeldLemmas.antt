@@ -1,6 +1,6 @@
 -- What outputs hold of runes: that ids rise, that runes are there, and what all that comes to.
 use Rattle.std.proofs.Common.{◌≡◌, ◌≢◌, ◌∙◌, ℕ, zero, suc, ◌+◌, ◌*◌, ◌-◌, ◌<◌, ◌≤◌, ◌^◌, Bool, true, false, cond, List, [], ◌∷◌, ◌++◌, length, get_or, take, drop, map, refl, sym, ap, subst, arith, inl, inr, ◌⊎◌, Option, Some, None, Ordering}
-use Rattle.std.specs.Prelude.{◌&&◌, ◌==◌, ◌↔◌, nat_lt, if◌then◌else◌, is_some, IsSome, IsTrue, sum_by, unwrap_or, slice_get, All, Decides}
+use Rattle.std.specs.Prelude.{◌&&◌, ◌==◌, ◌↔◌, nat_le, nat_lt, if◌then◌else◌, is_some, IsSome, IsTrue, sum_by, unwrap_or, slice_get, All, Decides}
 use Rattle.std.specs.BTreeMap.{BTreeMap, get, is_at}
 use Rattle.std.specs.List.{AllByRecursion, list_all}
 use Rattle.std.specs.List.Sorted.{IsStrictlySortedBy}
@@ -8,22 +8,23 @@ use Rattle.std.specs.Map.{keys_of, lookup, values_of}
 use Rattle.std.specs.Option.{option_map}
 use Rattle.std.specs.Ordering.{is_eq, is_lt}
 use Rattle.std.specs.declared.cmp.Ordering.TheVariants.{Less, Equal, Greater}
-use Rattle.std.proofs.lemmas.Bool.{and_from, and_parts, cases_Bool, cond-false, cond-true, eq-eqb, eqb-true, false≢true, lt-ltb, ltb-true, true≢false}
+use Rattle.std.proofs.lemmas.Bool.{and_from, and_parts, cases_Bool, cond-false, cond-true, eq-eqb, eqb-true, false≢true, leb-true, lt-ltb, ltb-true, true≢false}
 use Rattle.std.proofs.lemmas.Bool.Decides.{Decides-eqb, same_from_decides}
 use Rattle.std.proofs.lemmas.List.{drop_more, drop_all, length-drop}
 use Rattle.std.proofs.lemmas.List.Elements.{All-from_recursion, recursion_from_All}
 use Rattle.std.proofs.lemmas.List.Sums.{get_or-le-sum_by, sum_by-cons}
+use Rattle.std.proofs.lemmas.Option.{slice_get-get_or}
 use Rattle.std.proofs.Math.Nat.{mul-le-mul_right}
 use Rattle.ox_runestone.specs.declared.stone.RuneId.{RuneId}
 use Rattle.ox_allocation.specs.Balances.{AreBalances, Balance, amount_in, id_cmp, ids_of, is_same}
 use Rattle.ox_allocation.proofs.Ids.{ids_total, same_id, same_itself, same_turned}
 use Rattle.ox_etching.specs.declared.row.RuneRow.{RuneRow}
-use Rattle.ox_ledger.specs.Balanced.{AreDistinct, AreKnown, made_of}
+use Rattle.ox_ledger.specs.Balanced.{AreDistinct, AreKnown, amount_per_mint, cap_in, made_of}
 use Rattle.ox_ledger.specs.Runes.{by_id}
 use Rattle.ox_sound.specs.Amounts.{AreAmounts, as_amount, burned_in, sum_of}
-use Rattle.ox_sound.specs.Rows.{are_known, rise}
+use Rattle.ox_sound.specs.Rows.{are_known, has_right_name, has_right_supply, has_small_numbers, ids_differ, is_bounded, rise}
 use Rattle.ox_sound.proofs.AmountLemmas.{amount_is, small_amount}
-use Rattle.ox_sound.proofs.DifferLemmas.{all_by_place, each_passes}
+use Rattle.ox_sound.proofs.DifferLemmas.{Decides-ids, all_by_place, each_passes}
 
 -- ---- ids that rise
 
@@ -215,3 +216,25 @@ is_settled amounts runes held row r are found small iff =
   from equal =
       let turned : row.burned + held row.id ≡ made_of row = omega (arith, equal) in
       iff.1 (at ∙ ap (λ n. Some (as_amount n)) turned ∙ ap Some (small_amount (made_of row) small))
+
+-- ---- what was made of a rune
+
+mints_within : (row : RuneRow) → is_bounded row ≡ true → row.premine + row.mints * amount_per_mint row.terms < 2 ^ 128
+unfolding is_bounded
+mints_within row is =
+    let outer = and_parts (has_small_numbers row && has_right_name row) (has_right_supply row) is in
+    let parts = and_parts (nat_lt (row.premine + cap_in row.terms * amount_per_mint row.terms) (2 ^ 128)) (nat_le row.mints (cap_in row.terms)) outer.1 in
+    let supply : row.premine + cap_in row.terms * amount_per_mint row.terms < 2 ^ 128 = ltb-true (row.premine + cap_in row.terms * amount_per_mint row.terms) (2 ^ 128) parts.0 in
+    let mints : row.mints ≤ cap_in row.terms = leb-true row.mints (cap_in row.terms) parts.1 in
+    let most : row.mints * amount_per_mint row.terms ≤ cap_in row.terms * amount_per_mint row.terms = mul-le-mul_right (amount_per_mint row.terms) mints in
+    omega (arith, supply, most)
+
+pub made_fits : (row : RuneRow) (amount : ℕ) → is_bounded row ≡ true → amount ≡ amount_per_mint row.terms → row.premine + row.mints * amount < 2 ^ 128
+made_fits row amount is same = subst (λ (n : ℕ). row.premine + row.mints * n < 2 ^ 128) (sym same) (mints_within row is)
+
+pub made_test : (amounts : BTreeMap RuneId (Option ℕ)) (runes : List RuneRow) (held : RuneId → ℕ) (i : ℕ) (d : RuneRow) (r : Bool) → i < length runes → list_all is_bounded runes ≡ true → ids_differ runes ≡ true
+    → AreAmounts amounts (burned_in runes) held → (IsTrue r ↔ (get id_cmp amounts (get_or runes i d).id ≡ Some (Some (made_of (get_or runes i d)))))
+    → r ≡ (held (get_or runes i d).id + (get_or runes i d).burned == made_of (get_or runes i d))
+made_test amounts runes held i d r h bounded differ are iff =
+    let row = get_or runes i d in
+    is_settled amounts runes held row r are (found_own runes ((Decides-ids runes).0 differ) i row (slice_get-get_or runes i d h)) (made_fits row (amount_per_mint row.terms) (each_passes is_bounded runes d bounded i h) refl) iff

@@ -2,11 +2,11 @@
 use Rattle.std.proofs.Common.{◌≡◌, ◌∙◌, Bool, true, false, cond, List, [], ◌∷◌, map, refl, sym, ap, subst, Option, Some, None, Ordering, T}
 use Rattle.std.specs.Prelude.{◌&&◌, Decides, All}
 use Rattle.std.specs.BTreeMap.{is_at}
-use Rattle.std.specs.FinMap.{FinMap, IsAntisymmetric, entries, entries-from_sorted, entries_sorted, find, from_entries, from_sorted, get, get-entries, get-from_entries, get-from_sorted, is_sorted, same_map}
+use Rattle.std.specs.FinMap.{FinMap, IsAntisymmetric, entries, entries-from_sorted, entries_sorted, find, from_entries, from_sorted, get, get-entries, get-from_entries, get-from_sorted, is_sorted, same_map, values}
 use Rattle.std.specs.FinMap.Entries.{below_all}
 use Rattle.std.specs.List.{AllByRecursion, list_all}
 use Rattle.std.specs.List.Sorted.{IsStrictlySortedBy}
-use Rattle.std.specs.Map.{keys_of, lookup}
+use Rattle.std.specs.Map.{keys_of, lookup, values_of}
 use Rattle.std.specs.Ordering.{is_eq, is_lt, ordering_reverse}
 use Rattle.std.specs.declared.cmp.Ordering.TheVariants.{Less, Equal, Greater}
 use Rattle.std.specs.Cmp.{tied_itself}
@@ -46,6 +46,10 @@ module _ {X : Type 0} where
   entries_back es rising =
       let t : T (is_sorted outpoint_cmp es) = subst T (sym (sorted_from es rising)) tt in
       ap entries (same_map outpoints_total outpoints_exact (from_entries es) (from_sorted es) (λ q. get-from_entries outpoints_total es q ∙ sym (get-from_sorted outpoint_cmp es q t))) ∙ entries-from_sorted outpoint_cmp es t
+
+  -- and their values
+  pub values_back : (es : List (OutPoint × X)) → IsStrictlySortedBy outpoint_cmp (keys_of es) → values (from_entries {R = outpoint_cmp} es) ≡ values_of es
+  values_back es rising = ap (λ (list : List (OutPoint × X)). map (λ e. e.1) list) (entries_back es rising)
 
   found_up : (es : List (OutPoint × X)) (q : OutPoint) → find outpoint_cmp q es ≡ lookup (is_at (outpoint_cmp q)) es
   found_up [] q = refl

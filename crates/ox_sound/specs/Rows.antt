@@ -34,11 +34,14 @@ has_right_supply row =
     nat_lt (row.premine + cap_in row.terms * amount_per_mint row.terms) (2 ^ 128)
     && nat_le row.mints (cap_in row.terms)
 
+-- the place of its transaction, its divisibility and its spacers are within their bounds
+abbrev pub has_small_numbers : RuneRow → Bool
+has_small_numbers row =
+    nat_lt row.id.tx (2 ^ 32) && nat_le row.divisibility 38 && nat_lt row.spacers (2 ^ 27)
+
 -- the numbers of the rune are within their bounds
 unfoldable pub is_bounded : RuneRow → Bool
-is_bounded row =
-    nat_lt row.id.tx (2 ^ 32) && nat_le row.divisibility 38 && nat_lt row.spacers (2 ^ 27)
-    && has_right_name row && has_right_supply row
+is_bounded row = has_small_numbers row && has_right_name row && has_right_supply row
 
 -- each rune is below the next
 unfoldable pub rise : List Balance → Bool
