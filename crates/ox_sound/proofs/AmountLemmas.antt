@@ -138,14 +138,14 @@ pub nothing_burned : (amounts : BTreeMap RuneId (Option ℕ)) → ((id : RuneId)
 unfolding by_id
 nothing_burned amounts none = record { at = none }
 
-pub one_burned : (runes : List RuneRow) (row : RuneRow) (amounts new : BTreeMap RuneId (Option ℕ)) → AreAmounts amounts (burned_in runes) (λ id. 0) → is_some (by_id runes row.id) ≡ false → row.burned < 2 ^ 128
-    → ((id : RuneId) → get id_cmp new id ≡ cond (is_same row.id id) (Some (Some row.burned)) (get id_cmp amounts id))
+pub one_burned : (runes : List RuneRow) (row : RuneRow) (burned : Option ℕ) (amounts new : BTreeMap RuneId (Option ℕ)) → AreAmounts amounts (burned_in runes) (λ id. 0) → is_some (by_id runes row.id) ≡ false
+    → burned ≡ as_amount row.burned → ((id : RuneId) → get id_cmp new id ≡ cond (is_same row.id id) (Some burned) (get id_cmp amounts id))
     → AreAmounts new (burned_in (runes ++ row ∷ [])) (λ id. 0)
-one_burned runes row amounts new are none small written = record { at = λ id. written id ∙ by_test id (is_same row.id id) refl } where
-  zero_more : as_amount (row.burned + 0) ≡ Some row.burned
-  zero_more = ap as_amount (omega arith) ∙ small_amount row.burned small
+one_burned runes row burned amounts new are none begins written = record { at = λ id. written id ∙ by_test id (is_same row.id id) refl } where
+  zero_more : as_amount (row.burned + 0) ≡ burned
+  zero_more = ap as_amount (omega arith) ∙ sym begins
 
-  by_test : (id : RuneId) (b : Bool) → is_same row.id id ≡ b → cond b (Some (Some row.burned)) (get id_cmp amounts id) ≡ option_map (λ n. as_amount (n + 0)) (burned_in (runes ++ row ∷ []) id)
+  by_test : (id : RuneId) (b : Bool) → is_same row.id id ≡ b → cond b (Some burned) (get id_cmp amounts id) ≡ option_map (λ n. as_amount (n + 0)) (burned_in (runes ++ row ∷ []) id)
   by_test id true like =
       let found : by_id (runes ++ row ∷ []) id ≡ Some row = found_push runes row id none ∙ cond-true (is_same row.id id) (Some row) (by_id runes id) like in
       sym (ap (λ (r : Option RuneRow). option_map (λ n. as_amount (n + 0)) (option_map (λ (one : RuneRow). one.burned) r)) found ∙ ap Some zero_more)
@@ -181,13 +181,13 @@ id_new runes i d amounts old h are is none before =
     differ_more (λ (row : RuneRow). row.id) is_same same_id same_itself runes i d h before
         (sym (found_some (take i runes) (get_or runes i d).id) ∙ is_new runes i d amounts old are is none)
 
-pub id_burned : (runes : List RuneRow) (i : ℕ) (d : RuneRow) (amounts new : BTreeMap RuneId (Option ℕ)) (old : Option (Option ℕ)) → i < length runes → AreAmounts amounts (burned_in (take i runes)) (λ id. 0)
-    → old ≡ get id_cmp amounts (get_or runes i d).id → is_some old ≡ false → (get_or runes i d).burned < 2 ^ 128
-    → ((id : RuneId) → get id_cmp new id ≡ cond (is_same (get_or runes i d).id id) (Some (Some (get_or runes i d).burned)) (get id_cmp amounts id))
+pub id_burned : (runes : List RuneRow) (i : ℕ) (d : RuneRow) (burned : Option ℕ) (amounts new : BTreeMap RuneId (Option ℕ)) (old : Option (Option ℕ)) → i < length runes → AreAmounts amounts (burned_in (take i runes)) (λ id. 0)
+    → old ≡ get id_cmp amounts (get_or runes i d).id → is_some old ≡ false → burned ≡ as_amount (get_or runes i d).burned
+    → ((id : RuneId) → get id_cmp new id ≡ cond (is_same (get_or runes i d).id id) (Some burned) (get id_cmp amounts id))
     → AreAmounts new (burned_in (take (i + 1) runes)) (λ id. 0)
-id_burned runes i d amounts new old h are is none small written =
+id_burned runes i d burned amounts new old h are is none begins written =
     subst (λ (rs : List RuneRow). AreAmounts new (burned_in rs) (λ id. 0)) (sym (take_more runes i d h))
-        (one_burned (take i runes) (get_or runes i d) amounts new are (is_new runes i d amounts old are is none) small written)
+        (one_burned (take i runes) (get_or runes i d) burned amounts new are (is_new runes i d amounts old are is none) begins written)
 
 -- what stands in a slice past its end
 abbrev pub no_rune : RuneRow

@@ -1,7 +1,8 @@
 -- What outputs hold of runes: that ids rise, that runes are there, and what all that comes to.
-use Rattle.std.proofs.Common.{◌≡◌, ◌≢◌, ◌∙◌, ℕ, zero, suc, ◌+◌, ◌*◌, ◌-◌, ◌<◌, ◌≤◌, ◌^◌, Bool, true, false, cond, List, [], ◌∷◌, ◌++◌, length, get_or, take, drop, map, refl, sym, ap, subst, arith, inl, inr, ◌⊎◌, Option, Some, None, Ordering}
+use Rattle.std.proofs.Common.{◌≡◌, ◌≢◌, ◌∙◌, ℕ, zero, suc, ◌+◌, ◌*◌, ◌-◌, ◌<◌, ◌≤◌, ◌^◌, ap₂, Bool, true, false, cond, List, [], ◌∷◌, ◌++◌, length, get_or, take, drop, map, refl, sym, ap, subst, arith, inl, inr, ◌⊎◌, Option, Some, None, Ordering}
 use Rattle.std.specs.Prelude.{◌&&◌, ◌==◌, ◌↔◌, nat_le, nat_lt, if◌then◌else◌, is_some, IsSome, IsTrue, sum_by, unwrap_or, slice_get, All, Decides}
-use Rattle.std.specs.BTreeMap.{BTreeMap, get, is_at}
+use Rattle.std.specs.BTreeMap.{BTreeMap, get as kept_at, is_at}
+use Rattle.std.specs.FinMap.{entries, get, values}
 use Rattle.std.specs.List.{AllByRecursion, list_all}
 use Rattle.std.specs.List.Sorted.{IsStrictlySortedBy}
 use Rattle.std.specs.Map.{keys_of, lookup, values_of}
@@ -13,33 +14,39 @@ use Rattle.std.proofs.lemmas.Bool.Decides.{Decides-eqb, same_from_decides}
 use Rattle.std.proofs.lemmas.List.{drop_more, drop_all, length-drop}
 use Rattle.std.proofs.lemmas.List.Elements.{All-from_recursion, recursion_from_All}
 use Rattle.std.proofs.lemmas.List.Sums.{get_or-le-sum_by, sum_by-cons}
-use Rattle.std.proofs.lemmas.Option.{slice_get-get_or}
+use Rattle.std.proofs.lemmas.Option.{get_or_from_slice_get, slice_get-get_or, slice_get_within}
+use Rattle.std.proofs.lemmas.List.Folds.{list_all-append, list_all_at}
 use Rattle.std.proofs.Math.Nat.{mul-le-mul_right}
 use Rattle.ox_runestone.specs.declared.stone.RuneId.{RuneId}
 use Rattle.ox_allocation.specs.Balances.{AreBalances, Balance, amount_in, id_cmp, ids_of, is_same}
 use Rattle.ox_allocation.proofs.Ids.{ids_total, same_id, same_itself, same_turned}
 use Rattle.ox_etching.specs.declared.row.RuneRow.{RuneRow}
-use Rattle.ox_ledger.specs.Balanced.{AreDistinct, AreKnown, amount_per_mint, cap_in, made_of}
-use Rattle.ox_ledger.specs.Runes.{by_id}
-use Rattle.ox_sound.specs.Amounts.{AreAmounts, as_amount, burned_in, sum_of}
-use Rattle.ox_sound.specs.Rows.{are_known, has_right_name, has_right_supply, has_small_numbers, ids_differ, is_bounded, rise}
-use Rattle.ox_sound.proofs.AmountLemmas.{amount_is, small_amount}
+use Rattle.ox_ledger.specs.Balanced.{AreDistinct, AreKnown, amount_held, amount_per_mint, cap_in, made_of}
+use Rattle.ox_ledger.specs.Runes.{BalanceMap, Placement, by_id}
+use Rattle.ox_allocation.proofs.Amounts.{ext}
+use Rattle.ox_block.specs.declared.block.OutPoint.{OutPoint}
+use Rattle.ox_rules.specs.Outputs.{Outputs, outpoint_cmp}
+use Rattle.ox_rules.specs.declared.rows.OutRow.{OutRow}
+use Rattle.ox_sound.specs.Amounts.{AreAmounts, as_amount, balances_in, burned_in, is_among, outputs_in, sum_held, sum_of}
+use Rattle.ox_sound.specs.Rows.{are_amounts, are_held, are_known, are_settled, has_right_name, has_right_supply, has_small_numbers, ids_differ, is_amount, is_bounded, is_held, rise}
+use Rattle.ox_sound.proofs.AmountLemmas.{amount_is, is_there, small_amount}
+use Rattle.ox_sound.proofs.TableLemmas.{entries_back, get_back}
 use Rattle.ox_sound.proofs.DifferLemmas.{Decides-ids, all_by_place, each_passes}
 
 -- ---- ids that rise
 
-pub rise_stop : (balances : List Balance) (i : ℕ) (d : Balance) → i + 1 < length balances → is_lt (id_cmp (get_or balances i d).0 (get_or balances (i + 1) d).0) ≡ false → rise (drop i balances) ≡ false
-unfolding rise
-rise_stop balances i d h not_less =
-    let first : drop i balances ≡ get_or balances i d ∷ get_or balances (i + 1) d ∷ drop (i + 1 + 1) balances = drop_more balances i d (omega (arith, h)) ∙ ap (λ (bs : List Balance). get_or balances i d ∷ bs) (drop_more balances (i + 1) d h) in
-    ap rise first ∙ ap (λ (b : Bool). b && rise (get_or balances (i + 1) d ∷ drop (i + 1 + 1) balances)) not_less
+pairs : (balances : List Balance) (i j : ℕ) (d : Balance) → j ≡ i + 1 → j < length balances → drop i balances ≡ get_or balances i d ∷ get_or balances j d ∷ drop (j + 1) balances
+pairs balances i j d next h =
+    drop_more balances i d (omega (arith, h, next)) ∙ ap (λ (n : ℕ). get_or balances i d ∷ drop n balances) (sym next) ∙ ap (λ (bs : List Balance). get_or balances i d ∷ bs) (drop_more balances j d h)
 
-pub rise_on : (balances : List Balance) (i : ℕ) (d : Balance) → i + 1 < length balances → is_lt (id_cmp (get_or balances i d).0 (get_or balances (i + 1) d).0) ≡ true → rise (drop i balances) ≡ rise (drop (i + 1) balances)
+pub rise_stop : (balances : List Balance) (i j : ℕ) (d : Balance) → j ≡ i + 1 → j < length balances → is_lt (id_cmp (get_or balances i d).0 (get_or balances j d).0) ≡ false → rise (drop i balances) ≡ false
 unfolding rise
-rise_on balances i d h less =
-    let second : drop (i + 1) balances ≡ get_or balances (i + 1) d ∷ drop (i + 1 + 1) balances = drop_more balances (i + 1) d h in
-    let first : drop i balances ≡ get_or balances i d ∷ get_or balances (i + 1) d ∷ drop (i + 1 + 1) balances = drop_more balances i d (omega (arith, h)) ∙ ap (λ (bs : List Balance). get_or balances i d ∷ bs) second in
-    ap rise first ∙ ap (λ (b : Bool). b && rise (get_or balances (i + 1) d ∷ drop (i + 1 + 1) balances)) less ∙ sym (ap rise second)
+rise_stop balances i j d next h not_less = ap rise (pairs balances i j d next h) ∙ ap (λ (b : Bool). b && rise (get_or balances j d ∷ drop (j + 1) balances)) not_less
+
+pub rise_on : (balances : List Balance) (i j : ℕ) (d : Balance) → j ≡ i + 1 → j < length balances → is_lt (id_cmp (get_or balances i d).0 (get_or balances j d).0) ≡ true → rise (drop i balances) ≡ rise (drop j balances)
+unfolding rise
+rise_on balances i j d next h less =
+    ap rise (pairs balances i j d next h) ∙ ap (λ (b : Bool). b && rise (get_or balances j d ∷ drop (j + 1) balances)) less ∙ sym (ap rise (drop_more balances j d h))
 
 short_rises : (balances : List Balance) → length balances ≤ 1 → rise balances ≡ true
 unfolding rise
@@ -108,26 +115,22 @@ sum_is_amount balances id is = sum_sorted balances id (rising_from balances is)
 
 -- ---- balances of runes that are there
 
--- a test of each balance, of its rune and its amount
-abbrev pub each_there : (RuneId → Bool) → Balance → Bool
-each_there known balance = nat_lt 0 balance.1 && known balance.0
-
-known_id : (known : RuneId → Bool) (balances : List Balance) (id : RuneId) → list_all (each_there known) balances ≡ true → amount_in balances id ≢ 0 → known id ≡ true
+known_id : (known : RuneId → Bool) (balances : List Balance) (id : RuneId) → list_all (is_amount known) balances ≡ true → amount_in balances id ≢ 0 → known id ≡ true
 known_id known [] id all some = absurd (some refl)
 known_id known (b ∷ balances) id all some = by_test (λ rest is. known_id known balances id rest is) (is_same id b.0) refl where
-  parts : (each_there known b ≡ true) × (list_all (each_there known) balances ≡ true)
-  parts = and_parts (each_there known b) (list_all (each_there known) balances) all
+  parts : (is_amount known b ≡ true) × (list_all (is_amount known) balances ≡ true)
+  parts = and_parts (is_amount known b) (list_all (is_amount known) balances) all
 
-  by_test : (list_all (each_there known) balances ≡ true → amount_in balances id ≢ 0 → known id ≡ true) → (t : Bool) → is_same id b.0 ≡ t → known id ≡ true
+  by_test : (list_all (is_amount known) balances ≡ true → amount_in balances id ≢ 0 → known id ≡ true) → (t : Bool) → is_same id b.0 ≡ t → known id ≡ true
   by_test later true is = ap known (same_id id b.0 is) ∙ (and_parts (nat_lt 0 b.1) (known b.0) parts.0).1
   by_test later false is =
       let behind : amount_in (b ∷ balances) id ≡ amount_in balances id = ap (λ (t : Bool). unwrap_or (cond t (Some b.1) (lookup (is_at (id_cmp id)) balances)) 0) is in
       later parts.1 (λ none. some (behind ∙ none))
 
-some_from : (known : RuneId → Bool) (balances : List Balance) → list_all (each_there known) balances ≡ true → AllByRecursion (λ (n : ℕ). 0 < n) (values_of balances)
+some_from : (known : RuneId → Bool) (balances : List Balance) → list_all (is_amount known) balances ≡ true → AllByRecursion (λ (n : ℕ). 0 < n) (values_of balances)
 some_from known [] all = tt
 some_from known (b ∷ balances) all =
-    let parts = and_parts (each_there known b) (list_all (each_there known) balances) all in
+    let parts = and_parts (is_amount known b) (list_all (is_amount known) balances) all in
     (ltb-true 0 b.1 (and_parts (nat_lt 0 b.1) (known b.0) parts.0).0, some_from known balances parts.1)
 
 some_each : (balances : List Balance) → AllByRecursion (λ (n : ℕ). 0 < n) (values_of balances) → (k : ℕ) (d : Balance) → k < length balances → 0 < (get_or balances k d).1
@@ -154,7 +157,7 @@ known_from runes balances is = (
   },
 ) where
   whole : Bool
-  whole = list_all (each_there (λ (id : RuneId). is_some (by_id runes id))) balances
+  whole = list_all (is_amount (λ (id : RuneId). is_some (by_id runes id))) balances
 
   parts : (nat_lt 0 (length balances) ≡ true) × ((rise balances ≡ true) × (whole ≡ true))
   parts =
@@ -167,11 +170,11 @@ unfolding are_known
 to_known runes [] known = absurd (known.0 refl)
 to_known runes (b ∷ more) known =
     let balances = b ∷ more in
-    and_from (nat_lt 0 (length balances) && rise balances) (list_all (each_there (λ (id : RuneId). is_some (by_id runes id))) balances)
+    and_from (nat_lt 0 (length balances) && rise balances) (list_all (is_amount (λ (id : RuneId). is_some (by_id runes id))) balances)
         (and_from (nat_lt 0 (length balances)) (rise balances) (lt-ltb 0 (length balances) (some_in b more)) (rise_from balances known.1.proper.rising))
-        (all_by_place (each_there (λ (id : RuneId). is_some (by_id runes id))) balances b each)
+        (all_by_place (is_amount (λ (id : RuneId). is_some (by_id runes id))) balances b each)
   where
-  each : (k : ℕ) → k < length (b ∷ more) → each_there (λ (id : RuneId). is_some (by_id runes id)) (get_or (b ∷ more) k b) ≡ true
+  each : (k : ℕ) → k < length (b ∷ more) → is_amount (λ (id : RuneId). is_some (by_id runes id)) (get_or (b ∷ more) k b) ≡ true
   each k h =
       let one = get_or (b ∷ more) k b in
       let some : 0 < one.1 = some_each (b ∷ more) (recursion_from_All (λ (n : ℕ). 0 < n) (values_of (b ∷ more)) known.1.proper.some) k b h in
@@ -199,10 +202,10 @@ found_own (first ∷ runes) distinct (suc i) row there =
   by_test later false is = later
 
 pub is_settled : (amounts : BTreeMap RuneId (Option ℕ)) (runes : List RuneRow) (held : RuneId → ℕ) (row : RuneRow) (r : Bool) → AreAmounts amounts (burned_in runes) held → by_id runes row.id ≡ Some row
-    → made_of row < 2 ^ 128 → (IsTrue r ↔ (get id_cmp amounts row.id ≡ Some (Some (made_of row)))) → r ≡ (held row.id + row.burned == made_of row)
+    → made_of row < 2 ^ 128 → (IsTrue r ↔ (kept_at id_cmp amounts row.id ≡ Some (Some (made_of row)))) → r ≡ (held row.id + row.burned == made_of row)
 is_settled amounts runes held row r are found small iff =
     same_from_decides r (held row.id + row.burned == made_of row) (to, from) (Decides-eqb (held row.id + row.burned) (made_of row)) where
-  at : get id_cmp amounts row.id ≡ Some (as_amount (row.burned + held row.id))
+  at : kept_at id_cmp amounts row.id ≡ Some (as_amount (row.burned + held row.id))
   at = are.at row.id ∙ ap (λ (o : Option RuneRow). option_map (λ n. as_amount (n + held row.id)) (option_map (λ (one : RuneRow). one.burned) o)) found
 
   to : r ≡ true → held row.id + row.burned ≡ made_of row
@@ -233,8 +236,62 @@ pub made_fits : (row : RuneRow) (amount : ℕ) → is_bounded row ≡ true → a
 made_fits row amount is same = subst (λ (n : ℕ). row.premine + row.mints * n < 2 ^ 128) (sym same) (mints_within row is)
 
 pub made_test : (amounts : BTreeMap RuneId (Option ℕ)) (runes : List RuneRow) (held : RuneId → ℕ) (i : ℕ) (d : RuneRow) (r : Bool) → i < length runes → list_all is_bounded runes ≡ true → ids_differ runes ≡ true
-    → AreAmounts amounts (burned_in runes) held → (IsTrue r ↔ (get id_cmp amounts (get_or runes i d).id ≡ Some (Some (made_of (get_or runes i d)))))
+    → AreAmounts amounts (burned_in runes) held → (IsTrue r ↔ (kept_at id_cmp amounts (get_or runes i d).id ≡ Some (Some (made_of (get_or runes i d)))))
     → r ≡ (held (get_or runes i d).id + (get_or runes i d).burned == made_of (get_or runes i d))
 made_test amounts runes held i d r h bounded differ are iff =
     let row = get_or runes i d in
     is_settled amounts runes held row r are (found_own runes ((Decides-ids runes).0 differ) i row (slice_get-get_or runes i d h)) (made_fits row (amount_per_mint row.terms) (each_passes is_bounded runes d bounded i h) refl) iff
+
+-- ---- outputs one by one
+
+got_fails : {X : Type 0} (p : X → Bool) (xs : List X) (i : ℕ) (x : X) → slice_get xs i ≡ Some x → p x ≡ false → list_all p xs ≡ false
+got_fails p xs i x there fails =
+    list_all_at p xs i x (slice_get_within xs i x there) (ap p (get_or_from_slice_get xs i x x there) ∙ fails)
+
+-- what is known by the amounts is known by the runes
+pub same_known : (amounts : BTreeMap RuneId (Option ℕ)) (runes : List RuneRow) (held : RuneId → ℕ) (balances : List Balance) → AreAmounts amounts (burned_in runes) held
+    → are_amounts (is_among amounts) balances ≡ are_known runes balances
+unfolding are_known
+same_known amounts runes held balances are =
+    ap (λ (known : RuneId → Bool). are_amounts known balances) (ext (is_among amounts) (λ (id : RuneId). is_some (by_id runes id)) (λ id. is_there amounts runes held id are))
+
+pub one_fails : (runes : List RuneRow) (outs : Outputs) (bal : BTreeMap OutPoint (List Balance)) (i : ℕ) (one : Placement) → IsStrictlySortedBy outpoint_cmp (keys_of bal.entries)
+    → slice_get bal.entries i ≡ Some one → is_held runes outs one ≡ false → are_held runes outs (balances_in bal) ≡ false
+unfolding are_held
+one_fails runes outs bal i one rising there fails =
+    ap (list_all (is_held runes outs)) (entries_back bal.entries rising) ∙ got_fails (is_held runes outs) bal.entries i one there fails
+
+pub all_held : (runes : List RuneRow) (outs : Outputs) (bal : BTreeMap OutPoint (List Balance)) (done : List Placement) → IsStrictlySortedBy outpoint_cmp (keys_of bal.entries)
+    → done ≡ bal.entries → list_all (is_held runes outs) done ≡ true → are_held runes outs (balances_in bal) ≡ true
+unfolding are_held
+all_held runes outs bal done rising whole all = ap (list_all (is_held runes outs)) (entries_back bal.entries rising ∙ sym whole) ∙ all
+
+pub more_held : (runes : List RuneRow) (outs : Outputs) (done : List Placement) (one : Placement) → list_all (is_held runes outs) done ≡ true → is_held runes outs one ≡ true
+    → list_all (is_held runes outs) (done ++ one ∷ []) ≡ true
+more_held runes outs done one before here =
+    list_all-append (is_held runes outs) done (one ∷ []) ∙ and_from (list_all (is_held runes outs) done) (is_held runes outs one && true) before (and_from (is_held runes outs one) true here refl)
+
+pub held_is : (outs : BTreeMap OutPoint OutRow) (runes : List RuneRow) (at : OutPoint) (balances : List Balance) (a b : Bool) → a ≡ is_some (lookup (is_at (outpoint_cmp at)) outs.entries) → b ≡ are_known runes balances
+    → is_held runes (outputs_in outs) (at, balances) ≡ (a && b)
+held_is outs runes at balances a b there known =
+    ap (λ (o : Option OutRow). is_some o && are_known runes balances) (get_back outs.entries at) ∙ ap (λ (x : Bool). x && are_known runes balances) (sym there) ∙ ap (λ (y : Bool). a && y) (sym known)
+
+-- where outputs hold balances, their sums are the amounts
+sums_same : (runes : List RuneRow) (outs : Outputs) (es : List Placement) (id : RuneId) → list_all (is_held runes outs) es ≡ true → sum_held (map (λ (e : Placement). e.1) es) id ≡ amount_held (map (λ (e : Placement). e.1) es) id
+unfolding are_known
+sums_same runes outs [] id all = refl
+sums_same runes outs (e ∷ es) id all =
+    let parts = and_parts (is_held runes outs e) (list_all (is_held runes outs) es) all in
+    let known = (and_parts (is_some (get outs e.0)) (are_known runes e.1) parts.0).1 in
+    let some = (and_parts (nat_lt 0 (length e.1) && rise e.1) (list_all (is_amount (λ (q : RuneId). is_some (by_id runes q))) e.1) known).0 in
+    let rises = (and_parts (nat_lt 0 (length e.1)) (rise e.1) some).1 in
+    sum_by-cons (λ (balances : List Balance). sum_of balances id) e.1 (map (λ (x : Placement). x.1) es)
+    ∙ ap₂ (λ (a b : ℕ). a + b) (sum_is_amount e.1 id rises) (sums_same runes outs es id parts.1)
+    ∙ sym (sum_by-cons (λ (balances : List Balance). amount_in balances id) e.1 (map (λ (x : Placement). x.1) es))
+
+pub sums_settle : (runes : List RuneRow) (outs : Outputs) (bal : BalanceMap) → are_held runes outs bal ≡ true
+    → list_all (λ (row : RuneRow). 0 + sum_held (values bal) row.id + row.burned == made_of row) runes ≡ are_settled runes bal
+unfolding are_held are_settled
+sums_settle runes outs bal held =
+    ap (λ (f : RuneId → ℕ). list_all (λ (row : RuneRow). f row.id + row.burned == made_of row) runes)
+        (ext (λ (id : RuneId). 0 + sum_held (values bal) id) (λ (id : RuneId). amount_held (values bal) id) (λ id. let same : sum_held (values bal) id ≡ amount_held (values bal) id = sums_same runes outs (entries bal) id held in omega (arith, same)))

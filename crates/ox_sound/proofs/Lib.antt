@@ -5,3 +5,4 @@ pub mod AmountLemmas
 pub mod HeldLemmas
 pub mod TableLemmas
 pub mod SoundLemmas
+pub mod PassLemmas

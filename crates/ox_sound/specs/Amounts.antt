@@ -1,5 +1,5 @@
 -- Sums by runes' ids, as they are kept.
-use Rattle.std.specs.Prelude.{◌≡◌, ℕ, ◌+◌, ◌^◌, List, Option, Some, None, sum_by, nat_lt}
+use Rattle.std.specs.Prelude.{◌≡◌, ℕ, Bool, is_some, ◌+◌, ◌^◌, List, Option, Some, None, sum_by, nat_lt}
 use Rattle.std.specs.Prelude.{if◌then◌else◌}
 use Rattle.std.specs.BTreeMap.{BTreeMap, get}
 use Rattle.std.specs.FinMap.{from_entries}
@@ -34,6 +34,10 @@ pub record AreAmounts (amounts : BTreeMap RuneId (Option ℕ)) (there : RuneId �
     (held : RuneId → ℕ) : Type 0 where
   pub at : (id : RuneId) → get id_cmp amounts id
       ≡ option_map (λ n. as_amount (n + held id)) (there id)
+
+-- something is kept at an id
+abbrev pub is_among : BTreeMap RuneId (Option ℕ) → RuneId → Bool
+is_among amounts id = is_some (get id_cmp amounts id)
 
 -- tables as finite maps
 abbrev pub outputs_in : BTreeMap OutPoint OutRow → Outputs

@@ -5,6 +5,7 @@ use Rattle.std.specs.List.{list_all}
 use Rattle.std.specs.FinMap.{entries, get, values}
 use Rattle.std.specs.Ordering.{is_lt}
 use Rattle.ox_name.specs.Unlock.{first_reserved, reserved_name}
+use Rattle.ox_runestone.specs.declared.stone.RuneId.{RuneId}
 use Rattle.ox_rules.specs.Outputs.{Outputs}
 use Rattle.ox_allocation.specs.Balances.{Balance, id_cmp, is_same}
 use Rattle.ox_etching.specs.declared.row.RuneRow.{RuneRow}
@@ -50,12 +51,18 @@ rise (balance ∷ []) = true
 rise (balance ∷ next ∷ balances) =
     is_lt (id_cmp balance.0 next.0) && rise (next ∷ balances)
 
--- these are balances of runes that are there, one at least, no amount being 0
+-- it is of a rune that is known, and not 0
+abbrev pub is_amount : (RuneId → Bool) → Balance → Bool
+is_amount known balance = nat_lt 0 balance.1 && known balance.0
+
+-- these are balances of runes that are known, one at least
+abbrev pub are_amounts : (RuneId → Bool) → List Balance → Bool
+are_amounts known balances =
+    nat_lt 0 (length balances) && rise balances && list_all (is_amount known) balances
+
+-- these are balances of runes that are there
 unfoldable pub are_known : List RuneRow → List Balance → Bool
-are_known runes balances =
-    nat_lt 0 (length balances) && rise balances
-    && list_all (λ (balance : Balance). nat_lt 0 balance.1 && is_some (by_id runes balance.0))
-    balances
+are_known runes balances = are_amounts (λ id. is_some (by_id runes id)) balances
 
 -- an unspent output holds them
 abbrev pub is_held : List RuneRow → Outputs → Placement → Bool

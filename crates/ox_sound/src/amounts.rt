@@ -25,6 +25,13 @@ use std::collections::BTreeMap;
 /// How much there is of each rune, by its id; `None` where that passes 128 bits.
 pub(crate) type Amounts = BTreeMap<RuneId, Option<u128>>;
 
+/// So much more; `None` where that passes 128 bits, or what there was did.
+fn more(sum: Option<u128>, amount: u128) -> Option<u128>
+    ensures { (n : ℕ) → sum ≡ as_amount n → result ≡ as_amount (n + amount) }
+{
+    sum?.checked_add(amount)
+}
+
 /// What was burned of each rune, by its id. `None` exactly where two runes have one id. `Memory`
 /// where there is none for the table.
 pub(crate) fn burned_by_id(alloc: Global, runes: &[RuneRow]) -> Result<Option<Amounts>, Memory>
@@ -34,18 +41,11 @@ pub(crate) fn burned_by_id(alloc: Global, runes: &[RuneRow]) -> Result<Option<Am
 {
     let mut amounts = BTreeMap::new(alloc);
     for row in runes {
-        if amounts.insert(row.id, Some(row.burned))?.is_some() {
+        if amounts.insert(row.id, more(Some(0), row.burned))?.is_some() {
             return Ok(None);
         }
     }
     Ok(Some(amounts))
-}
-
-/// So much more; `None` where that passes 128 bits, or what there was did.
-fn more(sum: Option<u128>, amount: u128) -> Option<u128>
-    ensures { (n : ℕ) → sum ≡ as_amount n → result ≡ as_amount (n + amount) }
-{
-    sum?.checked_add(amount)
 }
 
 /// Adds so much of a rune. Nothing is kept of a rune that isn't there.

@@ -3,8 +3,11 @@
 #![tactic(auto)]
 
 mod amounts;
+mod held;
 mod laws;
 mod rows;
 mod sats;
+mod sound;
 
 pub use laws::test_says_sound;
+pub use sound::is_sound;

@@ -1,5 +1,9 @@
-use Rattle.std.proofs.Common.{ap, sym}
-use Rattle.std.specs.Prelude.{is_some}
+use Rattle.std.proofs.Common.{◌+◌, ℕ, Option, ap, subst, sym}
+use Rattle.std.specs.Prelude.{if◌then◌else◌, is_some}
+use Rattle.std.specs.BTreeMap.{BTreeMap}
+use Rattle.ox_runestone.specs.declared.stone.RuneId.{RuneId}
+use Rattle.ox_allocation.specs.Balances.{is_same}
+use Rattle.ox_sound.specs.Amounts.{AreAmounts}
 use Rattle.ox_sound.proofs.AmountLemmas.{none_added, one_added}
 use Rattle.ox_sound.proofs.amounts.add_one.Goals as goal
 
@@ -10,4 +14,6 @@ returns-in-Some c = λ there held are.
       ((c.get_mut.follows.holds c.more.result).3 (ap is_some found)).0
 
 pub returns-in_default : goal.returns-in_default
-returns-in_default c = ?
+returns-in_default c = λ there held are.
+  subst (λ (amounts : BTreeMap RuneId (Option ℕ)). AreAmounts amounts there (λ other. held other + (if is_same c.args.id other then c.args.amount else 0))) (sym c.get_mut.follows.holds-at-none)
+      (none_added c.args.amounts.now c.args.id c.args.amount there held are (sym c.in_default.ensures.value))

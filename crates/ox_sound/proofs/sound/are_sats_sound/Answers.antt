@@ -1,0 +1,4 @@
+use Rattle.ox_sound.proofs.sound.are_sats_sound.Goals as goal
+
+pub returns : goal.returns
+returns c = ?
