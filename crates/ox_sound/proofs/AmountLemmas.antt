@@ -1,12 +1,11 @@
 -- Sums by runes' ids, one balance after another.
-use Rattle.std.proofs.Common.{◌≡◌, ◌≢◌, ◌∙◌, ℕ, zero, suc, ◌+◌, ◌*◌, ◌<◌, ◌≤◌, ◌^◌, Bool, true, false, cond, List, [], ◌∷◌, ◌++◌, length, get_or, take, map, refl, sym, ap, subst, arith, inl, inr, ◌⊎◌, Option, Some, None}
-use Rattle.std.specs.Prelude.{◌||◌, ◌==◌, nat_lt, if◌then◌else◌, is_some, sum_by, SomeIff}
+use Rattle.std.proofs.Common.{◌≡◌, ◌∙◌, ℕ, ◌+◌, ◌<◌, ◌≤◌, ◌^◌, Bool, true, false, cond, List, [], ◌∷◌, ◌++◌, length, get_or, take, refl, sym, ap, subst, arith, inl, inr, Option, Some, None}
+use Rattle.std.specs.Prelude.{◌||◌, nat_lt, if◌then◌else◌, is_some, sum_by, SomeIff}
 use Rattle.std.specs.BTreeMap.{BTreeMap, get}
 use Rattle.std.specs.List.{list_any}
 use Rattle.std.specs.Option.{option_map}
 use Rattle.std.proofs.lemmas.Bool.{cases_lt, cases_Bool, cond-false, cond-true, false≢true, le-ltb, lt-ltb}
 use Rattle.std.proofs.lemmas.List.{take_more}
-use Rattle.std.proofs.lemmas.List.Folds.{list_any-append}
 use Rattle.std.proofs.lemmas.List.Sums.{sum_by_more, sum_by_push}
 use Rattle.ox_runestone.specs.declared.stone.RuneId.{RuneId}
 use Rattle.ox_allocation.specs.Balances.{Balance, id_cmp, is_same}
@@ -67,31 +66,31 @@ pub none_added : (amounts : BTreeMap RuneId (Option ℕ)) (id : RuneId) (amount 
     → AreAmounts amounts there (λ other. held other + (if is_same id other then amount else 0))
 none_added amounts id amount there held are none =
     record { at = λ other. are.at other ∙ by_rune other (there other) refl (is_same id other) refl } where
-  by_rune : (other : RuneId) (t : Option ℕ) → there other ≡ t → (b : Bool) → is_same id other ≡ b
-      → option_map (λ n. as_amount (n + held other)) t ≡ option_map (λ n. as_amount (n + (held other + (if b then amount else 0)))) t
-  by_rune other None is b like = refl
-  by_rune other (Some n) is true like =
-      let some : None ≡ Some (as_amount (n + held other)) = sym none ∙ ap (get id_cmp amounts) (same_id id other like) ∙ are.at other ∙ ap (option_map (λ m. as_amount (m + held other))) is in
-      absurd (cc some)
-  by_rune other (Some n) is false like = ap (λ m. Some (as_amount m)) (omega arith)
+      by_rune : (other : RuneId) (t : Option ℕ) → there other ≡ t → (b : Bool) → is_same id other ≡ b
+          → option_map (λ n. as_amount (n + held other)) t ≡ option_map (λ n. as_amount (n + (held other + (if b then amount else 0)))) t
+      by_rune other None is b like = refl
+      by_rune other (Some n) is true like =
+          let some : None ≡ Some (as_amount (n + held other)) = sym none ∙ ap (get id_cmp amounts) (same_id id other like) ∙ are.at other ∙ ap (option_map (λ m. as_amount (m + held other))) is in
+          absurd (cc some)
+      by_rune other (Some n) is false like = ap (λ m. Some (as_amount m)) (omega arith)
 
 pub one_added : (amounts new : BTreeMap RuneId (Option ℕ)) (id : RuneId) (amount : ℕ) (sum w : Option ℕ) (there : RuneId → Option ℕ) (held : RuneId → ℕ) → AreAmounts amounts there held → get id_cmp amounts id ≡ Some sum
     → ((n : ℕ) → sum ≡ as_amount n → w ≡ as_amount (n + amount)) → ((other : RuneId) → get id_cmp new other ≡ cond (is_same id other) (Some w) (get id_cmp amounts other))
     → AreAmounts new there (λ other. held other + (if is_same id other then amount else 0))
 one_added amounts new id amount sum w there held are found more written =
     record { at = λ other. written other ∙ by_rune other (there other) refl (is_same id other) refl } where
-  by_rune : (other : RuneId) (t : Option ℕ) → there other ≡ t → (b : Bool) → is_same id other ≡ b
-      → cond b (Some w) (get id_cmp amounts other) ≡ option_map (λ n. as_amount (n + (held other + (if b then amount else 0)))) t
-  by_rune other None is true like =
-      let none : Some sum ≡ None = sym found ∙ ap (get id_cmp amounts) (same_id id other like) ∙ are.at other ∙ ap (option_map (λ m. as_amount (m + held other))) is in
-      absurd (cc none)
-  by_rune other (Some n) is true like =
-      let some : Some sum ≡ Some (as_amount (n + held other)) = sym found ∙ ap (get id_cmp amounts) (same_id id other like) ∙ are.at other ∙ ap (option_map (λ m. as_amount (m + held other))) is in
-      let was : sum ≡ as_amount (n + held other) = cc some in
-      ap Some (more (n + held other) was) ∙ ap (λ m. Some (as_amount m)) (omega arith)
-  by_rune other None is false like = are.at other ∙ ap (option_map (λ m. as_amount (m + held other))) is
-  by_rune other (Some n) is false like =
-      are.at other ∙ ap (option_map (λ m. as_amount (m + held other))) is ∙ ap (λ m. Some (as_amount m)) (omega arith)
+      by_rune : (other : RuneId) (t : Option ℕ) → there other ≡ t → (b : Bool) → is_same id other ≡ b
+          → cond b (Some w) (get id_cmp amounts other) ≡ option_map (λ n. as_amount (n + (held other + (if b then amount else 0)))) t
+      by_rune other None is true like =
+          let none : Some sum ≡ None = sym found ∙ ap (get id_cmp amounts) (same_id id other like) ∙ are.at other ∙ ap (option_map (λ m. as_amount (m + held other))) is in
+          absurd (cc none)
+      by_rune other (Some n) is true like =
+          let some : Some sum ≡ Some (as_amount (n + held other)) = sym found ∙ ap (get id_cmp amounts) (same_id id other like) ∙ are.at other ∙ ap (option_map (λ m. as_amount (m + held other))) is in
+          let was : sum ≡ as_amount (n + held other) = cc some in
+          ap Some (more (n + held other) was) ∙ ap (λ m. Some (as_amount m)) (omega arith)
+      by_rune other None is false like = are.at other ∙ ap (option_map (λ m. as_amount (m + held other))) is
+      by_rune other (Some n) is false like =
+          are.at other ∙ ap (option_map (λ m. as_amount (m + held other))) is ∙ ap (λ m. Some (as_amount m)) (omega arith)
 
 -- the sum of some balances and one more
 pub sum_more : (balances : List Balance) (i : ℕ) (d : Balance) (id : RuneId) (held : ℕ) → i < length balances
@@ -168,7 +167,7 @@ unfolding ids_differ
 id_met runes i d amounts old h are is some =
     let id = (get_or runes i d).id in
     not_alone (λ (row : RuneRow). row.id) is_same same_id same_itself runes i d h
-        (sym (found_some (take i runes) id) ∙ sym (is_there amounts (take i runes) (λ q. 0) id are) ∙ ap is_some (sym is) ∙ some)
+    (sym (found_some (take i runes) id) ∙ sym (is_there amounts (take i runes) (λ q. 0) id are) ∙ ap is_some (sym is) ∙ some)
 
 is_new : (runes : List RuneRow) (i : ℕ) (d : RuneRow) (amounts : BTreeMap RuneId (Option ℕ)) (old : Option (Option ℕ)) → AreAmounts amounts (burned_in (take i runes)) (λ id. 0)
     → old ≡ get id_cmp amounts (get_or runes i d).id → is_some old ≡ false → is_some (by_id (take i runes) (get_or runes i d).id) ≡ false
@@ -179,7 +178,7 @@ pub id_new : (runes : List RuneRow) (i : ℕ) (d : RuneRow) (amounts : BTreeMap 
 unfolding ids_differ
 id_new runes i d amounts old h are is none before =
     differ_more (λ (row : RuneRow). row.id) is_same same_id same_itself runes i d h before
-        (sym (found_some (take i runes) (get_or runes i d).id) ∙ is_new runes i d amounts old are is none)
+    (sym (found_some (take i runes) (get_or runes i d).id) ∙ is_new runes i d amounts old are is none)
 
 pub id_burned : (runes : List RuneRow) (i : ℕ) (d : RuneRow) (burned : Option ℕ) (amounts new : BTreeMap RuneId (Option ℕ)) (old : Option (Option ℕ)) → i < length runes → AreAmounts amounts (burned_in (take i runes)) (λ id. 0)
     → old ≡ get id_cmp amounts (get_or runes i d).id → is_some old ≡ false → burned ≡ as_amount (get_or runes i d).burned
@@ -187,7 +186,7 @@ pub id_burned : (runes : List RuneRow) (i : ℕ) (d : RuneRow) (burned : Option 
     → AreAmounts new (burned_in (take (i + 1) runes)) (λ id. 0)
 id_burned runes i d burned amounts new old h are is none begins written =
     subst (λ (rs : List RuneRow). AreAmounts new (burned_in rs) (λ id. 0)) (sym (take_more runes i d h))
-        (one_burned (take i runes) (get_or runes i d) burned amounts new are (is_new runes i d amounts old are is none) begins written)
+    (one_burned (take i runes) (get_or runes i d) burned amounts new are (is_new runes i d amounts old are is none) begins written)
 
 -- what stands in a slice past its end
 abbrev pub no_rune : RuneRow

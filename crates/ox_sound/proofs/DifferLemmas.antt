@@ -1,6 +1,6 @@
 -- Lists of runes of which no two have one id, or one name.
-use Rattle.std.proofs.Common.{◌≡◌, ◌≢◌, ◌∙◌, ℕ, zero, suc, ◌+◌, ◌<◌, ◌≤◌, Bool, true, false, not, cond, List, [], ◌∷◌, ◌++◌, length, get_or, take, refl, sym, ap, subst, arith, inl, inr, ◌⊎◌, Some}
-use Rattle.std.specs.Prelude.{◌&&◌, ◌||◌, ◌==◌, count_by, sum_by, slice_get, All, Decides}
+use Rattle.std.proofs.Common.{◌≡◌, ◌∙◌, ℕ, zero, suc, ◌+◌, ◌<◌, ◌≤◌, Bool, true, false, not, cond, List, [], ◌∷◌, ◌++◌, length, get_or, take, refl, sym, ap, arith, inl, inr, ◌⊎◌}
+use Rattle.std.specs.Prelude.{◌&&◌, ◌||◌, ◌==◌, count_by, Decides}
 use Rattle.std.specs.List.{list_all, list_any}
 use Rattle.std.specs.Ordering.{is_eq, nat_cmp}
 use Rattle.std.proofs.lemmas.Bool.Decides.{nat_tests}
@@ -9,7 +9,6 @@ use Rattle.std.proofs.lemmas.List.{get_or-take, length-take-le, take_all, take_m
 use Rattle.std.proofs.lemmas.List.Folds.{list_all-append, list_all_at, list_any_at, list_any_more}
 use Rattle.std.proofs.lemmas.List.Sums.{count_by_more_yes, sum_by-append, sum_by-cons, sum_by-take-le}
 use Rattle.std.proofs.lemmas.Option.{get_or_from_slice_get, slice_get-get_or, slice_get_within}
-use Rattle.ox_runestone.specs.declared.stone.RuneId.{RuneId}
 use Rattle.ox_allocation.specs.Balances.{is_same}
 use Rattle.ox_allocation.proofs.Ids.{same_id, same_itself}
 use Rattle.ox_etching.specs.declared.row.RuneRow.{RuneRow}
@@ -95,19 +94,19 @@ module _ {A : Type 0} (key : RuneRow → A) (same : A → A → Bool) (exact : (
   differ_push runes row before none =
       list_all-append (alone (runes ++ row ∷ [])) runes (row ∷ [])
       ∙ and_from (list_all (alone (runes ++ row ∷ [])) runes) (alone (runes ++ row ∷ []) row && true)
-          (all_by_place (alone (runes ++ row ∷ [])) runes row (λ k h.
-              let other = get_or runes k row in
-              let here : ◌≡◌ {A = ℕ} (cond (is_like other row) 1 0) 0 = cond-false (is_like other row) 1 0 (turned row other (none_pass (is_like row) runes none k row h)) in
-              let one : count_by (is_like other) runes ≡ 1 = eqb-true (count_by (is_like other) runes) 1 (each_passes (alone runes) runes row before k h) in
-              eq-eqb (count_by (is_like other) (runes ++ row ∷ [])) 1 (pushed other ∙ omega (arith, here, one))))
-          (and_from (alone (runes ++ row ∷ []) row) true
-              (let here : ◌≡◌ {A = ℕ} (cond (is_like row row) 1 0) 1 = cond-true (is_like row row) 1 0 (itself (key row)) in
-              let zero_before : count_by (is_like row) runes ≡ 0 = none_counted (is_like row) runes none in
-              eq-eqb (count_by (is_like row) (runes ++ row ∷ [])) 1 (pushed row ∙ omega (arith, here, zero_before)))
-              refl)
+      (all_by_place (alone (runes ++ row ∷ [])) runes row (λ k h.
+      let other = get_or runes k row in
+      let here : ◌≡◌ {A = ℕ} (cond (is_like other row) 1 0) 0 = cond-false (is_like other row) 1 0 (turned row other (none_pass (is_like row) runes none k row h)) in
+      let one : count_by (is_like other) runes ≡ 1 = eqb-true (count_by (is_like other) runes) 1 (each_passes (alone runes) runes row before k h) in
+      eq-eqb (count_by (is_like other) (runes ++ row ∷ [])) 1 (pushed other ∙ omega (arith, here, one))))
+      (and_from (alone (runes ++ row ∷ []) row) true
+      (let here : ◌≡◌ {A = ℕ} (cond (is_like row row) 1 0) 1 = cond-true (is_like row row) 1 0 (itself (key row)) in
+      let zero_before : count_by (is_like row) runes ≡ 0 = none_counted (is_like row) runes none in
+      eq-eqb (count_by (is_like row) (runes ++ row ∷ [])) 1 (pushed row ∙ omega (arith, here, zero_before)))
+      refl)
     where
-    pushed : (other : RuneRow) → count_by (is_like other) (runes ++ row ∷ []) ≡ count_by (is_like other) runes + cond (is_like other row) 1 0
-    pushed other = sum_by-append (λ (x : RuneRow). cond (is_like other x) 1 0) runes (row ∷ []) ∙ ap (λ n. count_by (is_like other) runes + n) (omega arith)
+      pushed : (other : RuneRow) → count_by (is_like other) (runes ++ row ∷ []) ≡ count_by (is_like other) runes + cond (is_like other row) 1 0
+      pushed other = sum_by-append (λ (x : RuneRow). cond (is_like other x) 1 0) runes (row ∷ []) ∙ ap (λ n. count_by (is_like other) runes + n) (omega arith)
 
   pub differ_more : (runes : List RuneRow) (i : ℕ) (d : RuneRow) → i < length runes → differ (take i runes) ≡ true → list_any (is_like (get_or runes i d)) (take i runes) ≡ false → differ (take (i + 1) runes) ≡ true
   differ_more runes i d h before none = ap differ (take_more runes i d h) ∙ differ_push (take i runes) (get_or runes i d) before none
@@ -130,30 +129,30 @@ module _ {A : Type 0} (key : RuneRow → A) (same : A → A → Bool) (exact : (
         | inr (inr above) ↦ absurd (apart runes a before j i above (slice_get_within runes i a here) (sym keys))
       ]
     where
-    keys : key (get_or runes i a) ≡ key (get_or runes j a)
-    keys = ap key (get_or_from_slice_get runes i a a here) ∙ like ∙ sym (ap key (get_or_from_slice_get runes j b a there))
+      keys : key (get_or runes i a) ≡ key (get_or runes j a)
+      keys = ap key (get_or_from_slice_get runes i a a here) ∙ like ∙ sym (ap key (get_or_from_slice_get runes j b a there))
 
   differ_upto : (runes : List RuneRow) (d : RuneRow) → AreDistinct key runes → (i : ℕ) → i ≤ length runes → differ (take i runes) ≡ true
   differ_upto runes d distinct zero h = refl
   differ_upto runes d distinct (suc i) h =
       (let next : suc i ≡ i + 1 = omega arith in ap (λ (n : ℕ). differ (take n runes)) next) ∙ differ_more runes i d (omega (arith, h)) (differ_upto runes d distinct i (omega (arith, h))) none
     where
-    row : RuneRow
-    row = get_or runes i d
+      row : RuneRow
+      row = get_or runes i d
 
-    none : list_any (is_like row) (take i runes) ≡ false
-    none =
-        elim (cases_Bool (list_any (is_like row) (take i runes))) [
-          | inl met ↦
-              let at = place_of (is_like row) (take i runes) d met in
-              let long : length (take i runes) ≡ i = length-take-le i runes (omega (arith, h)) in
-              let below : at.0 < i = omega (arith, long, at.1) in
-              let like = exact (key (get_or (take i runes) at.0 d)) (key row) at.2 in
-              let keys : key (get_or runes at.0 d) ≡ key row = ap key (sym (get_or-take i runes at.0 d below)) ∙ like in
-              let equal : at.0 ≡ i = distinct at.0 i (get_or runes at.0 d) row (slice_get-get_or runes at.0 d (omega (arith, below, h))) (slice_get-get_or runes i d (omega (arith, h))) keys in
-              absurd (omega (arith, below, equal))
-          | inr other ↦ other
-        ]
+      none : list_any (is_like row) (take i runes) ≡ false
+      none =
+          elim (cases_Bool (list_any (is_like row) (take i runes))) [
+            | inl met ↦
+                let at = place_of (is_like row) (take i runes) d met in
+                let long : length (take i runes) ≡ i = length-take-le i runes (omega (arith, h)) in
+                let below : at.0 < i = omega (arith, long, at.1) in
+                let like = exact (key (get_or (take i runes) at.0 d)) (key row) at.2 in
+                let keys : key (get_or runes at.0 d) ≡ key row = ap key (sym (get_or-take i runes at.0 d below)) ∙ like in
+                let equal : at.0 ≡ i = distinct at.0 i (get_or runes at.0 d) row (slice_get-get_or runes at.0 d (omega (arith, below, h))) (slice_get-get_or runes i d (omega (arith, h))) keys in
+                absurd (omega (arith, below, equal))
+            | inr other ↦ other
+          ]
 
   pub Decides-differ : (runes : List RuneRow) → Decides (differ runes) (AreDistinct key runes)
   Decides-differ [] = (λ _. distinct_from [] refl, λ _. refl)

@@ -1,6 +1,6 @@
 -- What outputs hold of runes: that ids rise, that runes are there, and what all that comes to.
-use Rattle.std.proofs.Common.{◌≡◌, ◌≢◌, ◌∙◌, ℕ, zero, suc, ◌+◌, ◌*◌, ◌-◌, ◌<◌, ◌≤◌, ◌^◌, ap₂, Bool, true, false, cond, List, [], ◌∷◌, ◌++◌, length, get_or, take, drop, map, refl, sym, ap, subst, arith, inl, inr, ◌⊎◌, Option, Some, None, Ordering}
-use Rattle.std.specs.Prelude.{◌&&◌, ◌==◌, ◌↔◌, nat_le, nat_lt, if◌then◌else◌, is_some, IsSome, IsTrue, sum_by, unwrap_or, slice_get, All, Decides}
+use Rattle.std.proofs.Common.{◌≡◌, ◌≢◌, ◌∙◌, ℕ, zero, suc, ◌+◌, ◌*◌, ◌<◌, ◌≤◌, ◌^◌, ap₂, Bool, true, false, cond, List, [], ◌∷◌, ◌++◌, length, get_or, drop, map, refl, sym, ap, subst, arith, Option, Some, None, Ordering}
+use Rattle.std.specs.Prelude.{◌&&◌, ◌==◌, ◌↔◌, nat_le, nat_lt, if◌then◌else◌, is_some, IsTrue, unwrap_or, slice_get, Decides}
 use Rattle.std.specs.BTreeMap.{BTreeMap, get as kept_at, is_at}
 use Rattle.std.specs.FinMap.{entries, get, values}
 use Rattle.std.specs.List.{AllByRecursion, list_all}
@@ -9,16 +9,16 @@ use Rattle.std.specs.Map.{keys_of, lookup, values_of}
 use Rattle.std.specs.Option.{option_map}
 use Rattle.std.specs.Ordering.{is_eq, is_lt}
 use Rattle.std.specs.declared.cmp.Ordering.TheVariants.{Less, Equal, Greater}
-use Rattle.std.proofs.lemmas.Bool.{and_from, and_parts, cases_Bool, cond-false, cond-true, eq-eqb, eqb-true, false≢true, leb-true, lt-ltb, ltb-true, true≢false}
+use Rattle.std.proofs.lemmas.Bool.{and_from, and_parts, cond-false, cond-true, false≢true, leb-true, lt-ltb, ltb-true}
 use Rattle.std.proofs.lemmas.Bool.Decides.{Decides-eqb, same_from_decides}
-use Rattle.std.proofs.lemmas.List.{drop_more, drop_all, length-drop}
+use Rattle.std.proofs.lemmas.List.{drop_more, length-drop}
 use Rattle.std.proofs.lemmas.List.Elements.{All-from_recursion, recursion_from_All}
 use Rattle.std.proofs.lemmas.List.Sums.{get_or-le-sum_by, sum_by-cons}
 use Rattle.std.proofs.lemmas.Option.{get_or_from_slice_get, slice_get-get_or, slice_get_within}
 use Rattle.std.proofs.lemmas.List.Folds.{list_all-append, list_all_at}
 use Rattle.std.proofs.Math.Nat.{mul-le-mul_right}
 use Rattle.ox_runestone.specs.declared.stone.RuneId.{RuneId}
-use Rattle.ox_allocation.specs.Balances.{AreBalances, Balance, amount_in, id_cmp, ids_of, is_same}
+use Rattle.ox_allocation.specs.Balances.{Balance, amount_in, id_cmp, ids_of, is_same}
 use Rattle.ox_allocation.proofs.Ids.{ids_total, same_id, same_itself, same_turned}
 use Rattle.ox_etching.specs.declared.row.RuneRow.{RuneRow}
 use Rattle.ox_ledger.specs.Balanced.{AreDistinct, AreKnown, amount_held, amount_per_mint, cap_in, made_of}
@@ -171,17 +171,17 @@ to_known runes [] known = absurd (known.0 refl)
 to_known runes (b ∷ more) known =
     let balances = b ∷ more in
     and_from (nat_lt 0 (length balances) && rise balances) (list_all (is_amount (λ (id : RuneId). is_some (by_id runes id))) balances)
-        (and_from (nat_lt 0 (length balances)) (rise balances) (lt-ltb 0 (length balances) (some_in b more)) (rise_from balances known.1.proper.rising))
-        (all_by_place (is_amount (λ (id : RuneId). is_some (by_id runes id))) balances b each)
+    (and_from (nat_lt 0 (length balances)) (rise balances) (lt-ltb 0 (length balances) (some_in b more)) (rise_from balances known.1.proper.rising))
+    (all_by_place (is_amount (λ (id : RuneId). is_some (by_id runes id))) balances b each)
   where
-  each : (k : ℕ) → k < length (b ∷ more) → is_amount (λ (id : RuneId). is_some (by_id runes id)) (get_or (b ∷ more) k b) ≡ true
-  each k h =
-      let one = get_or (b ∷ more) k b in
-      let some : 0 < one.1 = some_each (b ∷ more) (recursion_from_All (λ (n : ℕ). 0 < n) (values_of (b ∷ more)) known.1.proper.some) k b h in
-      let own : ◌≡◌ {A = ℕ} (if is_same one.0 one.0 then one.1 else 0) one.1 = cond-true (is_same one.0 one.0) one.1 0 (same_itself one.0) in
-      let within : (if is_same one.0 one.0 then one.1 else 0) ≤ sum_of (b ∷ more) one.0 = get_or-le-sum_by (λ (balance : Balance). if is_same balance.0 one.0 then balance.1 else 0) (b ∷ more) k b h in
-      let is : sum_of (b ∷ more) one.0 ≡ amount_in (b ∷ more) one.0 = sum_sorted (b ∷ more) one.0 known.1.proper.rising in
-      and_from (nat_lt 0 one.1) (is_some (by_id runes one.0)) (lt-ltb 0 one.1 some) (known.1.known one.0 (λ none. absurd (omega (arith, some, own, within, is, none))))
+    each : (k : ℕ) → k < length (b ∷ more) → is_amount (λ (id : RuneId). is_some (by_id runes id)) (get_or (b ∷ more) k b) ≡ true
+    each k h =
+        let one = get_or (b ∷ more) k b in
+        let some : 0 < one.1 = some_each (b ∷ more) (recursion_from_All (λ (n : ℕ). 0 < n) (values_of (b ∷ more)) known.1.proper.some) k b h in
+        let own : ◌≡◌ {A = ℕ} (if is_same one.0 one.0 then one.1 else 0) one.1 = cond-true (is_same one.0 one.0) one.1 0 (same_itself one.0) in
+        let within : (if is_same one.0 one.0 then one.1 else 0) ≤ sum_of (b ∷ more) one.0 = get_or-le-sum_by (λ (balance : Balance). if is_same balance.0 one.0 then balance.1 else 0) (b ∷ more) k b h in
+        let is : sum_of (b ∷ more) one.0 ≡ amount_in (b ∷ more) one.0 = sum_sorted (b ∷ more) one.0 known.1.proper.rising in
+        and_from (nat_lt 0 one.1) (is_some (by_id runes one.0)) (lt-ltb 0 one.1 some) (known.1.known one.0 (λ none. absurd (omega (arith, some, own, within, is, none))))
 
 pub Decides-known : (runes : List RuneRow) (balances : List Balance) → Decides (are_known runes balances) (Known runes balances)
 Decides-known runes balances = (known_from runes balances, to_known runes balances)
@@ -197,28 +197,28 @@ found_own (first ∷ runes) distinct zero row there =
 found_own (first ∷ runes) distinct (suc i) row there =
     by_test (found_own runes (λ a b x y p q e. let both : suc a ≡ suc b = distinct (suc a) (suc b) x y p q e in omega (arith, both)) i row there) (is_same first.id row.id) refl
   where
-  by_test : by_id runes row.id ≡ Some row → (b : Bool) → is_same first.id row.id ≡ b → (if b then Some first else by_id runes row.id) ≡ Some row
-  by_test later true is = let never : 0 ≡ suc i = distinct 0 (suc i) first row refl there (same_id first.id row.id is) in absurd (omega (arith, never))
-  by_test later false is = later
+    by_test : by_id runes row.id ≡ Some row → (b : Bool) → is_same first.id row.id ≡ b → (if b then Some first else by_id runes row.id) ≡ Some row
+    by_test later true is = let never : 0 ≡ suc i = distinct 0 (suc i) first row refl there (same_id first.id row.id is) in absurd (omega (arith, never))
+    by_test later false is = later
 
 pub is_settled : (amounts : BTreeMap RuneId (Option ℕ)) (runes : List RuneRow) (held : RuneId → ℕ) (row : RuneRow) (r : Bool) → AreAmounts amounts (burned_in runes) held → by_id runes row.id ≡ Some row
     → made_of row < 2 ^ 128 → (IsTrue r ↔ (kept_at id_cmp amounts row.id ≡ Some (Some (made_of row)))) → r ≡ (held row.id + row.burned == made_of row)
 is_settled amounts runes held row r are found small iff =
     same_from_decides r (held row.id + row.burned == made_of row) (to, from) (Decides-eqb (held row.id + row.burned) (made_of row)) where
-  at : kept_at id_cmp amounts row.id ≡ Some (as_amount (row.burned + held row.id))
-  at = are.at row.id ∙ ap (λ (o : Option RuneRow). option_map (λ n. as_amount (n + held row.id)) (option_map (λ (one : RuneRow). one.burned) o)) found
+      at : kept_at id_cmp amounts row.id ≡ Some (as_amount (row.burned + held row.id))
+      at = are.at row.id ∙ ap (λ (o : Option RuneRow). option_map (λ n. as_amount (n + held row.id)) (option_map (λ (one : RuneRow). one.burned) o)) found
 
-  to : r ≡ true → held row.id + row.burned ≡ made_of row
-  to is =
-      let some : Some (as_amount (row.burned + held row.id)) ≡ Some (Some (made_of row)) = sym at ∙ iff.0 is in
-      let amount : as_amount (row.burned + held row.id) ≡ Some (made_of row) = cc some in
-      let equal : row.burned + held row.id ≡ made_of row = (amount_is (row.burned + held row.id) (made_of row) amount).0 in
-      omega (arith, equal)
+      to : r ≡ true → held row.id + row.burned ≡ made_of row
+      to is =
+          let some : Some (as_amount (row.burned + held row.id)) ≡ Some (Some (made_of row)) = sym at ∙ iff.0 is in
+          let amount : as_amount (row.burned + held row.id) ≡ Some (made_of row) = cc some in
+          let equal : row.burned + held row.id ≡ made_of row = (amount_is (row.burned + held row.id) (made_of row) amount).0 in
+          omega (arith, equal)
 
-  from : held row.id + row.burned ≡ made_of row → r ≡ true
-  from equal =
-      let turned : row.burned + held row.id ≡ made_of row = omega (arith, equal) in
-      iff.1 (at ∙ ap (λ n. Some (as_amount n)) turned ∙ ap Some (small_amount (made_of row) small))
+      from : held row.id + row.burned ≡ made_of row → r ≡ true
+      from equal =
+          let turned : row.burned + held row.id ≡ made_of row = omega (arith, equal) in
+          iff.1 (at ∙ ap (λ n. Some (as_amount n)) turned ∙ ap Some (small_amount (made_of row) small))
 
 -- ---- what was made of a rune
 
@@ -294,4 +294,4 @@ pub sums_settle : (runes : List RuneRow) (outs : Outputs) (bal : BalanceMap) →
 unfolding are_held are_settled
 sums_settle runes outs bal held =
     ap (λ (f : RuneId → ℕ). list_all (λ (row : RuneRow). f row.id + row.burned == made_of row) runes)
-        (ext (λ (id : RuneId). 0 + sum_held (values bal) id) (λ (id : RuneId). amount_held (values bal) id) (λ id. let same : sum_held (values bal) id ≡ amount_held (values bal) id = sums_same runes outs (entries bal) id held in omega (arith, same)))
+    (ext (λ (id : RuneId). 0 + sum_held (values bal) id) (λ (id : RuneId). amount_held (values bal) id) (λ id. let same : sum_held (values bal) id ≡ amount_held (values bal) id = sums_same runes outs (entries bal) id held in omega (arith, same)))

@@ -1,5 +1,5 @@
 -- What the test of satoshis says, and that runs in order answer it.
-use Rattle.std.proofs.Common.{◌≡◌, ◌≢◌, ◌∙◌, ℕ, zero, suc, ◌+◌, ◌-◌, ◌<◌, ◌≤◌, ◌^◌, Bool, true, false, cond, eqb, ltb, List, [], ◌∷◌, ◌++◌, length, get_or, drop, refl, sym, ap, subst, arith, inl, inr}
+use Rattle.std.proofs.Common.{◌≡◌, ◌≢◌, ◌∙◌, ℕ, ◌+◌, ◌<◌, ◌≤◌, false, cond, List, [], ◌∷◌, ◌++◌, length, get_or, drop, refl, sym, ap, subst, arith, inl, inr}
 use Rattle.std.specs.Prelude.{◌&&◌, ◌==◌, nat_lt, if◌then◌else◌, All, Decides}
 use Rattle.std.specs.List.{list_all}
 use Rattle.std.specs.List.Sorted.{IsPermutation, IsNonDecreasingBy}
@@ -7,7 +7,7 @@ use Rattle.std.proofs.lemmas.Bool.{cases_lt, ne_eqb, eq-eqb, lt-ltb, le-ltb, con
 use Rattle.std.proofs.lemmas.Bool.Decides.{Decides-and, Decides-by_and, Decides-eqb, Decides-like, Decides-ltb, same_from_decides}
 use Rattle.std.proofs.lemmas.List.{append_assoc, append-nil, drop_more, drop_all}
 use Rattle.std.proofs.lemmas.List.Concat.{flat_map-cons}
-use Rattle.std.proofs.lemmas.List.Elements.{All-append, All-from_get_or, All-get_or, All-head, All-nil, All-tail, All-cons, All-weaker}
+use Rattle.std.proofs.lemmas.List.Elements.{All-append, All-from_get_or, All-head, All-nil, All-tail, All-cons, All-weaker}
 use Rattle.std.proofs.lemmas.List.Sorted.{All-permutation}
 use Rattle.std.proofs.lemmas.List.Sums.{get_or-le-sum_by}
 use Rattle.ox_range.specs.declared.runs.Run.{Run}
@@ -17,7 +17,7 @@ use Rattle.ox_range.proofs.RunLemmas.{get_or-numbers_from, length-numbers_from, 
 use Rattle.ox_rules.specs.Outputs.{sats_of, times}
 use Rattle.ox_rules.specs.declared.rows.OutRow.{OutRow}
 use Rattle.ox_sound.specs.Once.{IsRun, stand_once, tiles}
-use Rattle.ox_sound.proofs.TileLemmas.{HoldOnce, once_from_tiles, tiles_from_once, times-cons, times_permuted, within}
+use Rattle.ox_sound.proofs.TileLemmas.{once_from_tiles, tiles_from_once, times-cons, times_permuted, within}
 
 -- each number below a bound stands in a list once, and no other does
 abbrev pub Once : ℕ → List ℕ → Type 0

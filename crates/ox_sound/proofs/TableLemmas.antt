@@ -1,8 +1,8 @@
 -- Tables by outpoint: as they are kept, and as finite maps.
-use Rattle.std.proofs.Common.{◌≡◌, ◌∙◌, Bool, true, false, cond, List, [], ◌∷◌, map, refl, sym, ap, subst, Option, Some, None, Ordering, T}
-use Rattle.std.specs.Prelude.{◌&&◌, Decides, All}
+use Rattle.std.proofs.Common.{◌≡◌, ◌∙◌, Bool, true, false, cond, List, [], ◌∷◌, map, refl, sym, ap, subst, Some, None, Ordering, T}
+use Rattle.std.specs.Prelude.{Decides, All}
 use Rattle.std.specs.BTreeMap.{is_at}
-use Rattle.std.specs.FinMap.{FinMap, IsAntisymmetric, entries, entries-from_sorted, entries_sorted, find, from_entries, from_sorted, get, get-entries, get-from_entries, get-from_sorted, is_sorted, same_map, values}
+use Rattle.std.specs.FinMap.{FinMap, entries, entries-from_sorted, entries_sorted, find, from_entries, from_sorted, get, get-entries, get-from_entries, get-from_sorted, is_sorted, same_map, values}
 use Rattle.std.specs.FinMap.Entries.{below_all}
 use Rattle.std.specs.List.{AllByRecursion, list_all}
 use Rattle.std.specs.List.Sorted.{IsStrictlySortedBy}
@@ -80,14 +80,13 @@ module _ {X : Type 0} where
       let differs : is_eq (outpoint_cmp x.0 e.0) ≡ false = apart e.0 x.0 less in
       (ap (λ (b : Bool). cond b (Some e.1) (find outpoint_cmp x.0 es)) differs ∙ all.0, found_behind e es more parts.1 all.1)
     where
-    apart : (a b : OutPoint) → outpoint_cmp a b ≡ Less → is_eq (outpoint_cmp b a) ≡ false
-    apart a b less = ap is_eq (outpoints_total.antisymm b a ∙ ap ordering_reverse less)
+      apart : (a b : OutPoint) → outpoint_cmp a b ≡ Less → is_eq (outpoint_cmp b a) ≡ false
+      apart a b less = ap is_eq (outpoints_total.antisymm b a ∙ ap ordering_reverse less)
 
   found_each : (es : List (OutPoint × X)) → is_sorted outpoint_cmp es ≡ true → AllByRecursion (λ (x : OutPoint × X). find outpoint_cmp x.0 es ≡ Some x.1) es
   found_each [] sorted = tt
   found_each (e ∷ es) sorted =
-      let parts = and_parts (below_all outpoint_cmp e.0 es) (is_sorted outpoint_cmp es) sorted in
-      (
+      let parts = and_parts (below_all outpoint_cmp e.0 es) (is_sorted outpoint_cmp es) sorted in (
         ap (λ (b : Bool). cond b (Some e.1) (find outpoint_cmp e.0 es)) (ap is_eq (tied_itself outpoints_total e.0)),
         found_behind e es es parts.0 (found_each es parts.1),
       )
@@ -106,5 +105,5 @@ module _ {X : Type 0} where
     from : ((at : OutPoint) (x : X) → get m at ≡ Some x → P at x) → All (λ (e : OutPoint × X). P e.0 e.1) (entries m)
     from holds =
         All-from_recursion (λ (e : OutPoint × X). P e.0 e.1) (entries m)
-            (each_weaker (λ (e : OutPoint × X). find outpoint_cmp e.0 (entries m) ≡ Some e.1) (λ (e : OutPoint × X). P e.0 e.1) (λ e found. holds e.0 e.1 (get-entries m e.0 ∙ found)) (entries m)
-                (found_each (entries m) (truth (is_sorted outpoint_cmp (entries m)) (entries_sorted m))))
+        (each_weaker (λ (e : OutPoint × X). find outpoint_cmp e.0 (entries m) ≡ Some e.1) (λ (e : OutPoint × X). P e.0 e.1) (λ e found. holds e.0 e.1 (get-entries m e.0 ∙ found)) (entries m)
+        (found_each (entries m) (truth (is_sorted outpoint_cmp (entries m)) (entries_sorted m))))

@@ -1,7 +1,7 @@
 -- Runs that stand in the order of their first numbers tile a stretch of numbers exactly where each
 -- number of it stands in them once and no other does.
-use Rattle.std.proofs.Common.{◌≡◌, ◌≢◌, ◌∙◌, ℕ, zero, suc, ◌+◌, ◌-◌, ◌<◌, ◌≤◌, Bool, true, false, cond, eqb, ltb, List, [], ◌∷◌, ◌++◌, length, get_or, refl, sym, ap, inl, inr, arith, ◌⊎◌}
-use Rattle.std.specs.Prelude.{◌&&◌, ◌==◌, nat_lt, count_by, sum_by, All}
+use Rattle.std.proofs.Common.{◌≡◌, ◌≢◌, ◌∙◌, ℕ, zero, suc, ◌+◌, ◌<◌, ◌≤◌, true, cond, List, [], ◌∷◌, ◌++◌, refl, sym, ap, inl, inr, arith, ◌⊎◌}
+use Rattle.std.specs.Prelude.{◌==◌, nat_lt, sum_by, All}
 use Rattle.std.specs.List.Sorted.{IsPermutation, IsNonDecreasingBy}
 use Rattle.std.proofs.lemmas.Bool.{cases_lt, cases_eq, ne_eqb, eq-eqb, eqb-true, and_parts, and_from, lt-ltb, le-ltb}
 use Rattle.std.proofs.lemmas.List.Sums.{sum_by-append, sum_by-cons}

@@ -1,5 +1,5 @@
 -- Satoshis that each stand in one place.
-use Rattle.std.specs.Prelude.{◌≡◌, ℕ, ◌+◌, ◌<◌, ◌^◌, Bool, ◌&&◌, List, [], ◌∷◌, ◌==◌, nat_lt}
+use Rattle.std.specs.Prelude.{ℕ, ◌+◌, ◌<◌, ◌^◌, Bool, ◌&&◌, List, [], ◌∷◌, ◌==◌, nat_lt}
 use Rattle.std.specs.List.{list_all}
 use Rattle.ox_range.specs.Numbers.{numbers_from}
 use Rattle.ox_range.specs.declared.runs.Run.{Run}

@@ -1,5 +1,5 @@
 -- Runes and what outputs hold of them, by tests.
-use Rattle.std.specs.Prelude.{ℕ, ◌+◌, ◌*◌, ◌^◌, Bool, true, ◌&&◌, ◌||◌, List, [], ◌∷◌, length}
+use Rattle.std.specs.Prelude.{◌+◌, ◌*◌, ◌^◌, Bool, true, ◌&&◌, ◌||◌, List, [], ◌∷◌, length}
 use Rattle.std.specs.Prelude.{◌==◌, nat_lt, nat_le, count_by, is_some}
 use Rattle.std.specs.List.{list_all}
 use Rattle.std.specs.FinMap.{entries, get, values}

@@ -1,5 +1,5 @@
 -- Whether an index is sound, as a function: `IsSound` by tests over what is there.
-use Rattle.std.specs.Prelude.{ℕ, ◌+◌, Bool, true, ◌&&◌, List, ◌++◌, length, Option, nat_lt, nat_le}
+use Rattle.std.specs.Prelude.{ℕ, ◌+◌, Bool, true, ◌&&◌, ◌++◌, length, Option, nat_lt, nat_le}
 use Rattle.std.specs.List.{list_all}
 use Rattle.std.specs.FinMap.{values}
 use Rattle.std.specs.Option.{option_map_or}

@@ -52,7 +52,7 @@ pub(crate) fn burned_by_id(alloc: Global, runes: &[RuneRow]) -> Result<Option<Am
 fn add_one(amounts: &mut Amounts, id: RuneId, amount: u128)
     ensures { (there : Id → Option ℕ) (held : Id → ℕ) → AreAmounts amounts.old there held
         → AreAmounts amounts.new there
-            (λ other. held other + (if is_same id other then amount else 0)) }
+        (λ other. held other + (if is_same id other then amount else 0)) }
 {
     if let Some(sum) = amounts.get_mut(&id) {
         *sum = more(*sum, amount);

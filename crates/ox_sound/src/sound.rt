@@ -34,7 +34,10 @@ fn are_outputs_sound(index: &Index) -> bool
     ensures { result ≡ outputs_pass (index_in index.now) }
 {
     let blocks = index.hashes.len() as u64;
-    index.outs.values().all(|row| u64::from(row.height) < blocks)
+    index
+        .outs
+        .values()
+        .all(|row| u64::from(row.height) < blocks)
 }
 
 /// Whether an inscription's satoshi, where it has one, is below this number.

@@ -11,13 +11,13 @@ loop-id-init c = λ there held are. same_held c.args.amounts.now there held (λ 
 
 pub loop-id-preserved : goal.loop-id-preserved
 loop-id-preserved c = λ there held are.
-  let balances = c.args.balances.now in
-  let i = c.loop-id.id-index in
-  let one : Balance = get_or c.args.balances.now c.loop-id.id-index no_balance in
-  same_held c.add_one.new.amounts there (λ id. held id + sum_of (take i balances) id + (if is_same one.0 id then one.1 else 0)) (λ id. held id + sum_of (take (i + 1) balances) id)
-      (λ id. sum_more balances i no_balance id (held id) c.loop-id-test.true) (c.add_one.ensures there (λ id. held id + sum_of (take i balances) id) (c.loop-id.invariant there held are))
+    let balances = c.args.balances.now in
+    let i = c.loop-id.id-index in
+    let one : Balance = get_or c.args.balances.now c.loop-id.id-index no_balance in
+    same_held c.add_one.new.amounts there (λ id. held id + sum_of (take i balances) id + (if is_same one.0 id then one.1 else 0)) (λ id. held id + sum_of (take (i + 1) balances) id)
+    (λ id. sum_more balances i no_balance id (held id) c.loop-id-test.true) (c.add_one.ensures there (λ id. held id + sum_of (take i balances) id) (c.loop-id.invariant there held are))
 
 pub returns : goal.returns
 returns c = λ there held are.
-  same_held c.loop-id.amounts there (λ id. held id + sum_of (take c.loop-id.id-index c.args.balances.now) id) (λ id. held id + sum_of c.args.balances.now id)
-      (λ id. ap (λ (balances : List Balance). held id + sum_of balances id) (take_all c.loop-id.id-index c.args.balances.now c.loop-id-test.false)) (c.loop-id.invariant there held are)
+    same_held c.loop-id.amounts there (λ id. held id + sum_of (take c.loop-id.id-index c.args.balances.now) id) (λ id. held id + sum_of c.args.balances.now id)
+    (λ id. ap (λ (balances : List Balance). held id + sum_of balances id) (take_all c.loop-id.id-index c.args.balances.now c.loop-id-test.false)) (c.loop-id.invariant there held are)

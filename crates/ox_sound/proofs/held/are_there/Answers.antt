@@ -21,7 +21,7 @@ loop-id-preserved c =
     let some : 0 < (get_or c.args.balances.now c.loop-id.id-index no_balance).1 = omega (arith, c.if-amount-eq0.false) in
     list_all_more test balances i no_balance c.loop-id-test.true
     ∙ and_from (list_all test (take i balances)) (test one) c.loop-id.invariant
-        (and_from (nat_lt 0 one.1) (is_among c.args.amounts.now one.0) (lt-ltb 0 one.1 some) (sym c.contains_key.ensures ∙ c.if-not-contains_key.false))
+    (and_from (nat_lt 0 one.1) (is_among c.args.amounts.now one.0) (lt-ltb 0 one.1 some) (sym c.contains_key.ensures ∙ c.if-not-contains_key.false))
 
 pub returns : goal.returns
 returns c = sym c.loop-id.invariant ∙ ap (list_all (is_amount (is_among c.args.amounts.now))) (take_all c.loop-id.id-index c.args.balances.now c.loop-id-test.false)

@@ -1,4 +1,4 @@
-use Rattle.std.proofs.Common.{◌≡◌, ◌∙◌, ◌+◌, ◌-◌, ◌<◌, ◌≤◌, ℕ, ap, arith, drop, refl, sym}
+use Rattle.std.proofs.Common.{◌≡◌, ◌∙◌, ◌+◌, ◌-◌, ◌≤◌, ℕ, ap, arith, drop, refl, sym}
 use Rattle.std.specs.Ordering.{is_lt}
 use Rattle.ox_sound.specs.Rows.{rise}
 use Rattle.ox_sound.proofs.AmountLemmas.{no_balance}

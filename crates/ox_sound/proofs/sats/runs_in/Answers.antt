@@ -1,7 +1,6 @@
 use Rattle.std.proofs.Common.{◌++◌, List, ap, ◌∙◌, sym, subst, All}
 use Rattle.std.specs.BTreeMap.{values}
 use Rattle.std.proofs.lemmas.List.Elements.{All-nil}
-use Rattle.ox_range.specs.declared.runs.Run.{Run}
 use Rattle.ox_rules.specs.Outputs.{sats_of}
 use Rattle.ox_sound.specs.Once.{IsRun}
 use Rattle.ox_sound.proofs.TableLemmas.{values_back}
@@ -25,7 +24,7 @@ loop-row-preserved c = record {
 pub returns-clause-numbers : goal.returns-clause-numbers
 returns-clause-numbers c =
     all_rows c.loop-row.runs.items c.runs-2.result.now c.extend_from_slice-2.new.self.items c.loop-row.row-iterator c.args.lost.now (sats_of (values c.args.outs.now))
-        c.in_ok-extend_from_slice-2.ensures.items c.runs-2.ensures.numbers c.in-None.ensures.steps.0 c.loop-row.invariant.numbers
+    c.in_ok-extend_from_slice-2.ensures.items c.runs-2.ensures.numbers c.in-None.ensures.steps.0 c.loop-row.invariant.numbers
     ∙ ap (λ (rows : List OutRow). sats_of rows ++ c.args.lost.now) (sym (values_back c.args.outs.now.entries c.values-row-items.ensures.ordered))
 
 pub returns-clause-runs : goal.returns-clause-runs

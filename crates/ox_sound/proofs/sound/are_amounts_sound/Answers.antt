@@ -1,4 +1,4 @@
-use Rattle.std.proofs.Common.{◌≡◌, ◌∙◌, ◌+◌, ℕ, Bool, List, Option, Some, ap, refl, subst, sym, true}
+use Rattle.std.proofs.Common.{◌≡◌, ◌∙◌, ◌+◌, ℕ, Bool, List, Option, Some, ap, subst, sym, true}
 use Rattle.std.specs.Prelude.{◌==◌, IfSome, IsTrue, is_some}
 use Rattle.std.specs.BTreeMap.{BTreeMap}
 use Rattle.std.specs.FinMap.{values}
@@ -30,7 +30,7 @@ returns-then-not-are_held c =
     let index = c.args.index.now in
     let are = table_of c.in_ok-amounts.field-0 c.in-Some.amounts c.as_slice-runes.result.now index.runes c.in-Some.is c.as_slice-runes.ensures c.in_ok-amounts.ensures.burned in
     held_fails (ids_differ index.runes) (are_held index.runes (outputs_in index.outs) (balances_in index.bal)) (are_settled index.runes (balances_in index.bal))
-        (sym (c.are_held.ensures index.runes (λ id. 0) are) ∙ c.if-not-are_held.true)
+    (sym (c.are_held.ensures index.runes (λ id. 0) are) ∙ c.if-not-are_held.true)
 
 pub returns : goal.returns
 returns c =
@@ -41,7 +41,7 @@ returns c =
     let sums = c.add_all.ensures (burned_in index.runes) (λ id. 0) are in
     let made = made_here c.as_slice-runes.result.now index.runes c.are_made.result c.add_all.new.amounts (λ id. 0 + sum_held (values (balances_in index.bal)) id) c.as_slice-runes.ensures ids sums c.are_made.ensures in
     amounts_pass (ids_differ index.runes) (are_held index.runes (outputs_in index.outs) (balances_in index.bal)) (are_settled index.runes (balances_in index.bal)) c.are_made.result ids held
-        (made ∙ sums_settle index.runes (outputs_in index.outs) (balances_in index.bal) held)
+    (made ∙ sums_settle index.runes (outputs_in index.outs) (balances_in index.bal) held)
 
 pub are_made-requires : goal.are_made-requires
 are_made-requires c = subst (λ (runes : List RuneRow). IsTrue (list_all is_bounded runes)) (sym c.as_slice-runes.ensures) c.requires

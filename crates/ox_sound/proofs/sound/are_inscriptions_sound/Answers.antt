@@ -1,5 +1,4 @@
 use Rattle.std.proofs.Common.{◌∙◌, ap, refl, sym}
-use Rattle.ox_inscribe.specs.declared.row.InsRow.{InsRow}
 use Rattle.ox_plain.specs.Plain.{index_in}
 use Rattle.ox_sound.specs.Sound.{is_revealed}
 use Rattle.ox_sound.proofs.PassLemmas.{inscriptions_are, no_more, one_fails, one_more}

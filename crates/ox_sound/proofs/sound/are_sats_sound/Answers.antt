@@ -10,4 +10,4 @@ pub returns : goal.returns
 returns c =
     let index = index_in c.args.index.now in
     same_answer c.are_once.result (stand_once c.first-first.result (sats_held index.outs ++ index.lost)) (sats_pass c.args.p.now index)
-        (sats_are c.args.p.now index c.len.result c.first-first.result c.len.ensures c.first-first.ensures.value) c.are_once.ensures
+    (sats_are c.args.p.now index c.len.result c.first-first.result c.len.ensures c.first-first.ensures.value) c.are_once.ensures

@@ -14,4 +14,4 @@ pub returns : goal.returns
 returns c =
     let index = index_in c.args.index.now in
     same_answer c.are_runes_sound.result (runes_pass c.args.p.now index) (sound c.args.p.now index)
-        (runes_left c.args.p.now index c.are_rows_of_chain.result c.in_ok-are_sats_sound.field-0 c.are_rows_of_chain.ensures c.if-not-are_rows_of_chain.false c.in_ok-are_sats_sound.ensures c.if-not-branch.false) c.are_runes_sound.ensures
+    (runes_left c.args.p.now index c.are_rows_of_chain.result c.in_ok-are_sats_sound.field-0 c.are_rows_of_chain.ensures c.if-not-are_rows_of_chain.false c.in_ok-are_sats_sound.ensures c.if-not-branch.false) c.are_runes_sound.ensures
