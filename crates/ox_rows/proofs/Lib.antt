@@ -7,3 +7,4 @@ pub mod Putting
 pub mod RowLaws
 pub mod InOrder
 pub mod Fronts
+pub mod Keeping

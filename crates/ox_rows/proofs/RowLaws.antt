@@ -80,23 +80,18 @@ outputs_law =
 -- ---- options and lists of ids
 
 optional_text_law : Law (λ (x : Option (List ℕ)). IfSome x FitsText) (optional text) optional_text_at
-unfolding optional_text_at
 optional_text_law = optional_law text_law
 
 optional_id_law : Law (λ (x : Option InsId). IfSome x FitsInsId) (optional inscription_id) optional_id_at
-unfolding optional_id_at
 optional_id_law = optional_law inscription_id_law
 
 optional_64_law : Law (λ (x : Option ℕ). IfSome x (λ n. n < 2 ^ 64)) (optional (to_le_bytes w64)) optional_64_at
-unfolding optional_64_at
 optional_64_law = optional_law law64
 
 optional_128_law : Law (λ (x : Option ℕ). IfSome x (λ n. n < 2 ^ 128)) (optional (to_le_bytes w128)) optional_128_at
-unfolding optional_128_at
 optional_128_law = optional_law law128
 
 ids_law : Law (FitsList FitsInsId) (list inscription_id) ids_at
-unfolding ids_at
 ids_law = list_law inscription_id_law
 
 -- ---- rows of inscriptions
@@ -127,7 +122,6 @@ inscription_law =
     (λ r. refl)
 
 pub inscriptions_law : Law (FitsList FitsInscription) (list inscription) inscriptions_at
-unfolding inscriptions_at
 inscriptions_law = list_law inscription_law
 
 -- ---- rows of runes
@@ -148,7 +142,6 @@ terms_law =
     (λ t h. ((((((tt, h.amount), h.cap), h.height_start), h.height_end), h.offset_start), h.offset_end)) (λ t. refl)
 
 optional_terms_law : Law (λ (x : Option Terms). IfSome x FitsTerms) (optional terms) optional_terms_at
-unfolding optional_terms_at
 optional_terms_law = optional_law terms_law
 
 not_not : (b : Bool) → not b ≡ false → b ≡ true
@@ -176,7 +169,6 @@ character_law =
     (unless_law (λ n. not (is_character n)) (λ n. n < 2 ^ 32) (to_le_bytes w32) (number_at w32) law32)
 
 optional_character_law : Law (λ (x : Option ℕ). IfSome x (λ c. IsTrue (is_character c))) (optional (to_le_bytes w32)) optional_character_at
-unfolding optional_character_at
 optional_character_law = optional_law character_law
 
 pub rune_law : Law FitsRune rune rune_at
@@ -201,11 +193,9 @@ rune_law =
     (λ r h. ((((((((((tt, h.id), h.name), h.spacers), h.divisibility), h.symbol), h.premine), h.terms), h.mints), h.burned), h.etching)) (λ r. refl)
 
 pub runes_law : Law (FitsList FitsRune) (list rune) runes_at
-unfolding runes_at
 runes_law = list_law rune_law
 
 pub hashes_law : Law (FitsList IsHash) (list hash) hashes_at
-unfolding hashes_at
 hashes_law = list_law (run_law 32)
 
 -- ---- balances
@@ -365,7 +355,7 @@ change_law =
 -- ---- an index
 
 module _ {K X : Type 0} {R : K → K → Ordering} (o : IsTotalOrder R) (same : IsAntisymmetric R) where
-  entries_back : (es : List (K × X)) → IsTrue (is_sorted R es) → entries (from_entries {R = R} es) ≡ es
+  pub entries_back : (es : List (K × X)) → IsTrue (is_sorted R es) → entries (from_entries {R = R} es) ≡ es
   entries_back es h =
       let t : T (is_sorted R es) = subst T (sym h) tt in
       ap entries (same_map o same (from_entries es) (from_sorted es) (λ q. get-from_entries o es q ∙ sym (get-from_sorted R es q t))) ∙ entries-from_sorted R es t

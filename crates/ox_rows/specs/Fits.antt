@@ -1,5 +1,5 @@
--- What has a spelling: each number fits its field, each list has fewer than 2 ^ 32 items, keys rise,
--- and satoshis are in range.
+-- What has a spelling: each number fits its field, each list has fewer than 2 ^ 32 items, keys
+-- rise, and satoshis are in range.
 use Rattle.std.specs.Prelude.{◌≡◌, ℕ, ◌<◌, ◌≤◌, ◌^◌, List, length, All}
 use Rattle.ox_block.specs.Spelling.{most_value}
 use Rattle.ox_range.specs.Runs.{runs_of}

@@ -1,13 +1,13 @@
 -- Reading values from left to right: the value and the bytes behind it, or the number of bytes left
 -- where the field at fault begins.
-use Rattle.std.specs.Prelude.{ℕ, zero, suc, ◌+◌, ◌-◌, ◌<◌, ◌≤◌, Bool, true, false, not, ◌||◌, List, [], ◌∷◌}
-use Rattle.std.specs.Prelude.{◌++◌, length, Option, Some, None, Ok, Err, nat_lt, ◌==◌}
+use Rattle.std.specs.Prelude.{ℕ, zero, suc, ◌+◌, ◌-◌, ◌<◌, ◌≤◌, Bool, true, false, not, ◌||◌}
+use Rattle.std.specs.Prelude.{List, [], ◌∷◌, ◌++◌, length, Option, Some, None, Ok, Err, nat_lt, ◌==◌}
 use Rattle.std.specs.Prelude.{if◌then◌else◌}
 use Rattle.std.specs.Int.{w32, w64}
 use Rattle.std.specs.Ordering.{is_lt}
 use Rattle.std.specs.declared.cmp.Ordering.{Ordering}
-use Rattle.ox_bytes.specs.Reading.{◌>>=◌, Reader, number_at, run_at as bytes_at, reading_map, unless}
-use Rattle.ox_bytes.specs.Reading.{counted_list}
+use Rattle.ox_bytes.specs.Reading.{◌>>=◌, Reader, number_at, run_at as bytes_at, reading_map}
+use Rattle.ox_bytes.specs.Reading.{counted_list, unless}
 use Rattle.ox_block.specs.Spelling.{most_value}
 use Rattle.ox_range.specs.declared.runs.Run.{Run}
 use Rattle.ox_range.specs.Numbers.{numbers_from}

@@ -49,19 +49,19 @@ out_row_of script height sats = record { script = script; height = height; sats 
 unfoldable pub out_row_at : Reader OutRow
 out_row_at bytes = (made out_row_of <*> text_at <*> number_at w32 <*> sats_at) bytes
 
-unfoldable pub optional_text_at : Reader (Option (List ℕ))
+abbrev pub optional_text_at : Reader (Option (List ℕ))
 optional_text_at bytes = optional_at text_at bytes
 
-unfoldable pub optional_id_at : Reader (Option InsId)
+abbrev pub optional_id_at : Reader (Option InsId)
 optional_id_at bytes = optional_at inscription_id_at bytes
 
-unfoldable pub optional_64_at : Reader (Option ℕ)
+abbrev pub optional_64_at : Reader (Option ℕ)
 optional_64_at bytes = optional_at (number_at w64) bytes
 
-unfoldable pub optional_128_at : Reader (Option ℕ)
+abbrev pub optional_128_at : Reader (Option ℕ)
 optional_128_at bytes = optional_at (number_at w128) bytes
 
-unfoldable pub ids_at : Reader (List InsId)
+abbrev pub ids_at : Reader (List InsId)
 ids_at bytes = list_at inscription_id_at bytes
 
 abbrev pub inscription_of : InsId → ℕ → Option (List ℕ) → Option (List ℕ) → Option (List ℕ)
@@ -116,14 +116,14 @@ terms_at bytes =
     (made terms_of <*> optional_128_at <*> optional_128_at <*> optional_64_at <*> optional_64_at
     <*> optional_64_at <*> optional_64_at) bytes
 
-unfoldable pub optional_terms_at : Reader (Option Terms)
+abbrev pub optional_terms_at : Reader (Option Terms)
 optional_terms_at bytes = optional_at terms_at bytes
 
 -- a character's number
 unfoldable pub character_at : Reader ℕ
 character_at bytes = unless (λ n. not (is_character n)) (number_at w32) bytes
 
-unfoldable pub optional_character_at : Reader (Option ℕ)
+abbrev pub optional_character_at : Reader (Option ℕ)
 optional_character_at bytes = optional_at character_at bytes
 
 abbrev pub rune_of : RuneId → ℕ → ℕ → ℕ → Option ℕ → ℕ → Option Terms → ℕ → ℕ → List ℕ → RuneRow
@@ -183,13 +183,13 @@ counts_at bytes =
     (λ at. number_at w32 at >>= λ n. rising_at nat_cmp (number_at w32) counts_then_at None n.0 n.1)
     bytes
 
-unfoldable pub inscriptions_at : Reader (List InsRow)
+abbrev pub inscriptions_at : Reader (List InsRow)
 inscriptions_at bytes = list_at inscription_at bytes
 
-unfoldable pub runes_at : Reader (List RuneRow)
+abbrev pub runes_at : Reader (List RuneRow)
 runes_at bytes = list_at rune_at bytes
 
-unfoldable pub hashes_at : Reader (List (List ℕ))
+abbrev pub hashes_at : Reader (List (List ℕ))
 hashes_at bytes = list_at (run_at 32) bytes
 
 -- ---- a change and an index

@@ -1,5 +1,5 @@
--- How values are spelled: numbers with the low byte first, a list as how many and its items, bytes as
--- how many and these, an option as 0, or 1 and the value, satoshis as their maximal runs.
+-- How values are spelled: numbers with the low byte first, a list as how many and its items, bytes
+-- as how many and these, an option as 0, or 1 and the value, satoshis as their maximal runs.
 use Rattle.std.specs.Prelude.{ℕ, List, [], ◌∷◌, ◌++◌, length, Option, Some, None}
 use Rattle.std.specs.Int.{w32, w64, to_le_bytes}
 use Rattle.std.specs.List.{flat_map}

@@ -9,6 +9,7 @@ ghost use Rattle.ox_rows.specs.Reading.{rising_at};
 ghost use Rattle.ox_rows.specs.RowSpelling.{balance, placement};
 ghost use Rattle.ox_rows.specs.Spelling.{list};
 
+use crate::ids::rune_id_bytes;
 use crate::put::put_list;
 use crate::readable::Readable;
 use crate::rising::{key_behind, rising_of};
@@ -65,6 +66,18 @@ impl Readable for Balances {
     }
 }
 
+/// A rune and how much of it there is, spelled.
+fn balance_bytes(id: RuneId, amount: u128) -> [u8; 28]
+    ensures spelled { result ≡ balance (id, amount) }
+    ensures fits { FitsBalance (id, amount) }
+{
+    let mut bytes = [0; 28];
+    let (front, back) = bytes.split_at_mut(12);
+    front.copy_from_slice(&rune_id_bytes(id));
+    back.copy_from_slice(&amount.to_le_bytes());
+    bytes
+}
+
 impl Writable for (RuneId, u128) {
     ghost spelling = { balance };
 
@@ -74,8 +87,7 @@ impl Writable for (RuneId, u128) {
 
     fn put(&self, bytes: &mut Bytes) -> Result<(), Memory> {
         let (id, amount) = *self;
-        id.put(bytes)?;
-        amount.put(bytes)
+        bytes.append(&balance_bytes(id, amount))
     }
 }
 

@@ -21,7 +21,7 @@ use ox_ledger::RunePart;
 use ox_model::Change;
 use std::alloc::Global;
 
-#[tactic(auto, unfolding(crate::specs::RowReading::change_at, crate::specs::RowReading::inscriptions_at, crate::specs::RowReading::runes_at))]
+#[tactic(auto, unfolding(crate::specs::RowReading::change_at))]
 fn change_of(alloc: Global, bytes: &[u8]) -> Result<(Change, &[u8]), ReadError>
     ensures { GivesOrMemory (λ x. (x.0, x.1.now)) result (change_at bytes.now) }
 {

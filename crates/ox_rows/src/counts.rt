@@ -41,6 +41,24 @@ impl Readable for CountsThen {
     }
 }
 
+/// Changed counts, spelled.
+fn count_change_bytes(change: CountChange) -> [u8; 68]
+    ensures spelled { result ≡ count_change change }
+    ensures fits { FitsCountChange change }
+{
+    let mut bytes = [0; 68];
+    let (front, burned_after) = bytes.split_at_mut(52);
+    let (front, burned_before) = front.split_at_mut(36);
+    let (front, mints_after) = front.split_at_mut(20);
+    let (place, mints_before) = front.split_at_mut(4);
+    place.copy_from_slice(&change.place.to_le_bytes());
+    mints_before.copy_from_slice(&change.before.mints.to_le_bytes());
+    mints_after.copy_from_slice(&change.after.mints.to_le_bytes());
+    burned_before.copy_from_slice(&change.before.burned.to_le_bytes());
+    burned_after.copy_from_slice(&change.after.burned.to_le_bytes());
+    bytes
+}
+
 impl Writable for CountChange {
     ghost spelling = { count_change };
 
@@ -49,11 +67,7 @@ impl Writable for CountChange {
     ghost keeps = { λ c. Unit {0} };
 
     fn put(&self, bytes: &mut Bytes) -> Result<(), Memory> {
-        self.place.put(bytes)?;
-        self.before.mints.put(bytes)?;
-        self.after.mints.put(bytes)?;
-        self.before.burned.put(bytes)?;
-        self.after.burned.put(bytes)
+        bytes.append(&count_change_bytes(*self))
     }
 }
 

@@ -1,6 +1,7 @@
 //! Outpoints and ids.
 
-ghost use Rattle.std.specs.Prelude.{◌≡◌};
+ghost use Rattle.std.specs.Prelude.{◌≡◌, ◌++◌};
+ghost use Rattle.std.specs.Int.{w32, to_le_bytes};
 ghost use Rattle.ox_block.specs.Spelling.{outpoint};
 ghost use Rattle.ox_rows.specs.RowFits.{FitsInsId, FitsOutPoint, FitsRuneId};
 ghost use Rattle.ox_rows.specs.RowReading.{inscription_id_at, outpoint_at, rune_id_at};
@@ -9,7 +10,7 @@ ghost use Rattle.ox_rows.specs.RowSpelling.{inscription_id, rune_id};
 use crate::readable::Readable;
 use crate::writable::Writable;
 use ox_block::{OutPoint, Txid};
-use ox_bytes::{Bytes, Memory, ReadError, put_u32le};
+use ox_bytes::{Bytes, Memory, ReadError};
 use ox_envelope::InsId;
 use ox_runestone::RuneId;
 use std::alloc::Global;
@@ -37,9 +38,19 @@ impl Writable for OutPoint {
     ghost keeps = { λ at. Unit {0} };
 
     fn put(&self, bytes: &mut Bytes) -> Result<(), Memory> {
-        bytes.append(&self.txid.0)?;
-        put_u32le(bytes, self.index)
+        bytes.append(&place_bytes(&self.txid.0, self.index))
     }
+}
+
+/// A transaction's id and a place in it, spelled.
+pub(crate) fn place_bytes(txid: &[u8; 32], index: u32) -> [u8; 36]
+    ensures { result ≡ txid.now ++ to_le_bytes w32 index }
+{
+    let mut bytes = [0; 36];
+    let (front, back) = bytes.split_at_mut(32);
+    front.copy_from_slice(txid);
+    back.copy_from_slice(&index.to_le_bytes());
+    bytes
 }
 
 impl Readable for InsId {
@@ -61,9 +72,20 @@ impl Writable for InsId {
     ghost keeps = { λ id. Unit {0} };
 
     fn put(&self, bytes: &mut Bytes) -> Result<(), Memory> {
-        bytes.append(&self.txid)?;
-        put_u32le(bytes, self.index)
+        bytes.append(&place_bytes(&self.txid, self.index))
     }
+}
+
+/// A rune's id, spelled.
+pub(crate) fn rune_id_bytes(id: RuneId) -> [u8; 12]
+    ensures spelled { result ≡ rune_id id }
+    ensures fits { FitsRuneId id }
+{
+    let mut bytes = [0; 12];
+    let (block, tx) = bytes.split_at_mut(8);
+    block.copy_from_slice(&id.block.to_le_bytes());
+    tx.copy_from_slice(&id.tx.to_le_bytes());
+    bytes
 }
 
 impl Readable for RuneId {
@@ -85,9 +107,7 @@ impl Writable for RuneId {
     ghost keeps = { λ id. Unit {0} };
 
     fn put(&self, bytes: &mut Bytes) -> Result<(), Memory> {
-        let RuneId { block, tx } = *self;
-        let [a, b, c, d, e, f, g, h] = block.to_le_bytes();
-        let [i, j, k, l] = tx.to_le_bytes();
-        bytes.append(&[a, b, c, d, e, f, g, h, i, j, k, l])
+        let id = *self;
+        bytes.append(&rune_id_bytes(id))
     }
 }

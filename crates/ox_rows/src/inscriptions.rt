@@ -1,16 +1,17 @@
 //! Rows of inscriptions.
 
-ghost use Rattle.std.specs.Prelude.{◌≡◌};
-ghost use Rattle.ox_rows.specs.RowFits.{FitsInscription};
-ghost use Rattle.ox_rows.specs.RowReading.{ids_at, inscription_at, optional_64_at, optional_id_at};
-ghost use Rattle.ox_rows.specs.RowReading.{optional_text_at};
-ghost use Rattle.ox_rows.specs.RowSpelling.{inscription};
+ghost use Rattle.std.specs.Prelude.{◌≡◌, ◌++◌};
+ghost use Rattle.std.specs.Int.{w32, to_le_bytes};
+ghost use Rattle.ox_rows.specs.RowFits.{FitsInsId, FitsInscription};
+ghost use Rattle.ox_rows.specs.RowReading.{inscription_at};
+ghost use Rattle.ox_rows.specs.RowSpelling.{inscription, inscription_id};
 
+use crate::ids::place_bytes;
 use crate::lists::list_of;
 use crate::put::{put_list, put_optional};
 use crate::readable::{Readable, optional_of};
 use crate::writable::Writable;
-use ox_bytes::{Bytes, Memory, ReadError, put_u32le};
+use ox_bytes::{Bytes, Memory, ReadError};
 use ox_envelope::InsId;
 use ox_inscribe::{InsRow, SharedRow};
 use std::alloc::Global;
@@ -18,7 +19,7 @@ use std::alloc::Global;
 impl Readable for InsRow {
     ghost at = { inscription_at };
 
-    #[tactic(auto, unfolding(crate::specs::RowReading::inscription_at, crate::specs::RowReading::optional_text_at, crate::specs::RowReading::optional_id_at, crate::specs::RowReading::optional_64_at, crate::specs::RowReading::ids_at))]
+    #[tactic(auto, unfolding(crate::specs::RowReading::inscription_at))]
     fn read(alloc: Global, bytes: &[u8]) -> Result<(InsRow, &[u8]), ReadError> {
         let (id, rest) = InsId::read(alloc, bytes)?;
         let (height, rest) = u32::read(alloc, rest)?;
@@ -50,6 +51,18 @@ impl Readable for InsRow {
     }
 }
 
+/// What an inscription's row begins with, its id and the height of its block, spelled.
+fn front_bytes(id: InsId, height: u32) -> [u8; 40]
+    ensures spelled { result ≡ inscription_id id ++ to_le_bytes w32 height }
+    ensures fits { FitsInsId id }
+{
+    let mut bytes = [0; 40];
+    let (front, back) = bytes.split_at_mut(36);
+    front.copy_from_slice(&place_bytes(&id.txid, id.index));
+    back.copy_from_slice(&height.to_le_bytes());
+    bytes
+}
+
 impl Writable for InsRow {
     ghost spelling = { inscription };
 
@@ -58,8 +71,7 @@ impl Writable for InsRow {
     ghost keeps = { λ row. Unit {0} };
 
     fn put(&self, bytes: &mut Bytes) -> Result<(), Memory> {
-        self.id.put(bytes)?;
-        put_u32le(bytes, self.height)?;
+        bytes.append(&front_bytes(self.id, self.height))?;
         put_optional(bytes, &self.content_type)?;
         put_optional(bytes, &self.body)?;
         put_optional(bytes, &self.metadata)?;

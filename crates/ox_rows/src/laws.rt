@@ -1,7 +1,10 @@
-//! What the definitions say, for any bytes and any satoshis.
+//! What the definitions say, for any bytes and any values.
 
 ghost use Rattle.std.specs.Prelude.{◌≡◌, ℕ, ◌<◌, List, ◌++◌, All, Ok};
+ghost use Rattle.ox_model.specs.Index.{Index};
+ghost use Rattle.ox_model.specs.declared.change.Change.{Change};
 ghost use Rattle.ox_rows.specs.Fits.{FitsSats};
+ghost use Rattle.ox_rows.specs.RowFits.{FitsChange, FitsIndex, KeepsChange, KeepsIndex};
 ghost use Rattle.ox_rows.specs.Reading.{sats_at};
 ghost use Rattle.ox_rows.specs.Spelling.{sats};
 
@@ -13,4 +16,10 @@ pub fn satoshis_have_one_spelling()
         → FitsSats numbers × (bytes ≡ sats numbers ++ rest) }
     ensures again { (numbers rest : List ℕ) → FitsSats numbers
         → sats_at (sats numbers ++ rest) ≡ Ok (numbers, rest) }
+{}
+
+/// What has a spelling keeps to the form that its writer asks for. So what was read can be put.
+pub fn what_fits_keeps_to_the_form()
+    ensures change { (change : Change) → FitsChange change → KeepsChange change }
+    ensures index { (index : Index) → FitsIndex index → KeepsIndex index }
 {}

@@ -21,8 +21,8 @@ mod writable;
 
 pub use change::{put_change, read_change, write_change};
 pub use fault::RowsFault;
-pub use index::read_index;
-pub use laws::satoshis_have_one_spelling;
+pub use index::{put_index, read_index, write_index};
+pub use laws::{satoshis_have_one_spelling, what_fits_keeps_to_the_form};
 pub use lists::list_of;
 pub use put::{put_count, put_list, put_optional, put_text};
 pub use readable::{Readable, optional_of, text_of};

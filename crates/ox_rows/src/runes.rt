@@ -1,13 +1,12 @@
 //! Rows of runes.
 
-ghost use Rattle.std.specs.Prelude.{◌≡◌, IsTrue};
-ghost use Rattle.std.specs.Int.{w32, to_le_bytes};
-ghost use Rattle.ox_rows.specs.RowFits.{FitsRune, FitsTerms, is_character};
-ghost use Rattle.ox_rows.specs.RowReading.{character_at, optional_128_at, optional_64_at};
-ghost use Rattle.ox_rows.specs.RowReading.{optional_character_at, optional_terms_at, rune_at};
-ghost use Rattle.ox_rows.specs.RowReading.{terms_at};
-ghost use Rattle.ox_rows.specs.RowSpelling.{rune, terms};
+ghost use Rattle.std.specs.Prelude.{◌≡◌, ◌++◌, IsTrue};
+ghost use Rattle.std.specs.Int.{w32, w128, to_le_bytes};
+ghost use Rattle.ox_rows.specs.RowFits.{FitsRune, FitsRuneId, FitsTerms, is_character};
+ghost use Rattle.ox_rows.specs.RowReading.{character_at, rune_at, terms_at};
+ghost use Rattle.ox_rows.specs.RowSpelling.{rune, rune_id, terms};
 
+use crate::ids::rune_id_bytes;
 use crate::put::put_optional;
 use crate::readable::{Readable, optional_of};
 use crate::writable::Writable;
@@ -45,7 +44,7 @@ impl Writable for char {
 impl Readable for Terms {
     ghost at = { terms_at };
 
-    #[tactic(auto, unfolding(crate::specs::RowReading::terms_at, crate::specs::RowReading::optional_128_at, crate::specs::RowReading::optional_64_at))]
+    #[tactic(auto, unfolding(crate::specs::RowReading::terms_at))]
     fn read(alloc: Global, bytes: &[u8]) -> Result<(Terms, &[u8]), ReadError> {
         let (amount, rest) = optional_of(alloc, bytes)?;
         let (cap, rest) = optional_of(alloc, rest)?;
@@ -85,7 +84,7 @@ impl Writable for Terms {
 impl Readable for RuneRow {
     ghost at = { rune_at };
 
-    #[tactic(auto, unfolding(crate::specs::RowReading::rune_at, crate::specs::RowReading::optional_character_at, crate::specs::RowReading::optional_terms_at))]
+    #[tactic(auto, unfolding(crate::specs::RowReading::rune_at))]
     fn read(alloc: Global, bytes: &[u8]) -> Result<(RuneRow, &[u8]), ReadError> {
         let (id, rest) = RuneId::read(alloc, bytes)?;
         let (name, rest) = u128::read(alloc, rest)?;
@@ -113,6 +112,34 @@ impl Readable for RuneRow {
     }
 }
 
+/// What a rune's row begins with, its id, its name and its spacers, spelled.
+fn front_bytes(id: RuneId, name: u128, spacers: u32) -> [u8; 32]
+    ensures spelled { result ≡ rune_id id ++ to_le_bytes w128 name ++ to_le_bytes w32 spacers }
+    ensures fits { FitsRuneId id }
+{
+    let mut bytes = [0; 32];
+    let (front, spacers_at) = bytes.split_at_mut(28);
+    let (id_at, name_at) = front.split_at_mut(12);
+    id_at.copy_from_slice(&rune_id_bytes(id));
+    name_at.copy_from_slice(&name.to_le_bytes());
+    spacers_at.copy_from_slice(&spacers.to_le_bytes());
+    bytes
+}
+
+/// What a rune's row ends with, its mints, what was burned and the transaction that etched it,
+/// spelled.
+fn back_bytes(mints: u128, burned: u128, etching: &[u8; 32]) -> [u8; 64]
+    ensures { result ≡ to_le_bytes w128 mints ++ to_le_bytes w128 burned ++ etching.now }
+{
+    let mut bytes = [0; 64];
+    let (front, etching_at) = bytes.split_at_mut(32);
+    let (mints_at, burned_at) = front.split_at_mut(16);
+    mints_at.copy_from_slice(&mints.to_le_bytes());
+    burned_at.copy_from_slice(&burned.to_le_bytes());
+    etching_at.copy_from_slice(etching);
+    bytes
+}
+
 impl Writable for RuneRow {
     ghost spelling = { rune };
 
@@ -121,15 +148,11 @@ impl Writable for RuneRow {
     ghost keeps = { λ row. Unit {0} };
 
     fn put(&self, bytes: &mut Bytes) -> Result<(), Memory> {
-        self.id.put(bytes)?;
-        self.name.put(bytes)?;
-        self.spacers.put(bytes)?;
+        bytes.append(&front_bytes(self.id, self.name, self.spacers))?;
         self.divisibility.put(bytes)?;
         put_optional(bytes, &self.symbol)?;
         self.premine.put(bytes)?;
         put_optional(bytes, &self.terms)?;
-        self.mints.put(bytes)?;
-        self.burned.put(bytes)?;
-        self.etching.0.put(bytes)
+        bytes.append(&back_bytes(self.mints, self.burned, &self.etching.0))
     }
 }

@@ -101,11 +101,20 @@ fn put_runs(bytes: &mut Bytes, runs: &[Run]) -> Result<(), Memory>
     Ok(())
 }
 
-/// Puts a run: its first number and its count, in one piece.
+/// A run, spelled: its first number and its count.
+fn run_bytes(one: Run) -> [u8; 16]
+    ensures { result ≡ run one }
+{
+    let mut bytes = [0; 16];
+    let (first, count) = bytes.split_at_mut(8);
+    first.copy_from_slice(&one.first.to_le_bytes());
+    count.copy_from_slice(&one.count.to_le_bytes());
+    bytes
+}
+
+/// Puts a run, in one piece.
 fn put_run(bytes: &mut Bytes, one: Run) -> Result<(), Memory>
     ensures { OnOk result (bytes.new ≡ bytes.old ++ run one) }
 {
-    let [a, b, c, d, e, f, g, h] = one.first.to_le_bytes();
-    let [i, j, k, l, m, n, o, p] = one.count.to_le_bytes();
-    bytes.append(&[a, b, c, d, e, f, g, h, i, j, k, l, m, n, o, p])
+    bytes.append(&run_bytes(one))
 }

@@ -1,12 +1,16 @@
 //! Outputs and balances by outpoint.
 
-ghost use Rattle.std.specs.Prelude.{◌≡◌, ◌++◌, OnOk};
+ghost use Rattle.std.specs.Prelude.{◌≡◌, ◌++◌, All, OnOk};
 ghost use Rattle.std.specs.List.{AllByRecursion, flat_map};
 ghost use Rattle.ox_bytes.specs.Reading.{GivesOrMemory};
 ghost use Rattle.ox_block.specs.Spelling.{outpoint};
+ghost use Rattle.ox_rows.specs.Fits.{FitsList};
 ghost use Rattle.ox_rows.specs.RowFits.{FitsOutPoint};
 ghost use Rattle.ox_rows.specs.RowReading.{outputs_at, placements_at};
+ghost use Rattle.ox_rows.specs.Seen.{by_outpoint};
+ghost use Rattle.ox_rows.specs.Spelling.{list};
 
+use crate::put::put_count;
 use crate::rising::rising_table_of;
 use crate::writable::Writable;
 use ox_allocation::Balances;
@@ -40,11 +44,24 @@ pub(crate) fn placements_table_of(
     rising_table_of(alloc, count, rest)
 }
 
-/// Puts each outpoint and what is there, without a count.
-pub(crate) fn put_rows<X: Writable>(
+/// Puts a table: how many outpoints in 4 bytes, and each, as they rise, with what is there.
+/// `Memory` where there is none for it, and where they are more than 4 bytes can count.
+pub(crate) fn put_table<X: Writable>(
     bytes: &mut Bytes,
     table: &BTreeMap<OutPoint, X>,
 ) -> Result<(), Memory>
+    requires { All (λ e. X.keeps e.1) (by_outpoint table.now.entries) }
+    ensures ok { OnOk result (bytes.new ≡ bytes.old
+        ++ list (λ e. outpoint e.0 ++ X.spelling e.1) (by_outpoint table.now.entries)) }
+    ensures fits { OnOk result
+        (FitsList (λ e. FitsOutPoint e.0 × X.fits e.1) (by_outpoint table.now.entries)) }
+{
+    put_count(bytes, table.len())?;
+    put_rows(bytes, table)
+}
+
+/// Puts each outpoint and what is there, without a count.
+fn put_rows<X: Writable>(bytes: &mut Bytes, table: &BTreeMap<OutPoint, X>) -> Result<(), Memory>
     requires { AllByRecursion (λ e. X.keeps e.1) table.now.entries }
     ensures ok { OnOk result (bytes.new
         ≡ bytes.old ++ flat_map (λ e. outpoint e.0 ++ X.spelling e.1) table.now.entries) }
