@@ -8,3 +8,4 @@ pub mod Lengths
 pub mod Live
 pub mod Parts
 pub mod Reply
+pub mod Tables

@@ -8,6 +8,9 @@ ghost use Rattle.ox_model.specs.Sound.{IsSound};
 ghost use Rattle.ox_index.specs.Lengths.{index_to, AreWithin, IsMark};
 ghost use Rattle.ox_index.specs.Parts.{held_in, mark_of};
 
+mod made;
+mod plain;
+
 use crate::admit::admit;
 use crate::audit::audits_of;
 use crate::fault::ConnectFault;

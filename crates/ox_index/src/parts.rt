@@ -29,7 +29,7 @@ const BATCH: usize = 16;
 /// The unspent outputs, the inscriptions and the runes of a chain, each with a mark to go back to.
 #[derive(Drop)]
 pub struct Parts {
-    alloc: Global,
+    pub alloc: Global,
     pub profile: Profile,
     pub outputs: Outputs,
     pub shelf: Shelf,
@@ -295,7 +295,7 @@ fn batch_from<T>(all: &[T], place: usize) -> &[T] {
 }
 
 /// Puts inscriptions behind the others. `Memory` where there is none, or where there would be 2^32.
-fn append(shelf: &mut Shelf, rows: &[SharedRow]) -> Result<(), Memory>
+pub(crate) fn append(shelf: &mut Shelf, rows: &[SharedRow]) -> Result<(), Memory>
     ensures ok { OnOk result (shelf.new.rows ≡ shelf.old.rows ++ rows.now) }
     ensures mark { shelf.new.mark ≡ shelf.old.mark }
     ensures jubilee { shelf.new.jubilee ≡ shelf.old.jubilee }
