@@ -15,6 +15,7 @@ use ox_bytes::Memory;
 use ox_model::{About, Change, Refusal};
 use ox_sat::Profile;
 use std::alloc::Global;
+use std::collections::VecDeque;
 
 /// An index in memory with the changes of its newest blocks, at most `depth` many, so that each of
 /// these can be taken back. What the last command took away of it is kept until the next one, so
@@ -46,7 +47,7 @@ impl Drop for Chain {
 impl Chain {
     ghost use Rattle.ox_feed.specs.declared.command.Command.TheVariants.{Connect, Disconnect};
     ghost use Rattle.ox_sat.specs.Profiles.{IsProfile};
-    ghost use Rattle.ox_model.specs.Ends.{LeadDown};
+    ghost use Rattle.ox_model.specs.Ends.{LeadDown, older_by};
     ghost use Rattle.ox_model.specs.Machine.{empty_machine, stack_of};
     ghost use Rattle.ox_model.specs.Stack.{stack_after};
     ghost use Rattle.ox_index.specs.Chain.{earlier_in, stack_in, taken_back_in};
@@ -67,6 +68,25 @@ impl Chain {
             depth,
             changes: Changes::new(alloc),
         })
+    }
+
+    /// The chain of an index whose newest blocks made these changes, the newest first, so that each
+    /// of them can be taken back; at most `depth` blocks are kept, from 1 to 1,000.
+    pub fn of(live: Live, depth: u16, kept: VecDeque<Change>) -> Chain
+        requires depth { (1 ≤ depth) × (depth ≤ 1000) }
+        requires few { length kept.items ≤ depth }
+        requires end { AllEnd (profile_in live) (index_in live) kept.items }
+        ensures chain { (stack_in result).profile ≡ profile_in live }
+        ensures depth { (stack_in result).depth ≡ depth }
+        ensures index { (stack_in result).index ≡ index_in live }
+        ensures older { (stack_in result).older ≡ older_by (index_in live) kept.items }
+        ensures none_back { taken_back_in result ≡ None }
+    {
+        Chain {
+            live,
+            depth,
+            changes: Changes::of(kept),
+        }
     }
 
     /// The index.

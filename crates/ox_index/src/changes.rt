@@ -54,6 +54,16 @@ impl Changes {
         }
     }
 
+    /// These changes, the newest first.
+    pub(crate) fn of(kept: VecDeque<Change>) -> Changes
+        ensures { result ≡ only kept.items }
+    {
+        Changes {
+            items: kept,
+            last: Last::Nothing,
+        }
+    }
+
     /// How many there are.
     pub fn len(&self) -> usize
         ensures { result ≡ length self.now.kept }
