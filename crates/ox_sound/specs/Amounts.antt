@@ -1,6 +1,6 @@
 -- Sums by runes' ids, as they are kept.
-use Rattle.std.specs.Prelude.{◌≡◌, ℕ, Bool, is_some, ◌+◌, ◌^◌, List, Option, Some, None, sum_by, nat_lt}
-use Rattle.std.specs.Prelude.{if◌then◌else◌}
+use Rattle.std.specs.Prelude.{◌≡◌, ℕ, ◌+◌, ◌^◌, Bool, List, Option, Some, None, is_some, sum_by}
+use Rattle.std.specs.Prelude.{nat_lt, if◌then◌else◌}
 use Rattle.std.specs.BTreeMap.{BTreeMap, get}
 use Rattle.std.specs.FinMap.{from_entries}
 use Rattle.std.specs.Option.{option_map}
@@ -29,7 +29,8 @@ sum_held all id = sum_by (λ balances. sum_of balances id) all
 abbrev pub burned_in : List RuneRow → RuneId → Option ℕ
 burned_in runes id = option_map (λ (row : RuneRow). row.burned) (by_id runes id)
 
--- Kept at the id of each rune that is there is what was there before and what is held now, together.
+-- Kept at the id of each rune that is there is what was there before and what is held now,
+-- together.
 pub record AreAmounts (amounts : BTreeMap RuneId (Option ℕ)) (there : RuneId → Option ℕ)
     (held : RuneId → ℕ) : Type 0 where
   pub at : (id : RuneId) → get id_cmp amounts id

@@ -72,7 +72,8 @@ fn add(amounts: &mut Amounts, balances: &[(RuneId, u128)])
 /// Adds what all outputs hold.
 pub(crate) fn add_all(amounts: &mut Amounts, bal: &BTreeMap<OutPoint, Balances>)
     ensures { (there : Id → Option ℕ) (held : Id → ℕ) → AreAmounts amounts.old there held
-        → AreAmounts amounts.new there (λ id. held id + sum_held (values (balances_in bal.now)) id) }
+        → AreAmounts amounts.new there
+        (λ id. held id + sum_held (values (balances_in bal.now)) id) }
 {
     for balances in bal.values() {
         add(amounts, balances.as_slice());

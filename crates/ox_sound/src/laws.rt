@@ -7,6 +7,6 @@ ghost use Rattle.ox_model.specs.Sound.{IsSound};
 ghost use Rattle.ox_sound.specs.Sound.{sound};
 
 /// The test `sound` passes exactly the indexes that are sound.
-pub fn test_says_sound()
+pub fn test_is_exact()
     ensures { (p : Profile) (index : Index) → IsTrue (sound p index) ↔ IsSound p index }
 {}

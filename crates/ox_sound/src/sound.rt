@@ -1,6 +1,6 @@
 //! The whole index.
 
-ghost use Rattle.std.specs.Prelude.{◌≡◌, ◌&&◌, ◌↔◌, IfOk, IsTrue, length};
+ghost use Rattle.std.specs.Prelude.{◌≡◌, ◌&&◌, ◌↔◌, IfOk, IsTrue};
 ghost use Rattle.std.specs.List.{list_all};
 ghost use Rattle.ox_sat.specs.Profiles.{IsProfile};
 ghost use Rattle.ox_model.specs.Sound.{IsSound, is_of_chain};
@@ -84,7 +84,8 @@ fn are_sats_sound(alloc: Global, p: &Profile, index: &Index) -> Result<bool, Mem
     are_once(alloc, &index.outs, &index.lost, first)
 }
 
-/// Whether a rune comes from one of so many blocks, or is the one that is there from the start.
+/// Whether a rune comes from one of so many blocks, or is the one that is there from the start,
+/// where the profile has it: its id is 1:0.
 fn is_of_chain(p: &Profile, blocks: u64, row: &RuneRow) -> bool
     ensures { result ≡ is_of_chain p.now blocks row.now }
 {
