@@ -1,0 +1,104 @@
+//! What the rows of an index and of a change read as, a row of standard input each:
+//!
+//! - `index HEX`: how many of these bytes the rows of an index take that they begin with, and the
+//!   rows of the index that was read; or the place of the first field that doesn't fit;
+//! - `change HEX`: the same of a change;
+//! - `fronts index HEX`, `fronts change HEX`: the place of that field in each front of these bytes,
+//!   from none of them to all but one.
+//!
+//! Bytes are hex digits, or `-` for none.
+//!
+//! The rows and what has to be printed are made by checks/rows_of_files.py, which spells and reads
+//! rows by the public formats and shares nothing with the libraries.
+//!
+//! With two arguments the rows `index` and `change` are read and spelled so many times before what
+//! came of it is printed, to be timed: see bench/rows.py. More than a million bytes are told by
+//! their number alone, and by whether they are those that were read.
+#![tactic(auto)]
+
+mod again;
+mod print;
+mod words;
+
+use crate::again::{Times, change_again, index_again};
+use crate::print::{print_again, print_place};
+use crate::words::bytes_of;
+use anyhow::{Context, bail};
+use ox_rows::{RowsFault, read_change, read_index};
+use std::alloc::Global;
+use std::env;
+use std::io::{self, BufRead, BufReader};
+
+/// What the rows are of.
+#[derive(Clone, Copy, PartialEq, Eq)]
+enum Kind {
+    Index,
+    Change,
+}
+
+/// The kind of a word.
+fn kind_of(word: &str) -> anyhow::Result<Kind> {
+    match word {
+        "index" => Ok(Kind::Index),
+        "change" => Ok(Kind::Change),
+        _ => bail!("no row"),
+    }
+}
+
+/// Reads and spells, so many times each, and prints what came of it.
+fn print_read(
+    rt: &impl Print,
+    alloc: Global,
+    kind: Kind,
+    bytes: &[u8],
+    times: Times,
+) -> io::Result<()> {
+    let again = match kind {
+        Kind::Index => index_again(alloc, bytes, times),
+        Kind::Change => change_again(alloc, bytes, times),
+    };
+    print_again(rt, bytes, again)
+}
+
+/// Why no rows are read from bytes, if there are none.
+fn fault_in(alloc: Global, kind: Kind, bytes: &[u8]) -> Option<RowsFault> {
+    match kind {
+        Kind::Index => read_index(alloc, bytes).err(),
+        Kind::Change => read_change(alloc, bytes).err(),
+    }
+}
+
+/// Prints the place of the fault of each front of the bytes, shorter than they are.
+fn print_fronts(rt: &impl Print, alloc: Global, kind: Kind, bytes: &[u8]) -> io::Result<()> {
+    for len in 0..bytes.len() {
+        let (front, _) = bytes.split_at(len);
+        print!(rt; " ")?;
+        print_place(rt, fault_in(alloc, kind, front))?;
+    }
+    println!(rt)
+}
+
+/// Prints what a row reads as.
+fn run(rt: &impl Print, alloc: Global, row: &str, times: Times) -> anyhow::Result<()> {
+    let (word, rest) = row.split_once(' ').context("no row")?;
+    if word == "fronts" {
+        let (word, rest) = rest.split_once(' ').context("no row")?;
+        let bytes = bytes_of(alloc, rest)?;
+        return Ok(print_fronts(rt, alloc, kind_of(word)?, &bytes)?);
+    }
+    let bytes = bytes_of(alloc, rest)?;
+    Ok(print_read(rt, alloc, kind_of(word)?, &bytes, times)?)
+}
+
+fn main(rt: HostRuntime) -> anyhow::Result<()> {
+    let alloc = rt.alloc();
+    let mut numbers = [1, 1];
+    for (number, word) in numbers.iter_mut().zip(env::args(&rt)?.skip(1)) {
+        *number = word.as_str().parse::<u32>()?;
+    }
+    let [reads, writes] = numbers;
+    for row in BufReader::new(alloc, rt.reader())?.lines(alloc) {
+        run(&rt, alloc, &row?, Times { reads, writes })?;
+    }
+    Ok(())
+}
