@@ -54,6 +54,7 @@ NEEDS = {
     "inscriptions": (["ox_speed"], ["inscriptions"]),
     "query": (["ox_index_rows"], ["query"]),
     "read_block": (["ox_block_rows"], ["read_block"]),
+    "rows": (["ox_rows_rows"], ["rows"]),
     "runes": (["ox_speed"], ["runes"]),
     "serve": (["ox_main"], ["serve"]),
     "streams": (["ox_http_rows"], ["http"]),
@@ -91,6 +92,8 @@ PAGE = [
     "a kept page of inscriptions",
     "a page of inscriptions made anew",
     "a block posted, beside `apply`",
+    "rows of an index read",
+    "rows of an index written",
     "/status served, 1,000 blocks",
     "/blockhash/0 served, 1,000 blocks",
 ]

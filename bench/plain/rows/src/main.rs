@@ -1,0 +1,86 @@
+//! Rows of an index and of a change, read and written in plain Rust, as bench/rows.py times them. On standard input stand
+//! the rows `index`, `change` and `fronts` of crates/ox_rows_rows, and it shows the same for them. With two arguments each is
+//! read and spelled so many times.
+mod read;
+mod rows;
+mod write;
+
+use read::{Fault, Reader};
+use std::hint::black_box;
+use std::io::{self, BufRead, Write};
+
+/// More bytes than these are told by their number alone.
+const MOST_SHOWN: usize = 1_000_000;
+
+fn decode(digits: &str) -> Vec<u8> {
+    let digit = |byte: u8| (byte as char).to_digit(16).expect("no hex digit") as u8;
+    if digits == "-" {
+        return Vec::new();
+    }
+    digits.as_bytes().chunks_exact(2).map(|pair| digit(pair[0]) << 4 | digit(pair[1])).collect()
+}
+
+/// How many bytes the rows took that were read so many times, and these, spelled so many times.
+fn again<T>(
+    bytes: &[u8],
+    [reads, writes]: [u32; 2],
+    read: impl for<'a> Fn(&mut Reader<'a>) -> Result<T, Fault>,
+    write: impl Fn(&T) -> Vec<u8>,
+) -> Result<(usize, Vec<u8>), Fault> {
+    for _ in 1..reads {
+        drop(black_box(read(&mut Reader(bytes))?));
+    }
+    let mut reader = Reader(bytes);
+    let value = read(&mut reader)?;
+    for _ in 1..writes {
+        drop(black_box(write(&value)));
+    }
+    Ok((bytes.len() - reader.0.len(), write(&value)))
+}
+
+fn read_again(kind: &str, bytes: &[u8], times: [u32; 2]) -> Result<(usize, Vec<u8>), Fault> {
+    match kind {
+        "index" => again(bytes, times, |reader| reader.index(), write::index),
+        _ => again(bytes, times, |reader| reader.change(), write::change),
+    }
+}
+
+fn main() -> io::Result<()> {
+    let mut times = [1, 1];
+    for (number, word) in times.iter_mut().zip(std::env::args().skip(1)) {
+        *number = word.parse().expect("no number");
+    }
+    let mut shown = io::BufWriter::new(io::stdout().lock());
+    for line in io::stdin().lock().lines() {
+        let line = line?;
+        let (kind, rest) = line.split_once(' ').expect("no row");
+        if kind == "fronts" {
+            let (kind, digits) = rest.split_once(' ').expect("no row");
+            let bytes = decode(digits);
+            for len in 0..bytes.len() {
+                match read_again(kind, &bytes[..len], [1, 1]) {
+                    Ok(_) => write!(shown, " none")?,
+                    Err(Fault(left)) => write!(shown, " {}", len - left)?,
+                }
+            }
+            writeln!(shown)?;
+            continue;
+        }
+        let bytes = decode(rest);
+        match read_again(kind, &bytes, times) {
+            Err(Fault(left)) => writeln!(shown, "not rows {}", bytes.len() - left)?,
+            Ok((taken, spelled)) if spelled.len() > MOST_SHOWN => {
+                let is_so = bytes.starts_with(&spelled);
+                writeln!(shown, "{taken} bytes spelled by {}, as they are: {is_so}", spelled.len())?;
+            }
+            Ok((taken, spelled)) => {
+                write!(shown, "{taken} bytes ")?;
+                for byte in &spelled {
+                    write!(shown, "{byte:02x}")?;
+                }
+                writeln!(shown)?;
+            }
+        }
+    }
+    Ok(())
+}
