@@ -192,10 +192,13 @@ class Indexes(Rows):
         yield from (line(held) for _, line in looks)
 
     def dump(self, held, *looks, kept=None):
-        """The whole index has to hold this, and each word to look up its line."""
+        """The whole index has to hold this, and each word to look up its line; and so has the one
+        that is made from it as plain data."""
         head = [] if self.depth is None else [f"kept {kept} of {self.depth}, {kept} changes"]
-        row = " ".join(["dump", *(word for word, _ in looks)])
-        self.row(row, *head, *self.lines(held, looks, self.tips))
+        words = [word for word, _ in looks]
+        lines = list(self.lines(held, looks, self.tips))
+        self.row(" ".join(["dump", *words]), *head, *lines)
+        self.row(" ".join(["plain", *words]), *lines)
 
     def both(self, before, after, *txs):
         """A block of these transactions leads from what is held and looked up before to what is

@@ -11,6 +11,8 @@
 //! - `both HEX WORD..`: connects a block to a live index, goes back by its change and on again, and
 //!   cancels that. It dumps the index after each step;
 //! - `dump WORD..`: prints the whole index, and looks each word up;
+//! - `plain WORD..`: takes the index as plain data, makes an index in memory from it, and dumps that
+//!   one;
 //! - `look WORD..`: looks each word up (src/look.rt);
 //! - `GET PATH`, `POST PATH`, `PUT PATH`: prints a chain's reply to this request. With `close` and
 //!   a space in front the link ends with it, with `hex` the path is written in hex digits;
@@ -34,6 +36,7 @@ mod both;
 mod cancel;
 mod end;
 mod look;
+mod plain;
 mod replies;
 mod requests;
 mod show;
@@ -43,6 +46,7 @@ use crate::both::lead_both_ways;
 use crate::cancel::carry_out_and_cancel;
 use crate::end::print_end;
 use crate::look::{dump, print_looks};
+use crate::plain::dump_plain;
 use crate::requests::{print_answer, reply_often};
 use crate::spell::bytes_of;
 use anyhow::Context;
@@ -189,6 +193,7 @@ fn run(
         "disconnect" => disconnect_row(rt, alloc, index),
         "cancel" => cancel_row(rt, alloc, index, rest),
         "dump" => dump_row(rt, index, rest),
+        "plain" => dump_plain(rt, alloc, live_in(index), rest),
         "look" => print_looks(rt, live_in(index), rest),
         _ => request_row(rt, alloc, routes, index, row),
     }
