@@ -41,8 +41,8 @@ GOAL = 0.7
 ANSWERS = {
     "a kept reply, /status": (["/status"], 5_000_000),
     "a reply made anew, /blockhash": ([f"/blockhash/{height}" for height in range(TURN)], 40_000),
-    "a kept page of inscriptions": (["/inscriptions/9"], 2_000_000),
-    "a page of inscriptions made anew": ([f"/inscriptions/{at}" for at in range(TURN)], 500),
+    "a kept page": (["/inscriptions/9"], 2_000_000),
+    "a page made anew": ([f"/inscriptions/{at}" for at in range(TURN)], 500),
 }
 # how many large inscriptions a large block has, and how many such blocks are connected
 CONTENTS = 10

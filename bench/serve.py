@@ -3,14 +3,17 @@
 
     python3 bench/serve.py
 
-has `serve` over a store of 100 and of 1,000 blocks answer `/status` and `/blockhash/0` for five
+has `serve` over a store of 100 and of 1,000 blocks answer `/status` and `/blockhash/0` for three
 seconds at a time, to 1 link and to 32, one request after the other on each, and to 1 link beside 31
-silent ones. The client is `wrk` (`apt-get install wrk`). The plain program has one reply for all
-and makes no sessions: by epoll, and by asking every socket at every turn. Then it says what memory
-32 links take behind bodies of 4,000,000 bytes that aren't whole. bench/all.py builds the programs.
+silent ones. The client is `wrk` (`apt-get install wrk`). It prints, of three runs, the most
+requests a second, which other work on the machine makes fewer, and the least processor time that
+the server took for each. The plain program has one reply for all and makes no sessions: by epoll,
+and by asking every socket at every turn. Then it says what memory 32 links take behind bodies of
+4,000,000 bytes that aren't whole. Nothing here is proved. bench/all.py builds the programs.
 """
 
 import contextlib
+import os
 import pathlib
 import re
 import socket
@@ -25,7 +28,7 @@ from tools.bitcoin import SUBSIDY, twice
 from tools.programs import plain_program, proved_program
 
 OX, PLAIN = proved_program("ox_main"), plain_program("serve")
-SECONDS = 5
+SECONDS = 3
 TURNS = "18446744073709551615"
 BODY = 4_000_000
 
@@ -85,21 +88,32 @@ def plain(mode):
         yield port, child.pid
 
 
-def asked(port, links, path):
-    """How many requests a second are answered to so many links."""
+def asked(port, pid, links, path):
+    """How many requests a second are answered to so many links, and in how many microseconds of the
+    server's processor time each."""
     words = ["wrk", "-t1", f"-c{links}", f"-d{SECONDS}", f"http://127.0.0.1:{port}{path}"]
+    before = processor_seconds(pid)
     ran = subprocess.run(words, stdout=subprocess.PIPE, text=True, check=True)
+    taken = processor_seconds(pid) - before
     if re.search("Non-2xx|Socket errors", ran.stdout):
         sys.exit(ran.stdout)
-    return float(re.search(r"Requests/sec: *([\d.]+)", ran.stdout)[1])
+    rate = float(re.search(r"Requests/sec: *([\d.]+)", ran.stdout)[1])
+    return rate, 1e6 * taken / int(re.search(r"(\d+) requests in", ran.stdout)[1])
 
 
 def answered(server, links, silent, path):
-    """How many requests a second a server answers beside silent links, at most of several runs."""
-    with server as (port, _), contextlib.ExitStack() as others:
+    """The same of a server beside silent links, the best of several runs."""
+    with server as (port, pid), contextlib.ExitStack() as others:
         for _ in range(silent):
             others.enter_context(socket.create_connection(("127.0.0.1", port)))
-        return max(asked(port, links, path) for _ in range(RUNS))
+        rates, each = zip(*(asked(port, pid, links, path) for _ in range(RUNS)))
+    return max(rates), min(each)
+
+
+def processor_seconds(pid):
+    """The processor time that a process has taken."""
+    fields = pathlib.Path(f"/proc/{pid}/stat").read_text().rsplit(")", 1)[1].split()
+    return (int(fields[11]) + int(fields[12])) / os.sysconf("SC_CLK_TCK")
 
 
 def memory(pid):
@@ -108,21 +122,27 @@ def memory(pid):
     return 1024 * int(status.split("VmRSS:")[1].split()[0])
 
 
+def tell(path, blocks, size, ours, plain):
+    (rate, each), (rate_by_epoll, each_by_epoll) = ours, plain["epoll"]
+    print(
+        f"{path}, {blocks:,} blocks, {size}: ox {rate:,.0f} requests a second, plain by epoll"
+        f" {rate_by_epoll:,.0f}, ratio {rate / rate_by_epoll:.2f}, asking all"
+        f" {plain['all'][0]:,.0f}; microseconds of processor time each: ox {each:.1f}, plain by"
+        f" epoll {each_by_epoll:.1f}, asking all {plain['all'][1]:.1f}",
+        flush=True,
+    )
+    work = f"{path} served, {blocks:,} blocks"
+    report(work, size, "requests a second", rate, rate_by_epoll)
+    report(f"{work}, processor time", size, "microseconds", each, each_by_epoll)
+
+
 def main():
     for links, silent in (1, 0), (32, 0), (1, 31):
         size = f"{links} at work" + (f", {silent} silent" if silent else "")
         by = {mode: answered(plain(mode), links, silent, "/status") for mode in ("epoll", "all")}
         for blocks in 100, 1_000:
             for path in "/status", "/blockhash/0":
-                ours = answered(ox(blocks), links, silent, path)
-                print(
-                    f"{path}, {blocks:,} blocks, {size}: ox {ours:,.0f} requests a second, plain by"
-                    f" epoll {by['epoll']:,.0f}, ratio {ours / by['epoll']:.2f}, asking all"
-                    f" {by['all']:,.0f}",
-                    flush=True,
-                )
-                work = f"{path} served, {blocks:,} blocks"
-                report(work, size, "requests a second", ours, by["epoll"])
+                tell(path, blocks, size, answered(ox(blocks), links, silent, path), by)
     with ox(100) as (port, pid), contextlib.ExitStack() as links:
         before = memory(pid)
         for _ in range(32):
