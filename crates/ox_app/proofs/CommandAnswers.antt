@@ -1,6 +1,6 @@
--- Files that no call touches.
-use Rattle.std.proofs.Common.{◌≡◌, ◌∙◌, inl, ap}
-use Rattle.std.specs.Prelude.{Ok}
+-- Files that no call touches, and commands that the disk alone stops.
+use Rattle.std.proofs.Common.{◌≡◌, ◌∙◌, ◌⊎◌, inl, ap, sym}
+use Rattle.std.specs.Prelude.{Err, IfErr, IsErrOf, Ok, Result}
 use Rattle.ox_outside.specs.declared.site.Site.{Ghosts as Meanings}
 use Rattle.ox_outside.specs.Crash.{Remains}
 use Rattle.ox_model.specs.Stack.{Stack}
@@ -9,6 +9,8 @@ use Rattle.ox_store.specs.Ready.{StandsForEither}
 use Rattle.ox_outside.proofs.Calls.{leaves_at_first}
 use Rattle.ox_gated.specs.Tail.{IsSettled}
 use Rattle.ox_outside.specs.Runs.{LeavesOnly}
+use Rattle.ox_app.specs.declared.stop.Stop.{Stop}
+use Rattle.ox_app.specs.declared.stop.Stop.TheVariants as stops
 
 -- where no call is made, a crash leaves what it left before
 module _ {S : Type 0} (means : Meanings S) where
@@ -16,3 +18,15 @@ module _ {S : Type 0} (means : Meanings S) where
       → stands (means.seen site) ≡ Ok before → LeavesOnly means site site (λ r. StandsForEither before after r.files)
   files_untouched only_now site before after settled stood =
       leaves_at_first means site (λ r. StandsForEither before after r.files) (λ r left. inl (ap stands (settled r (only_now site r left)) ∙ stood))
+
+-- where the disk alone stops a command, memory doesn't
+pub by_disk_alone : {T : Type 0} (result : Result T Stop) → IfErr result (λ stop. stop ≡ stops.DiskFault) → IfErr result (λ stop. (stop ≡ stops.DiskFault) ⊎ (stop ≡ stops.Memory))
+by_disk_alone (Ok x) none = none
+by_disk_alone (Err stop) is = inl is
+
+pub no_memory_by_disk : {T : Type 0} (result : Result T Stop) → IfErr result (λ stop. stop ≡ stops.DiskFault) → IsErrOf result stops.Memory → ⊥
+no_memory_by_disk (Ok x) none e = cc e
+no_memory_by_disk (Err stop) is e =
+    let same : stop ≡ stops.Memory = cc e in
+    let other : stops.DiskFault ≡ stops.Memory = sym is ∙ same in
+    cc other

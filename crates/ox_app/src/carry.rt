@@ -1,16 +1,16 @@
 //! One line of a feed, carried out by a store and answered.
 
-ghost use Rattle.std.specs.Prelude.{◌≡◌, ◌⊎◌, ◌+◌, ◌-◌, ◌<◌, ◌≤◌, ◌^◌, Ok};
+ghost use Rattle.std.specs.Prelude.{◌≡◌, ◌⊎◌, ◌+◌, ◌-◌, ◌<◌, ◌≤◌, ◌^◌, [], Ok};
 ghost use Rattle.std.specs.Prelude.{IsTrue, IfOk, IfErr, IfSome, IsErrOf};
 ghost use Rattle.ox_outside.specs.Crash.{AddsNothing};
 ghost use Rattle.ox_outside.specs.Runs.{LeavesOnly};
 ghost use Rattle.ox_gated.specs.Tail.{Holds};
 ghost use Rattle.ox_gated.specs.Writes.{OnlyWrites};
 ghost use Rattle.ox_model.specs.Replies.{after_turn, index_on, reply_by};
-ghost use Rattle.ox_model.specs.Stack.{stack_after};
+ghost use Rattle.ox_model.specs.Stack.{Stack, stack_after};
 ghost use Rattle.ox_files.specs.Stands.{stands};
 ghost use Rattle.ox_rules.specs.Text.{refusal_line};
-ghost use Rattle.ox_store.specs.Ready.{StandsForEither};
+ghost use Rattle.ox_store.specs.Ready.{Leads, StandsForEither};
 ghost use Rattle.ox_app.specs.Apply.{CarriesOut, after_line};
 ghost use Rattle.ox_app.specs.Show.{DiskFails, EndsAtStop};
 ghost use Rattle.ox_app.specs.declared.stop.Stop.TheVariants as stops;
@@ -19,10 +19,11 @@ use crate::line::asked_by;
 use crate::stop::Stop;
 use ox_bytes::{Bytes, Memory, Room};
 use ox_feed::{Command, Line};
+use ox_gated::DiskFault;
 use ox_index::{LONGEST_OK, ok_line_in};
 use ox_model::Refusal;
 use ox_outside::Site;
-use ox_store::{Kept, Store, Why};
+use ox_store::{Kept, Ready, Store, Why};
 use std::alloc::Global;
 
 /// A line that was carried out: the store after it, and its answer.
@@ -41,6 +42,35 @@ fn refuse(alloc: Global, store: Store, refusal: Refusal) -> Result<CarriedLine, 
 {
     let answer = refusal.line(alloc)?;
     Ok(CarriedLine { store, answer })
+}
+
+// Commits a command that is prepared, and answers it in memory that was taken before.
+fn commit<S: Site>(ready: Ready, room: Room, site: &mut S) -> Result<CarriedLine, Stop>
+    requires empty { room.filled ≡ [] }
+    requires spare { 79 ≤ room.spare }
+    requires holds { IsTrue (S.told site.old) → Holds S.Site ready.tail site.old }
+    ensures answer { IfOk result (λ carried.
+        carried.answer ≡ reply_by index_on (Ok ready.stack)) }
+    ensures leads { IfOk result (λ carried. carried.store.stack ≡ ready.stack) }
+    ensures one_more { IfOk result (λ carried. carried.store.commands ≤ ready.commands + 1) }
+    ensures holds { IsTrue (S.told site.old)
+        → IfOk result (λ carried. Holds S.Site carried.store.tail site.new) }
+    ensures stands { IsTrue (S.told site.old)
+        → (before : Stack) → stands (S.seen site.old) ≡ Ok before → Leads before ready
+        → IfOk result (λ carried. stands (S.seen site.new) ≡ Ok carried.store.stack) }
+    ensures any_moment { IsTrue (S.told site.old)
+        → (before : Stack) → stands (S.seen site.old) ≡ Ok before → Leads before ready
+        → LeavesOnly S.Site site.old site.new (λ r. StandsForEither before ready.stack r.files) }
+    ensures stops { IfErr result (λ stop. stop ≡ stops.DiskFault) }
+    ensures failed { IsErrOf result Stop.DiskFault → DiskFails S.Site site.old site.new }
+    ensures counted { EndsAtStop result (S.counts site.old) (S.counts site.new) }
+    ensures writes { OnlyWrites S.Site site.old site.new }
+{
+    let answer = ok_line_in(room, ready.tip());
+    match ready.commit(site) {
+        Ok(store) => Ok(CarriedLine { store, answer }),
+        Err(DiskFault) => Err(Stop::DiskFault),
+    }
 }
 
 // Carries out a command. The memory of its answer is taken first.
@@ -74,11 +104,7 @@ fn carry_command<S: Site>(
 {
     let room = Room::new(alloc, LONGEST_OK)?;
     match store.prepare(command) {
-        Ok(ready) => {
-            let answer = ok_line_in(room, ready.tip());
-            let store = ready.commit(site)?;
-            Ok(CarriedLine { store, answer })
-        }
+        Ok(ready) => commit(ready, room, site),
         Err(Kept { store, why }) => match why {
             Why::Refused(refusal) => Ok(refuse(alloc, store, refusal)?),
             Why::Memory => Err(Stop::Memory),
