@@ -27,6 +27,7 @@ import sys
 import tempfile
 import traceback
 
+import made_blocks
 from chain import DISCONNECT, SHORT, block_of, block_with, chain, coinbase, commitment, committing
 from chain import envelope, file_a, file_of, id_value, line, payload_of, record, reveal_into
 from kills import Failed, demand, kill_often
@@ -605,6 +606,51 @@ def gates(ox):
     ox.status_is(2, tips[1])
 
 
+# Drills: docs/FORMATS.md, 'The line of a drill'; the blocks by docs/RULES.md, 'Made blocks'.
+DRILLED = {
+    1: "claimable 5000000000 lost 1 inscriptions 0 runes 0 minted 0 burned 0",
+    12: "claimable 60000000000 lost 12 inscriptions 11 runes 1 minted 70 burned 7",
+    100: "claimable 500000000000 lost 100 inscriptions 99 runes 1 minted 686 burned 63",
+    1000: "claimable 5000000000000 lost 1000 inscriptions 999 runes 1 minted 6986 burned 693",
+}
+
+
+def has_drilled(ox, count):
+    """A drill of so many blocks has to show its line, and to leave the records of its commands."""
+    blocks = made_blocks.chain(count)
+    ox.wants((0, f"drill {count} {DRILLED[count]}\n".encode()), "drill", str(count))
+    payloads = [payload_of(data) for data, _, _ in blocks]
+    newest = payloads[-10:]
+    ox.has(file_of([*payloads, *[DISCONNECT] * len(newest), *newest]), EMPTY_B)
+    ox.status_is(count, blocks[-1][1][::-1].hex())
+
+
+@check("drills of 1, 12 and 100 blocks tell what they count, and leave a store that goes on")
+def drills(ox):
+    for count in (1, 12, 100):
+        ox.write(b"", b"")
+        has_drilled(ox, count)
+    tip = made_blocks.chain(99)[-1][1][::-1].hex()
+    ox.wants((0, f"ok 98 {tip}\n".encode()), "apply", feed=b"disconnect\n")
+
+
+@check("a drill of 1,000 blocks in two folders shows the same line and leaves the same bytes")
+def same_drills(ox):
+    for name in ("one", "other"):
+        (ox.folder / name).mkdir()
+        has_drilled(Ox(ox.program, ox.folder / name), 1000)
+
+
+@check("a drill where there is a store is refused, and changes no byte of the files")
+def second_drill(ox):
+    ox.run("drill", "2")
+    a, b = ox.files()
+    demand(len(a) > len(EMPTY_A), f"file A has {value_text(a)} after a drill")
+    ox.wants((2, b"not empty\n"), "drill", "2")
+    ox.wants((2, b"not empty\n"), "init", "regtest", "100")
+    ox.has(a, b)
+
+
 # The statuses, by what brings each about.
 
 
@@ -618,6 +664,7 @@ def usage(ox):
         ("init", "test", "1"),
         ("init", "lab", "1", "2"),
     ]
+    rows += [("drill",), ("drill", "0"), ("drill", "100001"), ("drill", "01"), ("drill", "1", "1")]
     rows += [("apply", "regtest"), ("fold",), ("fold", "Lab"), ("query",), ("served",), (b"\xff",)]
     for words in rows:
         ox.wants((1, b"usage\n"), *words, feed=GENESIS)
@@ -631,9 +678,10 @@ def usage(ox):
 @check("status 2: a store isn't made of files that aren't empty")
 def not_empty(ox):
     for a, b in ((EMPTY_A, EMPTY_B), (b"", b"\0"), (b"\0", b""), (b"other", b"")):
-        ox.write(a, b)
-        ox.wants((2, b"not empty\n"), "init", "regtest", "100")
-        ox.has(a, b)
+        for words in (("init", "regtest", "100"), ("drill", "1")):
+            ox.write(a, b)
+            ox.wants((2, b"not empty\n"), *words)
+            ox.has(a, b)
 
 
 @check("status 3: files that are no store are told by the first test that fails")

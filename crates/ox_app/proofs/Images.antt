@@ -1,5 +1,5 @@
 -- Runs that look at the files and then only talk, and what is shown in them.
-use Rattle.std.proofs.Common.{◌≡◌, ◌∙◌, inl, inr, ℕ, zero, suc, List, [], ◌∷◌, take, Option, Some, refl, sym, ap, subst}
+use Rattle.std.proofs.Common.{◌≡◌, ◌∙◌, ◌⊎◌, inl, inr, ℕ, zero, suc, List, [], ◌∷◌, take, Option, Some, refl, sym, ap, subst}
 use Rattle.std.specs.Prelude.{Result, Ok, Err, IsErrOf}
 use Rattle.std.proofs.lemmas.List.{append-nil}
 use Rattle.ox_outside.specs.Crash.{Remains, MayLeaveFiles}
@@ -25,12 +25,12 @@ use Rattle.ox_app.specs.Headline.{Leaves, StopsBefore, Survives}
 use Rattle.ox_app.specs.Init.{MadeBefore}
 use Rattle.ox_gated.specs.Tail.{IsSettled}
 use Rattle.ox_outside.specs.Runs.{LeavesOnly, OnlyLooks, OnlyTalks}
-use Rattle.ox_app.specs.Show.{ShowsFront, ShowsReply, ShowsWhole}
+use Rattle.ox_app.specs.Show.{ShowsFront, ShowsReply, ShowsText, ShowsWhole}
 use Rattle.ox_app.specs.Status.{status_of}
 use Rattle.ox_app.specs.declared.status.Status.{Status}
 use Rattle.ox_app.specs.declared.stop.Stop.{Stop}
 use Rattle.ox_app.specs.declared.stop.Stop.TheVariants as stops
-use Rattle.ox_app.specs.declared.status.Status.TheVariants.{Done, Memory, NotStore, ShowFault}
+use Rattle.ox_app.specs.declared.status.Status.TheVariants.{Done, DiskFault, Memory, NotEmpty, NotStore, ShowFault}
 use Rattle.ox_app.specs.Unopened.{LogsUnopened, UnopenedAs}
 
 -- ---- statuses that differ
@@ -49,6 +49,24 @@ show_opens e = cc
 
 pub show_undone : ShowFault ≡ Done → ⊥
 show_undone e = cc
+
+-- where bytes came to be told a run ends in no other way
+pub record OnlyTold (status : Status) : Type 0 where
+  pub not_empty : status ≡ NotEmpty → ⊥
+  pub disk : status ≡ DiskFault → ⊥
+  pub memory : status ≡ Memory → ⊥
+
+pub only_told : (status : Status) → (status ≡ Done) ⊎ (status ≡ ShowFault) → OnlyTold status
+only_told status (inl a) = record {
+  not_empty = λ b. let e : Done ≡ NotEmpty = sym a ∙ b in cc e;
+  disk = λ b. let e : Done ≡ DiskFault = sym a ∙ b in cc e;
+  memory = λ b. let e : Done ≡ Memory = sym a ∙ b in cc e;
+}
+only_told status (inr a) = record {
+  not_empty = λ b. let e : ShowFault ≡ NotEmpty = sym a ∙ b in cc e;
+  disk = λ b. let e : ShowFault ≡ DiskFault = sym a ∙ b in cc e;
+  memory = λ b. let e : ShowFault ≡ Memory = sym a ∙ b in cc e;
+}
 
 -- a feed that ends for want of memory
 pub stopped_by_memory : (result : Result (Unit {0}) Stop) → status_of result ≡ Memory → IsErrOf result stops.Memory
@@ -83,6 +101,12 @@ reply_front bytes status first mid now isnt same grows =
 pub reply_none : (bytes : List ℕ) (status : Status) (first now : Option (List Event)) → (status ≡ Done → ⊥) → now ≡ first → Grows (ShowsReply bytes status) first now
 reply_none bytes status first now isnt same =
     grows_same (ShowsReply bytes status) first first now (grows_none (ShowsReply bytes status) first (record { front = front_none bytes; whole = λ is. absurd (isnt is) })) same
+
+-- bytes are told behind calls that logged nothing
+pub told_after : {S : Type 0} (means : Meanings S) (bytes line : List ℕ) (status : Status) (old mid new : S) → bytes ≡ line → means.log mid ≡ means.log old → ShowsText means bytes status mid new → ShowsText means line status old new
+told_after means bytes line status old mid new is same shows =
+    subst (λ (l : List ℕ). Grows (ShowsReply l status) (means.log old) (means.log new)) is
+    (grows_from (ShowsReply bytes status) (means.log old) (means.log mid) (means.log new) same shows)
 
 -- two readings of the same files
 pub same_stack : (standing : Result Stack Misfit) (a b : Stack) → standing ≡ Ok a → standing ≡ Ok b → a ≡ b

@@ -6,6 +6,8 @@ use Rattle.ox_outside.proofs.Counts.{own_showing, stops_after, stops_as, went_on
 use Rattle.ox_outside.specs.declared.site.Site.{Ghosts as Meanings}
 use Rattle.ox_feed.specs.declared.lines.FeedFault.{FeedFault}
 use Rattle.ox_feed.specs.declared.lines.FeedFault.TheVariants as feeds
+use Rattle.ox_drill.specs.declared.fault.DrillFault.{DrillFault}
+use Rattle.ox_drill.specs.declared.fault.DrillFault.TheVariants as drills
 use Rattle.ox_store.specs.declared.fault.MakeFault.{MakeFault}
 use Rattle.ox_store.specs.declared.fault.MakeFault.TheVariants as makes
 use Rattle.ox_store.specs.declared.fault.OpenFault.{OpenFault}
@@ -115,6 +117,13 @@ not_disk means (opens.NotStore file at) status old new says is e = cc e
 not_disk means opens.DiskFault status old new says is e = let same : ends.DiskFault ≡ ends.Memory = sym says.0 ∙ is in cc same
 not_disk means opens.Memory status old new says is e = cc e
 
+-- bytes are told behind calls of which none failed
+pub told_stops : (status : Status) (old mid new : Counts) → NoFault old mid → StopsAtFault ⊥ ⊥ (status ≡ ends.ShowFault) mid new → EndsAtFault status old new
+told_stops status old mid new none told =
+    stops_after (status ≡ ends.DiskFault) (status ≡ ends.HearFault) ((status ≡ ends.ShowFault) ⊎ IsRefusal status) old mid new none
+    (stops_as ⊥ ⊥ (status ≡ ends.ShowFault) (status ≡ ends.DiskFault) (status ≡ ends.HearFault) ((status ≡ ends.ShowFault) ⊎ IsRefusal status) mid new
+    (λ no. absurd no) (λ no. absurd no) (λ is. inl is) told)
+
 -- ---- lines of refusal
 
 pub said_stops : (status : Status) (old mid new : Counts) → IsRefusal status → NoFault old mid → MayFailToShow mid new → EndsAtFault status old new
@@ -122,6 +131,18 @@ said_stops status old mid new refuses none said =
     stops_after (status ≡ ends.DiskFault) (status ≡ ends.HearFault) ((status ≡ ends.ShowFault) ⊎ IsRefusal status) old mid new none
     (stops_as ⊥ ⊥ (Unit {0}) (status ≡ ends.DiskFault) (status ≡ ends.HearFault) ((status ≡ ends.ShowFault) ⊎ IsRefusal status) mid new
     (λ no. absurd no) (λ no. absurd no) (λ _. inr refuses) said)
+
+-- a store that is made, and a drill that came to its line
+pub made_well : {T : Type 0} (x : T) (old new : Counts) → StopsAtFault (IsErrOf {T = T} {E = MakeFault} (Ok x) makes.DiskFault) ⊥ ⊥ old new → NoFault old new
+made_well {T} x old new stopped = went_on (IsErrOf {T = T} {E = MakeFault} (Ok x) makes.DiskFault) ⊥ ⊥ old new (λ is. cc is) (λ no. no) (λ no. no) stopped
+
+pub drilled_well : {T : Type 0} (x : T) (old new : Counts) → StopsAtFault (IsErrOf {T = T} {E = DrillFault} (Ok x) drills.DiskFault) ⊥ ⊥ old new → NoFault old new
+drilled_well {T} x old new stopped = went_on (IsErrOf {T = T} {E = DrillFault} (Ok x) drills.DiskFault) ⊥ ⊥ old new (λ is. cc is) (λ no. no) (λ no. no) stopped
+
+-- a drill that ends for another reason than the disk
+pub not_drilled : {T : Type 0} (fault : DrillFault) (old new : Counts) → (fault ≡ drills.DiskFault → ⊥) → StopsAtFault (IsErrOf {T = T} (Err fault) drills.DiskFault) ⊥ ⊥ old new → NoFault old new
+not_drilled {T} fault old new other stopped =
+    went_on (IsErrOf {T = T} (Err fault) drills.DiskFault) ⊥ ⊥ old new (λ is. let e : fault ≡ drills.DiskFault = cc is in other e) (λ no. no) (λ no. no) stopped
 
 -- a store that isn't made for another reason than the disk
 pub not_made : {T : Type 0} (fault : MakeFault) (old new : Counts) → (fault ≡ makes.DiskFault → ⊥) → StopsAtFault (IsErrOf {T = T} (Err fault) makes.DiskFault) ⊥ ⊥ old new → NoFault old new

@@ -4,7 +4,7 @@ use Rattle.std.specs.Str.Parse.{digits_value}
 use Rattle.std.specs.Str.{IsUtf8}
 use Rattle.std.proofs.lemmas.Fmt.{IsAscii-decimal, decimal_is_IsNumeral}
 use Rattle.std.proofs.lemmas.Str.{IsUtf8-from_ascii}
-use Rattle.ox_app.specs.Subcommands.{IsDepth, IsTurns}
+use Rattle.ox_app.specs.Subcommands.{IsDepth, IsDrillLength, IsTurns}
 
 same_one : (a x : List ℕ) → a ≡ x → a ∷ [] ≡ x ∷ []
 same_one a x e = rw e refl
@@ -62,3 +62,14 @@ no_turns number text few is isnt turns fits written =
 -- a number of turns is written as text
 pub turns_text : (turns : ℕ) (word : List ℕ) → IsTurns turns → word ≡ decimal turns → IsUtf8 word
 turns_text turns word fits written = subst IsUtf8 (sym written) (IsUtf8-from_ascii (decimal turns) (IsAscii-decimal turns (omega (arith, fits.few))))
+
+-- ---- lengths of drills
+
+-- a number that is no length isn't written as one
+pub no_length : (number : ℕ) (text : List ℕ) → number < 2 ^ 64 → text ≡ decimal number → (IsDrillLength number → ⊥) → (n : ℕ) → IsDrillLength n → text ≢ decimal n
+no_length number text few is isnt n fits written =
+    isnt (subst IsDrillLength (sym (same_number number n few (omega (arith, fits.few)) (sym is ∙ written))) fits)
+
+-- a length is written as text
+pub length_text : (n : ℕ) (word : List ℕ) → IsDrillLength n → word ≡ decimal n → IsUtf8 word
+length_text n word fits written = subst IsUtf8 (sym written) (IsUtf8-from_ascii (decimal n) (IsAscii-decimal n (omega (arith, fits.few))))

@@ -4,6 +4,8 @@ use Rattle.ox_app.specs.declared.status.Status.{Status}
 use Rattle.ox_app.specs.declared.status.Status.TheVariants.{Done, Usage, NotEmpty, NotStore}
 use Rattle.ox_app.specs.declared.status.Status.TheVariants.{DiskFault, HearFault, ShowFault}
 use Rattle.ox_app.specs.declared.status.Status.TheVariants.{DoorFault, Memory, TooMuch}
+use Rattle.ox_drill.specs.declared.fault.DrillFault.{DrillFault}
+use Rattle.ox_drill.specs.declared.fault.DrillFault.TheVariants as drills
 use Rattle.ox_serve.specs.declared.fault.ServeFault.{ServeFault}
 use Rattle.ox_serve.specs.declared.fault.ServeFault.TheVariants as serves
 use Rattle.ox_app.specs.declared.stop.Stop.{Stop}
@@ -37,6 +39,12 @@ fault_status serves.DiskFault = DiskFault
 fault_status serves.DoorFault = DoorFault
 fault_status serves.Memory = Memory
 
+-- how a drill ends that a fault ended
+abbrev pub drill_status : DrillFault → Status
+drill_status drills.NotEmpty = NotEmpty
+drill_status drills.DiskFault = DiskFault
+drill_status drills.Memory = Memory
+
 -- how `fold` may end
 abbrev pub IsFoldStatus : Status → Type 0
 IsFoldStatus status =
@@ -67,11 +75,15 @@ IsServeStatus status =
     (status ≡ Done) ⊎ (status ≡ NotStore) ⊎ (status ≡ DiskFault) ⊎ (status ≡ ShowFault)
     ⊎ (status ≡ DoorFault) ⊎ (status ≡ Memory)
 
+-- how `drill` may end: as `init`, which it begins with
+abbrev pub IsDrillStatus : Status → Type 0
+IsDrillStatus status = IsInitStatus status
+
 -- how a run may end that doesn't open its files
 abbrev pub IsUnopened : Status → Type 0
 IsUnopened status = (status ≡ NotStore) ⊎ (status ≡ DiskFault) ⊎ (status ≡ Memory)
 
--- how `init` may end where a file isn't empty
+-- how `init` and `drill` may end where a file isn't empty
 abbrev pub IsSparing : Status → Type 0
 IsSparing status = (status ≡ NotEmpty) ⊎ (status ≡ DiskFault) ⊎ (status ≡ Memory)
 

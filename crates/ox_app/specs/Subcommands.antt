@@ -5,7 +5,7 @@ use Rattle.ox_sat.specs.Profiles.{profile_word}
 use Rattle.ox_sat.specs.declared.profiles.ProfileName.{ProfileName}
 use Rattle.ox_app.specs.declared.subcommand.Subcommand.{Subcommand}
 use Rattle.ox_app.specs.declared.subcommand.Subcommand.TheVariants.{Fold, Init, Apply, Query}
-use Rattle.ox_app.specs.declared.subcommand.Subcommand.TheVariants.{Serve, Unknown}
+use Rattle.ox_app.specs.declared.subcommand.Subcommand.TheVariants.{Serve, Drill, Unknown}
 
 -- a run over a feed, by its profile
 abbrev pub fold_words : ProfileName → List (List ℕ)
@@ -27,6 +27,10 @@ query_words path = codes "query" ∷ path ∷ []
 abbrev pub serve_words : ℕ → List (List ℕ)
 serve_words turns = codes "serve" ∷ decimal turns ∷ []
 
+-- a drill of so many blocks
+abbrev pub drill_words : ℕ → List (List ℕ)
+drill_words n = codes "drill" ∷ decimal n ∷ []
+
 -- how many blocks a store may keep
 pub record IsDepth (depth : ℕ) : Type 0 where
   pub some : 1 ≤ depth
@@ -37,6 +41,11 @@ pub record IsTurns (turns : ℕ) : Type 0 where
   pub some : 1 ≤ turns
   pub few : turns ≤ greatest
 
+-- how many blocks a drill may have
+pub record IsDrillLength (n : ℕ) : Type 0 where
+  pub some : 1 ≤ n
+  pub few : n ≤ 100000
+
 -- the words are no subcommand
 pub record IsUnknown (words : List (List ℕ)) : Type 0 where
   pub no_fold : (name : ProfileName) → words ≢ fold_words name
@@ -44,6 +53,7 @@ pub record IsUnknown (words : List (List ℕ)) : Type 0 where
   pub no_apply : words ≢ apply_words
   pub no_query : (path : List ℕ) → words ≢ query_words path
   pub no_serve : (turns : ℕ) → IsTurns turns → words ≢ serve_words turns
+  pub no_drill : (n : ℕ) → IsDrillLength n → words ≢ drill_words n
 
 -- the words are this subcommand
 abbrev pub IsSubcommand : List (List ℕ) → Subcommand → Type 0
@@ -52,6 +62,7 @@ IsSubcommand words (Init name depth) = IsDepth depth × (words ≡ init_words na
 IsSubcommand words Apply = words ≡ apply_words
 IsSubcommand words (Query path) = words ≡ query_words path.now
 IsSubcommand words (Serve turns) = IsTurns turns × (words ≡ serve_words turns)
+IsSubcommand words (Drill n) = IsDrillLength n × (words ≡ drill_words n)
 IsSubcommand words Unknown = IsUnknown words
 
 -- the words of a run that opens files

@@ -10,10 +10,10 @@ ghost use Rattle.ox_app.specs.Status.{IsInitStatus, IsSparing};
 ghost use Rattle.ox_app.specs.Subcommands.{IsDepth};
 ghost use Rattle.ox_app.specs.declared.status.Status.TheVariants as ends;
 
-use crate::show::{say, show_all};
+use crate::show::{say, tell};
 use crate::status::Status;
 use ox_index::empty_line;
-use ox_outside::{Failed, Site};
+use ox_outside::Site;
 use ox_sat::ProfileName;
 use ox_store::{MakeFault, Store};
 use std::alloc::Global;
@@ -41,10 +41,7 @@ pub fn init<S: Site>(alloc: Global, site: &mut S, name: ProfileName, depth: u16)
     ensures calls { Calls S.Site site.old site.new }
 {
     match Store::make(alloc, site, name, depth) {
-        Ok(_store) => match show_all(site, empty_line()) {
-            Ok(()) => Status::Done,
-            Err(Failed) => Status::ShowFault,
-        },
+        Ok(_store) => tell(site, empty_line()),
         Err(MakeFault::NotEmpty) => {
             say(site, b"not empty\n");
             Status::NotEmpty

@@ -4,6 +4,7 @@
 mod answer;
 mod apply;
 mod carry;
+mod drill;
 mod fold;
 mod init;
 mod line;

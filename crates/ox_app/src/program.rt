@@ -8,6 +8,7 @@ ghost use Rattle.ox_files.specs.Stands.{Misfit};
 ghost use Rattle.ox_sat.specs.Profiles.{profile_named};
 ghost use Rattle.ox_sat.specs.declared.profiles.ProfileName.{ProfileName};
 ghost use Rattle.ox_store.specs.Make.{no_files};
+ghost use Rattle.ox_app.specs.Drill.{RunsDrill, told_line};
 ghost use Rattle.ox_app.specs.Fold.{fold_depth};
 ghost use Rattle.ox_app.specs.Headline.{AddsNoImage, AnswersFeed, IsRunInTurn, StandsFor};
 ghost use Rattle.ox_app.specs.Headline.{StandsForNone, StopsAtLine, SurvivesCrash};
@@ -17,16 +18,17 @@ ghost use Rattle.ox_app.specs.Query.{query_body};
 ghost use Rattle.ox_app.specs.Serve.{AnswersLinks, DoorFails, SurvivesServing};
 ghost use Rattle.ox_app.specs.Show.{DiskFails, EndsAtFault, EndsDone, HearFails, Says};
 ghost use Rattle.ox_app.specs.Show.{ShowFails, ShowsText, usage_line};
-ghost use Rattle.ox_app.specs.Status.{IsApplyStatus, IsDone, IsFoldStatus, IsInitStatus};
-ghost use Rattle.ox_app.specs.Status.{IsQueryStatus, IsRefusal, IsServeStatus, IsSparing};
-ghost use Rattle.ox_app.specs.Status.{IsUnopened};
-ghost use Rattle.ox_app.specs.Subcommands.{IsDepth, IsOpening, IsReading, IsTurns, IsUnknown};
-ghost use Rattle.ox_app.specs.Subcommands.{apply_words, fold_words, init_words, query_words};
-ghost use Rattle.ox_app.specs.Subcommands.{serve_words};
+ghost use Rattle.ox_app.specs.Status.{IsApplyStatus, IsDone, IsDrillStatus, IsFoldStatus};
+ghost use Rattle.ox_app.specs.Status.{IsInitStatus, IsQueryStatus, IsRefusal, IsServeStatus};
+ghost use Rattle.ox_app.specs.Status.{IsSparing, IsUnopened};
+ghost use Rattle.ox_app.specs.Subcommands.{IsDepth, IsDrillLength, IsOpening, IsReading};
+ghost use Rattle.ox_app.specs.Subcommands.{IsTurns, IsUnknown, apply_words, drill_words};
+ghost use Rattle.ox_app.specs.Subcommands.{fold_words, init_words, query_words, serve_words};
 ghost use Rattle.ox_app.specs.Unopened.{SaysNotStore};
 ghost use Rattle.ox_app.specs.declared.status.Status.TheVariants as ends;
 
 use crate::apply::apply;
+use crate::drill::drill;
 use crate::fold::fold;
 use crate::init::init;
 use crate::query::query;
@@ -54,6 +56,9 @@ use std::alloc::Global;
 /// | `serve <turns>` | Opens the store, makes so many turns of a server, and shows what it |
 /// | | counted: `requests <n> hits <m>`. From 1 to 18,446,744,073,709,551,615 turns. |
 /// | `fold <profile>` | As `apply`, from no block on and without files. |
+/// | `drill <n>` | Makes two empty files a regtest store that keeps up to 100 blocks, connects n |
+/// | | made blocks, takes the newest ten back, or all where there are fewer, connects them |
+/// | | again, and shows what the index then counts. From 1 to 100,000 blocks. |
 ///
 /// The profile is `mainnet`, `regtest` or `lab`, and a number has decimal digits with no sign and
 /// no leading zero.
@@ -63,7 +68,7 @@ use std::alloc::Global;
 /// | `Done` | where channel 0 was read to its end and each line answered, the line or body was | |
 /// | | shown, or all turns were made and what was counted was shown | |
 /// | `Usage` | exactly where the words are no subcommand | `usage` |
-/// | `NotEmpty` | of `init`, exactly where a file isn't empty | `not empty` |
+/// | `NotEmpty` | of `init` and `drill`, exactly where a file isn't empty | `not empty` |
 /// | `NotStore` | exactly where the files are no store | `not a store`, the file's letter and the |
 /// | | | place of the first test that fails |
 /// | `DiskFault` | only where a call on a file failed in this run | nothing further |
@@ -156,6 +161,25 @@ pub fn run<S: Site>(alloc: Global, words: &[Bytes], site: &mut S) -> Status
         → ¬ DiskFails S.Site site.old site.new → ¬ ShowFails S.Site site.old site.new
         → IsDone result }
 
+    // ---- `drill`
+
+    // The line is shown, by the index to which all commands lead, and nothing is heard.
+    ensures drills { (n : ℕ) → IsDrillLength n → words.now ≡ drill_words n
+        → result ≢ ends.NotEmpty
+        → ShowsText S.Site (told_line n) result site.old site.new }
+    // From the making on the commands are carried out in turn, and no byte of the line is shown
+    // before the last. Files that aren't both empty are refused and spared.
+    ensures drill_survives { IsTrue (S.told site.old)
+        → (n : ℕ) → IsDrillLength n → words.now ≡ drill_words n
+        → RunsDrill S.Site n result site.old site.new }
+    ensures drill_status { (n : ℕ) → IsDrillLength n → words.now ≡ drill_words n
+        → IsDrillStatus result }
+    ensures drill_completes { IsTrue (S.told site.old)
+        → (n : ℕ) → IsDrillLength n → words.now ≡ drill_words n
+        → S.seen site.old ≡ no_files
+        → ¬ DiskFails S.Site site.old site.new → ¬ ShowFails S.Site site.old site.new
+        → IsDone result }
+
     // ---- `query`, on files that stand for a stack
 
     // The body of the reply is shown, and nothing else.
@@ -226,6 +250,7 @@ pub fn run<S: Site>(alloc: Global, words: &[Bytes], site: &mut S) -> Status
         Subcommand::Apply => apply(alloc, site),
         Subcommand::Query(path) => query(alloc, site, path),
         Subcommand::Serve(turns) => serve(alloc, site, turns),
+        Subcommand::Drill(n) => drill(alloc, site, n),
         Subcommand::Unknown => {
             say(site, b"usage\n");
             Status::Usage

@@ -1,11 +1,13 @@
 //! Showing bytes whole.
 
-ghost use Rattle.std.specs.Prelude.{◌≡◌, OnErr};
+ghost use Rattle.std.specs.Prelude.{◌≡◌, ◌⊎◌, OnErr};
 ghost use Rattle.ox_outside.specs.Counts.{IsFailure, StopsAtFault};
 ghost use Rattle.ox_outside.specs.Log.{Grows};
 ghost use Rattle.ox_outside.specs.Runs.{OnlyTalks};
-ghost use Rattle.ox_app.specs.Show.{MayFailToShow, Says, ShowFails, Shows, ShowsFront};
+ghost use Rattle.ox_app.specs.Show.{MayFailToShow, Says, ShowFails, Shows, ShowsFront, ShowsText};
+ghost use Rattle.ox_app.specs.declared.status.Status.TheVariants as ends;
 
+use crate::status::Status;
 use ox_outside::{Failed, Shown, Site};
 
 /// Shows all of the bytes on channel 0, in as many pieces as it takes. `Failed` only where a
@@ -34,4 +36,20 @@ pub fn say<S: Site>(site: &mut S, line: &[u8])
     ensures talks { OnlyTalks S.Site (ShowsFront line.now) site.old site.new }
 {
     let _shown = show_all(site, line);
+}
+
+/// Shows the bytes with which a run ends: `Done` once all are shown, and `ShowFault` where a
+/// showing failed, so that a front of them is shown.
+pub fn tell<S: Site>(site: &mut S, bytes: &[u8]) -> Status
+    ensures shows { ShowsText S.Site bytes.now result site.old site.new }
+    ensures status { (result ≡ ends.Done) ⊎ (result ≡ ends.ShowFault) }
+    ensures failed { result ≡ ends.ShowFault → ShowFails S.Site site.old site.new }
+    ensures counted { StopsAtFault ⊥ ⊥ (result ≡ ends.ShowFault)
+        (S.counts site.old) (S.counts site.new) }
+    ensures talks { OnlyTalks S.Site (ShowsFront bytes.now) site.old site.new }
+{
+    match show_all(site, bytes) {
+        Ok(()) => Status::Done,
+        Err(Failed) => Status::ShowFault,
+    }
 }

@@ -1,7 +1,7 @@
 //! The subcommands.
 
 ghost use Rattle.std.specs.Prelude.{◌≡◌, ◌≢◌, ℕ, IfSome, IfNone, decimal};
-ghost use Rattle.ox_app.specs.Subcommands.{IsDepth, IsSubcommand, IsTurns};
+ghost use Rattle.ox_app.specs.Subcommands.{IsDepth, IsDrillLength, IsSubcommand, IsTurns};
 
 use ox_bytes::Bytes;
 use ox_sat::{ProfileName, read_number};
@@ -19,6 +19,8 @@ pub enum Subcommand<'a> {
     Query(&'a [u8]),
     /// So many turns of a server.
     Serve(u64),
+    /// A drill of so many blocks.
+    Drill(u32),
     /// The words are no subcommand.
     Unknown,
 }
@@ -68,6 +70,29 @@ fn turns_in(word: &[u8]) -> Option<u64>
     }
 }
 
+// The length of a drill that a text writes.
+fn read_length(text: &str) -> Option<u32>
+    ensures found { IfSome result (λ n. IsDrillLength n × (text.now ≡ decimal n)) }
+    ensures only { IfNone result ((n : ℕ) → IsDrillLength n → text.now ≢ decimal n) }
+{
+    match read_number(text) {
+        Some(number) if 1 <= number && number <= 100_000 => Some(number as u32),
+        _ => None,
+    }
+}
+
+// The length of a drill that a word writes: decimal digits with no sign and no leading zero, from 1
+// to 100,000.
+fn length_in(word: &[u8]) -> Option<u32>
+    ensures found { IfSome result (λ n. IsDrillLength n × (word.now ≡ decimal n)) }
+    ensures only { IfNone result ((n : ℕ) → IsDrillLength n → word.now ≢ decimal n) }
+{
+    match str::from_utf8(word) {
+        Ok(text) => read_length(text),
+        Err(_) => None,
+    }
+}
+
 /// The subcommand that words are.
 pub fn subcommand_of(words: &[Bytes]) -> Subcommand<'_>
     ensures { IsSubcommand words.now result }
@@ -87,6 +112,12 @@ pub fn subcommand_of(words: &[Bytes]) -> Subcommand<'_>
             turns.as_slice(),
         ) {
             Some(turns) => Subcommand::Serve(turns),
+            None => Subcommand::Unknown,
+        },
+        [first, length] if first.as_slice() == b"drill".as_slice() => match length_in(
+            length.as_slice(),
+        ) {
+            Some(n) => Subcommand::Drill(n),
             None => Subcommand::Unknown,
         },
         [first, profile, depth] if first.as_slice() == b"init".as_slice() => {

@@ -8,13 +8,15 @@ use Rattle.ox_sat.specs.Profiles.{profile_named}
 use Rattle.ox_sat.specs.declared.profiles.Profile.{Profile}
 use Rattle.ox_sat.specs.declared.profiles.ProfileName.{ProfileName}
 use Rattle.ox_desk.specs.Servers.{server_on}
+use Rattle.ox_app.specs.Drill.{RunsDrill, told_line}
 use Rattle.ox_app.specs.Fold.{fold_depth}
 use Rattle.ox_app.specs.Headline.{RunsFeed, StopsBefore, stack_after}
 use Rattle.ox_app.specs.Init.{MakesFirst}
 use Rattle.ox_app.specs.Serve.{RunsServer}
-use Rattle.ox_app.specs.Show.{DiskFails, EndsAtFault, EndsDone, HearFails, ShowFails}
+use Rattle.ox_app.specs.Show.{DiskFails, EndsAtFault, EndsDone, HearFails, ShowFails, ShowsText}
 use Rattle.ox_app.specs.Status.{status_of}
 use Rattle.ox_app.specs.declared.status.Status.{Status}
+use Rattle.ox_app.proofs.Drilling.{drill_writes, lengths_same}
 use Rattle.ox_app.proofs.FreshIndexing.{apply_refuses, apply_writes, ends_done, fold_same, grows_alike, grows_stops_alike, init_refuses, init_same, init_writes, leaves_alike, made_same, runs_in_turn}
 use Rattle.ox_outside.proofs.Counts.{no_fault_yet}
 use Rattle.ox_app.proofs.Serving.{grows_of_machine, serve_refuses, serve_writes, serving_of_machine, turns_same}
@@ -112,3 +114,18 @@ pub returns-in-Serve-clause-no_image : goal.returns-in-Serve-clause-no_image
 returns-in-Serve-clause-no_image g c =
     ⊎_elim (λ reading. absurd (serve_writes c.args.words.now c.in-Serve.turns c.in-Serve.ensures.1 reading))
     (λ refuses. c.serve.ensures.no_store (serve_refuses c.serve.result c.serve.ensures.status refuses))
+
+pub returns-in-Drill-clause-drills : goal.returns-in-Drill-clause-drills
+returns-in-Drill-clause-drills g c n fits words isnt =
+    let same = lengths_same c.in-Drill.n n c.in-Drill.ensures.0 fits (sym c.in-Drill.ensures.1 ∙ words) in
+    subst (λ (m : ℕ). ShowsText g.S.Site (told_line m) c.drill.result c.args.site.now c.drill.new.site) same (c.drill.ensures.shows isnt)
+
+pub returns-in-Drill-clause-drill_survives : goal.returns-in-Drill-clause-drill_survives
+returns-in-Drill-clause-drill_survives g c told n fits words =
+    let same = lengths_same c.in-Drill.n n c.in-Drill.ensures.0 fits (sym c.in-Drill.ensures.1 ∙ words) in
+    subst (λ (m : ℕ). RunsDrill g.S.Site m c.drill.result c.args.site.now c.drill.new.site) same (c.drill.ensures.runs told)
+
+pub returns-in-Drill-clause-no_image : goal.returns-in-Drill-clause-no_image
+returns-in-Drill-clause-no_image g c =
+    ⊎_elim (λ reading. absurd (drill_writes c.args.words.now c.in-Drill.n c.in-Drill.ensures.1 reading))
+    (λ refuses. c.drill.ensures.looks (init_refuses c.drill.result c.drill.ensures.status refuses))

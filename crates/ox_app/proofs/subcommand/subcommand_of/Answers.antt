@@ -27,7 +27,7 @@ returns-in-Some c =
 
 pub returns-in-Some-Some : goal.returns-in-Some-Some
 returns-in-Some-Some c =
-    let first = rw (c.as_slice-then-words-lt4.ensures, c.as_slice-then-words-lt4-2.ensures) at c.if-eq-5.ensures in
+    let first = rw (c.as_slice-then-words-lt4.ensures, c.as_slice-then-words-lt4-2.ensures) at c.if-eq-6.ensures in
     let depth = c.in-Some-Some.ensures'.found in (
       depth.0,
       three_words c.args.words.now c.first-item-then-words-lt4.result c.profile-item-then-words-lt4.result c.depth-item.result
@@ -44,4 +44,14 @@ returns-in-Some-turns_in c =
       two_words c.args.words.now c.first-item-then-words-lt3-3.result c.turns-item.result (codes "serve") (decimal c.in-Some-turns_in.turns)
           c.in-len2.len_at_least c.in-len2.len_below c.first-item-then-words-lt3-3.is c.turns-item.is
           ((bytes_eq-Decides c.first-item-then-words-lt3-3.result (codes "serve")).0 (sym first)) (sym c.as_slice-in-len2-3.ensures ∙ turns.1),
+    )
+
+pub returns-in-Some-length_in : goal.returns-in-Some-length_in
+returns-in-Some-length_in c =
+    let first = rw (c.as_slice-then-words-lt3-7.ensures, c.as_slice-then-words-lt3-8.ensures) at c.if-eq-5.ensures in
+    let length = c.in-Some-length_in.ensures.found in (
+      length.0,
+      two_words c.args.words.now c.first-item-then-words-lt3-4.result c.length-item.result (codes "drill") (decimal c.in-Some-length_in.n)
+          c.in-len2.len_at_least c.in-len2.len_below c.first-item-then-words-lt3-4.is c.length-item.is
+          ((bytes_eq-Decides c.first-item-then-words-lt3-4.result (codes "drill")).0 (sym first)) (sym c.as_slice-in-len2-4.ensures ∙ length.1),
     )
