@@ -1,0 +1,86 @@
+#!/usr/bin/env python3
+"""Times `drill` over a folder in memory and one on a disk, beside a plain Rust program that makes,
+indexes, writes and syncs the same blocks.
+
+    python3 bench/drill.py [--disk FOLDER] [BLOCKS..]
+
+drills so many blocks (1,000, 10,000 and 100,000 without a word), each time in a new folder below
+/dev/shm, and below FOLDER, which is bench/out/ without a word. The programs run in turn, three
+times. They have to show the same line and to leave the same bytes. It prints, of the runs that took
+least by the clock, blocks a second, the bytes of file A, and the most memory. Each block is
+written by two writes and two waits, so on a disk little else counts; in memory it is the work
+itself. The plain program is given no word of `ox`: it makes the blocks by docs/RULES.md, and keeps
+hash maps. Nothing here is proved. bench/all.py builds both programs.
+"""
+
+import hashlib
+import pathlib
+import sys
+import tempfile
+import time
+
+from runs import RUNS, report, run
+from tools.programs import TOP, plain_program, proved_program
+
+MEMORY = pathlib.Path("/dev/shm")
+COUNTS = 1_000, 10_000, 100_000
+# of the speed of the plain program, where the folder is in memory
+GOAL = 0.8
+WHERE = {"memory": "in memory", "disk": "on a disk"}
+
+
+def commands(folder, count):
+    return {
+        "ox": [proved_program("ox_main"), folder, "drill", str(count)],
+        "plain": [plain_program("drill"), folder, str(count)],
+    }
+
+
+def drill(place, name, count):
+    """A drill in a new folder: seconds by the clock, the most memory, what was shown, and how many
+    bytes file A has, with their hash."""
+    with tempfile.TemporaryDirectory(dir=place) as folder:
+        begun = time.monotonic()
+        _, memory, shown = run(commands(folder, count)[name])
+        seconds = time.monotonic() - begun
+        with open(pathlib.Path(folder) / "a.ox", "rb") as file:
+            digest = hashlib.file_digest(file, "sha256").digest()
+            return seconds, memory, shown, file.tell(), digest
+
+
+def tell(kind, place, count):
+    """What drills of so many blocks take at a place."""
+    taken, left = {}, set()
+    for _ in range(RUNS):
+        for name in commands(place, count):
+            seconds, memory, *end = drill(place, name, count)
+            taken.setdefault(name, []).append((seconds, memory))
+            left.add(tuple(end))
+    if len(left) != 1:
+        sys.exit("the lines or the files differ")
+    ((_, size, _),) = left
+    least = {name: min(rows) for name, rows in taken.items()}
+    for name, (seconds, memory) in least.items():
+        print(
+            f"{kind}, {count:7,} blocks, {name:5}: {count / seconds:8.0f} blocks a second,"
+            f" {size:,} bytes of file A, {memory:,} of memory",
+            flush=True,
+        )
+    blocks, goal = f"{count:,} blocks", GOAL if kind == "memory" else None
+    rates, bytes_ = zip(*((count / seconds, memory) for seconds, memory in least.values()))
+    report(f"a drill, files {WHERE[kind]}", blocks, "blocks a second", *rates, goal)
+    report(f"the memory of a drill, files {WHERE[kind]}", blocks, "bytes", *bytes_)
+
+
+def main():
+    words, disk = sys.argv[1:], TOP / "bench" / "out"
+    if words[:1] == ["--disk"]:
+        disk, words = pathlib.Path(words[1]), words[2:]
+    disk.mkdir(exist_ok=True)
+    for count in map(int, words) if words else COUNTS:
+        for kind, place in (("memory", MEMORY), ("disk", disk)):
+            tell(kind, place, count)
+
+
+if __name__ == "__main__":
+    main()
