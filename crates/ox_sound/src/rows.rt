@@ -72,6 +72,7 @@ fn has_right_supply(row: &RuneRow) -> bool
 fn has_small_numbers(row: &RuneRow) -> bool
     ensures { result ≡ has_small_numbers row.now }
 {
+    // Read, so that it is known to be of 32 bits.
     let _tx = row.id.tx;
     row.divisibility <= 38 && row.spacers < 1 << 27
 }
