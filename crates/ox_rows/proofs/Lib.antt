@@ -8,3 +8,4 @@ pub mod RowLaws
 pub mod InOrder
 pub mod Fronts
 pub mod Keeping
+pub mod Collected

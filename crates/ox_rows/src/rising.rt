@@ -7,7 +7,6 @@ ghost use Rattle.ox_rows.specs.Reading.{falls, rising_at};
 use crate::readable::Readable;
 use ox_bytes::{FieldFault, ReadError};
 use std::alloc::Global;
-use std::collections::BTreeMap;
 
 /// That many values, each behind its key; keys rise. A key that doesn't is at fault before its
 /// value is read. `Memory` where there is none for the values.
@@ -30,29 +29,6 @@ pub fn rising_of<K: Readable + Ord + Copy, X: Readable + Drop>(
         rest = after;
     }
     Ok((rows, rest))
-}
-
-/// That many values by their keys, which rise as `rising_of` asks. `Memory` where there is none for
-/// them.
-pub(crate) fn rising_table_of<K: Readable + Ord + Copy + Drop, X: Readable + Drop>(
-    alloc: Global,
-    count: u32,
-    bytes: &[u8],
-) -> Result<(BTreeMap<K, X>, &[u8]), ReadError>
-    ensures { GivesOrMemory (λ x. (x.0.entries, x.1.now)) result
-        (rising_at K.cmp K.at X.at None count bytes.now) }
-{
-    let mut table = BTreeMap::new(alloc);
-    let mut last = None;
-    let mut rest = bytes;
-    for _ in 0..count {
-        let (key, behind_key) = key_behind(alloc, last, rest)?;
-        let (value, after) = X::read(alloc, behind_key)?;
-        table.insert(key, value)?;
-        last = Some(key);
-        rest = after;
-    }
-    Ok((table, rest))
 }
 
 /// A key that rises above the last one, if there is one.
