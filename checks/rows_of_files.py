@@ -9,6 +9,7 @@ library alone. Of each broken row the place is told beside it, and the reader ha
 
 import re
 
+import row_chains
 from row_forms import MOST_SATS, SPELLED, Change, Count, Fault, Index, Inscription, Output
 from row_forms import Rune, Terms, inscription, inscription_id, listed, number, optional, output
 from row_forms import outpoint, read, rune, sats, terms, text
@@ -380,7 +381,7 @@ def forms():
 
 
 def main():
-    rows = list(forms())
+    rows = [*forms(), *row_chains.rows()]
     write_rows("ox_rows_rows", *zip(*rows))
 
 

@@ -6,6 +6,11 @@
 //! - `fronts index HEX`, `fronts change HEX`: the place of that field in each front of these bytes,
 //!   from none of them to all but one.
 //!
+//! - `sound PROFILE HEX`: whether the index that these bytes spell is sound;
+//! - `on HEX HEX`, `back HEX HEX`: the rows of the index to which a change leads from this one, or
+//!   from which it led to it; or `no end` where it has none here. The index is spelled first, and
+//!   then the change.
+//!
 //! Bytes are hex digits, or `-` for none.
 //!
 //! The rows and what has to be printed are made by checks/rows_of_files.py, which spells and reads
@@ -17,11 +22,16 @@
 #![tactic(auto)]
 
 mod again;
+mod ends;
 mod print;
+mod sound;
+mod whole;
 mod words;
 
 use crate::again::{Times, change_again, index_again};
+use crate::ends::print_end;
 use crate::print::{print_again, print_place};
+use crate::sound::print_sound;
 use crate::words::bytes_of;
 use anyhow::{Context, bail};
 use ox_rows::{RowsFault, read_change, read_index};
@@ -78,16 +88,26 @@ fn print_fronts(rt: &impl Print, alloc: Global, kind: Kind, bytes: &[u8]) -> io:
     println!(rt)
 }
 
+/// Prints the place of the fault of each front of the bytes that are spelled behind their kind.
+fn print_fronts_of(rt: &impl Print, alloc: Global, words: &str) -> anyhow::Result<()> {
+    let (kind, bytes) = words.split_once(' ').context("no row")?;
+    let bytes = bytes_of(alloc, bytes)?;
+    Ok(print_fronts(rt, alloc, kind_of(kind)?, &bytes)?)
+}
+
 /// Prints what a row reads as.
 fn run(rt: &impl Print, alloc: Global, row: &str, times: Times) -> anyhow::Result<()> {
     let (word, rest) = row.split_once(' ').context("no row")?;
-    if word == "fronts" {
-        let (word, rest) = rest.split_once(' ').context("no row")?;
-        let bytes = bytes_of(alloc, rest)?;
-        return Ok(print_fronts(rt, alloc, kind_of(word)?, &bytes)?);
+    match word {
+        "fronts" => print_fronts_of(rt, alloc, rest),
+        "sound" => print_sound(rt, alloc, rest),
+        "on" => print_end(rt, alloc, rest, false),
+        "back" => print_end(rt, alloc, rest, true),
+        _ => {
+            let bytes = bytes_of(alloc, rest)?;
+            Ok(print_read(rt, alloc, kind_of(word)?, &bytes, times)?)
+        }
     }
-    let bytes = bytes_of(alloc, rest)?;
-    Ok(print_read(rt, alloc, kind_of(word)?, &bytes, times)?)
 }
 
 fn main(rt: HostRuntime) -> anyhow::Result<()> {

@@ -8,7 +8,7 @@ use std::io;
 const MOST_SHOWN: usize = 1_000_000;
 
 /// Bytes in hex digits.
-fn print_hex(rt: &impl Print, bytes: &[u8]) -> io::Result<()> {
+pub fn print_hex(rt: &impl Print, bytes: &[u8]) -> io::Result<()> {
     for byte in bytes {
         print!(rt; "{byte:02x}")?;
     }
