@@ -1,6 +1,5 @@
 """Rows that ask whether an index is sound and where a change leads, and what has to be printed for
-them: by docs/RULES.md, over row_forms and row_ends. `rows` has all of them. No program reads them
-yet."""
+them: by docs/RULES.md, over row_forms and row_ends. `rows` has all of them, for rows_of_files."""
 
 from row_ends import change_between, first_of, is_sound, other_end
 from row_forms import SPELLED, Change, Count, Index, Inscription, Output, Rune, Terms

@@ -4,8 +4,7 @@
 //!   rows of the index that was read; or the place of the first field that doesn't fit;
 //! - `change HEX`: the same of a change;
 //! - `fronts index HEX`, `fronts change HEX`: the place of that field in each front of these bytes,
-//!   from none of them to all but one.
-//!
+//!   from none of them to all but one;
 //! - `sound PROFILE HEX`: whether the index that these bytes spell is sound;
 //! - `on HEX HEX`, `back HEX HEX`: the rows of the index to which a change leads from this one, or
 //!   from which it led to it; or `no end` where it has none here. The index is spelled first, and
