@@ -6,3 +6,7 @@ pub mod HeldLemmas
 pub mod TableLemmas
 pub mod SoundLemmas
 pub mod PassLemmas
+pub mod ExchangeLemmas
+pub mod KeepsLemmas
+pub mod CountedLemmas
+pub mod KeepsRunesLemmas

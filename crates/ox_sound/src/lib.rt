@@ -9,5 +9,5 @@ mod rows;
 mod sats;
 mod sound;
 
-pub use laws::test_is_exact;
+pub use laws::{kept_rules_leave_sound_indexes, test_is_exact};
 pub use sound::is_sound;
