@@ -10,3 +10,5 @@ pub mod ExchangeLemmas
 pub mod KeepsLemmas
 pub mod CountedLemmas
 pub mod KeepsRunesLemmas
+pub mod SumLemmas
+pub mod KeepsPassLemmas

@@ -1,6 +1,6 @@
 -- Sums by runes' ids, as they are kept.
 use Rattle.std.specs.Prelude.{◌≡◌, ℕ, ◌+◌, ◌^◌, Bool, List, Option, Some, None, is_some, sum_by}
-use Rattle.std.specs.Prelude.{nat_lt, if◌then◌else◌}
+use Rattle.std.specs.Prelude.{nat_lt, if◌then◌else◌, unwrap_or}
 use Rattle.std.specs.BTreeMap.{BTreeMap, get}
 use Rattle.std.specs.FinMap.{from_entries}
 use Rattle.std.specs.Option.{option_map}
@@ -39,6 +39,10 @@ pub record AreAmounts (amounts : BTreeMap RuneId (Option ℕ)) (there : RuneId �
 -- something is kept at an id
 abbrev pub is_among : BTreeMap RuneId (Option ℕ) → RuneId → Bool
 is_among amounts id = is_some (get id_cmp amounts id)
+
+-- how much of a rune a table of sums has
+abbrev pub amount_at : BTreeMap RuneId ℕ → RuneId → ℕ
+amount_at sums id = unwrap_or (get id_cmp sums id) 0
 
 -- tables as finite maps
 abbrev pub outputs_in : BTreeMap OutPoint OutRow → Outputs

@@ -105,12 +105,15 @@ balances_keep runes came = list_all (λ (row : Placement). are_known runes row.1
 abbrev pub amount_placed : List Placement → RuneId → ℕ
 amount_placed rows id = sum_held (map (λ (row : Placement). row.1) rows) id
 
--- what changed counts of the rune with an id come to
-abbrev pub sum_counted : (CountChange → RuneRow → ℕ) → List RuneRow → List CountChange → RuneId → ℕ
-sum_counted of runes counts id =
-    sum_by (λ (change : CountChange).
+-- what changed counts come to, where they are of the rune with an id
+abbrev pub counted_of : (CountChange → RuneRow → ℕ) → List RuneRow → RuneId → CountChange → ℕ
+counted_of of runes id change =
     option_map_or (λ (row : RuneRow). if is_same row.id id then of change row else 0)
-    (slice_get runes change.place) 0) counts
+    (slice_get runes change.place) 0
+
+-- what all changed counts of the rune with an id come to
+abbrev pub sum_counted : (CountChange → RuneRow → ℕ) → List RuneRow → List CountChange → RuneId → ℕ
+sum_counted of runes counts id = sum_by (counted_of of runes id) counts
 
 -- what new runes with an id come to
 abbrev pub sum_new : (RuneRow → ℕ) → List RuneRow → RuneId → ℕ

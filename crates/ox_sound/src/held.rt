@@ -16,7 +16,7 @@ use ox_runestone::RuneId;
 use std::collections::BTreeMap;
 
 /// Whether each rune is below the next.
-fn do_rise(balances: &[(RuneId, u128)]) -> bool
+pub(crate) fn do_rise(balances: &[(RuneId, u128)]) -> bool
     ensures { result ≡ rise balances.now }
 {
     for next in 1..balances.len() {

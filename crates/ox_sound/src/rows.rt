@@ -13,7 +13,7 @@ use std::alloc::Global;
 use std::collections::BTreeSet;
 
 /// How many mints the rune may have.
-fn cap_of(row: &RuneRow) -> u128
+pub(crate) fn cap_of(row: &RuneRow) -> u128
     ensures { result ≡ cap_in row.now.terms }
 {
     match &row.terms {
@@ -23,7 +23,7 @@ fn cap_of(row: &RuneRow) -> u128
 }
 
 /// What a mint gives.
-fn amount_of(row: &RuneRow) -> u128
+pub(crate) fn amount_of(row: &RuneRow) -> u128
     ensures { result ≡ amount_per_mint row.now.terms }
 {
     match &row.terms {

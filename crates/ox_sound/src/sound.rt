@@ -52,7 +52,7 @@ fn is_minted(first: u64, sat: Option<u64>) -> bool
 
 /// Whether an inscription comes from one of so many blocks, and its satoshi, where it has one, is
 /// below this number.
-fn is_revealed(blocks: u64, first: u64, row: &InsRow) -> bool
+pub(crate) fn is_revealed(blocks: u64, first: u64, row: &InsRow) -> bool
     ensures { result ≡ is_revealed blocks first row.now }
 {
     u64::from(row.height) < blocks && is_minted(first, row.sat)

@@ -1,0 +1,23 @@
+use Rattle.std.proofs.Common.{◌≡◌, ◌∙◌, ◌+◌, ℕ, List, [], ap, arith, get_or}
+use Rattle.std.specs.Prelude.{if◌then◌else◌}
+use Rattle.std.proofs.lemmas.List.{take_all}
+use Rattle.ox_allocation.specs.Balances.{is_same}
+use Rattle.ox_etching.specs.declared.row.RuneRow.{RuneRow}
+use Rattle.ox_sound.specs.Amounts.{amount_at}
+use Rattle.ox_sound.specs.Keeps.{sum_new}
+use Rattle.ox_sound.proofs.AmountLemmas.{no_rune}
+use Rattle.ox_sound.proofs.SumLemmas.{new_more}
+use Rattle.ox_sound.proofs.moved_amounts.add_new_burned.Goals as goal
+
+pub loop-row-init : goal.loop-row-init
+loop-row-init c = λ other. let none : amount_at c.args.sums.now other ≡ amount_at c.args.sums.now other + sum_new (λ (row : RuneRow). row.burned) [] other = omega arith in none
+
+pub loop-row-preserved : goal.loop-row-preserved
+loop-row-preserved c = λ other.
+    let one : RuneRow = get_or c.args.appended.now c.loop-row.row-index no_rune in
+    c.in_ok-add_one.ensures c.if-not-branch.false other ∙ ap (λ (n : ℕ). n + (if is_same one.id other then one.burned else 0)) (c.loop-row.invariant other)
+    ∙ new_more (λ (row : RuneRow). row.burned) c.args.appended.now c.loop-row.row-index no_rune other (amount_at c.args.sums.now other) c.loop-row-test.true
+
+pub returns : goal.returns
+returns c = λ yes other.
+    c.loop-row.invariant other ∙ ap (λ (rows : List RuneRow). amount_at c.args.sums.now other + sum_new (λ (row : RuneRow). row.burned) rows other) (take_all c.loop-row.row-index c.args.appended.now c.loop-row-test.false)
