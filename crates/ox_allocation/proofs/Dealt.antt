@@ -274,8 +274,8 @@ abbrev pub all_gifts : List TxOut → List Balance → List Edict → Option Run
 all_gifts outputs pool edicts etched to =
     given_by outputs etched edicts (amount_in pool) ++ rest_to to (ids_of pool) (left_after (given_by outputs etched edicts (amount_in pool)) (amount_in pool))
 
-abbrev pub first_stage : List Balance → ℕ → Stage
-first_stage pool count = record { left = pool; hands = empty_hands count }
+abbrev pub first_stage : List TxOut → List Balance → Stage
+first_stage outputs pool = record { outputs = outputs; left = pool; hands = empty_hands (length outputs) }
 
 -- the hands hold what these gifts come to
 pub record IsSaid (outputs : List TxOut) (pool : List Balance) (gifts : List Gift) (all : Allocation) : Type 0 where
@@ -283,7 +283,7 @@ pub record IsSaid (outputs : List TxOut) (pool : List Balance) (gifts : List Gif
   pub burned : all.burned ≡ balances_by (amount_burned pool outputs gifts) (ids_of pool)
 
 hands_some : (outputs : List TxOut) (pool : List Balance) (edicts : List Edict) (etched : Option RuneId) (place : ℕ) (last : Stage) → AreBalances pool
-    → Gives outputs (first_stage pool (length outputs)) last (given_by outputs etched edicts (amount_in pool))
+    → Gives (first_stage outputs pool) last (given_by outputs etched edicts (amount_in pool))
     → with_gifts outputs last.hands (gifts_for place last.left) ≡ with_gifts outputs (empty_hands (length outputs)) (all_gifts outputs pool edicts etched (Some place))
 hands_some outputs pool edicts etched place last lawful gives =
     let given = given_by outputs etched edicts (amount_in pool) in
@@ -321,7 +321,7 @@ said_some outputs pool edicts etched place lawful there =
     }
 
 said_none : (outputs : List TxOut) (pool : List Balance) (edicts : List Edict) (etched : Option RuneId) (last : Stage) → AreBalances pool
-    → Gives outputs (first_stage pool (length outputs)) last (given_by outputs etched edicts (amount_in pool))
+    → Gives (first_stage outputs pool) last (given_by outputs etched edicts (amount_in pool))
     → IsSaid outputs pool (given_by outputs etched edicts (amount_in pool)) (record last.hands { burned = with_all last.hands.burned last.left })
 said_none outputs pool edicts etched last lawful gives =
     let gifts = given_by outputs etched edicts (amount_in pool) in
@@ -342,7 +342,7 @@ said_none outputs pool edicts etched last lawful gives =
 -- what is dealt is what the allocation says
 pub dealt_as_said : (outputs : List TxOut) (pool : List Balance) (edicts : List Edict) (etched : Option RuneId) (to : Option ℕ) (last : Stage) → AreBalances pool
     → ((place : ℕ) → to ≡ Some place → place < length outputs)
-    → Gives outputs (first_stage pool (length outputs)) last (given_by outputs etched edicts (amount_in pool))
+    → Gives (first_stage outputs pool) last (given_by outputs etched edicts (amount_in pool))
     → IsSaid outputs pool (all_gifts outputs pool edicts etched to) (with_rest outputs last.hands to last.left)
 dealt_as_said outputs pool edicts etched (Some place) last lawful within gives =
     subst (λ all. IsSaid outputs pool (all_gifts outputs pool edicts etched (Some place)) all) (sym (hands_some outputs pool edicts etched place last lawful gives)) (said_some outputs pool edicts etched place lawful (within place refl))
@@ -352,13 +352,13 @@ dealt_as_said outputs pool edicts etched None last lawful within gives =
 -- with the heir that the definition names
 pub allocated_as_said : (outputs : List TxOut) (pool : List Balance) (edicts : List Edict) (etched : Option RuneId) (pointer to : Option ℕ) (first last : Stage) (hands : Allocation) → AreBalances pool
     → ((place : ℕ) → pointer ≡ Some place → place < length outputs) → to ≡ heir outputs pointer
-    → first.left ≡ pool → first.hands ≡ empty_hands (length outputs)
-    → Gives outputs first last (given_by outputs etched edicts (amount_in first.left)) → hands ≡ with_rest outputs last.hands to last.left
+    → first.outputs ≡ outputs → first.left ≡ pool → first.hands ≡ empty_hands (length outputs)
+    → Gives first last (given_by first.outputs etched edicts (amount_in first.left)) → hands ≡ with_rest last.outputs last.hands to last.left
     → IsSaid outputs pool (gifts_from pool edicts etched pointer outputs) hands
-allocated_as_said outputs pool edicts etched pointer to first last hands lawful within is left empty gives rest =
-    let same : first ≡ first_stage pool (length outputs) = λ i. record { left = left i; hands = empty i } in
-    let begun = subst (λ (stage : Stage). Gives outputs stage last (given_by outputs etched edicts (amount_in stage.left))) same gives in
-    subst (λ all. IsSaid outputs pool (gifts_from pool edicts etched pointer outputs) all) (sym (rest ∙ ap (λ x. with_rest outputs last.hands x last.left) is))
+allocated_as_said outputs pool edicts etched pointer to first last hands lawful within is same_outputs left empty gives rest =
+    let same : first ≡ first_stage outputs pool = λ i. record { outputs = same_outputs i; left = left i; hands = empty i } in
+    let begun = subst (λ (stage : Stage). Gives stage last (given_by stage.outputs etched edicts (amount_in stage.left))) same gives in
+    subst (λ all. IsSaid outputs pool (gifts_from pool edicts etched pointer outputs) all) (sym (rest ∙ ap (λ (o : List TxOut). with_rest o last.hands to last.left) (gives.outputs ∙ same_outputs) ∙ ap (λ x. with_rest outputs last.hands x last.left) is))
     (dealt_as_said outputs pool edicts etched (heir outputs pointer) last lawful (heir_within outputs pointer within) begun)
 
 pub if_ok : {A E : Type 0} {P Q : A → Type 0} (r : Result A E) → ((a : A) → P a → Q a) → IfOk r P → IfOk r Q

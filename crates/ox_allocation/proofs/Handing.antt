@@ -1,7 +1,7 @@
 -- Gifts put into hands: what each hand has after them.
 use Rattle.std.proofs.Common.{◌≡◌, ◌∙◌, ℕ, ◌+◌, ◌-◌, ◌^◌, ◌<◌, ◌≤◌, List, [], ◌∷◌, ◌++◌, length, refl, sym, ap, subst, arith, Bool, true, false, slice_index_or, slice_set, zero, suc, Some}
-use Rattle.std.specs.Prelude.{◌==◌, ◌&&◌, slice_get, replicate, if◌then◌else◌}
-use Rattle.std.proofs.lemmas.List.{length-set, get_or-set_same, get_or-set_other, get_or_read}
+use Rattle.std.specs.Prelude.{◌==◌, ◌&&◌, nat_lt, slice_get, replicate, if◌then◌else◌}
+use Rattle.std.proofs.lemmas.List.{length-set, get_or-set_same, get_or-set_other, get_or_read, set_past}
 use Rattle.std.proofs.lemmas.Bool.Decides.{nat_tests}
 use Rattle.std.specs.declared.result.Result.{Result}
 use Rattle.std.specs.declared.result.Result.TheVariants.{Ok, Err}
@@ -52,6 +52,17 @@ pub hand-with_gift : (outputs : List TxOut) (hands : Allocation) (gift : Gift) (
     → amount_in (hand (with_gift outputs hands gift) place) id ≡ amount_in (hand hands place) id + (if burns (slice_get outputs gift.output) then 0 else gain_at place gift id)
 unfolding with_gift
 hand-with_gift outputs hands gift place id within = given_by_test hands gift place id (burns (slice_get outputs gift.output)) within
+
+past_by_test : (hands : Allocation) (gift : Gift) (place : ℕ) (id : RuneId) (burned new : List Balance) (b : Bool) → length hands.given ≤ gift.output
+    → amount_in (hand (if b then record hands { burned = burned } else record hands { given = slice_set hands.given gift.output new }) place) id ≡ amount_in (hand hands place) id
+past_by_test hands gift place id burned new true past = refl
+past_by_test hands gift place id burned new false past = ap (λ (given : List (List Balance)). amount_in (slice_index_or given place []) id) (set_past hands.given gift.output new past)
+
+-- a gift to an output that isn't there changes no hand
+hand_past : (outputs : List TxOut) (hands : Allocation) (gift : Gift) (place : ℕ) (id : RuneId) → length hands.given ≤ gift.output
+    → amount_in (hand (with_gift outputs hands gift) place) id ≡ amount_in (hand hands place) id
+unfolding with_gift
+hand_past outputs hands gift place id past = past_by_test hands gift place id _ _ (burns (slice_get outputs gift.output)) past
 
 burned_by_test : (hands : Allocation) (gift : Gift) (id : RuneId) (given : List (List Balance)) (b : Bool)
     → amount_in (if b then record hands { burned = with_more hands.burned gift.id gift.amount } else record hands { given = given }).burned id
@@ -127,15 +138,28 @@ fits_still : (b : Bool) (had has left amount : ℕ) → has ≤ had + (if b then
 fits_still true had has left amount more enough fits = let e = enough refl in omega arith
 fits_still false had has left amount more enough fits = omega arith
 
-pub fits-with_gift : (outputs : List TxOut) (left : List Balance) (hands : Allocation) (gift : Gift) → gift.output < length hands.given
+at_most_by_test : (outputs : List TxOut) (hands : Allocation) (gift : Gift) (place : ℕ) (id : RuneId) (b : Bool) → nat_lt gift.output (length hands.given) ≡ b
+    → amount_in (hand (with_gift outputs hands gift) place) id ≤ amount_in (hand hands place) id + gain gift id
+at_most_by_test outputs hands gift place id true is =
+    let e = hand-with_gift outputs hands gift place id (grind (arith, nat_tests)) in
+    let m = given_at_most (burns (slice_get outputs gift.output)) (gift.output == place) (is_same gift.id id) gift.amount in
+    omega arith
+at_most_by_test outputs hands gift place id false is =
+    let e = hand_past outputs hands gift place id (grind (arith, nat_tests)) in
+    omega arith
+
+-- what the output at a place has after a gift is at most what it had and the gift
+hand_at_most : (outputs : List TxOut) (hands : Allocation) (gift : Gift) (place : ℕ) (id : RuneId)
+    → amount_in (hand (with_gift outputs hands gift) place) id ≤ amount_in (hand hands place) id + gain gift id
+hand_at_most outputs hands gift place id = at_most_by_test outputs hands gift place id (nat_lt gift.output (length hands.given)) refl
+
+pub fits-with_gift : (outputs : List TxOut) (left : List Balance) (hands : Allocation) (gift : Gift)
     → gift.amount ≤ amount_in left gift.id → Fits (amount_in left) hands → Fits (less left gift.id gift.amount) (with_gift outputs hands gift)
-fits-with_gift outputs left hands gift within enough fits =
+fits-with_gift outputs left hands gift enough fits =
     let there : (id : RuneId) → is_same gift.id id ≡ true → gift.amount ≤ amount_in left id = λ id is. subst (λ x. gift.amount ≤ amount_in left x) (same_id gift.id id is) enough in
     record {
       given = λ place id.
-          let e = hand-with_gift outputs hands gift place id within in
-          let m = given_at_most (burns (slice_get outputs gift.output)) (gift.output == place) (is_same gift.id id) gift.amount in
-          fits_still (is_same gift.id id) (amount_in (hand hands place) id) _ (amount_in left id) gift.amount (omega arith) (there id) (fits.given place id);
+          fits_still (is_same gift.id id) (amount_in (hand hands place) id) _ (amount_in left id) gift.amount (hand_at_most outputs hands gift place id) (there id) (fits.given place id);
       burned = λ id.
           let e = burned-with_gift outputs hands gift id in
           let m = burned_at_most (burns (slice_get outputs gift.output)) (gain gift id) in

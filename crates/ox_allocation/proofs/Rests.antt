@@ -1,5 +1,5 @@
 -- What the edicts leave, rune by rune.
-use Rattle.std.proofs.Common.{◌≡◌, ◌∙◌, ℕ, ◌+◌, ◌-◌, ◌^◌, ◌<◌, ◌≤◌, List, [], ◌∷◌, length, refl, sym, ap, subst, arith, Bool, true, false, cond, Some}
+use Rattle.std.proofs.Common.{◌≡◌, ◌∙◌, ℕ, ◌+◌, ◌-◌, ◌^◌, ◌<◌, ◌≤◌, List, [], ◌∷◌, refl, sym, ap, subst, arith, Bool, true, false, cond, Some}
 use Rattle.std.specs.Prelude.{unwrap_or, if◌then◌else◌}
 use Rattle.std.specs.BTreeMap.{is_at}
 use Rattle.std.specs.List.Sorted.{IsStrictlySortedBy}
@@ -14,7 +14,7 @@ use Rattle.ox_allocation.specs.Gifts.{Gift}
 use Rattle.ox_allocation.specs.Dealing.{Fits, gifts_for, hand, less, with_all, with_gift, with_gifts}
 use Rattle.ox_allocation.proofs.Ids.{ids_equiv, same_id, same_itself, same_turned}
 use Rattle.ox_allocation.proofs.Amounts.{amount-with_more, find}
-use Rattle.ox_allocation.proofs.Handing.{count-with_gift, fits-with_gift, fits_fewer}
+use Rattle.ox_allocation.proofs.Handing.{fits-with_gift, fits_fewer}
 
 -- the first rune isn't among the others
 pub first_alone : (e : Balance) (rest : List Balance) → IsStrictlySortedBy id_cmp (ids_of (e ∷ rest)) → amount_in rest e.0 ≡ 0
@@ -41,19 +41,16 @@ gift_for place e = record { output = place; id = e.0; amount = e.1 }
 pub record IsHanding (outputs : List TxOut) (place : ℕ) (all : Allocation) (rest : List Balance) (now : Allocation) : Type 0 where
   pub whole : with_gifts outputs now (gifts_for place rest) ≡ all
   pub fits : Fits (amount_in rest) now
-  pub count : length now.given ≡ length outputs
   pub rising : IsStrictlySortedBy id_cmp (ids_of rest)
 
-pub hands_on : (outputs : List TxOut) (place : ℕ) (all : Allocation) (e : Balance) (rest : List Balance) (now new : Allocation) → place < length outputs
+pub hands_on : (outputs : List TxOut) (place : ℕ) (all : Allocation) (e : Balance) (rest : List Balance) (now new : Allocation)
     → IsHanding outputs place all (e ∷ rest) now → new ≡ with_gift outputs now (gift_for place e) → IsHanding outputs place all rest new
 unfolding with_gifts
-hands_on outputs place all e rest now new within is more =
-    let count : place < length now.given = let c = is.count in omega arith in
+hands_on outputs place all e rest now new is more =
     let enough : e.1 ≤ amount_in (e ∷ rest) e.0 = let f = first_amount e rest in omega arith in
     subst (λ hands. IsHanding outputs place all rest hands) (sym more) (record {
       whole = is.whole;
-      fits = fits_fewer (less (e ∷ rest) e.0 e.1) (amount_in rest) _ (fewer e rest is.rising) (fits-with_gift outputs (e ∷ rest) now (gift_for place e) count enough is.fits);
-      count = count-with_gift outputs now (gift_for place e) ∙ is.count;
+      fits = fits_fewer (less (e ∷ rest) e.0 e.1) (amount_in rest) _ (fewer e rest is.rising) (fits-with_gift outputs (e ∷ rest) now (gift_for place e) enough is.fits);
       rising = sorted_tail id_cmp e.0 (ids_of rest) is.rising;
     })
 

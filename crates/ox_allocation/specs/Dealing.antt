@@ -1,6 +1,6 @@
 -- Gifts put into the hands of outputs one after the other, as the code does. What they come to is
 -- said by `Allocation`.
-use Rattle.std.specs.Prelude.{◌≡◌, ℕ, ◌+◌, ◌-◌, ◌^◌, ◌<◌, Bool, false, List, [], ◌∷◌, length, map}
+use Rattle.std.specs.Prelude.{◌≡◌, ℕ, ◌+◌, ◌-◌, ◌^◌, ◌<◌, Bool, false, List, [], ◌∷◌, map}
 use Rattle.std.specs.Prelude.{Option, Some, None, slice_get, slice_index_or, slice_set, replicate}
 use Rattle.std.specs.Prelude.{if◌then◌else◌}
 use Rattle.ox_block.specs.declared.block.TxOut.{TxOut}
@@ -11,7 +11,7 @@ use Rattle.ox_allocation.specs.declared.parts.Parts.TheVariants.{Even, Each}
 use Rattle.ox_allocation.specs.Allocation.{Allocation}
 use Rattle.ox_allocation.specs.Balances.{AreBalances, Balance, amount_in, ids_of, is_same}
 use Rattle.ox_allocation.specs.Balances.{with_more}
-use Rattle.ox_allocation.specs.Gifts.{Gift, Left, even_parts, left_after, parts_while}
+use Rattle.ox_allocation.specs.Gifts.{Gift, Left, even_parts, holders, left_after, parts_while}
 
 -- balances of which each amount is below 2 ^ 128
 pub record IsPool (balances : List Balance) : Type 0 where
@@ -76,14 +76,26 @@ pub record Fits (left : Left) (hands : Allocation) : Type 0 where
   pub given : (place : ℕ) (id : RuneId) → amount_in (hand hands place) id + left id < 2 ^ 128
   pub burned : (id : RuneId) → amount_in hands.burned id + left id < 2 ^ 128
 
--- what is left of a pool, and what has been given of it
+-- outputs, and what they have been given
+pub record Held : Type 0 where
+  pub outputs : List TxOut
+  pub hands : Allocation
+
+-- outputs, what is left of a pool, and what they have been given of it
 pub record Stage : Type 0 where
+  pub outputs : List TxOut
   pub left : List Balance
   pub hands : Allocation
 
+-- what is left fits with what was given, and these are the places of outputs that can
+-- hold runes
+pub record IsDealt (left : Left) (held : Held) (places : List ℕ) : Type 0 where
+  pub fits : Fits left held.hands
+  pub can_hold : places ≡ holders held.outputs
+
 -- gifts are given of what is left
-pub record Gives (outputs : List TxOut) (old new : Stage) (gifts : List Gift) : Type 0 where
-  pub hands : new.hands ≡ with_gifts outputs old.hands gifts
+pub record Gives (old new : Stage) (gifts : List Gift) : Type 0 where
+  pub outputs : new.outputs ≡ old.outputs
+  pub hands : new.hands ≡ with_gifts old.outputs old.hands gifts
   pub left : amount_in new.left ≡ left_after gifts (amount_in old.left)
   pub ids : ids_of new.left ≡ ids_of old.left
-  pub count : length new.hands.given ≡ length old.hands.given

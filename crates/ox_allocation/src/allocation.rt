@@ -42,14 +42,14 @@ pub fn allocate(
         a.burned ≡ (allocation_of pool edicts.now etched pointer outputs.now).burned) }
 {
     let holders = holders_of(alloc, outputs)?;
-    let mut deal = Deal::new(pool, Hands::empty(alloc, outputs.len())?);
+    let mut deal = Deal::new(pool, Hands::empty(alloc, outputs)?, &holders);
     for edict in edicts {
-        deal.follow(outputs, &holders, etched, edict)?;
+        deal.follow(etched, edict)?;
     }
     let heir = match pointer {
         Some(place) => Some(place as usize),
         None => holders.first().copied(),
     };
-    let hands = deal.give_rest(outputs, heir)?;
+    let hands = deal.give_rest(heir)?;
     hands.into_allocated(alloc)
 }

@@ -43,34 +43,44 @@ fn rune_of(etched: Option<RuneId>, id: RuneId) -> Option<RuneId>
     }
 }
 
-/// A pool while it is dealt: what is left of each rune, and what has been given.
+/// A pool while it is dealt: what is left of each rune, what the outputs have been given, and the
+/// places of those that can hold runes. Contracts see the first two.
 #[derive(Drop)]
-pub(crate) struct Deal {
+pub(crate) struct Deal<'a> {
     left: Amounts,
-    hands: Hands,
+    hands: Hands<'a>,
+    holders: &'a [usize],
 }
 
-impl Model for Deal {
+impl<'a> Model for Deal<'a> {
+    ghost use Rattle.std.specs.Prelude.{◌≡◌};
     ghost use Rattle.ox_allocation.specs.Balances.{amount_in};
-    ghost use Rattle.ox_allocation.specs.Dealing.{Fits, Stage};
+    ghost use Rattle.ox_allocation.specs.Dealing.{IsDealt, Stage};
 
     ghost Value = { Stage };
 
-    ghost view = { λ deal. record { left = deal.left; hands = deal.hands } };
+    ghost view = { λ deal. record {
+      outputs = deal.hands.outputs;
+      left = deal.left;
+      hands = deal.hands.hands;
+    } };
 
-    ghost invariant = { λ deal. Fits (amount_in deal.left) deal.hands };
+    ghost invariant = { λ deal. IsDealt (amount_in deal.left) deal.hands deal.holders.now };
 }
 
-impl Deal {
-    /// A pool of which nothing has been given yet.
-    pub(crate) fn new(pool: Pool, hands: Hands) -> Deal
-        requires { hands ≡ empty_hands (length hands.given) }
+impl<'a> Deal<'a> {
+    /// A pool of which nothing has been given yet, for outputs of which these can hold runes.
+    pub(crate) fn new(pool: Pool, hands: Hands<'a>, holders: &'a [usize]) -> Deal<'a>
+        requires hands { hands.hands ≡ empty_hands (length hands.outputs) }
+        requires holders { holders.now ≡ holders_in hands.outputs }
+        ensures outputs { result.outputs ≡ hands.entry.outputs }
         ensures left { result.left ≡ pool }
-        ensures hands { result.hands ≡ hands }
+        ensures hands { result.hands ≡ hands.entry.hands }
     {
         Deal {
             left: pool.into_amounts(),
             hands,
+            holders,
         }
     }
 
@@ -82,36 +92,22 @@ impl Deal {
     }
 
     /// Gives so much of a rune to the output at a place.
-    fn give(
-        &mut self,
-        outputs: &[TxOut],
-        place: usize,
-        id: RuneId,
-        amount: u128,
-    ) -> Result<(), Memory>
-        requires place { place < length outputs.now }
-        requires count { length self.old.hands.given ≡ length outputs.now }
+    fn give(&mut self, place: usize, id: RuneId, amount: u128) -> Result<(), Memory>
+        requires place { place < length self.old.outputs }
         requires amount { amount ≤ amount_in self.old.left id }
-        ensures { OnOk result (Gives outputs.now self.old self.new
+        ensures { OnOk result (Gives self.old self.new
             (record { output = place; id = id; amount = amount } ∷ [])) }
     {
-        self.hands.give(outputs, place, id, amount)?;
+        self.hands.give(place, id, amount)?;
         self.left.spend(id, amount);
         Ok(())
     }
 
     /// Deals a rune to the outputs at these places: with amount 0 all that is left, evenly, else
     /// so much to each while it lasts.
-    fn deal(
-        &mut self,
-        outputs: &[TxOut],
-        places: &[usize],
-        id: RuneId,
-        amount: u128,
-    ) -> Result<(), Memory>
-        requires places { AllByRecursion (λ place. place < length outputs.now) places.now }
-        requires count { length self.old.hands.given ≡ length outputs.now }
-        ensures { OnOk result (Gives outputs.now self.old self.new
+    fn deal(&mut self, places: &[usize], id: RuneId, amount: u128) -> Result<(), Memory>
+        requires { AllByRecursion (λ place. place < length self.old.outputs) places.now }
+        ensures { OnOk result (Gives self.old self.new
             (gifts_to id places.now (parts_of amount (amount_in self.old.left id)
             (length places.now)))) }
     {
@@ -121,46 +117,42 @@ impl Deal {
         let mut parts = Parts::new(amount, self.left(id), places.len());
         for place in places {
             let part = parts.take_next();
-            self.give(outputs, *place, id, part)?;
+            self.give(*place, id, part)?;
         }
         Ok(())
     }
 
     /// Does what an edict says.
-    pub(crate) fn follow(
-        &mut self,
-        outputs: &[TxOut],
-        holders: &[usize],
-        etched: Option<RuneId>,
-        edict: &Edict,
-    ) -> Result<(), Memory>
-        requires holders { holders.now ≡ holders_in outputs.now }
-        requires count { length self.old.hands.given ≡ length outputs.now }
-        ensures { OnOk result (Gives outputs.now self.old self.new
-            (gifts_by outputs.now edict.now (amount_in self.old.left)
+    pub(crate) fn follow(&mut self, etched: Option<RuneId>, edict: &Edict) -> Result<(), Memory>
+        ensures { OnOk result (Gives self.old self.new
+            (gifts_by self.old.outputs edict.now (amount_in self.old.left)
             (rune_of etched edict.now.id))) }
     {
         let Some(id) = rune_of(etched, edict.id) else {
             return Ok(());
         };
         let output = edict.output as usize;
-        if output < outputs.len() {
-            self.deal(outputs, &[output], id, edict.amount)
+        if output < self.hands.count() {
+            self.deal(&[output], id, edict.amount)
         } else {
-            self.deal(outputs, holders, id, edict.amount)
+            let holders = self.holders;
+            self.deal(holders, id, edict.amount)
         }
     }
 
     /// Gives what is left to the output at the heir's place, or burns it where there is none.
-    pub(crate) fn give_rest(self, outputs: &[TxOut], heir: Option<usize>) -> Result<Hands, Memory>
-        requires heir { ForSome heir (λ place. place < length outputs.now) }
-        requires count { length self.hands.given ≡ length outputs.now }
-        ensures { IfOk result (λ hands. hands ≡
-            with_rest outputs.now self.hands heir self.left) }
+    pub(crate) fn give_rest(self, heir: Option<usize>) -> Result<Hands<'a>, Memory>
+        requires { ForSome heir (λ place. place < length self.outputs) }
+        ensures { IfOk result (λ held.
+            held.hands ≡ with_rest self.entry.outputs self.entry.hands heir self.entry.left) }
     {
-        let Deal { left, mut hands } = self;
+        let Deal {
+            left,
+            mut hands,
+            ..
+        } = self;
         match heir {
-            Some(place) => hands.give_all(outputs, place, left)?,
+            Some(place) => hands.give_all(place, left)?,
             None => hands.burn_all(left)?,
         }
         Ok(hands)

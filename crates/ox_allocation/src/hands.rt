@@ -15,54 +15,70 @@ use ox_script::is_return;
 use std::alloc::Global;
 use std::marker::Model;
 
-/// The runes that the outputs have been given so far, and those that are burned. Contracts see the
-/// lists of ids and amounts.
+/// The outputs, the runes that they have been given so far, and those that are burned. Contracts
+/// see the outputs, and the lists of ids and amounts.
 #[derive(Drop)]
-pub(crate) struct Hands {
+pub(crate) struct Hands<'a> {
+    outputs: &'a [TxOut],
+    /// What each output has been given, in the outputs' order.
     given: Vec<Pool>,
     burned: Pool,
 }
 
-impl Model for Hands {
-    ghost use Rattle.ox_allocation.specs.Allocation.{Allocation};
+impl<'a> Model for Hands<'a> {
+    ghost use Rattle.std.specs.Prelude.{◌≡◌, length};
+    ghost use Rattle.ox_allocation.specs.Dealing.{Held};
 
-    ghost Value = { Allocation };
+    ghost Value = { Held };
 
-    ghost view = { λ hands. record { given = hands.given.items; burned = hands.burned } };
+    ghost view = { λ held. record {
+      outputs = held.outputs.now;
+      hands = record { given = held.given.items; burned = held.burned };
+    } };
+
+    ghost invariant = { λ held. length held.given.items ≡ length held.outputs.now };
 }
 
-impl Hands {
-    /// Nothing given to so many outputs.
-    pub(crate) fn empty(alloc: Global, count: usize) -> Result<Hands, Memory>
-        ensures { IfOk result (λ hands. hands ≡ empty_hands count) }
+impl<'a> Hands<'a> {
+    /// Nothing given to these outputs. `Memory` where there is none for a hand for each.
+    pub(crate) fn empty(alloc: Global, outputs: &'a [TxOut]) -> Result<Hands<'a>, Memory>
+        ensures { IfOk result (λ held. held ≡ record {
+          outputs = outputs.now;
+          hands = empty_hands (length outputs.now);
+        }) }
     {
+        let count = outputs.len();
         let mut given = Vec::with_capacity(alloc, count)?;
         for _ in 0..count {
             given.push(Pool::new(alloc))?;
         }
         Ok(Hands {
+            outputs,
             given,
             burned: Pool::new(alloc),
         })
     }
 
+    /// How many outputs there are.
+    pub(crate) fn count(&self) -> usize
+        ensures { result ≡ length self.now.outputs }
+    {
+        self.outputs.len()
+    }
+
     /// Gives so much of a rune to the output at a place. What an output with OP_RETURN is given is
     /// burned.
-    pub(crate) fn give(
-        &mut self,
-        outputs: &[TxOut],
-        place: usize,
-        id: RuneId,
-        amount: u128,
-    ) -> Result<(), Memory>
-        requires place { place < length outputs.now }
-        requires count { length self.old.given ≡ length outputs.now }
-        requires given { amount_in (hand self.old place) id + amount < 2 ^ 128 }
-        requires burned { amount_in self.old.burned id + amount < 2 ^ 128 }
-        ensures ok { OnOk result (self.new ≡ with_gift outputs.now self.old
-            (record { output = place; id = id; amount = amount })) }
+    pub(crate) fn give(&mut self, place: usize, id: RuneId, amount: u128) -> Result<(), Memory>
+        requires place { place < length self.old.outputs }
+        requires given { amount_in (hand self.old.hands place) id + amount < 2 ^ 128 }
+        requires burned { amount_in self.old.hands.burned id + amount < 2 ^ 128 }
+        ensures ok { OnOk result (self.new ≡ record self.old {
+          hands = with_gift self.old.outputs self.old.hands
+              (record { output = place; id = id; amount = amount });
+        }) }
         ensures err { OnErr result (self.new ≡ self.old) }
     {
+        let outputs = self.outputs;
         if is_return(outputs[place].script.as_slice()) {
             self.burned.add(id, amount)
         } else {
@@ -71,29 +87,25 @@ impl Hands {
     }
 
     /// Gives these runes to the output at a place.
-    pub(crate) fn give_all(
-        &mut self,
-        outputs: &[TxOut],
-        place: usize,
-        mut runes: Amounts,
-    ) -> Result<(), Memory>
-        requires place { place < length outputs.now }
-        requires count { length self.old.given ≡ length outputs.now }
-        requires fits { Fits (amount_in runes) self.old }
-        ensures { OnOk result (self.new ≡
-            with_gifts outputs.now self.old (gifts_for place runes)) }
+    pub(crate) fn give_all(&mut self, place: usize, mut runes: Amounts) -> Result<(), Memory>
+        requires place { place < length self.old.outputs }
+        requires fits { Fits (amount_in runes) self.old.hands }
+        ensures { OnOk result (self.new ≡ record self.old {
+          hands = with_gifts self.old.outputs self.old.hands (gifts_for place runes);
+        }) }
     {
         while let Some((id, amount)) = runes.pop_first() {
-            self.give(outputs, place, id, amount)?;
+            self.give(place, id, amount)?;
         }
         Ok(())
     }
 
     /// Burns these runes.
     pub(crate) fn burn_all(&mut self, mut runes: Amounts) -> Result<(), Memory>
-        requires { Fits (amount_in runes) self.old }
-        ensures { OnOk result (self.new ≡
-            record self.old { burned = with_all self.old.burned runes }) }
+        requires { Fits (amount_in runes) self.old.hands }
+        ensures { OnOk result (self.new ≡ record self.old {
+          hands = record self.old.hands { burned = with_all self.old.hands.burned runes };
+        }) }
     {
         while let Some((id, amount)) = runes.pop_first() {
             self.burned.add(id, amount)?;
@@ -103,8 +115,8 @@ impl Hands {
 
     /// What each output has, and what is burned, as outputs hold them.
     pub(crate) fn into_allocated(self, alloc: Global) -> Result<Allocated, Memory>
-        ensures given { IfOk result (λ allocated. allocated.given ≡ self.given) }
-        ensures burned { IfOk result (λ allocated. allocated.burned ≡ self.burned) }
+        ensures given { IfOk result (λ allocated. allocated.given ≡ self.entry.hands.given) }
+        ensures burned { IfOk result (λ allocated. allocated.burned ≡ self.entry.hands.burned) }
     {
         let mut given = List::from_vec(Vec::with_capacity(alloc, self.given.len())?);
         for pool in self.given {

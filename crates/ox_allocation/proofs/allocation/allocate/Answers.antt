@@ -1,7 +1,9 @@
-use Rattle.std.proofs.Common.{◌∙◌, ◌≡◌, ap, length, subst, sym}
+use Rattle.std.proofs.Common.{◌∙◌, ◌≡◌, ◌<◌, List, ap, length, subst, sym}
+use Rattle.ox_block.specs.declared.block.TxOut.{TxOut}
 use Rattle.std.specs.Prelude.{slice_get}
 use Rattle.ox_allocation.specs.Allocation.{gifts_from}
 use Rattle.ox_allocation.specs.Balances.{AreBalances}
+use Rattle.ox_allocation.specs.Dealing.{Held}
 use Rattle.ox_allocation.specs.Gifts.{heir, holders}
 use Rattle.ox_allocation.proofs.Dealt.{IsSaid, allocated_as_said, if_ok}
 use Rattle.ox_allocation.proofs.Giving.{follows_end, follows_next, follows_on}
@@ -11,15 +13,19 @@ use Rattle.ox_allocation.proofs.allocation.allocate.Goals.{in-Some, in-None}
 
 pub loop-edict-preserved : goal.loop-edict-preserved
 loop-edict-preserved c =
-    follows_on c.args.outputs.now c.args.etched _ _ _ _ _ _ (follows_next _ _ _ _ c.args.edicts.now c.loop-edict.edict-index _ _ c.loop-edict-test.true c.loop-edict.invariant) c.in_ok-follow.ensures
+    follows_on c.args.etched _ _ _ _ _ _ (follows_next _ _ _ c.args.edicts.now c.loop-edict.edict-index _ _ c.loop-edict-test.true c.loop-edict.invariant) c.in_ok-follow.ensures
 
-pub give_rest-requires-clause-heir : goal.give_rest-requires-clause-heir
-give_rest-requires-clause-heir c = elim c.match-pointer.branch [
-  | in-Some w ↦ λ x is. c.requires.pointer x (w.in-Some.is ∙ (sym w.heir-is ∙ is))
-  | in-None w ↦ λ x is.
-      first_within (length c.args.outputs.now) (holders c.args.outputs.now) (holders_within c.args.outputs.now) x
-      (ap (λ places. slice_get places 0) (sym c.in_ok-holders.ensures) ∙ (ap (λ places. slice_get places 0) (sym w.deref-in-None.ensures.value) ∙ (sym w.first.ensures.value ∙ (sym w.copied-heir.ensures ∙ (sym w.heir-is ∙ is)))))
-]
+pub give_rest-requires : goal.give_rest-requires
+give_rest-requires c =
+    let are : c.loop-edict.deal.outputs ≡ c.args.outputs.now =
+    (follows_end _ _ _ c.args.edicts.now c.loop-edict.edict-index _ c.loop-edict-test.false c.loop-edict.invariant).outputs ∙ (c.new-deal.ensures.outputs ∙ ap (λ (held : Held). held.outputs) c.in_ok-empty.ensures)
+    in elim c.match-pointer.branch [
+      | in-Some w ↦ λ x is. subst (λ (outputs : List TxOut). x < length outputs) (sym are) (c.requires.pointer x (w.in-Some.is ∙ (sym w.heir-is ∙ is)))
+      | in-None w ↦ λ x is.
+          subst (λ (outputs : List TxOut). x < length outputs) (sym are)
+          (first_within (length c.args.outputs.now) (holders c.args.outputs.now) (holders_within c.args.outputs.now) x
+          (ap (λ places. slice_get places 0) (sym c.in_ok-holders.ensures) ∙ (ap (λ places. slice_get places 0) (sym w.deref-in-None.ensures.value) ∙ (sym w.first.ensures.value ∙ (sym w.copied-heir.ensures ∙ (sym w.heir-is ∙ is))))))
+    ]
 
 -- the heir that the code finds
 heir_is : (c : goal.After-drop-holders-2) → c.match-pointer.heir ≡ heir c.args.outputs.now c.args.pointer
@@ -30,11 +36,11 @@ heir_is c = elim c.match-pointer.branch [
       ∙ (ap (λ places. slice_get places 0) c.in_ok-holders.ensures ∙ sym (ap (heir c.args.outputs.now) w.in-None.is)))))
 ]
 
-said : (c : goal.After-drop-holders-2) → IsSaid c.args.outputs.now c.args.pool (gifts_from c.args.pool c.args.edicts.now c.args.etched c.args.pointer c.args.outputs.now) c.in_ok-hands.hands
+said : (c : goal.After-drop-holders-2) → IsSaid c.args.outputs.now c.args.pool (gifts_from c.args.pool c.args.edicts.now c.args.etched c.args.pointer c.args.outputs.now) c.in_ok-hands.hands.hands
 said c =
-    allocated_as_said c.args.outputs.now c.args.pool c.args.edicts.now c.args.etched c.args.pointer c.match-pointer.heir c.new-deal.result c.loop-edict.deal c.in_ok-hands.hands
-    (subst AreBalances c.pool.view_is c.pool.invariant.lawful) c.requires.pointer (heir_is c) (c.new-deal.ensures.left ∙ c.pool.view_is) (c.new-deal.ensures.hands ∙ c.in_ok-empty.ensures)
-    (follows_end _ _ _ _ c.args.edicts.now c.loop-edict.edict-index _ c.loop-edict-test.false c.loop-edict.invariant) c.in_ok-hands.ensures
+    allocated_as_said c.args.outputs.now c.args.pool c.args.edicts.now c.args.etched c.args.pointer c.match-pointer.heir c.new-deal.result c.loop-edict.deal c.in_ok-hands.hands.hands
+    (subst AreBalances c.pool.view_is c.pool.invariant.lawful) c.requires.pointer (heir_is c) (c.new-deal.ensures.outputs ∙ ap (λ (held : Held). held.outputs) c.in_ok-empty.ensures) (c.new-deal.ensures.left ∙ c.pool.view_is) (c.new-deal.ensures.hands ∙ ap (λ (held : Held). held.hands) c.in_ok-empty.ensures)
+    (follows_end _ _ _ c.args.edicts.now c.loop-edict.edict-index _ c.loop-edict-test.false c.loop-edict.invariant) c.in_ok-hands.ensures
 
 pub returns-clause-given : goal.returns-clause-given
 returns-clause-given c = if_ok c.into_allocated.result (λ a is. is ∙ (said c).given) c.into_allocated.ensures.given

@@ -6,4 +6,4 @@ use Rattle.ox_allocation.proofs.allocation.allocate.Given as goal
 
 abbrev pub invariant-loop-edict : goal.invariant-loop-edict
 invariant-loop-edict l =
-    IsFollowing l.outputs l.etched l.initial.deal (given_by l.outputs l.etched l.edicts (amount_in l.initial.deal.left)) (drop l.edict-index l.edicts) l.deal
+    IsFollowing l.etched l.initial.deal (given_by l.initial.deal.outputs l.etched l.edicts (amount_in l.initial.deal.left)) (drop l.edict-index l.edicts) l.deal

@@ -10,6 +10,7 @@ abbrev pub invariant-loop-id : goal.invariant-loop-id
 invariant-loop-id l = record {
   burning : IsStrictlySortedBy id_cmp (ids_of l.runes) → IsBurning (with_all l.initial.self-inside.burned l.initial.runes) l.runes l.self-inside.burned;
   given : l.self-inside.given ≡ l.initial.self-inside.given;
+  outputs : l.self-inside.outputs.now ≡ l.initial.self-inside.outputs.now;
 }
 
 abbrev pub decreases-loop-id : goal.decreases-loop-id
