@@ -1,7 +1,7 @@
 -- Lists by the values at their places.
 use Rattle.std.proofs.Common.{◌≡◌, ◌≢◌, ◌∙◌, ℕ, zero, suc, ◌+◌, ◌<◌, ◌≤◌, Bool, true, false, true≢false, cond, List, [], ◌∷◌, ◌++◌, length, take, refl, sym, ap, subst, Option, Some, None, arith, length-append, Ordering}
 use Rattle.std.specs.Prelude.{IsSome, slice_get, slice_set}
-use Rattle.std.specs.Option.{IfSome, option_map}
+use Rattle.std.specs.Option.{IfSome, option_map, unwrap_or}
 use Rattle.std.specs.Ordering.{is_eq, nat_cmp}
 use Rattle.std.specs.declared.cmp.Ordering.TheVariants.{Less, Equal, Greater}
 use Rattle.std.specs.Cmp.{tied_itself}
@@ -51,6 +51,9 @@ module _ {A : Type 0} where
       let before = length-listed at n (full_below at (suc n) n (omega arith) full) in
       let last = one_long (at n) (full n (omega arith)) in
       omega (arith, length-append (listed at n) (as_list (at n)), before, last)
+
+  pub full_same : (a b : ℕ → Option A) (n : ℕ) → ((i : ℕ) → b i ≡ a i) → IsFull a n → IsFull b n
+  full_same a b n same full = λ i less. subst IsSome (sym (same i)) (full i less)
 
   pub listed_same : (a b : ℕ → Option A) (n : ℕ) → ((i : ℕ) → i < n → a i ≡ b i) → listed a n ≡ listed b n
   unfolding listed
@@ -197,10 +200,29 @@ module _ {A : Type 0} where
   get_some at n place now full shown less none =
       true≢false (sym (subst IsSome (sym none) (full place (within_below at n place now full shown less))))
 
-  -- the list at a mark
-  abbrev pub listed_then : Option (ℕ → Option A) → ℕ → Option (List A)
-  listed_then mark n = option_map (λ at. listed at n) mark
+  -- ---- the list at a mark
 
-  pub then_length : (mark : Option (ℕ → Option A)) (n : ℕ) → IfSome mark (λ at. IsFull at n) → IfSome (listed_then mark n) (λ list. n ≡ length list)
-  then_length None n full = tt
-  then_length (Some at) n full = sym (length-listed at n full)
+  pub then_length : (at : ℕ → Option A) (n : Option ℕ) → IfSome n (IsFull at) → IfSome (option_map (listed at) n) (λ list. unwrap_or n 0 ≡ length list)
+  then_length at None full = tt
+  then_length at (Some n) full = sym (length-listed at n full)
+
+  -- what there is at the places before the mark's last one stays
+  abbrev pub Stays : (ℕ → Option A) → (ℕ → Option A) → Option ℕ → Type 0
+  Stays old new n = (q : ℕ) → q < unwrap_or n 0 → IsSome (old q) → new q ≡ old q
+
+  pub then_same : (old new : ℕ → Option A) (n : Option ℕ) → Stays old new n → IfSome n (IsFull old) → option_map (listed new) n ≡ option_map (listed old) n
+  then_same old new None same full = refl
+  then_same old new (Some n) same full = ap Some (listed_same new old n (λ i less. same i less (full i less)))
+
+  pub then_full : (old new : ℕ → Option A) (n : Option ℕ) → Stays old new n → IfSome n (IsFull old) → IfSome n (IsFull new)
+  then_full old new None same full = tt
+  then_full old new (Some n) same full = λ i less. subst IsSome (sym (same i less (full i less))) (full i less)
+
+  -- with a mark it is the list of what stood then
+  pub then_is : (at : ℕ → Option A) (n : Option ℕ) (mark : Option (List A)) → option_map (listed at) n ≡ mark → IsSome mark → mark ≡ Some (listed at (unwrap_or n 0))
+  then_is at None mark shown some = absurd (true≢false (sym (subst IsSome (sym shown) some)))
+  then_is at (Some n) mark shown some = sym shown
+
+  pub then_now : (at : ℕ → Option A) (n : Option ℕ) (mark : Option (List A)) → option_map (listed at) n ≡ mark → IsSome mark → IfSome n (IsFull at) → IsFull at (unwrap_or n 0)
+  then_now at None mark shown some full = absurd (true≢false (sym (subst IsSome (sym shown) some)))
+  then_now at (Some n) mark shown some full = full
