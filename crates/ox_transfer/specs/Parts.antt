@@ -7,7 +7,7 @@ use Rattle.ox_rules.specs.declared.moved.Moved.{Moved}
 use Rattle.ox_rules.specs.declared.refusal.Refusal.{Refusal}
 use Rattle.ox_rules.specs.Outputs.{Outputs}
 use Rattle.ox_rules.specs.Transfer.{Taken, Placed, Spent, Transferred}
-use Rattle.ox_transfer.specs.declared.spend.Work.{Work}
+use Rattle.ox_transfer.specs.declared.so_far.MovedSoFar.{MovedSoFar}
 
 -- the satoshis of all outputs, one by one
 abbrev pub values : List TxOut → List ℕ
@@ -22,9 +22,9 @@ abbrev pub placed_of : List OutRow → Outputs → Placed
 placed_of displaced outs = record { displaced = displaced; outs = outs }
 
 -- what transactions did so far, with the table
-abbrev pub spent_of : Work → Outputs → Spent
-spent_of work outs =
-    record { moved = work.moved.items; lost = work.lost; fees = work.fees; outs = outs }
+abbrev pub spent_of : MovedSoFar → Outputs → Spent
+spent_of so_far outs =
+    record { moved = so_far.moved.items; lost = so_far.lost; fees = so_far.fees; outs = outs }
 
 -- what one did behind what those before did
 abbrev pub behind : Spent → Spent → Spent

@@ -6,6 +6,7 @@ mod deal;
 mod fault;
 mod moving;
 mod place;
+mod so_far;
 mod spend;
 mod take;
 

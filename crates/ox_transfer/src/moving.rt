@@ -14,7 +14,8 @@ ghost use Rattle.ox_transfer.specs.Parts.{spent_of, transferred_of};
 use crate::deal::{deal_out, value_sum};
 use crate::fault::TransferFault;
 use crate::place::place_outputs;
-use crate::spend::{Work, spend_txs};
+use crate::so_far::MovedSoFar;
+use crate::spend::spend_txs;
 use ox_block::{Block, Tx, Txid, Txids};
 use ox_range::Ranges;
 use ox_rules::{DisplacedRows, Moved, MovedTx, MovedTxs, OutTable, Refusal, SpentRows};
@@ -23,26 +24,27 @@ use std::alloc::Global;
 
 /// The coinbase, with its id, which claims the subsidy's satoshis and then the fees.
 fn claim_all<O: OutTable>(
-    alloc: Global,
     table: &mut O,
     p: &Profile,
-    height: u32,
     coinbase: &Tx,
     id: Txid,
-    mut work: Work,
+    mut so_far: MovedSoFar,
 ) -> Result<Moved, TransferFault>
     requires known { IsProfile p.now }
     requires id { id.0 ≡ txid coinbase.now }
     requires counted { Counted coinbase.now }
-    requires apart { Apart (first_at p.now height) (O.contents table.old) (work.lost ++ work.fees) }
+    requires apart { Apart (first_at p.now so_far.height) (O.contents table.old)
+        (so_far.lost ++ so_far.fees) }
     ensures claimed { Answers (λ moved. transferred_of moved (O.contents table.new)) result
-        (claim p.now height coinbase.now (spent_of work (O.contents table.old))) }
+        (claim p.now so_far.height coinbase.now (spent_of so_far (O.contents table.old))) }
     ensures mark { O.marked table.new ≡ O.marked table.old }
 {
+    let alloc = so_far.alloc;
+    let height = so_far.height as u64;
     let outputs = coinbase.outputs.as_slice();
     let total = value_sum(outputs);
-    let mut sats = Ranges::one(alloc, first(p, height as u64), subsidy(p, height as u64))?;
-    sats.join(&work.fees)?;
+    let mut sats = Ranges::one(alloc, first(p, height), subsidy(p, height))?;
+    sats.join(&so_far.fees)?;
     let claimable = sats.len();
     if claimable < total {
         return Err(TransferFault::Refused(Refusal::Overclaim {
@@ -50,27 +52,19 @@ fn claim_all<O: OutTable>(
             claimed: total,
         }));
     }
-    let rest = deal_out(sats, outputs, total, &mut work.parts)?;
-    let displaced = place_outputs(
-        alloc,
-        table,
-        height,
-        id,
-        outputs,
-        &mut work.parts,
-        &mut work.lost,
-    )?;
-    work.lost.join(&rest)?;
+    let rest = deal_out(sats, outputs, total, &mut so_far.parts)?;
+    let displaced = place_outputs(table, id, outputs, &mut so_far)?;
+    so_far.lost.join(&rest)?;
     let entry = MovedTx {
         txid: id,
         spent: SpentRows::new(alloc),
         joined: Ranges::empty(alloc),
         displaced: DisplacedRows::from_vec(displaced),
     };
-    work.moved.insert(0, entry)?;
+    so_far.moved.insert(0, entry)?;
     Ok(Moved {
-        txs: MovedTxs::from_vec(work.moved),
-        lost: work.lost,
+        txs: MovedTxs::from_vec(so_far.moved),
+        lost: so_far.lost,
     })
 }
 
@@ -97,8 +91,8 @@ fn transfer_txs<O: OutTable>(
     let Some((id, ids)) = ids.as_slice().split_first() else {
         unreachable!()
     };
-    let work = spend_txs(alloc, table, height, txs, ids)?;
-    claim_all(alloc, table, p, height, coinbase, Txid(*id), work)
+    let so_far = spend_txs(alloc, table, height, txs, ids)?;
+    claim_all(table, p, coinbase, Txid(*id), so_far)
 }
 
 /// Moves the satoshis of a block that stands at this height, first-in first-out (BIP draft "Ordinal

@@ -9,10 +9,10 @@ ghost use Rattle.ox_transfer.specs.Apart.{Apart};
 ghost use Rattle.ox_rules.specs.Deal.{all_parts};
 ghost use Rattle.ox_transfer.specs.Parts.{placed_of};
 
+use crate::so_far::MovedSoFar;
 use ox_block::{OutPoint, TxOut, Txid};
 use ox_range::Ranges;
 use ox_rules::{Memory, OutRow, OutTable};
-use std::alloc::Global;
 
 /// Places a row. One that it displaces goes to the displaced ones, and its satoshis are lost.
 fn place_row<O: OutTable>(
@@ -42,41 +42,41 @@ fn place_row<O: OutTable>(
 /// last output's is the first, and leaves no part. It answers the rows that are displaced, whose
 /// satoshis are lost.
 pub(crate) fn place_outputs<O: OutTable>(
-    alloc: Global,
     table: &mut O,
-    height: u32,
     txid: Txid,
     outputs: &[TxOut],
-    parts: &mut Vec<Ranges>,
-    lost: &mut Ranges,
+    so_far: &mut MovedSoFar,
 ) -> Result<Vec<OutRow>, Memory>
     requires few { length outputs.now ≤ most_bytes }
-    requires each { length (reverse parts.old.items) ≡ length outputs.now }
+    requires each { length (reverse so_far.old.parts.items) ≡ length outputs.now }
     requires apart { Apart (2 ^ 63) (O.contents table.old)
-        (all_parts (reverse parts.old.items) ++ lost.old) }
+        (all_parts (reverse so_far.old.parts.items) ++ so_far.old.lost) }
     ensures rows { IfOk result
-        (λ displaced.
-        place_rows height txid 0 outputs.now (reverse parts.old.items) (O.contents table.old)
+        (λ displaced. place_rows so_far.old.height txid 0 outputs.now
+        (reverse so_far.old.parts.items) (O.contents table.old)
         ≡ placed_of displaced.items (O.contents table.new)) }
-    ensures lost { IfOk result (λ displaced. lost.new ≡ lost.old ++ sats_of displaced.items) }
-    ensures emptied { OnOk result (parts.new.items ≡ []) }
+    ensures lost { IfOk result
+        (λ displaced. so_far.new.lost ≡ so_far.old.lost ++ sats_of displaced.items) }
+    ensures emptied { OnOk result (so_far.new.parts.items ≡ []) }
+    ensures others { OnOk result (so_far.new
+        ≡ record so_far.old { lost = so_far.new.lost; parts = so_far.new.parts }) }
     ensures mark { O.marked table.new ≡ O.marked table.old }
 {
-    let mut displaced = Vec::new(alloc);
+    let mut displaced = Vec::new(so_far.alloc);
     for (index, output) in outputs.iter().enumerate() {
-        let Some(sats) = parts.pop() else {
+        let Some(sats) = so_far.parts.pop() else {
             unreachable!()
         };
         let row = OutRow {
-            script: output.script.try_clone(alloc)?,
-            height,
+            script: output.script.try_clone(so_far.alloc)?,
+            height: so_far.height,
             sats,
         };
         let at = OutPoint {
             txid,
             index: index as u32,
         };
-        place_row(table, at, row, &mut displaced, lost)?;
+        place_row(table, at, row, &mut displaced, &mut so_far.lost)?;
     }
     Ok(displaced)
 }

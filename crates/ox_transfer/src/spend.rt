@@ -1,6 +1,6 @@
 //! The transactions other than the coinbase.
 
-ghost use Rattle.std.specs.Prelude.{◌≡◌, ◌≤◌, ◌^◌, ◌++◌, [], length, map, OnOk};
+ghost use Rattle.std.specs.Prelude.{◌≡◌, ◌≤◌, ◌^◌, ◌++◌, [], length, map, IfOk, OnOk};
 ghost use Rattle.std.specs.List.{All};
 ghost use Rattle.ox_block.specs.Hashes.{txid};
 ghost use Rattle.ox_block.specs.Spelling.{most_bytes};
@@ -13,43 +13,33 @@ ghost use Rattle.ox_transfer.specs.Parts.{spent_of, all_behind};
 use crate::deal::{deal_out, value_sum};
 use crate::fault::TransferFault;
 use crate::place::place_outputs;
+use crate::so_far::MovedSoFar;
 use crate::take::take_inputs;
 use ox_block::{Tx, Txid};
 use ox_range::Ranges;
 use ox_rules::{DisplacedRows, MovedTx, OutTable, Refusal};
 use std::alloc::Global;
 
-/// What transactions did so far: their entries, the satoshis that are lost by displacement, and the
-/// fees. The room for the parts of one transaction's outputs serves each in turn.
-#[derive(Drop)]
-pub(crate) struct Work {
-    pub(crate) moved: Vec<MovedTx>,
-    pub(crate) lost: Ranges,
-    pub(crate) fees: Ranges,
-    pub(crate) parts: Vec<Ranges>,
-}
-
 /// A transaction at a place of the block other than the coinbase's, with its id.
 fn spend_tx<O: OutTable>(
-    alloc: Global,
     table: &mut O,
-    height: u32,
     place: u32,
     tx: &Tx,
     id: Txid,
-    work: &mut Work,
+    so_far: &mut MovedSoFar,
 ) -> Result<(), TransferFault>
     requires id { id.0 ≡ txid tx.now }
     requires counted { Counted tx.now }
-    requires apart { Apart (2 ^ 63) (O.contents table.old) (work.old.lost ++ work.old.fees) }
-    ensures spent { Answers (λ _. spent_of work.new (O.contents table.new)) result
-        (all_behind (spent_of work.old (O.contents table.old))
-        (spend height place tx.now (O.contents table.old))) }
+    requires apart { Apart (2 ^ 63) (O.contents table.old) (so_far.old.lost ++ so_far.old.fees) }
+    ensures spent { Answers (λ _. spent_of so_far.new (O.contents table.new)) result
+        (all_behind (spent_of so_far.old (O.contents table.old))
+        (spend so_far.old.height place tx.now (O.contents table.old))) }
     ensures apart { OnOk result
-        (Apart (2 ^ 63) (O.contents table.new) (work.new.lost ++ work.new.fees)) }
+        (Apart (2 ^ 63) (O.contents table.new) (so_far.new.lost ++ so_far.new.fees)) }
+    ensures height { OnOk result (so_far.new.height ≡ so_far.old.height) }
     ensures mark { O.marked table.new ≡ O.marked table.old }
 {
-    let taken = take_inputs(alloc, table, place, tx.inputs.as_slice())?;
+    let taken = take_inputs(so_far.alloc, table, place, tx.inputs.as_slice())?;
     let outputs = tx.outputs.as_slice();
     let total = value_sum(outputs);
     let held = taken.sats.len();
@@ -60,19 +50,11 @@ fn spend_tx<O: OutTable>(
             outputs: total,
         }));
     }
-    let joined = taken.sats.copy(alloc)?;
-    let rest = deal_out(taken.sats, outputs, total, &mut work.parts)?;
-    let displaced = place_outputs(
-        alloc,
-        table,
-        height,
-        id,
-        outputs,
-        &mut work.parts,
-        &mut work.lost,
-    )?;
-    work.fees.join(&rest)?;
-    work.moved.push(MovedTx {
+    let joined = taken.sats.copy(so_far.alloc)?;
+    let rest = deal_out(taken.sats, outputs, total, &mut so_far.parts)?;
+    let displaced = place_outputs(table, id, outputs, so_far)?;
+    so_far.fees.join(&rest)?;
+    so_far.moved.push(MovedTx {
         txid: id,
         spent: taken.rows,
         joined,
@@ -88,16 +70,19 @@ pub(crate) fn spend_txs<O: OutTable>(
     height: u32,
     txs: &[Tx],
     ids: &[[u8; 32]],
-) -> Result<Work, TransferFault>
+) -> Result<MovedSoFar, TransferFault>
     requires ids { ids.now ≡ map txid txs.now }
     requires few { length txs.now ≤ most_bytes }
     requires counted { All Counted txs.now }
     requires apart { Apart (2 ^ 63) (O.contents table.old) [] }
-    ensures spent { Answers (λ work. spent_of work (O.contents table.new)) result
+    ensures spent { Answers (λ so_far. spent_of so_far (O.contents table.new)) result
         (spend_all height 1 txs.now (O.contents table.old)) }
+    ensures height { IfOk result (λ so_far. so_far.height ≡ height) }
     ensures mark { O.marked table.new ≡ O.marked table.old }
 {
-    let mut work = Work {
+    let mut so_far = MovedSoFar {
+        alloc,
+        height,
         // The coinbase's entry has room too.
         moved: Vec::with_capacity(alloc, txs.len() + 1)?,
         lost: Ranges::empty(alloc),
@@ -106,7 +91,7 @@ pub(crate) fn spend_txs<O: OutTable>(
     };
     for (index, tx) in txs.iter().enumerate() {
         let id = Txid(ids[index]);
-        spend_tx(alloc, table, height, index as u32 + 1, tx, id, &mut work)?;
+        spend_tx(table, index as u32 + 1, tx, id, &mut so_far)?;
     }
-    Ok(work)
+    Ok(so_far)
 }

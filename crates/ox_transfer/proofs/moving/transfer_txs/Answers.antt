@@ -1,8 +1,10 @@
-use Rattle.std.proofs.Common.{◌∙◌, ◌≤◌, List, length, sym, ap, subst, arith}
+use Rattle.std.proofs.Common.{◌∙◌, ◌≤◌, ◌++◌, ℕ, List, length, sym, ap, subst, arith}
 use Rattle.std.specs.List.{AllByRecursion}
 use Rattle.std.proofs.lemmas.List.Elements.{All-from_recursion}
 use Rattle.ox_block.specs.declared.block.Tx.{Tx}
 use Rattle.ox_block.specs.Spelling.{most_bytes}
+use Rattle.ox_sat.specs.Heights.{first_at}
+use Rattle.ox_transfer.specs.Apart.{Apart}
 use Rattle.ox_transfer.specs.Counts.{Counted}
 use Rattle.ox_transfer.specs.Parts.{spent_of}
 use Rattle.ox_transfer.proofs.Once.{apart_first}
@@ -30,5 +32,6 @@ claim_all-requires g c =
       known = c.requires.known;
       id = (ids_split c.in-Some-split_first.id.now c.in-Some-split_first.ids.now c.args.ids.now c.in-Some.coinbase.now c.in-Some.txs.now c.args.block.now.txs (sym c.as_slice-2.ensures ∙ c.in-Some-split_first.ensures.cases.0) begun c.requires.ids).0;
       counted = all.0;
-      apart = apart_all _ c.args.height c.in-Some.txs.now _ (spent_of c.in_ok-work.work (g.O.OutTable.contents c.spend_txs.new.table)) c.in_ok-work.ensures.spent c.requires.once;
+      apart = subst (λ (height : ℕ). Apart (first_at c.args.p.now height) (g.O.OutTable.contents c.spend_txs.new.table) (c.in_ok-so_far.so_far.lost ++ c.in_ok-so_far.so_far.fees)) (sym c.in_ok-so_far.ensures.height)
+          (apart_all _ c.args.height c.in-Some.txs.now _ (spent_of c.in_ok-so_far.so_far (g.O.OutTable.contents c.spend_txs.new.table)) c.in_ok-so_far.ensures.spent c.requires.once);
     }
