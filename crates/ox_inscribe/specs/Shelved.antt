@@ -120,6 +120,11 @@ pub record AreKeysUpTo (rows : List InsRow) (row : InsRow) (keys : Keys) : Type 
       (id : InsId) → IsEither (numbers_where (has_parent id) 0 rows)
       (numbers_where (has_parent id) 0 (rows ++ row ∷ [])) (at id_cmp keys.parents id)
 
+-- the maps find these rows, of which numbers of 32 bits tell
+pub record AreFound (rows : List InsRow) (keys : Keys) : Type 0 where
+  pub found : AreKeys rows keys
+  pub small : length rows < 2 ^ 32
+
 -- the places of those of these rows that are cursed, rising
 abbrev pub AreCursed : List InsRow → Cursed → Type 0
 AreCursed rows cursed =
@@ -127,11 +132,9 @@ AreCursed rows cursed =
 
 -- so many of these rows are shown, and so many stood at the mark: rows are hidden only where no row
 -- came since
-pub record IsShelf (rows : List InsRow) (keys : Keys) (cursed : Cursed) (shown : ℕ)
-    (mark : Option ℕ) : Type 0 where
-  pub found : AreKeys rows keys
+pub record IsShelf (rows : List InsRow) (cursed : Cursed) (shown : ℕ) (mark : Option ℕ)
+    : Type 0 where
   pub noted : AreCursed rows cursed
-  pub small : length rows < 2 ^ 32
   pub fits : shown ≤ length rows
   pub marked : unwrap_or mark 0 ≤ length rows
   pub hidden : shown < length rows → mark ≡ Some (length rows)

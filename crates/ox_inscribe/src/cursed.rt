@@ -1,6 +1,6 @@
 //! Which rows are cursed.
 
-ghost use Rattle.std.specs.Prelude.{◌≡◌, ◌^◌, ◌<◌, ◌≤◌, [], ◌∷◌, ◌++◌, List, length, slice_get, take};
+ghost use Rattle.std.specs.Prelude.{◌≡◌, ◌<◌, ◌≤◌, [], ◌∷◌, ◌++◌, List, length, slice_get, take};
 ghost use Rattle.std.specs.Prelude.{Some, OnOk, OnErr, if◌then◌else◌};
 ghost use Rattle.std.specs.List.Sorted.{IsStrictlyIncreasing};
 ghost use Rattle.ox_inscribe.specs.Shelved.{AreCursed};
@@ -9,7 +9,7 @@ ghost use Rattle.ox_inscribe.specs.declared.row.InsRow.{InsRow};
 
 use crate::numbers::numbers_below;
 use crate::row::InsRow;
-use crate::shared::SharedRow;
+use crate::rows::Rows;
 use ox_bytes::Memory;
 use std::alloc::Global;
 
@@ -60,27 +60,25 @@ impl Cursed {
 
     /// Puts the places of those from one on that are cursed behind the others, as far as there is
     /// memory.
-    fn note_what_fits(&mut self, rows: &[SharedRow], from: usize) -> Result<(), Memory>
+    fn note_what_fits(&mut self, rows: &Rows, from: u32) -> Result<(), Memory>
         requires before { AreCursed (take from rows.now) self.old }
         requires from { from ≤ length rows.now }
-        requires small { length rows.now < 2 ^ 32 }
         ensures ok { OnOk result (AreCursed rows.now self.new) }
         ensures front { take (length self.old.places.items) self.new.places.items
             ≡ self.old.places.items }
         ensures jubilee { self.new.jubilee ≡ self.old.jubilee }
     {
         for place in from..rows.len() {
-            self.note_row(rows[place].row(), place as u32)?;
+            self.note_row(rows.row(place), place)?;
         }
         Ok(())
     }
 
     /// Notes which of the rows from a place on are cursed. `Memory` where there is none for it:
     /// nothing has changed then.
-    pub(crate) fn note(&mut self, rows: &[SharedRow], from: usize) -> Result<(), Memory>
+    pub(crate) fn note(&mut self, rows: &Rows, from: u32) -> Result<(), Memory>
         requires before { AreCursed (take from rows.now) self.old }
         requires from { from ≤ length rows.now }
-        requires small { length rows.now < 2 ^ 32 }
         ensures ok { OnOk result (AreCursed rows.now self.new) }
         ensures err { OnErr result (AreCursed (take from rows.now) self.new) }
         ensures jubilee { self.new.jubilee ≡ self.old.jubilee }
@@ -96,7 +94,7 @@ impl Cursed {
     }
 
     /// Keeps those of the first rows alone, so many at most. It takes no memory.
-    pub(crate) fn truncate(&mut self, len: usize)
+    pub(crate) fn truncate(&mut self, len: u32)
         requires rise { IsStrictlyIncreasing self.old.places.items }
         ensures rows { (rows : List InsRow) → AreCursed rows self.old
             → AreCursed (take len rows) self.new }
@@ -107,13 +105,13 @@ impl Cursed {
     }
 
     /// The signed number of the row at a place. It costs by the logarithm of how many are cursed.
-    pub(crate) fn number(&self, rows: &[SharedRow], place: u32) -> i64
+    pub(crate) fn number(&self, rows: &Rows, place: u32) -> i64
         requires all { AreCursed rows.now self.now }
         requires there { place < length rows.now }
         ensures { number_at self.now.jubilee rows.now place ≡ Some result }
     {
-        let cursed = numbers_below(&self.places, place as usize).len() as u32;
-        let row = rows[place as usize].row();
-        signed(row.is_cursed(self.jubilee), cursed, place - cursed)
+        let cursed = numbers_below(&self.places, place).len() as u32;
+        let is_cursed = rows.row(place).is_cursed(self.jubilee);
+        signed(is_cursed, cursed, place - cursed)
     }
 }

@@ -11,5 +11,5 @@ returns-clause-rows c =
     let txs : c.behind_first-txs.result.now ≡ drop 1 c.args.block.now.txs = c.behind_first-txs.ensures ∙ ap (λ (all : List Tx). drop 1 all) c.as_slice.ensures in
     let moved : c.behind_first-moved.result.now ≡ drop 1 c.args.moved.now.txs = c.behind_first-moved.ensures ∙ ap (λ (all : List MovedTx). drop 1 all) c.as_slice-2.ensures in
     on_ok c.put_in_order.result c.put_in_order.ensures.rows
-    (λ is. ordered c.args.rows.now.items c.reveal_txs.new.rows.items c.put_in_order.new.rows.items c.deref.result.now _ c.in_ok-fees.ensures.rows (c.deref.ensures.value ∙ c.in_ok-fees.ensures.fees) is
-    ∙ ap₂ (λ (ts : List Tx) (ms : List MovedTx). c.args.rows.now.items ++ in_order (revealed_by_all c.args.rows.now.items (revealing_all c.args.height ts ms))) txs moved)
+    (λ is. ordered c.args.rows.now c.reveal_txs.new.rows c.put_in_order.new.rows c.deref.result.now _ c.in_ok-fees.ensures.rows (c.deref.ensures.value ∙ c.in_ok-fees.ensures.fees) is
+    ∙ ap₂ (λ (ts : List Tx) (ms : List MovedTx). c.args.rows.now ++ in_order (revealed_by_all c.args.rows.now (revealing_all c.args.height ts ms))) txs moved)

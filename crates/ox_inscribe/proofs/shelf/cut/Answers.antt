@@ -6,5 +6,5 @@ use Rattle.ox_inscribe.proofs.shelf.cut.Goals as goal
 
 pub truncate-requires : goal.truncate-requires
 truncate-requires c = record {
-  rise = subst IsStrictlyIncreasing (sym c.requires.noted) (numbers_rise (is_cursed c.args.cursed.now.jubilee) 0 c.args.rows.now.items);
+  rise = subst IsStrictlyIncreasing (sym c.requires) (numbers_rise (is_cursed c.args.cursed.now.jubilee) 0 c.args.rows.now);
 }

@@ -1,5 +1,6 @@
 use Rattle.std.proofs.Common.{◌≡◌, ◌∙◌, ◌+◌, ◌<◌, ◌≤◌, ℕ, List, [], ◌∷◌, ◌++◌, cond, length, take, sym, ap, subst, arith}
 use Rattle.std.proofs.lemmas.List.{length-take, take_more, take-take}
+use Rattle.std.proofs.lemmas.Option.{get_or_from_slice_get}
 use Rattle.ox_inscribe.specs.Inscriptions.{numbers_where}
 use Rattle.ox_inscribe.specs.Signed.{is_cursed}
 use Rattle.ox_inscribe.specs.declared.row.InsRow.{InsRow}
@@ -48,8 +49,9 @@ returns-clause-front c =
 pub loop-place-preserved : goal.loop-place-preserved
 loop-place-preserved c = record {
   noted = told_by c.note_row.new.self.jubilee c.loop-place.self.jubilee (take (c.loop-place.place + 1) c.args.rows.now) _ (sym c.in_ok-note_row.ensures.jubilee)
-      (with_row c.loop-place.self.jubilee c.loop-place.place c.args.rows.now _ _ _ (omega arith) (take_more c.args.rows.now c.loop-place.place _ (omega arith)) c.loop-place.invariant.noted
-      (c.in_ok-note_row.ensures.ok ∙ ap (λ (row : InsRow). cond (is_cursed c.loop-place.self.jubilee row) (c.loop-place.self.places.items ++ c.loop-place.place ∷ []) c.loop-place.self.places.items) (c.row.ensures ∙ c.index-rows-place.is)));
+      (with_row c.loop-place.self.jubilee c.loop-place.place c.args.rows.now c.row.result.now _ _ (omega arith)
+      (take_more c.args.rows.now c.loop-place.place c.row.result.now (omega arith) ∙ ap (λ (row : InsRow). take c.loop-place.place c.args.rows.now ++ row ∷ []) (get_or_from_slice_get c.args.rows.now c.loop-place.place c.row.result.now c.row.result.now c.row.ensures))
+      c.loop-place.invariant.noted c.in_ok-note_row.ensures.ok);
   from = omega arith;
   within = omega arith;
   jubilee = c.in_ok-note_row.ensures.jubilee ∙ c.loop-place.invariant.jubilee;

@@ -1,6 +1,5 @@
 use Rattle.std.proofs.Common.{◌≡◌, ◌∙◌, ◌-◌, ◌+◌, ◌≤◌, ℕ, ℤ, List, length, take, refl, sym, ap, ap₂, subst, arith, rules, nat_lt, Option, Some, w64, FitsSigned}
 use Rattle.std.proofs.lemmas.Int.{to_z-of_z}
-use Rattle.std.proofs.lemmas.Option.{slice_get_read}
 use Rattle.std.specs.Prelude.{count_by, filter, option_map, slice_get}
 use Rattle.std.specs.List.Sorted.{IsStrictlyIncreasing}
 use Rattle.ox_inscribe.specs.Signed.{is_cursed, is_uncursed, number_at, number_of, signed}
@@ -39,8 +38,7 @@ pub returns : goal.returns
 returns c =
     let passes = is_cursed c.args.self.now.jubilee in
     let is = counted passes c.args.place c.args.rows.now _ c.numbers_below.result.now (c.deref.ensures.value ∙ c.requires.all) c.numbers_below.ensures in
-    let there = slice_get_read c.args.rows.now (length c.args.rows.now) c.args.place c.index-rows-place.result refl c.requires.there c.index-rows-place.is ∙ ap (λ (row : InsRow). Some row) (sym c.row-row.ensures) in
     let fits : FitsSigned w64 c.signed.result = search rules in
-    let number : c.signed.result ≡ signed (passes c.row-row.result.now) (length c.numbers_below.result.now) (c.args.place - length c.numbers_below.result.now) = search rules in
-    numbered c.args.self.now.jubilee c.args.rows.now c.args.place c.row-row.result.now _ c.signed.result there is (omega (arith, c.requires.there)) number
+    let number : c.signed.result ≡ signed (passes c.row.result.now) (length c.numbers_below.result.now) (c.args.place - length c.numbers_below.result.now) = search rules in
+    numbered c.args.self.now.jubilee c.args.rows.now c.args.place c.row.result.now _ c.signed.result c.row.ensures is (omega (arith, c.requires.there)) number
     ∙ ap (λ (x : ℤ). Some x) (sym (to_z-of_z w64 c.signed.result fits))

@@ -10,12 +10,11 @@ use Rattle.ox_inscribe.proofs.shelf.Shelf.number.Goals as goal
 pub returns : goal.returns
 returns c =
     let n = c.args.n in
-    let all = c.self.inside.rows.items in
+    let all = c.self.inside.rows in
     let shown = c.self.inside.shown in
     let seen : length c.args.self.now.rows ≡ shown = ap (λ (s : Shelved). length s.rows) (sym c.self.view_is) ∙ length-take-le shown all c.self.invariant.fits in
     let fits : FitsSigned w64 c.number.result = search rules in
     ap (λ (s : Shelved). number_at s.jubilee s.rows n) (sym c.self.view_is)
     ∙ number_shown c.self.inside.cursed.jubilee all n shown (omega (arith, c.requires, seen))
-    ∙ ap (λ (rows : List InsRow). number_at c.self.inside.cursed.jubilee rows n) (sym c.deref.ensures.value)
     ∙ c.number.ensures
     ∙ ap (λ (z : ℤ). Some z) (sym (to_z-of_z w64 c.number.result fits))
