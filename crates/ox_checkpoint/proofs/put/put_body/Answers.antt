@@ -1,0 +1,22 @@
+use Rattle.std.proofs.lemmas.Result.{on_ok_weaker}
+use Rattle.ox_index.specs.Live.{index_in, profile_in}
+use Rattle.ox_rows.specs.RowSpelling.{change_rows, index_rows}
+use Rattle.ox_rows.specs.Spelling.{list}
+use Rattle.ox_rows.proofs.Putting.{more}
+use Rattle.ox_checkpoint.specs.Body.{body_rows}
+use Rattle.ox_checkpoint.proofs.KeepLemmas.{each_keeps}
+use Rattle.ox_checkpoint.proofs.put.put_body.Goals as goal
+
+pub put_changes-requires : goal.put_changes-requires
+put_changes-requires c =
+    let live = c.args.live.now in
+    each_keeps (profile_in live) (index_in live) c.args.changes.now.kept live.parts.known live.sound c.requires
+
+pub returns-clause-ok : goal.returns-clause-ok
+unfolding body_rows
+returns-clause-ok c =
+    let index = index_in c.args.live.now in
+    on_ok_weaker c.put_changes.result (λ last. more c.args.bytes.now (index_rows index) (list change_rows c.args.changes.now.kept) c.in_ok-put_live.ensures.ok last) c.put_changes.ensures.ok
+
+pub returns-clause-fits : goal.returns-clause-fits
+returns-clause-fits c = on_ok_weaker c.put_changes.result (λ last. record { index = c.in_ok-put_live.ensures.fits; changes = last }) c.put_changes.ensures.fits
