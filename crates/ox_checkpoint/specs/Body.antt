@@ -1,5 +1,5 @@
--- What the body of a checkpoint stands for: an index, and the changes of its newest blocks, by which
--- these can be taken back.
+-- What the body of a checkpoint stands for: an index, and the changes of its newest blocks, by
+-- which these can be taken back.
 use Rattle.std.specs.Prelude.{ℕ, Bool, ◌&&◌, List, [], ◌∷◌, ◌++◌, length, Option, Some, None}
 use Rattle.std.specs.Prelude.{Result, Ok, Err, nat_le, if◌then◌else◌}
 use Rattle.ox_bytes.specs.Reading.{Reader}
