@@ -1,7 +1,7 @@
 -- Which of two files is current is decided by the fronts of the two.
-use Rattle.std.proofs.Common.{◌≡◌, ◌≢◌, ◌∙◌, ◌≤◌, ◌+◌, ◌-◌, min, inl, inr, ⊎_elim, ℕ, suc, Bool, true, false, List, [], ◌∷◌, length, take, drop, ◌==◌, if◌then◌else◌, refl, sym, ap, arith, not, length-drop, take-append-drop}
+use Rattle.std.proofs.Common.{◌≡◌, ◌≢◌, ◌∙◌, ◌≤◌, ◌+◌, ◌-◌, min, inl, inr, ⊎_elim, ℕ, suc, Bool, true, false, List, [], ◌∷◌, length, take, drop, ◌==◌, if◌then◌else◌, refl, sym, ap, arith, length-drop, take-append-drop}
 use Rattle.std.specs.Prelude.{Ok, Err, nat_lt, slice_range}
-use Rattle.std.proofs.lemmas.Bool.{cases_lt, ltb-false, eq-eqb}
+use Rattle.std.proofs.lemmas.Bool.{cases_lt, ltb-false}
 use Rattle.std.proofs.lemmas.Bool.Decides.{eqb_tells}
 use Rattle.std.proofs.lemmas.List.{length-take, take_all, take_min, drop-drop}
 use Rattle.ox_outside.specs.Files.{Files, file_of}
@@ -9,7 +9,7 @@ use Rattle.ox_outside.specs.declared.site.Which.{Which}
 use Rattle.ox_outside.specs.declared.site.Which.TheVariants.{A, B}
 use Rattle.ox_gated.specs.Layout.{is_closed, head_of}
 use Rattle.ox_gated.specs.Pick.{lone_choice, greater_of, choice_by, choice_of}
-use Rattle.ox_gated.specs.Reading.{chain, found_or_fault, fault_at, current_reading}
+use Rattle.ox_gated.specs.Reading.{chain, found_or_fault, fault_at, body_reading}
 use Rattle.ox_gated.specs.declared.head.Opening.{Opening}
 use Rattle.ox_gated.proofs.CurrentByFront.{head_of_front}
 
@@ -89,11 +89,11 @@ pub closed_read : (files : Files) (a b : List ℕ) → a ≡ take 26 files.a →
 closed_read files a b is_a is_b A = ap is_closed is_a ∙ closed_front files.a
 closed_read files a b is_a is_b B = ap is_closed is_b ∙ closed_front files.b
 
--- the current file by the parts that were read
-pub current_read : (version : ℕ) (file : Which) (bytes : List ℕ) (opening : Opening) (len : ℕ) (body rest : List ℕ) → len ≡ length bytes → opening.head.version ≡ version → nat_lt len (26 + opening.size) ≡ false
+-- the current file from its body on, by the parts that were read
+pub current_read : (file : Which) (bytes : List ℕ) (opening : Opening) (len : ℕ) (body rest : List ℕ) → len ≡ length bytes → nat_lt len (26 + opening.size) ≡ false
     → body ≡ slice_range bytes 26 (26 + opening.size) → rest ≡ slice_range bytes (26 + opening.size) (26 + opening.size + (len - (26 + opening.size)))
-    → found_or_fault file opening.head body (chain (26 + opening.size) rest).records (chain (26 + opening.size) rest).end ≡ current_reading version file bytes opening
-current_read version file bytes opening len body rest is_len is_version fits is_body is_rest =
+    → found_or_fault file opening.head body (chain (26 + opening.size) rest).records (chain (26 + opening.size) rest).end ≡ body_reading file bytes opening
+current_read file bytes opening len body rest is_len fits is_body is_rest =
     let size = opening.size in
     let one : 26 + size - 26 ≡ size = omega arith in
     let within : 26 + size ≤ len = ltb-false len (26 + size) fits in
@@ -101,5 +101,4 @@ current_read version file bytes opening len body rest is_len is_version fits is_
     let body_is : body ≡ take size (drop 26 bytes) = is_body ∙ ap (λ (k : ℕ). take k (drop 26 bytes)) one in
     let rest_is : rest ≡ drop size (drop 26 bytes) = is_rest ∙ take_all (26 + size + (len - (26 + size)) - (26 + size)) (drop (26 + size) bytes) long ∙ sym (drop-drop size 26 bytes) in
     (λ i. found_or_fault file opening.head (body_is i) (chain (26 + size) (rest_is i)).records (chain (26 + size) (rest_is i)).end)
-    ∙ sym (ap (λ (b : Bool). if not b then fault_at file 6 else if nat_lt (length bytes) (26 + size) then fault_at file 26 else found_or_fault file opening.head (take size (drop 26 bytes)) (chain (26 + size) (drop size (drop 26 bytes))).records (chain (26 + size) (drop size (drop 26 bytes))).end) (eq-eqb opening.head.version version is_version)
-    ∙ ap (λ (b : Bool). if b then fault_at file 26 else found_or_fault file opening.head (take size (drop 26 bytes)) (chain (26 + size) (drop size (drop 26 bytes))).records (chain (26 + size) (drop size (drop 26 bytes))).end) (ap (λ (n : ℕ). nat_lt n (26 + size)) (sym is_len) ∙ fits))
+    ∙ sym (ap (λ (b : Bool). if b then fault_at file 26 else found_or_fault file opening.head (take size (drop 26 bytes)) (chain (26 + size) (drop size (drop 26 bytes))).records (chain (26 + size) (drop size (drop 26 bytes))).end) (ap (λ (n : ℕ). nat_lt n (26 + size)) (sym is_len) ∙ fits))

@@ -3,6 +3,7 @@ mod Chain
 mod ChoiceByFronts
 mod CurrentByFront
 mod NewFiles
+pub mod OldReading
 mod OneFile
 mod OpenedHolds
 mod OtherGate

@@ -7,7 +7,8 @@ use Rattle.ox_outside.specs.declared.site.Which.{Which}
 use Rattle.ox_gated.specs.Layout.{is_closed}
 use Rattle.ox_gated.specs.Opened.{IsFault, IsUnpicked, found_of, tail_of}
 use Rattle.ox_gated.specs.Pick.{choice_of}
-use Rattle.ox_gated.specs.Reading.{Found, current_reading, reading_by, reading}
+use Rattle.ox_gated.specs.OldReading.{current_as, reading_as}
+use Rattle.ox_gated.specs.Reading.{Found, current_reading, of_picked, reading_by, reading}
 use Rattle.ox_gated.specs.Tail.{Kept, Keeps, Holds, IsSettled}
 use Rattle.ox_gated.specs.declared.fault.GateFault.{GateFault}
 use Rattle.ox_gated.specs.declared.fault.GateFault.TheVariants as gates
@@ -17,14 +18,17 @@ use Rattle.ox_gated.proofs.ChoiceByFronts.{choice_some}
 use Rattle.ox_gated.proofs.Stands.{stands, current_file}
 
 -- the fault of the choice is that of the files
-pub unpicked_fault : (version : ℕ) (files : Files) (fault : GateFault) → IsUnpicked (choice_of files.a files.b) fault → IsFault (reading version files) fault
-unpicked_fault version files gates.DiskFault is = tt
-unpicked_fault version files gates.Memory is = tt
-unpicked_fault version files (gates.NotStore file at before) is =
-    subst (λ b. IsFault (reading version files) (gates.NotStore file at b)) (sym is.1) (ap (reading_by version files) is.0)
+pub unpicked_fault : (followed : Bool) (version : ℕ) (files : Files) (fault : GateFault) → IsUnpicked (choice_of files.a files.b) fault → IsFault (reading_as followed version files) fault
+unpicked_fault followed version files gates.DiskFault is = tt
+unpicked_fault followed version files gates.Memory is = tt
+unpicked_fault followed version files (gates.NotStore file at before) is =
+    subst (λ b. IsFault (reading_as followed version files) (gates.NotStore file at b)) (sym is.1) (ap (of_picked (current_as followed version) files) is.0)
 
 module _ (version : ℕ) (files : Files) (file : Which) (opening : Opening) (picks : choice_of files.a files.b ≡ Ok (file, opening)) where
-  pub reading_is : reading version files ≡ current_reading version file (file_of files file) opening
+  pub as_is : (followed : Bool) → reading_as followed version files ≡ current_as followed version file (file_of files file) opening
+  as_is followed = ap (of_picked (current_as followed version) files) picks
+
+  reading_is : reading version files ≡ current_reading version file (file_of files file) opening
   reading_is = ap (reading_by version files) picks
 
   keeps_opened : (o : Opened) (other_closed : Bool) → reading version files ≡ Ok (found_of o) → Keeps (tail_of o other_closed) (reading o.head.version files)

@@ -1,5 +1,6 @@
 pub mod Gate
 pub mod Layout
+pub mod OldReading
 pub mod Opened
 pub mod OtherFile
 pub mod Pick

@@ -14,6 +14,10 @@ use Rattle.ox_gated.specs.declared.head.Head.{Head}
 abbrev pub ReadsAlike : Files → Files → Type 0
 ReadsAlike files image = (version : ℕ) → reading version image ≡ reading version files
 
+-- this file stays as it is
+abbrev pub IsSpared : Which → Files → Files → Type 0
+IsSpared file old new = file_of new file ≡ file_of old file
+
 -- the first gate is there, and closed
 abbrev pub BeginsShut : List ℕ → Type 0
 BeginsShut file = (rest : List ℕ) × (file ≡ 0 ∷ rest)

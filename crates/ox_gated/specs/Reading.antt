@@ -90,20 +90,27 @@ by_parts file opening body rest =
     let records = chain (body_at + opening.size) rest in
     found_or_fault file opening.head body records.records records.end
 
--- The current file: its version is the one that is read, its body is there, and its gates and
--- records are.
-abbrev pub current_reading : ℕ → Which → List ℕ → Opening → Result Found Fault
-current_reading version file bytes opening =
-    if not (opening.head.version == version) then fault_at file version_at else
+-- the current file from its body on: that is there, and so are its gates and records
+abbrev pub body_reading : Which → List ℕ → Opening → Result Found Fault
+body_reading file bytes opening =
     if nat_lt (length bytes) (body_at + opening.size) then fault_at file body_at else
     let behind_head = drop body_at bytes in
     by_parts file opening (take opening.size behind_head) (drop opening.size behind_head)
 
--- what the files stand for, once the current one is picked
+-- the current file: its version is the one that is read
+abbrev pub current_reading : ℕ → Which → List ℕ → Opening → Result Found Fault
+current_reading version file bytes opening =
+    if not (opening.head.version == version) then fault_at file version_at else
+    body_reading file bytes opening
+
+-- what the files stand for by what is read of the current one, once that is picked
+abbrev pub of_picked : (Which → List ℕ → Opening → Result Found Fault) → Files → Choice
+    → Result Found Fault
+of_picked current files (Err fault) = fault_at fault.0 fault.1
+of_picked current files (Ok choice) = current choice.0 (file_of files choice.0) choice.1
+
 abbrev pub reading_by : ℕ → Files → Choice → Result Found Fault
-reading_by version files (Err fault) = fault_at fault.0 fault.1
-reading_by version files (Ok choice) =
-    current_reading version choice.0 (file_of files choice.0) choice.1
+reading_by version = of_picked (current_reading version)
 
 -- what the files stand for, where this version is read
 abbrev pub reading : ℕ → Files → Result Found Fault

@@ -1,21 +1,24 @@
 //! The opening of two files.
 
-ghost use Rattle.std.specs.Prelude.{◌≡◌, ◌+◌, ◌-◌, ◌≤◌, ◌<◌, ◌^◌, ℕ, List, length, take};
+ghost use Rattle.std.specs.Prelude.{◌≡◌, ◌≢◌, ◌+◌, ◌-◌, ◌≤◌, ◌<◌, ◌^◌, ℕ, List, length, take};
 ghost use Rattle.std.specs.Prelude.{slice_range, min, nat_lt};
-ghost use Rattle.std.specs.Prelude.{IsTrue, IfOk, IfErr, OnOk, OnErr, IsErrOf, Ok, None};
+ghost use Rattle.std.specs.Prelude.{◌==◌, ◌&&◌, Ok, None};
+ghost use Rattle.std.specs.Prelude.{IsTrue, IfOk, IfErr, OnOk, OnErr, IsErrOf};
 ghost use Rattle.ox_outside.specs.Counts.{IsFailure, Rose, StopsAtFault};
 ghost use Rattle.ox_outside.specs.Files.{Files, file_of, other};
 ghost use Rattle.ox_outside.specs.Runs.{OnlyLooks};
 ghost use Rattle.ox_gated.specs.Layout.{is_closed, is_lawful, body_at};
+ghost use Rattle.ox_gated.specs.OldReading.{current_as, reading_as, old_reading};
 ghost use Rattle.ox_gated.specs.Opened.{IsBehindLawful, IsFault, IsUnpicked, found_of, tail_of};
+ghost use Rattle.ox_gated.specs.OtherFile.{last_generation};
 ghost use Rattle.ox_gated.specs.Pick.{choice_of, of_file};
-ghost use Rattle.ox_gated.specs.Reading.{by_parts, current_reading, reading};
+ghost use Rattle.ox_gated.specs.Reading.{by_parts, reading};
 ghost use Rattle.ox_gated.specs.Tail.{Holds, IsSettled};
 ghost use Rattle.ox_gated.specs.declared.fault.GateFault.TheVariants.{NotStore};
 
 use crate::fault::{Before, GateFault, ReadFault};
 use crate::head::{Head, Opening, is_shut};
-use crate::layout::{BODY_AT, VERSION_AT};
+use crate::layout::{BODY_AT, GENERATION_AT, VERSION_AT};
 use crate::pick::pick;
 use crate::records::{Records, Walk, walk_from};
 use crate::tail::Tail;
@@ -220,11 +223,13 @@ fn found_or_fault(
     }
 }
 
-/// Reads the body and the records of the current file, whose version has to be this one.
+/// Reads the body and the records of the current file. Its version has to be this one; and where
+/// another file is to follow it, its generation not the greatest.
 pub fn read_current<S: Site>(
     alloc: Global,
     site: &mut S,
     version: u8,
+    followed: bool,
     examined: &Examined,
 ) -> Result<Opened, GateFault>
     requires len { IsTrue (S.told site.old)
@@ -233,15 +238,18 @@ pub fn read_current<S: Site>(
     ensures found { let e = examined.now in
         IsTrue (S.told site.old)
         → IfOk result (λ o.
-        current_reading version e.file (file_of (S.seen site.old) e.file) e.opening
+        current_as followed version e.file (file_of (S.seen site.old) e.file) e.opening
         ≡ Ok (found_of o)) }
     ensures tail { IfOk result (λ o. o.tail ≡ tail_of o examined.now.other_closed) }
     ensures head { IfOk result (λ o. o.head ≡ examined.now.opening.head) }
     ensures version { IfOk result (λ o. o.head.version ≡ version) }
+    ensures generation { IsTrue followed → IfOk result (λ o.
+        o.head.generation ≢ last_generation) }
     ensures fault { let e = examined.now in
         IsTrue (S.told site.old)
         → IfErr result
-        (IsFault (current_reading version e.file (file_of (S.seen site.old) e.file) e.opening)) }
+        (IsFault
+        (current_as followed version e.file (file_of (S.seen site.old) e.file) e.opening)) }
     ensures behind { IfErr result IsBehindLawful }
     ensures looks { OnlyLooks S.Site site.old site.new }
     ensures failed { IsErrOf result GateFault.DiskFault
@@ -250,9 +258,12 @@ pub fn read_current<S: Site>(
         (S.counts site.old) (S.counts site.new) }
 {
     let file = examined.file;
-    let size = examined.opening.size;
-    if examined.opening.head.version != version {
+    let Opening { head, size } = examined.opening;
+    if head.version != version {
         return Err(refused_at(file, VERSION_AT as u64));
+    }
+    if is_unfollowed(&head, followed) {
+        return Err(refused_at(file, GENERATION_AT as u64));
     }
     if is_cut(examined.len, size) {
         return Err(refused_at(file, BODY_AT as u64));
@@ -261,6 +272,13 @@ pub fn read_current<S: Site>(
     let body = read_part(alloc, site, file, BODY_AT as u64, size)?;
     let rest = read_part(alloc, site, file, end, examined.len - end)?;
     found_or_fault(alloc, examined, body, &rest)
+}
+
+/// Whether another file is to follow one with this head, and can't.
+fn is_unfollowed(head: &Head, followed: bool) -> bool
+    ensures { result ≡ (followed && head.now.generation == last_generation) }
+{
+    followed && head.generation == u64::MAX
 }
 
 /// Whether a file of this length is too short for a body of this one.
@@ -280,15 +298,23 @@ fn refused_at(file: Which, at: u64) -> GateFault
     }
 }
 
-/// Opens two files of this version: see `Tail::open`.
-pub fn open_files<S: Site>(alloc: Global, site: &mut S, version: u8) -> Result<Opened, GateFault>
+/// Opens two files of this version, behind which another one is to follow or not: see `Tail::open`
+/// and `Tail::open_old`.
+pub fn open_files<S: Site>(
+    alloc: Global,
+    site: &mut S,
+    version: u8,
+    followed: bool,
+) -> Result<Opened, GateFault>
     ensures found { IsTrue (S.told site.old)
-        → IfOk result (λ o. reading version (S.seen site.old) ≡ Ok (found_of o)) }
+        → IfOk result (λ o. reading_as followed version (S.seen site.old) ≡ Ok (found_of o)) }
     ensures holds { IsTrue (S.told site.old) → IfOk result (λ o. Holds S.Site o.tail site.new) }
     ensures head { IfOk result (λ o. (o.tail.head ≡ o.head) × (o.head.version ≡ version)) }
+    ensures generation { IsTrue followed → IfOk result (λ o.
+        o.head.generation ≢ last_generation) }
     ensures lawful { IfOk result (λ o. IsTrue (is_lawful o.head)) }
     ensures not_store { IsTrue (S.told site.old)
-        → IfErr result (IsFault (reading version (S.seen site.old))) }
+        → IfErr result (IsFault (reading_as followed version (S.seen site.old))) }
     ensures behind { IfErr result IsBehindLawful }
     ensures failed { IsErrOf result GateFault.DiskFault
         → Rose (S.counts site.old).disk (S.counts site.new).disk }
@@ -302,16 +328,19 @@ pub fn open_files<S: Site>(alloc: Global, site: &mut S, version: u8) -> Result<O
         Ok(examined) => examined,
         Err(fault) => return Err(fault),
     };
-    read_current(alloc, site, version, &examined)
+    read_current(alloc, site, version, followed, &examined)
 }
 
 /// The version that is read and written.
-const VERSION: u8 = 1;
+const VERSION: u8 = 2;
+
+/// The version before it, which is read where a file of the present one is to follow.
+const OLD_VERSION: u8 = 1;
 
 impl Tail {
-    /// Opens two files of version 1. It begins with a sync of both, and changes nothing: at no
+    /// Opens two files of version 2. It begins with a sync of both, and changes nothing: at no
     /// moment does a crash leave anything that it didn't leave before. What is opened has a lawful
-    /// head of version 1, whatever the site tells. Unless a call failed, each crash image of the
+    /// head of version 2, whatever the site tells. Unless a call failed, each crash image of the
     /// two is then what a read gives.
     ///
     /// `NotStore` comes exactly where the files stand for nothing, with the file and the place of
@@ -319,12 +348,12 @@ impl Tail {
     /// there is none for what the files hold.
     pub fn open<S: Site>(alloc: Global, site: &mut S) -> Result<Opened, GateFault>
         ensures found { IsTrue (S.told site.old)
-            → IfOk result (λ o. reading 1 (S.seen site.old) ≡ Ok (found_of o)) }
+            → IfOk result (λ o. reading 2 (S.seen site.old) ≡ Ok (found_of o)) }
         ensures holds { IsTrue (S.told site.old) → IfOk result (λ o. Holds S.Site o.tail site.new) }
-        ensures head { IfOk result (λ o. (o.tail.head ≡ o.head) × (o.head.version ≡ 1)) }
+        ensures head { IfOk result (λ o. (o.tail.head ≡ o.head) × (o.head.version ≡ 2)) }
         ensures lawful { IfOk result (λ o. IsTrue (is_lawful o.head)) }
         ensures not_store { IsTrue (S.told site.old)
-            → IfErr result (IsFault (reading 1 (S.seen site.old))) }
+            → IfErr result (IsFault (reading 2 (S.seen site.old))) }
         ensures behind { IfErr result IsBehindLawful }
         ensures failed { IsErrOf result GateFault.DiskFault
             → Rose (S.counts site.old).disk (S.counts site.new).disk }
@@ -333,6 +362,36 @@ impl Tail {
         ensures settled { ¬ IsErrOf result GateFault.DiskFault → IsSettled S.Site site.new }
         ensures looks { OnlyLooks S.Site site.old site.new }
     {
-        open_files(alloc, site, VERSION)
+        open_files(alloc, site, VERSION, false)
+    }
+
+    /// Opens two files of version 1, so that a checkpoint of version 2 can follow. Of the tests it
+    /// makes one more than `open`, between that of the version and that of the body: `NotStore`
+    /// comes too with the current file and place 10, where its generation is
+    /// 18,446,744,073,709,551,615, which no other follows. What is opened has a lawful head of
+    /// version 1 and of a lesser generation, whatever the site tells.
+    ///
+    /// All else is as with `open`: it begins with a sync of both files and changes nothing, and
+    /// unless a call failed each crash image of the two is then what a read gives. `NotStore` comes
+    /// exactly by the first test that fails, `DiskFault` only where a call on a file failed, and
+    /// `Memory` where there is none for what the files hold.
+    pub fn open_old<S: Site>(alloc: Global, site: &mut S) -> Result<Opened, GateFault>
+        ensures found { IsTrue (S.told site.old)
+            → IfOk result (λ o. old_reading (S.seen site.old) ≡ Ok (found_of o)) }
+        ensures holds { IsTrue (S.told site.old) → IfOk result (λ o. Holds S.Site o.tail site.new) }
+        ensures head { IfOk result (λ o. (o.tail.head ≡ o.head) × (o.head.version ≡ 1)) }
+        ensures generation { IfOk result (λ o. o.head.generation ≢ last_generation) }
+        ensures lawful { IfOk result (λ o. IsTrue (is_lawful o.head)) }
+        ensures not_store { IsTrue (S.told site.old)
+            → IfErr result (IsFault (old_reading (S.seen site.old))) }
+        ensures behind { IfErr result IsBehindLawful }
+        ensures failed { IsErrOf result GateFault.DiskFault
+            → Rose (S.counts site.old).disk (S.counts site.new).disk }
+        ensures counted { StopsAtFault (IsErrOf result GateFault.DiskFault) ⊥ ⊥
+            (S.counts site.old) (S.counts site.new) }
+        ensures settled { ¬ IsErrOf result GateFault.DiskFault → IsSettled S.Site site.new }
+        ensures looks { OnlyLooks S.Site site.old site.new }
+    {
+        open_files(alloc, site, OLD_VERSION, true)
     }
 }

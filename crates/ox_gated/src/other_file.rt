@@ -6,7 +6,7 @@ ghost use Rattle.ox_outside.specs.Counts.{IsFailure, Rose, StopsAtFault};
 ghost use Rattle.ox_outside.specs.Files.{file_of, other};
 ghost use Rattle.ox_outside.specs.Runs.{LeavesOnly};
 ghost use Rattle.ox_gated.specs.Layout.{body_at};
-ghost use Rattle.ox_gated.specs.OtherFile.{ReadsAlike, BeginsShut, HoldsBoth, IsOldOrNew};
+ghost use Rattle.ox_gated.specs.OtherFile.{ReadsAlike, BeginsShut, HoldsBoth, IsOldOrNew, IsSpared};
 ghost use Rattle.ox_gated.specs.OtherFile.{ReadsNew, MustTurn, filled_with, tail_of_other};
 ghost use Rattle.ox_gated.specs.Tail.{Holds};
 ghost use Rattle.ox_gated.specs.Writes.{OnlyWrites};
@@ -93,6 +93,8 @@ impl Tail {
             → IfOk result (λ closed. Holds S.Site closed site.new) }
         ensures shut { IsTrue (S.told site.old)
             → OnOk result (BeginsShut (file_of (S.seen site.new) (other self.file))) }
+        ensures spared { IsTrue (S.told site.old)
+            → OnOk result (IsSpared self.file (S.seen site.old) (S.seen site.new)) }
         ensures kept { IfOk result (λ closed. closed ≡ record self { other_closed = true }) }
         ensures alike { IsTrue (S.told site.old)
             → OnOk result (ReadsAlike (S.seen site.old) (S.seen site.new)) }
@@ -124,6 +126,9 @@ impl Tail {
             → IfOk result (λ tail. Holds S.Site tail site.new) }
         ensures turned { IsTrue (S.told site.old)
             → OnOk result (ReadsNew (other self.file) checkpoint.now (S.seen site.new)) }
+        // The file that was current stays as it is.
+        ensures spared { IsTrue (S.told site.old)
+            → OnOk result (IsSpared self.file (S.seen site.old) (S.seen site.new)) }
         ensures kept { let gate = body_at + length checkpoint.now.body in
             IfOk result (λ tail. tail ≡ tail_of_other self.file checkpoint.now.head gate) }
         ensures any_moment { IsTrue (S.told site.old)
@@ -154,6 +159,8 @@ impl Closed {
         requires holds { IsTrue (S.told site.old) → Holds S.Site self site.old }
         ensures holds { IsTrue (S.told site.old)
             → IfOk result (λ filled. HoldsBoth S.Site filled checkpoint.now.body site.new) }
+        ensures spared { IsTrue (S.told site.old)
+            → OnOk result (IsSpared self.file (S.seen site.old) (S.seen site.new)) }
         ensures kept { let whole = checkpoint.now in
             IfOk result (λ filled. filled ≡ record {
               tail = self;
@@ -194,6 +201,8 @@ impl Filled {
             → (body : List ℕ) → HoldsBoth S.Site self body site.old
             → OnOk result (
             ReadsNew (other self.tail.file) (filled_with self body) (S.seen site.new)) }
+        ensures spared { IsTrue (S.told site.old)
+            → OnOk result (IsSpared self.tail.file (S.seen site.old) (S.seen site.new)) }
         ensures kept { IfOk result (λ tail.
             tail ≡ tail_of_other self.tail.file self.head self.gate) }
         ensures any_moment { IsTrue (S.told site.old)

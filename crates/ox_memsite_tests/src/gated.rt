@@ -10,7 +10,7 @@ use std::alloc::Global;
 use std::process::Abort;
 
 const HEAD: Head = Head {
-    version: 1,
+    version: 2,
     profile: 1,
     depth: 100,
     generation: 1,
@@ -18,26 +18,26 @@ const HEAD: Head = Head {
 
 /// Regtest, depth 100, no records.
 const EMPTY: [u8; 27] = [
-    0x01, 0x6f, 0x78, 0x69, 0x64, 0x78, 0x01, 0x01, 0x64, 0x00, 0x01, 0x00, 0x00, 0x00, 0x00, 0x00,
+    0x01, 0x6f, 0x78, 0x69, 0x64, 0x78, 0x02, 0x01, 0x64, 0x00, 0x01, 0x00, 0x00, 0x00, 0x00, 0x00,
     0x00, 0x00, 0x00, 0x00, 0x00, 0x00, 0x00, 0x00, 0x00, 0x00, 0x00,
 ];
 
 const SECOND: Head = Head {
-    version: 1,
+    version: 2,
     profile: 1,
     depth: 100,
     generation: 2,
 };
 
 const THIRD: Head = Head {
-    version: 1,
+    version: 2,
     profile: 1,
     depth: 100,
     generation: 3,
 };
 
 /// The same of generation 2, with a body of 3 bytes.
-const TURNED: &[u8] = b"\x01oxidx\x01\x01\x64\0\x02\0\0\0\0\0\0\0\x03\0\0\0\0\0\0\0xyz\0";
+const TURNED: &[u8] = b"\x01oxidx\x02\x01\x64\0\x02\0\0\0\0\0\0\0\x03\0\0\0\0\0\0\0xyz\0";
 
 fn empty_site(rt: &impl Abort, alloc: Global) -> MemSite {
     MemSite::new(alloc).expect(rt, "memory")
@@ -180,14 +180,60 @@ fn what_is_no_store_is_refused_at_its_place(rt: HostRuntime) {
 fn a_head_is_refused_at_its_place(rt: HostRuntime) {
     let alloc = rt.alloc();
     let mut site = made_site(&rt, alloc);
-    assert!(rt; is_put(&mut site, Which::A, &empty_with(&rt, 6, 2)));
+    assert!(rt; is_put(&mut site, Which::A, &empty_with(&rt, 6, 1)));
     assert!(rt; is_refused(alloc, &mut site, Which::A, 6));
     assert!(rt; is_put(&mut site, Which::A, &empty_with(&rt, 5, 0x79)));
     assert!(rt; is_refused(alloc, &mut site, Which::A, 1));
-    assert!(rt; is_put(&mut site, Which::A, b"\x01oxidx\x01\x01\xe8\x03"));
+    assert!(rt; is_put(&mut site, Which::A, b"\x01oxidx\x02\x01\xe8\x03"));
     assert!(rt; count_in(alloc, &mut site) == 0);
-    assert!(rt; is_put(&mut site, Which::A, b"\x01oxidx\x01\x01\xe9\x03"));
+    assert!(rt; is_put(&mut site, Which::A, b"\x01oxidx\x02\x01\xe9\x03"));
     assert!(rt; is_refused(alloc, &mut site, Which::A, 1));
+}
+
+/// Whether the files are of version 1, with so many records.
+fn is_old(alloc: Global, site: &mut MemSite, records: usize) -> bool {
+    match Tail::open_old(alloc, site) {
+        Ok(opened) => opened.head.version == 1 && opened.records.len() == records,
+        Err(_) => false,
+    }
+}
+
+/// Whether the files are none of version 1 that another one can follow, by this test on A.
+fn is_refused_as_old(alloc: Global, site: &mut MemSite, at: u64) -> bool {
+    match Tail::open_old(alloc, site) {
+        Err(
+            GateFault::NotStore {
+                file,
+                at: place,
+                before: None,
+            },
+        ) => file == Which::A && place == at,
+        _ => false,
+    }
+}
+
+/// The last bytes of a head are the generation, the greatest or the one below, and the length of
+/// the body, 2 where there is 1 byte.
+#[test]
+fn the_old_version_is_opened_by_a_call_of_its_own(rt: HostRuntime) {
+    let alloc = rt.alloc();
+    let mut site = made_site(&rt, alloc);
+    assert!(rt; is_refused_as_old(alloc, &mut site, 6));
+    assert!(rt; is_put(&mut site, Which::A, &empty_with(&rt, 6, 1)));
+    assert!(rt; is_old(alloc, &mut site, 0));
+    assert!(rt;
+        is_put_at(
+            &mut site,
+            Which::A,
+            10,
+            b"\xff\xff\xff\xff\xff\xff\xff\xff\x02"
+        )
+    );
+    assert!(rt; is_refused_as_old(alloc, &mut site, 10));
+    assert!(rt; is_put_at(&mut site, Which::A, 10, b"\xfe"));
+    assert!(rt; is_refused_as_old(alloc, &mut site, 26));
+    assert!(rt; is_put_at(&mut site, Which::A, 18, b"\0"));
+    assert!(rt; is_old(alloc, &mut site, 0));
 }
 
 #[test]

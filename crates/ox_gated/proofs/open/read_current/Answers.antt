@@ -4,6 +4,7 @@ use Rattle.ox_outside.specs.Files.{Files, file_of}
 use Rattle.ox_gated.specs.Opened.{IsFault, found_of}
 use Rattle.ox_gated.specs.Reading.{Found, Fault}
 use Rattle.ox_gated.proofs.ChoiceByFronts.{current_read}
+use Rattle.ox_gated.proofs.OldReading.{as_body}
 use Rattle.ox_gated.proofs.open.read_current.Goals as goal
 
 pub returns-clause-found : goal.returns-clause-found
@@ -12,7 +13,9 @@ returns-clause-found g c told =
     let size = e.opening.size in
     let looks = c.in_ok-body.ensures.looks in
     let rest = c.deref.ensures.value ∙ c.in_ok-rest.ensures.bytes (looks.calls.as_told ∙ told) ∙ ap (λ (f : Files). slice_range (file_of f e.file) (26 + size) (26 + size + (e.len - (26 + size)))) looks.nothing.files in
-    let same = current_read c.args.version e.file (file_of (g.S.Site.seen c.args.site.now) e.file) e.opening e.len c.in_ok-body.body.items c.deref.result.now (c.requires.len told) c.if-examined-version.false (sym c.is_cut.ensures ∙ c.if-is_cut.false) (c.in_ok-body.ensures.bytes told) rest in
+    let bytes = file_of (g.S.Site.seen c.args.site.now) e.file in
+    let same = current_read e.file bytes e.opening e.len c.in_ok-body.body.items c.deref.result.now (c.requires.len told) (sym c.is_cut.ensures ∙ c.if-is_cut.false) (c.in_ok-body.ensures.bytes told) rest
+    ∙ as_body c.args.followed c.args.version e.file bytes e.opening c.if-head-version.false (sym c.is_unfollowed.ensures ∙ c.if-is_unfollowed.false) in
     subst (λ (r : Result Found Fault). IfOk c.found_or_fault.result (λ o. r ≡ Ok (found_of o))) same c.found_or_fault.ensures.found
 
 pub returns-clause-fault : goal.returns-clause-fault
@@ -21,5 +24,7 @@ returns-clause-fault g c told =
     let size = e.opening.size in
     let looks = c.in_ok-body.ensures.looks in
     let rest = c.deref.ensures.value ∙ c.in_ok-rest.ensures.bytes (looks.calls.as_told ∙ told) ∙ ap (λ (f : Files). slice_range (file_of f e.file) (26 + size) (26 + size + (e.len - (26 + size)))) looks.nothing.files in
-    let same = current_read c.args.version e.file (file_of (g.S.Site.seen c.args.site.now) e.file) e.opening e.len c.in_ok-body.body.items c.deref.result.now (c.requires.len told) c.if-examined-version.false (sym c.is_cut.ensures ∙ c.if-is_cut.false) (c.in_ok-body.ensures.bytes told) rest in
+    let bytes = file_of (g.S.Site.seen c.args.site.now) e.file in
+    let same = current_read e.file bytes e.opening e.len c.in_ok-body.body.items c.deref.result.now (c.requires.len told) (sym c.is_cut.ensures ∙ c.if-is_cut.false) (c.in_ok-body.ensures.bytes told) rest
+    ∙ as_body c.args.followed c.args.version e.file bytes e.opening c.if-head-version.false (sym c.is_unfollowed.ensures ∙ c.if-is_unfollowed.false) in
     subst (λ (r : Result Found Fault). IfErr c.found_or_fault.result (IsFault r)) same c.found_or_fault.ensures.fault

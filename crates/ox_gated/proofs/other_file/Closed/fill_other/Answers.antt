@@ -1,9 +1,10 @@
 use Rattle.std.proofs.Common.{◌≡◌, ◌∙◌, ◌+◌, ◌++◌, [], ◌∷◌, length, sym, ap, subst, append_assoc, arith}
-use Rattle.ox_outside.specs.Files.{other}
+use Rattle.ox_outside.specs.Files.{file_of, other}
 use Rattle.ox_gated.specs.Layout.{head_bytes, checkpoint_bytes}
 use Rattle.ox_gated.specs.OtherFile.{HoldsBoth}
 use Rattle.ox_gated.specs.Tail.{Kept, Holds}
 use Rattle.ox_gated.specs.declared.head.Head.{Head}
+use Rattle.ox_gated.proofs.OneFile.{spared}
 use Rattle.ox_gated.proofs.Turning.{fill_moments, fill_alike, fill_holds}
 use Rattle.ox_gated.proofs.other_file.Closed.fill_other.Goals as goal
 
@@ -40,3 +41,10 @@ returns-clause-holds g c told =
     let gate_is : gate ≡ 26 + length w.body = omega (arith, c.front-front.ensures.size, c.behind-behind.ensures.size) in
     subst (λ (head : Head). HoldsBoth g.S.Site (record { tail = tail; head = head; gate = gate }) w.body new) (sym c.head.ensures)
     (fill_holds g.S.Site tail c.args.site.now h c.self.invariant c.other_file.result (c.other_file.ensures ∙ ap other c.file.ensures) w _ bytes_are new (record { written = e.written told; durable = e.durable; others = e.others }) gate gate_is)
+
+pub returns-clause-spared : goal.returns-clause-spared
+returns-clause-spared g c told =
+    let old = g.S.Site.seen c.args.site.now in
+    let new = g.S.Site.seen c.write_pieces_synced.new.site in
+    subst (λ (t : Kept). file_of new t.file ≡ file_of old t.file) c.self.view_is
+    (spared c.self.inside.tail.file c.other_file.result old new _ (c.other_file.ensures ∙ ap other c.file.ensures) (c.in_ok-write_pieces_synced.ensures.written told))

@@ -1,8 +1,9 @@
-use Rattle.std.proofs.Common.{◌∙◌, ℕ, List, sym, ap, subst}
-use Rattle.ox_outside.specs.Files.{other}
+use Rattle.std.proofs.Common.{◌≡◌, ◌∙◌, ℕ, List, sym, ap, subst}
+use Rattle.ox_outside.specs.Files.{file_of, other}
 use Rattle.ox_outside.specs.Runs.{LeavesOnly}
 use Rattle.ox_gated.specs.OtherFile.{KeptBoth, HoldsBoth, IsOldOrNew, ReadsNew, filled_with}
 use Rattle.ox_gated.specs.Tail.{Kept, Holds}
+use Rattle.ox_gated.proofs.OneFile.{spared}
 use Rattle.ox_gated.proofs.Turning.{open_moments, open_reads, open_holds}
 use Rattle.ox_gated.proofs.other_file.Filled.open_other.Goals as goal
 
@@ -47,3 +48,10 @@ returns-clause-holds g c told =
     let file_is = c.other_file-file.ensures ∙ ap other c.file.ensures in
     subst (λ (t : Kept). Holds g.S.Site t new) (sym (c.at.ensures ∙ (λ i'. record { file = file_is i'; head = i.head; records = 0; gate = i.gate; other_closed = Rattle.std.proofs.Common.false })))
     (open_holds g.S.Site both body c.args.site.now h v.0 v.1 v.2 v.3 v.4 c.other_file-file.result file_is new (record { written = e.written told; durable = e.durable; others = e.others }))
+
+pub returns-clause-spared : goal.returns-clause-spared
+returns-clause-spared g c told =
+    let old = g.S.Site.seen c.args.site.now in
+    let new = g.S.Site.seen c.write_synced.new.site in
+    subst (λ (b : KeptBoth). file_of new b.tail.file ≡ file_of old b.tail.file) c.self.view_is
+    (spared c.self.inside.tail.file c.other_file-file.result old new _ (c.other_file-file.ensures ∙ ap other c.file.ensures) (c.in_ok-write_synced.ensures.written told))

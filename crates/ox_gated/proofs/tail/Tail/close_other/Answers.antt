@@ -1,5 +1,6 @@
 use Rattle.std.proofs.Common.{◌∙◌, sym, ap}
 use Rattle.ox_outside.specs.Files.{other}
+use Rattle.ox_gated.proofs.OneFile.{spared}
 use Rattle.ox_gated.proofs.Turning.{close_moments, close_shuts, close_alike, close_holds}
 use Rattle.ox_gated.proofs.tail.Tail.close_other.Goals as goal
 
@@ -27,3 +28,7 @@ pub returns-clause-any_moment : goal.returns-clause-any_moment
 returns-clause-any_moment g c told =
     let h = c.requires told in
     close_moments g.S.Site c.args.self c.args.site.now h c.write_synced.new.site c.other_file.result (c.other_file.ensures ∙ ap other c.file.ensures) (sym c.is_other_closed.ensures ∙ c.if-is_other_closed.false) (c.in_ok-write_synced.ensures.moments h.settled)
+
+pub returns-clause-spared : goal.returns-clause-spared
+returns-clause-spared g c told =
+    spared c.args.self.file c.other_file.result (g.S.Site.seen c.args.site.now) (g.S.Site.seen c.write_synced.new.site) _ (c.other_file.ensures ∙ ap other c.file.ensures) (c.in_ok-write_synced.ensures.written told)
