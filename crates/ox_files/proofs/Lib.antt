@@ -1,3 +1,5 @@
 pub mod CountedMoments
-pub mod FilesOfChains
+pub mod DownLemmas
+pub mod FilesOfStacks
+pub mod OldFiles
 pub mod RunsInTurn

@@ -1,4 +1,7 @@
 pub mod Moments
+pub mod Body
+pub mod Payload
 pub mod Stands
+pub mod OldStands
 pub mod Survives
 pub mod Runs

@@ -1,9 +1,7 @@
--- What two files stand for, at version 1: a stack, or the file and the place of the first test that
--- fails. The body is empty, and a record's payload is that of a command which the stack before it
--- accepts.
-use Rattle.std.specs.Prelude.{ℕ, ◌==◌, List, [], ◌∷◌, Option, Some, None, Result, Ok, Err}
-use Rattle.std.specs.Prelude.{if◌then◌else◌}
-use Rattle.std.specs.Result.{result_ok}
+-- What two files stand for, at version 2: a stack, or the file and the place of the first test that
+-- fails. The body is a checkpoint, an index and the changes of its newest blocks, and each record
+-- holds what its command changed.
+use Rattle.std.specs.Prelude.{ℕ, List, [], ◌∷◌, Option, Some, None, Result, Ok, Err}
 use Rattle.ox_bytes.specs.Reading.{◌>>=◌}
 use Rattle.ox_outside.specs.Files.{Files}
 use Rattle.ox_outside.specs.declared.site.Which.{Which}
@@ -12,37 +10,9 @@ use Rattle.ox_gated.specs.Reading.{Found, Fault, IntactPart, reading}
 use Rattle.ox_gated.specs.declared.head.Head.{Head}
 use Rattle.ox_gated.specs.declared.records.Record.{Record}
 use Rattle.ox_sat.specs.Profiles.{name_at, profile_named}
-use Rattle.ox_feed.specs.declared.command.Command.{Command}
-use Rattle.ox_feed.specs.declared.command.Command.TheVariants.{Connect, Disconnect}
-use Rattle.ox_model.specs.Machine.{empty_machine, stack_of}
-use Rattle.ox_model.specs.Stack.{Stack, stack_after}
-
--- the stack of a file with this head and no record
-abbrev pub empty_stack_at : Head → Stack
-empty_stack_at head = stack_of (empty_machine (profile_named (name_at head.profile)) head.depth)
-
--- a command as the payload of a record: 01 and the block, or 00
-abbrev pub recorded : Command → List ℕ
-recorded (Connect block) = 1 ∷ block
-recorded Disconnect = 0 ∷ []
-
--- nothing may stand behind the byte of a disconnect
-abbrev pub disconnect_before : List ℕ → Option Command
-disconnect_before [] = Some Disconnect
-disconnect_before (b ∷ rest) = None
-
--- the command of a payload
-abbrev pub command_in : List ℕ → Option Command
-command_in [] = None
-command_in (kind ∷ rest) =
-    if kind == 1 then Some (Connect rest)
-    else if kind == 0 then disconnect_before rest
-    else None
-
--- the stack after this command, if it is accepted
-abbrev pub stack_accepting : Stack → Option Command → Option Stack
-stack_accepting stack None = None
-stack_accepting stack (Some command) = result_ok (stack_after stack command)
+use Rattle.ox_model.specs.Stack.{Stack}
+use Rattle.ox_files.specs.Body.{stack_in_body}
+use Rattle.ox_files.specs.Payload.{payload_step}
 
 abbrev pub or_place : {X : Type 0} → ℕ → Option X → Result X ℕ
 or_place place None = Err place
@@ -52,13 +22,19 @@ or_place place (Some x) = Ok x
 unfoldable pub stack_after_records : Stack → List Record → Result Stack ℕ
 stack_after_records stack [] = Ok stack
 stack_after_records stack (one ∷ records) = do
-  next ← or_place one.place (stack_accepting stack (command_in one.payload))
+  next ← or_place one.place (payload_step stack one.payload)
   stack_after_records next records
 
--- the stack of a head, a body and records; a body that isn't empty is at fault
+-- a body that stands for no stack is at fault where it begins
+abbrev pub stack_at_body : Head → List ℕ → Result Stack ℕ
+stack_at_body head body =
+    or_place body_at (stack_in_body (profile_named (name_at head.profile)) head.depth body)
+
+-- the stack of a head, a body and records
 abbrev pub stack_in_file : Head → List ℕ → List Record → Result Stack ℕ
-stack_in_file head [] records = stack_after_records (empty_stack_at head) records
-stack_in_file head (b ∷ body) records = Err body_at
+stack_in_file head body records = do
+  stack ← stack_at_body head body
+  stack_after_records stack records
 
 -- the file and the place of a test that failed
 pub record Misfit : Type 0 where
@@ -81,4 +57,4 @@ stack_in (Err fault) = in_file fault.file (place_of_cut fault.at fault.before)
 
 -- what the files stand for
 abbrev pub stands : Files → Result Stack Misfit
-stands files = stack_in (reading 1 files)
+stands files = stack_in (reading 2 files)

@@ -1,22 +1,35 @@
 //! What the two files of a store stand for, and what a crash leaves of runs over them: definitions,
-//! and their laws.
+//! and their laws; and the profile that a head names.
 #![tactic(auto)]
 
-ghost use Rattle.std.specs.Prelude.{◌≡◌, List, ◌∷◌, All, Ok};
+ghost use Rattle.std.specs.Prelude.{◌≡◌, ◌↔◌, IsTrue, List, ◌∷◌, All, Ok};
 ghost use Rattle.ox_outside.specs.Files.{Files};
+ghost use Rattle.ox_sat.specs.declared.profiles.Profile.{Profile};
+ghost use Rattle.ox_model.specs.Ends.{AllEnd};
+ghost use Rattle.ox_model.specs.Index.{Index};
 ghost use Rattle.ox_model.specs.Machine.{Machine, stack_of};
 ghost use Rattle.ox_model.specs.Sound.{IsSound};
 ghost use Rattle.ox_model.specs.Stack.{Stack};
+ghost use Rattle.ox_model.specs.declared.change.Change.{Change};
+ghost use Rattle.ox_files.specs.Body.{leads_down};
 ghost use Rattle.ox_files.specs.Runs.{LastOf, Run, RunInTurn};
 ghost use Rattle.ox_files.specs.Stands.{stands};
 
-/// Files that stand for a stack stand for that of a chain of blocks, and each of its indexes is
-/// sound.
-pub fn stores_are_chains()
-    ensures chain { (files : Files) (stack : Stack) → stands files ≡ Ok stack
-        → (machine : Machine) × (stack_of machine ≡ stack) }
-    ensures sound { (files : Files) (stack : Stack) → stands files ≡ Ok stack
+mod head;
+
+pub use head::profile_of_head;
+
+/// Of a stack that files stand for each index is sound: the newest, and each of the older ones.
+pub fn stores_are_sound()
+    ensures { (files : Files) (stack : Stack) → stands files ≡ Ok stack
         → All (IsSound stack.profile) (stack.index ∷ stack.older) }
+{}
+
+/// The test `leads_down` passes exactly where the index is sound, and each change, the newest
+/// first, ends where those before it are undone and leaves a sound index there.
+pub fn changes_lead_down()
+    ensures { (p : Profile) (index : Index) (changes : List Change)
+        → IsTrue (leads_down p index changes) ↔ (IsSound p index × AllEnd p index changes) }
 {}
 
 /// Any number of runs over the same files, each of which opens what the one before it left and

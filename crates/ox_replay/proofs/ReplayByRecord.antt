@@ -7,49 +7,50 @@ use Rattle.ox_bytes.specs.Reading.{◌>>=◌}
 use Rattle.ox_gated.specs.declared.head.Head.{Head}
 use Rattle.ox_gated.specs.declared.records.Record.{Record}
 use Rattle.ox_model.specs.Stack.{Stack}
-use Rattle.ox_files.specs.Stands.{stack_after_records, stack_in_file, empty_stack_at}
-use Rattle.ox_replay.specs.Replay.{IsUnjudged, stack_after_record}
-use Rattle.ox_replay.specs.declared.chains.Unjudged.{Unjudged}
-use Rattle.ox_replay.specs.declared.chains.Unjudged.TheVariants.{At, Memory}
+use Rattle.ox_files.specs.OldStands.{OldFault, IllFormed, Refused, empty_stack_at, old_stack_after, old_stack_after_records, old_stack_in_file}
+use Rattle.ox_replay.specs.Replay.{IsReplayFault}
+use Rattle.ox_replay.specs.declared.chains.ReplayFault.{ReplayFault}
+use Rattle.ox_replay.specs.declared.chains.ReplayFault.TheVariants.{At, Old, Memory}
 
-pub replayed_none : (stack : Stack) → stack_after_records stack [] ≡ Ok stack
-unfolding stack_after_records
-replayed_none stack = refl
+replayed_none : (number : ℕ) (stack : Stack) → old_stack_after_records number stack [] ≡ Ok stack
+unfolding old_stack_after_records
+replayed_none number stack = refl
 
-replayed_then : (stack : Stack) (one : Record) (records : List Record) → stack_after_records stack (one ∷ records) ≡ (stack_after_record stack one >>= λ next. stack_after_records next records)
-unfolding stack_after_records
-replayed_then stack one records = refl
+replayed_then : (number : ℕ) (stack : Stack) (one : Record) (records : List Record) → old_stack_after_records number stack (one ∷ records) ≡ (old_stack_after number stack one >>= λ next. old_stack_after_records (number + 1) next records)
+unfolding old_stack_after_records
+replayed_then number stack one records = refl
 
--- the records from this one on
-pub from_here : (stack : Stack) (records : List Record) (at : ℕ) (one : Record) → at < length records → one ≡ get_or records at one
-    → stack_after_records stack (drop at records) ≡ (stack_after_record stack one >>= λ next. stack_after_records next (drop (at + 1) records))
+-- the records from this one on, each numbered by its place among all
+from_here : (stack : Stack) (records : List Record) (at : ℕ) (one : Record) → at < length records → one ≡ get_or records at one
+    → old_stack_after_records at stack (drop at records) ≡ (old_stack_after at stack one >>= λ next. old_stack_after_records (at + 1) next (drop (at + 1) records))
 from_here stack records at one within is =
-    ap (stack_after_records stack) (drop_more records at one within ∙ ap (λ (r : Record). r ∷ drop (at + 1) records) (sym is))
-    ∙ replayed_then stack one (drop (at + 1) records)
+    ap (old_stack_after_records at stack) (drop_more records at one within ∙ ap (λ (r : Record). r ∷ drop (at + 1) records) (sym is))
+    ∙ replayed_then at stack one (drop (at + 1) records)
 
 -- one of them that is accepted
-pub goes_on : (stack next : Stack) (records : List Record) (at : ℕ) (one : Record) → at < length records → one ≡ get_or records at one → stack_after_record stack one ≡ Ok next
-    → stack_after_records stack (drop at records) ≡ stack_after_records next (drop (at + 1) records)
+pub goes_on : (stack next : Stack) (records : List Record) (at : ℕ) (one : Record) → at < length records → one ≡ get_or records at one → old_stack_after at stack one ≡ Ok next
+    → old_stack_after_records at stack (drop at records) ≡ old_stack_after_records (at + 1) next (drop (at + 1) records)
 goes_on stack next records at one within is here =
-    from_here stack records at one within is ∙ ap (λ (r : Result Stack ℕ). r >>= λ s. stack_after_records s (drop (at + 1) records)) here
+    from_here stack records at one within is ∙ ap (λ (r : Result Stack (OldFault ℕ)). r >>= λ s. old_stack_after_records (at + 1) s (drop (at + 1) records)) here
 
 -- one of them that isn't
-pub stops_here : (stack : Stack) (records : List Record) (at : ℕ) (one : Record) (place : ℕ) → at < length records → one ≡ get_or records at one → stack_after_record stack one ≡ Err place
-    → stack_after_records stack (drop at records) ≡ Err place
-stops_here stack records at one place within is here =
-    from_here stack records at one within is ∙ ap (λ (r : Result Stack ℕ). r >>= λ s. stack_after_records s (drop (at + 1) records)) here
+stops_here : (stack : Stack) (records : List Record) (at : ℕ) (one : Record) (fault : OldFault ℕ) → at < length records → one ≡ get_or records at one → old_stack_after at stack one ≡ Err fault
+    → old_stack_after_records at stack (drop at records) ≡ Err fault
+stops_here stack records at one fault within is here =
+    from_here stack records at one within is ∙ ap (λ (r : Result Stack (OldFault ℕ)). r >>= λ s. old_stack_after_records (at + 1) s (drop (at + 1) records)) here
 
 -- a body that is empty
-pub body_there : (head : Head) (body : List ℕ) (records : List Record) → (length body == 0) ≡ true → stack_in_file head body records ≡ stack_after_records (empty_stack_at head) records
+pub body_there : (head : Head) (body : List ℕ) (records : List Record) → (length body == 0) ≡ true → old_stack_in_file head body records ≡ old_stack_after_records 0 (empty_stack_at head) records
 body_there head [] records none = refl
 body_there head (b ∷ body) records none = absurd (omega (arith, eqb-true (length (b ∷ body)) 0 none))
 
--- why the records from this one on give no index
-pub unjudged_here : (stack : Stack) (records : List Record) (at : ℕ) (one : Record) (why : Unjudged) → at < length records → one ≡ get_or records at one → IsUnjudged (stack_after_record stack one) why
-    → IsUnjudged (stack_after_records stack (drop at records)) why
-unjudged_here stack records at one (At place) within is here = stops_here stack records at one place within is here
-unjudged_here stack records at one Memory within is here = tt
+-- why the records from this one on give no chain
+pub fault_here : (stack : Stack) (records : List Record) (at : ℕ) (one : Record) (why : ReplayFault) → at < length records → one ≡ get_or records at one → IsReplayFault (old_stack_after at stack one) why
+    → IsReplayFault (old_stack_after_records at stack (drop at records)) why
+fault_here stack records at one (At place) within is here = stops_here stack records at one (IllFormed place) within is here
+fault_here stack records at one (Old command refusal) within is here = stops_here stack records at one (Refused command refusal) within is here
+fault_here stack records at one Memory within is here = tt
 
 -- no record is left
-pub all_redone : (stack : Stack) (records : List Record) (at : ℕ) → length records ≤ at → stack_after_records stack (drop at records) ≡ Ok stack
-all_redone stack records at all = ap (stack_after_records stack) (drop_all at records all) ∙ replayed_none stack
+pub all_redone : (stack : Stack) (records : List Record) (at : ℕ) → length records ≤ at → old_stack_after_records at stack (drop at records) ≡ Ok stack
+all_redone stack records at all = ap (old_stack_after_records at stack) (drop_all at records all) ∙ replayed_none at stack

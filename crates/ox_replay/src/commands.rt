@@ -1,14 +1,14 @@
 //! Commands as their records have them.
 
 ghost use Rattle.std.specs.Prelude.{◌≡◌, Some, None, MatchOption};
-ghost use Rattle.ox_files.specs.Stands.{command_in as command_there};
+ghost use Rattle.ox_files.specs.OldStands.{command_in as command_there};
 ghost use Rattle.ox_replay.specs.Replay.{command_of};
 
 /// The first byte of a record's payload that connects the block behind it.
-pub const CONNECT: u8 = 1;
+const CONNECT: u8 = 1;
 
 /// The payload of a disconnect's record.
-pub const DISCONNECT: u8 = 0;
+const DISCONNECT: u8 = 0;
 
 /// A command as its record has it.
 #[derive(Clone, Copy)]
