@@ -19,9 +19,9 @@ use Rattle.ox_rows.proofs.ReaderLaws.{◌then◌, by_fields, list_law, no_fields
 use Rattle.ox_rows.proofs.RowLaws.{change_law, index_law}
 use Rattle.ox_sound.specs.Sound.{sound}
 use Rattle.ox_sound.proofs.SoundLemmas.{Decides-sound}
-use Rattle.ox_checkpoint.specs.Body.{Body, FitsBody, body_at, body_of, body_rows, leads_down, stack_in, stack_in_body, stack_of, whole}
-use Rattle.ox_checkpoint.specs.Payload.{payload_step, stack_by_change, with_change}
-use Rattle.ox_checkpoint.proofs.DownLemmas.{down_from}
+use Rattle.ox_files.specs.Body.{Body, FitsBody, body_at, body_of, body_rows, leads_down, stack_in, stack_in_body, stack_of, whole}
+use Rattle.ox_files.specs.Payload.{payload_step, stack_by_change, with_change}
+use Rattle.ox_files.proofs.DownLemmas.{down_from}
 
 pub body_law : Law FitsBody body_rows body_at
 unfolding body_at body_rows

@@ -1,6 +1,9 @@
 pub mod SatLemmas
 pub mod RowLemmas
 pub mod KeepLemmas
-pub mod DownLemmas
 pub mod AgainLemmas
 pub mod PutLemmas
+pub mod ReadLemmas
+pub mod StepLemmas
+pub mod StackLemmas
+pub mod FileLemmas

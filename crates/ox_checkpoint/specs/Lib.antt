@@ -1,3 +1,2 @@
-pub mod Body
-pub mod Payload
-pub mod Restored
+pub mod Kept
+pub mod Unjudged

@@ -1,6 +1,6 @@
-//! What holds of every index and of the changes that lead down from it.
+//! What holds of every sound index, and of what is spelled.
 
-ghost use Rattle.std.specs.Prelude.{◌≡◌, ◌≤◌, ◌↔◌, ℕ, IsTrue, List, ◌∷◌, Some, length};
+ghost use Rattle.std.specs.Prelude.{◌≡◌, ◌≤◌, ℕ, ◌∷◌, Some, length};
 ghost use Rattle.ox_sat.specs.Profiles.{IsProfile};
 ghost use Rattle.ox_sat.specs.declared.profiles.Profile.{Profile};
 ghost use Rattle.ox_model.specs.Change.{IsChange};
@@ -11,9 +11,8 @@ ghost use Rattle.ox_model.specs.Stack.{Stack};
 ghost use Rattle.ox_model.specs.declared.change.Change.{Change};
 ghost use Rattle.ox_rows.specs.RowFits.{FitsChange, KeepsChange, KeepsIndex};
 ghost use Rattle.ox_rows.specs.RowSpelling.{change_rows};
-ghost use Rattle.ox_checkpoint.specs.Body.{Body, FitsBody, body_rows, leads_down, stack_in_body};
-ghost use Rattle.ox_checkpoint.specs.Body.{stack_of};
-ghost use Rattle.ox_checkpoint.specs.Payload.{payload_step, with_change};
+ghost use Rattle.ox_files.specs.Body.{Body, FitsBody, body_rows, stack_in_body, stack_of};
+ghost use Rattle.ox_files.specs.Payload.{payload_step, with_change};
 
 /// A sound index keeps what its rows ask for, and so does each change between two sound ones: keys
 /// rise, satoshis are in range, and no list of balances is empty. So both can be put as rows.
@@ -35,11 +34,4 @@ pub fn what_is_spelled_stands()
     ensures change { (stack : Stack) (change : Change) → FitsChange change
         → BeginsIn stack.profile stack.index change
         → payload_step stack (1 ∷ change_rows change) ≡ Some (with_change stack change) }
-{}
-
-/// The test `leads_down` passes exactly where the index is sound, and each change, the newest
-/// first, ends where those before it are undone and leaves a sound index there.
-pub fn changes_lead_down()
-    ensures { (p : Profile) (index : Index) (changes : List Change)
-        → IsTrue (leads_down p index changes) ↔ (IsSound p index × AllEnd p index changes) }
 {}

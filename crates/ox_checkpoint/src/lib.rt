@@ -1,9 +1,13 @@
-//! What a file stands for where its body is a checkpoint, an index and the changes of its newest
-//! blocks, and each record holds what its command changed.
+//! The body of a file as bytes: a checkpoint, which is an index and the changes of its newest
+//! blocks; and the chain that a file stands for.
 #![tactic(auto)]
 
+mod kept;
 mod laws;
 mod put;
+mod read;
+mod restoring;
 
-pub use laws::{changes_lead_down, sound_data_can_be_put, what_is_spelled_stands};
+pub use laws::{sound_data_can_be_put, what_is_spelled_stands};
 pub use put::put_body;
+pub use restoring::{Unjudged, earliest, restore};

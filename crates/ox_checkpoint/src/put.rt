@@ -8,7 +8,7 @@ ghost use Rattle.ox_rows.specs.Fits.{FitsList};
 ghost use Rattle.ox_rows.specs.RowFits.{FitsChange, FitsIndex, KeepsChange};
 ghost use Rattle.ox_rows.specs.RowSpelling.{change_rows, index_rows};
 ghost use Rattle.ox_rows.specs.Spelling.{list};
-ghost use Rattle.ox_checkpoint.specs.Body.{FitsBody, body_of, body_rows};
+ghost use Rattle.ox_files.specs.Body.{FitsBody, body_of, body_rows};
 
 use ox_bytes::{Bytes, Memory};
 use ox_index::{Changes, Live};
@@ -18,7 +18,7 @@ use ox_rows::{put_change, put_count, put_index};
 /// are kept, in 4 bytes, and the rows of each, the newest first. These changes have to lead down
 /// from the index, as those of a chain do. `Memory` where there is none for the rows or for the
 /// index as plain data, and where a list has 2^32 items or more: rows that were put before stay.
-#[tactic(auto, unfolding(crate::specs::Body::body_rows))]
+#[tactic(auto, unfolding(ox_files::specs::Body::body_rows))]
 pub fn put_body(bytes: &mut Bytes, live: &Live, changes: &Changes) -> Result<(), Memory>
     requires { AllEnd (profile_in live.now) (index_in live.now) changes.now.kept }
     // They are the rows of this body.

@@ -3,7 +3,7 @@ use Rattle.ox_index.specs.Live.{index_in, profile_in}
 use Rattle.ox_rows.specs.RowSpelling.{change_rows, index_rows}
 use Rattle.ox_rows.specs.Spelling.{list}
 use Rattle.ox_rows.proofs.Putting.{more}
-use Rattle.ox_checkpoint.specs.Body.{body_rows}
+use Rattle.ox_files.specs.Body.{body_rows}
 use Rattle.ox_checkpoint.proofs.KeepLemmas.{each_keeps}
 use Rattle.ox_checkpoint.proofs.put.put_body.Goals as goal
 

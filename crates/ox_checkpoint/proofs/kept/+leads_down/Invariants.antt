@@ -1,0 +1,6 @@
+use Rattle.std.proofs.Common.{length}
+use Rattle.ox_checkpoint.proofs.kept.+leads_down.Given as goal
+
+-- how many are left
+abbrev pub decreases-leads_down : goal.decreases-leads_down
+decreases-leads_down l = length l.changes.now

@@ -1,5 +1,0 @@
-use Rattle.ox_checkpoint.proofs.DownLemmas.{leads}
-use Rattle.ox_checkpoint.proofs.laws.changes_lead_down.Goals as goal
-
-pub returns : goal.returns
-returns c = λ p index changes. leads p index changes

@@ -1,0 +1,98 @@
+//! The chain that a file stands for.
+
+ghost use Rattle.std.specs.Prelude.{◌≡◌, IfErr, IfOk, IfSome, IsTrue, Ok};
+ghost use Rattle.ox_gated.specs.Layout.{is_lawful};
+ghost use Rattle.ox_gated.specs.Opened.{intact_part};
+ghost use Rattle.ox_index.specs.Chain.{stack_in};
+ghost use Rattle.ox_checkpoint.specs.Kept.{stack_kept};
+ghost use Rattle.ox_files.specs.Stands.{place_of_cut, stack_at_body, stack_in_file};
+ghost use Rattle.ox_checkpoint.specs.Unjudged.{IsUnjudged, stack_after_record};
+
+use crate::kept::Kept;
+use ox_bytes::Bytes;
+use ox_files::profile_of_head;
+use ox_gated::{BODY_AT, Before, Head, Record, Records};
+use ox_index::Chain;
+use std::alloc::Global;
+
+/// Why a head, a body and records give no chain.
+#[derive(Clone, Copy, Debug, PartialEq, Eq)]
+pub enum Unjudged {
+    /// They stand for none: the place in the file of the first test that fails.
+    At(u64),
+    /// There is no memory for the chain.
+    Memory,
+}
+
+/// The chain that a head, a body and records stand for: the body is an index and the changes of its
+/// newest blocks, and each record holds a change, or takes the newest block back. All of them are
+/// tested. `At` exactly where they stand for none, with the place of the first test that fails:
+/// that of the body, or that of the gate of the first record that isn't accepted. `Memory` where
+/// there is none for the chain.
+///
+/// It goes back from the newest index to the oldest kept one, tests that one whole, and comes on
+/// again. So it costs by one index, by the kept changes and by the records. A change that doesn't
+/// keep the rules of `keeps_sound` costs an index more; those of a chain keep them.
+pub fn restore(
+    alloc: Global,
+    head: &Head,
+    body: &Bytes,
+    records: &Records,
+) -> Result<Chain, Unjudged>
+    requires { IsTrue (is_lawful head.now) }
+    ensures stack { IfOk result (λ chain.
+        stack_in_file head.now body.now records.now ≡ Ok (stack_in chain)) }
+    ensures place { IfErr result (IsUnjudged (stack_in_file head.now body.now records.now)) }
+{
+    let mut kept = begin(alloc, head, body)?;
+    for record in records.as_slice() {
+        kept = after(alloc, kept, record)?;
+    }
+    match kept.into_chain(alloc) {
+        Ok(chain) => Ok(chain),
+        Err(_) => Err(Unjudged::Memory),
+    }
+}
+
+/// The first test that fails in a file whose gate or record at this place is cut: the body and the
+/// records before it are tested first. `Memory` where there is none for the chain of these.
+pub fn earliest(alloc: Global, before: Option<Before>, at: u64) -> Unjudged
+    requires { IfSome before (λ before. IsTrue (is_lawful before.head)) }
+    ensures { IsUnjudged (place_of_cut at (intact_part before)) result }
+{
+    let Some(before) = before else {
+        return Unjudged::At(at);
+    };
+    match restore(alloc, &before.head, &before.body, &before.records) {
+        Ok(_) => Unjudged::At(at),
+        Err(unjudged) => unjudged,
+    }
+}
+
+/// The stack of a head and a body.
+fn begin(alloc: Global, head: &Head, body: &Bytes) -> Result<Kept, Unjudged>
+    requires { IsTrue (is_lawful head.now) }
+    ensures stack { IfOk result (λ kept.
+        stack_at_body head.now body.now ≡ Ok (stack_kept kept)) }
+    ensures place { IfErr result (IsUnjudged (stack_at_body head.now body.now)) }
+{
+    match Kept::of(alloc, profile_of_head(head), head.depth, body.as_slice()) {
+        Ok(Some(kept)) => Ok(kept),
+        Ok(None) => Err(Unjudged::At(BODY_AT as u64)),
+        Err(_) => Err(Unjudged::Memory),
+    }
+}
+
+/// The stack after a record.
+fn after(alloc: Global, kept: Kept, record: &Record) -> Result<Kept, Unjudged>
+    ensures stack { IfOk result (λ next.
+        stack_after_record (stack_kept kept) «record».now ≡ Ok (stack_kept next)) }
+    ensures place { IfErr result
+        (IsUnjudged (stack_after_record (stack_kept kept) «record».now)) }
+{
+    match kept.after(alloc, record.payload.as_slice()) {
+        Ok(Some(next)) => Ok(next),
+        Ok(None) => Err(Unjudged::At(record.place)),
+        Err(_) => Err(Unjudged::Memory),
+    }
+}
