@@ -1,5 +1,4 @@
-"""Chains of blocks, the lines that connect them and take them back, and the files of a store that
-heard them."""
+"""Chains of blocks, and the lines that connect them and take them back."""
 
 from tools import bitcoin
 from tools.bitcoin import RESERVED, SUBSIDY, root, twice
@@ -8,10 +7,9 @@ from tools.programs import TOP
 # Bitcoin's first block
 GENESIS = bytes.fromhex((TOP / "feeds" / "genesis.feed").read_text().split()[1])
 HALVING = 210_000
-EMPTY_HEAD = b"\1oxidx\1\1" + (100).to_bytes(2, "little") + (1).to_bytes(8, "little") + bytes(8)
 SHORT = b"\x51"
 
-# what a disconnect's record holds
+# a command as a record of version 1 holds it; a disconnect's is the same at version 2
 DISCONNECT = b"\0"
 
 
@@ -100,31 +98,16 @@ def line(block):
 
 
 def payload_of(block):
-    """What a connect's record holds."""
+    """The command that connects a block."""
     return b"\1" + block
 
 
-def line_of(payload):
-    """The line of a record's command."""
-    return b"disconnect\n" if payload == DISCONNECT else line(payload[1:])
+def line_of(command):
+    """The line of a command."""
+    return b"disconnect\n" if command == DISCONNECT else line(command[1:])
 
 
 def record_of(payload):
     """A record but for its gate: the payload's length and the payload, and a closed gate behind
     it."""
     return len(payload).to_bytes(4, "little") + payload + b"\0"
-
-
-def record(block):
-    """The record of a connect."""
-    return record_of(payload_of(block))
-
-
-def file_of(payloads):
-    """File A of a regtest store of depth 100 with these records; file B has one byte, 00."""
-    return EMPTY_HEAD + b"".join(b"\1" + record_of(payload)[:-1] for payload in payloads) + b"\0"
-
-
-def file_a(blocks):
-    """The same where each record connects a block."""
-    return file_of(map(payload_of, blocks))

@@ -9,11 +9,12 @@ it over built programs. checks/failing_allocation.c, which `cc` compiles, stands
 crates/ox_main, and `rt run < stdin` in crates/ox_index_rows.
 
 - `apply` of PROGRAM (crates/ox_main/out/ox_main without a word) over a lab chain whose blocks
-  reveal inscriptions, etch, mint and burn runes, and are taken back: one run for each allocation,
-  which fails. The run has to end with status 8, or 0 where nothing was lacking, or 4 where the
-  folder couldn't be opened for it and nothing was shown, and to have shown whole lines in front of
-  those of an undisturbed run. The lines behind them are then applied with all memory, and have to
-  be answered by the others and to leave the files as they should be.
+  reveal inscriptions, etch, mint and burn runes, and are taken back; and over the last of 70 lines,
+  of which one turns the files: one run for each allocation, which fails. The run has to end with
+  status 8, or 0 where nothing was lacking, or 4 where the folder couldn't be opened for it and
+  nothing was shown, and to have shown whole lines in front of those of an undisturbed run. The
+  lines behind them are then applied with all memory, and have to be answered by the others and to
+  leave the files as they should be.
 - crates/ox_index_rows/out/ox_index_rows over rows that connect blocks, take them back and lead both
   ways, each followed by a dump of the whole index: one run for each allocation, which fails. Where
   a row finds no memory it has to say so, and the index has to be as before; the same row then has
@@ -93,28 +94,36 @@ def lab_chain():
     return [*map(line, blocks), line(block), line(last), b"disconnect\n", line(last)]
 
 
+def long_chain():
+    """70 lines: those, and the last block taken back and connected again and again."""
+    lines = lab_chain()
+    more = 70 - len(lines)
+    return lines + ((more // 2 + 1) * [b"disconnect\n", lines[-1]])[:more]
+
+
 def files(folder):
     return tuple((folder / name).read_bytes() for name in ("a.ox", "b.ox"))
 
 
-def store(program, top, number):
-    folder = top / str(number)
+def made(program, folder, lines):
+    """A store that heard these lines, in a new folder."""
     folder.mkdir()
-    made = subprocess.run([program, folder, "init", "lab", "100"], stdout=subprocess.PIPE)
-    demand(made.returncode == 0, f"init ended with {made.returncode}")
+    for words, feed in ((["init", "lab", "100"], b""), (["apply"], b"".join(lines))):
+        ran = subprocess.run([program, folder, *words], input=feed, stdout=subprocess.PIPE)
+        demand(ran.returncode == 0, f"{words[0]} ended with {ran.returncode}")
     return folder
 
 
-def apply_in_turn(program, memory, top):
-    """Each allocation of an `apply` fails in turn."""
-    lines = lab_chain()
-    whole = store(program, top, 0)
+def apply_in_turn(program, memory, top, heard, lines):
+    """Each allocation of an `apply` of these lines fails in turn, behind those that were heard."""
+    first = made(program, top / "first", heard)
+    whole = pathlib.Path(shutil.copytree(first, top / "whole"))
     ran, count = memory.run([program, whole, "apply"], 0, b"".join(lines))
     answers = ran.stdout.splitlines(keepends=True)
     demand(ran.returncode == 0 and len(answers) == len(lines), f"{ran.returncode}: {ran.stdout}")
     demand(all(answer.startswith(b"ok ") for answer in answers), f"refused: {ran.stdout}")
     for fails in range(1, count + 1):
-        folder = store(program, top, fails)
+        folder = pathlib.Path(shutil.copytree(first, top / str(fails)))
         ran, _ = memory.run([program, folder, "apply"], fails, b"".join(lines))
         shown = ran.stdout.splitlines(keepends=True)
         demand(
@@ -136,7 +145,9 @@ def apply_in_turn(program, memory, top):
         )
         demand(files(folder) == files(whole), f"after allocation {fails}: the files are others")
         shutil.rmtree(folder)
-    print(f"apply: {count} allocations")
+    shutil.rmtree(first)
+    shutil.rmtree(whole)
+    print(f"apply of {len(lines)} lines behind {len(heard)}: {count} allocations")
 
 
 class Scarce(Indexes):
@@ -306,7 +317,9 @@ def main():
     top = pathlib.Path(tempfile.mkdtemp())
     memory = Memory(shim(top), top)
     try:
-        apply_in_turn(program, memory, top)
+        apply_in_turn(program, memory, top, [], lab_chain())
+        long = long_chain()
+        apply_in_turn(program, memory, top, long[:62], long[62:])
         rows_in_turn(memory)
     except Failed as failed:
         print(f"FAILED: {failed}; the files are in {top}")

@@ -3,23 +3,24 @@
 
     python3 checks/kills.py [KILLS [SEED [PROGRAM]]]
 
-applies a feed of regtest blocks, most of them small and some of up to two million bytes, and of
-disconnects, one to about six blocks, to a store below out/ beside this script, and kills the
-program (SIGKILL, by the number of its own process): while it starts and opens the store, a random
-time after a random number of lines was shown, or as soon as file A grows by a large block. Then it
-tests that
+applies a feed of 300 regtest blocks, most of them small and some of up to two million bytes, and of
+disconnects, one to about six blocks, to a store of depth 5 below out/ beside this script, and kills
+the program (SIGKILL, by the number of its own process): while it starts and opens the store, a
+random time after a random number of lines was shown, in the command that turns the files, or as
+soon as a file grows by a large block or by a whole index. Then it tests that
 
 - `query /status` opens the store, which is as the lines shown left it, or as one line more did: its
   number of blocks, how many of them are kept, and its newest block, which is the one that `fold
   regtest` shows after that many lines;
 - the lines that were shown, the last of them maybe in part, are those that `fold` shows;
-- file A begins with the bytes that docs/FORMATS.md says, and file B is one byte 00.
+- the two files have the bytes that docs/FORMATS.md says: those that the store's lines leave, with
+  none, a part or all of what the next line writes before its last gate.
 
-The next `apply` goes on with the line behind. After fifty kills, or at the feed's end, a new store
-is begun. With KILLS (300 without a word) done it tells what the kills met and ends with `passed`
-and status 0. At the first test that fails it tells which, keeps the store, and ends with status 1.
-SEED is 1 and PROGRAM is crates/ox_main/out/ox_main without a word. What was written outlives a
-killed program even where the disk hasn't got it, so this tries no loss of power.
+The next `apply` goes on with the line behind. At the feed's end a new store is begun. With KILLS
+(300 without a word) done it tells what the kills met and ends with `passed` and status 0. At the
+first test that fails it tells which, keeps the store, and ends with status 1. SEED is 1 and PROGRAM
+is crates/ox_main/out/ox_main without a word. What was written outlives a killed program even where
+the disk hasn't got it, so this tries no loss of power.
 """
 
 import collections
@@ -32,13 +33,13 @@ import sys
 import tempfile
 import time
 
-from chain import DISCONNECT, SHORT, block_on, file_of, line_of, payload_of
+from chain import DISCONNECT, SHORT, block_on, line_of, payload_of
+from store_files import MOST_RECORDS, Disk, Store, make
 from tools.programs import TOP, proved_program
 
 PROGRAM = proved_program("ox_main")
-LINES = 1000
-DEPTH = 100
-KILLS_OF_A_STORE = 50
+LINES = 300
+DEPTH = 5
 
 
 class Failed(Exception):
@@ -60,12 +61,12 @@ class Feed:
     to it."""
 
     def __init__(self, program, top, chance):
-        self.payloads, self.states = commands(chance)
+        self.commands, self.states = commands(chance)
         self.path = top / "feed"
         self.places = [0]
         with open(self.path, "wb") as feed:
-            for payload in self.payloads:
-                feed.write(line_of(payload))
+            for command in self.commands:
+                feed.write(line_of(command))
                 self.places.append(feed.tell())
         with open(self.path, "rb") as given:
             shown = subprocess.run(
@@ -78,22 +79,22 @@ class Feed:
 
 
 def commands(chance):
-    """The payloads of the feed's lines, none of which is refused, and the states before each and
+    """The commands of the feed's lines, none of which is refused, and the states before each and
     after the last."""
-    payloads, hashes, kept, states = [], [], 0, [State(0, 0, None)]
-    while len(payloads) < LINES:
+    told, hashes, kept, states = [], [], 0, [State(0, 0, None)]
+    while len(told) < LINES:
         if kept and chance.randrange(7) == 0:
-            payloads.append(DISCONNECT)
+            told.append(DISCONNECT)
             hashes.pop()
             kept -= 1
         else:
             previous = hashes[-1] if hashes else bytes(32)
-            block, hash_ = block_on(previous, len(payloads), script_of(chance))
-            payloads.append(payload_of(block))
+            block, hash_ = block_on(previous, len(told), script_of(chance))
+            told.append(payload_of(block))
             hashes.append(hash_)
             kept = min(kept + 1, DEPTH)
         states.append(State(len(hashes), kept, hashes[-1][::-1].hex() if hashes else None))
-    return payloads, states
+    return told, states
 
 
 def answer_of(state):
@@ -116,13 +117,17 @@ def begin(program, folder):
     )
 
 
+def size_of(folder):
+    return sum((folder / name).stat().st_size for name in ("a.ox", "b.ox"))
+
+
 def wait_for(child, folder, when):
     """Waits for the moment, or until the program has ended."""
-    shown, a = folder / "shown", folder / "a.ox"
+    shown = folder / "shown"
     while child.poll() is None and shown.read_bytes().count(b"\n") < when.lines:
         time.sleep(0.0002)
-    size = a.stat().st_size
-    while when.grows and child.poll() is None and a.stat().st_size <= size:
+    size = size_of(folder)
+    while when.grows and child.poll() is None and size_of(folder) <= size:
         pass
     time.sleep(when.seconds)
 
@@ -159,42 +164,84 @@ def look(program, folder):
     return state, seconds
 
 
-def look_at_files(folder, feed, count):
-    """What stands behind the last gate: nothing, a part of the next record, or all of it."""
-    a, wanted = (folder / "a.ox").read_bytes(), file_of(feed.payloads[:count])
-    demand(a.startswith(wanted), "file A doesn't begin with its records")
-    demand((folder / "b.ox").read_bytes() == b"\0", "file B isn't closed")
-    more = len(a) - len(wanted)
-    if more == 0:
-        return "nothing"
-    # file A with one record more, but for the gate
-    whole = file_of(feed.payloads[: count + 1])[len(wanted) :]
-    demand(whole.startswith(a[len(wanted) :]), "another record stands behind the last gate")
-    return "a whole record" if more == len(whole) else "a part of a record"
+class Writes:
+    """A disk that keeps what is written."""
+
+    def __init__(self):
+        self.writes = []
+
+    def write(self, file, at, data):
+        self.writes.append((file, at, data))
+
+    def sync(self, file):
+        pass
 
 
-# So many lines are shown, file A has grown where `grows`, and so many seconds have passed.
+def writes_of(store, command):
+    """What a command writes into the files of a store."""
+    disk = Writes()
+    Store(disk, store.stack, store.tail).carry_out(command)
+    return disk.writes
+
+
+def begins_with(got, old, at, data):
+    """Whether a file is the old one with a front of these bytes over it at a place."""
+    new = got[at : at + len(data)]
+    same = next((n for n, pair in enumerate(zip(new, data)) if pair[0] != pair[1]), len(new))
+    return got[:at] == old[:at] and got[at + same :] == old[at + same :]
+
+
+def look_at_files(folder, store, command):
+    """What stands there of the next command, if there is one: nothing, or a part of what it
+    writes before its last gate."""
+    got = {"A": (folder / "a.ox").read_bytes(), "B": (folder / "b.ox").read_bytes()}
+    files = Disk()
+    files.files = {file: bytearray(data) for file, data in store.disk.files.items()}
+    if files.files == got:
+        return "nothing of the next command"
+    *writes, _ = writes_of(store, command) if command else [None]
+    what = "turn" if store.tail.must_turn() else "record"
+    for number, (file, at, data) in enumerate(writes, 1):
+        others = all(files.files[other] == got[other] for other in "AB" if other != file)
+        if others and begins_with(got[file], bytes(files.files[file]), at, data):
+            whole = number == len(writes) and got[file][at : at + len(data)] == data
+            return f"a {what} but for its gate" if whole else f"a part of a {what}"
+        files.write(file, at, data)
+    raise Failed("the files have other bytes")
+
+
+# So many lines are shown, a file has grown where `grows`, and so many seconds have passed.
 Moment = collections.namedtuple("Moment", "lines grows seconds")
 
 
-def moment(chance, feed, first, opening):
+def moment(chance, feed, first, store, opening):
     """When to kill an `apply` from this line on. Starting and opening took so long last."""
-    kind = chance.randrange(5)
+    kind = chance.randrange(6)
     if kind == 0:
         return Moment(0, False, chance.uniform(0, opening))
+    if kind < 3:
+        return in_turn(chance, max(MOST_RECORDS - store.tail.records, 0), opening)
     large = [
-        n for n, payload in enumerate(feed.payloads[first : first + 50]) if len(payload) > 100_000
+        n for n, command in enumerate(feed.commands[first : first + 50]) if len(command) > 100_000
     ]
-    if kind == 1 and large:
+    if kind == 3 and large:
         return Moment(large[0], True, 0)
     return Moment(
         chance.randint(1, 20), False, chance.uniform(0, chance.choice([0.0002, 0.001, 0.005]))
     )
 
 
-def kill_once(program, folder, feed, before, when, met):
-    """Applies and kills once, and tests what is left. Answers how many lines the store has, and how
-    long it took to open it."""
+def in_turn(chance, lines, opening):
+    """When to kill in the command that turns the files, so many lines from here."""
+    if chance.randrange(3) == 0:
+        return Moment(lines, True, 0)
+    begun = 0 if lines else chance.uniform(0.5, 1.5) * opening
+    return Moment(lines, False, begun + chance.uniform(0, chance.choice([0.001, 0.004])))
+
+
+def kill_once(program, folder, feed, before, store, when, met):
+    """Applies and kills once, and tests what is left: the store has heard so many lines. Answers
+    how many it has then, and how long it took to open it."""
     shown, was_killed = apply_and_kill(program, folder, feed, before, when)
     answers = b"".join(feed.answers[before:])
     demand(answers.startswith(shown), "other lines were shown than `fold` shows")
@@ -208,29 +255,32 @@ def kill_once(program, folder, feed, before, when, met):
         count <= LINES and state == feed.states[count],
         f"{lines} lines were shown behind {before}, and there is {state}",
     )
-    behind = look_at_files(folder, feed, count)
+    for command in feed.commands[before:count]:
+        met["turns"] += store.tail.must_turn()
+        store.carry_out(command)
+    behind = look_at_files(folder, store, next(iter(feed.commands[count:]), None))
     met["killed while it ran"] += was_killed
     met["killed before a line was shown"] += was_killed and not shown
     met["a command more than lines"] += unshown
-    met[f"{behind} behind the last gate"] += 1
+    met[f"{behind} behind what stands"] += 1
     met["commands"] += count - before
-    met["disconnects"] += feed.payloads[before:count].count(DISCONNECT)
+    met["disconnects"] += feed.commands[before:count].count(DISCONNECT)
     return count, opening
 
 
 def kill_often(program, top, kills, chance, met):
     feed = Feed(program, top, chance)
     folder = top / "store"
-    count, opening = LINES, 0
-    for turn in range(kills):
-        if count == LINES or turn % KILLS_OF_A_STORE == 0:
+    count, opening, store = LINES, 0, None
+    for _ in range(kills):
+        if count == LINES:
             begin(program, folder)
             state, opening = look(program, folder)
             demand(state == feed.states[0], f"a new store has {state}")
-            count = 0
+            count, store = 0, make(Disk(), depth=DEPTH)
             met["stores"] += 1
-        when = moment(chance, feed, count, opening)
-        count, opening = kill_once(program, folder, feed, count, when, met)
+        when = moment(chance, feed, count, store, opening)
+        count, opening = kill_once(program, folder, feed, count, store, when, met)
 
 
 def main():

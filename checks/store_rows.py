@@ -3,146 +3,73 @@
 
     checks/store_rows.py
 
-Blocks are told by docs/RULES.md, and the two files, what a crash leaves of them and what they stand
-for by docs/FORMATS.md, on their own. What these don't say and the rows go by: opening syncs A and
-B, in this order, and then reads; making asks for both lengths, writes B, syncs it, writes A's first
-byte and the others, syncs A, writes its gate and syncs it.
+Blocks and what they leave of an index are told by docs/RULES.md, and the two files, what a crash
+leaves of them and what they stand for by docs/FORMATS.md, on their own: see plain_index and
+store_files. What these don't say and the rows go by: opening syncs A and B, in this order, asks for
+the length and the front of each, and reads the body and what is behind it; making asks for both
+lengths, writes B, syncs it, writes A's first byte and the others, syncs A, writes its gate and
+syncs it.
 """
 
 import made_blocks
+import old_files
+import store_faults
+import store_files
 from chain import DISCONNECT, GENESIS, SHORT, payload_of, record_of
+from plain_index import MOST_BYTES as MOST
+from plain_index import NO_BLOCK, Refused
+from row_ends import count_of
+from store_files import CLOSED, GREATEST, OPEN, NoStore, stands
+from table import offset_in
 from tools import bitcoin
 from tools.bitcoin import SUBSIDY, twice
 from tools.programs import write_rows
 
 ALL = 1_000_000_000
-MOST = 4_000_000
-PROFILES = {"mainnet": (0, 210_000, None), "regtest": (1, 210_000, None), "lab": (2, 10, 40)}
-NO_BLOCK = bytes(32)
+# the calls of an opening: two syncs, of both files the length and the front, the body and what is
+# behind it
+LOOKS = 8
+# the writes and syncs of a making, of a record, and of a turn beside a closed file
+MADE, APPENDED, TURNED = 8, 4, 5
 
 GENESIS_HASH = "6fe28c0ab6f1b372c1a6a246ae63f74f931e8365e15a089c68d6190000000000"
 
 # an empty regtest store of depth 100, file A, as FORMATS has it
-EMPTY = bytes.fromhex("01 6f78696478 01 01 6400 0100000000000000 0000000000000000 00")
+EMPTY = bytes.fromhex(store_files.EMPTY)
 
 
-# ---- a chain of blocks of a coinbase alone, each with one output, or of made blocks
-
-
-class Refused(Exception):
-    pass
-
-
-# the first made blocks, by their bytes: the id of the coinbase, and how many outputs go and come
-MADE = {
-    block: (twice(txs[0][0]), len(txs) - 1, 2 * len(txs)) for block, _, txs in made_blocks.chain(12)
-}
+# ---- blocks
 
 
 def block_on(previous, mark, claim=SUBSIDY, source=1, target=SHORT):
-    """The bytes of a block whose coinbase has a script of so many bytes, each the mark, and an
-    output of this value and script; and its hash."""
+    """The bytes of a block of a coinbase alone, which has a script of so many bytes, each the mark,
+    and an output of this value and script; and its hash."""
     script = source * bytes([mark])
     tx = bitcoin.coinbase([(claim, target)], script, sequence=0xFFFFFFFF, version=1)[0]
     return bitcoin.block(previous, twice(tx), [tx])
 
 
-def claim_of(block):
-    """The value of the one output of such a block's coinbase."""
-    width = {253: 2, 254: 4}.get(block[122], 0)
-    script = int.from_bytes(block[123 : 123 + width], "little") if width else block[122]
-    at = 123 + width + script + 5
-    return int.from_bytes(block[at : at + 8], "little")
+def moved_line(stack, command, after):
+    """What a command changes, and where it leads to."""
+    is_back = command == DISCONNECT
+    change = (stack if is_back else after).kept[0].change
+    way = "back" if is_back else "on"
+    told = f"{way} {change.hash.hex()}, {len(change.gone)} gone, {len(change.came)} came, "
+    return told + tip_line(after)
 
 
-class Chain:
-    """The blocks of a chain by (hash, txid, claim), and how many of them are kept."""
+def tip_line(stack):
+    blocks = len(stack.hashes())
+    return f"tip {blocks - 1} {stack.tip().hex()}" if blocks else "no tip"
 
-    def __init__(self, profile, depth):
-        _, self.halving, self.last = PROFILES[profile]
-        self.depth, self.blocks, self.kept = depth, [], 0
 
-    def tip(self):
-        return self.blocks[-1][0] if self.blocks else NO_BLOCK
-
-    def subsidy(self, height):
-        return SUBSIDY >> height // self.halving
-
-    def carry_out(self, payload):
-        """Carries out a record's command, and tells which block moves, and where to."""
-        if payload == DISCONNECT:
-            if not self.kept:
-                raise Refused("refused 11")
-            self.kept -= 1
-            told = self.newest_change("back")
-            self.blocks.pop()
-            return told
-        self.connect(payload[1:])
-        return self.newest_change("on")
-
-    def connect(self, block):
-        if not block:
-            raise Refused("refused 3 0")
-        if len(block) > MOST:
-            raise Refused(f"refused 3 {MOST}")
-        height, previous, root = len(self.blocks), block[4:36], block[36:68]
-        if self.last is not None and height > self.last:
-            raise Refused(f"refused 4 {height}")
-        if previous != self.tip():
-            raise Refused(f"refused 5 {previous[::-1].hex()} {self.tip()[::-1].hex()}")
-        if block in MADE:
-            self.add(block, MADE[block][0], SUBSIDY - 1)
-            return
-        txid, claim = twice(block[81:]), claim_of(block)
-        if root != txid:
-            raise Refused(f"refused 6 {root[::-1].hex()} {txid[::-1].hex()}")
-        if claim > self.subsidy(height):
-            raise Refused(f"refused 10 {self.subsidy(height)} {claim}")
-        self.add(block, txid, claim)
-
-    def add(self, block, txid, claim):
-        self.blocks.append((twice(block[:80]), txid, claim))
-        self.kept = min(self.kept + 1, self.depth)
-
-    def newest_change(self, way):
-        """The newest block's change: its output comes, and takes the place of an equal
-        coinbase's."""
-        block_hash, txid, _ = self.blocks[-1]
-        gone, came = int(any(txid == earlier[1] for earlier in self.blocks[:-1])), 1
-        for made, made_gone, made_came in MADE.values():
-            if txid == made:
-                gone, came = made_gone, made_came
-        return f"{way} {block_hash.hex()}, {gone} gone, {came} came, "
-
-    def tip_line(self):
-        return f"tip {len(self.blocks) - 1} {self.tip().hex()}" if self.blocks else "no tip"
-
-    def sats(self):
-        """The ranges of unspent outputs by txid, and the lost ones in order: the first satoshi and
-        how many."""
-        outs, lost, first = {}, [], 0
-        for height, (_, txid, claim) in enumerate(self.blocks):
-            if txid in outs:
-                lost.append(outs[txid])
-            outs[txid] = (first, claim)
-            lost.append((first + claim, self.subsidy(height) - claim))
-            first += self.subsidy(height)
-        return outs, lost
-
-    def lost_count(self):
-        return sum(count for _, count in self.sats()[1])
-
-    def place(self, sat):
-        outs, lost = self.sats()
-        for txid, (first, count) in outs.items():
-            if first <= sat < first + count:
-                return f"{txid.hex()}:0 at {sat - first}"
-        before = 0
-        for first, count in lost:
-            if first <= sat < first + count:
-                return f"lost at {before + sat - first}"
-            before += count
-        return "nowhere"
+def place_line(index, sat):
+    for (txid, at), row in index.outputs:
+        offset = offset_in(row.sats, sat)
+        if offset is not None:
+            return f"{txid.hex()}:{at} at {offset}"
+    offset = offset_in(index.lost, sat)
+    return "nowhere" if offset is None else f"lost at {offset}"
 
 
 # ---- two files on a disk
@@ -204,110 +131,33 @@ class Site:
         return Site({file: self.image(file, moment, fill, keep) for file in "AB"})
 
 
-class NoStore(Exception):
-    pass
-
-
-def lawful(head):
-    profiles = [byte for byte, _, _ in PROFILES.values()]
-    depth, generation = int.from_bytes(head[8:10], "little"), int.from_bytes(head[10:18], "little")
-    form = (
-        head[1:6] == b"oxidx" and head[6] in (1, 2) and head[7] in profiles
-        if len(head) == 26
-        else False
-    )
-    return form and 1 <= depth <= 1000 and generation != 0
-
-
-def current(files):
-    """Which of two files is current."""
-    closed = [file for file in "AB" if files[file][:1] in (b"", b"\0")]
-    if len(closed) == 2:
-        raise NoStore("A at 0")
-    for file in closed:
-        if not files[file]:
-            raise NoStore(f"{file} at 0")
-    still_open = [file for file in "AB" if file not in closed]
-    for file in still_open:
-        if not lawful(files[file][:26]):
-            raise NoStore(f"{file} at 1")
-    generations = [int.from_bytes(files[file][10:18], "little") for file in still_open]
-    if len(generations) == 2 and generations[0] == generations[1]:
-        raise NoStore("B at 10")
-    return still_open[generations.index(max(generations))]
-
-
-def records(data, place):
-    """The records from a place on, each with its place; the place of the gate behind them; and
-    whether it is there and closed, or else is missing or has a record that is cut."""
-    found = []
-    while place < len(data) and data[place]:
-        length = int.from_bytes(data[place + 1 : place + 5], "little")
-        if len(data) < place + 5 + length:
-            return found, place, False
-        found.append((place, data[place + 5 : place + 5 + length]))
-        place += 5 + length
-    return found, place, place < len(data)
-
-
-def stands(files):
-    """The chain that two files stand for, the current file and the place of its last gate."""
-    file = current(files)
-    data = files[file]
-    if data[6] != 1:
-        raise NoStore(f"{file} at 6")
-    if int.from_bytes(data[18:26], "little"):
-        raise NoStore(f"{file} at 26")
-    chain = Chain(list(PROFILES)[data[7]], int.from_bytes(data[8:10], "little"))
-    found, gate, ends = records(data, 26)
-    for place, payload in found:
-        if payload != DISCONNECT and payload[:1] != b"\1":
-            raise NoStore(f"{file} at {place}")
-        try:
-            chain.carry_out(payload)
-        except Refused:
-            raise NoStore(f"{file} at {place}")
-    if not ends:
-        raise NoStore(f"{file} at {gate}")
-    return chain, file, gate
-
-
 # ---- rows
 
 
-class Store:
+class Store(store_files.Store):
     """A store on a site, and the lines that commands are answered by."""
 
-    def __init__(self, site, chain, file, gate):
-        self.site, self.chain, self.file, self.gate, self.commands = site, chain, file, gate, 0
+    def __init__(self, site, stack, tail):
+        super().__init__(site, stack, tail)
+        self.commands = 0
 
-    def carry_out(self, payloads):
-        for payload in payloads:
+    def lines(self, commands):
+        for command in commands:
             try:
-                told = self.chain.carry_out(payload)
+                after, payload = self.stack.obey(command)
             except Refused as refused:
                 yield str(refused)
                 continue
-            yield told + self.chain.tip_line()
-            self.append(payload)
+            yield moved_line(self.stack, command, after)
+            self.commit(after, payload)
             self.commands += 1
         yield self.line()
 
-    def append(self, payload):
-        written = record_of(payload)
-        self.site.write(self.file, self.gate + 1, written)
-        self.site.sync(self.file)
-        self.site.write(self.file, self.gate, b"\1")
-        self.site.sync(self.file)
-        self.gate += len(written)
-
     def line(self):
-        chain = self.chain
-        kept = (
-            f"{len(chain.blocks)} blocks, {chain.kept} of {chain.depth} kept, {chain.kept}"
-            " changes, "
-        )
-        return f"{kept}{chain.lost_count()} lost, {self.commands} commands, {chain.tip_line()}"
+        stack = self.stack
+        kept = f"{len(stack.kept)} of {stack.depth} kept, {len(stack.kept)} changes, "
+        told = f"{count_of(stack.index.lost)} lost, {self.commands} commands, {tip_line(stack)}"
+        return f"{len(stack.hashes())} blocks, {kept}{told}"
 
 
 def word_of(payload):
@@ -367,43 +217,58 @@ class Stores:
         if site.files["A"] or site.files["B"]:
             yield "not empty"
             return
-        byte = PROFILES[profile][0]
-        head = (
-            b"\1oxidx\1"
-            + bytes([byte])
-            + depth.to_bytes(2, "little")
-            + (1).to_bytes(8, "little")
-            + bytes(8)
-        )
-        site.write("B", 0, b"\0")
-        site.sync("B")
-        site.write("A", 0, b"\0")
-        site.write("A", 1, head[1:])
-        site.write("A", 26, b"\0")
-        site.sync("A")
-        site.write("A", 0, b"\1")
-        site.sync("A")
-        yield from Store(site, Chain(profile, depth), "A", 26).carry_out(payloads)
+        made = store_files.make(site, profile, depth)
+        yield from Store(site, made.stack, made.tail).lines(payloads)
 
     def open(self, payloads=()):
         self.command_row(("open",), payloads)
         self.run(self.lines_of_opening(self.site, payloads))
 
     def lines_of_opening(self, site, payloads):
-        site.sync("A")
-        site.sync("B")
-        # the lengths and the fronts of both files; how often it reads behind them isn't told, so no
-        # later call may fail
-        for _ in range(4):
-            site.look()
-        assert all(call < site.calls for call in site.failing)
-        site.calls = ALL
+        """Where the files are no store, the calls behind the fronts aren't counted: then none of
+        them may fail, nor of a later one."""
         try:
+            site.sync("A")
+            site.sync("B")
+            for _ in range(LOOKS - 4):
+                site.look()
             found = stands(site.files)
         except NoStore as place:
+            assert all(call < site.calls for call in site.failing)
+            site.calls = ALL
             yield f"not a store: {place}"
             return
-        yield from Store(site, *found).carry_out(payloads)
+        site.look()
+        site.look()
+        yield from Store(site, *found).lines(payloads)
+
+    def migrate(self, refusals=()):
+        self.row("migrate")
+        self.run(self.lines_of_migrating(self.site, refusals))
+
+    def lines_of_migrating(self, site, refusals):
+        """Files of version 1 become a store: how many commands they had, and the store."""
+        site.sync("A")
+        site.sync("B")
+        for _ in range(LOOKS - 4):
+            site.look()
+        try:
+            stack, count, tail = old_files.old_stands(site.files, refusals)
+        except NoStore as place:
+            site.calls = ALL
+            yield f"not a store: {place}"
+            return
+        except old_files.Old as old:
+            site.look()
+            site.look()
+            yield f"old {old}"
+            return
+        site.look()
+        site.look()
+        store = Store(site, stack, tail)
+        store.turn_to(stack)
+        yield f"ok {count}"
+        yield store.line()
 
     def crash(self, moment, fill, keep):
         self.row("crash", moment, fill, keep)
@@ -419,8 +284,9 @@ class Stores:
         self.row("locate", *sats)
         self.site.sync("A")
         self.site.sync("B")
-        chain, _, _ = stands(self.site.files)
-        self.stdout += [chain.place(sat) for sat in sats]
+        self.site.calls += LOOKS - 2
+        stack, _ = stands(self.site.files)
+        self.stdout += [place_line(stack.index, sat) for sat in sats]
 
     def now(self):
         self.row("now")
@@ -434,6 +300,26 @@ class Stores:
     def overwrite(self, file, at, data):
         self.row("overwrite", file, at, data.hex())
         self.site.write(file, at, data)
+
+    def put(self, a, b=CLOSED):
+        """Two files of these bytes."""
+        self.fresh()
+        self.overwrite("A", 0, a)
+        self.overwrite("B", 0, b)
+
+    def become(self, a):
+        """File A becomes these bytes beside a closed B, as far as a store reads it: what is written
+        begins where the two differ, and behind the last gate an older file may go on."""
+        old = self.site.files["A"]
+        if not old:
+            self.put(a)
+            return
+        same = next((at for at in range(len(a)) if old[at : at + 1] != a[at : at + 1]), len(a))
+        self.overwrite("A", same, a[same:])
+
+    def settle(self):
+        """The files stay, and their moments and calls are counted from here on."""
+        self.restart(len(self.site.steps), 0, ALL)
 
 
 def marks(first, count, previous=NO_BLOCK):
@@ -468,16 +354,16 @@ def makes(rows):
 
 def commits(rows):
     rows.heading(
-        "a block is there when the store is opened, and its disconnect is a record of one byte"
+        "a block is connected, and then a disconnect takes it back: 256 bytes and 6 more"
     )
     rows.make("regtest", 100, [payload_of(GENESIS)])
     rows.file("A")
     data = rows.site.files["A"]
-    assert (len(data), data[26:32].hex(), data[317]) == (318, "011e01000001", 0)
+    assert (len(data), data[54:60].hex(), data[255]) == (256, "01c400000001", 0)
     rows.open()
     rows.open([DISCONNECT])
     assert GENESIS_HASH in rows.stdout[-2]
-    rows.file("A", 317)
+    rows.file("A", 255)
     assert rows.stdout[-1].endswith(": 01010000000000")
     rows.open()
 
@@ -497,9 +383,18 @@ def refuses(rows):
     rows.open()
 
 
+# ---- what is no store
+
+
+def not_at(rows, place):
+    """The files are no store for what stands there."""
+    rows.open()
+    assert rows.stdout[-1] == f"not a store: {place}", rows.stdout[-1]
+
+
 def no_store(rows):
     rows.heading("what is no store is told by its place")
-    gate = 317
+    gate = 255
     rows.open()
     rows.make("regtest", 100, [payload_of(GENESIS)])
     # an open gate with nothing behind it; payloads of no command, 02 and 00 with a byte more; that
@@ -511,44 +406,77 @@ def no_store(rows):
         (gate + 7, "01"),
     ):
         rows.overwrite("A", at, bytes.fromhex(data))
-        rows.open()
-        assert rows.stdout[-1] == f"not a store: A at {gate}"
-    # a body of one byte, another version, and a head that is none
-    for at, byte, place in ((18, 1, 26), (6, 2, 6), (6, 3, 1), (1, 0, 1), (0, 0, 0)):
+        not_at(rows, f"A at {gate}")
+    # a body of another length, other versions, and a head that is none
+    for at, byte, place in ((18, 29, 26), (18, 27, 26), (6, 1, 6), (6, 3, 1), (1, 0, 1), (0, 0, 0)):
         rows.overwrite("A", at, bytes([byte]))
-        rows.open()
-        assert rows.stdout[-1] == f"not a store: A at {place}"
+        not_at(rows, f"A at {place}")
     rows.heading("more disconnects than blocks are no store")
     rows.make()
-    taken_back = b"\1" + record_of(DISCONNECT)
-    rows.overwrite("A", 26, taken_back)
-    rows.open()
+    taken_back = OPEN + record_of(DISCONNECT)
+    rows.overwrite("A", 54, taken_back)
+    not_at(rows, "A at 54")
     rows.fresh()
     rows.make("regtest", 100, [payload_of(GENESIS)])
     for at in (gate, gate + 6):
         rows.overwrite("A", at, taken_back)
         rows.open()
     assert rows.stdout[-1] == f"not a store: A at {gate + 6}"
-    rows.heading("a block that isn't accepted is no store")
-    rows.make()
-    rows.overwrite("A", 26, b"\1" + record_of(payload_of(block_on(b"\1" * 32, 1)[0])))
-    rows.open()
     rows.heading("of two open files the newer is current")
     rows.make("regtest", 100, [payload_of(GENESIS)])
     newer = EMPTY[:10] + b"\2" + EMPTY[11:]
     rows.overwrite("B", 0, EMPTY)
-    rows.open()
+    not_at(rows, "B at 10")
     rows.overwrite("B", 0, newer)
     rows.open([payload_of(block_on(NO_BLOCK, 1)[0])])
     rows.file("B")
     rows.file("A", gate)
     rows.open()
-    rows.overwrite("B", 18, b"\1")
-    rows.open()
-    rows.overwrite("B", 1, b"\0")
-    rows.open()
+    for at, byte, place in ((18, 1, "B at 26"), (6, 1, "B at 6"), (1, 0, "B at 1")):
+        rows.overwrite("B", at, bytes([byte]))
+        not_at(rows, place)
     rows.overwrite("B", 0, b"\0")
     rows.open()
+    assert rows.stdout[-1].startswith("1 blocks")
+
+
+def faults(rows):
+    rows.heading("bodies that are none")
+    for _, file in store_faults.wrong_bodies():
+        rows.become(file)
+        not_at(rows, "A at 26")
+    rows.heading("bodies with a list of four billion items")
+    for file in store_faults.lying_bodies():
+        rows.become(file)
+        not_at(rows, "A at 26")
+    rows.heading("bodies that are cut in a part, in the file or as their length says")
+    for file in store_faults.cut_bodies():
+        rows.put(file)
+        not_at(rows, "A at 26")
+    rows.heading("records behind three blocks that are none, and some that no chain gives")
+    for _, file in store_faults.records():
+        rows.become(file)
+        rows.open()
+        assert rows.stdout[-1] == f"not a store: {store_faults.place_of(file)}" or (
+            store_faults.place_of(file) is None and rows.stdout[-1].startswith("4 blocks")
+        )
+    rows.heading("the first record that is none counts, and comes before a gate that is missing")
+    body, right, wrong = store_faults.stack_of(2, 1).body(), DISCONNECT, b"\2"
+    gate = 26 + len(body)
+    for payloads, place in (
+        ([right, wrong], gate + 6),
+        ([right, right], gate + 6),
+        ([wrong, right], gate),
+        ([right, wrong, wrong], gate + 6),
+    ):
+        rows.put(store_faults.with_body(body, payloads, 1))
+        not_at(rows, f"A at {place}")
+    rows.put(store_faults.with_body(body, [right, wrong], 1)[:-1])
+    not_at(rows, f"A at {gate + 6}")
+    rows.put(store_faults.with_body(body, [right], 1)[:-1])
+    not_at(rows, f"A at {gate + 6}")
+    rows.put(store_faults.with_body(body, [right], 1)[:-2])
+    not_at(rows, f"A at {gate}")
 
 
 def fails(rows):
@@ -590,8 +518,8 @@ def stops(rows):
                 )
 
 
-def state(chain):
-    return chain.blocks, chain.kept
+def state(stack):
+    return stack.hashes(), len(stack.kept)
 
 
 def prefixes(rows):
@@ -602,13 +530,13 @@ def prefixes(rows):
     first, tip = marks(1, 2)
     commands = first + [DISCONNECT, payload_of(block_on(block_on(NO_BLOCK, 1)[1], 3)[0])]
     rows.make()
-    chain, ends, states = Chain("regtest", 100), [len(rows.site.steps)], []
-    states.append((list(chain.blocks), chain.kept))
+    stack, ends = store_files.empty(), [len(rows.site.steps)]
+    states = [state(stack)]
     for command in commands:
         rows.open([command])
         ends.append(len(rows.site.steps))
-        chain.carry_out(command)
-        states.append((list(chain.blocks), chain.kept))
+        stack, _ = stack.obey(command)
+        states.append(state(stack))
     rows.now()
     for moment in range(ends[-1] + 1):
         for fill in (0x00, 0xFF):
@@ -619,8 +547,7 @@ def prefixes(rows):
                     allowed = states[max(acknowledged - 1, 0):acknowledged + 1]
                     assert state(stands(after.files)[0]) in allowed, (moment, fill, keep)
     rows.heading("after a stop in the last of them the store goes on")
-    # the making has 8 moments, and each command 4
-    for moment in range(8 + 12, 8 + 16 + 1):
+    for moment in range(MADE + 3 * APPENDED, MADE + 4 * APPENDED + 1):
         for fill in (0x00, 0xFF):
             rows.fresh()
             rows.make("regtest", 100, commands)
@@ -631,11 +558,150 @@ def prefixes(rows):
 def goes_on(rows):
     """A block is connected, it and the one below it are taken back, and another one is
     connected."""
-    hashes = [NO_BLOCK] + [block[0] for block in stands(rows.site.files)[0].blocks]
+    hashes = [NO_BLOCK, *stands(rows.site.files)[0].hashes()]
     on_newest, on_one_below = (block_on(hashes[-depth], 10 * depth)[0] for depth in (1, 2))
     rows.open([payload_of(on_newest), DISCONNECT, DISCONNECT, payload_of(on_one_below)])
     rows.file("A", 26)
     rows.open()
+
+
+# ---- the turn of the files
+
+
+FILLS = 0x00, 0x07, 0xFF
+
+
+def each_call(rows, command, calls):
+    """Each of so many calls of a command fails, and the store is opened again."""
+    rows.settle()
+    before = len(stands(rows.site.files)[0].hashes())
+    for call in range(LOOKS, LOOKS + calls + 1):
+        rows.restart(0, 0, ALL)
+        rows.fail(call)
+        rows.open([command])
+        assert (rows.stdout[-1] == "a call failed") == (call < LOOKS + calls)
+        for fill in (0x00, 0x07):
+            rows.crash(len(rows.site.steps), fill, ALL)
+            blocks = int(rows.stdout[-1].split()[0])
+            # the last two are the gate's write and its sync
+            assert abs(blocks - before) == (call >= LOOKS + calls - (2 if fill else 0))
+    rows.restart(0, 0, ALL)
+
+
+def each_moment(rows, command, calls):
+    """A stop at each moment of a command of so many calls, from its opening on."""
+    rows.settle()
+    before = len(stands(rows.site.files)[0].hashes())
+    rows.open([command])
+    after = len(stands(rows.site.files)[0].hashes())
+    rows.now()
+    assert rows.stdout[-1] == f"moment {2 + calls}"
+    for moment in range(2 + calls + 1):
+        for fill in FILLS:
+            for keep in (0, ALL):
+                rows.crash(moment, fill, keep)
+                blocks = int(rows.stdout[-1].split()[0])
+                assert blocks in (before, after)
+                assert moment < 2 + calls or blocks == after
+                assert moment > calls or blocks == before
+
+
+def turns(rows):
+    rows.heading("the 65th command puts a whole file in place of one with 64 records")
+    commands, _ = marks(1, 131)
+    rows.make("regtest", 100, commands[:64])
+    rows.file("A")
+    assert rows.site.files["B"] == CLOSED
+    each_call(rows, commands[64], TURNED)
+    variants(rows, commands)
+    each_moment(rows, commands[64], TURNED)
+    rows.file("B")
+    rows.open(commands[65:129])
+    assert len(store_files.records(rows.site.files["B"], body_end(rows, "B"))[0]) == 64
+    rows.file("B", body_end(rows, "B"))
+    each_call(rows, commands[129], TURNED + 2)
+    each_moment(rows, commands[129], TURNED + 2)
+    rows.file("A")
+    rows.open([commands[130], DISCONNECT, DISCONNECT])
+    rows.file("A", body_end(rows, "A"))
+    rows.open()
+
+
+def variants(rows, commands):
+    """What else may come as the 65th command: each begins with the files of 64 records."""
+    rows.open([DISCONNECT])
+    assert rows.stdout[-1].startswith("63 blocks, 63 of 100 kept")
+    rows.file("B")
+    rows.open([DISCONNECT])
+    # refused, it turns nothing
+    rows.restart(0, 0, ALL)
+    rows.open([commands[65]])
+    assert rows.stdout[-2].startswith("refused 5 ") and rows.site.files["B"] == CLOSED
+    for depth in (1, 2):
+        rows.restart(0, 0, ALL)
+        rows.overwrite("A", 8, store_files.number(depth, 2))
+        rows.open(commands[64:67])
+        rows.file("B")
+        rows.open((depth + 1) * [DISCONNECT])
+        assert rows.stdout[-2] == "refused 11"
+    rows.restart(0, 0, ALL)
+
+
+def body_end(rows, file):
+    """The place of the gate behind a file's body."""
+    return 26 + store_files.number_in(rows.site.files[file], 18, 8)
+
+
+def greatest(rows):
+    rows.heading("a file of the greatest generation has more than 64 records")
+    commands, _ = marks(1, 131)
+    rows.make("regtest", 100, commands[:64])
+    rows.settle()
+    rows.overwrite("A", 10, 8 * b"\xff")
+    rows.open(commands[64:66])
+    assert len(store_files.records(rows.site.files["A"], 54)[0]) == 66
+    assert rows.site.files["B"] == CLOSED
+    rows.open([DISCONNECT])
+    rows.heading("the greatest generation is made, and then no file turns")
+    rows.make("regtest", 100, commands[:64])
+    rows.overwrite("A", 10, b"\xfe" + 7 * b"\xff")
+    rows.open(commands[64:])
+    assert len(store_files.records(rows.site.files["B"], body_end(rows, "B"))[0]) == 66
+    rows.file("B", body_end(rows, "B"))
+    rows.open()
+
+
+def shorter(rows):
+    rows.heading("a whole file is put over a longer one, and records over what that leaves")
+    long, short = (
+        payload_of(block_on(NO_BLOCK, mark, target=size * bytes([0x51]))[0])
+        for mark, size in ((1, 300), (2, 1))
+    )
+    commands = [long, *32 * [DISCONNECT, long], *65 * [DISCONNECT, short]]
+    rows.make("regtest", 1, commands[:194])
+    sizes = [len(rows.site.files[file]) for file in "AB"]
+    each_call(rows, commands[194], TURNED + 2)
+    each_moment(rows, commands[194], TURNED + 2)
+    rows.file("B")
+    assert sizes == [len(rows.site.files[file]) for file in "AB"]
+    rows.open(commands[193:194])
+    rows.file("B")
+    rows.open(2 * [DISCONNECT])
+
+
+def with_inscriptions(rows):
+    rows.heading("made blocks over a turn: inscriptions, runes and what is held of them")
+    commands = drill(12)
+    commands += 17 * [DISCONNECT, commands[-1]]
+    rows.make("regtest", 100, commands[:64])
+    each_moment(rows, commands[64], TURNED)
+    rows.file("B")
+    rows.open(commands[65:66])
+    rows.open(13 * [DISCONNECT])
+    assert rows.stdout[-2] == "refused 11"
+
+
+# ---- longer chains
 
 
 def many(rows):
@@ -712,7 +778,7 @@ def keeps(rows):
 
 def drill(count):
     """The commands of a drill of so many blocks."""
-    blocks = [payload_of(block) for block in list(MADE)[:count]]
+    blocks = [payload_of(block) for block, _, _ in made_blocks.chain(count)]
     newest = min(count, 10)
     return blocks + newest * [DISCONNECT] + blocks[count - newest :]
 
@@ -780,6 +846,165 @@ def spoil_a_first_byte(rows):
     assert rows.stdout[-1] == "not a store: B at 0"
 
 
+# ---- old stores
+
+
+def old(commands, **how):
+    return old_files.old_file_of(commands, **how)
+
+
+def migrates(rows):
+    rows.heading("a store of version 1 with a block becomes one, and no other time")
+    a = old([payload_of(GENESIS)])
+    assert len(a) == 318
+    rows.put(a)
+    not_at(rows, "A at 6")
+    rows.migrate()
+    assert rows.stdout[-2] == "ok 1" and rows.site.files["A"] == a
+    rows.file("B")
+    rows.migrate()
+    assert rows.stdout[-1] == "not a store: B at 6"
+    rows.open()
+    assert rows.stdout[-1].startswith("1 blocks, 1 of 100 kept")
+    rows.open(2 * [DISCONNECT])
+    assert rows.stdout[-2] == "refused 11"
+    for profile in ("mainnet", "lab"):
+        rows.put(old([], profile=profile, depth=7, generation=4))
+        rows.migrate()
+        rows.file("B")
+    rows.heading("files in the other order, over a longer one")
+    rows.put(old([], generation=1) + 600 * b"\xff", old([payload_of(GENESIS)], generation=2))
+    rows.migrate()
+    rows.file("A")
+    rows.open([DISCONNECT])
+    rows.heading("a hundred connects and sixty disconnects at depth 50")
+    payloads, _ = marks(1, 100)
+    chain, rest = payloads[:60], 40 * [DISCONNECT, payloads[59]] + 20 * [DISCONNECT]
+    rows.put(old([*chain, *rest], depth=50))
+    rows.migrate()
+    assert rows.stdout[-2] == "ok 160" and rows.stdout[-1].startswith("40 blocks, 30 of 50 kept")
+    rows.open(31 * [DISCONNECT])
+    assert rows.stdout[-2] == "refused 11" and rows.stdout[-1].startswith("10 blocks")
+
+
+def refused_commands():
+    """Blocks that the rules refuse behind Bitcoin's first, and the line where the plain index
+    doesn't know it."""
+    tip = bytes.fromhex(GENESIS_HASH)
+    good, _ = block_on(tip, 1)
+    yield block_on(NO_BLOCK, 1)[0], None
+    yield block_on(tip, 1, SUBSIDY + 1)[0], None
+    yield good[:36] + bytes(32) + good[68:], None
+    yield b"", None
+    yield good[:85], "refused 3 85"
+
+
+def old_commands(rows):
+    rows.heading("commands of an old store that the rules refuse are told by their number")
+    first = payload_of(GENESIS)
+    rows.put(old([DISCONNECT]))
+    rows.migrate()
+    assert rows.stdout[-1] == "old 0 refused 11"
+    for block, line in refused_commands():
+        command = payload_of(block)
+        a = old([first, command, DISCONNECT])
+        rows.put(a)
+        rows.migrate({command: line} if line else {})
+        assert rows.stdout[-1].startswith("old 1 refused ")
+        assert rows.site.files == {"A": a, "B": CLOSED}
+    rows.heading("the first record that fails decides, whatever it is")
+    refused, wrong = payload_of(b""), b"\2"
+    for commands, cut, line in (
+        ([first, refused, wrong], 0, "old 1 refused 3 0"),
+        ([first, wrong, refused], 0, "not a store: A at 317"),
+        ([first, DISCONNECT, DISCONNECT, wrong], 0, "old 2 refused 11"),
+        # a later gate is missing, or a record is cut
+        ([first, refused, first], 1, "old 1 refused 3 0"),
+        ([first, refused, first], 2, "old 1 refused 3 0"),
+        ([first, first], 1, None),
+        ([first], 1, "not a store: A at 317"),
+        ([first], 2, "not a store: A at 26"),
+        ([first, DISCONNECT + b"\0"], 0, "not a store: A at 317"),
+    ):
+        a = old(commands)
+        rows.put(a[: len(a) - cut])
+        rows.migrate()
+        assert line is None or rows.stdout[-1] == line
+
+
+def not_old(rows):
+    rows.heading("the tests of an old store come in their order")
+    a, newest = old([payload_of(GENESIS)]), GREATEST
+    body = lambda file, size: file[:18] + store_files.number(size, 8) + file[26:]
+    spoilt = old([b"\2"])
+    last = old([b"\2"], generation=newest)
+    for files, place in (
+        ((CLOSED, CLOSED), "A at 0"),
+        ((CLOSED, b""), "A at 0"),
+        ((a, b""), "B at 0"),
+        ((a[:1] + b"p" + a[2:], b""), "B at 0"),
+        ((a[:25], CLOSED), "A at 1"),
+        ((a[:1] + b"p" + a[2:], a[:1] + b"p" + a[2:]), "A at 1"),
+        ((a, a[:1] + b"p" + a[2:]), "B at 1"),
+        ((a, a), "B at 10"),
+        ((last, last), "B at 10"),
+        ((EMPTY, EMPTY), "B at 10"),
+        ((EMPTY, CLOSED), "A at 6"),
+        ((EMPTY[:10] + 8 * b"\xff" + EMPTY[18:], CLOSED), "A at 6"),
+        ((old([], generation=newest), CLOSED), "A at 10"),
+        ((body(last, 3), CLOSED), "A at 10"),
+        ((old([], generation=3), old([], generation=newest)), "B at 10"),
+        ((body(a, 1), CLOSED), "A at 26"),
+        ((body(a, len(a)), CLOSED), "A at 26"),
+        ((body(spoilt, 1), CLOSED), "A at 26"),
+        ((spoilt, CLOSED), "A at 26"),
+        ((a[:26], CLOSED), "A at 26"),
+        ((a[:-1], CLOSED), "A at 317"),
+    ):
+        rows.fresh()
+        for file, data in zip("AB", files):
+            if data:
+                rows.overwrite(file, 0, data)
+        rows.migrate()
+        assert rows.stdout[-1] == f"not a store: {place}", (rows.stdout[-1], place)
+
+
+def put_synced(rows, a, b):
+    """Two files of version 1, all on the disk: no opening takes them, but it syncs them."""
+    rows.put(a, b)
+    not_at(rows, "A at 6")
+    rows.settle()
+
+
+def migrating(rows, b, turned):
+    """Each call of a migration fails, and a stop at each moment of it, over a file B and a file A
+    of a greater generation."""
+    a = old([payload_of(GENESIS), DISCONNECT, payload_of(GENESIS)], generation=9)
+    for call in range(LOOKS + turned + 1):
+        put_synced(rows, a, b)
+        rows.fail(call)
+        rows.migrate()
+        assert (rows.stdout[-1] == "a call failed") == (call < LOOKS + turned)
+        rows.crash(len(rows.site.steps), 0x07, ALL)
+    for moment in range(2 + turned + 1):
+        for fill in FILLS:
+            for keep in (0, ALL):
+                put_synced(rows, a, b)
+                rows.migrate()
+                rows.restart(moment, fill, keep)
+                rows.migrate()
+                assert rows.stdout[-1].startswith("1 blocks") or rows.stdout[-1].endswith("B at 6")
+                rows.open()
+                assert rows.stdout[-1].startswith("1 blocks, 1 of 100 kept")
+
+
+def migrations(rows):
+    rows.heading("each call of a migration fails, and a stop at each moment, beside a closed file")
+    migrating(rows, CLOSED, TURNED)
+    rows.heading("the same beside an open one")
+    migrating(rows, old([], generation=8), TURNED + 2)
+
+
 def main():
     rows = Stores()
     for part in (
@@ -787,6 +1012,7 @@ def main():
         commits,
         refuses,
         no_store,
+        faults,
         fails,
         stops,
         prefixes,
@@ -797,6 +1023,10 @@ def main():
     ):
         part(rows)
     for part in (drills, keep_what_is_kept, stop_in_a_second_gate, spoil_a_first_byte):
+        part(rows)
+    for part in (turns, greatest, shorter, with_inscriptions):
+        part(rows)
+    for part in (migrates, old_commands, not_old, migrations):
         part(rows)
     write_rows("ox_store_rows", rows.stdin, rows.stdout)
 

@@ -6,8 +6,8 @@ use Rattle.ox_index.specs.declared.fault.ConnectFault.{ConnectFault}
 use Rattle.ox_index.specs.declared.fault.ConnectFault.TheVariants as connects
 use Rattle.ox_model.specs.Stack.{Stack, stack_after}
 use Rattle.ox_files.specs.Stands.{Misfit}
-use Rattle.ox_replay.specs.declared.chains.Unjudged.{Unjudged}
-use Rattle.ox_replay.specs.declared.chains.Unjudged.TheVariants as replays
+use Rattle.ox_checkpoint.specs.declared.restoring.Unjudged.{Unjudged}
+use Rattle.ox_checkpoint.specs.declared.restoring.Unjudged.TheVariants as restores
 use Rattle.ox_store.specs.declared.fault.OpenFault.{OpenFault}
 use Rattle.ox_store.specs.declared.fault.OpenFault.TheVariants as opens
 use Rattle.ox_store.specs.declared.fault.Why.{Why}
@@ -31,5 +31,5 @@ why_not connects.Memory = whys.Memory
 
 -- the fault of this file
 abbrev pub fault_in : Which → Unjudged → OpenFault
-fault_in file (replays.At place) = opens.NotStore file place
-fault_in file replays.Memory = opens.Memory
+fault_in file (restores.At place) = opens.NotStore file place
+fault_in file restores.Memory = opens.Memory

@@ -1,4 +1,7 @@
 pub mod Fault
+pub mod Heads
 pub mod Make
+pub mod Migrate
 pub mod Ready
 pub mod Store
+pub mod Writing

@@ -15,7 +15,7 @@ no_files = record { a = []; b = [] }
 abbrev pub made_stack : ProfileName → ℕ → Stack
 made_stack name depth = stack_of (empty_machine (profile_named name) depth)
 
--- the head of its file: version 1, generation 1
+-- the head of its file: version 2, generation 1
 abbrev pub first_head : ProfileName → ℕ → Head
 first_head name depth =
-    record { version = 1; profile = (profile_named name).byte; depth = depth; generation = 1 }
+    record { version = 2; profile = (profile_named name).byte; depth = depth; generation = 1 }

@@ -6,32 +6,33 @@ use Rattle.ox_gated.specs.Tail.{Kept}
 use Rattle.ox_model.specs.Change.{IsChange, redone}
 use Rattle.ox_model.specs.Index.{Index}
 use Rattle.ox_model.specs.Stack.{Stack, stack_after}
-use Rattle.ox_files.specs.Stands.{recorded, stands}
+use Rattle.ox_files.specs.Stands.{stands}
 use Rattle.ox_model.specs.declared.change.Change.{Change}
 use Rattle.ox_store.specs.Store.{StoreContents}
 use Rattle.ox_store.specs.declared.ready.Moving.{Moving}
 use Rattle.ox_store.specs.declared.ready.Moving.TheVariants.{On, Back}
+use Rattle.ox_store.specs.Writing.{IsDue, LeadsTo}
+use Rattle.ox_store.specs.declared.writing.Writing.{Writing}
 
 -- the index before the command, the stack after it, the tail before it, how many commands were
--- accepted before it, and its record's payload
+-- accepted before it, and what is written of it
 pub record PreparedCommand : Type 0 where
   pub left : Index
   pub stack : Stack
   pub tail : Kept
   pub commands : ℕ
-  pub payload : List ℕ
+  pub writing : Writing
 
--- the payload is that of a command which leads from this stack to the one after it
+-- what is written is due, and leads from this stack to the one after the command
 pub record Leads (before : Stack) (ready : PreparedCommand) : Type 0 where
-  pub command : Command
-  pub payload : ready.payload ≡ recorded command
-  pub after : stack_after before command ≡ Ok ready.stack
+  pub due : IsDue ready.tail ready.writing
+  pub leads : LeadsTo before ready.stack ready.writing
 
 -- this command of this store is prepared
 pub record Prepares (store : StoreContents) (command : Command) (ready : PreparedCommand)
     : Type 0 where
   pub after : stack_after store.stack command ≡ Ok ready.stack
-  pub payload : ready.payload ≡ recorded command
+  pub leads : Leads store.stack ready
   pub left : ready.left ≡ store.stack.index
   pub tail : ready.tail ≡ store.tail
   pub commands : ready.commands ≡ store.commands

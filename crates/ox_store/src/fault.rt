@@ -66,6 +66,49 @@ pub enum OpenFault {
     Memory,
 }
 
+/// Why a store isn't migrated.
+#[derive(Clone, Copy, Debug, PartialEq, Eq)]
+pub enum MigrateFault {
+    /// The files are no store of version 1 which another file can follow.
+    NotStore {
+        /// The file in which the first test fails.
+        file: Which,
+        /// The place in the file that this test is of.
+        at: u64,
+    },
+    /// The present rules refuse a command of the store.
+    Old {
+        /// Its number, from 0.
+        command: u64,
+        /// Why it is refused.
+        refusal: Refusal,
+    },
+    /// A call on a file failed.
+    DiskFault,
+    /// There is no memory for the store.
+    Memory,
+}
+
+impl From<DiskFault> for MigrateFault {
+    ghost use Rattle.ox_store.specs.declared.fault.MigrateFault.TheVariants as faults;
+
+    ghost from_gives = { λ _ e. e ≡ faults.DiskFault };
+
+    fn from(_fault: DiskFault) -> MigrateFault {
+        MigrateFault::DiskFault
+    }
+}
+
+impl From<Memory> for MigrateFault {
+    ghost use Rattle.ox_store.specs.declared.fault.MigrateFault.TheVariants as faults;
+
+    ghost from_gives = { λ _ e. e ≡ faults.Memory };
+
+    fn from(_memory: Memory) -> MigrateFault {
+        MigrateFault::Memory
+    }
+}
+
 /// Why a command isn't prepared.
 #[derive(Clone, Copy, Debug, PartialEq, Eq)]
 pub enum Why {

@@ -1,13 +1,15 @@
-//! The store: a chain in memory, whose newest blocks can be taken back, and the records of its
-//! commands in two files that survive a crash.
+//! The store: a chain in memory, whose newest blocks can be taken back, and two files that survive
+//! a crash: a checkpoint, and records of what each command since then changed.
 #![tactic(auto)]
 
 mod fault;
+mod migrate;
 mod open;
 mod ready;
 mod store;
+mod writing;
 
-pub use fault::{Kept, MakeFault, OpenFault, Why};
+pub use fault::{Kept, MakeFault, MigrateFault, OpenFault, Why};
 pub use ox_index::Changes;
 pub use ox_model::About;
 pub use ready::{Moving, Ready};

@@ -12,17 +12,17 @@ ghost use Rattle.ox_store.specs.Fault.{IsMisfit, fault_in};
 
 use crate::fault::OpenFault;
 use crate::store::Store;
+use ox_checkpoint::{Unjudged, earliest, restore};
 use ox_gated::{GateFault, Opened, Tail};
 use ox_outside::{Site, Which};
-use ox_replay::{Unjudged, earliest, replay};
 use std::alloc::Global;
 
 impl Store {
     ghost use Rattle.ox_files.specs.Stands.{stands};
 
-    /// Opens two files of version 1 and carries out the commands of their records again. It begins
-    /// with a sync of both files, and changes nothing: at no moment does a crash leave anything
-    /// that it didn't leave before.
+    /// Opens two files of version 2: reads the checkpoint, and makes the changes of the records
+    /// again. It begins with a sync of both files, and changes nothing: at no moment does a crash
+    /// leave anything that it didn't leave before.
     ///
     /// `NotStore` exactly where the files stand for nothing, with the file and the place of the
     /// first test that fails; `DiskFault` only where a call on a file failed; `Memory` where there
@@ -52,7 +52,7 @@ impl Store {
 
 /// The store of files that were read.
 fn store_of(alloc: Global, opened: Opened) -> Result<Store, OpenFault>
-    requires head { (opened.tail.head ≡ opened.head) × (opened.head.version ≡ 1) }
+    requires head { (opened.tail.head ≡ opened.head) × (opened.head.version ≡ 2) }
     requires lawful { IsTrue (is_lawful opened.head) }
     ensures stack { IfOk result (λ store. stack_in (Ok (found_of opened)) ≡ Ok store.stack) }
     ensures fresh { IfOk result (λ store. store.commands ≡ 0) }
@@ -60,7 +60,7 @@ fn store_of(alloc: Global, opened: Opened) -> Result<Store, OpenFault>
     ensures misfit { IfErr result (IsMisfit (stack_in (Ok (found_of opened)))) }
     ensures not_disk { IsErrOf result OpenFault.DiskFault → ⊥ }
 {
-    match replay(alloc, &opened.head, &opened.body, &opened.records) {
+    match restore(alloc, &opened.head, &opened.body, &opened.records) {
         Ok(chain) => Ok(Store {
             alloc,
             chain,

@@ -1,13 +1,15 @@
-//! A command between its preparation and its record.
+//! A command between its preparation and what is written of it.
 
 ghost use Rattle.std.specs.Prelude.{◌≡◌, ◌+◌, Ok, IsTrue, IfOk, OnErr};
 ghost use Rattle.ox_outside.specs.Counts.{IsFailure, Rose, StopsAtFault};
 ghost use Rattle.ox_outside.specs.Runs.{LeavesOnly};
+ghost use Rattle.ox_gated.specs.OtherFile.{MustTurn};
 ghost use Rattle.ox_gated.specs.Tail.{Holds};
 ghost use Rattle.ox_gated.specs.Writes.{OnlyWrites};
 
 use crate::store::Store;
-use ox_gated::{DiskFault, Framed, Tail};
+use crate::writing::Writing;
+use ox_gated::{DiskFault, Tail};
 use ox_index::Chain;
 use ox_model::{Change, View};
 use ox_outside::Site;
@@ -25,22 +27,23 @@ pub enum Moving<'a> {
 
 /// A command that is accepted, with all its memory taken. It answers no query, and has to be
 /// committed. Contracts see the index before the command, the stack after it, the tail and the
-/// number of commands before it, and its record's payload.
+/// number of commands before it, and what is written of it.
 pub struct Ready {
     pub(crate) alloc: Global,
     pub(crate) chain: Chain,
     pub(crate) tail: Tail,
     pub(crate) commands: u64,
-    pub(crate) framed: Framed,
+    pub(crate) writing: Writing,
 }
 
 impl Model for Ready {
-    ghost use Rattle.std.specs.Prelude.{◌≡◌, ◌<◌, ◌^◌, ◌-◌, length};
+    ghost use Rattle.std.specs.Prelude.{◌<◌, ◌^◌, ◌-◌};
     ghost use Rattle.std.specs.Coded.{codes};
     ghost use Rattle.std.specs.FinMap as map;
-    ghost use Rattle.ox_gated.specs.Tail.{Fits};
     ghost use Rattle.ox_index.specs.Chain.{stack_in, taken_back_in};
+    ghost use Rattle.ox_store.specs.Heads.{Names};
     ghost use Rattle.ox_store.specs.Ready.{HasChange, PreparedCommand, left_by};
+    ghost use Rattle.ox_store.specs.Writing.{IsDue};
 
     ghost Value = { PreparedCommand };
 
@@ -52,12 +55,13 @@ impl Model for Ready {
           stack = stack_in r.chain;
           tail = r.tail;
           commands = r.commands;
-          payload = r.framed;
+          writing = r.writing;
         } };
 
     ghost invariant = { λ r.
-        (r.tail.head.version ≡ 1) × (r.commands < 2 ^ 64 - 1)
-        × Fits r.tail (length r.framed) × HasChange (stack_in r.chain) (taken_back_in r.chain) };
+        (r.commands < 2 ^ 64 - 1) × IsDue r.tail r.writing
+        × Names r.tail.head (stack_in r.chain)
+        × HasChange (stack_in r.chain) (taken_back_in r.chain) };
 }
 
 impl Ready {
@@ -65,6 +69,7 @@ impl Ready {
     ghost use Rattle.ox_files.specs.Stands.{stands};
     ghost use Rattle.ox_store.specs.Ready.{Leads, Moves, StandsForEither};
     ghost use Rattle.ox_store.specs.Store.{tip_of};
+    ghost use Rattle.ox_store.specs.Writing.{HasOneMore, HasTurned};
 
     /// The newest block's height and its hash in serialized order, as the command leaves them;
     /// `None` exactly where no block is left.
@@ -90,18 +95,22 @@ impl Ready {
         }
     }
 
-    /// Writes the command's record. At `Ok` it is on the disk: each crash then leaves files that
-    /// have it. At any moment of the call a crash leaves files that stand for the stack before the
+    /// Writes the command's record; where the current file has 64 records or more, and its
+    /// generation isn't the greatest, it writes the whole store into the other file, which takes
+    /// the current one's place. At `Ok` it is on the disk: each crash then leaves files that have
+    /// it. At any moment of the call a crash leaves files that stand for the stack before the
     /// command or for the one after it. No event of a channel is logged. `DiskFault` only where a
     /// call on a file failed; the store is gone then.
     pub fn commit<S: Site>(self, site: &mut S) -> Result<Store, DiskFault>
         requires { IsTrue (S.told site.old) → Holds S.Site self.tail site.old }
         ensures stack { IfOk result (λ store. store.stack ≡ self.stack) }
-        ensures one_more { IfOk result (λ store.
-            (store.commands ≡ self.commands + 1) × (store.tail.records ≡ self.tail.records + 1)) }
-        // The same file is current, with the same head.
-        ensures kept { IfOk result (λ store.
-            (store.tail.file ≡ self.tail.file) × (store.tail.head ≡ self.tail.head)) }
+        ensures one_more { IfOk result (λ store. store.commands ≡ self.commands + 1) }
+        // The same file is current, with one record more.
+        ensures appended { ¬ MustTurn self.tail
+            → IfOk result (λ store. HasOneMore self.tail store.tail) }
+        // The other file is current, with the next generation and no record.
+        ensures turned { MustTurn self.tail
+            → IfOk result (λ store. HasTurned self.tail store.tail) }
         ensures holds { IsTrue (S.told site.old)
             → IfOk result (λ store. Holds S.Site store.tail site.new) }
         ensures stands { IsTrue (S.told site.old)
@@ -121,9 +130,9 @@ impl Ready {
             chain,
             tail,
             commands,
-            framed,
+            writing,
         } = self;
-        let tail = tail.append(site, &framed)?;
+        let tail = writing.write(tail, site)?;
         Ok(Store {
             alloc,
             chain,

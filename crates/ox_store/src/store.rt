@@ -1,34 +1,35 @@
 //! A store between two commands.
 
-ghost use Rattle.std.specs.Prelude.{◌≡◌, ◌≢◌, ◌≤◌, ◌<◌, ◌^◌, ◌+◌, ◌-◌, [], ◌∷◌, ◌↔◌, ◌⊎◌};
-ghost use Rattle.std.specs.Prelude.{length, Ok, Err, IsTrue, IfOk, IfErr, IsErrOf, OnOk, OnErr};
+ghost use Rattle.std.specs.Prelude.{◌≡◌, ◌≢◌, ◌≤◌, ◌<◌, ◌^◌, ◌-◌, [], ◌↔◌, ◌⊎◌};
+ghost use Rattle.std.specs.Prelude.{length, Ok, Err, Some};
+ghost use Rattle.std.specs.Prelude.{IsTrue, IfOk, IfErr, IsErrOf, OnOk, OnErr};
 ghost use Rattle.ox_outside.specs.Counts.{IsFailure, Rose, StopsAtFault};
 ghost use Rattle.ox_outside.specs.Runs.{OnlyLooks};
 ghost use Rattle.ox_gated.specs.Tail.{Holds};
 ghost use Rattle.ox_gated.specs.Writes.{OnlyWrites};
-ghost use Rattle.ox_index.specs.Chain.{stack_in, taken_back_in};
+ghost use Rattle.ox_index.specs.Chain.{earlier_in, stack_in, taken_back_in};
 ghost use Rattle.ox_index.specs.Fault.{Refuses};
 ghost use Rattle.ox_model.specs.Ends.{AllEnd, LeadDown};
 ghost use Rattle.ox_model.specs.Stack.{stack_after};
+ghost use Rattle.ox_files.specs.Stands.{stack_in_file};
+ghost use Rattle.ox_store.specs.Fault.{IsRefused};
+ghost use Rattle.ox_store.specs.Heads.{Names};
 ghost use Rattle.ox_store.specs.Make.{first_head, no_files};
 ghost use Rattle.ox_store.specs.Ready.{HasChange, left_by};
+ghost use Rattle.ox_store.specs.Writing.{IsDue, LeadsTo};
 
 use crate::fault::{Kept, MakeFault, Why};
 use crate::ready::Ready;
-use ox_bytes::{Bytes, Memory};
+use crate::writing::{Writing, file_of, writing_of};
+use ox_bytes::Memory;
 use ox_feed::Command;
-use ox_gated::{Checkpoint, Framed, Head, Tail, checkpoint_of, frame_parts};
+use ox_gated::{Checkpoint, Head, Tail};
 use ox_index::{Chain, Changes, ConnectFault, Live};
 use ox_model::About;
 use ox_outside::{Failed, Site, Which};
-use ox_replay::{CONNECT, DISCONNECT};
 use ox_sat::{ProfileName, profile_of};
 use std::alloc::Global;
 use std::marker::Model;
-
-/// The greatest number of bytes of a block that has a record: the length of its payload fits 4
-/// bytes.
-const LONGEST_BLOCK: usize = 0xffff_fffe;
 
 /// A chain in memory, whose newest blocks can be taken back, and the tail of its records. Contracts
 /// see the stack that the files stand for, the tail, and the number of commands that were accepted
@@ -53,10 +54,10 @@ impl Drop for Store {
 }
 
 impl Model for Store {
-    ghost use Rattle.std.specs.Prelude.{◌≡◌};
     ghost use Rattle.std.specs.Coded.{codes};
     ghost use Rattle.std.specs.FinMap as map;
     ghost use Rattle.ox_index.specs.Chain.{stack_in};
+    ghost use Rattle.ox_store.specs.Heads.{Names};
     ghost use Rattle.ox_store.specs.Store.{StoreContents};
 
     ghost Value = { StoreContents };
@@ -70,14 +71,12 @@ impl Model for Store {
           commands = s.commands;
         } };
 
-    ghost invariant = { λ s. s.tail.head.version ≡ 1 };
+    ghost invariant = { λ s. Names s.tail.head (stack_in s.chain) };
 }
 
 impl Store {
-    ghost use Rattle.ox_gated.specs.Tail.{Fits};
     ghost use Rattle.ox_index.specs.Live.{profile_in, index_in};
-    ghost use Rattle.ox_files.specs.Stands.{recorded, stands};
-    ghost use Rattle.ox_store.specs.Fault.{IsRefused};
+    ghost use Rattle.ox_files.specs.Stands.{stands};
     ghost use Rattle.ox_store.specs.Make.{made_stack};
     ghost use Rattle.ox_store.specs.Ready.{Prepares};
 
@@ -120,8 +119,8 @@ impl Store {
         if !are_empty(site)? {
             return Err(MakeFault::NotEmpty);
         }
-        let checkpoint = first_checkpoint(alloc, name, depth)?;
         let chain = Chain::new(alloc, &profile_of(name), depth)?;
+        let checkpoint = first_file(alloc, &chain, name, depth)?;
         let tail = Tail::make(site, &checkpoint)?;
         Ok(Store {
             alloc,
@@ -163,27 +162,13 @@ impl Store {
         self.commands
     }
 
-    /// Takes all the memory of a command and carries it out in memory; its record isn't written
-    /// yet. `Refused` exactly where the command is refused; `Memory` where there is none for it.
-    /// Both hand the store back as it was.
+    /// Carries a command out in memory and takes all the memory of what is written of it: its
+    /// record, or the whole file where the current one has to turn. Nothing is written yet.
+    /// `Refused` exactly where the command is refused; `Memory` where there is none for it, and
+    /// where the record or the body of the file is 2^32 bytes or longer. Both hand the store back
+    /// as it was.
     pub fn prepare(self, command: &Command) -> Result<Ready, Kept>
         requires { self.commands < 2 ^ 64 - 1 }
-        ensures ready { IfOk result (λ ready. Prepares self command.now ready) }
-        ensures refused { IfErr result (λ kept. IsRefused self.stack command.now kept.why) }
-        ensures kept { IfErr result (λ kept. kept.store ≡ self) }
-    {
-        match self.record_of(command) {
-            Ok(framed) => self.prepare_with(command, framed),
-            Err(Memory) => Err(self.store_with_reason(Why::Memory)),
-        }
-    }
-
-    /// Prepares a command whose record is made. The chain turns last, so that want of memory leaves
-    /// all as it was.
-    fn prepare_with(self, command: &Command, framed: Framed) -> Result<Ready, Kept>
-        requires few { self.commands < 2 ^ 64 - 1 }
-        requires payload { framed ≡ recorded command.now }
-        requires fits { Fits self.tail (length framed) }
         ensures ready { IfOk result (λ ready. Prepares self command.now ready) }
         ensures refused { IfErr result (λ kept. IsRefused self.stack command.now kept.why) }
         ensures kept { IfErr result (λ kept. kept.store ≡ self) }
@@ -194,71 +179,80 @@ impl Store {
             tail,
             commands,
         } = self;
-        match obey(&mut chain, command) {
-            Ok(()) => Ok(Ready {
+        match carry_out(alloc, &mut chain, &tail, command) {
+            Ok(writing) => Ok(Ready {
                 alloc,
                 chain,
                 tail,
                 commands,
-                framed,
+                writing,
             }),
-            Err(fault) => Err(Kept {
+            Err(why) => Err(Kept {
                 store: Store {
                     alloc,
                     chain,
                     tail,
                     commands,
                 },
-                why: fault.into(),
+                why,
             }),
         }
     }
-
-    /// The record of a command.
-    fn record_of(&self, command: &Command) -> Result<Framed, Memory>
-        ensures payload { IfOk result (λ framed. framed ≡ recorded command.now) }
-        ensures fits { IfOk result (λ framed. Fits self.now.tail (length framed)) }
-    {
-        match command {
-            Command::Connect(block) => self.frame_of(CONNECT, block.as_slice()),
-            Command::Disconnect => self.frame_of(DISCONNECT, &[]),
-        }
-    }
-
-    /// A record of this kind with this block behind it. `Memory` where the block is too long for
-    /// one, where the file has no room for it, and where there is none.
-    fn frame_of(&self, kind: u8, block: &[u8]) -> Result<Framed, Memory>
-        ensures payload { IfOk result (λ framed. framed ≡ kind ∷ block.now) }
-        ensures fits { IfOk result (λ framed. Fits self.now.tail (length framed)) }
-    {
-        if block.len() > LONGEST_BLOCK || !self.tail.fits(block.len() as u64 + 1) {
-            return Err(Memory);
-        }
-        frame_parts(self.alloc, &[kind], block)
-    }
-
-    /// The store as it is, and why a command isn't prepared.
-    fn store_with_reason(self, why: Why) -> Kept
-        ensures store { result.store ≡ self }
-        ensures why { result.why ≡ why }
-    {
-        Kept { store: self, why }
-    }
 }
 
-/// The file of a store without a block. `Memory` where there is none for it.
-fn first_checkpoint(alloc: Global, name: ProfileName, depth: u16) -> Result<Checkpoint, Memory>
-    requires { (1 ≤ depth) × (depth ≤ 1000) }
-    ensures { IfOk result (λ checkpoint.
-        checkpoint ≡ record { head = first_head name depth; body = [] }) }
+/// The file of a store without a block, of which this is the chain. `Memory` where there is none
+/// for it.
+fn first_file(
+    alloc: Global,
+    chain: &Chain,
+    name: ProfileName,
+    depth: u16,
+) -> Result<Checkpoint, Memory>
+    requires { Names (first_head name depth) (stack_in chain.now) }
+    ensures head { IfOk result (λ whole. whole.head ≡ first_head name depth) }
+    ensures stack { IfOk result (λ whole.
+        stack_in_file whole.head whole.body [] ≡ Ok (stack_in chain.now)) }
 {
     let head = Head {
-        version: 1,
+        version: 2,
         profile: profile_of(name).byte,
         depth,
         generation: 1,
     };
-    checkpoint_of(alloc, &head, Bytes::empty(alloc))
+    file_of(alloc, chain, &head)
+}
+
+/// Carries out a command in memory, and makes what is written of it. Where no memory is found for
+/// the latter the chain goes back.
+fn carry_out(
+    alloc: Global,
+    chain: &mut Chain,
+    tail: &Tail,
+    command: &Command,
+) -> Result<Writing, Why>
+    requires { Names tail.now.head (stack_in chain.old) }
+    ensures ok { OnOk result
+        (stack_after (stack_in chain.old) command.now ≡ Ok (stack_in chain.new)) }
+    ensures due { IfOk result (IsDue tail.now) }
+    ensures leads { IfOk result (LeadsTo (stack_in chain.old) (stack_in chain.new)) }
+    ensures names { OnOk result (Names tail.now.head (stack_in chain.new)) }
+    ensures change { OnOk result (HasChange (stack_in chain.new) (taken_back_in chain.new)) }
+    ensures left { OnOk result
+        (left_by (stack_in chain.new) (stack_in chain.new).older (taken_back_in chain.new)
+        ≡ (stack_in chain.old).index) }
+    ensures refused { IfErr result (IsRefused (stack_in chain.old) command.now) }
+    ensures err { OnErr result (stack_in chain.new ≡ stack_in chain.old) }
+{
+    if let Err(fault) = obey(chain, command) {
+        return Err(fault.into());
+    }
+    match writing_of(alloc, chain, tail, command) {
+        Ok(writing) => Ok(writing),
+        Err(Memory) => {
+            chain.cancel();
+            Err(Why::Memory)
+        }
+    }
 }
 
 /// Carries out a command in memory. The chain then has its change: the one that was taken back, or
@@ -273,6 +267,7 @@ fn obey(chain: &mut Chain, command: &Command) -> Result<(), ConnectFault>
     ensures refused { IfErr result
         (λ fault. Refuses fault (stack_after (stack_in chain.old) command.now)) }
     ensures err { OnErr result (stack_in chain.new ≡ stack_in chain.old) }
+    ensures mark { OnOk result (earlier_in chain.new ≡ Some (stack_in chain.old)) }
 {
     match command {
         Command::Connect(block) => chain.connect(block.as_slice()),

@@ -4,6 +4,7 @@
 //! - `fail N`: the call of this number fails, counted from 0 since the files were `fresh`;
 //! - `make PROFILE DEPTH COMMAND..`: makes the files a store, and carries commands out on it;
 //! - `open COMMAND..`: opens the store, and carries commands out on it;
+//! - `migrate`: makes a store of version 1 one of version 2;
 //! - `crash MOMENT FILL KEEP`: opens what a crash would leave, where each byte that it may change
 //!   is `FILL` and each file is cut to `KEEP` bytes as far as it may be; the files themselves stay;
 //! - `restart MOMENT FILL KEEP`: puts what such a crash leaves in the place of the files;
@@ -28,7 +29,10 @@ mod say;
 mod words;
 
 use crate::carry::carry_out_all;
-use crate::say::{print_hex, print_left, print_place, print_unmade, print_unopened};
+use crate::say::{
+    print_hex, print_left, print_migrated, print_place, print_unmade, print_unmigrated,
+    print_unopened,
+};
 use crate::words::{byte_of, bytes_of, commands_of, depth_of, file_of, number_of, profile_of};
 use anyhow::{Context, bail};
 use ox_feed::Command;
@@ -82,6 +86,14 @@ fn open(
     match Store::open(alloc, site) {
         Ok(store) => print_left(rt, carry_out_all(rt, alloc, store, commands, site)?),
         Err(fault) => print_unopened(rt, fault),
+    }
+}
+
+/// Makes a store of version 1 one of version 2.
+fn migrate(rt: &impl Print, alloc: Global, site: &mut MemSite) -> io::Result<()> {
+    match Store::migrate(alloc, site) {
+        Ok((store, commands)) => print_migrated(rt, commands, &store),
+        Err(fault) => print_unmigrated(rt, alloc, &fault),
     }
 }
 
@@ -177,6 +189,7 @@ fn tell(rt: &impl Print, alloc: Global, site: &mut MemSite, row: &[&str]) -> any
     match row {
         ["make", profile, depth, words @ ..] => make_by(rt, alloc, site, profile, depth, words),
         ["open", words @ ..] => Ok(open(rt, alloc, site, &commands_of(alloc, words)?)?),
+        ["migrate"] => Ok(migrate(rt, alloc, site)?),
         ["crash", moment, fill, keep] => crash(rt, alloc, site, moment, fill, keep),
         ["locate", words @ ..] => locate(rt, alloc, site, words),
         ["now"] => Ok(println!(rt; "moment {}", site.now())?),

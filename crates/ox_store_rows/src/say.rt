@@ -3,7 +3,7 @@
 use crate::carry::{Moved, Outcome};
 use ox_model::{Place, Refusal, View};
 use ox_outside::Which;
-use ox_store::{MakeFault, OpenFault, Store};
+use ox_store::{MakeFault, MigrateFault, OpenFault, Store};
 use std::alloc::Global;
 use std::io;
 
@@ -104,6 +104,26 @@ pub fn print_unopened(rt: &impl Print, fault: OpenFault) -> io::Result<()> {
         OpenFault::NotStore { file: Which::B, at } => println!(rt; "not a store: B at {at}"),
         OpenFault::DiskFault => println!(rt; "a call failed"),
         OpenFault::Memory => println!(rt; "no memory"),
+    }
+}
+
+/// How many commands of a store of version 1 were carried out, and what the store says of itself.
+pub fn print_migrated(rt: &impl Print, commands: u64, store: &Store) -> io::Result<()> {
+    println!(rt; "ok {commands}")?;
+    print_store(rt, store)
+}
+
+/// Why a store of version 1 isn't migrated.
+pub fn print_unmigrated(rt: &impl Print, alloc: Global, fault: &MigrateFault) -> io::Result<()> {
+    match fault {
+        MigrateFault::NotStore { file: Which::A, at } => println!(rt; "not a store: A at {at}"),
+        MigrateFault::NotStore { file: Which::B, at } => println!(rt; "not a store: B at {at}"),
+        MigrateFault::Old { command, refusal } => {
+            print!(rt; "old {command} ")?;
+            print_refusal(rt, alloc, refusal)
+        }
+        MigrateFault::DiskFault => println!(rt; "a call failed"),
+        MigrateFault::Memory => println!(rt; "no memory"),
     }
 }
 

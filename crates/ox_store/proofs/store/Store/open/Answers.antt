@@ -7,7 +7,7 @@ use Rattle.ox_store.specs.declared.fault.OpenFault.TheVariants as faults
 use Rattle.ox_store.proofs.store.Store.open.Goals as goal
 
 pub returns-in-Err-clause-not_store : goal.returns-in-Err-clause-not_store
-returns-in-Err-clause-not_store g c told = c.fault_of.ensures.misfit (reading 1 (g.S.Site.seen c.args.site.now)) (c.in-Err.ensures.not_store told)
+returns-in-Err-clause-not_store g c told = c.fault_of.ensures.misfit (reading 2 (g.S.Site.seen c.args.site.now)) (c.in-Err.ensures.not_store told)
 
 pub returns-in-Err-clause-settled : goal.returns-in-Err-clause-settled
 returns-in-Err-clause-settled g c other = c.in-Err.ensures.settled (λ is.
