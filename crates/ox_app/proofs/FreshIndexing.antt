@@ -157,35 +157,47 @@ init_writes words name depth is (inr query) = cc (sym is ∙ query.1)
 
 -- how an apply ends that shows a line of refusal
 pub apply_refuses : (status : Status) → IsApplyStatus status → IsRefusal status → status ≡ NotStore
+apply_refuses status a (inr (inr (inl e))) = e
 apply_refuses status (inl a) (inl e) = cc
 apply_refuses status (inl a) (inr (inl e)) = cc
+apply_refuses status (inl a) (inr (inr (inr e))) = cc
 apply_refuses status (inr (inl a)) (inl e) = a
 apply_refuses status (inr (inl a)) (inr (inl e)) = a
+apply_refuses status (inr (inl a)) (inr (inr (inr e))) = a
 apply_refuses status (inr (inr (inl a))) (inl e) = cc
 apply_refuses status (inr (inr (inl a))) (inr (inl e)) = cc
+apply_refuses status (inr (inr (inl a))) (inr (inr (inr e))) = cc
 apply_refuses status (inr (inr (inr (inl a)))) (inl e) = cc
 apply_refuses status (inr (inr (inr (inl a)))) (inr (inl e)) = cc
+apply_refuses status (inr (inr (inr (inl a)))) (inr (inr (inr e))) = cc
 apply_refuses status (inr (inr (inr (inr (inl a))))) (inl e) = cc
 apply_refuses status (inr (inr (inr (inr (inl a))))) (inr (inl e)) = cc
+apply_refuses status (inr (inr (inr (inr (inl a))))) (inr (inr (inr e))) = cc
 apply_refuses status (inr (inr (inr (inr (inr (inl a)))))) (inl e) = cc
 apply_refuses status (inr (inr (inr (inr (inr (inl a)))))) (inr (inl e)) = cc
+apply_refuses status (inr (inr (inr (inr (inr (inl a)))))) (inr (inr (inr e))) = cc
 apply_refuses status (inr (inr (inr (inr (inr (inr a)))))) (inl e) = cc
 apply_refuses status (inr (inr (inr (inr (inr (inr a)))))) (inr (inl e)) = cc
-apply_refuses status a (inr (inr e)) = e
+apply_refuses status (inr (inr (inr (inr (inr (inr a)))))) (inr (inr (inr e))) = cc
 
 -- how an init ends that shows a line of refusal
 pub init_refuses : (status : Status) → IsInitStatus status → IsRefusal status → status ≡ NotEmpty
 init_refuses status a (inr (inl e)) = e
 init_refuses status (inl a) (inl e) = cc
-init_refuses status (inl a) (inr (inr e)) = cc
+init_refuses status (inl a) (inr (inr (inl e))) = cc
+init_refuses status (inl a) (inr (inr (inr e))) = cc
 init_refuses status (inr (inl a)) (inl e) = a
-init_refuses status (inr (inl a)) (inr (inr e)) = a
+init_refuses status (inr (inl a)) (inr (inr (inl e))) = a
+init_refuses status (inr (inl a)) (inr (inr (inr e))) = a
 init_refuses status (inr (inr (inl a))) (inl e) = cc
-init_refuses status (inr (inr (inl a))) (inr (inr e)) = cc
+init_refuses status (inr (inr (inl a))) (inr (inr (inl e))) = cc
+init_refuses status (inr (inr (inl a))) (inr (inr (inr e))) = cc
 init_refuses status (inr (inr (inr (inl a)))) (inl e) = cc
-init_refuses status (inr (inr (inr (inl a)))) (inr (inr e)) = cc
+init_refuses status (inr (inr (inr (inl a)))) (inr (inr (inl e))) = cc
+init_refuses status (inr (inr (inr (inl a)))) (inr (inr (inr e))) = cc
 init_refuses status (inr (inr (inr (inr a)))) (inl e) = cc
-init_refuses status (inr (inr (inr (inr a)))) (inr (inr e)) = cc
+init_refuses status (inr (inr (inr (inr a)))) (inr (inr (inl e))) = cc
+init_refuses status (inr (inr (inr (inr a)))) (inr (inr (inr e))) = cc
 
 -- ---- a run without a fault
 

@@ -6,6 +6,7 @@ pub mod FeedAnswers
 pub mod FeedState
 pub mod FreshIndexing
 pub mod Images
+pub mod Migrating
 pub mod Pieces
 pub mod Prefixes
 pub mod Serving

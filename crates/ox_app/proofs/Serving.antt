@@ -404,16 +404,22 @@ serve_writes words turns is (inr query) = apart (codes "serve") (codes "query") 
 
 -- how a server ends that shows a line of refusal
 pub serve_refuses : (status : Status) → IsServeStatus status → IsRefusal status → status ≡ ends.NotStore
-serve_refuses status a (inr (inr e)) = e
+serve_refuses status a (inr (inr (inl e))) = e
 serve_refuses status (inl a) (inl e) = cc
 serve_refuses status (inl a) (inr (inl e)) = cc
+serve_refuses status (inl a) (inr (inr (inr e))) = cc
 serve_refuses status (inr (inl a)) (inl e) = a
 serve_refuses status (inr (inl a)) (inr (inl e)) = a
+serve_refuses status (inr (inl a)) (inr (inr (inr e))) = a
 serve_refuses status (inr (inr (inl a))) (inl e) = cc
 serve_refuses status (inr (inr (inl a))) (inr (inl e)) = cc
+serve_refuses status (inr (inr (inl a))) (inr (inr (inr e))) = cc
 serve_refuses status (inr (inr (inr (inl a)))) (inl e) = cc
 serve_refuses status (inr (inr (inr (inl a)))) (inr (inl e)) = cc
+serve_refuses status (inr (inr (inr (inl a)))) (inr (inr (inr e))) = cc
 serve_refuses status (inr (inr (inr (inr (inl a))))) (inl e) = cc
 serve_refuses status (inr (inr (inr (inr (inl a))))) (inr (inl e)) = cc
+serve_refuses status (inr (inr (inr (inr (inl a))))) (inr (inr (inr e))) = cc
 serve_refuses status (inr (inr (inr (inr (inr a))))) (inl e) = cc
 serve_refuses status (inr (inr (inr (inr (inr a))))) (inr (inl e)) = cc
+serve_refuses status (inr (inr (inr (inr (inr a))))) (inr (inr (inr e))) = cc

@@ -94,7 +94,7 @@ stops_before disk hear show old mid new stopped none = record {
 shown_as : (status : Status) (old new : Counts) → StopsAtFault ⊥ ⊥ (status ≡ ends.NotStore) old new → EndsAtFault status old new
 shown_as status old new stopped =
     stops_as ⊥ ⊥ (status ≡ ends.NotStore) (status ≡ ends.DiskFault) (status ≡ ends.HearFault) ((status ≡ ends.ShowFault) ⊎ IsRefusal status) old new
-    (λ no. absurd no) (λ no. absurd no) (λ is. inr (inr (inr is))) stopped
+    (λ no. absurd no) (λ no. absurd no) (λ is. inr (inr (inr (inl is)))) stopped
 
 pub unopened_stops : {S T : Type 0} (means : Meanings S) (fault : OpenFault) (status : Status) (old mid new : S) → UnopenedAs means fault status mid new
     → StopsAtFault (IsErrOf {T = T} {E = OpenFault} (Err fault) opens.DiskFault) ⊥ ⊥ (means.counts old) (means.counts mid)

@@ -1,8 +1,9 @@
 -- Read Headline first: it says what `run` promises of a feed, of the files and of a crash.
 -- Subcommands has the words of the command line, Status how a run ends, Show what is said of shown
 -- lines and of faults, Init and Unopened the lines of a making and of files that are no store,
--- Query what a query shows, Serve what a server logs and a crash leaves of it, and Drill the same
--- of a drill. Fold and Apply are of single lines, for the functions below `run`.
+-- Query what a query shows, Serve what a server logs and a crash leaves of it, Drill the same of a
+-- drill, and Migrate of a migration. Fold and Apply are of single lines, for the functions below
+-- `run`.
 pub mod Headline
 pub mod Subcommands
 pub mod Status
@@ -12,5 +13,6 @@ pub mod Unopened
 pub mod Query
 pub mod Serve
 pub mod Drill
+pub mod Migrate
 pub mod Fold
 pub mod Apply

@@ -3,7 +3,7 @@ use Rattle.std.specs.Prelude.{◌≡◌, ◌⊎◌, ℕ, Result, Ok, Err}
 use Rattle.ox_app.specs.declared.status.Status.{Status}
 use Rattle.ox_app.specs.declared.status.Status.TheVariants.{Done, Usage, NotEmpty, NotStore}
 use Rattle.ox_app.specs.declared.status.Status.TheVariants.{DiskFault, HearFault, ShowFault}
-use Rattle.ox_app.specs.declared.status.Status.TheVariants.{DoorFault, Memory, TooMuch}
+use Rattle.ox_app.specs.declared.status.Status.TheVariants.{DoorFault, Memory, TooMuch, OldCommand}
 use Rattle.ox_drill.specs.declared.fault.DrillFault.{DrillFault}
 use Rattle.ox_drill.specs.declared.fault.DrillFault.TheVariants as drills
 use Rattle.ox_serve.specs.declared.fault.ServeFault.{ServeFault}
@@ -23,6 +23,7 @@ code_of ShowFault = 6
 code_of DoorFault = 7
 code_of Memory = 8
 code_of TooMuch = 9
+code_of OldCommand = 10
 
 -- how a run over a feed ends
 abbrev pub status_of : Result (Unit {0}) Stop → Status
@@ -79,6 +80,12 @@ IsServeStatus status =
 abbrev pub IsDrillStatus : Status → Type 0
 IsDrillStatus status = IsInitStatus status
 
+-- how `migrate` may end
+abbrev pub IsMigrateStatus : Status → Type 0
+IsMigrateStatus status =
+    (status ≡ Done) ⊎ (status ≡ NotStore) ⊎ (status ≡ DiskFault) ⊎ (status ≡ ShowFault)
+    ⊎ (status ≡ Memory) ⊎ (status ≡ OldCommand)
+
 -- how a run may end that doesn't open its files
 abbrev pub IsUnopened : Status → Type 0
 IsUnopened status = (status ≡ NotStore) ⊎ (status ≡ DiskFault) ⊎ (status ≡ Memory)
@@ -93,4 +100,5 @@ IsDone status = (status ≡ Done) ⊎ (status ≡ Memory)
 
 -- how a run ends that showed one line and wrote no file
 abbrev pub IsRefusal : Status → Type 0
-IsRefusal status = (status ≡ Usage) ⊎ (status ≡ NotEmpty) ⊎ (status ≡ NotStore)
+IsRefusal status =
+    (status ≡ Usage) ⊎ (status ≡ NotEmpty) ⊎ (status ≡ NotStore) ⊎ (status ≡ OldCommand)

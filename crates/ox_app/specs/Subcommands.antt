@@ -5,7 +5,7 @@ use Rattle.ox_sat.specs.Profiles.{profile_word}
 use Rattle.ox_sat.specs.declared.profiles.ProfileName.{ProfileName}
 use Rattle.ox_app.specs.declared.subcommand.Subcommand.{Subcommand}
 use Rattle.ox_app.specs.declared.subcommand.Subcommand.TheVariants.{Fold, Init, Apply, Query}
-use Rattle.ox_app.specs.declared.subcommand.Subcommand.TheVariants.{Serve, Drill, Unknown}
+use Rattle.ox_app.specs.declared.subcommand.Subcommand.TheVariants.{Serve, Drill, Migrate, Unknown}
 
 -- a run over a feed, by its profile
 abbrev pub fold_words : ProfileName → List (List ℕ)
@@ -31,6 +31,10 @@ serve_words turns = codes "serve" ∷ decimal turns ∷ []
 abbrev pub drill_words : ℕ → List (List ℕ)
 drill_words n = codes "drill" ∷ decimal n ∷ []
 
+-- the migration of a store of version 1
+abbrev pub migrate_words : List (List ℕ)
+migrate_words = codes "migrate" ∷ []
+
 -- how many blocks a store may keep
 pub record IsDepth (depth : ℕ) : Type 0 where
   pub some : 1 ≤ depth
@@ -54,6 +58,7 @@ pub record IsUnknown (words : List (List ℕ)) : Type 0 where
   pub no_query : (path : List ℕ) → words ≢ query_words path
   pub no_serve : (turns : ℕ) → IsTurns turns → words ≢ serve_words turns
   pub no_drill : (n : ℕ) → IsDrillLength n → words ≢ drill_words n
+  pub no_migrate : words ≢ migrate_words
 
 -- the words are this subcommand
 abbrev pub IsSubcommand : List (List ℕ) → Subcommand → Type 0
@@ -63,6 +68,7 @@ IsSubcommand words Apply = words ≡ apply_words
 IsSubcommand words (Query path) = words ≡ query_words path.now
 IsSubcommand words (Serve turns) = IsTurns turns × (words ≡ serve_words turns)
 IsSubcommand words (Drill n) = IsDrillLength n × (words ≡ drill_words n)
+IsSubcommand words Migrate = words ≡ migrate_words
 IsSubcommand words Unknown = IsUnknown words
 
 -- the words of a run that opens files

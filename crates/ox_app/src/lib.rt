@@ -8,6 +8,7 @@ mod drill;
 mod fold;
 mod init;
 mod line;
+mod migrate;
 mod program;
 mod query;
 mod serve;

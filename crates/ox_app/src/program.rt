@@ -4,6 +4,7 @@ ghost use Rattle.std.specs.Prelude.{◌≡◌, ◌≢◌, ◌⊎◌, ℕ, List, 
 ghost use Rattle.ox_outside.specs.Log.{Grows};
 ghost use Rattle.ox_model.specs.Machine.{Machine, empty_machine, stack_of};
 ghost use Rattle.ox_model.specs.Stack.{Stack};
+ghost use Rattle.ox_files.specs.OldStands.{OldFault};
 ghost use Rattle.ox_files.specs.Stands.{Misfit};
 ghost use Rattle.ox_sat.specs.Profiles.{profile_named};
 ghost use Rattle.ox_sat.specs.declared.profiles.ProfileName.{ProfileName};
@@ -13,17 +14,21 @@ ghost use Rattle.ox_app.specs.Fold.{fold_depth};
 ghost use Rattle.ox_app.specs.Headline.{AddsNoImage, AnswersFeed, IsRunInTurn, StandsFor};
 ghost use Rattle.ox_app.specs.Headline.{StandsForNone, StopsAtLine, SurvivesCrash};
 ghost use Rattle.ox_app.specs.Init.{IsMade, MakesFirst, made_line, not_empty_line};
+ghost use Rattle.ox_app.specs.Migrate.{IsMigrated, IsUnmigrated, MigratesFirst, SaysNoOldStore};
+ghost use Rattle.ox_app.specs.Migrate.{SaysOldCommand, StandsForNoOld, StandsForOld};
+ghost use Rattle.ox_app.specs.Migrate.{migrated_line};
 ghost use Rattle.ox_outside.specs.Runs.{Calls};
 ghost use Rattle.ox_app.specs.Query.{query_body};
 ghost use Rattle.ox_app.specs.Serve.{AnswersLinks, DoorFails, SurvivesServing};
 ghost use Rattle.ox_app.specs.Show.{DiskFails, EndsAtFault, EndsDone, HearFails, Says};
 ghost use Rattle.ox_app.specs.Show.{ShowFails, ShowsText, usage_line};
 ghost use Rattle.ox_app.specs.Status.{IsApplyStatus, IsDone, IsDrillStatus, IsFoldStatus};
-ghost use Rattle.ox_app.specs.Status.{IsInitStatus, IsQueryStatus, IsRefusal, IsServeStatus};
-ghost use Rattle.ox_app.specs.Status.{IsSparing, IsUnopened};
+ghost use Rattle.ox_app.specs.Status.{IsInitStatus, IsMigrateStatus, IsQueryStatus, IsRefusal};
+ghost use Rattle.ox_app.specs.Status.{IsServeStatus, IsSparing, IsUnopened};
 ghost use Rattle.ox_app.specs.Subcommands.{IsDepth, IsDrillLength, IsOpening, IsReading};
 ghost use Rattle.ox_app.specs.Subcommands.{IsTurns, IsUnknown, apply_words, drill_words};
-ghost use Rattle.ox_app.specs.Subcommands.{fold_words, init_words, query_words, serve_words};
+ghost use Rattle.ox_app.specs.Subcommands.{fold_words, init_words, migrate_words, query_words};
+ghost use Rattle.ox_app.specs.Subcommands.{serve_words};
 ghost use Rattle.ox_app.specs.Unopened.{SaysNotStore};
 ghost use Rattle.ox_app.specs.declared.status.Status.TheVariants as ends;
 
@@ -31,6 +36,7 @@ use crate::apply::apply;
 use crate::drill::drill;
 use crate::fold::fold;
 use crate::init::init;
+use crate::migrate::migrate;
 use crate::query::query;
 use crate::serve::serve;
 use crate::show::say;
@@ -59,6 +65,8 @@ use std::alloc::Global;
 /// | `drill <n>` | Makes two empty files a regtest store that keeps up to 100 blocks, connects n |
 /// | | made blocks, takes the newest ten back, or all where there are fewer, connects them |
 /// | | again, and shows what the index then counts. From 1 to 100,000 blocks. |
+/// | `migrate` | Makes a store of version 1 one of version 2, by the present rules, and shows |
+/// | | how many commands were carried out: `ok <commands>`. |
 ///
 /// The profile is `mainnet`, `regtest` or `lab`, and a number has decimal digits with no sign and
 /// no leading zero.
@@ -69,8 +77,9 @@ use std::alloc::Global;
 /// | | shown, or all turns were made and what was counted was shown | |
 /// | `Usage` | exactly where the words are no subcommand | `usage` |
 /// | `NotEmpty` | of `init` and `drill`, exactly where a file isn't empty | `not empty` |
-/// | `NotStore` | exactly where the files are no store | `not a store`, the file's letter and the |
-/// | | | place of the first test that fails |
+/// | `NotStore` | exactly where the files are no store; in `migrate`, none | `not a store`, the |
+/// | | of version 1 that another file can follow | file's letter and the place of the first |
+/// | | | test that fails |
 /// | `DiskFault` | only where a call on a file failed in this run | nothing further |
 /// | `HearFault` | only where hearing on channel 0 failed in this run | nothing further |
 /// | `ShowFault` | only where showing on channel 0 failed in this run | nothing further |
@@ -78,12 +87,14 @@ use std::alloc::Global;
 /// | `Memory` | where there is no memory | nothing further |
 /// | `TooMuch` | exactly where 4,611,686,018,427,387,904 bytes were heard and channel 0 | nothing |
 /// | | hasn't ended | further |
+/// | `OldCommand` | of `migrate`, exactly where the present rules refuse a command | `old`, its |
+/// | | | number from 0, and the line of refusal |
 ///
-/// From `DiskFault` on a status ends the run at once. A link's fault ends that link alone, and in
-/// `serve` a command that meets want of memory is answered 503 and changes nothing; `Memory` comes
-/// before the first turn. If showing the line of `Usage`, `NotEmpty` or
-/// `NotStore` fails, the status stays. In `apply`, `Memory` leaves the line at which memory ran out
-/// undone.
+/// From `DiskFault` to `TooMuch` a status ends the run at once. A link's fault ends that link
+/// alone, and in `serve` a command that meets want of memory is answered 503 and changes nothing;
+/// `Memory` comes before the first turn. If showing the line of `Usage`, `NotEmpty`, `NotStore` or
+/// `OldCommand` fails, the status stays. In `apply`, `Memory` leaves the line at which memory ran
+/// out undone; in `migrate` it comes before the first write.
 pub fn run<S: Site>(alloc: Global, words: &[Bytes], site: &mut S) -> Status
     // ---- `fold`
 
@@ -180,6 +191,45 @@ pub fn run<S: Site>(alloc: Global, words: &[Bytes], site: &mut S) -> Status
         → ¬ DiskFails S.Site site.old site.new → ¬ ShowFails S.Site site.old site.new
         → IsDone result }
 
+    // ---- `migrate`
+
+    // On files that stand for a stack at version 1, by so many commands: their number is shown, and
+    // nothing is heard.
+    ensures migrates { words.now ≡ migrate_words → (stack : Stack) (commands : ℕ)
+        → StandsForOld S.Site site.old stack commands
+        → (result ≢ ends.NotStore) × (result ≢ ends.OldCommand)
+        × ShowsText S.Site (migrated_line commands) result site.old site.new }
+    ensures migrated { words.now ≡ migrate_words → (stack : Stack) (commands : ℕ)
+        → StandsForOld S.Site site.old stack commands
+        → (result ≡ ends.Done) ⊎ (result ≡ ends.ShowFault) → IsMigrated S.Site stack site.new }
+    // Whenever the run stops, the files stand for that stack, at version 1 or at version 2; and at
+    // version 2 before a byte of the line is shown.
+    ensures migrate_survives { words.now ≡ migrate_words → (stack : Stack) (commands : ℕ)
+        → StandsForOld S.Site site.old stack commands
+        → MigratesFirst S.Site stack commands site.old site.new }
+    // On files that stand for none at version 1: what is wrong with them is shown, and nothing
+    // else; and they are spared.
+    ensures unmigrated { words.now ≡ migrate_words → (fault : OldFault Misfit)
+        → StandsForNoOld S.Site site.old fault
+        → IsUnmigrated fault result }
+    ensures migrate_unsaid { words.now ≡ migrate_words → (fault : OldFault Misfit)
+        → StandsForNoOld S.Site site.old fault
+        → result ≢ ends.NotStore → result ≢ ends.OldCommand → S.log site.new ≡ S.log site.old }
+    ensures migrates_nothing { words.now ≡ migrate_words → (fault : OldFault Misfit)
+        → StandsForNoOld S.Site site.old fault
+        → AddsNoImage S.Site site.old site.new }
+    ensures no_old_store { words.now ≡ migrate_words → result ≡ ends.NotStore
+        → SaysNoOldStore S.Site site.old site.new }
+    ensures old_command { result ≡ ends.OldCommand → SaysOldCommand S.Site site.old site.new }
+    // Memory runs out before the first write, or not at all.
+    ensures migrate_memory { words.now ≡ migrate_words → result ≡ ends.Memory
+        → AddsNoImage S.Site site.old site.new }
+    ensures migrate_status { words.now ≡ migrate_words → IsMigrateStatus result }
+    ensures migrate_completes { words.now ≡ migrate_words → (stack : Stack) (commands : ℕ)
+        → StandsForOld S.Site site.old stack commands
+        → ¬ DiskFails S.Site site.old site.new → ¬ ShowFails S.Site site.old site.new
+        → IsDone result }
+
     // ---- `query`, on files that stand for a stack
 
     // The body of the reply is shown, and nothing else.
@@ -226,7 +276,8 @@ pub fn run<S: Site>(alloc: Global, words: &[Bytes], site: &mut S) -> Status
     ensures opens_nothing { IsOpening words.now → (misfit : Misfit)
         → StandsForNone S.Site site.old misfit
         → AddsNoImage S.Site site.old site.new }
-    ensures not_store { result ≡ ends.NotStore → SaysNotStore S.Site site.old site.new }
+    ensures not_store { words.now ≢ migrate_words → result ≡ ends.NotStore
+        → SaysNotStore S.Site site.old site.new }
 
     // ---- any words
 
@@ -251,6 +302,7 @@ pub fn run<S: Site>(alloc: Global, words: &[Bytes], site: &mut S) -> Status
         Subcommand::Query(path) => query(alloc, site, path),
         Subcommand::Serve(turns) => serve(alloc, site, turns),
         Subcommand::Drill(n) => drill(alloc, site, n),
+        Subcommand::Migrate => migrate(alloc, site),
         Subcommand::Unknown => {
             say(site, b"usage\n");
             Status::Usage

@@ -27,10 +27,12 @@ pub enum Status {
     Memory,
     /// As many bytes were heard as a feed may have, and channel 0 hasn't ended.
     TooMuch,
+    /// The present rules refuse a command of a store of version 1.
+    OldCommand,
 }
 
 impl Status {
-    /// The exit status of the process: 0 to 9, in the order above.
+    /// The exit status of the process: 0 to 10, in the order above.
     pub fn code(self) -> u8
         ensures { result ≡ code_of self }
     {
@@ -45,6 +47,7 @@ impl Status {
             Status::DoorFault => 7,
             Status::Memory => 8,
             Status::TooMuch => 9,
+            Status::OldCommand => 10,
         }
     }
 }

@@ -21,6 +21,8 @@ pub enum Subcommand<'a> {
     Serve(u64),
     /// A drill of so many blocks.
     Drill(u32),
+    /// The migration of a store of version 1.
+    Migrate,
     /// The words are no subcommand.
     Unknown,
 }
@@ -99,6 +101,7 @@ pub fn subcommand_of(words: &[Bytes]) -> Subcommand<'_>
 {
     match words {
         [first] if first.as_slice() == b"apply".as_slice() => Subcommand::Apply,
+        [first] if first.as_slice() == b"migrate".as_slice() => Subcommand::Migrate,
         [first, path] if first.as_slice() == b"query".as_slice() => Subcommand::Query(
             path.as_slice(),
         ),

@@ -44,7 +44,7 @@ returns-in-Ok-clause-one_more g c =
 pub returns-in-Ok-clause-stands : goal.returns-in-Ok-clause-stands
 returns-in-Ok-clause-stands g c told stood =
     let prepared = c.in-Ok.ensures.ready in
-    c.commit.ensures.stands told c.args.store.stack stood (record { command = c.args.command.now; payload = prepared.payload; after = prepared.after })
+    c.commit.ensures.stands told c.args.store.stack stood prepared.leads
 
 pub returns-in-Ok-clause-any_moment : goal.returns-in-Ok-clause-any_moment
 returns-in-Ok-clause-any_moment g c told stood =
@@ -52,7 +52,7 @@ returns-in-Ok-clause-any_moment g c told stood =
     let before = c.args.store.stack in
     subst (λ (after : Stack). LeavesOnly g.S.Site c.args.site.now c.commit.new.site (λ r. StandsForEither before after r.files))
     (sym (ap (after_turn before) prepared.after))
-    (c.commit.ensures.any_moment told before stood (record { command = c.args.command.now; payload = prepared.payload; after = prepared.after }))
+    (c.commit.ensures.any_moment told before stood prepared.leads)
 
 pub returns-in-Ok-clause-out_of_memory : goal.returns-in-Ok-clause-out_of_memory
 returns-in-Ok-clause-out_of_memory g c is = absurd (no_memory_by_disk c.commit.result c.commit.ensures.stops is)

@@ -129,3 +129,6 @@ pub returns-in-Drill-clause-no_image : goal.returns-in-Drill-clause-no_image
 returns-in-Drill-clause-no_image g c =
     ⊎_elim (λ reading. absurd (drill_writes c.args.words.now c.in-Drill.n c.in-Drill.ensures.1 reading))
     (λ refuses. c.drill.ensures.looks (init_refuses c.drill.result c.drill.ensures.status refuses))
+
+pub returns-in-Migrate-clause-migrates : goal.returns-in-Migrate-clause-migrates
+returns-in-Migrate-clause-migrates g c words stack commands opened = c.migrate.ensures.shows opened.told stack commands opened.stands_for

@@ -1,16 +1,29 @@
-use Rattle.std.proofs.Common.{◌≡◌, ◌∙◌, ℕ, List, ap, inl, inr, refl, subst, sym}
-use Rattle.std.specs.Prelude.{Err}
+use Rattle.std.proofs.Common.{◌≡◌, ◌∙◌, ◌⊎◌, ℕ, List, ap, inl, inr, refl, subst, sym}
+use Rattle.std.specs.Prelude.{Result, Ok, Err}
+use Rattle.ox_outside.specs.Counts.{Counts, IsFailure, StopsAtFault}
 use Rattle.ox_outside.specs.Log.{Grows}
+use Rattle.ox_outside.proofs.Counts.{stops_after, stops_as, went_on}
 use Rattle.ox_desk.specs.Servers.{server_on}
 use Rattle.ox_serve.specs.Runs.{StandFor}
+use Rattle.ox_serve.specs.declared.fault.ServeFault.{ServeFault}
 use Rattle.ox_serve.specs.declared.fault.ServeFault.TheVariants as serves
 use Rattle.ox_app.specs.Serve.{RunsServer}
-use Rattle.ox_app.specs.Show.{ShowsReply}
+use Rattle.ox_app.specs.Show.{EndsAtFault, ShowsReply}
+use Rattle.ox_app.specs.Status.{IsRefusal}
 use Rattle.ox_app.specs.declared.status.Status.{Status}
 use Rattle.ox_app.specs.declared.status.Status.TheVariants as ends
 use Rattle.ox_app.proofs.Images.{reply_front, reply_whole, show_undone}
 use Rattle.ox_app.proofs.Serving.{runs_by_fault, runs_told, served_only, served_then_talked}
 use Rattle.ox_app.proofs.serve.serve_by.Goals as goal
+
+-- behind turns of which none failed, the line of what was counted isn't shown whole
+totals_stop : {T U E : Type 0} (totals : T) (answer : Result U E) (old mid new : Counts)
+    → StopsAtFault (◌≡◌ {A = Result T ServeFault} (Ok totals) (Err serves.DiskFault)) ⊥ ⊥ old mid → StopsAtFault ⊥ ⊥ (IsFailure answer) mid new → EndsAtFault ends.ShowFault old new
+totals_stop {T} totals answer old mid new served stopped =
+    stops_after (ends.ShowFault ≡ ends.DiskFault) (ends.ShowFault ≡ ends.HearFault) ((ends.ShowFault ≡ ends.ShowFault) ⊎ IsRefusal ends.ShowFault) old mid new
+    (went_on (◌≡◌ {A = Result T ServeFault} (Ok totals) (Err serves.DiskFault)) ⊥ ⊥ old mid (λ is. cc is) (λ no. no) (λ no. no) served)
+    (stops_as ⊥ ⊥ (IsFailure answer) (ends.ShowFault ≡ ends.DiskFault) (ends.ShowFault ≡ ends.HearFault) ((ends.ShowFault ≡ ends.ShowFault) ⊎ IsRefusal ends.ShowFault) mid new
+    (λ no. absurd no) (λ no. absurd no) (λ failed. inl refl) stopped)
 
 pub returns-in-Ok-show_all-clause-serves : goal.returns-in-Ok-show_all-clause-serves
 returns-in-Ok-show_all-clause-serves g c =
@@ -57,3 +70,9 @@ returns-clause-serves g c =
 pub returns-clause-survives : goal.returns-clause-survives
 returns-clause-survives g c told =
     served_only g.S.Site server_on c.args.store.stack StandFor c.args.site.now c.serve.new.site (c.in-Err.ensures.survives told)
+
+pub returns-in-Ok-clause-stops : goal.returns-in-Ok-clause-stops
+returns-in-Ok-clause-stops g c =
+    let counts = g.S.Site.counts in
+    totals_stop c.in-Ok.totals c.show_all.result (counts c.args.site.now) (counts c.serve.new.site) (counts c.show_all.new.site)
+    c.in-Ok.ensures.counted c.show_all.ensures.counted

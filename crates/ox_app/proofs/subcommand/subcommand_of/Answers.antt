@@ -11,23 +11,29 @@ returns-in-len1 c =
     one_word c.args.words.now c.first-item.result (codes "apply") c.in-len1.len_at_least c.in-len1.len_below c.first-item.is
     ((bytes_eq-Decides c.first-item.result (codes "apply")).0 (sym first))
 
+pub returns-in-len1-2 : goal.returns-in-len1-2
+returns-in-len1-2 c =
+    let first = rw (c.as_slice-then-words-lt2-2.ensures, c.as_slice-then-words-lt2-3.ensures) at c.if-eq-2.ensures in
+    one_word c.args.words.now c.first-item-then-words-lt2.result (codes "migrate") c.in-len1.len_at_least c.in-len1.len_below c.first-item-then-words-lt2.is
+    ((bytes_eq-Decides c.first-item-then-words-lt2.result (codes "migrate")).0 (sym first))
+
 pub returns-in-len2 : goal.returns-in-len2
 returns-in-len2 c =
-    let first = rw (c.as_slice-then-words-lt3.ensures, c.as_slice-then-words-lt3-2.ensures) at c.if-eq-2.ensures in
+    let first = rw (c.as_slice-then-words-lt3.ensures, c.as_slice-then-words-lt3-2.ensures) at c.if-eq-3.ensures in
     two_words c.args.words.now c.first-item-then-words-lt3.result c.path-item.result (codes "query") c.as_slice-in-len2.result.now
     c.in-len2.len_at_least c.in-len2.len_below c.first-item-then-words-lt3.is c.path-item.is
     ((bytes_eq-Decides c.first-item-then-words-lt3.result (codes "query")).0 (sym first)) (sym c.as_slice-in-len2.ensures)
 
 pub returns-in-Some : goal.returns-in-Some
 returns-in-Some c =
-    let first = rw (c.as_slice-then-words-lt3-3.ensures, c.as_slice-then-words-lt3-4.ensures) at c.if-eq-3.ensures in
+    let first = rw (c.as_slice-then-words-lt3-3.ensures, c.as_slice-then-words-lt3-4.ensures) at c.if-eq-4.ensures in
     two_words c.args.words.now c.first-item-then-words-lt3-2.result c.profile-item.result (codes "fold") (profile_word c.in-Some.name)
     c.in-len2.len_at_least c.in-len2.len_below c.first-item-then-words-lt3-2.is c.profile-item.is
     ((bytes_eq-Decides c.first-item-then-words-lt3-2.result (codes "fold")).0 (sym first)) (sym c.as_slice-in-len2-2.ensures ∙ c.in-Some.ensures.found)
 
 pub returns-in-Some-Some : goal.returns-in-Some-Some
 returns-in-Some-Some c =
-    let first = rw (c.as_slice-then-words-lt4.ensures, c.as_slice-then-words-lt4-2.ensures) at c.if-eq-6.ensures in
+    let first = rw (c.as_slice-then-words-lt4.ensures, c.as_slice-then-words-lt4-2.ensures) at c.if-eq-7.ensures in
     let depth = c.in-Some-Some.ensures'.found in (
       depth.0,
       three_words c.args.words.now c.first-item-then-words-lt4.result c.profile-item-then-words-lt4.result c.depth-item.result
@@ -38,7 +44,7 @@ returns-in-Some-Some c =
 
 pub returns-in-Some-turns_in : goal.returns-in-Some-turns_in
 returns-in-Some-turns_in c =
-    let first = rw (c.as_slice-then-words-lt3-5.ensures, c.as_slice-then-words-lt3-6.ensures) at c.if-eq-4.ensures in
+    let first = rw (c.as_slice-then-words-lt3-5.ensures, c.as_slice-then-words-lt3-6.ensures) at c.if-eq-5.ensures in
     let turns = c.in-Some-turns_in.ensures.found in (
       turns.0,
       two_words c.args.words.now c.first-item-then-words-lt3-3.result c.turns-item.result (codes "serve") (decimal c.in-Some-turns_in.turns)
@@ -48,7 +54,7 @@ returns-in-Some-turns_in c =
 
 pub returns-in-Some-length_in : goal.returns-in-Some-length_in
 returns-in-Some-length_in c =
-    let first = rw (c.as_slice-then-words-lt3-7.ensures, c.as_slice-then-words-lt3-8.ensures) at c.if-eq-5.ensures in
+    let first = rw (c.as_slice-then-words-lt3-7.ensures, c.as_slice-then-words-lt3-8.ensures) at c.if-eq-6.ensures in
     let length = c.in-Some-length_in.ensures.found in (
       length.0,
       two_words c.args.words.now c.first-item-then-words-lt3-4.result c.length-item.result (codes "drill") (decimal c.in-Some-length_in.n)

@@ -12,12 +12,12 @@ returns-in_err-store-in-Ok-prepare-clause-any_moment g c told stood =
     let before = c.args.store.stack in
     subst (λ (after : Stack). LeavesOnly g.S.Site c.args.site.now c.commit.new.site (λ r. StandsForEither before after r.files))
     (sym (behind_is before c.args.command.now c.in-Ok-prepare.ready.stack prepared.after))
-    (c.commit.ensures.any_moment told before stood (record { command = c.args.command.now; payload = prepared.payload; after = prepared.after }))
+    (c.commit.ensures.any_moment told before stood prepared.leads)
 
 pub returns-in_ok-store-in-Ok-prepare-clause-stands : goal.returns-in_ok-store-in-Ok-prepare-clause-stands
 returns-in_ok-store-in-Ok-prepare-clause-stands g c told stood =
     let prepared = c.in-Ok-prepare.ensures.ready in
-    c.in_ok-store-in-Ok-prepare.ensures.stands told c.args.store.stack stood (record { command = c.args.command.now; payload = prepared.payload; after = prepared.after })
+    c.in_ok-store-in-Ok-prepare.ensures.stands told c.args.store.stack stood prepared.leads
 
 pub returns-in_ok-store-in-Ok-prepare-clause-any_moment : goal.returns-in_ok-store-in-Ok-prepare-clause-any_moment
 returns-in_ok-store-in-Ok-prepare-clause-any_moment g c told stood =
@@ -25,7 +25,7 @@ returns-in_ok-store-in-Ok-prepare-clause-any_moment g c told stood =
     let before = c.args.store.stack in
     subst (λ (after : Stack). LeavesOnly g.S.Site c.args.site.now c.commit.new.site (λ r. StandsForEither before after r.files))
     (sym (behind_is before c.args.command.now c.in-Ok-prepare.ready.stack prepared.after))
-    (c.commit.ensures.any_moment told before stood (record { command = c.args.command.now; payload = prepared.payload; after = prepared.after }))
+    (c.commit.ensures.any_moment told before stood prepared.leads)
 
 pub returns-in-Err-clause-any_moment : goal.returns-in-Err-clause-any_moment
 returns-in-Err-clause-any_moment g c told stood =

@@ -11,7 +11,7 @@ returns-in_err-commit-in-Ok-clause-carries g c =
     let prepared = c.in-Ok.ensures.ready in
     let p = err_from_is_err_and c.from_residual.result c.from_residual.ensures.1 in
     carries_fault g.S.Site c.args.store c.in-Ok.ready.stack c.args.command.now c.from_residual.result p.0 c.args.site.now c.commit.new.site p.1 prepared.after
-    (λ told. c.commit.ensures.any_moment told c.args.store.stack (c.requires.in_step told).stands_for (record { command = c.args.command.now; payload = prepared.payload; after = prepared.after }))
+    (λ told. c.commit.ensures.any_moment told c.args.store.stack (c.requires.in_step told).stands_for prepared.leads)
 
 pub returns-in_ok-commit-in-Ok-clause-carries : goal.returns-in_ok-commit-in-Ok-clause-carries
 returns-in_ok-commit-in-Ok-clause-carries g c =
@@ -22,10 +22,10 @@ returns-in_ok-commit-in-Ok-clause-carries g c =
     let one_more : last.commands ≡ c.args.store.commands + 1 = omega (arith, c.in_ok-commit-in-Ok.ensures.one_more, prepared.commands) in
     carries_one g.S.Site c.args.store last c.args.command.now c.args.site.now c.commit.new.site (prepared.after ∙ ap Ok same) one_more
     (λ told. subst (λ (s : Stack). LeavesOnly g.S.Site c.args.site.now c.commit.new.site (λ r. StandsForEither before s r.files)) same
-    (c.commit.ensures.any_moment told before (c.requires.in_step told).stands_for (record { command = c.args.command.now; payload = prepared.payload; after = prepared.after })))
+    (c.commit.ensures.any_moment told before (c.requires.in_step told).stands_for prepared.leads))
     (λ told. record {
       holds = c.in_ok-commit-in-Ok.ensures.holds told;
-      stands_for = c.in_ok-commit-in-Ok.ensures.stands told before (c.requires.in_step told).stands_for (record { command = c.args.command.now; payload = prepared.payload; after = prepared.after });
+      stands_for = c.in_ok-commit-in-Ok.ensures.stands told before (c.requires.in_step told).stands_for prepared.leads;
     })
 
 pub returns-in-Refused-clause-carries : goal.returns-in-Refused-clause-carries

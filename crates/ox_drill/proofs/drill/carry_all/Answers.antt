@@ -1,4 +1,4 @@
-use Rattle.std.proofs.Common.{◌≡◌, ◌∙◌, ◌+◌, ◌-◌, ◌++◌, ℕ, [], Ok, ap, arith, refl, replicate, subst}
+use Rattle.std.proofs.Common.{◌≡◌, ◌∙◌, ◌+◌, ◌-◌, ◌++◌, ℕ, [], Ok, ap, arith, refl, replicate, subst, sym}
 use Rattle.std.specs.Prelude.{Err, Result}
 use Rattle.std.proofs.Math.Nat.{min-le_left}
 use Rattle.std.proofs.lemmas.List.{length-replicate}
@@ -55,6 +55,10 @@ returns-in_err-store-2-clause-carries g c =
     c.from_residual-in_err-store-2.result fault p.0 old c.connect_blocks.new.site c.connect_blocks-2.new.site p.1 c.in_ok-store.ensures.stops.writes.calls.as_told
     (oldest_in_hand c.args.n oldest newest c.min-newest.ensures refl) one
     (from_height g.S.Site c.in_ok-store.store c.connect_blocks.new.behind.height oldest newest (Err fault) c.connect_blocks.new.site c.connect_blocks-2.new.site there c.in_err-store-2.ensures.carries)
+
+pub disconnect_blocks-requires-clause-in_step : goal.disconnect_blocks-requires-clause-in_step
+disconnect_blocks-requires-clause-in_step g c told =
+    (c.in_ok-store-2.ensures.carries.in_turn (sym c.in_ok-store-2.ensures.stops.writes.calls.as_told ∙ told)).1
 
 pub disconnect_blocks-requires-clause-few : goal.disconnect_blocks-requires-clause-few
 disconnect_blocks-requires-clause-few g c =

@@ -1,5 +1,6 @@
 use Rattle.std.proofs.Common.{◌∙◌, length, ap}
 use Rattle.std.proofs.lemmas.Result.{err_from_is_err_and}
+use Rattle.ox_gated.proofs.Writing.{writes_then}
 use Rattle.ox_model.specs.Stack.{Stack}
 use Rattle.ox_drill.specs.Chain.{drill_commands}
 use Rattle.ox_drill.proofs.Parts.{drilled_all, drills_all, fault_behind}
@@ -28,3 +29,7 @@ returns-clause-in_turn g c told =
 pub returns-clause-drilled : goal.returns-clause-drilled
 returns-clause-drilled g c told =
     drilled_all g.S.Site c.args.n c.in_ok-store.store c.in_ok-store-2.store c.make_store.new.site c.carry_all.new.site c.in_ok-store.ensures.stack (c.in_ok-store.ensures.writes.calls.as_told ∙ told) c.in_ok-store-2.ensures.carries
+
+pub returns-clause-writes : goal.returns-clause-writes
+returns-clause-writes g c =
+    writes_then g.S.Site g.met.S.Site.logs_now c.args.site.now c.make_store.new.site c.carry_all.new.site c.in_ok-store.ensures.writes c.in_ok-store-2.ensures.stops.writes
