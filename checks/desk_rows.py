@@ -4,20 +4,23 @@
     checks/desk_rows.py
 
 Replies are told by docs/FORMATS.md. The chains and most of what they are asked are those of
-checks/index_rows.py and checks/query_rows.py, the disk and what files stand for those of
-checks/store_rows.py. What is kept of replies is reckoned here: 64 of them, by the number of
-accepted commands and the path, the last used first, none with a body above 65,536 bytes.
+checks/index_rows.py and checks/query_rows.py, the disk that of checks/store_rows.py, and what files
+stand for is told by store_files. What is kept of replies is reckoned here: 64 of them, by the
+number of accepted commands and the path, the last used first, none with a body above 65,536 bytes.
 """
 
 import json
 
 import index_rows
 import query_rows
+import store_files
 import store_rows
-from chain import GENESIS, SHORT, envelope, payload_of
+from chain import GENESIS, envelope, payload_of
+from plain_index import NO_BLOCK
 from query_rows import checksum
 from rows import inscription, plain, reveal
-from store_rows import DISCONNECT, NO_BLOCK, Refused, block_on, stands
+from store_files import stands
+from store_rows import block_on
 from tools.programs import write_rows
 
 JSON = "application/json"
@@ -234,9 +237,10 @@ def status(blocks, kept, tip, depth=100, profile="regtest"):
     return 200, compact(tree), JSON, None
 
 
-def status_of(chain):
-    tip = chain.tip()[::-1].hex() if chain.blocks else None
-    return status(len(chain.blocks), chain.kept, tip, chain.depth)
+def status_of(stack):
+    blocks = len(stack.hashes())
+    tip = stack.tip()[::-1].hex() if blocks else None
+    return status(blocks, len(stack.kept), tip, stack.depth)
 
 
 EMPTY = status(0, 0, None)
@@ -362,15 +366,14 @@ class Disk:
         desks.row("make", "regtest", 100)
         desks.counts = Counts()
         # a store without a block says one line, once it is made
-        assert len(list(store_rows.Stores().lines_of_making(self.site, "regtest", 100, ()))) == 1
-        self.store = store_rows.Store(self.site, store_rows.Chain("regtest", 100), "A", 26)
+        self.site.look()
+        self.site.look()
+        self.store = store_files.make(self.site)
 
     def connect(self, block):
         """A block is connected, and the reply told, unless a call fails."""
-        payload = payload_of(block)
-        self.store.chain.carry_out(payload)
         try:
-            self.store.append(payload)
+            self.store.carry_out(payload_of(block))
         except store_rows.CallFailed:
             self.desks.row("operator", "POST", "keep", "/connect", block.hex())
             self.desks.stdout.append("a call failed")
@@ -381,8 +384,8 @@ class Disk:
         """What a crash leaves is opened, and its status told."""
         self.desks.row("crash", moment, fill, keep)
         self.desks.counts = Counts()
-        chain, _, _ = stands(self.site.crash(moment, fill, keep).files)
-        self.desks.ask("GET", "/status", status_of(chain))
+        stack, _ = stands(self.site.crash(moment, fill, keep).files)
+        self.desks.ask("GET", "/status", status_of(stack))
 
 
 def faults(desks):

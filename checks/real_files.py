@@ -5,13 +5,13 @@ at the files' bytes.
     python3 checks/real_files.py [PROGRAM]
 
 No proof says which bytes a real file gives or takes, so this tries it: each subcommand, each status
-but 9, which would take 4,611,686,018,427,387,904 bytes, the bytes of the files, a content of
-3,900,000 bytes, satoshis among 500,000 outputs (checks/table.py), and fifty kills of a running
-`apply` (checks/kills.py). Each check has a new folder, below out/ beside this script, that is gone
-where it passed. A check that fails is told with its cause, and its folder stays. The last line says
-how many passed and how many failed, and the status is 1 where one failed. PROGRAM is
-crates/ox_main/out/ox_main without a word, which `rt ci` and `rt run` leave there. It takes half a
-minute to a minute and a half.
+but 9, which would take 4,611,686,018,427,387,904 bytes, the bytes of both files after each line
+(checks/store_files.py), a content of 3,900,000 bytes, satoshis among 500,000 outputs
+(checks/table.py), and fifty kills of a running `apply` (checks/kills.py). Each check has a new
+folder, below out/ beside this script, that is gone where it passed. A check that fails is told with
+its cause, and its folder stays. The last line says how many passed and how many failed, and the
+status is 1 where one failed. PROGRAM is crates/ox_main/out/ox_main without a word, which `rt ci`
+and `rt run` leave there. It takes half a minute to a minute and a half.
 """
 
 import collections
@@ -25,12 +25,18 @@ import signal
 import subprocess
 import sys
 import tempfile
+import time
 import traceback
 
 import made_blocks
+import old_files
+import store_faults
+import store_files
 from chain import DISCONNECT, SHORT, block_of, block_with, chain, coinbase, commitment, committing
-from chain import envelope, file_a, file_of, id_value, line, payload_of, record, reveal_into
+from chain import envelope, id_value, line, line_of, payload_of, reveal_into
 from kills import Failed, demand, kill_often
+from old_files import old_file_of
+from store_files import MOST_RECORDS, file_a, files_of, payload_on, store_of
 from table import BLOCKS, Table, outpoint, satoshi
 from tools.bitcoin import SUBSIDY, twice
 from tools.programs import TOP, proved_program
@@ -44,9 +50,10 @@ SEED = 1
 SECONDS = 60
 NOBODY = 65534
 MEMORY = 24_000_000
+LITTLE = 64_000_000
 
 # the bytes of a regtest store of depth 100 without a block, written out
-EMPTY_A = bytes.fromhex("016f78696478010164000100000000000000000000000000000000")
+EMPTY_A = bytes.fromhex("016f786964780201640001000000000000001c00000000000000" + 29 * "00")
 EMPTY_B = bytes.fromhex("00")
 
 checks = []
@@ -108,7 +115,7 @@ class Ox:
             )
 
     def has_blocks(self, blocks):
-        self.has(file_a(blocks), EMPTY_B)
+        self.has(*files_of(map(payload_of, blocks)))
 
     def says(self, path, tree):
         """The reply to a query has to be this tree, compact and with sorted keys; bytes are the
@@ -168,22 +175,21 @@ def heads(ox):
     for code, profile in enumerate(["mainnet", "regtest", "lab"]):
         ox.write(b"", b"")
         ox.wants((0, b"ok empty\n"), "init", profile, "1000")
-        ox.has(EMPTY_A[:7] + bytes([code]) + (1000).to_bytes(2, "little") + EMPTY_A[10:], EMPTY_B)
+        a, b = files_of([], profile, 1000)
+        demand(a[7:10] == bytes([code]) + b"\xe8\3", "the head is another one")
+        ox.has(a, b)
 
 
-@check("Bitcoin's first block is answered and kept as one record")
+@check("Bitcoin's first block is answered, and what it changes is kept as one record")
 def first_block(ox):
     ox.init()
     ox.wants((0, GENESIS_ANSWER), "apply", feed=GENESIS)
     a, b = ox.files()
-    block = bytes.fromhex(GENESIS.split()[1].decode())
-    demand(len(a) == 318 and b == EMPTY_B, f"file A has {len(a)} bytes, and file B {value_text(b)}")
-    demand(a[:26] == EMPTY_A[:26], "file A begins with another head")
-    demand(a[26:32].hex() == "011e01000001", f"the record begins with {a[26:32].hex()}")
-    demand(
-        a[32:317] == block and a[317] == 0,
-        "the record has another block, or no closed gate behind it",
-    )
+    demand(len(a) == 256 and b == EMPTY_B, f"file A has {len(a)} bytes, and file B {value_text(b)}")
+    demand(a[:54] == EMPTY_A[:54], "file A begins otherwise")
+    demand(a[54:60].hex() == "01c400000001", f"the record begins with {a[54:60].hex()}")
+    demand(a[255] == 0, "no closed gate is behind the record")
+    ox.has_blocks([bytes.fromhex(GENESIS.split()[1].decode())])
     ox.status_is(1, GENESIS_ANSWER.split()[2].decode())
 
 
@@ -218,6 +224,55 @@ def line_by_line(ox):
             child.stdout.read() == b"" and child.wait(SECONDS) == 0,
             "the end of the feed doesn't end the program",
         )
+
+
+def walk(chance, depth, count=200):
+    """So many commands: made blocks, and disconnects of one in five."""
+    blocks, height, kept = made_blocks.chain(count), 0, 0
+    for _ in range(count):
+        if kept and chance.randrange(5) == 0:
+            yield DISCONNECT
+            height, kept = height - 1, kept - 1
+        else:
+            yield payload_of(blocks[height][0])
+            height, kept = height + 1, min(kept + 1, depth)
+
+
+@check("both files have the bytes of the format after each of 200 lines, of which three turn them")
+def bytes_after_each(ox):
+    for depth in (3, 100):
+        commands = list(walk(random.Random(SEED), depth))
+        wanted = store_files.files_after_each(commands, depth=depth)
+        ox.write(b"", b"")
+        ox.wants((0, b"ok empty\n"), "init", "regtest", str(depth))
+        ox.has(*next(wanted))
+        command = [ox.program, ox.folder, "apply"]
+        with subprocess.Popen(
+            command, stdin=subprocess.PIPE, stdout=subprocess.PIPE, bufsize=0
+        ) as child:
+            for told, files in zip(commands, wanted):
+                child.stdin.write(line_of(told))
+                got = child.stdout.readline()
+                demand(got.startswith(b"ok "), f"{value_text(got)} was shown")
+                ox.has(*files)
+            child.stdin.close()
+            demand(child.wait(SECONDS) == 0, "the end of the feed doesn't end the program")
+
+
+@check("the 65th block makes file B current, and without its first byte the 64th is the newest")
+def turned(ox):
+    blocks, tips = chain(MOST_RECORDS + 1)
+    ox.init()
+    wanted = b"".join(answer(height, tips) for height in range(len(blocks)))
+    ox.wants((0, wanted), "apply", feed=b"".join(map(line, blocks)))
+    ox.has_blocks(blocks)
+    a, b = ox.files()
+    demand(a == file_a(blocks[:MOST_RECORDS]), "file A hasn't 64 records")
+    demand(b[10:18] == (2).to_bytes(8, "little"), "file B has another generation")
+    demand(b[26:30] == (65).to_bytes(4, "little"), "file B has other hashes")
+    ox.status_is(65, tips[64])
+    ox.write(a, b"\0" + b[1:])
+    ox.status_is(64, tips[63])
 
 
 @check("a block of nearly four million bytes is kept")
@@ -255,9 +310,7 @@ def refused_lines(ox):
     ox.has_blocks(blocks[:2])
 
 
-@check(
-    "a block that isn't committed to its witnesses is refused, and files that hold one are no store"
-)
+@check("a block that isn't committed to its witnesses is refused, and changes no byte of the files")
 def witness_commitments(ox):
     right, wrong = commitment(), commitment()[:-1] + bytes([commitment()[-1] ^ 1])
     block, tip = block_of(bytes(32), [committing(0, right)])
@@ -266,12 +319,6 @@ def witness_commitments(ox):
     ok = f"ok 0 {tip[::-1].hex()}\n".encode()
     ox.wants((0, ok + b"refused 12\n"), "apply", feed=line(block) + line(other))
     ox.has_blocks([block])
-    whole, both = file_a([block]), file_a([block, other])
-    ox.write(both, EMPTY_B)
-    told = f"not a store a {len(whole) - 1}\n".encode()
-    ox.wants((3, told), "apply", feed=GENESIS)
-    ox.wants((3, told), "query", "/status")
-    ox.has(both, EMPTY_B)
 
 
 @check("a disconnect where no block is kept is refused, and changes no byte of the files")
@@ -292,9 +339,8 @@ def blocks_taken_back(ox):
         ox.wants((0, wanted), "apply", feed=b"".join(map(line, blocks)) + b"disconnect\n")
         wanted = b"".join([answer(0, tips)] * (depth - 1) + [b"refused 11\n"])
         ox.wants((0, wanted), "apply", feed=b"disconnect\n" * depth)
-        head = EMPTY_A[:8] + depth.to_bytes(2, "little") + EMPTY_A[10:]
-        payloads = [payload_of(block) for block in blocks] + [DISCONNECT] * depth
-        ox.has(file_of(payloads).replace(EMPTY_A[:26], head[:26], 1), EMPTY_B)
+        commands = [payload_of(block) for block in blocks] + [DISCONNECT] * depth
+        ox.has(*files_of(commands, "regtest", depth))
 
 
 @check("blocks are replaced by others, and a fold of the new chain shows the same")
@@ -310,7 +356,7 @@ def replaced_blocks(ox):
         f"`apply` ended with {status} and showed {value_text(got)}",
     )
     ox.wants((0, got), "fold", "regtest", feed=lines)
-    ox.has(file_of([*map(payload_of, old), *[DISCONNECT] * 3, *map(payload_of, new)]), EMPTY_B)
+    ox.has(*files_of([*map(payload_of, old), *[DISCONNECT] * 3, *map(payload_of, new)]))
     ox.status_is(4, tips[3])
 
 
@@ -589,20 +635,22 @@ def only_apply_writes(ox):
 @check("the open file of the greater generation is read, and gets the next record")
 def greater_generation(ox):
     blocks, tips = chain(3)
-    newer = file_a(blocks[:1]).replace((1).to_bytes(8, "little"), (2).to_bytes(8, "little"), 1)
-    ox.write(EMPTY_A, newer)
+    newer = lambda file: file[:10] + (2).to_bytes(8, "little") + file[18:]
+    ox.write(EMPTY_A, newer(file_a(blocks[:1])))
     ox.status_is(1, tips[0])
     ox.wants((0, answer(1, tips)), "apply", feed=line(blocks[1]))
-    ox.has(EMPTY_A, newer[:-1] + b"\1" + record(blocks[1]))
+    ox.has(EMPTY_A, newer(file_a(blocks[:2])))
     ox.status_is(2, tips[1])
 
 
 @check("a record whose gate is closed doesn't count, and one whose gate is any other byte does")
 def gates(ox):
     blocks, tips = chain(2)
-    ox.write(file_a(blocks[:1]) + record(blocks[1]), EMPTY_B)
+    one, two = file_a(blocks[:1]), file_a(blocks)
+    gate = len(one) - 1
+    ox.write(two[:gate] + b"\0" + two[gate + 1 :], EMPTY_B)
     ox.status_is(1, tips[0])
-    ox.write(file_a(blocks[:1])[:-1] + b"\7" + record(blocks[1]), EMPTY_B)
+    ox.write(two[:gate] + b"\7" + two[gate + 1 :], EMPTY_B)
     ox.status_is(2, tips[1])
 
 
@@ -616,12 +664,12 @@ DRILLED = {
 
 
 def has_drilled(ox, count):
-    """A drill of so many blocks has to show its line, and to leave the records of its commands."""
+    """A drill of so many blocks has to show its line, and to leave what its commands leave."""
     blocks = made_blocks.chain(count)
     ox.wants((0, f"drill {count} {DRILLED[count]}\n".encode()), "drill", str(count))
-    payloads = [payload_of(data) for data, _, _ in blocks]
-    newest = payloads[-10:]
-    ox.has(file_of([*payloads, *[DISCONNECT] * len(newest), *newest]), EMPTY_B)
+    commands = [payload_of(data) for data, _, _ in blocks]
+    newest = commands[-10:]
+    ox.has(*files_of([*commands, *[DISCONNECT] * len(newest), *newest]))
     ox.status_is(count, blocks[-1][1][::-1].hex())
 
 
@@ -649,6 +697,103 @@ def second_drill(ox):
     ox.wants((2, b"not empty\n"), "drill", "2")
     ox.wants((2, b"not empty\n"), "init", "regtest", "100")
     ox.has(a, b)
+
+
+# Stores of version 1, which `migrate` takes.
+
+MIGRATED = 300
+PATHS = ["/status", "/audit", "/inscriptions/0", "/inscriptions/1", "/runes/0", "/rune/1:1"]
+
+
+def old_store():
+    """The commands of an old store, its file A, and the file B that a migration makes."""
+    commands = list(walk(random.Random(SEED), 100, MIGRATED))
+    disk = store_files.Disk()
+    a = old_file_of(commands)
+    disk.files = {"A": bytearray(a), "B": bytearray(EMPTY_B)}
+    old_files.migrate(disk)
+    return commands, a, bytes(disk.files["B"])
+
+
+def asked_paths(ox):
+    """Paths of all that an index has: each block, inscription, output and satoshi that is named."""
+    status = json.loads(ox.run("query", "/status")[1])
+    yield from PATHS
+    yield from (f"/blockhash/{height}" for height in range(0, status["blocks"] + 1, 20))
+    for page in (0, 1):
+        for id in json.loads(ox.run("query", f"/inscriptions/{page}")[1])["ids"][::20]:
+            yield from (f"/inscription/{id}", f"/content/{id}", f"/output/{id[:64]}:0")
+    yield from (f"/sat/{SUBSIDY * height}" for height in range(0, status["blocks"] + 1, 20))
+
+
+@check(f"an old store of {MIGRATED} lines becomes one that replies as a new one of the same lines")
+def migrated(ox):
+    commands, a, b = old_store()
+    ox.write(a, EMPTY_B)
+    ox.wants((0, f"ok {MIGRATED}\n".encode()), "migrate")
+    ox.has(a, b)
+    ox.wants((3, b"not a store b 6\n"), "migrate")
+    ox.has(a, b)
+    (ox.folder / "new").mkdir()
+    new = Ox(ox.program, ox.folder / "new")
+    new.init()
+    new.run("apply", feed=b"".join(map(line_of, commands)))
+    for path in asked_paths(new):
+        ox.wants(new.run("query", path), "query", path)
+    back = 101 * b"disconnect\n"
+    ox.wants(new.run("apply", feed=back), "apply", feed=back)
+
+
+@check("kills of a `migrate` leave the old store or the new one")
+def killed_migrations(ox):
+    commands, a, b = old_store()
+    chance, took = random.Random(SEED), 1.0
+    for kill in range(21):
+        ox.write(a, EMPTY_B)
+        begun = time.perf_counter()
+        child = subprocess.Popen([ox.program, ox.folder, "migrate"], stdout=subprocess.DEVNULL)
+        try:
+            child.wait(took * chance.uniform(0.2, 1.1) if kill else SECONDS)
+        except subprocess.TimeoutExpired:
+            child.kill()
+            child.wait()
+        # the first isn't killed, and tells how long one takes
+        took = took if kill else time.perf_counter() - begun
+        demand(ox.files()[0] == a, "file A was changed")
+        got = ox.run("migrate")
+        wanted = (0, f"ok {MIGRATED}\n".encode()), (3, b"not a store b 6\n")
+        demand(got in wanted, f"`migrate` ended with {value_text(got)} then")
+        ox.has(a, b)
+
+
+@check("a `migrate` for which there is no memory changes no byte of the files")
+def no_memory_to_migrate(ox):
+    blocks, _ = chain(3, lambda height: bytes(3_999_800))
+    a = old_file_of(map(payload_of, blocks))
+    ox.write(a, EMPTY_B)
+
+    def limit():
+        resource.setrlimit(resource.RLIMIT_AS, (MEMORY, MEMORY))
+
+    ox.wants((8, b""), "migrate", preexec_fn=limit)
+    ox.has(a, EMPTY_B)
+    ox.wants((0, b"ok 3\n"), "migrate")
+
+
+@check("status 10: a command of an old store that the rules refuse, and the files are as they were")
+def old_commands(ox):
+    right, wrong = commitment(), commitment()[:-1] + bytes([commitment()[-1] ^ 1])
+    block, tip = block_of(bytes(32), [committing(0, right)])
+    other, _ = block_of(tip, [committing(1, wrong)])
+    for commands, told in (
+        ([payload_of(block), payload_of(other)], b"old 1 refused 12\n"),
+        ([DISCONNECT], b"old 0 refused 11\n"),
+        ([payload_of(block), payload_of(b"")], b"old 1 refused 3 0\n"),
+    ):
+        a = old_file_of(commands)
+        ox.write(a, EMPTY_B)
+        ox.wants((10, told), "migrate")
+        ox.has(a, EMPTY_B)
 
 
 # The statuses, by what brings each about.
@@ -684,41 +829,62 @@ def not_empty(ox):
             ox.has(a, b)
 
 
+def not_stores():
+    """Files A and B that are no store, and the file and place that are told."""
+    (block,), _ = chain(1)
+    whole, again = file_a([block]), files_of([payload_of(block), DISCONNECT])[0]
+    change = payload_on(store_of([payload_of(block)]).stack.kept[0].change)
+    empty = store_files.empty().body()
+    with_records = lambda *payloads: store_files.file_of("regtest", 100, empty, payloads)
+    front = EMPTY_A[:18]
+    yield b"", b"", "a 0"
+    yield b"\0" + EMPTY_A[1:], EMPTY_B, "a 0"
+    yield EMPTY_A, b"", "b 0"
+    yield b"", EMPTY_A, "a 0"
+    yield EMPTY_A[:25], EMPTY_B, "a 1"
+    yield b"\1oxidy" + EMPTY_A[6:], EMPTY_B, "a 1"
+    yield EMPTY_A, b"\1", "b 1"
+    yield EMPTY_A, EMPTY_A, "b 10"
+    # one of version 1, without a block and with one
+    yield old_file_of([]), EMPTY_B, "a 6"
+    yield old_file_of([payload_of(block)]), EMPTY_B, "a 6"
+    yield EMPTY_A, old_file_of([], generation=2), "b 6"
+    yield front + b"\x1d" + EMPTY_A[19:] + b"\0", EMPTY_B, "a 26"
+    yield front + b"\x1b" + EMPTY_A[19:], EMPTY_B, "a 26"
+    yield front + 8 * b"\xff" + EMPTY_A[26:], EMPTY_B, "a 26"
+    yield EMPTY_A[:53], EMPTY_B, "a 26"
+    yield EMPTY_A[:54], EMPTY_B, "a 54"
+    yield whole[:70], EMPTY_B, "a 54"
+    yield whole[:55] + 4 * b"\xff" + whole[59:], EMPTY_B, "a 54"
+    yield whole[:-1], EMPTY_B, f"a {len(whole) - 1}"
+    yield with_records(change[:-1]), EMPTY_B, "a 54"
+    yield with_records(payload_of(block)), EMPTY_B, "a 54"
+    yield with_records(change, change), EMPTY_B, f"a {len(whole) - 1}"
+    yield with_records(DISCONNECT), EMPTY_B, "a 54"
+    yield with_records(change, DISCONNECT + b"\0"), EMPTY_B, f"a {len(whole) - 1}"
+    yield with_records(change, DISCONNECT, DISCONNECT), EMPTY_B, f"a {len(again) - 1}"
+    for _, a in store_faults.wrong_bodies():
+        yield a, EMPTY_B, "a 26"
+
+
 @check("status 3: files that are no store are told by the first test that fails")
 def not_store(ox):
-    head, body = EMPTY_A[:18], EMPTY_A[18:26]
-    (block,), _ = chain(1)
-    whole = file_a([block])
-    rows = [
-        (b"", b"", b"a 0"),
-        (b"\0" + EMPTY_A[1:], EMPTY_B, b"a 0"),
-        (EMPTY_A, b"", b"b 0"),
-        (b"", EMPTY_A, b"a 0"),
-        (EMPTY_A[:25], EMPTY_B, b"a 1"),
-        (b"\1oxidy" + EMPTY_A[6:], EMPTY_B, b"a 1"),
-        (EMPTY_A, b"\1", b"b 1"),
-        (EMPTY_A, EMPTY_A, b"b 10"),
-        (b"\1oxidx\2" + EMPTY_A[7:], EMPTY_B, b"a 6"),
-        (head + b"\5" + body[1:] + b"abc", EMPTY_B, b"a 26"),
-        (head + b"\1" + body[1:] + b"a\0", EMPTY_B, b"a 26"),
-        (EMPTY_A[:26], EMPTY_B, b"a 26"),
-        (whole[:40], EMPTY_B, b"a 26"),
-        (whole[:-1], EMPTY_B, f"a {len(whole) - 1}".encode()),
-        (EMPTY_A[:26] + b"\1" + record(block[:-1]), EMPTY_B, b"a 26"),
-        (whole[:-1] + b"\1" + record(block), EMPTY_B, f"a {len(whole) - 1}".encode()),
-        (file_of([DISCONNECT]), EMPTY_B, b"a 26"),
-        (file_of([payload_of(block), DISCONNECT + b"\0"]), EMPTY_B, f"a {len(whole) - 1}".encode()),
-        (
-            file_of([payload_of(block), DISCONNECT, DISCONNECT]),
-            EMPTY_B,
-            f"a {len(whole) + 5}".encode(),
-        ),
-    ]
-    for a, b, told in rows:
+    for a, b, told in not_stores():
         ox.write(a, b)
-        ox.wants((3, b"not a store " + told + b"\n"), "apply", feed=GENESIS)
-        ox.wants((3, b"not a store " + told + b"\n"), "query", "/status")
+        line = f"not a store {told}\n".encode()
+        ox.wants((3, line), "apply", feed=GENESIS)
+        ox.wants((3, line), "query", "/status")
         ox.has(a, b)
+
+
+@check("status 3, and not 8: a body whose lists tell four billion items, under a limit of memory")
+def lying_bodies(ox):
+    def limit():
+        resource.setrlimit(resource.RLIMIT_AS, (LITTLE, LITTLE))
+
+    for a in store_faults.lying_bodies():
+        ox.write(a, EMPTY_B)
+        ox.wants((3, b"not a store a 26\n"), "query", "/status", preexec_fn=limit)
 
 
 @check("status 4: a folder or a file that can't be opened")

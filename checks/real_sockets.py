@@ -29,8 +29,9 @@ import tempfile
 import time
 import traceback
 
-from chain import chain, file_a
+from chain import chain
 from kills import Failed, demand
+from store_files import file_a
 from tools.programs import proved_program
 
 PROGRAM = proved_program("ox_main")

@@ -198,6 +198,23 @@ def sound_row(profile, index, is_right):
     yield row, "sound" if is_right else "not sound"
 
 
+def live_rows():
+    """Each row `live PROFILE HEX`, and how much the index in memory has, or `not sound`."""
+    empty = Index()
+    for profile, index in (
+        ("regtest", SOUND),
+        ("regtest", SOUND._replace(balances=[])),
+        ("lab", SOUND),
+        ("lab", chain(41, "lab")),
+        ("lab", chain(42, "lab")),
+        ("regtest", empty),
+        ("mainnet", empty),
+    ):
+        made = f"{len(index.hashes)} blocks, {len(index.inscriptions)} inscriptions"
+        line = f"{made}, {len(index.runes)} runes" if is_sound(profile, index) else "not sound"
+        yield f"live {profile} {SPELLED['index'](index).hex()}", line
+
+
 # ---- a change between two indexes
 
 BEFORE = SOUND._replace(runes=[MINTED, ALONE])
@@ -306,4 +323,5 @@ def end_row(index, change, back):
 def rows():
     """All of them."""
     yield from sound_rows()
+    yield from live_rows()
     yield from end_rows()

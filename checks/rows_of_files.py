@@ -10,6 +10,7 @@ library alone. Of each broken row the place is told beside it, and the reader ha
 import re
 
 import row_chains
+import row_keeps
 from row_forms import MOST_SATS, SPELLED, Change, Count, Fault, Index, Inscription, Output
 from row_forms import Rune, Terms, inscription, inscription_id, listed, number, optional, output
 from row_forms import outpoint, read, rune, sats, terms, text
@@ -381,7 +382,7 @@ def forms():
 
 
 def main():
-    rows = [*forms(), *row_chains.rows()]
+    rows = [*forms(), *row_chains.rows(), *row_keeps.rows()]
     write_rows("ox_rows_rows", *zip(*rows))
 
 

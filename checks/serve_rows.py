@@ -11,8 +11,11 @@ checks/store_rows.py tells in part, and each event of a link is a moment.
 
 import json
 
-from chain import DISCONNECT, chain, payload_of, record_of
-from store_rows import CallFailed, Chain, NoStore, Refused, Site, stands
+import store_files
+from chain import DISCONNECT, chain, payload_of
+from plain_index import Refused
+from store_files import NoStore, stands
+from store_rows import CallFailed, Site
 from tools.bitcoin import SUBSIDY
 from tools.programs import write_rows
 
@@ -96,8 +99,7 @@ class Desk:
     """What a server answers from: a store that was opened."""
 
     def __init__(self, site):
-        self.site = site
-        self.chain, self.file, self.gate = stands(site.files)
+        self.store = store_files.Store(site, *stands(site.files))
         self.requests = self.hits = self.accepted = 0
         self.keys = []
 
@@ -133,41 +135,36 @@ class Desk:
 
     def looked_up(self, path):
         """The tree of a path, an empty one where it names nothing, none where it has no route."""
-        blocks = self.chain.blocks
+        stack = self.store.stack
+        hashes = stack.hashes()
         if path == "/status":
             return {
-                "blocks": len(blocks),
-                "depth": self.chain.depth,
-                "kept": self.chain.kept,
+                "blocks": len(hashes),
+                "depth": stack.depth,
+                "kept": len(stack.kept),
                 "profile": "regtest",
-                "tip": blocks[-1][0][::-1].hex() if blocks else None,
+                "tip": hashes[-1][::-1].hex() if hashes else None,
             }
         if path == "/audit":
-            whole = SUBSIDY * len(blocks)
+            whole = SUBSIDY * len(hashes)
             return {"claimable": whole, "lost": 0, "outputs": whole, "runes": []}
         if path.startswith("/blockhash/"):
             part = path[len("/blockhash/") :]
             if not part or "/" in part:
                 return None
-            if part.isdigit() and str(int(part)) == part and int(part) < len(blocks):
-                return {"hash": blocks[int(part)][0][::-1].hex(), "height": int(part)}
+            if part.isdigit() and str(int(part)) == part and int(part) < len(hashes):
+                return {"hash": hashes[int(part)][::-1].hex(), "height": int(part)}
             return {}
         return None
 
-    def carry_out(self, payload):
+    def carry_out(self, command):
         try:
-            self.chain.carry_out(payload)
+            self.store.carry_out(command)
         except Refused as refused:
             return 409, {"refused": str(refused).split(" ", 1)[1]}
-        record = record_of(payload)
-        self.site.write(self.file, self.gate + 1, record)
-        self.site.sync(self.file)
-        self.site.write(self.file, self.gate, b"\1")
-        self.site.sync(self.file)
-        self.gate += len(record)
         self.accepted += 1
-        blocks = self.chain.blocks
-        tip = (blocks[-1][0][::-1].hex(), len(blocks) - 1) if blocks else (None, None)
+        hashes = self.store.stack.hashes()
+        tip = (hashes[-1][::-1].hex(), len(hashes) - 1) if hashes else (None, None)
         return 200, {"hash": tip[0], "height": tip[1]}
 
 
@@ -369,17 +366,9 @@ class Rows:
 
 def made_by(site):
     """Makes an empty regtest store of depth 100."""
-    head = b"\1oxidx\1\1" + (100).to_bytes(2, "little") + (1).to_bytes(8, "little") + bytes(8)
     site.look()
     site.look()
-    site.write("B", 0, b"\0")
-    site.sync("B")
-    site.write("A", 0, b"\0")
-    site.write("A", 1, head[1:])
-    site.write("A", 26, b"\0")
-    site.sync("A")
-    site.write("A", 0, b"\1")
-    site.sync("A")
+    store_files.make(site)
     # the line
     site.call()
     site.steps.append((None, None, None))
@@ -533,6 +522,19 @@ def stops(rows):
                 rows.crash(moment, fill, keep)
 
 
+def turns(rows):
+    rows.heading("the 65th command turns the files, and a stop at each moment of it and the next")
+    posts = [post("/connect", block) for block in chain(66)[0]]
+    rows.link(*posts, get("/status", CLOSE), operator=True)
+    rows.serve(500)
+    assert b'"blocks":66' in rows.shown[1] and rows.site.files["B"][:1] == b"\1"
+    last = len(rows.site.steps)
+    for moment in range(last - 24, last + 1):
+        for fill in (0, 255):
+            rows.crash(moment, fill, 10**9)
+    assert any('"blocks":64' in bytes.fromhex(line).decode() for line in rows.stdout[-97::2])
+
+
 def main():
     rows = Rows()
     for part in (
@@ -545,6 +547,7 @@ def main():
         counts,
         fails,
         stops,
+        turns,
     ):
         part(rows)
     write_rows("ox_serve_rows", rows.stdin, rows.stdout)

@@ -11,8 +11,8 @@
 //! - `both HEX WORD..`: connects a block to a live index, goes back by its change and on again, and
 //!   cancels that. It dumps the index after each step;
 //! - `dump WORD..`: prints the whole index, and looks each word up;
-//! - `plain WORD..`: takes the index as plain data, makes an index in memory from it, and dumps
-//!   that one;
+//! - `plain WORD..`: takes the index as plain data, writes its rows, reads them, makes an index in
+//!   memory from what was read, and dumps that one;
 //! - `look WORD..`: looks each word up (src/look.rt);
 //! - `GET PATH`, `POST PATH`, `PUT PATH`: prints a chain's reply to this request. With `close` and
 //!   a space in front the link ends with it, with `hex` the path is written in hex digits;

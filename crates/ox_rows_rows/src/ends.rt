@@ -2,21 +2,12 @@
 
 use crate::print::print_hex;
 use crate::whole::rows_of;
-use crate::words::{bytes_of, index_of};
+use crate::words::{change_of, index_of};
 use anyhow::Context;
 use ox_bytes::Bytes;
 use ox_model::Change;
 use ox_plain::{Index, other_end};
-use ox_rows::read_change;
 use std::alloc::Global;
-
-/// The change that a word spells.
-fn change_of(alloc: Global, word: &str) -> anyhow::Result<Change> {
-    let (change, _) = read_change(alloc, &bytes_of(alloc, word)?)
-        .ok()
-        .context("no change")?;
-    Ok(change)
-}
 
 /// The rows of the index at a change's other end, if it has an end in this one.
 fn rows_at_end(

@@ -6,9 +6,14 @@
 //! - `fronts index HEX`, `fronts change HEX`: the place of that field in each front of these bytes,
 //!   from none of them to all but one;
 //! - `sound PROFILE HEX`: whether the index that these bytes spell is sound;
+//! - `live PROFILE HEX`: how much the index in memory has that is made from the index that these
+//!   bytes spell; or that it isn't sound;
+//! - `keeps PROFILE HEX HEX`: whether a change keeps the rules that leave a sound index, and
+//!   whether the index after it is sound; or `no end` where the change begins in no sound index
+//!   here. The index is spelled first, and then the change;
 //! - `on HEX HEX`, `back HEX HEX`: the rows of the index to which a change leads from this one, or
-//!   from which it led to it; or `no end` where it has none here. The index is spelled first, and
-//!   then the change.
+//!   from which it led to it; or `no end` where it has none here. These are spelled in the same
+//!   order.
 //!
 //! Bytes are hex digits, or `-` for none.
 //!
@@ -16,12 +21,14 @@
 //! rows by the public formats and shares nothing with the libraries.
 //!
 //! With two arguments the rows `index` and `change` are read and spelled so many times before what
-//! came of it is printed, to be timed: see bench/rows.py. More than a million bytes are told by
+//! came of it is printed, to be timed: see bench/rows.py. `sound` tests so many times as the first
+//! says, and `live` reads, tests and makes so many times. More than a million bytes are told by
 //! their number alone, and by whether they are those that were read.
 #![tactic(auto)]
 
 mod again;
 mod ends;
+mod live;
 mod print;
 mod sound;
 mod whole;
@@ -29,8 +36,9 @@ mod words;
 
 use crate::again::{Times, change_again, index_again};
 use crate::ends::print_end;
+use crate::live::print_live;
 use crate::print::{print_again, print_place};
-use crate::sound::print_sound;
+use crate::sound::{print_keeps, print_sound};
 use crate::words::bytes_of;
 use anyhow::{Context, bail};
 use ox_rows::{RowsFault, read_change, read_index};
@@ -99,7 +107,9 @@ fn run(rt: &impl Print, alloc: Global, row: &str, times: Times) -> anyhow::Resul
     let (word, rest) = row.split_once(' ').context("no row")?;
     match word {
         "fronts" => print_fronts_of(rt, alloc, rest),
-        "sound" => print_sound(rt, alloc, rest),
+        "sound" => print_sound(rt, alloc, rest, times.reads),
+        "live" => print_live(rt, alloc, rest, times.reads),
+        "keeps" => print_keeps(rt, alloc, rest),
         "on" => print_end(rt, alloc, rest, false),
         "back" => print_end(rt, alloc, rest, true),
         _ => {
