@@ -5,12 +5,12 @@
 
 makes a folder below out/ beside this script, which has to be on a disk, and in it stores that are
 gone at the end. It applies a feed of so many small regtest blocks (2,000 without a word) and,
-beside it, does what no store of this design can do without: for each block it writes the record
-behind the last gate, waits for the disk, writes the gate, and waits for the disk. The two take
-turns, five times each, so that others who use the disk slow both; printed are all times, the least
-and the middle ones as commands a second, and the ratio. The file that was applied has to have the
-bytes that docs/FORMATS.md says. Then it times `query /status` five times over a store of OPENED
-blocks (10,000 without a word), over one of a tenth of them, and over an empty one. PROGRAM is
+beside it, does what no store of this design can do without: the same writes and waits for the disk,
+which are two of each for a block, and for each 65th those of a whole file. The two take turns, five
+times each, so that others who use the disk slow both; printed are all times, the least and the
+middle ones as commands a second, and the ratio. The files that were applied have to have the bytes
+that docs/FORMATS.md says. Then it times `query /status` five times over a store of OPENED blocks
+(10,000 without a word), over one of a tenth of them, and over an empty one. PROGRAM is
 crates/ox_main/out/ox_main without a word. Nothing here is proved.
 """
 
@@ -28,10 +28,32 @@ from tools.programs import TOP, proved_program
 
 sys.path.append(str(TOP / "checks"))
 
-from chain import chain, file_a, line, record  # noqa: E402
+from chain import SHORT, chain, line, payload_of  # noqa: E402
+from row_forms import Change, Index, Output  # noqa: E402
+from store_files import Disk, body_of, bytes_in, file_of, make, payload_on  # noqa: E402
+from tools.bitcoin import SUBSIDY, twice  # noqa: E402
 
 PROGRAM = proved_program("ox_main")
 RUNS = 5
+DEPTH = 100
+# how many commands there are from one whole file to the next
+TURN = 65
+
+
+class Calls(Disk):
+    """Two files, and what was done to them: a file, and where there is a write its place and
+    bytes."""
+
+    def __init__(self):
+        super().__init__()
+        self.calls = []
+
+    def write(self, file, at, data):
+        super().write(file, at, data)
+        self.calls.append((file, at, data))
+
+    def sync(self, file):
+        self.calls.append((file, None, None))
 
 
 def kind_of_disk(folder):
@@ -45,10 +67,10 @@ def kind_of_disk(folder):
     return best[1]
 
 
-def make(program, folder):
+def make_empty(program, folder):
     """An empty store in a new folder."""
     folder.mkdir()
-    words = [program, folder, "init", "regtest", "100"]
+    words = [program, folder, "init", "regtest", str(DEPTH)]
     subprocess.run(words, check=True, stdout=subprocess.DEVNULL)
 
 
@@ -64,38 +86,37 @@ def time_run(command, **streams):
     return seconds, usage.ru_utime + usage.ru_stime
 
 
-def time_apply(program, folder, feed, blocks):
-    """How long the feed takes."""
-    make(program, folder)
+def time_apply(program, folder, feed, count, files):
+    """How long the feed of so many blocks takes, which leaves these files."""
+    make_empty(program, folder)
     shown = folder / "shown"
     with open(feed, "rb") as given, open(shown, "wb") as taken:
         times = time_run([program, folder, "apply"], stdin=given, stdout=taken)
     answers = shown.read_bytes().splitlines()
-    if len(answers) != len(blocks) or not all(answer.startswith(b"ok ") for answer in answers):
+    if len(answers) != count or not all(answer.startswith(b"ok ") for answer in answers):
         sys.exit("not each block was accepted")
-    if (folder / "a.ox").read_bytes() != file_a(blocks):
-        sys.exit("the file isn't what docs/FORMATS.md says")
+    if tuple((folder / name).read_bytes() for name in ("a.ox", "b.ox")) != files:
+        sys.exit("the files aren't what docs/FORMATS.md says")
     return times
 
 
-def seconds_of_floor(folder, blocks):
-    """How long two writes and two waits a block take, to a file that has the same bytes."""
+def seconds_of_floor(folder, made, calls):
+    """How long these writes and waits take, over files that have these bytes."""
     folder.mkdir()
-    path = folder / "a.ox"
-    path.write_bytes(file_a([]))
-    gate = path.stat().st_size - 1
-    records = [record(block) for block in blocks]
-    file = os.open(path, os.O_RDWR)
-    os.fsync(file)
+    files = {}
+    for name, data in zip("AB", made):
+        files[name] = os.open(folder / name, os.O_RDWR | os.O_CREAT)
+        os.pwrite(files[name], data, 0)
+        os.fsync(files[name])
     begun = time.perf_counter()
-    for bytes_ in records:
-        os.pwrite(file, bytes_, gate + 1)
-        os.fsync(file)
-        os.pwrite(file, b"\1", gate)
-        os.fsync(file)
-        gate += len(bytes_)
+    for name, at, data in calls:
+        if at is None:
+            os.fsync(files[name])
+        else:
+            os.pwrite(files[name], data, at)
     seconds = time.perf_counter() - begun
-    os.close(file)
+    for file in files.values():
+        os.close(file)
     return seconds
 
 
@@ -104,12 +125,17 @@ def compare(program, top, count):
     blocks, _ = chain(count)
     feed = top / "feed"
     feed.write_bytes(b"".join(map(line, blocks)))
+    store = make(Calls(), depth=DEPTH)
+    made, begun = bytes_in(store), len(store.disk.calls)
+    for block in blocks:
+        store.carry_out(payload_of(block))
+    files, calls = bytes_in(store), store.disk.calls[begun:]
     applied, works, floor = [], [], []
     for turn in range(RUNS):
-        seconds, work = time_apply(program, top / f"applied{turn}", feed, blocks)
+        seconds, work = time_apply(program, top / f"applied{turn}", feed, count, files)
         applied.append(seconds)
         works.append(work)
-        floor.append(seconds_of_floor(top / f"floor{turn}", blocks))
+        floor.append(seconds_of_floor(top / f"floor{turn}", made, calls))
         print(
             f"{count:,} commands: apply {seconds:6.2f} s, bare writes {floor[-1]:6.2f} s",
             flush=True,
@@ -145,13 +171,30 @@ def time_query(program, folder, count, tip):
     report("a store opened and asked", f"{count:,} blocks", "ms", wall)
 
 
+def change_of(block, height):
+    """What a block changes whose coinbase alone claims the subsidy."""
+    row = Output(SHORT, height, [(height * SUBSIDY, SUBSIDY)])
+    # of one transaction the root is its id
+    return Change(twice(block[:80]), came=[((block[36:68], 0), row)])
+
+
+def file_with(blocks):
+    """A file of a store that connected such blocks, but for its generation."""
+    changes = [change_of(block, height) for height, block in enumerate(blocks)]
+    whole = len(changes) - len(changes) % TURN
+    outputs = sorted(row for change in changes[:whole] for row in change.came)
+    index = Index([change.hash for change in changes[:whole]], outputs)
+    body = body_of(index, changes[:whole][-DEPTH:][::-1])
+    return file_of("regtest", DEPTH, body, map(payload_on, changes[whole:]))
+
+
 def open_stores(program, top, count):
     """Times the opening of a large store, of a smaller one and of an empty one."""
     blocks, tips = chain(count)
     for name, part in (("none", 0), ("tenth", count // 10), ("all", count)):
         folder = top / name
-        make(program, folder)
-        (folder / "a.ox").write_bytes(file_a(blocks[:part]))
+        make_empty(program, folder)
+        (folder / "a.ox").write_bytes(file_with(blocks[:part]))
         time_query(program, folder, part, tips[part - 1] if part else None)
 
 

@@ -7,10 +7,11 @@ indexes, writes and syncs the same blocks.
 drills so many blocks (1,000, 10,000 and 100,000 without a word), each time in a new folder below
 /dev/shm, and below FOLDER, which is bench/out/ without a word. The programs run in turn, three
 times. They have to show the same line and to leave the same bytes. It prints, of the runs that took
-least by the clock, blocks a second, the bytes of file A, and the most memory. Each block is
-written by two writes and two waits, so on a disk little else counts; in memory it is the work
-itself. The plain program is given no word of `ox`: it makes the blocks by docs/RULES.md, and keeps
-hash maps. Nothing here is proved. bench/all.py builds both programs.
+least by the clock, blocks a second, the bytes of both files, and the most memory. Each block is
+written by two writes and two waits, and each 65th command writes the whole index, so on a disk
+little else counts; in memory it is the work itself. The plain program is given no word of `ox`: it
+makes the blocks by docs/RULES.md, and keeps hash maps. Nothing here is proved. bench/all.py builds
+both programs.
 """
 
 import hashlib
@@ -38,14 +39,14 @@ def commands(folder, count):
 
 def drill(place, name, count):
     """A drill in a new folder: seconds by the clock, the most memory, what was shown, and how many
-    bytes file A has, with their hash."""
+    bytes the two files have, with their hash."""
     with tempfile.TemporaryDirectory(dir=place) as folder:
         begun = time.monotonic()
         _, memory, shown = run(commands(folder, count)[name])
         seconds = time.monotonic() - begun
-        with open(pathlib.Path(folder) / "a.ox", "rb") as file:
-            digest = hashlib.file_digest(file, "sha256").digest()
-            return seconds, memory, shown, file.tell(), digest
+        files = [(pathlib.Path(folder) / name).read_bytes() for name in ("a.ox", "b.ox")]
+        digests = [hashlib.sha256(data).digest() for data in files]
+        return seconds, memory, shown, sum(map(len, files)), *digests
 
 
 def tell(kind, place, count):
@@ -58,12 +59,12 @@ def tell(kind, place, count):
             left.add(tuple(end))
     if len(left) != 1:
         sys.exit("the lines or the files differ")
-    ((_, size, _),) = left
+    ((_, size, *_),) = left
     least = {name: min(rows) for name, rows in taken.items()}
     for name, (seconds, memory) in least.items():
         print(
             f"{kind}, {count:7,} blocks, {name:5}: {count / seconds:8.0f} blocks a second,"
-            f" {size:,} bytes of file A, {memory:,} of memory",
+            f" {size:,} bytes of files, {memory:,} of memory",
             flush=True,
         )
     blocks, goal = f"{count:,} blocks", GOAL if kind == "memory" else None

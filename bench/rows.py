@@ -1,15 +1,17 @@
 #!/usr/bin/env python3
-"""Times the rows of an index, read and written, beside a plain Rust program of the same work.
+"""Times the rows of an index, read and written, and an index that is tested and made live, beside a
+plain Rust program of the same work.
 
     python3 bench/rows.py [OUTPUTS..]
 
-makes the rows of an index of so many outputs (100,000 and 1,000,000 without a word), each with a
-script of 34 bytes and one run of satoshis, with an inscription of a hundred bytes and a balance for
-every tenth of them. crates/ox_rows_rows and the plain program run in turn, three times: each reads
-the rows and spells the index once, or one of both six times. It prints how many bytes a second of
-the processor time that the five others took, of the runs that took least, and how much more time
-ten times the rows take. The plain program makes each table of a list that it read and that rises,
-at once. bench/all.py builds both programs.
+makes the rows of a sound index of so many outputs (100,000 and 1,000,000 without a word), each with
+a script of 34 bytes and one run of satoshis, with an inscription of a hundred bytes and a balance
+for every tenth of them. crates/ox_rows_rows and the plain program run in turn, three times: each
+reads the rows and spells the index once, or one of both six times; it tests the index once or six
+times; and it reads, tests and makes it live once or six times. It prints how many bytes of the rows
+a second of the processor time that the five others took, of the runs that took least, and how much
+more time ten times the rows take. The plain program makes each table of a list that it read and
+that rises, at once. bench/all.py builds both programs.
 """
 
 import pathlib
@@ -23,9 +25,18 @@ from tools.programs import plain_program, proved_program
 
 PROGRAMS = {"ox": [proved_program("ox_rows_rows")], "plain": [plain_program("rows")]}
 TENTH, MORE = 10, 5
-SATS = 1_000_000
-# how fast rows should be read and written at least, by plain Rust
-GOALS = {"read": 0.6, "written": 0.7}
+SATS, SUBSIDY = 1_000_000, 5_000_000_000
+RUNES = 20
+# how fast each should be at least, by plain Rust
+GOALS = {"read": 0.6, "written": 0.7, "tested": 0.6, "read, tested and made live": 0.5}
+# the row and the arguments of each, and those without the others
+WORKS = {
+    "read": ("index", (1 + MORE, 1)),
+    "written": ("index", (1, 1 + MORE)),
+    "tested": ("sound regtest", (1 + MORE, 1)),
+    "read, tested and made live": ("live regtest", (1 + MORE, 1)),
+}
+ONCE = (1, 1)
 # how much more time ten times the rows may take
 MOST_GROWTH = 12
 
@@ -34,57 +45,76 @@ def text(data):
     return struct.pack("<I", len(data)) + data
 
 
+def height_of(place):
+    """The height whose satoshis the output at this place holds."""
+    return place * SATS // SUBSIDY
+
+
 def output_row(chance, place):
-    row = text(b"\x51\x20" + chance.randbytes(32)) + struct.pack("<I", place // 2_000)
+    row = text(b"\x51\x20" + chance.randbytes(32)) + struct.pack("<I", height_of(place))
     return row + struct.pack("<IQQ", 1, place * SATS, SATS)
 
 
 def inscription_row(chance, place):
-    head = chance.randbytes(32) + struct.pack("<II", 0, place // 2_000)
+    head = chance.randbytes(32) + struct.pack("<II", 0, height_of(place))
     some = b"\1" + text(b"text/plain"), b"\1" + text(chance.randbytes(48))
     return head + b"".join(some) + bytes(5) + struct.pack("<IHBQ", 0, 0, 1, place * SATS)
 
 
-def write_rows(path, outputs):
-    """The rows of an index, in a row for the programs. How many bytes these are."""
+def rune_row(number, premine):
+    """A rune without terms that the first block etched, named by its number."""
+    named = struct.pack("<QI", 0, number) + number.to_bytes(16, "little")
+    return named + bytes(6) + premine.to_bytes(16, "little") + bytes(1 + 16 + 16 + 32)
+
+
+def index_rows(outputs):
+    """The rows of an index, part by part."""
     chance = random.Random(3)
     ids = sorted(chance.randbytes(32) for _ in range(outputs))
-    count = struct.pack("<I", outputs)
-    tenths = struct.pack("<I", outputs // TENTH)
-    with open(path, "wb") as feed:
-        size = 0
-
-        def put(data):
-            nonlocal size
-            size += len(data)
-            feed.write(data.hex().encode())
-
-        feed.write(b"index ")
-        put(struct.pack("<I", 0) + count)
-        for place, txid in enumerate(ids):
-            put(txid + struct.pack("<I", 0) + output_row(chance, place))
-        put(struct.pack("<I", 0) + tenths)
-        for place in range(0, outputs, TENTH):
-            put(inscription_row(chance, place))
-        put(tenths)
-        for place, txid in enumerate(ids[::TENTH]):
-            held = struct.pack("<IQI", 1, 840_000, place % 20) + (1 + place).to_bytes(16, "little")
-            put(txid + struct.pack("<I", 0) + held)
-        put(struct.pack("<I", 0))
-        feed.write(b"\n")
-    return size
+    tenths = range(0, outputs, TENTH)
+    blocks = -(-outputs * SATS // SUBSIDY)
+    yield struct.pack("<I", blocks)
+    yield from (chance.randbytes(32) for _ in range(blocks))
+    yield struct.pack("<I", outputs)
+    for place, txid in enumerate(ids):
+        yield txid + struct.pack("<I", 0) + output_row(chance, place)
+    # the last blocks' satoshis that no output holds are lost
+    lost = outputs * SATS, blocks * SUBSIDY - outputs * SATS
+    yield struct.pack("<IQQ", 1, *lost) if lost[1] else struct.pack("<I", 0)
+    yield struct.pack("<I", len(tenths))
+    yield from (inscription_row(chance, place) for place in tenths)
+    yield struct.pack("<I", len(tenths))
+    premines = RUNES * [0]
+    for place, txid in enumerate(ids[::TENTH]):
+        premines[place % RUNES] += 1 + place
+        held = struct.pack("<IQI", 1, 0, place % RUNES) + (1 + place).to_bytes(16, "little")
+        yield txid + struct.pack("<I", 0) + held
+    yield struct.pack("<I", RUNES)
+    yield from (rune_row(number, premine) for number, premine in enumerate(premines))
 
 
-def seconds(feed):
-    """The least seconds that each program took to read the rows, and to write them."""
-    times = {"base": (1, 1), "read": (1 + MORE, 1), "written": (1, 1 + MORE)}
-    taken = {
-        work: least({name: [*words, *map(str, both)] for name, words in PROGRAMS.items()}, feed)
-        for work, both in times.items()
-    }
+def write_rows(folder, outputs):
+    """The rows of an index, in a file for each kind of row for the programs. How many bytes these
+    are."""
+    digits = b"".join(part.hex().encode() for part in index_rows(outputs))
+    for row in {row for row, _ in WORKS.values()}:
+        (folder / row).write_bytes(row.encode() + b" " + digits + b"\n")
+    return len(digits) // 2
+
+
+def seconds(folder):
+    """The least seconds that each program took for each work."""
+
+    def taken(row, times):
+        words = map(str, times)
+        commands = {name: [*program, *words] for name, program in PROGRAMS.items()}
+        return least(commands, folder / row)
+
+    once = {row: taken(row, ONCE) for row in {row for row, _ in WORKS.values()}}
+    more = {work: taken(*told) for work, told in WORKS.items()}
     return {
-        work: {name: (taken[work][name][0] - taken["base"][name][0]) / MORE for name in PROGRAMS}
-        for work in GOALS
+        work: {name: (more[work][name][0] - once[row][name][0]) / MORE for name in PROGRAMS}
+        for work, (row, _) in WORKS.items()
     }
 
 
@@ -105,16 +135,16 @@ def tell(outputs, size, took):
 
 def main():
     words, before = sys.argv[1:], None
-    with tempfile.TemporaryDirectory() as folder:
-        feed = pathlib.Path(folder) / "feed"
-        for outputs in [int(word) for word in words] or [100_000, 1_000_000]:
-            size = in_another_process(write_rows, feed, outputs)
-            took = seconds(feed)
-            tell(outputs, size, took)
-            for work in before or ():
-                growth = took[work]["ox"] / before[work]["ox"]
-                print(f"  {work}: {growth:.1f} times the time, at most {MOST_GROWTH} for ten times")
-            before = took
+    for outputs in [int(word) for word in words] or [100_000, 1_000_000]:
+        with tempfile.TemporaryDirectory() as folder:
+            folder = pathlib.Path(folder)
+            size = in_another_process(write_rows, folder, outputs)
+            took = seconds(folder)
+        tell(outputs, size, took)
+        for work in before or ():
+            growth = took[work]["ox"] / before[work]["ox"]
+            print(f"  {work}: {growth:.1f} times the time, at most {MOST_GROWTH} for ten times")
+        before = took
 
 
 if __name__ == "__main__":

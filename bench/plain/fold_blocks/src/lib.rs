@@ -75,7 +75,7 @@ pub struct Row {
     pub sats: Runs,
 }
 
-#[derive(Clone, Copy, PartialEq, Eq, Hash)]
+#[derive(Clone, Copy, PartialEq, Eq, PartialOrd, Ord, Hash)]
 pub struct OutPoint {
     pub txid: Hash,
     pub index: u32,
@@ -133,10 +133,10 @@ impl Locator {
 
 /// What a block changed: the rows that are gone and those that came, and the satoshis that it lost.
 #[derive(Default)]
-struct Change {
-    gone: Vec<(OutPoint, Row)>,
-    came: Vec<(OutPoint, Row)>,
-    lost: Vec<Run>,
+pub struct Change {
+    pub gone: Vec<(OutPoint, Row)>,
+    pub came: Vec<(OutPoint, Row)>,
+    pub lost: Vec<Run>,
 }
 
 #[derive(Default)]
@@ -337,6 +337,16 @@ impl Index {
     /// How many satoshis are lost.
     pub fn lost(&self) -> u64 {
         self.lost.iter().map(|(_, count)| count).sum()
+    }
+
+    /// Those, in the order in which they were lost.
+    pub fn lost_runs(&self) -> &[Run] {
+        &self.lost
+    }
+
+    /// What the newest block changed, if it can be taken back.
+    pub fn newest_change(&self) -> Option<&Change> {
+        self.changes.front()
     }
 
     fn take(&mut self, at: &OutPoint) -> Option<Row> {

@@ -158,6 +158,11 @@ impl Shelf {
         Some(())
     }
 
+    /// The rows of the newest block, if it is kept.
+    pub fn newest(&self) -> &[Row] {
+        self.kept.front().map_or(&[], |first| &self.rows[*first..])
+    }
+
     pub fn find(&self, id: &Id) -> Option<u32> {
         self.ids.get(id).copied()
     }

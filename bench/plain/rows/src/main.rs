@@ -1,11 +1,16 @@
 //! Rows of an index and of a change, read and written in plain Rust, as bench/rows.py times them. On standard input stand
-//! the rows `index`, `change` and `fronts` of crates/ox_rows_rows, and it shows the same for them. With two arguments each is
-//! read and spelled so many times.
+//! the rows `index`, `change` and `fronts` of crates/ox_rows_rows, and its rows `sound` and `live` of regtest, and it shows
+//! the same for them. With two arguments each is read and spelled so many times, tested so many times, or made so many times.
+mod live;
 mod read;
 mod rows;
+mod sound;
 mod write;
 
+use live::Live;
 use read::{Fault, Reader};
+use rows::Index;
+use sound::is_sound;
 use std::hint::black_box;
 use std::io::{self, BufRead, Write};
 
@@ -45,6 +50,41 @@ fn read_again(kind: &str, bytes: &[u8], times: [u32; 2]) -> Result<(usize, Vec<u
     }
 }
 
+fn index_of(bytes: &[u8]) -> Index {
+    Reader(bytes).index().unwrap_or_else(|_| panic!("no index"))
+}
+
+/// What is told of an index that is tested so many times.
+fn told_of(bytes: &[u8], times: u32) -> &'static str {
+    let index = index_of(bytes);
+    for _ in 1..times {
+        black_box(is_sound(&index));
+    }
+    if is_sound(&index) { "sound" } else { "not sound" }
+}
+
+/// The index in memory that is made from the rows of a sound one.
+fn live_of(bytes: &[u8]) -> Option<Live> {
+    let index = index_of(bytes);
+    is_sound(&index).then(|| Live::of(index))
+}
+
+/// What is told of an index in memory that is made so many times.
+fn made_of(bytes: &[u8], times: u32) -> String {
+    for _ in 1..times {
+        drop(black_box(live_of(bytes)));
+    }
+    match live_of(bytes) {
+        Some(live) => format!(
+            "{} blocks, {} inscriptions, {} runes",
+            live.hashes.len(),
+            live.inscriptions.len(),
+            live.runes.len()
+        ),
+        None => "not sound".to_string(),
+    }
+}
+
 fn main() -> io::Result<()> {
     let mut times = [1, 1];
     for (number, word) in times.iter_mut().zip(std::env::args().skip(1)) {
@@ -64,6 +104,14 @@ fn main() -> io::Result<()> {
                 }
             }
             writeln!(shown)?;
+            continue;
+        }
+        if kind == "sound" || kind == "live" {
+            let bytes = decode(rest.strip_prefix("regtest ").expect("another profile"));
+            match kind {
+                "sound" => writeln!(shown, "{}", told_of(&bytes, times[0]))?,
+                _ => writeln!(shown, "{}", made_of(&bytes, times[0]))?,
+            }
             continue;
         }
         let bytes = decode(rest);

@@ -10,7 +10,7 @@ pub type RuneId = (u64, u32);
 /// As many bytes as an output's script mostly has at most.
 const SHORT: usize = 36;
 
-#[derive(Clone, Copy, PartialEq, Eq, PartialOrd, Ord)]
+#[derive(Clone, Copy, PartialEq, Eq, PartialOrd, Ord, Hash)]
 pub struct OutPoint {
     pub txid: Hash,
     pub index: u32,

@@ -104,7 +104,8 @@ impl Tx<'_> {
     }
 }
 
-enum Change {
+/// What stood before something changed: of an output, or mints and what was burned of a rune.
+pub enum Change {
     Balance(OutPoint, Option<Balances>),
     Counts(usize, u128, u128),
 }
@@ -162,6 +163,11 @@ impl Ledger {
         (self.mark, self.changes) = self.kept.pop_front()?;
         self.cancel();
         Some(())
+    }
+
+    /// Of the newest block, if it is kept: how many runes there were before it, and what it changed.
+    pub fn newest(&self) -> Option<(usize, &[Change])> {
+        self.kept.front().map(|(mark, changes)| (*mark, changes.as_slice()))
     }
 
     pub fn by_id(&self, id: RuneId) -> Option<usize> {
