@@ -38,6 +38,10 @@ MEANINGS = {
         " started again",
     ),
     9: ("it has heard all that a run can hear", "it is started again"),
+    10: (
+        "the rules refuse a command of an old store",
+        "`migrate` was asked for; `serve` doesn't end so",
+    ),
     75: (
         "another program has the store",
         "end that one, or leave it alone; it isn't started again",
