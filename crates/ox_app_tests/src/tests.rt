@@ -32,8 +32,38 @@ const OTHER_ROOT: &[u8] = b"refused 6 \
     4a5e1e4baab89f3a32518a88c31bc87f618f76673e2cc77ab2127b7afdeda33b \
     77c2c6d62b888ab7a74667ac10d8d9c14b411666e1b42a9188efe4f9ee73171c\n";
 
-/// The head of file A of an empty regtest store of depth 100, and a closed gate behind it.
-const EMPTY_A: &str = "016f78696478010164000100000000000000000000000000000000";
+/// File A of an empty regtest store of depth 100: a head of 26 bytes, the rows of an index without
+/// anything, no kept change, and a closed gate.
+const EMPTY_A: &str = "\
+    016f786964780201640001000000000000001c00000000000000\
+    0000000000000000000000000000000000000000000000000000000000";
+
+/// The same of the profile lab and depth 1.
+const EMPTY_LAB: &str = "\
+    016f786964780202010001000000000000001c00000000000000\
+    0000000000000000000000000000000000000000000000000000000000";
+
+/// The same of mainnet and depth 1,000. Its index has a rune from the start: its id 1:0, its name,
+/// spacers and symbol, what a mint gives, how many there may be and at which heights.
+const EMPTY_MAINNET: &str = "\
+    016f786964780200e8030100000000000000c900000000000000\
+    000000000000000000000000000000000000000001000000\
+    0100000000000000000000005e4521bcc606881c0000000000000000800000000001c9290000\
+    00000000000000000000000000000000010101000000000000000000000000000000\
+    01ffffffffffffffffffffffffffffffff0140d10c00000000000190051000000000000000\
+    0000000000000000000000000000000000000000000000000000000000000000\
+    0000000000000000000000000000000000000000000000000000000000000000\
+    0000000000";
+
+/// What Bitcoin's first block changes, as docs/FORMATS.md has its rows: its hash, no output gone,
+/// the one that came, and six times nothing.
+const GENESIS_CHANGE: &str = "\
+    6fe28c0ab6f1b372c1a6a246ae63f74f931e8365e15a089c68d61900000000000000000001000000\
+    3ba3edfd7a7b12b27ac72c3e67768f617fc81bc3888a51323a9fb8aa4b1e5e4a0000000043000000\
+    4104678afdb0fe5548271967f1a67130b7105cd6a828e03909a67962e0ea1f61deb649f6bc3f4cef\
+    38c4f35504e51ec112de5c384df7ba0b8d578a4c702b6bf11d5fac\
+    0000000001000000000000000000000000f2052a01000000\
+    000000000000000000000000000000000000000000000000";
 
 /// Three blocks of a coinbase alone that claims the whole subsidy, each on the one before.
 const FIRST: &str = "\
@@ -339,10 +369,8 @@ fn makes(rt: &impl Abort, alloc: Global, profile: &[u8], depth: &[u8], a: &str) 
 #[test]
 fn init_takes_the_least_and_the_greatest_depth(rt: HostRuntime) {
     let alloc = rt.alloc();
-    let least = "016f78696478010201000100000000000000000000000000000000";
-    let greatest = "016f786964780100e8030100000000000000000000000000000000";
-    assert!(rt; makes(&rt, alloc, b"lab", b"1", least));
-    assert!(rt; makes(&rt, alloc, b"mainnet", b"1000", greatest));
+    assert!(rt; makes(&rt, alloc, b"lab", b"1", EMPTY_LAB));
+    assert!(rt; makes(&rt, alloc, b"mainnet", b"1000", EMPTY_MAINNET));
 }
 
 /// Writes a file whole and syncs it.
@@ -383,26 +411,26 @@ pub(crate) fn store_hearing(rt: &impl Abort, alloc: Global, feed: &[u8]) -> MemS
     site
 }
 
-/// The digits of file A once the first block is connected: behind the head of 26 bytes an open
-/// gate, the length 286, the byte of a connect, the block, and a closed gate.
+/// Whether file A is this once the first block is connected: behind 54 bytes of head and body an
+/// open gate, the length 196, the byte of a connect, the block's change, and a closed gate.
 fn is_record_of_first(rt: &impl Abort, alloc: Global, site: &MemSite) -> bool {
-    let head = EMPTY_A.get(..52).unwrap_or("").as_bytes();
+    let front = EMPTY_A.get(..108).unwrap_or("").as_bytes();
     let digits = join_lines(
         rt,
         alloc,
-        &[head, b"011e01000001", GENESIS.as_bytes(), b"00"],
+        &[front, b"01c400000001", GENESIS_CHANGE.as_bytes(), b"00"],
     );
     let a = hex::encode(alloc, site.file(Which::A)).expect(rt, "memory");
     a.as_bytes() == digits.as_slice() && site.file(Which::B) == b"\0".as_slice()
 }
 
 #[test]
-fn a_connected_block_is_a_record_of_its_bytes(rt: HostRuntime) {
+fn a_connected_block_is_a_record_of_its_change(rt: HostRuntime) {
     let alloc = rt.alloc();
     let line = connect(&rt, alloc, GENESIS);
     let mut site = store_hearing(&rt, alloc, line.as_slice());
     assert!(rt; ends(&rt, alloc, &mut site, &[b"apply"], 0, OK));
-    assert!(rt; site.file(Which::A).len() == 318);
+    assert!(rt; site.file(Which::A).len() == 256);
     assert!(rt; is_record_of_first(&rt, alloc, &site));
 }
 
@@ -558,6 +586,102 @@ fn as_many_blocks_are_taken_back_as_are_kept(rt: HostRuntime) {
     let mut site = two_of_three(&rt, alloc, b"2");
     assert!(rt; answers(&rt, alloc, &mut site, b"disconnect\n", FIRST_OK));
     assert!(rt; answers(&rt, alloc, &mut site, b"disconnect\n", b"refused 11\n"));
+}
+
+// ---- stores of version 1
+
+/// The head of file A of a regtest store of version 1, of depth 100.
+const OLD_HEAD: &str = "016f786964780101640001000000000000000000000000000000";
+
+/// A regtest store of version 1 and depth 100, by the digits of its records and of the last gate.
+fn old_store(rt: &impl Abort, alloc: Global, records: &[&[u8]]) -> MemSite {
+    let digits = join_lines(rt, alloc, &[OLD_HEAD.as_bytes()]);
+    let records = join_lines(rt, alloc, records);
+    let digits = join_lines(rt, alloc, &[digits.as_slice(), records.as_slice()]);
+    let a = hex::decode(alloc, digits.as_slice()).expect(rt, "digits");
+    store_of(rt, alloc, a.as_slice())
+}
+
+/// One with the first of the three blocks, of 144 bytes.
+fn old_block(rt: &impl Abort, alloc: Global) -> MemSite {
+    old_store(rt, alloc, &[b"019100000001", FIRST.as_bytes(), b"00"])
+}
+
+#[test]
+fn a_store_of_version_1_is_migrated_once(rt: HostRuntime) {
+    let alloc = rt.alloc();
+    let mut site = old_block(&rt, alloc);
+    assert!(rt; ends(&rt, alloc, &mut site, &[b"apply"], 3, b"not a store a 6\n"));
+    assert!(rt; ends(&rt, alloc, &mut site, &[b"migrate"], 0, b"ok 1\n"));
+    assert!(rt; has_blocks(&rt, alloc, &mut site, 1));
+    assert!(rt;
+        ends(
+            &rt,
+            alloc,
+            &mut site,
+            &[b"migrate"],
+            3,
+            b"not a store b 6\n"
+        )
+    );
+}
+
+/// A disconnect where no block is, and a payload that is no command.
+#[test]
+fn a_command_that_is_refused_and_a_payload_that_is_none_are_told(rt: HostRuntime) {
+    let alloc = rt.alloc();
+    let mut refused = old_store(&rt, alloc, &[b"01010000000000"]);
+    assert!(rt;
+        ends(
+            &rt,
+            alloc,
+            &mut refused,
+            &[b"migrate"],
+            10,
+            b"old 0 refused 11\n"
+        )
+    );
+    assert!(rt; refused.file(Which::A).len() == 33);
+    let mut none = old_store(&rt, alloc, &[b"01010000000200"]);
+    assert!(rt;
+        ends(
+            &rt,
+            alloc,
+            &mut none,
+            &[b"migrate"],
+            3,
+            b"not a store a 26\n"
+        )
+    );
+}
+
+/// The exit status of a migration at which the call of this number fails: calls 0 to 12 open the
+/// old store and make the new one's checkpoint, and 13 shows the line.
+fn migrate_code_by(call: u64) -> u8 {
+    match call {
+        0..=12 => 4,
+        13 => 6,
+        _ => 0,
+    }
+}
+
+/// Whether a migration ends so at which the call of this number fails. A further one goes on then,
+/// or finds that all is done; and the store has its block.
+fn migrates_but(rt: &impl Abort, alloc: Global, call: u64) -> bool {
+    let mut site = old_block(rt, alloc);
+    site.fail(call).expect(rt, "memory");
+    let code = code_of(rt, alloc, &mut site, &[b"migrate"]);
+    assert!(rt; code == migrate_code_by(call), "{call}: {code}");
+    let further = code_of(rt, alloc, &mut site, &[b"migrate"]);
+    (code == 0 || further == 0 || further == 3) && has_blocks(rt, alloc, &mut site, 1)
+}
+
+#[test]
+fn a_fault_at_any_call_leaves_the_old_store_or_the_new_one(rt: HostRuntime) {
+    let alloc = rt.alloc();
+    for call in 0..15u64 {
+        assert!(rt; migrates_but(&rt, alloc, call));
+    }
 }
 
 // ---- crashes
