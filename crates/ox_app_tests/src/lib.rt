@@ -2,6 +2,16 @@
 #![tactic(auto)]
 
 #[cfg(test)]
+mod crashes;
+#[cfg(test)]
+mod folding;
+#[cfg(test)]
+mod old_stores;
+#[cfg(test)]
+mod runs;
+#[cfg(test)]
 mod short_calls;
 #[cfg(test)]
-mod tests;
+mod stores;
+#[cfg(test)]
+mod values;

@@ -1,10 +1,13 @@
 //! Runs over a site that does as little in a call as it may: it gives and takes one byte, or half
 //! of what there is, and a write that fails has changed what a read gives.
 
-use crate::tests::{
-    AFTER_BAD_LINES, GENESIS, THREE_OK, code_of, connect, ends, has_blocks, has_shown, join_lines,
-    leads_on, shown_so_far, site_of, store_hearing, three_lines,
+use crate::crashes::leads_on;
+use crate::runs::{
+    code_of, connect, ends, has_blocks, has_shown, join_lines, shown_so_far, site_of,
+    store_hearing, three_lines,
 };
+use crate::stores::answers;
+use crate::values::{AFTER_BAD_LINES, GENESIS, THREE_OK};
 use ox_memsite::MemSite;
 use ox_outside::Which;
 use ox_short_site::{Portion, ShortSite};

@@ -1,0 +1,119 @@
+//! Blocks, and what is shown and kept of them: Bitcoin's first block's hash, hashes of small blocks by
+//! a script of another language, and files byte by byte as docs/FORMATS.md has them.
+
+/// Bitcoin's first block.
+pub(crate) const GENESIS: &str = "\
+    0100000000000000000000000000000000000000000000000000000000000000000000003ba3edfd7a7b\
+    12b27ac72c3e67768f617fc81bc3888a51323a9fb8aa4b1e5e4a29ab5f49ffff001d1dac2b7c01010000\
+    00010000000000000000000000000000000000000000000000000000000000000000ffffffff4d04ffff\
+    001d0104455468652054696d65732030332f4a616e2f32303039204368616e63656c6c6f72206f6e2062\
+    72696e6b206f66207365636f6e64206261696c6f757420666f722062616e6b73ffffffff0100f2052a01\
+    000000434104678afdb0fe5548271967f1a67130b7105cd6a828e03909a67962e0ea1f61deb649f6bc3f\
+    4cef38c4f35504e51ec112de5c384df7ba0b8d578a4c702b6bf11d5fac00000000";
+
+pub(crate) const OK: &[u8] =
+    b"ok 0 000000000019d6689c085ae165831e934ff763ae46a2a6c172b3f1b60a8ce26f\n";
+
+pub(crate) const TWICE: &[u8] =
+    b"ok 0 000000000019d6689c085ae165831e934ff763ae46a2a6c172b3f1b60a8ce26f\n\
+    refused 5 0000000000000000000000000000000000000000000000000000000000000000 \
+    000000000019d6689c085ae165831e934ff763ae46a2a6c172b3f1b60a8ce26f\n";
+
+pub(crate) const AFTER_BAD_LINES: &[u8] = b"refused 1\nrefused 1\n\
+    ok 0 000000000019d6689c085ae165831e934ff763ae46a2a6c172b3f1b60a8ce26f\nok empty\n";
+
+/// The header's root, and that of the changed transaction, by a script of another language.
+pub(crate) const OTHER_ROOT: &[u8] = b"refused 6 \
+    4a5e1e4baab89f3a32518a88c31bc87f618f76673e2cc77ab2127b7afdeda33b \
+    77c2c6d62b888ab7a74667ac10d8d9c14b411666e1b42a9188efe4f9ee73171c\n";
+
+/// File A of an empty regtest store of depth 100: a head of 26 bytes, the rows of an index without
+/// anything, no kept change, and a closed gate.
+pub(crate) const EMPTY_A: &str = "\
+    016f786964780201640001000000000000001c00000000000000\
+    0000000000000000000000000000000000000000000000000000000000";
+
+/// The same of the profile lab and depth 1.
+pub(crate) const EMPTY_LAB: &str = "\
+    016f786964780202010001000000000000001c00000000000000\
+    0000000000000000000000000000000000000000000000000000000000";
+
+/// The same of mainnet and depth 1,000. Its index has a rune from the start: its id 1:0, its name,
+/// spacers and symbol, what a mint gives, how many there may be and at which heights.
+pub(crate) const EMPTY_MAINNET: &str = "\
+    016f786964780200e8030100000000000000c900000000000000\
+    000000000000000000000000000000000000000001000000\
+    0100000000000000000000005e4521bcc606881c0000000000000000800000000001c9290000\
+    00000000000000000000000000000000010101000000000000000000000000000000\
+    01ffffffffffffffffffffffffffffffff0140d10c00000000000190051000000000000000\
+    0000000000000000000000000000000000000000000000000000000000000000\
+    0000000000000000000000000000000000000000000000000000000000000000\
+    0000000000";
+
+/// What Bitcoin's first block changes, as docs/FORMATS.md has its rows: its hash, no output gone,
+/// the one that came, and six times nothing.
+pub(crate) const GENESIS_CHANGE: &str = "\
+    6fe28c0ab6f1b372c1a6a246ae63f74f931e8365e15a089c68d61900000000000000000001000000\
+    3ba3edfd7a7b12b27ac72c3e67768f617fc81bc3888a51323a9fb8aa4b1e5e4a0000000043000000\
+    4104678afdb0fe5548271967f1a67130b7105cd6a828e03909a67962e0ea1f61deb649f6bc3f4cef\
+    38c4f35504e51ec112de5c384df7ba0b8d578a4c702b6bf11d5fac\
+    0000000001000000000000000000000000f2052a01000000\
+    000000000000000000000000000000000000000000000000";
+
+/// Three blocks of a coinbase alone that claims the whole subsidy, each on the one before.
+pub(crate) const FIRST: &str = "\
+    0100000000000000000000000000000000000000000000000000000000000000000000003d088146d51a\
+    e5e5d243f549e5a5c4dc908e744770b36889c9d07661de16d18e00000000000000000000000001020000\
+    00010000000000000000000000000000000000000000000000000000000000000000ffffffff02010000\
+    0000000100f2052a01000000015100000000";
+
+pub(crate) const SECOND: &str = "\
+    01000000080943942bb43aa8f56856b3eb65ca52948c43a8ed9587f1f9c784fe9f36f19d51c50e17a632\
+    b12ef1b75f4a138df531340ee11e340c5bb75b112dce3fb102f400000000000000000000000001020000\
+    00010000000000000000000000000000000000000000000000000000000000000000ffffffff02010100\
+    0000000100f2052a01000000015100000000";
+
+pub(crate) const THIRD: &str = "\
+    010000004f3b2ef1c15b6651d301bf176db17429a67de4060d4c47ce99f1445404e52207cf061418e446\
+    e573d9d2b0279dcb92f596c50f79c729af1ba3879d1cae70264800000000000000000000000001020000\
+    00010000000000000000000000000000000000000000000000000000000000000000ffffffff02010200\
+    0000000100f2052a01000000015100000000";
+
+/// Their hashes are by a script of another language.
+pub(crate) const FIRST_OK: &[u8] =
+    b"ok 0 9df1369ffe84c7f9f18795eda8438c9452ca65ebb35668f5a83ab42b94430908\n";
+
+pub(crate) const FIRST_THEN_EMPTY: &[u8] =
+    b"ok 0 9df1369ffe84c7f9f18795eda8438c9452ca65ebb35668f5a83ab42b94430908\nok empty\n";
+
+pub(crate) const THREE_OK: &[u8] =
+    b"ok 0 9df1369ffe84c7f9f18795eda8438c9452ca65ebb35668f5a83ab42b94430908\n\
+    ok 1 0722e5045444f199ce474c0d06e47da62974b16d17bf01d351665bc1f12e3b4f\n\
+    ok 2 7054e587fec28cf6b25c1f9597629789b86bae696e32960fd80b6521aa1c8a2a\n";
+
+/// The three blocks, of which the last is taken back.
+pub(crate) const THREE_THEN_TWO: &[u8] =
+    b"ok 0 9df1369ffe84c7f9f18795eda8438c9452ca65ebb35668f5a83ab42b94430908\n\
+    ok 1 0722e5045444f199ce474c0d06e47da62974b16d17bf01d351665bc1f12e3b4f\n\
+    ok 2 7054e587fec28cf6b25c1f9597629789b86bae696e32960fd80b6521aa1c8a2a\n\
+    ok 1 0722e5045444f199ce474c0d06e47da62974b16d17bf01d351665bc1f12e3b4f\n";
+
+/// What `query /status` shows of the regtest store with the first so many of the three blocks, all
+/// of which are kept.
+pub(crate) fn status_body(blocks: u64) -> &'static str {
+    match blocks {
+        0 => r#"{"blocks":0,"depth":100,"kept":0,"profile":"regtest","tip":null}"#,
+        1 => concat!(
+            r#"{"blocks":1,"depth":100,"kept":1,"profile":"regtest","tip":"#,
+            r#""9df1369ffe84c7f9f18795eda8438c9452ca65ebb35668f5a83ab42b94430908"}"#
+        ),
+        2 => concat!(
+            r#"{"blocks":2,"depth":100,"kept":2,"profile":"regtest","tip":"#,
+            r#""0722e5045444f199ce474c0d06e47da62974b16d17bf01d351665bc1f12e3b4f"}"#
+        ),
+        _ => concat!(
+            r#"{"blocks":3,"depth":100,"kept":3,"profile":"regtest","tip":"#,
+            r#""7054e587fec28cf6b25c1f9597629789b86bae696e32960fd80b6521aa1c8a2a"}"#
+        ),
+    }
+}
