@@ -5,10 +5,6 @@ ghost use Rattle.std.specs.Ordering.{is_eq};
 ghost use Rattle.std.proofs.Common.{refl};
 ghost use Rattle.ox_shards.specs.Keys.{shard_of, tag_of};
 
-use ox_block::OutPoint;
-use ox_envelope::InsId;
-use ox_runestone::RuneId;
-
 /// A key that says in which of so many shards of a map it stands.
 pub trait Sharded: Ord + Copy {
     /// How many shards there are.
@@ -43,106 +39,25 @@ pub trait Sharded: Ord + Copy {
 }
 
 /// So many shards for keys that are a transaction's id and an index.
-const SHARDS: usize = 65_536;
+pub const ID_SHARDS: usize = 65_536;
 
 /// So many of them stand in the list of a shard.
-const MOST: usize = 64;
+pub const ID_MOST: usize = 64;
 
 /// The shard of such a key: by the first two bytes of the id, which is a hash, and the index, so
 /// that what belongs to one transaction stands in as many shards.
-fn shard_of(id: &[u8; 32], index: u32) -> usize
+pub fn shard_of(id: &[u8; 32], index: u32) -> usize
     ensures value { result ≡ shard_of id.now index }
     ensures in_range { result < 65536 }
 {
-    (usize::from(id[0]) * 256 + usize::from(id[1]) + index as usize) % SHARDS
+    (usize::from(id[0]) * 256 + usize::from(id[1]) + index as usize) % ID_SHARDS
 }
 
 /// The tag of such a key: the next four bytes of the id, and the index.
-fn tag_of(id: &[u8; 32], index: u32) -> u32
+pub fn tag_of(id: &[u8; 32], index: u32) -> u32
     ensures { result ≡ tag_of id.now index }
 {
     u32::from_le_bytes([id[2], id[3], id[4], id[5]]).wrapping_add(index)
-}
-
-/// By parts of the transaction's id, and the index.
-impl Sharded for OutPoint {
-    ghost use Rattle.ox_shards.specs.Keys.{outpoint_shard, outpoint_tag};
-    ghost use Rattle.ox_shards.specs.Laws.{outpoints_alike, outpoints_tagged};
-
-    ghost SHARDS = { 65536 };
-
-    const SHARDS: usize = SHARDS;
-
-    const MOST: usize = MOST;
-
-    ghost shard = { outpoint_shard };
-
-    fn shard(&self) -> usize {
-        shard_of(&self.txid.0, self.index)
-    }
-
-    ghost alike = { outpoints_alike };
-
-    ghost tag = { outpoint_tag };
-
-    fn tag(&self) -> u32 {
-        tag_of(&self.txid.0, self.index)
-    }
-
-    ghost same_tag = { outpoints_tagged };
-}
-
-/// By parts of the id of the transaction that revealed the inscription, and the index.
-impl Sharded for InsId {
-    ghost use Rattle.ox_shards.specs.Keys.{inscription_shard, inscription_tag};
-    ghost use Rattle.ox_shards.specs.Laws.{inscriptions_alike, inscriptions_tagged};
-
-    ghost SHARDS = { 65536 };
-
-    const SHARDS: usize = SHARDS;
-
-    const MOST: usize = MOST;
-
-    ghost shard = { inscription_shard };
-
-    fn shard(&self) -> usize {
-        shard_of(&self.txid, self.index)
-    }
-
-    ghost alike = { inscriptions_alike };
-
-    ghost tag = { inscription_tag };
-
-    fn tag(&self) -> u32 {
-        tag_of(&self.txid, self.index)
-    }
-
-    ghost same_tag = { inscriptions_tagged };
-}
-
-/// Runes are few: one shard, all of them in the ordered map.
-impl Sharded for RuneId {
-    ghost SHARDS = { 1 };
-
-    const SHARDS: usize = 1;
-
-    const MOST: usize = 0;
-
-    ghost shard = { λ _. 0 };
-
-    fn shard(&self) -> usize {
-        0
-    }
-
-    ghost alike = { λ _ _ _. refl };
-
-    ghost tag = { λ _. 0 };
-
-    fn tag(&self) -> u32 {
-        0
-    }
-
-    ghost same_tag = { λ _ _ _. refl };
 }
 
 /// Places of a list, which are few: one shard, all of them in the ordered map.

@@ -6,5 +6,5 @@ mod keys;
 mod shard;
 mod shards;
 
-pub use keys::Sharded;
+pub use keys::{ID_MOST, ID_SHARDS, Sharded, shard_of, tag_of};
 pub use shards::Shards;
