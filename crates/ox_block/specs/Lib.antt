@@ -9,3 +9,4 @@ pub mod Putting
 pub mod Script
 pub mod Witness
 pub mod Few
+pub mod Keys

@@ -4,6 +4,7 @@ use crate::lists::{Inputs, Outs, Txs};
 use crate::script::Script;
 use crate::witness::Witness;
 use ox_bytes::Bytes;
+use ox_shards::{ID_MOST, ID_SHARDS, Sharded, shard_of, tag_of};
 
 /// What names a transaction: SHA-256 twice over its form without witnesses, in serialized order. It
 /// is shown in reversed order. Ids are ordered by their bytes.
@@ -18,6 +19,34 @@ pub struct OutPoint {
     pub txid: Txid,
     /// The index among its outputs.
     pub index: u32,
+}
+
+/// By parts of the transaction's id, and the index.
+impl Sharded for OutPoint {
+    ghost use Rattle.ox_block.specs.Keys.{outpoint_shard, outpoint_tag};
+    ghost use Rattle.ox_shards.specs.Laws.{ids_alike, ids_tagged};
+
+    ghost SHARDS = { 65536 };
+
+    const SHARDS: usize = ID_SHARDS;
+
+    const MOST: usize = ID_MOST;
+
+    ghost shard = { outpoint_shard };
+
+    fn shard(&self) -> usize {
+        shard_of(&self.txid.0, self.index)
+    }
+
+    ghost alike = { λ a b. ids_alike a.txid.0 b.txid.0 a.index b.index };
+
+    ghost tag = { outpoint_tag };
+
+    fn tag(&self) -> u32 {
+        tag_of(&self.txid.0, self.index)
+    }
+
+    ghost same_tag = { λ a b. ids_tagged a.txid.0 b.txid.0 a.index b.index };
 }
 
 /// An input: the output that it spends, and what allows it to.
