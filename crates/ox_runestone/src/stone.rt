@@ -1,6 +1,9 @@
 //! What a runestone says.
 
+ghost use Rattle.std.specs.Prelude.{refl};
+
 use ox_bytes::List;
+use ox_shards::Sharded;
 
 /// The id of a rune: the height of the block that etched it and the place of the transaction in
 /// that block.
@@ -10,6 +13,31 @@ pub struct RuneId {
     pub block: u64,
     /// The place of the transaction, the coinbase's being 0.
     pub tx: u32,
+}
+
+/// Runes are few: one shard, all of them in the ordered map.
+impl Sharded for RuneId {
+    ghost SHARDS = { 1 };
+
+    const SHARDS: usize = 1;
+
+    const MOST: usize = 0;
+
+    ghost shard = { λ _. 0 };
+
+    fn shard(&self) -> usize {
+        0
+    }
+
+    ghost alike = { λ _ _ _. refl };
+
+    ghost tag = { λ _. 0 };
+
+    fn tag(&self) -> u32 {
+        0
+    }
+
+    ghost same_tag = { λ _ _ _. refl };
 }
 
 /// The terms on which a rune is minted.
