@@ -6,3 +6,4 @@ pub mod Where
 pub mod Newest
 pub mod Text
 pub mod Moves
+pub mod Why

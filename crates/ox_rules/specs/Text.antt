@@ -1,6 +1,6 @@
 -- The lines that answer a command, and how the hashes and outpoints in them are printed.
 use Rattle.std.specs.Prelude.{ℕ, ◌-◌, ◌==◌, List, ◌++◌, length, reverse, codes, decimal}
-use Rattle.std.specs.Prelude.{if◌then◌else◌}
+use Rattle.std.specs.Prelude.{if◌then◌else◌, [], Option, Some, None}
 use Rattle.hex.specs.Hex.{encode_lower}
 use Rattle.ox_block.specs.declared.block.OutPoint.{OutPoint}
 use Rattle.ox_rules.specs.Newest.{newest_of}
@@ -52,3 +52,8 @@ unfoldable pub ok_text : List (List ℕ) → List ℕ
 ok_text hashes =
     if length hashes == 0 then codes "ok empty\n"
     else block_line (length hashes - 1) (newest_of hashes)
+
+-- the same, by the newest block's height and hash, where there is a block
+abbrev pub tip_line : Option (ℕ × List ℕ) → List ℕ
+tip_line None = ok_text []
+tip_line (Some tip) = block_line tip.0 tip.1

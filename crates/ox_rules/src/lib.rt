@@ -7,8 +7,11 @@ mod laws;
 mod moved;
 mod place;
 mod refusal;
+mod reply;
 mod rows;
 mod table;
+mod values;
+mod why;
 
 ghost use Rattle.std.specs.Prelude.{◌≡◌};
 ghost use Rattle.ox_block.specs.declared.block.OutPoint.{OutPoint};
@@ -21,9 +24,12 @@ pub use moved::{DisplacedRows, Moved, MovedTx, MovedTxs, SpentRows};
 pub use ox_block::Script;
 pub use ox_bytes::Memory;
 pub use place::Place;
-pub use refusal::{Refusal, hash_text, outpoint_text};
+pub use refusal::{Refusal, hash_digits, hash_text, outpoint_text};
+pub use reply::{LONGEST_OK, empty_line, ok_line_in};
 pub use rows::OutRow;
 pub use table::{OutTable, TableRows, Unplaced};
+pub use values::value_sum;
+pub use why::Why;
 
 /// What differs between two tables of outputs: the rows that are gone and those that came, each by
 /// rising outpoint. There is one such pair of lists, and with either table it gives the other.

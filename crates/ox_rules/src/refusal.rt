@@ -78,6 +78,21 @@ pub enum Refusal {
     Depth,
 }
 
+/// The digits by which a hash is printed: its bytes in reversed order, each as two lower-case hex
+/// digits.
+#[tactic(auto, unfolding(crate::specs::Text::hash_text))]
+pub fn hash_digits(hash: &[u8; 32]) -> [u8; 64]
+    ensures { result ≡ printed hash.now }
+{
+    let mut reversed = *hash;
+    reversed.reverse();
+    let mut digits = [0; 64];
+    match hex::encode_to_slice(&reversed[..], &mut digits) {
+        Ok(()) => digits,
+        Err(_) => unreachable!(),
+    }
+}
+
 /// A hash as it is printed: its bytes in reversed order, in lower-case hex digits.
 #[tactic(auto, unfolding(crate::specs::Text::hash_text))]
 pub fn hash_text(alloc: Global, hash: &[u8; 32]) -> Result<String, AllocError>
