@@ -5,6 +5,8 @@ use Rattle.std.specs.Prelude.{bytes_eq, if◌then◌else◌}
 use Rattle.std.specs.List.{list_any, filter_map, concat}
 use Rattle.ox_envelope.specs.Envelope.{EnvelopePushes}
 use Rattle.ox_envelope.specs.Id.{id_of_value}
+use Rattle.ox_envelope.specs.Mark as mark
+use Rattle.ox_envelope.specs.Mark.{bit}
 use Rattle.ox_envelope.specs.Tag as tag
 use Rattle.ox_envelope.specs.declared.inscribed.Inscribed.{Inscribed}
 use Rattle.ox_envelope.specs.declared.id.InsId.{InsId}
@@ -94,20 +96,15 @@ has_unknown_even fields =
     list_any (λ field. is_unknown_even field.tag) fields
     || nat_lt 1 (length (values_of (tag.pointer ∷ []) fields))
 
--- a bit's worth, if it is set
-abbrev pub bit : Bool → ℕ → ℕ
-bit true worth = worth
-bit false worth = 0
-
 -- the marks, by the fields, and by whether the last tag has no value and whether a push is by
 -- OP_1NEGATE or OP_1 to OP_16
 abbrev pub marks_of : List Field → Bool → Bool → ℕ
 marks_of all incomplete number =
-    bit (has_unknown_even all) tag.unknown_even_mark
-    + bit (has_repeat (single_tags all)) tag.repeat_mark
-    + bit incomplete tag.incomplete_mark
-    + bit (is_some (first_of (values_of (tag.pointer ∷ []) all))) tag.pointer_mark
-    + bit number tag.number_mark
+    bit (has_unknown_even all) mark.even
+    + bit (has_repeat (single_tags all)) mark.repeated
+    + bit incomplete mark.incomplete
+    + bit (is_some (first_of (values_of (tag.pointer ∷ []) all))) mark.pointer
+    + bit number mark.pushnum
 
 -- what an envelope says
 abbrev pub inscribed_of : EnvelopePushes → Inscribed

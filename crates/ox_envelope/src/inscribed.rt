@@ -34,8 +34,8 @@ pub struct Inscribed {
     pub parents: Ids,
     /// Tag 11, the first value, if it is an id.
     pub delegate: Option<InsId>,
-    /// Bit 0: an unknown even tag. Bit 1: a tag other than 3 and 5 with two values. Bit 2: a last
-    /// tag without a value. Bit 5: a pointer. Bit 6: a push by OP_1NEGATE or OP_1 to OP_16.
+    /// The sum of those of the marks that a script alone tells: `EVEN`, `REPEATED`, `INCOMPLETE`,
+    /// `POINTER` and `PUSHNUM`.
     pub marks: u16,
 }
 

@@ -5,6 +5,7 @@ mod envelope;
 mod id;
 mod inscribed;
 mod laws;
+pub mod mark;
 mod payload;
 mod search;
 mod tag;

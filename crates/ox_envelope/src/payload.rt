@@ -1,10 +1,10 @@
 //! The fields and the body among the pushes of an envelope.
 
-ghost use Rattle.std.specs.Prelude.{◌≡◌, ◌≤◌, ◌∷◌, ℕ, List, [], ◌||◌, not, bytes_eq, option_map};
+ghost use Rattle.std.specs.Prelude.{◌≡◌, ◌∷◌, ℕ, List, [], ◌||◌, not, bytes_eq, option_map};
 ghost use Rattle.std.specs.Prelude.{map, IfOk, OnOk};
 ghost use Rattle.std.specs.List.{concat, filter_map, list_any};
 ghost use Rattle.ox_envelope.specs.Id.{id_of_value};
-ghost use Rattle.ox_envelope.specs.Payload.{bit, first_id, first_of, has_repeat};
+ghost use Rattle.ox_envelope.specs.Payload.{first_id, first_of, has_repeat};
 ghost use Rattle.ox_envelope.specs.Payload.{has_unknown_even, is_incomplete, is_single};
 ghost use Rattle.ox_envelope.specs.Payload.{is_unknown_even, joined_of, marks_of, single_tags};
 ghost use Rattle.ox_envelope.specs.Walk.{body_in, fields_in, is_among, seen_fields, texts};
@@ -12,6 +12,7 @@ ghost use Rattle.ox_envelope.specs.Walk.{values_at};
 
 use crate::id::{InsId, read_id};
 use crate::inscribed::Ids;
+use crate::mark::{self, bit};
 use crate::tag;
 use ox_bytes::{Bytes, Memory};
 use smallvec::SmallVec;
@@ -264,14 +265,6 @@ pub(crate) fn join_body(alloc: Global, body: Option<&[&[u8]]>) -> Result<Option<
     }
 }
 
-/// A bit's worth, if it is set.
-fn bit(set: bool, worth: u16) -> u16
-    ensures is { result ≡ bit set worth }
-    ensures most { result ≤ worth }
-{
-    if set { worth } else { 0 }
-}
-
 /// The marks, by the fields, and by whether the last tag has no value and whether a push is by
 /// OP_1NEGATE or OP_1 to OP_16.
 pub(crate) fn marks_of(
@@ -286,13 +279,10 @@ pub(crate) fn marks_of(
     let unknown_even = any_unknown_even(fields) || pointers.len() > 1;
     let repeat = has_repeat(alloc, fields)?;
     Ok(
-        bit(unknown_even, tag::UNKNOWN_EVEN_MARK)
-            + bit(repeat, tag::REPEAT_MARK)
-            + bit(incomplete, tag::INCOMPLETE_MARK)
-            + bit(
-                first_value(fields, tag::POINTER).is_some(),
-                tag::POINTER_MARK,
-            )
-            + bit(number, tag::NUMBER_MARK),
+        bit(unknown_even, mark::EVEN)
+            + bit(repeat, mark::REPEATED)
+            + bit(incomplete, mark::INCOMPLETE)
+            + bit(first_value(fields, tag::POINTER).is_some(), mark::POINTER)
+            + bit(number, mark::PUSHNUM),
     )
 }
