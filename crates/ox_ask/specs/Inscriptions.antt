@@ -6,6 +6,7 @@ use Rattle.std.specs.Option.{option_and_then}
 use Rattle.serde_json.specs.Data.{Data, boolean, string, array, object, no_members, member}
 use Rattle.serde_json.specs.View.{items_of}
 use Rattle.ox_envelope.specs.Id.{id_text}
+use Rattle.ox_envelope.specs.Mark as mark
 use Rattle.ox_envelope.specs.declared.id.InsId.{InsId}
 use Rattle.ox_inscribe.specs.Inscriptions.{children, on}
 use Rattle.ox_inscribe.specs.Signed.{is_cursed, is_vindicated, number_of}
@@ -38,14 +39,14 @@ mark_if marks worth text texts =
 -- the texts of marks, from the lowest bit on
 abbrev pub mark_texts : ℕ → List Data
 mark_texts marks =
-    mark_if marks 1 (codes "even") (
-    mark_if marks 2 (codes "repeated") (
-    mark_if marks 4 (codes "incomplete") (
-    mark_if marks 8 (codes "input") (
-    mark_if marks 16 (codes "offset") (
-    mark_if marks 32 (codes "pointer") (
-    mark_if marks 64 (codes "pushnum") (
-    mark_if marks 128 (codes "reinscription") [])))))))
+    mark_if marks mark.even (codes "even") (
+    mark_if marks mark.repeated (codes "repeated") (
+    mark_if marks mark.incomplete (codes "incomplete") (
+    mark_if marks mark.input (codes "input") (
+    mark_if marks mark.offset (codes "offset") (
+    mark_if marks mark.pointer (codes "pointer") (
+    mark_if marks mark.pushnum (codes "pushnum") (
+    mark_if marks mark.reinscription (codes "reinscription") [])))))))
 
 abbrev pub marks_tree : ℕ → Data
 marks_tree marks = array (items_of (mark_texts marks))

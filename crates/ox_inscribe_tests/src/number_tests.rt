@@ -2,13 +2,25 @@
 
 ghost use Rattle.std.specs.Prelude.{◌≡◌};
 
-use ox_envelope::{Ids, InsId};
+use ox_envelope::{Ids, InsId, mark};
 use ox_inscribe::{InsRow, SharedRow, Shelf};
 use std::alloc::Global;
 use std::process::Abort;
 
 /// Marked rows below this height are cursed.
 const JUBILEE: u64 = 10;
+
+/// All marks.
+const MARKS: [u16; 8] = [
+    mark::EVEN,
+    mark::REPEATED,
+    mark::INCOMPLETE,
+    mark::INPUT,
+    mark::OFFSET,
+    mark::POINTER,
+    mark::PUSHNUM,
+    mark::REINSCRIPTION,
+];
 
 /// A row of this height with these marks, and nothing else.
 fn row(rt: &impl Abort, alloc: Global, height: u32, marks: u16) -> SharedRow {
@@ -68,9 +80,9 @@ fn are_numbered(shelf: &Shelf, numbers: &[i64]) -> bool {
 fn five_rows(rt: &impl Abort, alloc: Global) -> Shelf {
     let mut shelf = Shelf::new(alloc, JUBILEE);
     put(rt, alloc, &mut shelf, 9, 0);
-    put(rt, alloc, &mut shelf, 9, 1);
-    put(rt, alloc, &mut shelf, 10, 1);
-    put(rt, alloc, &mut shelf, 9, 128);
+    put(rt, alloc, &mut shelf, 9, mark::EVEN);
+    put(rt, alloc, &mut shelf, 10, mark::EVEN);
+    put(rt, alloc, &mut shelf, 9, mark::REINSCRIPTION);
     put(rt, alloc, &mut shelf, 11, 0);
     shelf
 }
@@ -91,11 +103,10 @@ fn is_judged(rt: &impl Abort, alloc: Global, at: (u32, u16), judged: (bool, bool
 
 #[test]
 fn each_mark_alone_curses_below_the_jubilee(rt: HostRuntime) {
-    for bit in 0..8u16 {
-        let marks = 1u16 << bit;
-        assert!(rt; is_judged(&rt, rt.alloc(), (9, marks), (true, false)));
-        assert!(rt; is_judged(&rt, rt.alloc(), (10, marks), (false, true)));
-        assert!(rt; is_judged(&rt, rt.alloc(), (11, marks), (false, true)));
+    for mark in &MARKS {
+        assert!(rt; is_judged(&rt, rt.alloc(), (9, *mark), (true, false)));
+        assert!(rt; is_judged(&rt, rt.alloc(), (10, *mark), (false, true)));
+        assert!(rt; is_judged(&rt, rt.alloc(), (11, *mark), (false, true)));
     }
     assert!(rt; is_judged(&rt, rt.alloc(), (9, 0), (false, false)));
     assert!(rt; is_judged(&rt, rt.alloc(), (10, 0), (false, false)));
@@ -122,7 +133,7 @@ fn a_refused_append_changes_no_number(rt: HostRuntime) {
     let mut shelf = five_rows(&rt, rt.alloc());
     shelf.begin();
     shorten(&rt, &mut shelf, 2);
-    let more = row(&rt, rt.alloc(), 9, 1);
+    let more = row(&rt, rt.alloc(), 9, mark::EVEN);
     assert!(rt; shelf.len() == 3);
     assert!(rt; shelf.append(&[more]).is_err());
     assert!(rt; are_numbered(&shelf, &[0, -1, 1]));

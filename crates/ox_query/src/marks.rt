@@ -6,6 +6,7 @@ ghost use Rattle.ox_query.specs.Written.{AddsTokens, tokens_of, tokens_of_all};
 
 use json::Writer;
 use ox_bytes::Memory;
+use ox_envelope::mark;
 
 /// Writes a mark's text, if the bit of this worth is set.
 fn write_mark(out: &mut Writer, marks: u16, worth: u16, text: &str) -> Result<(), Memory>
@@ -24,13 +25,13 @@ pub(crate) fn write_marks(out: &mut Writer, marks: u16) -> Result<(), Memory>
     ensures { AddsTokens result out.old out.new (tokens_of (marks_tree marks)) }
 {
     out.begin_array()?;
-    write_mark(out, marks, 1, "even")?;
-    write_mark(out, marks, 2, "repeated")?;
-    write_mark(out, marks, 4, "incomplete")?;
-    write_mark(out, marks, 8, "input")?;
-    write_mark(out, marks, 16, "offset")?;
-    write_mark(out, marks, 32, "pointer")?;
-    write_mark(out, marks, 64, "pushnum")?;
-    write_mark(out, marks, 128, "reinscription")?;
+    write_mark(out, marks, mark::EVEN, "even")?;
+    write_mark(out, marks, mark::REPEATED, "repeated")?;
+    write_mark(out, marks, mark::INCOMPLETE, "incomplete")?;
+    write_mark(out, marks, mark::INPUT, "input")?;
+    write_mark(out, marks, mark::OFFSET, "offset")?;
+    write_mark(out, marks, mark::POINTER, "pointer")?;
+    write_mark(out, marks, mark::PUSHNUM, "pushnum")?;
+    write_mark(out, marks, mark::REINSCRIPTION, "reinscription")?;
     Ok(out.end_array()?)
 }

@@ -4,7 +4,7 @@ ghost use Rattle.std.specs.Prelude.{◌≡◌};
 
 use anyhow::bail;
 use ox_bytes::Bytes;
-use ox_envelope::{Ids, InsId};
+use ox_envelope::{Ids, InsId, mark};
 use ox_inscribe::{InsRow, Memory, SharedRow, Shelf};
 use std::alloc::Global;
 
@@ -78,7 +78,7 @@ fn row_of(alloc: Global, order: Order, number: u32) -> Result<InsRow, Memory> {
         pointer: None,
         delegate: None,
         parents,
-        marks: if number % MARKED == 0 { 1 } else { 0 },
+        marks: mark::bit(number % MARKED == 0, mark::EVEN),
         sat: Some(u64::from(number) * 2),
     })
 }
