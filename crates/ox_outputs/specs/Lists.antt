@@ -1,17 +1,9 @@
 -- Lists of places.
-use Rattle.std.specs.Prelude.{◌≡◌, ◌<◌, ℕ, ◌+◌, ◌*◌, ◌%◌, ◌^◌, ◌==◌, ◌&&◌, Bool, List, []}
-use Rattle.std.specs.Prelude.{length, slice_get, slice_index_or}
+use Rattle.std.specs.Prelude.{◌≡◌, ◌<◌, ℕ, ◌==◌, ◌&&◌, Bool, List, [], length, slice_get}
 use Rattle.std.specs.List.{list_any}
 use Rattle.std.specs.Option.{option_map_or}
 use Rattle.smallvec.specs.SmallVec.{SmallVec}
-use Rattle.ox_block.specs.declared.block.OutPoint.{OutPoint}
 use Rattle.ox_outputs.specs.declared.entry.Entry.{Entry}
-
--- a part of an outpoint: four bytes of the transaction's id, and the index
-abbrev pub tag : OutPoint → ℕ
-tag o = (slice_index_or o.txid.0 2 0 + slice_index_or o.txid.0 3 0 * 2 ^ 8
-    + slice_index_or o.txid.0 4 0 * 2 ^ 16 + slice_index_or o.txid.0 5 0 * 2 ^ 24 + o.index)
-    % 2 ^ 32
 
 -- the list with this index, or an empty one
 abbrev pub items_at : List (SmallVec Entry) → ℕ → List Entry

@@ -3,10 +3,10 @@ use Rattle.std.specs.Prelude.{◌≡◌, ◌⊎◌, ℕ, List, Option, Some, IsT
 use Rattle.std.specs.BTreeMap.{get}
 use Rattle.ox_block.specs.declared.block.OutPoint.{OutPoint}
 use Rattle.ox_rules.specs.Outputs.{outpoint_cmp}
-use Rattle.ox_shards.specs.Keys.{outpoint_shard}
+use Rattle.ox_block.specs.Keys.{outpoint_shard, outpoint_tag}
 use Rattle.ox_outputs.specs.declared.entry.Entry.{Entry}
 use Rattle.ox_outputs.specs.declared.places.Places.{Places}
-use Rattle.ox_outputs.specs.Lists.{tag, items_at, is_in}
+use Rattle.ox_outputs.specs.Lists.{items_at, is_in}
 use Rattle.ox_outputs.specs.Slots.{SlotList, outpoint_at}
 
 -- the list in which an outpoint's place may stand
@@ -20,7 +20,8 @@ other_at places at = get outpoint_cmp places.others at
 -- an outpoint's place is in its list or in the ordered map
 abbrev pub HasPlace : Places → OutPoint → ℕ → Type 0
 HasPlace places at place =
-    IsTrue (is_in (list_at places at) (tag at) place) ⊎ (other_at places at ≡ Some place)
+    IsTrue (is_in (list_at places at) (outpoint_tag at) place)
+    ⊎ (other_at places at ≡ Some place)
 
 -- The places are those of the slots, each of which has an outpoint of its own.
 pub record ArePlaced (places : Places) (slots : SlotList) : Type 0 where

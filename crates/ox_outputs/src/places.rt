@@ -5,7 +5,8 @@ ghost use Rattle.std.specs.Prelude.{true, false, if◌then◌else◌, length};
 ghost use Rattle.std.specs.BTreeMap.{is_at};
 ghost use Rattle.ox_rules.specs.Outputs.{outpoint_cmp};
 ghost use Rattle.ox_block.specs.declared.block.OutPoint.{OutPoint};
-ghost use Rattle.ox_outputs.specs.Lists.{tag, items_at, is_in, NoneOrAll};
+ghost use Rattle.ox_block.specs.Keys.{outpoint_tag};
+ghost use Rattle.ox_outputs.specs.Lists.{items_at, is_in, NoneOrAll};
 ghost use Rattle.ox_outputs.specs.Slots.{outpoint_at};
 
 use crate::entry::Entry;
@@ -77,7 +78,7 @@ impl Places {
 
     /// The first place, if any, that may be that of an outpoint's slot, which isn't looked at.
     pub(crate) fn candidate(&self, at: &OutPoint) -> Option<u32> {
-        let tag = tag_of(at);
+        let tag = at.tag();
         for entry in self.list_of(at) {
             if entry.tag == tag {
                 return Some(entry.place);
@@ -116,7 +117,7 @@ impl Places {
         ensure_lists(&mut self.lists, self.alloc)?;
         let list = &mut self.lists[at.shard()];
         if list.len() < MOST {
-            let tag = tag_of(&at);
+            let tag = at.tag();
             list.push(Entry { tag, place })?;
         } else {
             self.others.insert(at, place)?;
@@ -137,22 +138,13 @@ impl Places {
     }
 }
 
-/// The part of an outpoint that stands beside its place: four bytes of the transaction's id that
-/// don't say in which list it stands, and the index.
-fn tag_of(at: &OutPoint) -> u32
-    ensures { result ≡ tag at.now }
-{
-    let id = &at.txid.0;
-    u32::from_le_bytes([id[2], id[3], id[4], id[5]]).wrapping_add(at.index)
-}
-
 /// The place, of these, of the slot of an outpoint.
 fn place_in(list: &[Entry], held: &Held, at: &OutPoint) -> Option<u32>
     ensures some { IfSome result (λ place. outpoint_at held.now.slots place ≡ Some at.now) }
-    ensures none { IfNone result ((place : ℕ) → is_in list.now (tag at.now) place ≡ true
+    ensures none { IfNone result ((place : ℕ) → is_in list.now (outpoint_tag at.now) place ≡ true
         → outpoint_at held.now.slots place ≢ Some at.now) }
 {
-    let tag = tag_of(at);
+    let tag = at.tag();
     for entry in list {
         if entry.tag == tag && is_slot_of(held, entry.place, at) {
             return Some(entry.place);
