@@ -19,7 +19,7 @@ pub const BODY_KEPT: usize = 65_536;
 /// What a reply answers.
 #[derive(PartialEq, Eq, Hash, Drop)]
 struct Key {
-    // How many commands had been accepted.
+    /// How many commands had been accepted.
     commands: u64,
     path: Vec<u8>,
 }

@@ -30,8 +30,8 @@ pub(crate) struct Carried {
     pub(crate) told: Option<Bytes>,
 }
 
-// The store as it is, and what is told of a command that isn't carried out. The memory for a 409 is
-// taken once the store is as before.
+/// The store as it is, and what is told of a command that isn't carried out. The memory for a 409
+/// is taken once the store is as before.
 fn refuse(alloc: Global, kept: Kept, close: bool) -> Carried
     ensures store { result.store ≡ kept.store }
     ensures told { IfSome result.told (λ bytes. (cause : Cause)

@@ -9,8 +9,8 @@ use ox_http::{Method, Request};
 use ox_routes::{Route, Routes};
 use std::alloc::Global;
 
-// The command of a POST to a path: it connects the block that the body has, or takes the newest one
-// off.
+/// The command of a POST to a path: it connects the block that the body has, or takes the newest
+/// one off.
 fn command_at(
     alloc: Global,
     routes: &Routes,

@@ -33,14 +33,14 @@ const REPLIES_KEPT: usize = 64;
 /// are kept.
 pub struct StoreDesk {
     alloc: Global,
-    // A fault of the disk takes it.
+    /// A fault of the disk takes it.
     store: Option<Store>,
     routes: Routes,
     cache: Cache,
     requests: u64,
 }
 
-// By hand, so that whoever drops a desk makes one call, and proves nothing of its fields.
+/// By hand, so that whoever drops a desk makes one call, and proves nothing of its fields.
 impl Drop for StoreDesk {
     fn drop(self) {
         let StoreDesk {
@@ -95,7 +95,7 @@ impl StoreDesk {
         })
     }
 
-    // Answers a GET, from the replies that are kept. `Memory` where there is none for it.
+    /// Answers a GET, from the replies that are kept. `Memory` where there is none for it.
     fn look_up(&mut self, request: &Request) -> Result<Bytes, Memory>
         requires get { request.now.method ≡ methods.Get }
         requires is_open { IsTrue self.old.is_open }
@@ -111,7 +111,7 @@ impl StoreDesk {
         Ok(bytes)
     }
 
-    // Answers a request that is no GET, and no command. `Memory` where there is none for it.
+    /// Answers a request that is no GET, and no command. `Memory` where there is none for it.
     fn tell(&mut self, request: &Request) -> Result<Bytes, Memory>
         requires no_get { request.now.method ≢ methods.Get }
         requires is_open { IsTrue self.old.is_open }
@@ -127,8 +127,8 @@ impl StoreDesk {
         Ok(bytes)
     }
 
-    // Answers a request that carries out nothing, or gives its command. `Memory` where there is
-    // none for it.
+    /// Answers a request that carries out nothing, or gives its command. `Memory` where there is
+    /// none for it.
     fn step(&mut self, request: &Request, operator: bool) -> Result<Step, Memory>
         requires is_open { IsTrue self.old.is_open }
         requires room { self.old.requests < greatest }
@@ -144,8 +144,8 @@ impl StoreDesk {
         }
     }
 
-    // Carries out a command, and makes the reply. A fault of the disk takes the store; where there
-    // is no memory for the command or the reply nothing has changed.
+    /// Carries out a command, and makes the reply. A fault of the disk takes the store; where there
+    /// is no memory for the command or the reply nothing has changed.
     fn carry_out<S: Site>(
         &mut self,
         site: &mut S,

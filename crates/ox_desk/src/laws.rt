@@ -37,7 +37,7 @@ pub fn doors_answer_alike()
         → server_on.reply stack true request ≡ server_on.reply stack false request }
 {}
 
-// A machine and the stack that it has.
+/// A machine and the stack that it has.
 struct Stacked;
 
 impl Likeness for Stacked {

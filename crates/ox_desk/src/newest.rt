@@ -36,7 +36,7 @@ impl Rooms {
     }
 }
 
-// Puts the body that tells a block. A hash is printed in reversed order.
+/// Puts the body that tells a block. A hash is printed in reversed order.
 #[tactic(auto, unfolding(ox_rules::specs::Text::hash_text))]
 fn put_block(room: &mut Room, height: u32, hash: [u8; 32])
     requires { 95 ≤ room.old.spare }
@@ -56,7 +56,7 @@ fn put_block(room: &mut Room, height: u32, hash: [u8; 32])
     room.put(b"}");
 }
 
-// Puts the body that tells the newest block, or that there is none.
+/// Puts the body that tells the newest block, or that there is none.
 fn put_newest(room: &mut Room, tip: Option<(u32, [u8; 32])>)
     requires { 95 ≤ room.old.spare }
     ensures filled { room.new.filled ≡ room.old.filled ++ compact_text (newest_tree tip) }

@@ -19,7 +19,7 @@ pub(crate) fn hash_is_plain(_hash: &[u8])
     ensures { IsPlain (hash_text _hash.now) }
 {}
 
-// Nor do those of two.
+/// Nor do those of two.
 fn hashes_are_plain(have: &[u8; 32], want: &[u8; 32])
     ensures { IsPlain (hash_text have.now) × IsPlain (hash_text want.now) }
 {
@@ -27,7 +27,7 @@ fn hashes_are_plain(have: &[u8; 32], want: &[u8; 32])
     hash_is_plain(want);
 }
 
-// Nor does what an outpoint has.
+/// Nor does what an outpoint has.
 fn outpoint_is_plain(at: &OutPoint)
     ensures { IsPlain (hash_text at.now.txid.0) × IsPlain (decimal at.now.index) }
 {

@@ -11,8 +11,8 @@ use ox_http::{ReplyParts, write_parts};
 use ox_model::Refusal;
 use std::alloc::Global;
 
-// The body: a JSON object that has the refusal's number and values, which its line tells between
-// `refused ` and the line feed.
+/// The body: a JSON object that has the refusal's number and values, which its line tells between
+/// `refused ` and the line feed.
 fn refused_body(alloc: Global, refusal: Refusal) -> Result<Bytes, Memory>
     ensures { IfOk result (λ body. body ≡ compact_text (refused_tree refusal)) }
 {

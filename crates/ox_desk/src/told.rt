@@ -25,7 +25,7 @@ pub(crate) enum Step {
     Carries(Command),
 }
 
-// The reply of a store's stack.
+/// The reply of a store's stack.
 fn reply_to(
     alloc: Global,
     routes: &Routes,

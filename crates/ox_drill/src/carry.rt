@@ -14,7 +14,7 @@ use ox_outside::Site;
 use ox_store::{Kept, Store, Why};
 use std::alloc::Global;
 
-// Carries out a command. A refused one leaves the store as it is.
+/// Carries out a command. A refused one leaves the store as it is.
 fn carry<S: Site>(store: Store, command: &Command, site: &mut S) -> Result<Store, DrillFault>
     requires in_step { IsTrue (S.told site.old) → InStep S.Site store site.old }
     requires few { store.commands < 2 ^ 64 - 1 }
@@ -30,7 +30,7 @@ fn carry<S: Site>(store: Store, command: &Command, site: &mut S) -> Result<Store
     }
 }
 
-// Connects the block of the next height.
+/// Connects the block of the next height.
 fn connect_next<S: Site>(
     alloc: Global,
     store: Store,

@@ -26,7 +26,7 @@ const DEPTH: u16 = 100;
 /// How many of the newest blocks are taken back at most.
 const NEWEST: u32 = 10;
 
-// Makes the store of a drill.
+/// Makes the store of a drill.
 fn make_store<S: Site>(alloc: Global, site: &mut S) -> Result<Store, DrillFault>
     ensures { Makes S.Site result site.old site.new }
 {
@@ -34,8 +34,8 @@ fn make_store<S: Site>(alloc: Global, site: &mut S) -> Result<Store, DrillFault>
     Ok(store)
 }
 
-// Carries out the commands of a drill of n blocks. The newest blocks are made again from what they
-// stand behind, so no bytes are kept for it.
+/// Carries out the commands of a drill of n blocks. The newest blocks are made again from what they
+/// stand behind, so no bytes are kept for it.
 fn carry_all<S: Site>(
     alloc: Global,
     store: Store,

@@ -29,7 +29,7 @@ pub struct Counts {
     pub burned: u128,
 }
 
-// What the mints of all runes gave. `Memory` where it passes 128 bits.
+/// What the mints of all runes gave. `Memory` where it passes 128 bits.
 fn minted(runes: &[RuneAudit]) -> Result<u128, Memory>
     ensures { IfOk result (λ sum. sum ≡ minted_in runes.now) }
 {
@@ -40,7 +40,7 @@ fn minted(runes: &[RuneAudit]) -> Result<u128, Memory>
     Ok(sum)
 }
 
-// What was burned of all runes. `Memory` where it passes 128 bits.
+/// What was burned of all runes. `Memory` where it passes 128 bits.
 fn burned(runes: &[RuneAudit]) -> Result<u128, Memory>
     ensures { IfOk result (λ sum. sum ≡ burned_in runes.now) }
 {
@@ -51,8 +51,8 @@ fn burned(runes: &[RuneAudit]) -> Result<u128, Memory>
     Ok(sum)
 }
 
-// What an index of regtest counts. `Memory` where there is none for the audit, and where a sum over
-// all runes passes 128 bits.
+/// What an index of regtest counts. `Memory` where there is none for the audit, and where a sum
+/// over all runes passes 128 bits.
 fn count(live: &Live) -> Result<Counts, Memory>
     requires { profile_in live.now ≡ profile_named Regtest }
     ensures { IfOk result (λ counts. counts ≡ counts_of (index_in live.now)) }
@@ -68,7 +68,7 @@ fn count(live: &Live) -> Result<Counts, Memory>
     })
 }
 
-// The parts of the line.
+/// The parts of the line.
 fn satoshis_text(alloc: Global, n: u32, counts: &Counts) -> Result<String, AllocError>
     ensures { IfOk result (λ text. string_bytes text ≡ satoshis_part n counts.now) }
 {
@@ -93,7 +93,7 @@ fn amounts_text(alloc: Global, counts: &Counts) -> Result<String, AllocError>
     Ok(format!(in alloc; "{minted} burned {burned}")?)
 }
 
-// The line of these counts.
+/// The line of these counts.
 #[tactic(auto, unfolding(crate::specs::Line::counts_line))]
 fn counts_text(alloc: Global, n: u32, counts: &Counts) -> Result<String, AllocError>
     ensures { IfOk result (λ text. string_bytes text ≡ counts_line n counts.now) }

@@ -75,9 +75,9 @@ struct StartLine<'h> {
 #[derive(Clone, Copy)]
 enum BodyLength {
     Untold,
-    // A length, or one more than the most that a body may have, where that is less.
+    /// A length, or one more than the most that a body may have, where that is less.
     Told(usize),
-    // A length that is none, or two that differ.
+    /// A length that is none, or two that differ.
     Unclear,
 }
 

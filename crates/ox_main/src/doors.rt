@@ -7,8 +7,8 @@ use std::io::ErrorKind;
 use std::net::{Net, SocketAddr, TcpListener, TcpStream};
 use std::rt::Clock;
 
-// Listens at an address: of four numbers and a port, as in `127.0.0.1:8080`, or of the sixth
-// version, as in `[::1]:8080`.
+/// Listens at an address: of four numbers and a port, as in `127.0.0.1:8080`, or of the sixth
+/// version, as in `[::1]:8080`.
 fn listener<R: Net<Listener = TcpListener, Stream = TcpStream>>(
     rt: &R,
     address: &[u8],

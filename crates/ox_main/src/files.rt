@@ -52,7 +52,7 @@ impl FilePair {
         Ok(pair)
     }
 
-    // The file of this letter.
+    /// The file of this letter.
     fn file(&self, file: Which) -> &File
         ensures first { file ≡ A → result.now ≡ self.now.a }
         ensures second { file ≡ B → result.now ≡ self.now.b }
@@ -86,8 +86,8 @@ impl FilePair {
     }
 }
 
-// Whether the file's number is none of the three of the standard streams. It is one of them where
-// that stream was closed when the file was opened.
+/// Whether the file's number is none of the three of the standard streams. It is one of them where
+/// that stream was closed when the file was opened.
 fn is_apart(file: &File) -> bool
     ensures { IsTrue result ↔ IsApart file.now }
 {

@@ -30,7 +30,7 @@ fn main(rt: HostRuntime) -> ExitCode {
     ExitCode::from(ended(&rt, rt.alloc(), rt.stdin(), rt.stdout()).code())
 }
 
-// How the program ends with this input and output.
+/// How the program ends with this input and output.
 fn ended<R>(rt: &R, alloc: Global, input: Stdin, output: Stdout) -> Status
 where
     R: Env + Files<File = File> + Net<Listener = TcpListener, Stream = TcpStream> + Clock,
@@ -54,7 +54,7 @@ where
     run(alloc, others, &mut site)
 }
 
-// Opens the doors at these addresses, if there are any. Whether that worked.
+/// Opens the doors at these addresses, if there are any. Whether that worked.
 fn opens<'a, R>(
     rt: &'a R,
     alloc: Global,

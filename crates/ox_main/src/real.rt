@@ -79,7 +79,7 @@ impl<C: Clock + Drop> RealSite<C> {
         self.links = Some(links);
     }
 
-    // Counts a failure of a call on a file.
+    /// Counts a failure of a call on a file.
     fn disk_failed(&mut self) -> Failed
         ensures rose { Rose self.old.disk_faults self.new.disk_faults }
         ensures no_less { self.old.disk_faults ≤ self.new.disk_faults }
@@ -97,7 +97,7 @@ impl<C: Clock + Drop> RealSite<C> {
         Failed
     }
 
-    // What a link gives into the room. `Failed` where there is no such link.
+    /// What a link gives into the room. `Failed` where there is no such link.
     fn link_hears(&mut self, channel: u32, into: &mut [u8]) -> Result<Heard, Failed>
         requires room { 1 ≤ length into.old }
         ensures within { HeardWithin (length into.old) result }
@@ -110,7 +110,7 @@ impl<C: Clock + Drop> RealSite<C> {
         }
     }
 
-    // What a link takes of a piece. `Failed` where there is no such link.
+    /// What a link takes of a piece. `Failed` where there is no such link.
     fn link_takes(&mut self, channel: u32, bytes: &[u8]) -> Result<Shown, Failed>
         requires piece { 1 ≤ length bytes.now }
         ensures within { ShownWithin (length bytes.now) result }
@@ -122,7 +122,7 @@ impl<C: Clock + Drop> RealSite<C> {
         }
     }
 
-    // Who waits at a door. Where there are no doors, nobody.
+    /// Who waits at a door. Where there are no doors, nobody.
     fn comes(&mut self, door: Doorway) -> Result<Option<u32>, Failed>
         ensures number { IsLinkNumber result }
         ensures counts { SameTally self.old self.new }
@@ -134,7 +134,7 @@ impl<C: Clock + Drop> RealSite<C> {
     }
 }
 
-// What a reader gives into the room, tried again where a signal came between.
+/// What a reader gives into the room, tried again where a signal came between.
 fn heard<R: Read>(input: &mut R, into: &mut [u8]) -> Option<usize>
     ensures { IfSome result (λ n. n ≤ length into.new) }
 {
@@ -148,7 +148,7 @@ fn heard<R: Read>(input: &mut R, into: &mut [u8]) -> Option<usize>
     None
 }
 
-// What a writer takes of the bytes, at least one.
+/// What a writer takes of the bytes, at least one.
 fn shown<W: Write>(output: &mut W, bytes: &[u8]) -> Option<usize>
     ensures { IfSome result (λ n. (1 ≤ n) × (n ≤ length bytes.now)) }
 {

@@ -4,7 +4,7 @@ use ox_bytes::{Bytes, Memory};
 use std::alloc::Global;
 use std::env::{Env, FillError};
 
-// Whether there is a word of this place.
+/// Whether there is a word of this place.
 fn has_word(env: &impl Env, place: usize) -> bool {
     let mut room = [0u8; 0];
     match env.arg(place, &mut room[..]) {
@@ -14,7 +14,7 @@ fn has_word(env: &impl Env, place: usize) -> bool {
     }
 }
 
-// Whether the word behind the folder is `serve`.
+/// Whether the word behind the folder is `serve`.
 fn serves(env: &impl Env) -> bool {
     let mut room = [0u8; 5];
     match env.arg(2, &mut room[..]) {
@@ -53,7 +53,7 @@ pub fn words_of(env: &impl Env, alloc: Global) -> Result<Vec<Bytes>, Memory> {
     Ok(words)
 }
 
-// One word, read into room that doubles until the word fits.
+/// One word, read into room that doubles until the word fits.
 fn word_at(env: &impl Env, alloc: Global, place: usize) -> Result<Option<Bytes>, Memory> {
     let mut size = 256usize;
     for _ in 0..usize::BITS {

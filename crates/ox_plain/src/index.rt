@@ -26,7 +26,7 @@ pub struct Index {
     pub runes: List<RuneRow>,
 }
 
-// By hand, so that whoever drops an index makes one call, and proves nothing of its fields.
+/// By hand, so that whoever drops an index makes one call, and proves nothing of its fields.
 impl Drop for Index {
     fn drop(self) {
         let Index {

@@ -42,7 +42,7 @@ pub enum Next {
 pub struct Stream {
     alloc: Global,
     bytes: Buffer,
-    // so many of the bytes hold no blank line
+    /// So many of the bytes hold no blank line.
     looked: usize,
     head: Option<Known>,
 }

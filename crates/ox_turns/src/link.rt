@@ -53,7 +53,7 @@ pub(crate) enum Next {
     Over,
 }
 
-// Hears a link of which nothing is due.
+/// Hears a link of which nothing is due.
 fn hear<S: Site>(slot: &mut Slot, room: &mut [u8], site: &mut S) -> Came
     requires none { slot.old.session.due ≡ [] }
     requires room { 1 ≤ length room.old }
@@ -79,7 +79,7 @@ fn hear<S: Site>(slot: &mut Slot, room: &mut [u8], site: &mut S) -> Came
     }
 }
 
-// Shows what is due.
+/// Shows what is due.
 fn show<S: Site>(slot: &mut Slot, site: &mut S) -> Came
     requires some { 1 ≤ length slot.old.session.due }
     requires there { ForSome (S.log site.old) (λ log. IsTrue (is_there slot.old.channel log)) }
@@ -107,8 +107,8 @@ fn show<S: Site>(slot: &mut Slot, site: &mut S) -> Came
     }
 }
 
-// The one call on the channel: what is due is shown, and before it is wholly taken nothing is
-// heard.
+/// The one call on the channel: what is due is shown, and before it is wholly taken nothing is
+/// heard.
 fn call<S: Site>(slot: &mut Slot, room: &mut [u8], site: &mut S) -> Came
     requires room { 1 ≤ length room.old }
     requires there { ForSome (S.log site.old) (λ log. IsTrue (is_there slot.old.channel log)) }
@@ -129,7 +129,7 @@ fn call<S: Site>(slot: &mut Slot, room: &mut [u8], site: &mut S) -> Came
     }
 }
 
-// Asks the desk what the session asks.
+/// Asks the desk what the session asks.
 fn ask<S: Site, D: Desk<S>>(
     slot: &mut Slot,
     request: &Request,
@@ -167,8 +167,8 @@ fn ask<S: Site, D: Desk<S>>(
     }
 }
 
-// Asks the session, and the desk what it asks. Once is enough: then the session waits, is over or
-// has an answer due.
+/// Asks the session, and the desk what it asks. Once is enough: then the session waits, is over or
+/// has an answer due.
 fn answer<S: Site, D: Desk<S>>(slot: &mut Slot, site: &mut S, desk: &mut D) -> Result<Next, Failed>
     requires rests { D.rests desk.old site.old }
     requires room { D.asked desk.old < greatest }
@@ -201,7 +201,7 @@ fn answer<S: Site, D: Desk<S>>(slot: &mut Slot, site: &mut S, desk: &mut D) -> R
     }
 }
 
-// Says that the link met want of memory; the reply to that is due, and the link ends with it.
+/// Says that the link met want of memory; the reply to that is due, and the link ends with it.
 fn give_up<S: Site>(slot: &mut Slot, site: &mut S)
     requires taken { slot.old.session.due ≡ [] }
     requires open { ForSome (S.log site.old) (λ log. IsTrue (is_open slot.old.channel log)) }

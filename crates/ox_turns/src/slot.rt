@@ -18,7 +18,7 @@ pub(crate) struct Slot {
     ghost link: { 1 ≤ channel },
 }
 
-// By hand, so that whoever drops a slot makes one call, and proves nothing of its session.
+/// By hand, so that whoever drops a slot makes one call, and proves nothing of its session.
 impl Drop for Slot {
     fn drop(self) {
         let Slot {

@@ -26,10 +26,10 @@ use ox_outside::{Doorway, Site};
 use std::alloc::{AllocError, Global};
 use std::marker::Model;
 
-// The slots.
+/// The slots.
 const SLOTS: usize = 32;
 
-// The places of the rotation: both doors, and the slots.
+/// The places of the rotation: both doors, and the slots.
 const PLACES: usize = 34;
 
 /// Why a turn came to no end.
@@ -49,7 +49,7 @@ pub struct Turns {
     room: Vec<u8>,
 }
 
-// By hand, so that whoever drops them makes one call, and proves nothing of their slots.
+/// By hand, so that whoever drops them makes one call, and proves nothing of their slots.
 impl Drop for Turns {
     fn drop(self) {
         let Turns {
@@ -76,14 +76,14 @@ impl Model for Turns {
         × ((at : ℕ) (slot : Slot) → Holds t.slots.items at slot → IsReady slot.session) };
 }
 
-// The room of a hearing.
+/// The room of a hearing.
 fn room(alloc: Global) -> Result<Vec<u8>, AllocError>
     ensures { IfOk result (λ room. vec_len room ≡ 65536) }
 {
     vec![in alloc; 0u8; 65_536]
 }
 
-// Slots without a link.
+/// Slots without a link.
 fn no_links(alloc: Global) -> Result<Vec<Option<Slot>>, AllocError>
     ensures { IfOk result (λ slots. slots.items ≡ replicate 32 None) }
 {
@@ -94,7 +94,7 @@ fn no_links(alloc: Global) -> Result<Vec<Option<Slot>>, AllocError>
     Ok(slots)
 }
 
-// The door of a place of the rotation: the public one's is 0, the operator's 1.
+/// The door of a place of the rotation: the public one's is 0, the operator's 1.
 fn door_at(place: usize) -> Doorway
     ensures public { place ≡ 0 → result ≡ Doorway.Public }
     ensures operator { place ≢ 0 → result ≡ Doorway.Operator }
@@ -106,7 +106,7 @@ fn door_at(place: usize) -> Doorway
     }
 }
 
-// Puts a link into a slot, or none.
+/// Puts a link into a slot, or none.
 fn put(slots: &mut Vec<Option<Slot>>, at: usize, slot: Option<Slot>)
     requires { at < vec_len slots.old }
     ensures items { slots.new.items ≡ set slots.old.items at slot }
@@ -132,7 +132,7 @@ impl Turns {
         })
     }
 
-    // The lowest slot that has no link.
+    /// The lowest slot that has no link.
     fn free(&self) -> Option<usize>
         ensures { IsLowestFree self.now.slots result }
     {
@@ -144,8 +144,8 @@ impl Turns {
         None
     }
 
-    // Whether a place of the rotation isn't passed over: a door where a slot is free, a slot where
-    // it has a link.
+    /// Whether a place of the rotation isn't passed over: a door where a slot is free, a slot where
+    /// it has a link.
     fn is_on(&self, place: usize) -> bool
         requires { place < 34 }
         ensures { result
@@ -158,7 +158,7 @@ impl Turns {
         }
     }
 
-    // The first place from this one on that isn't passed over.
+    /// The first place from this one on that isn't passed over.
     fn first_from(&self, place: usize) -> Option<usize>
         requires within { place ≤ 34 }
         requires many { length self.now.slots ≡ 32 }
@@ -173,8 +173,8 @@ impl Turns {
         None
     }
 
-    // Whose turn it is, by its place: the first from this place on and round. There always is one,
-    // since a door isn't passed over where a slot is free.
+    /// Whose turn it is, by its place: the first from this place on and round. There always is one,
+    /// since a door isn't passed over where a slot is free.
     fn next(&self) -> usize
         ensures next { IsNext (channels_of self.now.slots) self.now.place result }
         ensures within { result < 34 }
@@ -188,7 +188,7 @@ impl Turns {
         }
     }
 
-    // A link takes the lowest free slot.
+    /// A link takes the lowest free slot.
     fn seat(&mut self, channel: u32, door: Doorway)
         requires number { 1 ≤ channel }
         requires free { list_any is_free (channels_of self.old.slots) ≡ true }
@@ -204,7 +204,7 @@ impl Turns {
         }
     }
 
-    // The turn of a door. `DoorFault` where it failed.
+    /// The turn of a door. `DoorFault` where it failed.
     fn turn_of_door<S: Site>(&mut self, door: Doorway, site: &mut S) -> Result<(), TurnFault>
         requires free { list_any is_free (channels_of self.old.slots) ≡ true }
         ensures comes { OnOk result (
@@ -227,7 +227,7 @@ impl Turns {
         }
     }
 
-    // The turn of a slot that has a link. `DiskFault` where a call on a file failed.
+    /// The turn of a slot that has a link. `DiskFault` where a call on a file failed.
     fn turn_of_slot<S: Site, D: Desk<S>>(
         &mut self,
         at: usize,
@@ -283,7 +283,7 @@ impl Turns {
         }
     }
 
-    // The turn of this place of the rotation.
+    /// The turn of this place of the rotation.
     fn turn_at<S: Site, D: Desk<S>>(
         &mut self,
         at: usize,
