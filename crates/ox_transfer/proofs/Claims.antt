@@ -20,9 +20,9 @@ use Rattle.ox_rules.specs.Outputs.{Outputs, sats_of, times}
 use Rattle.ox_rules.specs.Transfer.{or_refuse, txid_of, Placed, place_rows, values_of, Spent, spend_all, Transferred, claimed_by, claimable_sats, claim, transfer_of}
 use Rattle.ox_rules.proofs.Conservation.{times-append, times_held, deal_keeps, place_keeps, bind_ok}
 use Rattle.ox_rules.proofs.Transfers.{spend_all_keeps, claim_keeps, counts_numbers}
-use Rattle.ox_transfer.specs.declared.fault.TransferFault.{TransferFault}
-use Rattle.ox_transfer.specs.declared.fault.TransferFault.TheVariants.{Refused, Memory}
-use Rattle.ox_transfer.specs.Answer.{Refuses}
+use Rattle.ox_rules.specs.declared.why.Why.{Why}
+use Rattle.ox_rules.specs.declared.why.Why.TheVariants.{Refused, Memory}
+use Rattle.ox_rules.specs.Why.{Refuses}
 use Rattle.ox_transfer.specs.Apart.{at_most, HoldsOnce, Apart}
 use Rattle.ox_transfer.specs.Parts.{values, placed_of}
 use Rattle.ox_transfer.proofs.Once.{fits, apart_fits, apart_less, at_most_more}
@@ -109,7 +109,7 @@ apart_all bound height txs outs spent is holds = record {
   once = λ sat. omega (arith, (spend_all_keeps sat height 1 txs outs spent is).keeps, holds.once sat, times_held sat outs, times_held sat spent.outs, times-append sat spent.lost spent.fees);
 }
 
-pub unspent : (p : Profile) (height : ℕ) (txs others : List Tx) (coinbase : Tx) (outs : Outputs) (fault : TransferFault) → txs ≡ coinbase ∷ others → Refuses fault (spend_all height 1 others outs) → Refuses fault (transfer_of p height txs outs)
+pub unspent : (p : Profile) (height : ℕ) (txs others : List Tx) (coinbase : Tx) (outs : Outputs) (fault : Why) → txs ≡ coinbase ∷ others → Refuses fault (spend_all height 1 others outs) → Refuses fault (transfer_of p height txs outs)
 unspent p height txs others coinbase outs Memory is refused = tt
 unspent p height txs others coinbase outs (Refused refusal) is refused =
     ap (λ (l : List Tx). transfer_of p height l outs) is ∙ ap (λ (r : Result Spent Refusal). r >>= claim p height coinbase) refused

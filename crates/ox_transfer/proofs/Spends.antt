@@ -16,9 +16,9 @@ use Rattle.ox_rules.specs.Outputs.{Outputs, sats_of, times}
 use Rattle.ox_rules.specs.Transfer.{or_refuse, txid_of, Taken, take_rows, Placed, place_rows, values_of, Spent, spent_by, spend, spend_all}
 use Rattle.ox_rules.proofs.Conservation.{times-append, times_held, deal_keeps, take_keeps, bind_ok}
 use Rattle.ox_rules.proofs.Transfers.{spend_keeps}
-use Rattle.ox_transfer.specs.declared.fault.TransferFault.{TransferFault}
-use Rattle.ox_transfer.specs.declared.fault.TransferFault.TheVariants.{Refused, Memory}
-use Rattle.ox_transfer.specs.Answer.{Refuses}
+use Rattle.ox_rules.specs.declared.why.Why.{Why}
+use Rattle.ox_rules.specs.declared.why.Why.TheVariants.{Refused, Memory}
+use Rattle.ox_rules.specs.Why.{Refuses}
 use Rattle.ox_transfer.specs.Apart.{Apart}
 use Rattle.ox_transfer.specs.Parts.{values, taken_of, placed_of, behind, all_behind}
 use Rattle.ox_transfer.proofs.Once.{apart_fits, apart_less}
@@ -37,7 +37,7 @@ overspent height place tx outs taken took short =
     ap (λ (r : Result Taken Refusal). r >>= onward) took ∙ ap (λ (d : Option (List (List ℕ) × List ℕ)). or_refuse (Overspend place (length (sats_of taken.rows)) (sum (values_of tx))) d >>= λ dealt. Ok (spent_by height tx taken dealt)) (deal_short (sats_of taken.rows) (values_of tx) short)
 
 -- an input that names no row
-pub untaken : (height place : ℕ) (tx : Tx) (outs : Outputs) (before : Spent) (fault : TransferFault) → Refuses fault (take_rows place 0 tx.inputs outs) → Refuses fault (all_behind before (spend height place tx outs))
+pub untaken : (height place : ℕ) (tx : Tx) (outs : Outputs) (before : Spent) (fault : Why) → Refuses fault (take_rows place 0 tx.inputs outs) → Refuses fault (all_behind before (spend height place tx outs))
 untaken height place tx outs before Memory refused = tt
 untaken height place tx outs before (Refused refusal) refused =
     let onward : Taken → Result Spent Refusal = λ taken. or_refuse (Overspend place (length (sats_of taken.rows)) (sum (values_of tx))) (deal (sats_of taken.rows) (values_of tx)) >>= λ dealt. Ok (spent_by height tx taken dealt) in
@@ -140,7 +140,7 @@ refused_alone : (before : Spent) (refusal : Refusal) (answer : Result Spent Refu
 refused_alone before refusal (Ok next) is = absurd (cc is)
 refused_alone before refusal (Err other) is = cc
 
-pub spend_fails : (height i : ℕ) (txs : List Tx) (tx : Tx) (before : Spent) (fault : TransferFault) (whole : Result Spent Refusal) → i < length txs → tx ≡ get_or txs i tx → Refuses fault (all_behind before (spend height (i + 1) tx before.outs)) → whole ≡ all_behind before (spend_all height (i + 1) (drop i txs) before.outs) → Refuses fault whole
+pub spend_fails : (height i : ℕ) (txs : List Tx) (tx : Tx) (before : Spent) (fault : Why) (whole : Result Spent Refusal) → i < length txs → tx ≡ get_or txs i tx → Refuses fault (all_behind before (spend height (i + 1) tx before.outs)) → whole ≡ all_behind before (spend_all height (i + 1) (drop i txs) before.outs) → Refuses fault whole
 spend_fails height i txs tx before Memory whole lt here refused so_far = tt
 spend_fails height i txs tx before (Refused refusal) whole lt here refused so_far =
     let front : drop i txs ≡ tx ∷ drop (i + 1) txs = drop_more txs i tx lt ∙ ap (λ (x : Tx). x ∷ drop (i + 1) txs) (sym here) in

@@ -11,9 +11,9 @@ use Rattle.ox_rules.specs.declared.refusal.Refusal.{Refusal}
 use Rattle.ox_rules.specs.declared.refusal.Refusal.TheVariants.{UnknownOutput}
 use Rattle.ox_rules.specs.Outputs.{Outputs, sats_of}
 use Rattle.ox_rules.specs.Transfer.{or_refuse, Taken, take_rows}
-use Rattle.ox_transfer.specs.declared.fault.TransferFault.{TransferFault}
-use Rattle.ox_transfer.specs.declared.fault.TransferFault.TheVariants.{Refused, Memory}
-use Rattle.ox_transfer.specs.Answer.{Refuses}
+use Rattle.ox_rules.specs.declared.why.Why.{Why}
+use Rattle.ox_rules.specs.declared.why.Why.TheVariants.{Refused, Memory}
+use Rattle.ox_rules.specs.Why.{Refuses}
 use Rattle.ox_transfer.specs.Apart.{Apart}
 use Rattle.ox_transfer.proofs.Once.{apart_fits, apart_take}
 use Rattle.ox_transfer.specs.Parts.{taken_of}
@@ -37,7 +37,7 @@ take_more tx i inputs outs left rows all input row whole lt here found without g
     let one : whole ≡ behind_rows (rows ++ row ∷ []) (rest (remove outs input.from)) = so_far ∙ (ap (λ (xs : List TxIn). behind_rows rows (take_rows tx i xs outs)) front ∙ (ap (λ (r : Result OutRow Refusal). behind_rows rows (r >>= λ row. rest (remove outs input.from) >>= λ rest. Ok (taken_of (row ∷ rest.rows) rest.outs))) found ∙ regroup rows row (rest (remove outs input.from)))) in
     one ∙ (ap (λ (outs : Outputs). behind_rows (rows ++ row ∷ []) (rest outs)) (sym without) ∙ ap (λ (rows : List OutRow). behind_rows rows (rest left)) (sym grown))
 
-pub take_fails : (tx i : ℕ) (inputs : List TxIn) (outs : Outputs) (rows : List OutRow) (input : TxIn) (fault : TransferFault) (whole : Result Taken Refusal) → i < length inputs → input ≡ get_or inputs i input → Refuses fault (or_refuse (UnknownOutput tx i input.from) (get outs input.from)) → whole ≡ behind_rows rows (take_rows tx i (drop i inputs) outs) → Refuses fault whole
+pub take_fails : (tx i : ℕ) (inputs : List TxIn) (outs : Outputs) (rows : List OutRow) (input : TxIn) (fault : Why) (whole : Result Taken Refusal) → i < length inputs → input ≡ get_or inputs i input → Refuses fault (or_refuse (UnknownOutput tx i input.from) (get outs input.from)) → whole ≡ behind_rows rows (take_rows tx i (drop i inputs) outs) → Refuses fault whole
 take_fails tx i inputs outs rows input Memory whole lt here refused so_far = tt
 take_fails tx i inputs outs rows input (Refused refusal) whole lt here refused so_far =
     let front : drop i inputs ≡ input ∷ drop (i + 1) inputs = drop_more inputs i input lt ∙ ap (λ (x : TxIn). x ∷ drop (i + 1) inputs) (sym here) in

@@ -1,21 +1,12 @@
 //! Satoshis dealt to outputs.
 
-ghost use Rattle.std.specs.Prelude.{◌≡◌, ◌≤◌, length, reverse, sum, sum_by, Some, IfOk};
-ghost use Rattle.ox_block.specs.Spelling.{most_value};
+ghost use Rattle.std.specs.Prelude.{◌≡◌, ◌≤◌, length, reverse, sum, Some, IfOk};
 ghost use Rattle.ox_rules.specs.Deal.{deal};
 ghost use Rattle.ox_transfer.specs.Parts.{values};
 
 use ox_block::TxOut;
 use ox_range::Ranges;
 use ox_rules::Memory;
-
-/// The satoshis of all outputs together.
-pub(crate) fn value_sum(outputs: &[TxOut]) -> u64
-    requires { sum_by (λ output. output.value) outputs.now ≤ most_value }
-    ensures { result ≡ sum (values outputs.now) }
-{
-    outputs.iter().map(|output| output.value).sum()
-}
 
 /// Deals satoshis to the outputs, which have `total` of them together, and answers what is left
 /// over. The outputs' parts, the last output's first, take the place of what `parts` held. It goes

@@ -3,12 +3,10 @@
 #![tactic(auto)]
 
 mod deal;
-mod fault;
 mod moving;
 mod place;
 mod so_far;
 mod spend;
 mod take;
 
-pub use fault::TransferFault;
 pub use moving::transfer;

@@ -6,19 +6,21 @@ ghost use Rattle.ox_sat.specs.Heights.{first_at};
 ghost use Rattle.ox_block.specs.Hashes.{txid};
 ghost use Rattle.ox_block.specs.Spelling.{Lawful};
 ghost use Rattle.ox_rules.specs.Transfer.{claim, transfer_of};
-ghost use Rattle.ox_transfer.specs.Answer.{Answers, Refuses};
+ghost use Rattle.ox_rules.specs.Why.{Refuses};
+ghost use Rattle.ox_transfer.specs.Answer.{Answers};
 ghost use Rattle.ox_transfer.specs.Apart.{HoldsOnce, Apart};
 ghost use Rattle.ox_transfer.specs.Counts.{Counted};
 ghost use Rattle.ox_transfer.specs.Parts.{spent_of, transferred_of};
 
-use crate::deal::{deal_out, value_sum};
-use crate::fault::TransferFault;
+use crate::deal::deal_out;
 use crate::place::place_outputs;
 use crate::so_far::MovedSoFar;
 use crate::spend::spend_txs;
 use ox_block::{Block, Tx, Txid, Txids};
 use ox_range::Ranges;
-use ox_rules::{DisplacedRows, Moved, MovedTx, MovedTxs, OutTable, Refusal, SpentRows};
+use ox_rules::{
+    DisplacedRows, Moved, MovedTx, MovedTxs, OutTable, Refusal, SpentRows, Why, value_sum,
+};
 use ox_sat::{Profile, first, subsidy};
 use std::alloc::Global;
 
@@ -29,7 +31,7 @@ fn claim_all<O: OutTable>(
     coinbase: &Tx,
     id: Txid,
     mut so_far: MovedSoFar,
-) -> Result<Moved, TransferFault>
+) -> Result<Moved, Why>
     requires known { IsProfile p.now }
     requires id { id.0 ≡ txid coinbase.now }
     requires counted { Counted coinbase.now }
@@ -47,7 +49,7 @@ fn claim_all<O: OutTable>(
     sats.join(&so_far.fees)?;
     let claimable = sats.len();
     if claimable < total {
-        return Err(TransferFault::Refused(Refusal::Overclaim {
+        return Err(Why::Refused(Refusal::Overclaim {
             claimable,
             claimed: total,
         }));
@@ -76,7 +78,7 @@ fn transfer_txs<O: OutTable>(
     block: &Block,
     ids: &Txids,
     height: u32,
-) -> Result<Moved, TransferFault>
+) -> Result<Moved, Why>
     requires known { IsProfile p.now }
     requires lawful { Lawful block.now }
     requires ids { ids.now ≡ map txid block.now.txs }
@@ -126,7 +128,7 @@ pub fn transfer<O: OutTable>(
     block: &Block,
     ids: &Txids,
     height: u32,
-) -> Result<Moved, TransferFault>
+) -> Result<Moved, Why>
     requires known { IsProfile p.now }
     requires lawful { Lawful block.now }
     // The ids are those of the block's transactions, in order.

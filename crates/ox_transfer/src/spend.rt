@@ -10,14 +10,13 @@ ghost use Rattle.ox_transfer.specs.Apart.{Apart};
 ghost use Rattle.ox_transfer.specs.Counts.{Counted};
 ghost use Rattle.ox_transfer.specs.Parts.{spent_of, all_behind};
 
-use crate::deal::{deal_out, value_sum};
-use crate::fault::TransferFault;
+use crate::deal::deal_out;
 use crate::place::place_outputs;
 use crate::so_far::MovedSoFar;
 use crate::take::take_inputs;
 use ox_block::{Tx, Txid};
 use ox_range::Ranges;
-use ox_rules::{DisplacedRows, MovedTx, OutTable, Refusal};
+use ox_rules::{DisplacedRows, MovedTx, OutTable, Refusal, Why, value_sum};
 use std::alloc::Global;
 
 /// A transaction at a place of the block other than the coinbase's, with its id.
@@ -27,7 +26,7 @@ fn spend_tx<O: OutTable>(
     tx: &Tx,
     id: Txid,
     so_far: &mut MovedSoFar,
-) -> Result<(), TransferFault>
+) -> Result<(), Why>
     requires id { id.0 ≡ txid tx.now }
     requires counted { Counted tx.now }
     requires apart { Apart (2 ^ 63) (O.contents table.old) (so_far.old.lost ++ so_far.old.fees) }
@@ -44,7 +43,7 @@ fn spend_tx<O: OutTable>(
     let total = value_sum(outputs);
     let held = taken.sats.len();
     if held < total {
-        return Err(TransferFault::Refused(Refusal::Overspend {
+        return Err(Why::Refused(Refusal::Overspend {
             tx: place,
             inputs: held,
             outputs: total,
@@ -70,7 +69,7 @@ pub(crate) fn spend_txs<O: OutTable>(
     height: u32,
     txs: &[Tx],
     ids: &[[u8; 32]],
-) -> Result<MovedSoFar, TransferFault>
+) -> Result<MovedSoFar, Why>
     requires ids { ids.now ≡ map txid txs.now }
     requires few { length txs.now ≤ most_bytes }
     requires counted { All Counted txs.now }

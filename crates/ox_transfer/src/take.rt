@@ -9,10 +9,9 @@ ghost use Rattle.ox_transfer.specs.Answer.{Answers};
 ghost use Rattle.ox_transfer.specs.Apart.{Apart};
 ghost use Rattle.ox_transfer.specs.Parts.{taken_of};
 
-use crate::fault::TransferFault;
 use ox_block::{OutPoint, TxIn};
 use ox_range::Ranges;
-use ox_rules::{OutRow, OutTable, Refusal, SpentRows};
+use ox_rules::{OutRow, OutTable, Refusal, SpentRows, Why};
 use std::alloc::Global;
 
 /// Rows that were taken out of the table, and their satoshis, joined.
@@ -23,12 +22,7 @@ pub(crate) struct TakenRows {
 }
 
 /// Takes the row out that the input at this place names.
-fn take_row<O: OutTable>(
-    table: &mut O,
-    tx: u32,
-    input: u32,
-    at: &OutPoint,
-) -> Result<OutRow, TransferFault>
+fn take_row<O: OutTable>(table: &mut O, tx: u32, input: u32, at: &OutPoint) -> Result<OutRow, Why>
     ensures row { Answers (λ row. row) result
         (or_refuse (Refusal.UnknownOutput tx input at.now)
         (map.get (O.contents table.old) at.now)) }
@@ -37,7 +31,7 @@ fn take_row<O: OutTable>(
 {
     match table.take(at)? {
         Some(row) => Ok(row),
-        None => Err(TransferFault::Refused(Refusal::UnknownOutput { tx, input, at: *at })),
+        None => Err(Why::Refused(Refusal::UnknownOutput { tx, input, at: *at })),
     }
 }
 
@@ -47,7 +41,7 @@ pub(crate) fn take_inputs<O: OutTable>(
     table: &mut O,
     tx: u32,
     inputs: &[TxIn],
-) -> Result<TakenRows, TransferFault>
+) -> Result<TakenRows, Why>
     requires few { length inputs.now ≤ most_bytes }
     requires apart { Apart (2 ^ 63) (O.contents table.old) [] }
     ensures taken { Answers (λ taken. taken_of taken.rows (O.contents table.new)) result
