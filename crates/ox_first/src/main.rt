@@ -12,7 +12,7 @@
 
 use ox_bytes::{Bytes, Memory};
 use ox_feed::{Command, SyntaxFault, command_of};
-use ox_index::{Chain, ConnectFault};
+use ox_index::{Chain, Why};
 use ox_model::Refusal;
 use ox_sat::{ProfileName, profile_of};
 use std::alloc::Global;
@@ -22,7 +22,7 @@ use std::io::{self, BufRead, BufReader, ErrorKind, Write};
 const DEPTH: u16 = 1000;
 
 /// Carries out a command. After a fault the index is as before.
-fn carry_out(chain: &mut Chain, command: Command) -> Result<(), ConnectFault> {
+fn carry_out(chain: &mut Chain, command: Command) -> Result<(), Why> {
     match command {
         Command::Connect(block) => chain.connect(block.as_slice()),
         Command::Disconnect => chain.disconnect(),
@@ -38,8 +38,8 @@ fn answer(alloc: Global, chain: &mut Chain, line: &[u8]) -> Result<Bytes, Memory
     };
     match carry_out(chain, command) {
         Ok(()) => chain.live().line(),
-        Err(ConnectFault::Refused(refusal)) => refusal.line(alloc),
-        Err(ConnectFault::Memory) => Err(Memory),
+        Err(Why::Refused(refusal)) => refusal.line(alloc),
+        Err(Why::Memory) => Err(Memory),
     }
 }
 

@@ -12,6 +12,9 @@ use Rattle.ox_sat.specs.Profiles.{IsProfile}
 use Rattle.ox_sat.specs.Heights.{first_at, subsidy_at}
 use Rattle.ox_sat.specs.declared.profiles.Profile.{Profile}
 use Rattle.ox_rules.specs.declared.refusal.Refusal.{Refusal}
+use Rattle.ox_rules.specs.declared.why.Why.{Why}
+use Rattle.ox_rules.specs.declared.why.Why.TheVariants.{Refused, Memory}
+use Rattle.ox_rules.specs.Why.{Refuses, of_block}
 use Rattle.ox_model.specs.Index.{Index}
 use Rattle.ox_rules.specs.Outputs.{sats_held}
 use Rattle.ox_rules.specs.Transfer.{Transferred, transfer_of}
@@ -21,23 +24,17 @@ use Rattle.ox_rules.proofs.Conservation.{times-append}
 use Rattle.ox_rules.proofs.Transfers.{first_next}
 use Rattle.ox_model.proofs.Soundness.{admitted_right, grown_sound}
 use Rattle.ox_transfer.specs.Apart.{HoldsOnce}
-use Rattle.ox_transfer.specs.Answer as transfers
-use Rattle.ox_transfer.specs.declared.fault.TransferFault.{TransferFault}
-use Rattle.ox_transfer.specs.declared.fault.TransferFault.TheVariants.{Refused as BadTransfer, Memory as NoRoom}
 use Rattle.ox_transfer.proofs.Once.{fits}
 use Rattle.ox_transfer.proofs.Claims.{minted_few}
-use Rattle.ox_index.specs.declared.fault.ConnectFault.{ConnectFault}
-use Rattle.ox_index.specs.declared.fault.ConnectFault.TheVariants.{Refused, Memory}
-use Rattle.ox_index.specs.Fault.{Refuses, of_block, of_transfer}
 
 -- bytes that are no block
-pub step_unread : (p : Profile) (index : Index) (bytes : List ℕ) (fault : BlockFault) (e : ConnectFault) → Gives (Err fault) (block_of bytes) → e ≡ of_block fault → Refuses e (step p index bytes)
+pub step_unread : (p : Profile) (index : Index) (bytes : List ℕ) (fault : BlockFault) (e : Why) → Gives (Err fault) (block_of bytes) → e ≡ of_block fault → Refuses e (step p index bytes)
 unfolding step
 step_unread p index bytes (BadBlock at) e gives is = rw is (ap (λ (r : Result Block ℕ). or_malformed r >>= index_after p index) gives)
 step_unread p index bytes NoMemory e gives is = rw is tt
 
 -- a block that isn't admitted
-pub step_unadmitted : (p : Profile) (index : Index) (bytes : List ℕ) (block : Block) (e : ConnectFault) → block_of bytes ≡ Ok block → Refuses e (admission p index.hashes block) → Refuses e (step p index bytes)
+pub step_unadmitted : (p : Profile) (index : Index) (bytes : List ℕ) (block : Block) (e : Why) → block_of bytes ≡ Ok block → Refuses e (admission p index.hashes block) → Refuses e (step p index bytes)
 unfolding step
 step_unadmitted p index bytes block (Refused refusal) read refuses =
     ap (λ (r : Result Block ℕ). or_malformed r >>= index_after p index) read
@@ -54,13 +51,8 @@ admitted_after : (p : Profile) (index : Index) (block : Block) → admission p i
 admitted_after p index block begun =
     ap (λ (r : Result (Unit {0}) Refusal). r >>= λ begun. transfer_of p (length index.hashes) block.txs index.outs >>= λ after. Ok (grown_index p index block after)) begun
 
--- satoshis that can't be moved
-pub unmoved : (fault : TransferFault) (e : ConnectFault) (wanted : Result Transferred Refusal) → transfers.Refuses fault wanted → e ≡ of_transfer fault → Refuses e wanted
-unmoved (BadTransfer refusal) e wanted refuses is = rw is refuses
-unmoved NoRoom e wanted refuses is = rw is tt
-
 -- a block whose satoshis can't be moved
-pub after_unmoved : (p : Profile) (index : Index) (block : Block) (e : ConnectFault) → admission p index.hashes block ≡ Ok tt → Refuses e (transfer_of p (length index.hashes) block.txs index.outs) → Refuses e (index_after p index block)
+pub after_unmoved : (p : Profile) (index : Index) (block : Block) (e : Why) → admission p index.hashes block ≡ Ok tt → Refuses e (transfer_of p (length index.hashes) block.txs index.outs) → Refuses e (index_after p index block)
 after_unmoved p index block (Refused refusal) begun refuses =
     admitted_after p index block begun ∙ ap (λ (r : Result Transferred Refusal). r >>= λ after. Ok (grown_index p index block after)) refuses
 after_unmoved p index block Memory begun refuses = tt

@@ -2,10 +2,8 @@ pub mod Audits
 pub mod Chain
 pub mod Changes
 pub mod Earlier
-pub mod Fault
 pub mod Held
 pub mod Lengths
 pub mod Live
 pub mod Parts
-pub mod Reply
 pub mod Tables

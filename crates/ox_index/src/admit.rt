@@ -9,12 +9,12 @@ ghost use Rattle.ox_block.specs.Spelling.{Lawful};
 ghost use Rattle.ox_rules.specs.Newest.{newest_of};
 ghost use Rattle.ox_model.specs.Step.{misplaced_coinbase as first_misplaced, admission};
 ghost use Rattle.ox_model.specs.Step.{lacks_commitment as lacks};
-ghost use Rattle.ox_index.specs.Fault.{Refuses};
+ghost use Rattle.ox_rules.specs.Why.{Refuses};
 
-use crate::fault::ConnectFault;
 use ox_block::{Block, Tx, TxIn, Txids, committed_by, root_over, txids_of};
 use ox_bytes::Memory;
 use ox_model::Refusal;
+use ox_rules::Why;
 use ox_sat::Profile;
 use std::alloc::Global;
 
@@ -92,12 +92,7 @@ fn lacks_commitment(
 /// on, the commitment to its witnesses. It answers the ids of the block's transactions, in order,
 /// of which the root is made. `Memory` where there is none for the ids or a root.
 #[tactic(auto, unfolding(ox_block::specs::Hashes::block_root))]
-pub fn admit(
-    alloc: Global,
-    p: &Profile,
-    hashes: &[[u8; 32]],
-    block: &Block,
-) -> Result<Txids, ConnectFault>
+pub fn admit(alloc: Global, p: &Profile, hashes: &[[u8; 32]], block: &Block) -> Result<Txids, Why>
     requires lawful { Lawful block.now }
     ensures ok { OnOk result (admission p.now hashes.now block.now ≡ Ok tt) }
     ensures ids { IfOk result (λ ids. ids ≡ map txid block.now.txs) }
@@ -105,24 +100,24 @@ pub fn admit(
 {
     let height = hashes.len() as u64;
     if height > p.last {
-        return Err(ConnectFault::Refused(Refusal::ChainEnd { height }));
+        return Err(Why::Refused(Refusal::ChainEnd { height }));
     }
     let have = block.header.previous;
     let want = newest(hashes);
     if have != want {
-        return Err(ConnectFault::Refused(Refusal::Unlinked { have, want }));
+        return Err(Why::Refused(Refusal::Unlinked { have, want }));
     }
     let have = block.header.root;
     let ids = txids_of(alloc, block)?;
     let want = root_over(alloc, &ids)?;
     if have != want {
-        return Err(ConnectFault::Refused(Refusal::BadRoot { have, want }));
+        return Err(Why::Refused(Refusal::BadRoot { have, want }));
     }
     if let Some(tx) = misplaced_coinbase(block.txs.as_slice()) {
-        return Err(ConnectFault::Refused(Refusal::Coinbase { tx: tx as u32 }));
+        return Err(Why::Refused(Refusal::Coinbase { tx: tx as u32 }));
     }
     if lacks_commitment(alloc, p, height, block, &ids)? {
-        return Err(ConnectFault::Refused(Refusal::BadWitness));
+        return Err(Why::Refused(Refusal::BadWitness));
     }
     Ok(ids)
 }

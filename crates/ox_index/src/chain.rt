@@ -9,10 +9,10 @@ ghost use Rattle.ox_index.specs.Earlier.{EndThen};
 ghost use Rattle.ox_index.specs.Live.{index_in as index_at, profile_in as profile_at};
 
 use crate::changes::Changes;
-use crate::fault::ConnectFault;
 use crate::live::Live;
 use ox_bytes::Memory;
 use ox_model::{About, Change, Refusal};
+use ox_rules::Why;
 use ox_sat::Profile;
 use std::alloc::Global;
 use std::collections::VecDeque;
@@ -52,7 +52,7 @@ impl Chain {
     ghost use Rattle.ox_model.specs.Stack.{stack_after};
     ghost use Rattle.ox_index.specs.Chain.{earlier_in, stack_in, taken_back_in};
     ghost use Rattle.ox_index.specs.Earlier.{LeadsBy};
-    ghost use Rattle.ox_index.specs.Fault.{Refuses};
+    ghost use Rattle.ox_rules.specs.Why.{Refuses};
     ghost use Rattle.ox_index.specs.Live.{index_in, profile_in};
 
     /// A chain without a block that counts by this profile, and of whose blocks at most `depth` are
@@ -131,7 +131,7 @@ impl Chain {
     /// more than `depth` would be kept the oldest of them isn't any more. `Refused` exactly where
     /// the definition refuses, with the first cause; `Memory` where there is none. After a refusal
     /// or `Memory` the stack is as before; after Ok it goes back there by `cancel`.
-    pub fn connect(&mut self, block: &[u8]) -> Result<(), ConnectFault>
+    pub fn connect(&mut self, block: &[u8]) -> Result<(), Why>
         ensures ok { OnOk result
             (stack_after (stack_in self.old) (Connect block.now) ≡ Ok (stack_in self.new)) }
         ensures refused { IfErr result
@@ -153,7 +153,7 @@ impl Chain {
     /// Takes back the newest block, whose change `taken_back` then answers. `Refused` with `Depth`
     /// exactly where no block is kept; `Memory` where there is none. After either the stack is as
     /// before; after Ok it goes back there by `cancel`.
-    pub fn disconnect(&mut self) -> Result<(), ConnectFault>
+    pub fn disconnect(&mut self) -> Result<(), Why>
         ensures ok { OnOk result
             (stack_after (stack_in self.old) Disconnect ≡ Ok (stack_in self.new)) }
         ensures change { OnOk result
@@ -168,7 +168,7 @@ impl Chain {
     {
         self.changes.forget();
         let Some(change) = self.changes.get(0) else {
-            return Err(ConnectFault::Refused(Refusal::Depth));
+            return Err(Why::Refused(Refusal::Depth));
         };
         self.live.back(change)?;
         self.changes.take_back();

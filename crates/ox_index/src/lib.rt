@@ -6,14 +6,11 @@ mod admit;
 mod audit;
 mod chain;
 mod changes;
-mod fault;
 mod lengths;
 mod live;
 mod parts;
-mod reply;
 
 pub use chain::Chain;
 pub use changes::Changes;
-pub use fault::ConnectFault;
 pub use live::Live;
-pub use reply::{LONGEST_OK, empty_line, ok_line_in};
+pub use ox_rules::Why;

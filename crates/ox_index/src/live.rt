@@ -13,14 +13,13 @@ mod plain;
 
 use crate::admit::admit;
 use crate::audit::audits_of;
-use crate::fault::ConnectFault;
 use crate::lengths::Lengths;
 use crate::parts::Parts;
-use crate::reply::{LONGEST_OK, ok_line_in};
 use ox_block::{Block, OutPoint, Txids, read_block};
 use ox_bytes::{Bytes, Memory, Room};
 use ox_model::{Audit, Change, InsId, InsRow, OutRow, OutTable, Place, RuneId, RuneRow, View};
 use ox_range::Ranges;
+use ox_rules::{LONGEST_OK, Why, ok_line_in};
 use ox_sat::{Profile, first};
 use std::alloc::Global;
 
@@ -68,8 +67,8 @@ impl Live {
     ghost use Rattle.ox_model.specs.Replies.{ok_line};
     ghost use Rattle.ox_model.specs.Ends.{BeginsIn, EndsIn};
     ghost use Rattle.ox_index.specs.Live.{profile_in, index_in, marked_in};
-    ghost use Rattle.ox_index.specs.Fault.{Refuses};
-    ghost use Rattle.ox_index.specs.Reply.{tip_line};
+    ghost use Rattle.ox_rules.specs.Why.{Refuses};
+    ghost use Rattle.ox_rules.specs.Text.{tip_line};
 
     /// The index of a chain without a block that counts by this profile. `Memory` where there is
     /// none for the rune that is there from the start, which mainnet has alone; else it takes none.
@@ -94,7 +93,7 @@ impl Live {
     /// `ChainEnd`, `Unlinked`, `BadRoot`, `Coinbase`, and then `UnknownOutput`, `Overspend` and
     /// `Overclaim` in block order. `Memory` where there is none. After a refusal or `Memory` the
     /// index is as before; after Ok it goes back there by `cancel`.
-    pub fn connect(&mut self, bytes: &[u8]) -> Result<Change, ConnectFault>
+    pub fn connect(&mut self, bytes: &[u8]) -> Result<Change, Why>
         ensures ok { OnOk result
             (step (profile_in self.old) (index_in self.old) bytes.now ≡ Ok (index_in self.new)) }
         ensures change { IfOk result (IsChange (index_in self.old) (index_in self.new)) }
@@ -110,7 +109,7 @@ impl Live {
     }
 
     /// Reads a block and takes it in, where no mark is left.
-    fn read_in(&mut self, bytes: &[u8]) -> Result<Change, ConnectFault>
+    fn read_in(&mut self, bytes: &[u8]) -> Result<Change, Why>
         requires none { self.old.marked ≡ None }
         ensures ok { OnOk result
             (step (profile_in self.old) (index_in self.old) bytes.now ≡ Ok (index_in self.new)) }
@@ -129,7 +128,7 @@ impl Live {
 
     /// Takes in a block that is admitted, and answers what it changed. The fault is that of the
     /// first satoshis that can't be moved.
-    fn take_in(&mut self, block: &Block, ids: &Txids) -> Result<Change, ConnectFault>
+    fn take_in(&mut self, block: &Block, ids: &Txids) -> Result<Change, Why>
         requires lawful { Lawful block.now }
         requires ids { ids.now ≡ map txid block.now.txs }
         requires admitted { admission (profile_in self.old) (index_in self.old).hashes block.now
@@ -157,7 +156,7 @@ impl Live {
             }
             Err(_) => {
                 self.parts.cancel();
-                Err(ConnectFault::Memory)
+                Err(Why::Memory)
             }
         }
     }

@@ -10,7 +10,6 @@ ghost use Rattle.ox_ledger.specs.Ledger.{mark_in as rune_mark, runes_in};
 ghost use Rattle.ox_ledger.specs.Tables.{nothing};
 ghost use Rattle.ox_index.specs.Held.{NoneOf};
 
-use crate::fault::ConnectFault;
 use ox_block::{Block, Tx, Txids, hash};
 use ox_bytes::Memory;
 use ox_inscribe::{SharedRow, Shelf};
@@ -18,7 +17,7 @@ use ox_ledger::Ledger;
 use ox_model::{Change, Moved, OutTable};
 use ox_outputs::Outputs;
 use ox_range::Ranges;
-use ox_rules::MovedTx;
+use ox_rules::{MovedTx, Why};
 use ox_sat::Profile;
 use ox_transfer::transfer;
 use std::alloc::Global;
@@ -54,7 +53,7 @@ impl Parts {
     ghost use Rattle.ox_model.specs.Change.{outputs_changed};
     ghost use Rattle.ox_outputs.specs.Table.{EndsIn as EndsAt};
     ghost use Rattle.ox_transfer.specs.Apart.{HoldsOnce};
-    ghost use Rattle.ox_index.specs.Fault.{Refuses};
+    ghost use Rattle.ox_rules.specs.Why.{Refuses};
     ghost use Rattle.ox_index.specs.Held.{HasMoved, Held, IsBack, IsOn, IsTaken, IsTold};
     ghost use Rattle.ox_index.specs.Held.{RevealsWithin};
     ghost use Rattle.ox_index.specs.Parts.{held_in, mark_of};
@@ -79,12 +78,7 @@ impl Parts {
 
     /// Takes in a block that is admitted at this height, and answers what it changed. The fault is
     /// that of the first satoshis that can't be moved, or want of memory: nothing has changed then.
-    pub fn take_in(
-        &mut self,
-        block: &Block,
-        ids: &Txids,
-        height: u32,
-    ) -> Result<Change, ConnectFault>
+    pub fn take_in(&mut self, block: &Block, ids: &Txids, height: u32) -> Result<Change, Why>
         requires lawful { Lawful block.now }
         requires ids { ids.now ≡ map txid block.now.txs }
         requires once { HoldsOnce (first_at self.old.profile height) (held_in self.old).outs }

@@ -1,7 +1,7 @@
 //! How a command ends, in a line.
 
 use crate::show::print_tip;
-use ox_index::{ConnectFault, Live};
+use ox_index::{Live, Why};
 use ox_model::Refusal;
 use std::alloc::Global;
 use std::io;
@@ -19,11 +19,11 @@ pub fn print_end(
     rt: &impl Print,
     alloc: Global,
     live: &Live,
-    fault: Option<ConnectFault>,
+    fault: Option<Why>,
 ) -> io::Result<()> {
     match fault {
         None => print_tip(rt, live),
-        Some(ConnectFault::Refused(refusal)) => print_refusal(rt, alloc, &refusal),
-        Some(ConnectFault::Memory) => println!(rt; "no memory"),
+        Some(Why::Refused(refusal)) => print_refusal(rt, alloc, &refusal),
+        Some(Why::Memory) => println!(rt; "no memory"),
     }
 }

@@ -50,7 +50,7 @@ use crate::plain::dump_plain;
 use crate::requests::{print_answer, reply_often};
 use crate::spell::bytes_of;
 use anyhow::Context;
-use ox_index::{Chain, ConnectFault, Live};
+use ox_index::{Chain, Live, Why};
 use ox_routes::Routes;
 use ox_sat::{ProfileName, profile_of};
 use std::alloc::Global;
@@ -100,7 +100,7 @@ fn begin(rt: &impl Print, index: &mut Index, new: Option<Index>) -> io::Result<(
 }
 
 /// Connects a block.
-fn connect(index: &mut Index, block: &[u8]) -> Option<ConnectFault> {
+fn connect(index: &mut Index, block: &[u8]) -> Option<Why> {
     match index {
         Index::Live(live) => live.connect(block).err(),
         Index::Chain(chain) => chain.connect(block).err(),

@@ -4,7 +4,7 @@ use Rattle.std.specs.Prelude.{Ok, Result, OnOk, IfErr}
 use Rattle.ox_model.specs.Index.{Index}
 use Rattle.ox_model.specs.Step.{admission}
 use Rattle.ox_rules.specs.declared.refusal.Refusal.{Refusal}
-use Rattle.ox_index.specs.Fault.{Refuses}
+use Rattle.ox_rules.specs.Why.{Refuses}
 use Rattle.ox_index.specs.Live.{index_in}
 use Rattle.ox_index.proofs.Steps.{step_unread, step_unadmitted, step_read}
 use Rattle.ox_index.proofs.live.Live.read_in.Goals as goal

@@ -8,10 +8,9 @@ use Rattle.ox_outputs.specs.Table.{marked_in, rows_in}
 use Rattle.ox_index.specs.Held.{NoneOf, held_then}
 use Rattle.ox_index.specs.Parts.{held_in, mark_of}
 use Rattle.ox_index.proofs.Marks.{marked_some, same_held, undue_begun}
-use Rattle.ox_index.proofs.Steps.{unmoved}
 use Rattle.ox_rules.specs.Outputs.{Outputs as Rows}
 use Rattle.ox_rules.specs.Transfer.{transfer_of}
-use Rattle.ox_transfer.specs.Answer.{Refuses as RefusesMove}
+use Rattle.ox_rules.specs.Why.{Refuses}
 use Rattle.ox_index.proofs.parts.Parts.take_in.Goals as goal
 
 pub invariant_of-self : goal.invariant_of-self
@@ -48,8 +47,8 @@ pub returns-in_err-moved-clause-refused : goal.returns-in_err-moved-clause-refus
 returns-in_err-moved-clause-refused c =
     let self = c.args.self.now in
     let p = err_from_is_err_and c.from_residual.result c.from_residual.ensures.1 in
-    let refused = subst (λ (r : Rows). RefusesMove c.in_err-moved.field-0.0 (transfer_of self.profile c.args.height c.args.block.now.txs r)) c.expect.ensures.rows c.in_err-moved.ensures.refused in
-    rw p.1 (unmoved c.in_err-moved.field-0.0 p.0 _ refused p.2)
+    let refused = subst (λ (r : Rows). Refuses c.in_err-moved.field-0.0 (transfer_of self.profile c.args.height c.args.block.now.txs r)) c.expect.ensures.rows c.in_err-moved.ensures.refused in
+    rw (p.1, p.2) refused
 
 pub returns-in-Ok-clause-ok : goal.returns-in-Ok-clause-ok
 returns-in-Ok-clause-ok c =
