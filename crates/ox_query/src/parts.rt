@@ -3,7 +3,7 @@
 ghost use Rattle.std.specs.Prelude.{◌≡◌, ◌≢◌, ◌<◌, ℕ, List, length, ◌∷◌, ◌++◌};
 ghost use Rattle.std.specs.Prelude.{IfSome, IfNone, ◌&&◌, nat_le};
 ghost use Rattle.std.specs.List.{list_any};
-ghost use Rattle.hex.specs.Hex.{IsBytes, encode_lower};
+ghost use Rattle.hex.specs.Hex.{IsBytes};
 ghost use Rattle.ox_rules.specs.Text.{hash_text};
 ghost use Rattle.ox_ask.specs.Texts.{number_in, outpoint_in};
 ghost use Rattle.ox_query.specs.Sides.{Sides};
@@ -33,17 +33,6 @@ pub(crate) fn satoshi(p: &Profile, part: &[u8]) -> Option<u64>
         return None;
     };
     read_sat(p, text).ok()
-}
-
-/// A hash's bytes as digits.
-pub(crate) fn digits_of(bytes: &[u8; 32]) -> [u8; 64]
-    ensures { result ≡ encode_lower bytes.now }
-{
-    let mut digits = [0; 64];
-    match hex::encode_to_slice(&bytes[..], &mut digits) {
-        Ok(()) => digits,
-        Err(_) => unreachable!(),
-    }
 }
 
 /// Whether there is a capital letter among these bytes.

@@ -9,12 +9,13 @@ ghost use Rattle.ox_rules.specs.Text.{outpoint_text as outpoint_printed};
 ghost use Rattle.ox_sat.specs.Names.{name_of};
 ghost use Rattle.ox_sat.specs.Profiles.{IsProfile};
 
-use crate::values::{hash_digits, text_of};
+use crate::values::text_of;
 use arrayvec::ArrayString;
 use itoa::Buffer;
 use json::Writer;
 use ox_block::OutPoint;
 use ox_bytes::Memory;
+use ox_rules::hash_digits;
 use ox_sat::{Degree, Profile, Rarity, first, height_of};
 
 /// A satoshi's height and its place in that block, with a point between.

@@ -8,9 +8,9 @@ ghost use Rattle.ox_ask.specs.Values.{integer, or_null};
 ghost use Rattle.ox_query.specs.Written.{AddsTokens, tokens_of};
 ghost use Rattle.ox_rules.specs.Text.{hash_text};
 
-use crate::parts::digits_of;
 use json::Writer;
 use ox_bytes::Memory;
+use ox_rules::hash_digits;
 use std::alloc::Global;
 
 /// Bytes of at most so many are spelled on the stack.
@@ -25,16 +25,6 @@ pub(crate) fn text_of(bytes: &[u8]) -> &str
         Ok(text) => text,
         Err(_) => unreachable!(),
     }
-}
-
-/// The digits by which a hash is printed.
-#[tactic(auto, unfolding(ox_rules::specs::Text::hash_text))]
-pub(crate) fn hash_digits(hash: &[u8; 32]) -> [u8; 64]
-    ensures { result ≡ hash_text hash.now }
-{
-    let mut reversed = *hash;
-    reversed.reverse();
-    digits_of(&reversed)
 }
 
 /// Writes a hash as it is printed. `Memory` where there is none for it.
