@@ -5,10 +5,10 @@ ghost use Rattle.std.specs.Prelude.{IfOk, IfErr, IfSome, OnOk};
 ghost use Rattle.ox_gated.specs.Layout.{is_lawful};
 ghost use Rattle.ox_gated.specs.Opened.{intact_part};
 ghost use Rattle.ox_index.specs.Chain.{stack_in};
-ghost use Rattle.ox_index.specs.Fault.{Refuses};
 ghost use Rattle.ox_model.specs.Stack.{Stack};
 ghost use Rattle.ox_files.specs.OldStands.{empty_stack_at, or_refused};
 ghost use Rattle.ox_files.specs.OldStands.{old_fault_of_cut, old_stack_after, old_stack_in_file};
+ghost use Rattle.ox_rules.specs.Why.{Refuses};
 ghost use Rattle.ox_rules.specs.declared.refusal.Refusal.{Refusal};
 ghost use Rattle.ox_replay.specs.Replay.{IsReplayFault};
 
@@ -16,8 +16,8 @@ use crate::commands::{Recorded, command_in};
 use ox_bytes::{Bytes, Memory};
 use ox_files::profile_of_head;
 use ox_gated::{BODY_AT, Before, Head, Record, Records};
-use ox_index::{Chain, ConnectFault};
-use ox_rules::Refusal;
+use ox_index::Chain;
+use ox_rules::{Refusal, Why};
 use std::alloc::Global;
 
 /// Why a part of a file gives no chain.
@@ -83,13 +83,13 @@ fn begin(alloc: Global, head: &Head) -> Result<Chain, Memory>
 }
 
 /// Why the chain doesn't take the command of this number.
-fn fault_by(fault: ConnectFault, command: u64) -> ReplayFault
-    ensures { (wanted : Result Stack Refusal) → Refuses fault wanted
+fn fault_by(why: Why, command: u64) -> ReplayFault
+    ensures { (wanted : Result Stack Refusal) → Refuses why wanted
         → IsReplayFault (or_refused command wanted) result }
 {
-    match fault {
-        ConnectFault::Refused(refusal) => ReplayFault::Old { command, refusal },
-        ConnectFault::Memory => ReplayFault::Memory,
+    match why {
+        Why::Refused(refusal) => ReplayFault::Old { command, refusal },
+        Why::Memory => ReplayFault::Memory,
     }
 }
 
@@ -105,11 +105,11 @@ fn redo(chain: &mut Chain, number: u64, record: &Record) -> Result<(), ReplayFau
     match command_in(record.payload.as_slice()) {
         Some(Recorded::Connect(block)) => match chain.connect(block) {
             Ok(()) => Ok(()),
-            Err(fault) => Err(fault_by(fault, number)),
+            Err(why) => Err(fault_by(why, number)),
         },
         Some(Recorded::Disconnect) => match chain.disconnect() {
             Ok(_) => Ok(()),
-            Err(fault) => Err(fault_by(fault, number)),
+            Err(why) => Err(fault_by(why, number)),
         },
         None => Err(ReplayFault::At(record.place)),
     }
