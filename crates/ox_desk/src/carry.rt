@@ -8,8 +8,8 @@ ghost use Rattle.ox_gated.specs.Tail.{Holds};
 ghost use Rattle.ox_gated.specs.Writes.{OnlyWrites};
 ghost use Rattle.ox_files.specs.Stands.{stands};
 ghost use Rattle.ox_rules.specs.declared.refusal.Refusal.{Refusal as Cause};
+ghost use Rattle.ox_rules.specs.declared.why.Why.TheVariants as whys;
 ghost use Rattle.ox_store.specs.Ready.{StandsForEither};
-ghost use Rattle.ox_store.specs.declared.fault.Why.TheVariants as whys;
 ghost use Rattle.ox_desk.specs.Desk.{ComesOf, stack_behind};
 ghost use Rattle.ox_desk.specs.Replies.{refused_reply as refused_said};
 

@@ -1,4 +1,4 @@
--- The index that a command left, by the stack after it, and why a command is refused.
+-- The index that a command left, by the stack after it.
 use Rattle.std.proofs.Common.{◌≡◌, ◌∙◌, ◌≤◌, ℕ, zero, suc, List, [], ◌∷◌, length, take, refl, sym, ap, subst, arith}
 use Rattle.std.specs.Prelude.{Option, Some, None, Result, Ok, Err, slice_get}
 use Rattle.std.proofs.lemmas.Option.{same_Some}
@@ -6,16 +6,11 @@ use Rattle.std.specs.Result.{OnOk}
 use Rattle.ox_model.specs.Change.{IsChange}
 use Rattle.ox_model.specs.Ends.{LeadDown}
 use Rattle.ox_model.specs.Index.{Index}
-use Rattle.ox_model.specs.Stack.{Stack, stack_after, with_index}
+use Rattle.ox_model.specs.Stack.{Stack, with_index}
 use Rattle.ox_model.specs.declared.change.Change.{Change}
 use Rattle.ox_model.proofs.Changes.{goes_redone}
 use Rattle.ox_rules.specs.declared.refusal.Refusal.{Refusal}
-use Rattle.ox_feed.specs.declared.command.Command.{Command}
 use Rattle.ox_index.specs.Earlier.{LeadsBy}
-use Rattle.ox_index.specs.Fault.{Refuses}
-use Rattle.ox_index.specs.declared.fault.ConnectFault.{ConnectFault}
-use Rattle.ox_index.specs.declared.fault.ConnectFault.TheVariants.{Refused, Memory}
-use Rattle.ox_store.specs.Fault.{IsRefused, why_not}
 use Rattle.ox_store.specs.Ready.{HasChange, left_by}
 
 abbrev pub no_change : Option Change
@@ -73,8 +68,3 @@ moves_on stack (left ∷ older) taken [] change none lead first = absurd lead
 moves_on stack (left ∷ older) taken (newest ∷ changes) change none lead first =
     subst (λ (t : Option Change). IsChange (left_by stack (left ∷ older) t) stack.index change) none
     (subst (λ (d : Change). IsChange left stack.index d) (sym (same_Some change newest first)) lead.0)
-
--- the cause is handed on
-pub refused_so : (fault : ConnectFault) (stack : Stack) (command : Command) → Refuses fault (stack_after stack command) → IsRefused stack command (why_not fault)
-refused_so (Refused refusal) stack command is = is
-refused_so Memory stack command is = tt

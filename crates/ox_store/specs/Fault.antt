@@ -1,33 +1,18 @@
 -- What the answers of a store say of the definitions. Want of memory is free, and nothing else.
 use Rattle.std.specs.Prelude.{◌≡◌, Result, Err}
 use Rattle.ox_outside.specs.declared.site.Which.{Which}
-use Rattle.ox_feed.specs.declared.command.Command.{Command}
-use Rattle.ox_index.specs.declared.fault.ConnectFault.{ConnectFault}
-use Rattle.ox_index.specs.declared.fault.ConnectFault.TheVariants as connects
-use Rattle.ox_model.specs.Stack.{Stack, stack_after}
+use Rattle.ox_model.specs.Stack.{Stack}
 use Rattle.ox_files.specs.Stands.{Misfit}
 use Rattle.ox_checkpoint.specs.declared.restoring.Unjudged.{Unjudged}
 use Rattle.ox_checkpoint.specs.declared.restoring.Unjudged.TheVariants as restores
 use Rattle.ox_store.specs.declared.fault.OpenFault.{OpenFault}
 use Rattle.ox_store.specs.declared.fault.OpenFault.TheVariants as opens
-use Rattle.ox_store.specs.declared.fault.Why.{Why}
-use Rattle.ox_store.specs.declared.fault.Why.TheVariants as whys
 
 -- where it isn't the disk or memory, the fault is the one that the files have
 abbrev pub IsMisfit : Result Stack Misfit → OpenFault → Type 0
 IsMisfit standing (opens.NotStore file at) = standing ≡ Err (record { file = file; at = at })
 IsMisfit standing opens.DiskFault = Unit {0}
 IsMisfit standing opens.Memory = Unit {0}
-
--- the refusal is the machine's
-abbrev pub IsRefused : Stack → Command → Why → Type 0
-IsRefused stack command (whys.Refused refusal) = stack_after stack command ≡ Err refusal
-IsRefused stack command whys.Memory = Unit {0}
-
--- why a block that isn't connected isn't prepared
-abbrev pub why_not : ConnectFault → Why
-why_not (connects.Refused refusal) = whys.Refused refusal
-why_not connects.Memory = whys.Memory
 
 -- the fault of this file
 abbrev pub fault_in : Which → Unjudged → OpenFault

@@ -5,9 +5,9 @@ ghost use Rattle.std.specs.Prelude.{◌≡◌};
 use crate::store::Store;
 use ox_bytes::Memory;
 use ox_gated::DiskFault;
-use ox_index::ConnectFault;
 use ox_model::Refusal;
 use ox_outside::{Failed, Which};
+use ox_rules::Why;
 
 /// Why no store was made.
 #[derive(Clone, Copy, Debug, PartialEq, Eq)]
@@ -106,28 +106,6 @@ impl From<Memory> for MigrateFault {
 
     fn from(_memory: Memory) -> MigrateFault {
         MigrateFault::Memory
-    }
-}
-
-/// Why a command isn't prepared.
-#[derive(Clone, Copy, Debug, PartialEq, Eq)]
-pub enum Why {
-    /// The command is refused.
-    Refused(Refusal),
-    /// There is no memory for it.
-    Memory,
-}
-
-impl From<ConnectFault> for Why {
-    ghost use Rattle.ox_store.specs.Fault.{why_not};
-
-    ghost from_gives = { λ fault why. why ≡ why_not fault };
-
-    fn from(fault: ConnectFault) -> Why {
-        match fault {
-            ConnectFault::Refused(refusal) => Why::Refused(refusal),
-            ConnectFault::Memory => Why::Memory,
-        }
     }
 }
 

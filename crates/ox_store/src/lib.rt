@@ -9,8 +9,9 @@ mod ready;
 mod store;
 mod writing;
 
-pub use fault::{Kept, MakeFault, MigrateFault, OpenFault, Why};
+pub use fault::{Kept, MakeFault, MigrateFault, OpenFault};
 pub use ox_index::Changes;
 pub use ox_model::About;
+pub use ox_rules::Why;
 pub use ready::{Moving, Ready};
 pub use store::Store;

@@ -8,25 +8,25 @@ ghost use Rattle.ox_outside.specs.Runs.{OnlyLooks};
 ghost use Rattle.ox_gated.specs.Tail.{Holds};
 ghost use Rattle.ox_gated.specs.Writes.{OnlyWrites};
 ghost use Rattle.ox_index.specs.Chain.{earlier_in, stack_in, taken_back_in};
-ghost use Rattle.ox_index.specs.Fault.{Refuses};
 ghost use Rattle.ox_model.specs.Ends.{AllEnd, LeadDown};
 ghost use Rattle.ox_model.specs.Stack.{stack_after};
 ghost use Rattle.ox_files.specs.Stands.{stack_in_file};
-ghost use Rattle.ox_store.specs.Fault.{IsRefused};
+ghost use Rattle.ox_rules.specs.Why.{Refuses};
 ghost use Rattle.ox_store.specs.Heads.{Names};
 ghost use Rattle.ox_store.specs.Make.{first_head, no_files};
 ghost use Rattle.ox_store.specs.Ready.{HasChange, left_by};
 ghost use Rattle.ox_store.specs.Writing.{IsDue, LeadsTo};
 
-use crate::fault::{Kept, MakeFault, Why};
+use crate::fault::{Kept, MakeFault};
 use crate::ready::Ready;
 use crate::writing::{Writing, file_of, writing_of};
 use ox_bytes::Memory;
 use ox_feed::Command;
 use ox_gated::{Checkpoint, Head, Tail};
-use ox_index::{Chain, Changes, ConnectFault, Live};
+use ox_index::{Chain, Changes, Live};
 use ox_model::About;
 use ox_outside::{Failed, Site, Which};
+use ox_rules::Why;
 use ox_sat::{ProfileName, profile_of};
 use std::alloc::Global;
 use std::marker::Model;
@@ -170,7 +170,8 @@ impl Store {
     pub fn prepare(self, command: &Command) -> Result<Ready, Kept>
         requires { self.commands < 2 ^ 64 - 1 }
         ensures ready { IfOk result (λ ready. Prepares self command.now ready) }
-        ensures refused { IfErr result (λ kept. IsRefused self.stack command.now kept.why) }
+        ensures refused { IfErr result
+            (λ kept. Refuses kept.why (stack_after self.stack command.now)) }
         ensures kept { IfErr result (λ kept. kept.store ≡ self) }
     {
         let Store {
@@ -240,12 +241,11 @@ fn carry_out(
     ensures left { OnOk result
         (left_by (stack_in chain.new) (stack_in chain.new).older (taken_back_in chain.new)
         ≡ (stack_in chain.old).index) }
-    ensures refused { IfErr result (IsRefused (stack_in chain.old) command.now) }
+    ensures refused { IfErr result
+        (λ why. Refuses why (stack_after (stack_in chain.old) command.now)) }
     ensures err { OnErr result (stack_in chain.new ≡ stack_in chain.old) }
 {
-    if let Err(fault) = obey(chain, command) {
-        return Err(fault.into());
-    }
+    obey(chain, command)?;
     match writing_of(alloc, chain, tail, command) {
         Ok(writing) => Ok(writing),
         Err(Memory) => {
@@ -257,7 +257,7 @@ fn carry_out(
 
 /// Carries out a command in memory. The chain then has its change: the one that was taken back, or
 /// the newest that is kept.
-fn obey(chain: &mut Chain, command: &Command) -> Result<(), ConnectFault>
+fn obey(chain: &mut Chain, command: &Command) -> Result<(), Why>
     ensures ok { OnOk result
         (stack_after (stack_in chain.old) command.now ≡ Ok (stack_in chain.new)) }
     ensures change { OnOk result (HasChange (stack_in chain.new) (taken_back_in chain.new)) }
@@ -265,7 +265,7 @@ fn obey(chain: &mut Chain, command: &Command) -> Result<(), ConnectFault>
         (left_by (stack_in chain.new) (stack_in chain.new).older (taken_back_in chain.new)
         ≡ (stack_in chain.old).index) }
     ensures refused { IfErr result
-        (λ fault. Refuses fault (stack_after (stack_in chain.old) command.now)) }
+        (λ why. Refuses why (stack_after (stack_in chain.old) command.now)) }
     ensures err { OnErr result (stack_in chain.new ≡ stack_in chain.old) }
     ensures mark { OnOk result (earlier_in chain.new ≡ Some (stack_in chain.old)) }
 {
