@@ -7,8 +7,8 @@ use Rattle.ox_feed.specs.declared.lines.Line.TheVariants.{Text, Long, End}
 use Rattle.ox_rules.specs.declared.refusal.Refusal.{Refusal}
 use Rattle.ox_model.specs.Replies.{after_turn, index_on, reply_by}
 use Rattle.ox_model.specs.Stack.{Stack, stack_after}
-use Rattle.ox_index.specs.declared.fault.ConnectFault.{ConnectFault}
-use Rattle.ox_index.specs.declared.fault.ConnectFault.TheVariants.{Refused, Memory}
+use Rattle.ox_rules.specs.declared.why.Why.{Why}
+use Rattle.ox_rules.specs.declared.why.Why.TheVariants.{Refused, Memory}
 use Rattle.ox_app.specs.Apply.{after_line}
 use Rattle.ox_app.specs.Fold.{AnswersLine, AsksFor, IsAnswer, Obeys, turn_by}
 
@@ -37,7 +37,7 @@ after_asked Long asked stack asks = ap (after_turn stack) (sym (asks stack))
 after_asked End asked stack asks = absurd asks
 
 -- a command in memory and its answer
-pub command_answers : (stack : Stack) (command : Command) (outcome : Result (Unit {0}) ConnectFault) (new : Stack) (answer : List ℕ) → Obeys stack command outcome new
+pub command_answers : (stack : Stack) (command : Command) (outcome : Result (Unit {0}) Why) (new : Stack) (answer : List ℕ) → Obeys stack command outcome new
     → IsAnswer outcome new answer → (answer ≡ reply_by index_on (stack_after stack command)) × (new ≡ after_turn stack (stack_after stack command))
 command_answers stack command (Ok done) new answer obeys is = rw obeys (is, refl)
 command_answers stack command (Err (Refused refusal)) new answer obeys is = rw obeys.0 (is, obeys.1)

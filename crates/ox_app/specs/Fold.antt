@@ -14,8 +14,8 @@ use Rattle.ox_model.specs.Replies.{after_turn, index_on, ok_line, reply_by}
 use Rattle.ox_model.specs.Stack.{Stack, stack_after, turn_on}
 use Rattle.ox_rules.specs.Text.{refusal_line}
 use Rattle.ox_rules.specs.declared.refusal.Refusal.{Refusal}
-use Rattle.ox_index.specs.declared.fault.ConnectFault.{ConnectFault}
-use Rattle.ox_index.specs.declared.fault.ConnectFault.TheVariants.{Refused, Memory as NoMemory}
+use Rattle.ox_rules.specs.declared.why.Why.{Why}
+use Rattle.ox_rules.specs.declared.why.Why.TheVariants.{Refused, Memory as NoMemory}
 use Rattle.ox_app.specs.declared.stop.Stop.{Stop}
 use Rattle.ox_app.specs.declared.stop.Stop.TheVariants.{HearFault, Memory, TooMuch}
 
@@ -37,14 +37,14 @@ AsksFor End (Some asked) = ⊥
 AsksFor line None = line ≡ End
 
 -- a command was carried out, was refused, or found no memory
-abbrev pub Obeys : Stack → Command → Result (Unit {0}) ConnectFault → Stack → Type 0
+abbrev pub Obeys : Stack → Command → Result (Unit {0}) Why → Stack → Type 0
 Obeys stack command (Ok done) new = stack_after stack command ≡ Ok new
 Obeys stack command (Err (Refused refusal)) new =
     (stack_after stack command ≡ Err refusal) × (new ≡ stack)
 Obeys stack command (Err NoMemory) new = new ≡ stack
 
 -- the line that answers
-abbrev pub IsAnswer : Result (Unit {0}) ConnectFault → Stack → List ℕ → Type 0
+abbrev pub IsAnswer : Result (Unit {0}) Why → Stack → List ℕ → Type 0
 IsAnswer (Ok done) stack line = line ≡ ok_line stack.index
 IsAnswer (Err (Refused refusal)) stack line = line ≡ refusal_line refusal
 IsAnswer (Err NoMemory) stack line = ⊥

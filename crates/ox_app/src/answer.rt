@@ -7,34 +7,31 @@ ghost use Rattle.ox_app.specs.Fold.{AnswersLine, IsAnswer, Obeys};
 use crate::line::asked_by;
 use ox_bytes::{Bytes, Memory};
 use ox_feed::{Command, Line};
-use ox_index::{Chain, ConnectFault};
+use ox_index::Chain;
+use ox_rules::Why;
 use std::alloc::Global;
 
 // Carries out a command.
-fn obey(chain: &mut Chain, command: &Command) -> Result<(), ConnectFault>
+fn obey(chain: &mut Chain, command: &Command) -> Result<(), Why>
     ensures { Obeys (stack_in chain.old) command.now result (stack_in chain.new) }
 {
     match command {
         Command::Connect(block) => chain.connect(block.as_slice()),
         Command::Disconnect => match chain.disconnect() {
             Ok(_) => Ok(()),
-            Err(fault) => Err(fault),
+            Err(why) => Err(why),
         },
     }
 }
 
 // The line that says how a command went.
-fn answer_to(
-    alloc: Global,
-    outcome: Result<(), ConnectFault>,
-    chain: &Chain,
-) -> Result<Bytes, Memory>
+fn answer_to(alloc: Global, outcome: Result<(), Why>, chain: &Chain) -> Result<Bytes, Memory>
     ensures { IfOk result (λ line. IsAnswer outcome (stack_in chain.now) line) }
 {
     match outcome {
         Ok(()) => chain.live().line(),
-        Err(ConnectFault::Refused(refusal)) => refusal.line(alloc),
-        Err(ConnectFault::Memory) => Err(Memory),
+        Err(Why::Refused(refusal)) => refusal.line(alloc),
+        Err(Why::Memory) => Err(Memory),
     }
 }
 

@@ -20,9 +20,9 @@ use crate::stop::Stop;
 use ox_bytes::{Bytes, Memory, Room};
 use ox_feed::{Command, Line};
 use ox_gated::DiskFault;
-use ox_index::{LONGEST_OK, ok_line_in};
 use ox_model::Refusal;
 use ox_outside::Site;
+use ox_rules::{LONGEST_OK, ok_line_in};
 use ox_store::{Kept, Ready, Store, Why};
 use std::alloc::Global;
 

@@ -12,8 +12,8 @@ ghost use Rattle.ox_app.specs.declared.status.Status.TheVariants as ends;
 
 use crate::show::{say, tell};
 use crate::status::Status;
-use ox_index::empty_line;
 use ox_outside::Site;
+use ox_rules::empty_line;
 use ox_sat::ProfileName;
 use ox_store::{MakeFault, Store};
 use std::alloc::Global;

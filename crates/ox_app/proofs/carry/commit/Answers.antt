@@ -3,7 +3,7 @@ use Rattle.std.specs.Prelude.{Err, IsErrOf, Result}
 use Rattle.ox_outside.specs.Counts.{IsFailure}
 use Rattle.ox_outside.proofs.Counts.{stops_as, stops_at_none}
 use Rattle.ox_index.proofs.Tips.{tip_says}
-use Rattle.ox_index.specs.Reply.{tip_line}
+use Rattle.ox_rules.specs.Text.{tip_line}
 use Rattle.ox_app.specs.declared.carry.CarriedLine.{CarriedLine}
 use Rattle.ox_app.specs.declared.stop.Stop.{Stop}
 use Rattle.ox_app.specs.declared.stop.Stop.TheVariants as stops
