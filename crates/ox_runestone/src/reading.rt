@@ -56,7 +56,7 @@ fn are_flawed(fields: &Fields, outputs: u32) -> bool
 }
 
 /// The artifact of a message.
-fn judge(fields: &Fields, lone: bool, edicts: Option<Vec<Edict>>, outputs: u32) -> Artifact
+fn artifact_from(fields: &Fields, lone: bool, edicts: Option<Vec<Edict>>, outputs: u32) -> Artifact
     ensures { IsArtifactOf fields.now lone (option_map (λ v. v.items) edicts) outputs result }
 {
     let Some(edicts) = edicts else {
@@ -94,5 +94,5 @@ pub fn decipher(alloc: Global, script: &[u8], outputs: u32) -> Result<Artifact, 
     let mut fields = Fields::none();
     let rest = read_message(&mut fields, integers.as_slice());
     let edicts = edicts_of(alloc, outputs, rest.body)?;
-    Ok(judge(&fields, rest.lone, edicts, outputs))
+    Ok(artifact_from(&fields, rest.lone, edicts, outputs))
 }

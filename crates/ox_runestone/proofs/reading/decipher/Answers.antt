@@ -13,7 +13,7 @@ returns-in_default-clause-exact c = silent c.args.script.now c.args.outputs (sym
 
 pub returns-clause-exact : goal.returns-clause-exact
 returns-clause-exact c =
-    c.judge.ensures (message_of c.as_slice.result.now).fields c.read_message-rest.ensures.fields
+    c.artifact_from.ensures (message_of c.as_slice.result.now).fields c.read_message-rest.ensures.fields
     ∙ ap (λ l. artifact_from c.args.outputs (message_of c.as_slice.result.now).fields l (option_map (λ v. v.items) c.in_ok-edicts.edicts)) c.read_message-rest.ensures.lone
     ∙ ap (artifact_from c.args.outputs (message_of c.as_slice.result.now).fields (message_of c.as_slice.result.now).lone) (c.in_ok-edicts.ensures ∙ ap (edicts_of c.args.outputs) c.read_message-rest.ensures.body)
     ∙ ap (λ i. of_message c.args.outputs (message_of i)) c.as_slice.ensures.value
@@ -22,8 +22,8 @@ returns-clause-exact c =
 
 pub returns-clause-possible : goal.returns-clause-possible
 returns-clause-possible c =
-    artifact_can c.args.outputs c.as_slice.result.now c.judge.result c.read_message-rest.ensures.small
-    (c.judge.ensures (message_of c.as_slice.result.now).fields c.read_message-rest.ensures.fields
+    artifact_can c.args.outputs c.as_slice.result.now c.artifact_from.result c.read_message-rest.ensures.small
+    (c.artifact_from.ensures (message_of c.as_slice.result.now).fields c.read_message-rest.ensures.fields
     ∙ ap (λ l. artifact_from c.args.outputs (message_of c.as_slice.result.now).fields l (option_map (λ v. v.items) c.in_ok-edicts.edicts)) c.read_message-rest.ensures.lone
     ∙ ap (artifact_from c.args.outputs (message_of c.as_slice.result.now).fields (message_of c.as_slice.result.now).lone) (c.in_ok-edicts.ensures ∙ ap (edicts_of c.args.outputs) c.read_message-rest.ensures.body))
 
