@@ -9,7 +9,8 @@ use Rattle.ox_script.specs.Script.{little_endian}
 use Rattle.ox_script.specs.Witness.{tapscript, item_at}
 use Rattle.ox_block.specs.declared.block.TxIn.{TxIn}
 use Rattle.ox_envelope.specs.Envelope.{EnvelopePushes}
-use Rattle.ox_envelope.specs.Payload.{bit, inscribed_of}
+use Rattle.ox_envelope.specs.Mark.{bit}
+use Rattle.ox_envelope.specs.Payload.{inscribed_of}
 use Rattle.ox_envelope.specs.declared.inscribed.Inscribed.{Inscribed}
 use Rattle.ox_rules.specs.Outputs.{sats_of}
 use Rattle.ox_rules.specs.declared.rows.OutRow.{OutRow}

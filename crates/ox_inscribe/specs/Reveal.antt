@@ -11,7 +11,9 @@ use Rattle.ox_block.specs.declared.block.Tx.{Tx}
 use Rattle.ox_block.specs.declared.block.TxIn.{TxIn}
 use Rattle.ox_block.specs.declared.block.Txid.{Txid}
 use Rattle.ox_envelope.specs.Envelope.{envelopes}
-use Rattle.ox_envelope.specs.Payload.{bit, inscribed_of}
+use Rattle.ox_envelope.specs.Mark as mark
+use Rattle.ox_envelope.specs.Mark.{bit}
+use Rattle.ox_envelope.specs.Payload.{inscribed_of}
 use Rattle.ox_envelope.specs.declared.id.InsId.{InsId}
 use Rattle.ox_envelope.specs.declared.inscribed.Inscribed.{Inscribed}
 use Rattle.ox_rules.specs.Transfer.{values_of}
@@ -61,7 +63,7 @@ place_from taken before (Some pointer) =
 abbrev pub place_of : Revealing → Sighting → ℕ
 place_of tx seen = place_from tx.taken seen.before seen.says.pointer
 
--- unbound, whatever its pointer: an unknown even tag (bit 0 of its marks), or an input without
+-- unbound, whatever its pointer: the mark of an unknown even tag, which is 1, or an input without
 -- satoshis
 abbrev pub is_unbound : Sighting → Bool
 is_unbound seen = (seen.says.marks % 2 == 1) || (seen.sats == 0)
@@ -89,11 +91,13 @@ parents_of tx rows seen = filter (stands_among tx.joined rows) (each_once seen.s
 abbrev pub bears : List InsRow → Option ℕ → Bool
 bears rows sat = option_map_or (λ s. list_any (is_on s) rows) sat false
 
--- the marks of the envelope's fields, and: bit 3, another input than the first; bit 4, not the
--- first envelope of its input; bit 7, its satoshi bore an inscription before
+-- the marks that its script tells, and: another input than the first, not the first envelope of its
+-- input, and whether its satoshi bore an inscription before
 abbrev pub marks_of : Sighting → Bool → ℕ
 marks_of seen bore =
-    seen.says.marks + bit (not (seen.input == 0)) 8 + bit (not (seen.place == 0)) 16 + bit bore 128
+    seen.says.marks + bit (not (seen.input == 0)) mark.input
+    + bit (not (seen.place == 0)) mark.offset
+    + bit bore mark.reinscription
 
 -- The row of an envelope: the rows before its transaction, those before the envelope, and how many
 -- envelopes of the transaction come before it.

@@ -30,10 +30,7 @@ pub struct InsRow {
     pub delegate: Option<InsId>,
     /// Its parents, each once, in the order in which they were named.
     pub parents: Ids,
-    /// Bit 0: an unknown even tag. Bit 1: a tag other than 3 and 5 with two values. Bit 2: a last
-    /// tag without a value. Bit 3: an input other than the first. Bit 4: not the first envelope of
-    /// its input. Bit 5: a pointer. Bit 6: a push by OP_1NEGATE or OP_1 to OP_16. Bit 7: it is on a
-    /// satoshi that bore an inscription before.
+    /// The sum of its marks, of the eight that `ox_envelope::mark` names.
     pub marks: u16,
     /// The satoshi that it is on. An unbound inscription is on none.
     pub sat: Option<u64>,

@@ -2,7 +2,6 @@
 
 ghost use Rattle.std.specs.Prelude.{◌≡◌, ◌<◌, Some, None, nat_lt, if◌then◌else◌};
 ghost use Rattle.ox_script.specs.Script.{little_endian};
-ghost use Rattle.ox_envelope.specs.Payload.{bit};
 ghost use Rattle.ox_inscribe.specs.Reveal.{goes_to_fees, is_unbound, marks_of, place_from};
 ghost use Rattle.ox_inscribe.specs.Reveal.{place_of, sat_of};
 ghost use Rattle.ox_inscribe.specs.Scenes.{revealing};
@@ -10,6 +9,7 @@ ghost use Rattle.ox_inscribe.specs.Scenes.{revealing};
 use crate::sightings::Sighting;
 use ox_block::Txid;
 use ox_bytes::Bytes;
+use ox_envelope::mark::{INPUT, OFFSET, REINSCRIPTION, bit};
 use ox_range_index::RangeIndex;
 
 /// What the rows of a transaction have in common.
@@ -49,13 +49,6 @@ fn place_from(taken: u64, before: u64, pointer: &Option<Bytes>) -> u64
     }
 }
 
-/// A bit's worth, if it is set.
-fn bit(is_set: bool, worth: u16) -> u16
-    ensures { result ≡ bit is_set worth }
-{
-    if is_set { worth } else { 0 }
-}
-
 impl Sighting {
     /// Whether it is unbound.
     pub(crate) fn is_unbound(&self) -> bool
@@ -69,7 +62,10 @@ impl Sighting {
         requires { self.now.says.marks < 128 }
         ensures { result ≡ marks_of self.now bore }
     {
-        self.says.marks + bit(self.input != 0, 8) + bit(self.place != 0, 16) + bit(bore, 128)
+        self.says.marks
+            + bit(self.input != 0, INPUT)
+            + bit(self.place != 0, OFFSET)
+            + bit(bore, REINSCRIPTION)
     }
 }
 
