@@ -1,11 +1,9 @@
 -- What transactions reveal, as their rows come one by one.
-use Rattle.std.proofs.Common.{◌≡◌, ◌∙◌, ℕ, suc, ◌+◌, ◌-◌, ◌^◌, ◌<◌, ◌≤◌, Bool, List, [], ◌∷◌, ◌++◌, length, take, drop, get_or, refl, sym, ap, ap₂, subst, arith, append_assoc, append-nil, length-append}
+use Rattle.std.proofs.Common.{◌≡◌, ◌∙◌, ℕ, suc, ◌+◌, ◌-◌, ◌<◌, ◌≤◌, Bool, List, [], ◌∷◌, ◌++◌, length, take, drop, get_or, refl, sym, ap, ap₂, subst, arith, append_assoc, append-nil, length-append}
 use Rattle.std.specs.Prelude.{reverse, sum}
-use Rattle.std.specs.List.{AllZip, sum_by}
+use Rattle.std.specs.List.{AllZip}
 use Rattle.std.proofs.lemmas.List.{map-append, drop_more, drop_all, reverse-append}
-use Rattle.std.proofs.lemmas.List.Sums.{sum-map}
 use Rattle.ox_block.specs.declared.block.Tx.{Tx}
-use Rattle.ox_block.specs.declared.block.TxOut.{TxOut}
 use Rattle.ox_block.specs.declared.block.Txid.{Txid}
 use Rattle.ox_rules.specs.Transfer.{values_of}
 use Rattle.ox_rules.specs.declared.moved.MovedTx.{MovedTx}
@@ -100,9 +98,6 @@ by_scene scene height tx did rows seen txid height_is joined taken all =
 
 pub no_envelope : (height : ℕ) (tx : Tx) (did : MovedTx) (rows : List InsRow) (seen : List Sighting) → seen ≡ sightings_from 0 0 (sources_of tx.inputs did.spent) → seen ≡ [] → revealed_by rows (revealing_of height tx did) ≡ []
 no_envelope height tx did rows seen all none = ap (revealed_from (revealing_of height tx did) rows rows 0) (sym all ∙ none) ∙ from-none _ rows rows 0
-
-pub sum_fits : (tx : Tx) (did : MovedTx) (held : ℕ) → IsMoveOf tx did → held ≡ length did.joined → held < 2 ^ 64 → sum_by (λ (output : TxOut). output.value) tx.outputs < 2 ^ 64
-sum_fits tx did held moved is fits = omega (arith, moved.enough, is, fits, sum-map (λ (output : TxOut). output.value) tx.outputs)
 
 -- ---- transactions one by one
 

@@ -1,9 +1,9 @@
 //! What a block reveals.
 
 ghost use Rattle.std.specs.Prelude.{◌≡◌, ◌+◌, ◌-◌, ◌^◌, ◌<◌, ◌≤◌, ◌++◌, ◌∷◌, [], not, length, take};
-ghost use Rattle.std.specs.Prelude.{drop, map, option_to_list, reverse, sum, All, IfOk, IsSome};
+ghost use Rattle.std.specs.Prelude.{drop, option_to_list, reverse, All, IfOk, IsSome};
 ghost use Rattle.std.specs.Prelude.{OnOk, ◌↔◌};
-ghost use Rattle.std.specs.List.{AllZip, list_any, sum_by};
+ghost use Rattle.std.specs.List.{AllZip, list_any};
 ghost use Rattle.ox_inscribe.specs.Moves.{AreMovesOf, IsMoveOf};
 ghost use Rattle.ox_inscribe.specs.Reveal.{goes_to_fees, revealed_by, revealed_by_all};
 ghost use Rattle.ox_inscribe.specs.Reveal.{revealed_from, reveal_of};
@@ -18,11 +18,11 @@ use crate::scene::Scene;
 use crate::shared::SharedRow;
 use crate::shelf::push_row;
 use crate::sightings::{Sighting, sightings_of};
-use ox_block::{Block, Tx, TxOut};
+use ox_block::{Block, Tx};
 use ox_bytes::Memory;
 use ox_envelope::InsId;
 use ox_range_index::RangeIndex;
-use ox_rules::{Moved, MovedTx};
+use ox_rules::{Moved, MovedTx, value_sum};
 use std::alloc::Global;
 
 /// The row of an envelope. So many of the rows stood before its transaction, and the others are
@@ -126,14 +126,6 @@ fn reveal_seen(
         reveal_one(alloc, rows, keys, fees, scene, before, one)?;
     }
     Ok(())
-}
-
-/// The satoshis of all outputs together.
-fn value_sum(outputs: &[TxOut]) -> u64
-    requires { sum_by (λ output. output.value) outputs.now < 2 ^ 64 }
-    ensures { result ≡ sum (map (λ output. output.value) outputs.now) }
-{
-    outputs.iter().map(|output| output.value).sum()
 }
 
 /// Puts the rows that a transaction reveals behind the others. One without an envelope costs a look
