@@ -1,5 +1,5 @@
 -- How many of the first rows pass a test, and where those stand.
-use Rattle.std.proofs.Common.{◌≡◌, ◌∙◌, ◌<◌, ◌≤◌, ℕ, zero, suc, ◌+◌, Bool, true, false, cond, List, [], ◌∷◌, length, take, refl, sym, ap, arith, nat_lt}
+use Rattle.std.proofs.Common.{◌≡◌, ◌∙◌, ◌≤◌, ℕ, suc, ◌+◌, Bool, true, false, cond, List, [], ◌∷◌, length, take, refl, sym, ap, arith, nat_lt}
 use Rattle.std.specs.Prelude.{count_by, filter, not}
 use Rattle.std.proofs.lemmas.List.{length-take}
 use Rattle.std.proofs.lemmas.List.Sums.{sum_by-cons}
@@ -27,18 +27,6 @@ both_kinds passes (row ∷ rows) = by_test (passes row) (one_counts passes row r
       → count_by passes rows + count_by (λ r. not (passes r)) rows ≡ length rows → count_by passes (row ∷ rows) + count_by (λ r. not (passes r)) (row ∷ rows) ≡ suc (length rows)
   by_test true one other later = omega (arith, one, other, later)
   by_test false one other later = omega (arith, one, other, later)
-
--- the places of the first rows stand in front
-pub front_of_all : (passes : InsRow → Bool) (from n : ℕ) (rows : List InsRow) → take (length (numbers_where passes from (take n rows))) (numbers_where passes from rows) ≡ numbers_where passes from (take n rows)
-unfolding numbers_where
-front_of_all passes from zero rows = refl
-front_of_all passes from (suc n) [] = refl
-front_of_all passes from (suc n) (row ∷ rows) = by_test (passes row) (front_of_all passes (from + 1) n rows) where
-  by_test : (passed : Bool) → take (length (numbers_where passes (from + 1) (take n rows))) (numbers_where passes (from + 1) rows) ≡ numbers_where passes (from + 1) (take n rows)
-      → take (length (cond passed (from ∷ numbers_where passes (from + 1) (take n rows)) (numbers_where passes (from + 1) (take n rows)))) (cond passed (from ∷ numbers_where passes (from + 1) rows) (numbers_where passes (from + 1) rows))
-      ≡ cond passed (from ∷ numbers_where passes (from + 1) (take n rows)) (numbers_where passes (from + 1) (take n rows))
-  by_test true later = ap (λ (rest : List ℕ). from ∷ rest) later
-  by_test false later = later
 
 -- as many places are below an end as rows before it pass
 pub counted : (passes : InsRow → Bool) (n : ℕ) (rows : List InsRow) (places below : List ℕ) → places ≡ numbers_where passes 0 rows → below ≡ filter (λ k. nat_lt k n) places → length below ≡ count_by passes (take n rows)

@@ -3,7 +3,7 @@ use Rattle.std.proofs.Common.{◌≡◌, ◌∙◌, ℕ, ◌+◌, ◌-◌, ◌<�
 use Rattle.std.specs.Prelude.{not, filter, reverse}
 use Rattle.std.specs.List.{list_any}
 use Rattle.std.proofs.lemmas.Bool.{cond-true, cond-false, true≢false}
-use Rattle.std.proofs.lemmas.List.{drop_more, drop_all, take_more, length-take, length-drop, length-map, length-reverse, same_from_push, reverse-append, reverse-reverse}
+use Rattle.std.proofs.lemmas.List.{drop_more, drop_all, take_more, length-drop, length-map, same_from_push, reverse-append, reverse-reverse}
 use Rattle.ox_inscribe.specs.Reveal.{Revealed, rows_of, in_order}
 use Rattle.ox_inscribe.specs.Scenes.{fees_of, rows_if}
 use Rattle.ox_inscribe.specs.declared.row.InsRow.{InsRow}
@@ -63,19 +63,6 @@ popped whole rows new behind row is within split =
     let j_same : j ≡ length whole - behind - 1 = omega arith in
     let both = same_from_push new (take j whole) row (get_or whole j row) (sym split ∙ is ∙ ap (λ (n : ℕ). take n whole) j_on ∙ take_more whole j row (omega arith)) in
     (both.0, both.1 ∙ ap (λ (n : ℕ). get_or whole n row) j_same)
-
--- ---- how many there are
-
-pub parts_fit : (flags : List Bool) (rows : List InsRow) → length (rows_if not flags rows) + length (rows_if (λ fee. fee) flags rows) ≤ length rows
-unfolding rows_if
-parts_fit [] rows = omega arith
-parts_fit (flag ∷ flags) [] = omega arith
-parts_fit (true ∷ flags) (row ∷ rows) = let rest = parts_fit flags rows in omega (arith, rest)
-parts_fit (false ∷ flags) (row ∷ rows) = let rest = parts_fit flags rows in omega (arith, rest)
-
-pub room : (flags : List Bool) (rows kept gone : List InsRow) (start : ℕ) → start ≤ length rows → kept ≡ reverse (rows_if not flags (drop start rows)) → gone ≡ reverse (rows_if (λ fee. fee) flags (drop start rows)) → length (take start rows) + length kept + length gone ≤ length rows
-room flags rows kept gone start within is other =
-    omega (arith, ap length is ∙ length-reverse (rows_if not flags (drop start rows)), ap length other ∙ length-reverse (rows_if (λ fee. fee) flags (drop start rows)), parts_fit flags (drop start rows), length-take start rows, length-drop start rows)
 
 -- ---- where nothing goes to the fees
 

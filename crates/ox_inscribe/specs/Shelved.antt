@@ -22,6 +22,11 @@ pub record Shelved : Type 0 where
   pub mark : Option (List InsRow)
   pub jubilee : ℕ
 
+-- rows in order, and the jubilee by which they are numbered
+pub record Numbered : Type 0 where
+  pub rows : List InsRow
+  pub jubilee : ℕ
+
 -- ids by the bytes of their txid, and then by index
 abbrev pub id_cmp : InsId → InsId → Ordering
 id_cmp a b = ordering_then (slice_cmp nat_cmp a.txid b.txid) (nat_cmp a.index b.index)
@@ -122,16 +127,18 @@ pub record AreKeysUpTo (rows : List InsRow) (row : InsRow) (keys : Keys) : Type 
 
 -- the places of those of these rows that are cursed, rising
 abbrev pub AreCursed : List InsRow → Cursed → Type 0
-AreCursed rows cursed =
-    cursed.places.items ≡ numbers_where (is_cursed cursed.jubilee) 0 rows
+AreCursed rows cursed = cursed.places ≡ numbers_where (is_cursed cursed.jubilee) 0 rows
 
--- so many of these rows are shown, and so many stood at the mark: rows are hidden only where no row
--- came since
-pub record IsShelf (rows : List InsRow) (keys : Keys) (cursed : Cursed) (shown : ℕ)
-    (mark : Option ℕ) : Type 0 where
+-- these rows are found by the maps and noted where they are cursed, and numbers of 32 bits tell of
+-- them
+pub record AreRows (rows : List InsRow) (keys : Keys) (cursed : Cursed) : Type 0 where
   pub found : AreKeys rows keys
   pub noted : AreCursed rows cursed
   pub small : length rows < 2 ^ 32
+
+-- so many of these rows are shown, and so many stood at the mark: rows are hidden only where no row
+-- came since
+pub record IsShelf (rows : List InsRow) (shown : ℕ) (mark : Option ℕ) : Type 0 where
   pub fits : shown ≤ length rows
   pub marked : unwrap_or mark 0 ≤ length rows
   pub hidden : shown < length rows → mark ≡ Some (length rows)

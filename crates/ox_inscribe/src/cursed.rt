@@ -1,13 +1,11 @@
 //! Which rows are cursed.
 
-ghost use Rattle.std.specs.Prelude.{◌≡◌, ◌^◌, ◌<◌, ◌≤◌, [], ◌∷◌, ◌++◌, List, length, slice_get, take};
-ghost use Rattle.std.specs.Prelude.{Some, OnOk, OnErr, if◌then◌else◌};
-ghost use Rattle.std.specs.List.Sorted.{IsStrictlyIncreasing};
+ghost use Rattle.std.specs.Prelude.{◌≡◌, ◌<◌, [], ◌∷◌, ◌++◌, List, length, Some, OnOk, OnErr};
 ghost use Rattle.ox_inscribe.specs.Shelved.{AreCursed};
-ghost use Rattle.ox_inscribe.specs.Signed.{is_cursed, number_at, signed};
+ghost use Rattle.ox_inscribe.specs.Signed.{number_at, signed};
 ghost use Rattle.ox_inscribe.specs.declared.row.InsRow.{InsRow};
 
-use crate::numbers::numbers_below;
+use crate::numbers::{Numbers, numbers_below};
 use crate::row::InsRow;
 use crate::shared::SharedRow;
 use ox_bytes::Memory;
@@ -19,7 +17,7 @@ pub(crate) struct Cursed {
     /// Marked rows that were revealed below this height are cursed.
     pub(crate) jubilee: u64,
     /// The places, rising.
-    places: Vec<u32>,
+    places: Numbers,
 }
 
 /// The number of a cursed row behind so many cursed ones, or of another behind so many others.
@@ -41,69 +39,34 @@ impl Cursed {
     {
         Cursed {
             jubilee,
-            places: Vec::new(alloc),
+            places: Numbers::new(alloc),
         }
     }
 
-    /// Puts a row's place behind the others, if it is cursed.
-    fn note_row(&mut self, row: &InsRow, place: u32) -> Result<(), Memory>
-        ensures ok { OnOk result (self.new.places.items ≡ (if is_cursed self.old.jubilee row.now
-            then self.old.places.items ++ place ∷ [] else self.old.places.items)) }
-        ensures err { OnErr result (self.new.places.items ≡ self.old.places.items) }
+    /// Puts a row's place behind the others, if it is cursed. `Memory` where there is none for it:
+    /// nothing has changed then.
+    pub(crate) fn note(&mut self, row: &InsRow, place: u32) -> Result<(), Memory>
+        ensures ok { OnOk result ((rows : List InsRow) → AreCursed rows self.old
+            → length rows ≡ place → AreCursed (rows ++ row.now ∷ []) self.new) }
+        ensures err { OnErr result ((rows : List InsRow) → AreCursed rows self.old
+            → AreCursed rows self.new) }
+        ensures jubilee { self.new.jubilee ≡ self.old.jubilee }
+    {
+        if !row.is_cursed(self.jubilee) {
+            return Ok(());
+        }
+        self.places.push(place)
+    }
+
+    /// Takes the place of the last row away, if it is cursed.
+    pub(crate) fn forget(&mut self, row: &InsRow, place: u32)
+        ensures rows { (rows : List InsRow) → AreCursed (rows ++ row.now ∷ []) self.old
+            → length rows ≡ place → AreCursed rows self.new }
         ensures jubilee { self.new.jubilee ≡ self.old.jubilee }
     {
         if row.is_cursed(self.jubilee) {
-            self.places.push(place)?;
+            self.places.pop(place);
         }
-        Ok(())
-    }
-
-    /// Puts the places of those from one on that are cursed behind the others, as far as there is
-    /// memory.
-    fn note_what_fits(&mut self, rows: &[SharedRow], from: usize) -> Result<(), Memory>
-        requires before { AreCursed (take from rows.now) self.old }
-        requires from { from ≤ length rows.now }
-        requires small { length rows.now < 2 ^ 32 }
-        ensures ok { OnOk result (AreCursed rows.now self.new) }
-        ensures front { take (length self.old.places.items) self.new.places.items
-            ≡ self.old.places.items }
-        ensures jubilee { self.new.jubilee ≡ self.old.jubilee }
-    {
-        for place in from..rows.len() {
-            self.note_row(rows[place].row(), place as u32)?;
-        }
-        Ok(())
-    }
-
-    /// Notes which of the rows from a place on are cursed. `Memory` where there is none for it:
-    /// nothing has changed then.
-    pub(crate) fn note(&mut self, rows: &[SharedRow], from: usize) -> Result<(), Memory>
-        requires before { AreCursed (take from rows.now) self.old }
-        requires from { from ≤ length rows.now }
-        requires small { length rows.now < 2 ^ 32 }
-        ensures ok { OnOk result (AreCursed rows.now self.new) }
-        ensures err { OnErr result (AreCursed (take from rows.now) self.new) }
-        ensures jubilee { self.new.jubilee ≡ self.old.jubilee }
-    {
-        let before = self.places.len();
-        match self.note_what_fits(rows, from) {
-            Ok(()) => Ok(()),
-            Err(e) => {
-                self.places.truncate(before);
-                Err(e)
-            }
-        }
-    }
-
-    /// Keeps those of the first rows alone, so many at most. It takes no memory.
-    pub(crate) fn truncate(&mut self, len: usize)
-        requires rise { IsStrictlyIncreasing self.old.places.items }
-        ensures rows { (rows : List InsRow) → AreCursed rows self.old
-            → AreCursed (take len rows) self.new }
-        ensures jubilee { self.new.jubilee ≡ self.old.jubilee }
-    {
-        let left = numbers_below(&self.places, len).len();
-        self.places.truncate(left);
     }
 
     /// The signed number of the row at a place. It costs by the logarithm of how many are cursed.
@@ -112,7 +75,7 @@ impl Cursed {
         requires there { place < length rows.now }
         ensures { number_at self.now.jubilee rows.now place ≡ Some result }
     {
-        let cursed = numbers_below(&self.places, place as usize).len() as u32;
+        let cursed = numbers_below(self.places.as_slice(), place).len() as u32;
         let row = rows[place as usize].row();
         signed(row.is_cursed(self.jubilee), cursed, place - cursed)
     }

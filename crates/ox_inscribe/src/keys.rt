@@ -70,11 +70,11 @@ fn drop_first(ids: &mut Shards<InsId, u32>, id: &InsId, number: u32)
 }
 
 /// Whether the first of these numbers is below an end.
-fn starts_below(numbers: &[u32], end: usize) -> bool
+fn starts_below(numbers: &[u32], end: u32) -> bool
     ensures { result ≡ starts_below end numbers.now }
 {
     match numbers.first() {
-        Some(first) => (*first as usize) < end,
+        Some(first) => *first < end,
         None => false,
     }
 }
@@ -136,7 +136,7 @@ impl Keys {
     }
 
     /// The least satoshi from a number up whose first row stands below an end, and the rows on it.
-    pub(crate) fn next_on(&self, sat: u64, end: usize) -> Option<(u64, &[u32])>
+    pub(crate) fn next_on(&self, sat: u64, end: u32) -> Option<(u64, &[u32])>
         ensures { IsNextBelow self.now.sats sat end
             (option_map (λ found. (found.0, found.1.now)) result) }
     {

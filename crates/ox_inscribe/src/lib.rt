@@ -18,6 +18,7 @@ mod numbers;
 mod parents;
 mod reveal;
 mod row;
+mod rows;
 mod scene;
 mod shared;
 mod shelf;

@@ -28,6 +28,15 @@ impl Model for Numbers {
 }
 
 impl Numbers {
+    /// None. It takes no memory.
+    pub(crate) fn new(alloc: Global) -> Numbers
+        ensures { result ≡ [] }
+    {
+        Numbers {
+            items: SmallVec::new(alloc),
+        }
+    }
+
     /// One number. `Memory` where there is none for it.
     pub(crate) fn one(alloc: Global, number: u32) -> Result<Numbers, Memory>
         ensures { IfOk result (λ numbers. numbers ≡ number ∷ []) }
@@ -70,11 +79,11 @@ impl Numbers {
 }
 
 /// The numbers below an end, of some that rise.
-pub(crate) fn numbers_below(numbers: &[u32], end: usize) -> &[u32]
+pub(crate) fn numbers_below(numbers: &[u32], end: u32) -> &[u32]
     requires { IsStrictlyIncreasing numbers.now }
     ensures { result.now ≡ filter (λ n. nat_lt n end) numbers.now }
 {
-    let len = numbers.partition_point(|n| (*n as usize) < end);
+    let len = numbers.partition_point(|n| *n < end);
     let (front, _) = numbers.split_at(len);
     front
 }

@@ -1,16 +1,14 @@
 //! The rows that an inscription names and bears upon.
 
-ghost use Rattle.std.specs.Prelude.{◌≡◌, ◌≤◌, ◌&&◌, true, not, List, filter, length, take, IfOk};
+ghost use Rattle.std.specs.Prelude.{◌≡◌, ◌≤◌, ◌&&◌, true, not, filter, length, take, IfOk};
 ghost use Rattle.std.specs.Prelude.{OnOk, if◌then◌else◌};
 ghost use Rattle.std.specs.BTreeSet.{contains};
 ghost use Rattle.std.specs.Ordering.{is_eq};
 ghost use Rattle.ox_envelope.specs.declared.id.InsId.{InsId};
 ghost use Rattle.ox_inscribe.specs.Reveal.{bears, each_once, stands_among};
-ghost use Rattle.ox_inscribe.specs.Shelved.{AreKeys, id_cmp};
-ghost use Rattle.ox_inscribe.specs.declared.row.InsRow.{InsRow};
+ghost use Rattle.ox_inscribe.specs.Shelved.{id_cmp};
 
-use crate::keys::Keys;
-use crate::shared::SharedRow;
+use crate::rows::Rows;
 use ox_bytes::Memory;
 use ox_envelope::{Ids, InsId};
 use ox_range_index::RangeIndex;
@@ -18,25 +16,17 @@ use std::alloc::Global;
 use std::collections::BTreeSet;
 
 /// Whether the first of so many rows that has an id is on one of these satoshis.
-fn stands_among(
-    joined: &RangeIndex<'_>,
-    rows: &[SharedRow],
-    keys: &Keys,
-    count: usize,
-    id: &InsId,
-) -> bool
-    requires found { AreKeys rows.now keys.now }
-    requires count { count ≤ length rows.now }
-    ensures { result ≡ stands_among joined.now (take count rows.now) id.now }
+fn stands_among(joined: &RangeIndex<'_>, rows: &Rows, count: u32, id: &InsId) -> bool
+    requires { count ≤ length rows.now.rows }
+    ensures { result ≡ stands_among joined.now (take count rows.now.rows) id.now }
 {
-    let Some(number) = keys.find(id) else {
+    let Some(number) = rows.find(id) else {
         return false
     };
-    let number = number as usize;
     if number >= count {
         return false;
     }
-    match rows[number].row().sat {
+    match rows.row(number).sat {
         Some(sat) => joined.contains(sat),
         None => false,
     }
@@ -45,23 +35,21 @@ fn stands_among(
 /// Whether an id wasn't met before and stands among so many rows, as above. It is met now.
 fn is_parent(
     joined: &RangeIndex<'_>,
-    rows: &[SharedRow],
-    keys: &Keys,
-    count: usize,
+    rows: &Rows,
+    count: u32,
     met: &mut BTreeSet<InsId>,
     id: InsId,
 ) -> Result<bool, Memory>
-    requires found { AreKeys rows.now keys.now }
-    requires count { count ≤ length rows.now }
-    ensures parent { IfOk result (λ is_parent. is_parent
-        ≡ (not (contains id_cmp met.old id) && stands_among joined.now (take count rows.now) id)) }
+    requires { count ≤ length rows.now.rows }
+    ensures parent { IfOk result (λ is_parent. is_parent ≡ (not (contains id_cmp met.old id)
+        && stands_among joined.now (take count rows.now.rows) id)) }
     ensures met { OnOk result ((other : InsId) → contains id_cmp met.new other
         ≡ (if is_eq (id_cmp id other) then true else contains id_cmp met.old other)) }
 {
     if !met.insert(id)? {
         return Ok(false);
     }
-    Ok(stands_among(joined, rows, keys, count, &id))
+    Ok(stands_among(joined, rows, count, &id))
 }
 
 /// Of the ids that are named, each once, those whose first row among so many is on one of these
@@ -69,20 +57,18 @@ fn is_parent(
 pub(crate) fn parents_among(
     alloc: Global,
     joined: &RangeIndex<'_>,
-    rows: &[SharedRow],
-    keys: &Keys,
-    count: usize,
+    rows: &Rows,
+    count: u32,
     named: &[InsId],
 ) -> Result<Ids, Memory>
-    requires found { AreKeys rows.now keys.now }
-    requires count { count ≤ length rows.now }
+    requires { count ≤ length rows.now.rows }
     ensures { IfOk result (λ parents. parents
-        ≡ filter (stands_among joined.now (take count rows.now)) (each_once named.now)) }
+        ≡ filter (stands_among joined.now (take count rows.now.rows)) (each_once named.now)) }
 {
     let mut met = BTreeSet::new(alloc);
     let mut parents = Ids::new(alloc);
     for id in named {
-        if is_parent(joined, rows, keys, count, &mut met, *id)? {
+        if is_parent(joined, rows, count, &mut met, *id)? {
             parents.push(*id)?;
         }
     }
@@ -90,11 +76,11 @@ pub(crate) fn parents_among(
 }
 
 /// Whether a row is on this satoshi.
-pub(crate) fn bears(keys: &Keys, sat: Option<u64>) -> bool
-    ensures { (rows : List InsRow) → AreKeys rows keys.now → result ≡ bears rows sat }
+pub(crate) fn bears(rows: &Rows, sat: Option<u64>) -> bool
+    ensures { result ≡ bears rows.now.rows sat }
 {
     match sat {
-        Some(sat) => !keys.on(sat).is_empty(),
+        Some(sat) => !rows.on(sat).is_empty(),
         None => false,
     }
 }

@@ -1,19 +1,17 @@
 //! Inscriptions in memory.
 
-ghost use Rattle.std.specs.Prelude.{◌≡◌, ℕ, ◌+◌, ◌-◌, ◌^◌, ◌<◌, ◌≤◌, [], ◌∷◌, ◌++◌, length, take};
+ghost use Rattle.std.specs.Prelude.{◌≡◌, ◌+◌, ◌-◌, ◌^◌, ◌<◌, ◌≤◌, [], ◌++◌, length, take};
 ghost use Rattle.std.specs.Prelude.{◌==◌, Some, None, IsSome, IfOk, OnOk, OnErr, slice_get};
 ghost use Rattle.std.specs.Prelude.{drop, option_map};
 ghost use Rattle.ox_inscribe.specs.Inscriptions.{find, on, next_on, children};
 ghost use Rattle.ox_inscribe.specs.Moves.{AreMovesOf};
 ghost use Rattle.ox_inscribe.specs.Reveal.{reveal_of};
-ghost use Rattle.ox_inscribe.specs.Shelved.{AreCursed, AreKeys};
 ghost use Rattle.ox_inscribe.specs.Signed.{number_at};
 
-use crate::cursed::Cursed;
-use crate::keys::Keys;
 use crate::numbers::numbers_below;
 use crate::reveal::reveal_rows;
 use crate::row::InsRow;
+use crate::rows::Rows;
 use crate::shared::SharedRow;
 use ox_block::Block;
 use ox_bytes::{List, Memory};
@@ -31,13 +29,11 @@ use std::marker::Model;
 pub struct Shelf {
     alloc: Global,
     /// All rows, the unseen ones behind the others.
-    rows: Vec<SharedRow>,
-    keys: Keys,
-    cursed: Cursed,
+    rows: Rows,
     /// How many rows are seen.
-    shown: usize,
+    shown: u32,
     /// How many stood at the mark.
-    mark: Option<usize>,
+    mark: Option<u32>,
 }
 
 /// By hand, so that whoever drops a shelf makes one call, and proves nothing of its fields.
@@ -46,8 +42,6 @@ impl Drop for Shelf {
         let Shelf {
             alloc: _alloc,
             rows: _rows,
-            keys: _keys,
-            cursed: _cursed,
             shown: _shown,
             mark: _mark,
         } = self;
@@ -61,45 +55,22 @@ impl Model for Shelf {
     ghost Value = { Shelved };
 
     ghost view = { λ shelf. record {
-      rows = take shelf.shown shelf.rows.items;
-      mark = option_map (λ n. take n shelf.rows.items) shelf.mark;
-      jubilee = shelf.cursed.jubilee;
+      rows = take shelf.shown shelf.rows.rows;
+      mark = option_map (λ n. take n shelf.rows.rows) shelf.mark;
+      jubilee = shelf.rows.jubilee;
     } };
 
-    ghost invariant = { λ shelf.
-        IsShelf shelf.rows.items shelf.keys shelf.cursed shelf.shown shelf.mark };
-}
-
-/// Puts a row behind others that are found by these keys. `Memory` where there is none for it: the
-/// rows are as before.
-pub(crate) fn push_row(
-    rows: &mut Vec<SharedRow>,
-    keys: &mut Keys,
-    row: SharedRow,
-) -> Result<(), Memory>
-    requires found { AreKeys rows.old.items keys.old }
-    requires small { length rows.old.items < 2 ^ 32 }
-    ensures ok { OnOk result (rows.new.items ≡ rows.old.items ++ row ∷ []) }
-    ensures err { OnErr result (rows.new.items ≡ rows.old.items) }
-    ensures found { AreKeys rows.new.items keys.new }
-{
-    rows.reserve(1)?;
-    keys.add(row.row(), rows.len() as u32)?;
-    rows.push_reserved(row);
-    Ok(())
+    ghost invariant = { λ shelf. IsShelf shelf.rows.rows shelf.shown shelf.mark };
 }
 
 /// Puts rows behind others, as far as there is memory. They are shared.
-fn push_rows(rows: &mut Vec<SharedRow>, keys: &mut Keys, more: &[SharedRow]) -> Result<(), Memory>
-    requires found { AreKeys rows.old.items keys.old }
-    requires small { length rows.old.items + length more.now < 2 ^ 32 }
-    ensures ok { OnOk result (rows.new.items ≡ rows.old.items ++ more.now) }
-    ensures front { take (length rows.old.items) rows.new.items ≡ rows.old.items }
-    ensures small { length rows.new.items < 2 ^ 32 }
-    ensures found { AreKeys rows.new.items keys.new }
+fn push_rows(rows: &mut Rows, more: &[SharedRow]) -> Result<(), Memory>
+    ensures ok { OnOk result (rows.new.rows ≡ rows.old.rows ++ more.now) }
+    ensures front { take (length rows.old.rows) rows.new.rows ≡ rows.old.rows }
+    ensures jubilee { rows.new.jubilee ≡ rows.old.jubilee }
 {
     for row in more {
-        push_row(rows, keys, row.share()?)?;
+        rows.push(row.share()?)?;
     }
     Ok(())
 }
@@ -115,61 +86,6 @@ fn share_all(alloc: Global, rows: &[SharedRow]) -> Result<List<SharedRow>, Memor
     Ok(shared)
 }
 
-/// Takes the last rows away until so many are left.
-fn shorten(rows: &mut Vec<SharedRow>, keys: &mut Keys, len: usize)
-    requires found { AreKeys rows.old.items keys.old }
-    requires small { length rows.old.items < 2 ^ 32 }
-    ensures rows { rows.new.items ≡ take len rows.old.items }
-    ensures found { AreKeys rows.new.items keys.new }
-{
-    while rows.len() > len {
-        if let Some(row) = rows.pop() {
-            keys.forget(row.row(), rows.len() as u32);
-        }
-    }
-}
-
-/// Takes the last rows away until so many are left, and forgets which of them were cursed.
-fn cut(rows: &mut Vec<SharedRow>, keys: &mut Keys, cursed: &mut Cursed, len: usize)
-    requires found { AreKeys rows.old.items keys.old }
-    requires noted { AreCursed rows.old.items cursed.old }
-    requires small { length rows.old.items < 2 ^ 32 }
-    ensures rows { rows.new.items ≡ take len rows.old.items }
-    ensures found { AreKeys rows.new.items keys.new }
-    ensures noted { AreCursed rows.new.items cursed.new }
-    ensures jubilee { cursed.new.jubilee ≡ cursed.old.jubilee }
-{
-    cursed.truncate(len);
-    shorten(rows, keys, len);
-}
-
-/// Notes which of the rows from a place on are cursed. `Memory` where there is none for it: those
-/// rows are taken away then.
-fn note_or_shorten(
-    rows: &mut Vec<SharedRow>,
-    keys: &mut Keys,
-    cursed: &mut Cursed,
-    from: usize,
-) -> Result<(), Memory>
-    requires found { AreKeys rows.old.items keys.old }
-    requires noted { AreCursed (take from rows.old.items) cursed.old }
-    requires from { from ≤ length rows.old.items }
-    requires small { length rows.old.items < 2 ^ 32 }
-    ensures ok { OnOk result (rows.new.items ≡ rows.old.items) }
-    ensures err { OnErr result (rows.new.items ≡ take from rows.old.items) }
-    ensures found { AreKeys rows.new.items keys.new }
-    ensures noted { AreCursed rows.new.items cursed.new }
-    ensures jubilee { cursed.new.jubilee ≡ cursed.old.jubilee }
-{
-    match cursed.note(rows, from) {
-        Ok(()) => Ok(()),
-        Err(e) => {
-            shorten(rows, keys, from);
-            Err(e)
-        }
-    }
-}
-
 impl Shelf {
     /// No rows, and no mark. Marked rows that are revealed below this jubilee are cursed. It takes
     /// no memory until a row is appended.
@@ -180,9 +96,7 @@ impl Shelf {
     {
         Shelf {
             alloc,
-            rows: Vec::new(alloc),
-            keys: Keys::new(alloc),
-            cursed: Cursed::new(alloc, jubilee),
+            rows: Rows::new(alloc, jubilee),
             shown: 0,
             mark: None,
         }
@@ -192,7 +106,7 @@ impl Shelf {
     pub fn len(&self) -> u32
         ensures { result ≡ length self.now.rows }
     {
-        self.shown as u32
+        self.shown
     }
 
     /// Whether there are none.
@@ -207,7 +121,7 @@ impl Shelf {
         requires { n < length self.now.rows }
         ensures { slice_get self.now.rows n ≡ Some result.now }
     {
-        self.rows[n as usize].row()
+        self.rows.row(n)
     }
 
     /// The signed number of the row with a sequence: of a cursed one -1 less the cursed ones before
@@ -217,7 +131,7 @@ impl Shelf {
         requires { n < length self.now.rows }
         ensures { number_at self.now.jubilee self.now.rows n ≡ Some result }
     {
-        self.cursed.number(&self.rows, n)
+        self.rows.number(n)
     }
 
     /// The rows from a sequence on, which are shared, not copied. `Memory` where there is none for
@@ -226,15 +140,18 @@ impl Shelf {
         requires { n ≤ length self.now.rows }
         ensures { IfOk result (λ rows. rows ≡ drop n self.now.rows) }
     {
-        share_all(self.alloc, &self.rows[n as usize..self.shown])
+        share_all(
+            self.alloc,
+            &self.rows.as_slice()[n as usize..self.shown as usize],
+        )
     }
 
     /// The sequence of the first row with an id, if there is one.
     pub fn find(&self, id: &InsId) -> Option<u32>
         ensures { result ≡ find self.now.rows id.now }
     {
-        let number = self.keys.find(id)?;
-        if (number as usize) < self.shown {
+        let number = self.rows.find(id)?;
+        if number < self.shown {
             Some(number)
         } else {
             None
@@ -245,7 +162,7 @@ impl Shelf {
     pub fn on(&self, sat: u64) -> &[u32]
         ensures { result.now ≡ on self.now.rows sat }
     {
-        numbers_below(self.keys.on(sat), self.shown)
+        numbers_below(self.rows.on(sat), self.shown)
     }
 
     /// The least satoshi from a number up that a row is on, and the sequences of the rows on it,
@@ -254,10 +171,7 @@ impl Shelf {
         ensures { option_map (λ found. (found.0, found.1.now)) result
             ≡ next_on self.now.rows sat }
     {
-        match self.keys.next_on(sat, self.shown) {
-            Some((found, numbers)) => Some((found, numbers_below(numbers, self.shown))),
-            None => None,
-        }
+        self.rows.next_on(sat, self.shown)
     }
 
     /// The sequences of the rows among whose parents the id of the row with a sequence stands,
@@ -266,7 +180,7 @@ impl Shelf {
         requires { of < length self.now.rows }
         ensures { result.now ≡ children self.now.rows of }
     {
-        numbers_below(self.keys.children(&self.row(of).id), self.shown)
+        numbers_below(self.rows.children(&self.row(of).id), self.shown)
     }
 
     /// Puts these rows behind the others. They are shared, not copied. While rows that stood at the
@@ -282,14 +196,13 @@ impl Shelf {
         if self.rows.len() > self.shown {
             return Err(Memory);
         }
-        match push_rows(&mut self.rows, &mut self.keys, rows) {
+        match push_rows(&mut self.rows, rows) {
             Ok(()) => {
-                note_or_shorten(&mut self.rows, &mut self.keys, &mut self.cursed, self.shown)?;
                 self.shown = self.rows.len();
                 Ok(())
             }
             Err(e) => {
-                shorten(&mut self.rows, &mut self.keys, self.shown);
+                self.rows.truncate(self.shown);
                 Err(e)
             }
         }
@@ -320,22 +233,14 @@ impl Shelf {
         if self.shown < self.rows.len() {
             return Err(Memory);
         }
-        match reveal_rows(
-            self.alloc,
-            &mut self.rows,
-            &mut self.keys,
-            moved,
-            block,
-            height,
-        ) {
+        match reveal_rows(self.alloc, &mut self.rows, moved, block, height) {
             Ok(()) => {
-                note_or_shorten(&mut self.rows, &mut self.keys, &mut self.cursed, self.shown)?;
                 let count = self.rows.len() - self.shown;
                 self.shown = self.rows.len();
-                Ok(count as u32)
+                Ok(count)
             }
             Err(e) => {
-                shorten(&mut self.rows, &mut self.keys, self.shown);
+                self.rows.truncate(self.shown);
                 Err(e)
             }
         }
@@ -348,9 +253,9 @@ impl Shelf {
         ensures mark { self.new.mark ≡ self.old.mark }
         ensures jubilee { self.new.jubilee ≡ self.old.jubilee }
     {
-        let left = self.shown - n as usize;
+        let left = self.shown - n;
         let end = left.max(self.mark.unwrap_or(0));
-        cut(&mut self.rows, &mut self.keys, &mut self.cursed, end);
+        self.rows.truncate(end);
         self.shown = left;
     }
 
@@ -360,7 +265,7 @@ impl Shelf {
         ensures mark { self.new.mark ≡ Some self.old.rows }
         ensures jubilee { self.new.jubilee ≡ self.old.jubilee }
     {
-        cut(&mut self.rows, &mut self.keys, &mut self.cursed, self.shown);
+        self.rows.truncate(self.shown);
         self.mark = Some(self.shown);
     }
 
@@ -372,7 +277,7 @@ impl Shelf {
         ensures jubilee { self.new.jubilee ≡ self.old.jubilee }
     {
         if let Some(len) = self.mark {
-            cut(&mut self.rows, &mut self.keys, &mut self.cursed, len);
+            self.rows.truncate(len);
             self.shown = len;
         }
         self.mark = None;

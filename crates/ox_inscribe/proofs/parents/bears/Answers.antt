@@ -6,8 +6,8 @@ use Rattle.ox_inscribe.proofs.StandLaws.{any_where}
 use Rattle.ox_inscribe.proofs.parents.bears.Goals as goal
 
 pub returns-in-Some : goal.returns-in-Some
-returns-in-Some c = λ rows keys.
+returns-in-Some c =
     ap (λ (b : Bool). not b) c.is_empty.ensures
-    ∙ ap (λ (numbers : List ℕ). not (length numbers == 0)) (c.on.ensures ∙ keys.sats c.in-Some.sat)
-    ∙ any_where (is_on c.in-Some.sat) 0 rows
-    ∙ ap (bears rows) (sym c.in-Some.is)
+    ∙ ap (λ (numbers : List ℕ). not (length numbers == 0)) c.on.ensures
+    ∙ any_where (is_on c.in-Some.sat) 0 c.args.rows.now.rows
+    ∙ ap (bears c.args.rows.now.rows) (sym c.in-Some.is)

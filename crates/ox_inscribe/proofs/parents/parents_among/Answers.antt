@@ -11,7 +11,7 @@ use Rattle.ox_inscribe.proofs.parents.parents_among.Goals.{then-branch+in_ok-pus
 pub loop-id-init : goal.loop-id-init
 loop-id-init c = record {
   met = λ q. ap (λ (keys : List InsId). contains id_cmp (record { keys = keys }) q) c.new-met.ensures.empty;
-  parents = c.new-parents.ensures ∙ sym (ap (filter (stands_among c.args.joined.now (take c.args.count c.args.rows.now))) once-none);
+  parents = c.new-parents.ensures ∙ sym (ap (filter (stands_among c.args.joined.now (take c.args.count c.args.rows.now.rows))) once-none);
 }
 
 pub loop-id-preserved : goal.loop-id-preserved
@@ -19,10 +19,10 @@ loop-id-preserved c = record {
   met = met_more c.loop-id.met c.is_parent.new.met c.args.named.now c.loop-id.id-index _ c.loop-id-test.true c.in_ok-is_parent.ensures.met c.loop-id.invariant.met;
   parents = elim c.if-branch.branch [
     | then-branch+in_ok-push w ↦
-        kept_more (stands_among c.args.joined.now (take c.args.count c.args.rows.now)) c.args.named.now c.loop-id.parents c.if-branch.parents c.loop-id.id-index _ _ c.loop-id-test.true (c.loop-id.invariant.met _)
+        kept_more (stands_among c.args.joined.now (take c.args.count c.args.rows.now.rows)) c.args.named.now c.loop-id.parents c.if-branch.parents c.loop-id.id-index _ _ c.loop-id-test.true (c.loop-id.invariant.met _)
         (sym w.if-branch.true ∙ c.in_ok-is_parent.ensures.parent) (w.parents-is ∙ w.in_ok-push.ensures.ok) c.loop-id.invariant.parents
     | else-branch w ↦
-        w.parents-is ∙ kept_same (stands_among c.args.joined.now (take c.args.count c.args.rows.now)) c.args.named.now c.loop-id.parents c.loop-id.id-index _ _ c.loop-id-test.true (c.loop-id.invariant.met _)
+        w.parents-is ∙ kept_same (stands_among c.args.joined.now (take c.args.count c.args.rows.now.rows)) c.args.named.now c.loop-id.parents c.loop-id.id-index _ _ c.loop-id-test.true (c.loop-id.invariant.met _)
         (sym w.if-branch.false ∙ c.in_ok-is_parent.ensures.parent) c.loop-id.invariant.parents
   ];
 }

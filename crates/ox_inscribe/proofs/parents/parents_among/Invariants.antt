@@ -11,5 +11,5 @@ use Rattle.ox_inscribe.proofs.parents.parents_among.Given as goal
 abbrev pub invariant-loop-id : goal.invariant-loop-id
 invariant-loop-id l = record {
   met : (id : InsId) → contains id_cmp l.met id ≡ list_any (λ one. is_same_id one id) (take l.id-index l.named);
-  parents : l.parents ≡ filter (stands_among l.joined (take l.count l.rows)) (each_once (take l.id-index l.named));
+  parents : l.parents ≡ filter (stands_among l.joined (take l.count l.rows.rows)) (each_once (take l.id-index l.named));
 }

@@ -1,15 +1,13 @@
-use Rattle.std.proofs.Common.{◌≡◌, ◌+◌, ◌^◌, ◌<◌, ◌++◌, length, take}
+use Rattle.std.proofs.Common.{◌≡◌, ◌++◌, length, take}
 use Rattle.std.specs.Prelude.{reverse}
-use Rattle.ox_inscribe.specs.Shelved.{AreKeys}
 use Rattle.ox_inscribe.proofs.reveal.put_back.Given as goal
 
 -- the rows so far, and those that are left
 abbrev pub invariant-loop-row : goal.invariant-loop-row
 invariant-loop-row l = record {
-  rows : l.rows.items ++ reverse l.more.items ≡ l.fn.rows.items ++ reverse l.fn.more.items;
-  front : take (length l.fn.rows.items) l.rows.items ≡ l.fn.rows.items;
-  small : length l.rows.items + length l.more.items < 2 ^ 32;
-  found : AreKeys l.rows.items l.keys;
+  rows : l.rows.rows ++ reverse l.more.items ≡ l.fn.rows.rows ++ reverse l.fn.more.items;
+  front : take (length l.fn.rows.rows) l.rows.rows ≡ l.fn.rows.rows;
+  jubilee : l.rows.jubilee ≡ l.fn.rows.jubilee;
 }
 
 abbrev pub decreases-loop-row : goal.decreases-loop-row

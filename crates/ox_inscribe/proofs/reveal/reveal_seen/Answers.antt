@@ -10,28 +10,27 @@ use Rattle.ox_inscribe.proofs.reveal.reveal_seen.Goals as goal
 pub loop-one-preserved : goal.loop-one-preserved
 loop-one-preserved c =
     let tx = revealing c.args.scene.now in
-    let base = c.args.rows.now.items in
-    let earlier = c.loop-one.rows.items in
+    let base = c.args.rows.now.rows in
+    let earlier = c.loop-one.rows.rows in
     let one = c.in-Some.one in
     let shown = popped_seen c.loop-one.seen.items c.pop.new.self.items one c.in-Some.ensures.items in
     let pushed = c.in_ok-reveal_one.ensures.rows ∙ ap (λ (n : ℕ). earlier ++ row_of tx (take n earlier) earlier (length earlier - n) one ∷ []) c.loop-one.invariant.before in record {
-      rows = rows_more tx base earlier c.reveal_one.new.rows.items _ one (reverse c.pop.new.self.items) (reverse c.loop-one.seen.items) shown c.loop-one.invariant.front c.loop-one.invariant.longer pushed c.loop-one.invariant.rows;
-      fees = fees_more tx base earlier c.reveal_one.new.rows.items c.loop-one.fees.items c.reveal_one.new.fees.items _ one (reverse c.pop.new.self.items) (reverse c.loop-one.seen.items) shown c.loop-one.invariant.front c.loop-one.invariant.longer pushed c.in_ok-reveal_one.ensures.fees c.loop-one.invariant.fees;
+      rows = rows_more tx base earlier c.reveal_one.new.rows.rows _ one (reverse c.pop.new.self.items) (reverse c.loop-one.seen.items) shown c.loop-one.invariant.front c.loop-one.invariant.longer pushed c.loop-one.invariant.rows;
+      fees = fees_more tx base earlier c.reveal_one.new.rows.rows c.loop-one.fees.items c.reveal_one.new.fees.items _ one (reverse c.pop.new.self.items) (reverse c.loop-one.seen.items) shown c.loop-one.invariant.front c.loop-one.invariant.longer pushed c.in_ok-reveal_one.ensures.fees c.loop-one.invariant.fees;
       before = c.loop-one.invariant.before;
       longer = omega (arith, ap length pushed ∙ length-append earlier _, c.loop-one.invariant.longer);
       front =
-          sym (take-take (length base) (length earlier) c.reveal_one.new.rows.items c.loop-one.invariant.longer)
+          sym (take-take (length base) (length earlier) c.reveal_one.new.rows.rows c.loop-one.invariant.longer)
           ∙ ap (take (length base)) c.in_ok-reveal_one.ensures.front
           ∙ c.loop-one.invariant.front;
-      small = c.in_ok-reveal_one.ensures.small;
+      jubilee = c.in_ok-reveal_one.ensures.jubilee ∙ c.loop-one.invariant.jubilee;
       marks =
           let all = subst (λ (seen : List Sighting). All (λ (s : Sighting). s.says.marks < 128) seen) shown c.loop-one.invariant.marks in
           λ k d within. all (suc k) d (omega arith);
-      found = c.in_ok-reveal_one.ensures.found;
     }
 
 pub returns-clause-rows : goal.returns-clause-rows
-returns-clause-rows c = rows_end (revealing c.args.scene.now) c.args.rows.now.items c.loop-one.rows.items _ _ (reverse c.loop-one.seen.items) (none_left c.loop-one.seen.items (sym c.loop-one.seen.ok.0 ∙ c.in_default.ensures.cases.0)) c.loop-one.invariant.rows
+returns-clause-rows c = rows_end (revealing c.args.scene.now) c.args.rows.now.rows c.loop-one.rows.rows _ _ (reverse c.loop-one.seen.items) (none_left c.loop-one.seen.items (sym c.loop-one.seen.ok.0 ∙ c.in_default.ensures.cases.0)) c.loop-one.invariant.rows
 
 pub returns-clause-fees : goal.returns-clause-fees
-returns-clause-fees c = fees_end (revealing c.args.scene.now) c.args.rows.now.items c.loop-one.rows.items c.loop-one.fees.items _ _ (reverse c.loop-one.seen.items) (none_left c.loop-one.seen.items (sym c.loop-one.seen.ok.0 ∙ c.in_default.ensures.cases.0)) c.loop-one.invariant.fees
+returns-clause-fees c = fees_end (revealing c.args.scene.now) c.args.rows.now.rows c.loop-one.rows.rows c.loop-one.fees.items _ _ (reverse c.loop-one.seen.items) (none_left c.loop-one.seen.items (sym c.loop-one.seen.ok.0 ∙ c.in_default.ensures.cases.0)) c.loop-one.invariant.fees

@@ -16,24 +16,24 @@ pub returns-then-is_empty-clause-rows : goal.returns-then-is_empty-clause-rows
 returns-then-is_empty-clause-rows c =
     let none : length c.in_ok-seen.seen.items ≡ 0 = sym c.in_ok-seen.seen.ok.0 ∙ eqb-true (vec_len c.in_ok-seen.seen) 0 (sym c.is_empty.ensures ∙ c.if-is_empty.true) in
     let seen : c.in_ok-seen.seen.items ≡ sightings_from 0 0 (sources_of c.args.tx.now.inputs c.args.did.now.spent) = c.in_ok-seen.ensures.seen ∙ ap₂ (λ (is : List TxIn) (rs : List OutRow). sightings_from 0 0 (sources_of is rs)) c.as_slice.ensures c.as_slice-2.ensures in
-    no_rows c.args.rows.now.items _ (no_envelope c.args.height c.args.tx.now c.args.did.now c.args.rows.now.items c.in_ok-seen.seen.items seen (none_there c.in_ok-seen.seen.items none))
+    no_rows c.args.rows.now.rows _ (no_envelope c.args.height c.args.tx.now c.args.did.now c.args.rows.now.rows c.in_ok-seen.seen.items seen (none_there c.in_ok-seen.seen.items none))
 
 pub returns-then-is_empty-clause-fees : goal.returns-then-is_empty-clause-fees
 returns-then-is_empty-clause-fees c =
     let none : length c.in_ok-seen.seen.items ≡ 0 = sym c.in_ok-seen.seen.ok.0 ∙ eqb-true (vec_len c.in_ok-seen.seen) 0 (sym c.is_empty.ensures ∙ c.if-is_empty.true) in
     let seen : c.in_ok-seen.seen.items ≡ sightings_from 0 0 (sources_of c.args.tx.now.inputs c.args.did.now.spent) = c.in_ok-seen.ensures.seen ∙ ap₂ (λ (is : List TxIn) (rs : List OutRow). sightings_from 0 0 (sources_of is rs)) c.as_slice.ensures c.as_slice-2.ensures in
-    no_fees c.args.fees.now.items _ (no_envelope c.args.height c.args.tx.now c.args.did.now c.args.rows.now.items c.in_ok-seen.seen.items seen (none_there c.in_ok-seen.seen.items none))
+    no_fees c.args.fees.now.items _ (no_envelope c.args.height c.args.tx.now c.args.did.now c.args.rows.now.rows c.in_ok-seen.seen.items seen (none_there c.in_ok-seen.seen.items none))
 
 pub returns-clause-rows : goal.returns-clause-rows
 returns-clause-rows c =
     let scene : Scene = record { txid = c.args.did.now.txid; height = c.args.height; joined = c.in_ok-new.field-0; taken = c.value_sum.result } in
     let seen : c.in_ok-seen.seen.items ≡ sightings_from 0 0 (sources_of c.args.tx.now.inputs c.args.did.now.spent) = c.in_ok-seen.ensures.seen ∙ ap₂ (λ (is : List TxIn) (rs : List OutRow). sightings_from 0 0 (sources_of is rs)) c.as_slice.ensures c.as_slice-2.ensures in
-    let same = by_scene scene c.args.height c.args.tx.now c.args.did.now c.args.rows.now.items c.in_ok-seen.seen.items refl refl c.in_ok-new.ensures (c.value_sum.ensures ∙ ap (λ (outs : List TxOut). sum (map (λ (output : TxOut). output.value) outs)) c.as_slice-3.ensures) seen in
-    on_ok c.reveal_seen.result c.reveal_seen.ensures.rows (λ is. is ∙ ap (λ (found : List Revealed). c.args.rows.now.items ++ rows_of found) same)
+    let same = by_scene scene c.args.height c.args.tx.now c.args.did.now c.args.rows.now.rows c.in_ok-seen.seen.items refl refl c.in_ok-new.ensures (c.value_sum.ensures ∙ ap (λ (outs : List TxOut). sum (map (λ (output : TxOut). output.value) outs)) c.as_slice-3.ensures) seen in
+    on_ok c.reveal_seen.result c.reveal_seen.ensures.rows (λ is. is ∙ ap (λ (found : List Revealed). c.args.rows.now.rows ++ rows_of found) same)
 
 pub returns-clause-fees : goal.returns-clause-fees
 returns-clause-fees c =
     let scene : Scene = record { txid = c.args.did.now.txid; height = c.args.height; joined = c.in_ok-new.field-0; taken = c.value_sum.result } in
     let seen : c.in_ok-seen.seen.items ≡ sightings_from 0 0 (sources_of c.args.tx.now.inputs c.args.did.now.spent) = c.in_ok-seen.ensures.seen ∙ ap₂ (λ (is : List TxIn) (rs : List OutRow). sightings_from 0 0 (sources_of is rs)) c.as_slice.ensures c.as_slice-2.ensures in
-    let same = by_scene scene c.args.height c.args.tx.now c.args.did.now c.args.rows.now.items c.in_ok-seen.seen.items refl refl c.in_ok-new.ensures (c.value_sum.ensures ∙ ap (λ (outs : List TxOut). sum (map (λ (output : TxOut). output.value) outs)) c.as_slice-3.ensures) seen in
+    let same = by_scene scene c.args.height c.args.tx.now c.args.did.now c.args.rows.now.rows c.in_ok-seen.seen.items refl refl c.in_ok-new.ensures (c.value_sum.ensures ∙ ap (λ (outs : List TxOut). sum (map (λ (output : TxOut). output.value) outs)) c.as_slice-3.ensures) seen in
     on_ok c.reveal_seen.result c.reveal_seen.ensures.fees (λ is. is ∙ ap (λ (found : List Revealed). c.args.fees.now.items ++ fees_of found) same)

@@ -1,4 +1,4 @@
-use Rattle.std.proofs.Common.{arith, sym, ap, ◌∙◌, ◌-◌, ◌+◌, length, take, false}
+use Rattle.std.proofs.Common.{arith, refl, sym, ap, ◌∙◌, ◌-◌, ◌+◌, length, take, false}
 use Rattle.std.specs.Prelude.{not}
 use Rattle.std.proofs.lemmas.List.{take_all, take-take}
 use Rattle.ox_inscribe.proofs.OrderLaws.{part_more, part_same, part_none, popped}
@@ -7,39 +7,39 @@ use Rattle.ox_inscribe.proofs.reveal.take_apart.Goals.{then-fees-behind+in_ok-pu
 
 pub loop-behind-init : goal.loop-behind-init
 loop-behind-init c = record {
-  rows = sym (take_all (length c.args.rows.now.items - 0) c.args.rows.now.items (omega arith));
-  kept = part_none not c.args.fees.now c.args.rows.now.items c.new-kept.result.items c.new-kept.ensures.items;
-  gone = part_none (λ fee. fee) c.args.fees.now c.args.rows.now.items c.new-gone.result.items c.new-gone.ensures.items;
-  found = c.requires.found;
+  rows = sym (take_all (length c.args.rows.now.rows - 0) c.args.rows.now.rows (omega arith));
+  jubilee = refl;
+  kept = part_none not c.args.fees.now c.args.rows.now.rows c.new-kept.result.items c.new-kept.ensures.items;
+  gone = part_none (λ fee. fee) c.args.fees.now c.args.rows.now.rows c.new-gone.result.items c.new-gone.ensures.items;
 }
 
 pub returns-in_err-push-clause-front : goal.returns-in_err-push-clause-front
 returns-in_err-push-clause-front c =
-    ap (take (length c.args.rows.now.items - length c.args.fees.now)) ((popped c.args.rows.now.items c.loop-behind.rows.items c.pop_row.new.rows.items c.loop-behind.behind c.in-Some.row c.loop-behind.invariant.rows (omega (arith, c.loop-behind-test.true, c.requires.each)) c.in-Some.ensures.rows).0)
-    ∙ take-take (length c.args.rows.now.items - length c.args.fees.now) (length c.args.rows.now.items - (c.loop-behind.behind + 1)) c.args.rows.now.items (omega (arith, c.loop-behind-test.true))
+    ap (take (length c.args.rows.now.rows - length c.args.fees.now)) ((popped c.args.rows.now.rows c.loop-behind.rows.rows c.pop.new.self.rows c.loop-behind.behind c.in-Some.row c.loop-behind.invariant.rows (omega (arith, c.loop-behind-test.true, c.requires.each)) c.in-Some.ensures.rows).0)
+    ∙ take-take (length c.args.rows.now.rows - length c.args.fees.now) (length c.args.rows.now.rows - (c.loop-behind.behind + 1)) c.args.rows.now.rows (omega (arith, c.loop-behind-test.true))
 
 pub returns-in_err-push-2-clause-front : goal.returns-in_err-push-2-clause-front
 returns-in_err-push-2-clause-front c =
-    ap (take (length c.args.rows.now.items - length c.args.fees.now)) ((popped c.args.rows.now.items c.loop-behind.rows.items c.pop_row.new.rows.items c.loop-behind.behind c.in-Some.row c.loop-behind.invariant.rows (omega (arith, c.loop-behind-test.true, c.requires.each)) c.in-Some.ensures.rows).0)
-    ∙ take-take (length c.args.rows.now.items - length c.args.fees.now) (length c.args.rows.now.items - (c.loop-behind.behind + 1)) c.args.rows.now.items (omega (arith, c.loop-behind-test.true))
+    ap (take (length c.args.rows.now.rows - length c.args.fees.now)) ((popped c.args.rows.now.rows c.loop-behind.rows.rows c.pop.new.self.rows c.loop-behind.behind c.in-Some.row c.loop-behind.invariant.rows (omega (arith, c.loop-behind-test.true, c.requires.each)) c.in-Some.ensures.rows).0)
+    ∙ take-take (length c.args.rows.now.rows - length c.args.fees.now) (length c.args.rows.now.rows - (c.loop-behind.behind + 1)) c.args.rows.now.rows (omega (arith, c.loop-behind-test.true))
 
 pub loop-behind-preserved : goal.loop-behind-preserved
 loop-behind-preserved c =
-    let out = popped c.args.rows.now.items c.loop-behind.rows.items c.pop_row.new.rows.items c.loop-behind.behind c.in-Some.row c.loop-behind.invariant.rows (omega (arith, c.loop-behind-test.true, c.requires.each)) c.in-Some.ensures.rows in record {
+    let out = popped c.args.rows.now.rows c.loop-behind.rows.rows c.pop.new.self.rows c.loop-behind.behind c.in-Some.row c.loop-behind.invariant.rows (omega (arith, c.loop-behind-test.true, c.requires.each)) c.in-Some.ensures.rows in record {
       rows = out.0;
+      jubilee = c.in-Some.ensures.jubilee ∙ c.loop-behind.invariant.jubilee;
       kept = elim c.if-fees-behind.branch [
         | then-fees-behind+in_ok-push w ↦
             ap (λ v. v.items) w.kept-is
-            ∙ part_same not c.args.fees.now c.args.rows.now.items c.loop-behind.kept.items c.loop-behind.behind false c.in-Some.row c.loop-behind-test.true c.requires.each out.1 (ap not w.if-fees-behind.true) c.loop-behind.invariant.kept
+            ∙ part_same not c.args.fees.now c.args.rows.now.rows c.loop-behind.kept.items c.loop-behind.behind false c.in-Some.row c.loop-behind-test.true c.requires.each out.1 (ap not w.if-fees-behind.true) c.loop-behind.invariant.kept
         | else-fees-behind+in_ok-push-2 w ↦
-            part_more not c.args.fees.now c.args.rows.now.items c.loop-behind.kept.items c.if-fees-behind.kept.items c.loop-behind.behind false c.in-Some.row c.loop-behind-test.true c.requires.each out.1 (ap not w.if-fees-behind.false) (ap (λ v. v.items) w.kept-is ∙ w.in_ok-push-2.ensures.items) c.loop-behind.invariant.kept
+            part_more not c.args.fees.now c.args.rows.now.rows c.loop-behind.kept.items c.if-fees-behind.kept.items c.loop-behind.behind false c.in-Some.row c.loop-behind-test.true c.requires.each out.1 (ap not w.if-fees-behind.false) (ap (λ v. v.items) w.kept-is ∙ w.in_ok-push-2.ensures.items) c.loop-behind.invariant.kept
       ];
       gone = elim c.if-fees-behind.branch [
         | then-fees-behind+in_ok-push w ↦
-            part_more (λ fee. fee) c.args.fees.now c.args.rows.now.items c.loop-behind.gone.items c.if-fees-behind.gone.items c.loop-behind.behind false c.in-Some.row c.loop-behind-test.true c.requires.each out.1 w.if-fees-behind.true (ap (λ v. v.items) w.gone-is ∙ w.in_ok-push.ensures.items) c.loop-behind.invariant.gone
+            part_more (λ fee. fee) c.args.fees.now c.args.rows.now.rows c.loop-behind.gone.items c.if-fees-behind.gone.items c.loop-behind.behind false c.in-Some.row c.loop-behind-test.true c.requires.each out.1 w.if-fees-behind.true (ap (λ v. v.items) w.gone-is ∙ w.in_ok-push.ensures.items) c.loop-behind.invariant.gone
         | else-fees-behind+in_ok-push-2 w ↦
             ap (λ v. v.items) w.gone-is
-            ∙ part_same (λ fee. fee) c.args.fees.now c.args.rows.now.items c.loop-behind.gone.items c.loop-behind.behind false c.in-Some.row c.loop-behind-test.true c.requires.each out.1 w.if-fees-behind.false c.loop-behind.invariant.gone
+            ∙ part_same (λ fee. fee) c.args.fees.now c.args.rows.now.rows c.loop-behind.gone.items c.loop-behind.behind false c.in-Some.row c.loop-behind-test.true c.requires.each out.1 w.if-fees-behind.false c.loop-behind.invariant.gone
       ];
-      found = c.in-Some.ensures.found;
     }

@@ -3,4 +3,4 @@ use Rattle.ox_inscribe.proofs.cursed.Cursed.new.Goals as goal
 
 pub returns-clause-none : goal.returns-clause-none
 unfolding numbers_where
-returns-clause-none c = c.new.ensures.items
+returns-clause-none c = c.new.ensures

@@ -1,7 +1,7 @@
-use Rattle.std.proofs.Common.{◌≡◌, ◌∙◌, ◌-◌, ◌+◌, ◌≤◌, ℕ, ℤ, List, length, take, refl, sym, ap, ap₂, subst, arith, rules, nat_lt, Option, Some, w64, FitsSigned}
+use Rattle.std.proofs.Common.{◌≡◌, ◌∙◌, ◌-◌, ◌≤◌, ℕ, ℤ, List, length, take, refl, sym, ap, ap₂, subst, arith, rules, Option, Some, w64, FitsSigned}
 use Rattle.std.proofs.lemmas.Int.{to_z-of_z}
 use Rattle.std.proofs.lemmas.Option.{slice_get_read}
-use Rattle.std.specs.Prelude.{count_by, filter, option_map, slice_get}
+use Rattle.std.specs.Prelude.{count_by, option_map, slice_get}
 use Rattle.std.specs.List.Sorted.{IsStrictlyIncreasing}
 use Rattle.ox_inscribe.specs.Signed.{is_cursed, is_uncursed, number_at, number_of, signed}
 use Rattle.ox_inscribe.specs.declared.row.InsRow.{InsRow}
@@ -10,19 +10,19 @@ use Rattle.ox_inscribe.proofs.NumberLaws.{numbers_rise}
 use Rattle.ox_inscribe.proofs.cursed.Cursed.number.Goals as goal
 
 pub numbers_below-requires : goal.numbers_below-requires
-numbers_below-requires c = subst IsStrictlyIncreasing (sym (c.deref.ensures.value ∙ c.requires.all)) (numbers_rise (is_cursed c.args.self.now.jubilee) 0 c.args.rows.now)
+numbers_below-requires c = subst IsStrictlyIncreasing (sym (c.as_slice.ensures ∙ c.requires.all)) (numbers_rise (is_cursed c.args.self.now.jubilee) 0 c.args.rows.now)
 
 pub overflow_cast-cursed : goal.overflow_cast-cursed
 overflow_cast-cursed c =
     let passes = is_cursed c.args.self.now.jubilee in
-    let is = counted passes c.args.place c.args.rows.now _ c.numbers_below.result.now (c.deref.ensures.value ∙ c.requires.all) c.numbers_below.ensures in
+    let is = counted passes c.args.place c.args.rows.now _ c.numbers_below.result.now (c.as_slice.ensures ∙ c.requires.all) c.numbers_below.ensures in
     let all = both passes c.args.place c.args.rows.now (omega (arith, c.requires.there)) in
     omega (arith, is, all, c.ranges.place)
 
 pub overflow_sub-place : goal.overflow_sub-place
 overflow_sub-place c =
     let passes = is_cursed c.args.self.now.jubilee in
-    let is = counted passes c.args.place c.args.rows.now _ c.numbers_below.result.now (c.deref.ensures.value ∙ c.requires.all) c.numbers_below.ensures in
+    let is = counted passes c.args.place c.args.rows.now _ c.numbers_below.result.now (c.as_slice.ensures ∙ c.requires.all) c.numbers_below.ensures in
     let all = both passes c.args.place c.args.rows.now (omega (arith, c.requires.there)) in
     omega (arith, is, all)
 
@@ -38,7 +38,7 @@ numbered jubilee rows n row cursed z there count within is =
 pub returns : goal.returns
 returns c =
     let passes = is_cursed c.args.self.now.jubilee in
-    let is = counted passes c.args.place c.args.rows.now _ c.numbers_below.result.now (c.deref.ensures.value ∙ c.requires.all) c.numbers_below.ensures in
+    let is = counted passes c.args.place c.args.rows.now _ c.numbers_below.result.now (c.as_slice.ensures ∙ c.requires.all) c.numbers_below.ensures in
     let there = slice_get_read c.args.rows.now (length c.args.rows.now) c.args.place c.index-rows-place.result refl c.requires.there c.index-rows-place.is ∙ ap (λ (row : InsRow). Some row) (sym c.row-row.ensures) in
     let fits : FitsSigned w64 c.signed.result = search rules in
     let number : c.signed.result ≡ signed (passes c.row-row.result.now) (length c.numbers_below.result.now) (c.args.place - length c.numbers_below.result.now) = search rules in

@@ -10,13 +10,13 @@ use Rattle.ox_inscribe.proofs.ShelfLaws.{numbers_cut}
 use Rattle.ox_inscribe.proofs.shelf.Shelf.children.Goals as goal
 
 pub numbers_below-requires : goal.numbers_below-requires
-numbers_below-requires c = subst IsStrictlyIncreasing (sym (c.children.ensures ∙ c.self.invariant.found.parents c.row.result.now.id)) (numbers_rise (has_parent c.row.result.now.id) 0 c.self.inside.rows.items)
+numbers_below-requires c = subst IsStrictlyIncreasing (sym c.children.ensures) (numbers_rise (has_parent c.row.result.now.id) 0 c.self.inside.rows.rows)
 
 pub returns : goal.returns
 returns c =
     let id = c.row.result.now.id in
     c.numbers_below.ensures
-    ∙ ap (λ (numbers : List ℕ). filter (λ n. nat_lt n c.self.inside.shown) numbers) (c.children.ensures ∙ c.self.invariant.found.parents id)
-    ∙ numbers_cut (has_parent id) 0 c.self.inside.shown c.self.inside.shown c.self.inside.rows.items (omega arith)
+    ∙ ap (λ (numbers : List ℕ). filter (λ n. nat_lt n c.self.inside.shown) numbers) c.children.ensures
+    ∙ numbers_cut (has_parent id) 0 c.self.inside.shown c.self.inside.shown c.self.inside.rows.rows (omega arith)
     ∙ ap (λ (s : Shelved). numbers_where (has_parent id) 0 s.rows) c.self.view_is
     ∙ sym (ap (λ (row : Option InsRow). option_map_or (children_of c.args.self.now.rows) row []) c.row.ensures)

@@ -8,11 +8,11 @@ use Rattle.ox_inscribe.proofs.ShelfLaws.{numbers_cut}
 use Rattle.ox_inscribe.proofs.shelf.Shelf.on.Goals as goal
 
 pub numbers_below-requires : goal.numbers_below-requires
-numbers_below-requires c = subst IsStrictlyIncreasing (sym (c.on.ensures ∙ c.self.invariant.found.sats c.args.sat)) (numbers_rise (is_on c.args.sat) 0 c.self.inside.rows.items)
+numbers_below-requires c = subst IsStrictlyIncreasing (sym c.on.ensures) (numbers_rise (is_on c.args.sat) 0 c.self.inside.rows.rows)
 
 pub returns : goal.returns
 returns c =
     c.numbers_below.ensures
-    ∙ ap (λ (numbers : List ℕ). filter (λ n. nat_lt n c.self.inside.shown) numbers) (c.on.ensures ∙ c.self.invariant.found.sats c.args.sat)
-    ∙ numbers_cut (is_on c.args.sat) 0 c.self.inside.shown c.self.inside.shown c.self.inside.rows.items (omega arith)
+    ∙ ap (λ (numbers : List ℕ). filter (λ n. nat_lt n c.self.inside.shown) numbers) c.on.ensures
+    ∙ numbers_cut (is_on c.args.sat) 0 c.self.inside.shown c.self.inside.shown c.self.inside.rows.rows (omega arith)
     ∙ ap (λ (s : Shelved). on s.rows c.args.sat) c.self.view_is
