@@ -1,19 +1,10 @@
 -- What a query shows.
-use Rattle.std.specs.Prelude.{ℕ, false, List, [], length}
+use Rattle.std.specs.Prelude.{ℕ, false, List, []}
 use Rattle.ox_http.specs.declared.Method.TheVariants.{Get}
 use Rattle.ox_http.specs.declared.Request.{Request}
 use Rattle.ox_model.specs.Stack.{Stack}
-use Rattle.ox_ask.specs.Ask.{reply_of}
-use Rattle.ox_ask.specs.Trees.{Asked}
-
--- what is asked of a stack
-abbrev pub asked_on : Stack → Asked
-asked_on stack = record {
-  profile = stack.profile;
-  index = stack.index;
-  depth = stack.depth;
-  kept = length stack.older;
-}
+use Rattle.ox_replies.specs.Ask.{reply_of}
+use Rattle.ox_desk.specs.Asked.{asked_on}
 
 -- a GET of a path
 abbrev pub get_of : List ℕ → Request

@@ -5,7 +5,7 @@ ghost use Rattle.ox_model.specs.Stack.{Stack};
 ghost use Rattle.ox_files.specs.Stands.{Misfit, stands};
 ghost use Rattle.ox_app.specs.Headline.{AddsNoImage};
 ghost use Rattle.ox_outside.specs.Runs.{Calls};
-ghost use Rattle.ox_app.specs.Query.{get_of as get_said, query_body};
+ghost use Rattle.ox_app.specs.Query.{get_of, query_body};
 ghost use Rattle.ox_app.specs.Show.{DiskFails, EndsAtFault, ShowFails, ShowsText};
 ghost use Rattle.ox_app.specs.Status.{IsQueryStatus, IsUnopened};
 ghost use Rattle.ox_app.specs.Unopened.{SaysNotStore};
@@ -23,7 +23,7 @@ use std::alloc::Global;
 
 // A GET of a path.
 fn get_of(alloc: Global, path: &[u8]) -> Result<Request, Memory>
-    ensures { IfOk result (λ request. request ≡ get_said path.now) }
+    ensures { IfOk result (λ request. request ≡ get_of path.now) }
 {
     Ok(Request {
         method: Method::Get,

@@ -15,7 +15,7 @@ use Rattle.ox_turns.specs.declared.desk.Made.{Made}
 use Rattle.ox_rules.specs.declared.refusal.Refusal.{Refusal}
 use Rattle.ox_model.specs.Stack.{Stack, stack_after}
 use Rattle.ox_store.specs.Store.{StoreContents}
-use Rattle.ox_ask.specs.Ask.{reply_of}
+use Rattle.ox_replies.specs.Ask.{reply_of}
 use Rattle.ox_cache.specs.Kept.{Answers, Entry, Kept, body_kept, closing, entry_of}
 use Rattle.ox_desk.specs.Asked.{asked_on}
 use Rattle.ox_desk.specs.Commands.{command_by, command_of}

@@ -9,9 +9,9 @@ use Rattle.ox_routes.specs.declared.route.Route.{Route}
 use Rattle.ox_routes.specs.declared.route.Route.TheVariants.{Audit, BlockHash, Connect, Content, Disconnect, Inscription, Inscriptions, Output, Rune, Runes, Sat, Status}
 use Rattle.ox_routes.specs.Table.{row_of, route_and_part}
 use Rattle.serde_json.specs.Data.{Data}
-use Rattle.ox_ask.specs.Ask.{error_reply, named_reply, path_reply, reply_of, same_method, tree_at, tree_reply}
-use Rattle.ox_ask.specs.Content.{body_reply, shown_reply}
-use Rattle.ox_ask.specs.Trees.{Asked}
+use Rattle.ox_replies.specs.Ask.{error_reply, named_reply, path_reply, reply_of, same_method, tree_at, tree_reply}
+use Rattle.ox_replies.specs.Content.{body_reply, shown_reply}
+use Rattle.ox_replies.specs.Asked.{Asked}
 use Rattle.ox_cache.specs.Kept.{closing}
 use Rattle.ox_desk.specs.Desk.{get_of}
 

@@ -9,8 +9,8 @@ use Rattle.ox_rules.specs.declared.refusal.Refusal.{Refusal}
 use Rattle.ox_model.specs.Machine.{Machine, chain_index, stack_of, turn_by_command}
 use Rattle.ox_model.specs.Stack.{Stack, stack_after}
 use Rattle.ox_model.proofs.AnswersOfStacks.{length-older_of, obeys_alike, on_stack}
-use Rattle.ox_ask.specs.Ask.{reply_of}
-use Rattle.ox_ask.specs.Trees.{Asked}
+use Rattle.ox_replies.specs.Ask.{reply_of}
+use Rattle.ox_replies.specs.Asked.{Asked}
 use Rattle.ox_desk.specs.Asked.{asked_in, asked_on}
 use Rattle.ox_desk.specs.Commands.{command_of}
 use Rattle.ox_desk.specs.Replies.{command_reply, reply_or}

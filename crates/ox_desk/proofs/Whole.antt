@@ -12,9 +12,9 @@ use Rattle.ox_http.proofs.Talking.{talks_join}
 use Rattle.ox_links.specs.Answered.{TalkGoesOn}
 use Rattle.ox_links.specs.Quiet.{Speaks}
 use Rattle.ox_rules.specs.declared.refusal.Refusal.{Refusal}
-use Rattle.ox_ask.specs.Ask.{reply_of}
-use Rattle.ox_ask.specs.Trees.{Asked}
-use Rattle.ox_ask.proofs.Told.{reply_told}
+use Rattle.ox_replies.specs.Ask.{reply_of}
+use Rattle.ox_replies.specs.Asked.{Asked}
+use Rattle.ox_replies.proofs.Told.{reply_told}
 use Rattle.ox_desk.specs.Commands.{command_of}
 use Rattle.ox_desk.specs.Replies.{command_reply, reply_by, reply_or}
 use Rattle.ox_desk.specs.Servers.{server_by, shown_as}

@@ -1,6 +1,6 @@
 -- What is asked of a stack, and of a machine.
 use Rattle.std.specs.Prelude.{length}
-use Rattle.ox_ask.specs.Trees.{Asked}
+use Rattle.ox_replies.specs.Asked.{Asked}
 use Rattle.ox_model.specs.Machine.{Machine, chain_index}
 use Rattle.ox_model.specs.Stack.{Stack}
 

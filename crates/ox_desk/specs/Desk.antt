@@ -19,7 +19,7 @@ use Rattle.ox_model.specs.Stack.{Stack, stack_after}
 use Rattle.ox_files.specs.Stands.{stands}
 use Rattle.ox_store.specs.Make.{first_head, made_stack}
 use Rattle.ox_store.specs.Store.{StoreContents}
-use Rattle.ox_ask.specs.Ask.{reply_of}
+use Rattle.ox_replies.specs.Ask.{reply_of}
 use Rattle.ox_cache.specs.Kept.{Entry, Kept, closing, entry_of}
 use Rattle.ox_desk.specs.Asked.{asked_on}
 use Rattle.ox_desk.specs.Commands.{command_of}

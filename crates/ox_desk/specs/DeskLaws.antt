@@ -17,7 +17,7 @@ use Rattle.ox_turns.specs.Desk.{IsHttp}
 use Rattle.ox_rules.specs.declared.refusal.Refusal.{Refusal}
 use Rattle.ox_model.specs.Stack.{Stack, stack_after}
 use Rattle.ox_files.specs.Stands.{stands}
-use Rattle.ox_ask.proofs.Told.{reply_told}
+use Rattle.ox_replies.proofs.Told.{reply_told}
 use Rattle.ox_desk.specs.Asked.{asked_on}
 use Rattle.ox_desk.specs.Commands.{command_of}
 use Rattle.ox_desk.specs.Desk.{DeskContents, Rests}

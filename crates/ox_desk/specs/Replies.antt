@@ -13,9 +13,9 @@ use Rattle.ox_rules.specs.declared.refusal.Refusal.TheVariants.{ChainEnd, Unlink
 use Rattle.ox_rules.specs.declared.refusal.Refusal.TheVariants.{Coinbase, BadWitness, UnknownOutput}
 use Rattle.ox_rules.specs.declared.refusal.Refusal.TheVariants.{Overspend, Overclaim, Depth}
 use Rattle.ox_model.specs.Index.{Index}
-use Rattle.ox_ask.specs.Ask.{reply_of, tree_reply}
-use Rattle.ox_ask.specs.Trees.{Asked}
-use Rattle.ox_ask.specs.Values.{count, or_null}
+use Rattle.ox_replies.specs.Ask.{reply_of, tree_reply}
+use Rattle.ox_replies.specs.Asked.{Asked}
+use Rattle.ox_replies.specs.Values.{count, or_null}
 use Rattle.ox_desk.specs.Commands.{command_of}
 
 -- ---- what is said of a command

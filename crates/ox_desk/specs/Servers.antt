@@ -12,7 +12,7 @@ use Rattle.ox_links.specs.Serving.{Server}
 use Rattle.ox_rules.specs.declared.refusal.Refusal.{Refusal}
 use Rattle.ox_model.specs.Machine.{Machine, stack_of, turn_by_command}
 use Rattle.ox_model.specs.Stack.{Stack, stack_after}
-use Rattle.ox_ask.specs.Trees.{Asked}
+use Rattle.ox_replies.specs.Asked.{Asked}
 use Rattle.ox_desk.specs.Asked.{asked_in, asked_on}
 use Rattle.ox_desk.specs.Commands.{command_of}
 use Rattle.ox_desk.specs.Replies.{reply_by}

@@ -3,7 +3,7 @@ use Rattle.std.specs.Prelude.{◌≡◌, Bool, length}
 use Rattle.ox_http.specs.Written.{written}
 use Rattle.ox_http.specs.declared.Reply.{Reply}
 use Rattle.ox_links.specs.Link.{Written}
-use Rattle.ox_ask.specs.Content.{FitsHead}
+use Rattle.ox_replies.specs.Content.{FitsHead}
 
 -- One reply: a head, and as many bytes behind it as it tells. Its kind and its encoding end no line
 -- of the head.

@@ -11,7 +11,7 @@ ghost use Rattle.ox_rules.specs.declared.refusal.Refusal.{Refusal as Cause};
 ghost use Rattle.ox_rules.specs.declared.why.Why.TheVariants as whys;
 ghost use Rattle.ox_store.specs.Ready.{StandsForEither};
 ghost use Rattle.ox_desk.specs.Desk.{ComesOf, stack_behind};
-ghost use Rattle.ox_desk.specs.Replies.{refused_reply as refused_said};
+ghost use Rattle.ox_desk.specs.Replies.{refused_reply};
 
 use crate::newest::{Rooms, accepted_reply};
 use crate::refused::refused_reply;
@@ -35,7 +35,7 @@ pub(crate) struct Carried {
 fn refuse(alloc: Global, kept: Kept, close: bool) -> Carried
     ensures store { result.store ≡ kept.store }
     ensures told { IfSome result.told (λ bytes. (cause : Cause)
-        × (kept.why ≡ whys.Refused cause) × (bytes ≡ written (refused_said cause close))) }
+        × (kept.why ≡ whys.Refused cause) × (bytes ≡ written (refused_reply cause close))) }
 {
     let Kept { store, why } = kept;
     match why {

@@ -3,7 +3,7 @@
 ghost use Rattle.std.specs.Prelude.{◌≡◌, ◌+◌, ◌≤◌, ◌++◌, [], length, Some};
 ghost use Rattle.serde_json.specs.Written.{compact_text};
 ghost use Rattle.ox_http.specs.Written.{written};
-ghost use Rattle.ox_desk.specs.Replies.{accepted_reply as accepted_said, newest_tree};
+ghost use Rattle.ox_desk.specs.Replies.{accepted_reply, newest_tree};
 
 use crate::plain::hash_is_plain;
 use itoa::Buffer;
@@ -70,7 +70,7 @@ fn put_newest(room: &mut Room, tip: Option<(u32, [u8; 32])>)
 
 /// The bytes of the reply to an accepted command, by the newest block after it. It takes no memory.
 pub fn accepted_reply(rooms: Rooms, tip: Option<(u32, [u8; 32])>, close: bool) -> Bytes
-    ensures { result ≡ written (accepted_said tip close) }
+    ensures { result ≡ written (accepted_reply tip close) }
 {
     let Rooms {
         mut body,

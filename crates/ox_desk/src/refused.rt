@@ -3,7 +3,7 @@
 ghost use Rattle.std.specs.Prelude.{◌≡◌, IfOk};
 ghost use Rattle.serde_json.specs.Written.{compact_text};
 ghost use Rattle.ox_http.specs.Written.{written};
-ghost use Rattle.ox_desk.specs.Replies.{refused_reply as refused_said, refused_tree};
+ghost use Rattle.ox_desk.specs.Replies.{refused_reply, refused_tree};
 
 use crate::plain::refusal_is_plain;
 use ox_bytes::{Bytes, Memory};
@@ -29,7 +29,7 @@ fn refused_body(alloc: Global, refusal: Refusal) -> Result<Bytes, Memory>
 /// The bytes of the reply to a command that is refused: 409 (RFC 9110, section 15.5.10). `Memory`
 /// where there is none for them.
 pub fn refused_reply(alloc: Global, refusal: Refusal, close: bool) -> Result<Bytes, Memory>
-    ensures { IfOk result (λ bytes. bytes ≡ written (refused_said refusal close)) }
+    ensures { IfOk result (λ bytes. bytes ≡ written (refused_reply refusal close)) }
 {
     let body = refused_body(alloc, refusal)?;
     let parts = ReplyParts {

@@ -3,7 +3,7 @@
 ghost use Rattle.std.specs.Prelude.{◌≡◌, ◌-◌, ◌<◌, ◌^◌, IfOk, OnErr};
 ghost use Rattle.ox_http.specs.Written.{written};
 ghost use Rattle.ox_http.specs.declared.Method.TheVariants as methods;
-ghost use Rattle.ox_ask.specs.Ask.{reply_of};
+ghost use Rattle.ox_replies.specs.Ask.{reply_of};
 ghost use Rattle.ox_desk.specs.Asked.{asked_on};
 ghost use Rattle.ox_desk.specs.Desk.{KeepsTrue, LooksUp};
 

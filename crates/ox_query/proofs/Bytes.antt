@@ -3,7 +3,7 @@ use Rattle.std.proofs.Common.{◌≡◌, Bool, true, false, cond, List, ℕ, IsU
 use Rattle.std.specs.Str.{is_utf8}
 use Rattle.std.proofs.lemmas.Str.{IsUtf8-from_is_utf8, is_utf8-from_IsUtf8}
 use Rattle.serde_json.specs.Data.{null, string}
-use Rattle.ox_ask.specs.Values.{or_null, text_or_null}
+use Rattle.ox_replies.specs.Values.{or_null, text_or_null}
 
 pub text_is : (field : Option (List ℕ)) (bytes read text : List ℕ) → field ≡ Some bytes → read ≡ bytes → text ≡ read → IsUtf8 read
     → string text ≡ or_null text_or_null field

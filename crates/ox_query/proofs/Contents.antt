@@ -5,8 +5,8 @@ use Rattle.std.specs.List.{list_all}
 use Rattle.std.specs.Option.{option_and_then, option_map}
 use Rattle.ox_http.specs.declared.Reply.{Reply}
 use Rattle.ox_inscribe.specs.declared.row.InsRow.{InsRow}
-use Rattle.ox_ask.specs.Content.{body_reply, content_at, is_header_text, shown_for, shown_reply}
-use Rattle.ox_ask.specs.Named.{inscription_named}
+use Rattle.ox_replies.specs.Content.{body_reply, content_at, is_header_text, shown_for, shown_reply}
+use Rattle.ox_replies.specs.Named.{inscription_named}
 
 module _ (rows : List InsRow) (text : List ℕ) (close : Bool) where
   abbrev named : Option InsRow

@@ -7,7 +7,7 @@ use Rattle.std.proofs.lemmas.Str.Ascii.{IsAscii-cons, IsAscii-nil}
 use Rattle.hex.specs.Hex.{encode_lower, lower_digits}
 use Rattle.hex.proofs.HexLemmas.{IsAscii-encode_with}
 use Rattle.ox_rules.specs.Text.{hash_text}
-use Rattle.ox_ask.proofs.Halves.{first_half, second_half}
+use Rattle.ox_replies.proofs.Halves.{first_half, second_half}
 
 -- bytes that all pass the test are ASCII
 all_small : (bytes : List ℕ) → list_all (λ b. ltb b 128) bytes ≡ true → IsAscii bytes

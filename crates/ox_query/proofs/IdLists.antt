@@ -26,10 +26,10 @@ use Rattle.ox_inscribe.specs.Inscriptions.{children, children_of, find, has_pare
 use Rattle.ox_inscribe.specs.Numbers.{IsFirstOn, IsNextOn}
 use Rattle.ox_inscribe.specs.declared.row.InsRow.{InsRow}
 use Rattle.ox_inscribe.proofs.NextLaws.{next_shown}
-use Rattle.ox_ask.specs.Inscriptions.{inscription_id}
-use Rattle.ox_ask.specs.Walk.{on_between, walk_of}
-use Rattle.ox_ask.proofs.Halves.{second_half}
-use Rattle.ox_ask.proofs.Walks.{all_walked}
+use Rattle.ox_replies.specs.Inscriptions.{inscription_id}
+use Rattle.ox_replies.specs.Walk.{on_between, walk_of}
+use Rattle.ox_replies.proofs.Halves.{second_half}
+use Rattle.ox_replies.proofs.Walks.{all_walked}
 use Rattle.ox_query.specs.Listed.{inscription_ids_of}
 use Rattle.ox_query.specs.Written.{tokens_of, tokens_of_all}
 use Rattle.ox_query.proofs.Digits.{digits_small}

@@ -3,7 +3,7 @@ use Rattle.std.proofs.Common.{◌≡◌, ℕ, ◌/◌, ◌%◌, ◌==◌, Bool, 
 use Rattle.json.specs.Token.{Token, begin_array, end_array}
 use Rattle.json.specs.Written.{Written}
 use Rattle.serde_json.specs.Data.{Data, string}
-use Rattle.ox_ask.specs.Inscriptions.{mark_if, mark_texts, marks_tree}
+use Rattle.ox_replies.specs.Inscriptions.{mark_if, mark_texts, marks_tree}
 use Rattle.ox_query.specs.Written.{tokens_of, tokens_of_all}
 use Rattle.ox_query.proofs.Arrays.{items_are}
 use Rattle.ox_query.proofs.Steps.{Step, ◌▸◌}

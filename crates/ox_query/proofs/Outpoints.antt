@@ -11,9 +11,9 @@ use Rattle.hex.specs.declared.error.FromHexError.{FromHexError}
 use Rattle.hex.proofs.HexLemmas.{decode_of-even, decode_of-ok, decode_sized-ok, decode_sized-twice, decode_sized-encode_lower, length-encode_with}
 use Rattle.ox_block.specs.declared.block.OutPoint.{OutPoint}
 use Rattle.ox_rules.specs.Text.{outpoint_text, hash_text}
-use Rattle.ox_ask.specs.Texts.{number_in, outpoint_in}
-use Rattle.ox_ask.proofs.Halves.{first_half, second_half}
-use Rattle.ox_ask.proofs.Read.{number_read, number_written, outpoint_read, outpoint_written}
+use Rattle.ox_replies.specs.Texts.{number_in, outpoint_in}
+use Rattle.ox_replies.proofs.Halves.{first_half, second_half}
+use Rattle.ox_replies.proofs.Read.{number_read, number_written, outpoint_read, outpoint_written}
 use Rattle.ox_query.specs.Sides.{Sides}
 use Rattle.ox_query.proofs.Capitals.{is_capital, printed_small, pairs_printed}
 use Rattle.ox_query.proofs.Spelled.{test_passed}

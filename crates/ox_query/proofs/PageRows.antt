@@ -6,7 +6,7 @@ use Rattle.std.proofs.lemmas.List.{append-nil, drop_min, length-drop, map-append
 use Rattle.std.proofs.lemmas.Option.{get_or_from_slice_get, slice_get_within}
 use Rattle.json.specs.Token.{Token}
 use Rattle.serde_json.specs.Data.{Data}
-use Rattle.ox_ask.specs.Pages.{entries_of, has_more}
+use Rattle.ox_replies.specs.Pages.{entries_of, has_more}
 use Rattle.ox_query.specs.Paged.{rows_between}
 use Rattle.ox_query.specs.Written.{tokens_of, tokens_of_all}
 

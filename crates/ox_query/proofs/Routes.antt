@@ -6,8 +6,8 @@ use Rattle.serde_json.specs.Written.{compact_text}
 use Rattle.ox_http.specs.declared.Reply.{Reply}
 use Rattle.ox_routes.specs.declared.route.Route.{Route}
 use Rattle.ox_routes.specs.declared.route.Route.TheVariants.{Audit, BlockHash, Connect, Content, Disconnect, Inscription, Inscriptions, Output, Rune, Runes, Sat, Status}
-use Rattle.ox_ask.specs.Ask.{named_reply, tree_at, tree_reply}
-use Rattle.ox_ask.specs.Trees.{Asked}
+use Rattle.ox_replies.specs.Ask.{named_reply, tree_at, tree_reply}
+use Rattle.ox_replies.specs.Asked.{Asked}
 
 pub tree_named : (asked : Asked) (route : Route) (part : List ℕ) (close : Bool) → route ≢ Content
     → option_map (λ tree. tree_reply 200 tree close) (tree_at asked route part) ≡ named_reply asked route part close

@@ -14,7 +14,7 @@ use Rattle.ox_model.specs.Found.{by_id, by_name}
 use Rattle.ox_model.specs.Index.{Index}
 use Rattle.ox_model.specs.Sound.{IsSound}
 use Rattle.ox_sat.specs.declared.profiles.Profile.{Profile}
-use Rattle.ox_ask.specs.Named.{rune_id_in, rune_named, without_escapes}
+use Rattle.ox_replies.specs.Named.{rune_id_in, rune_named, without_escapes}
 use Rattle.ox_query.proofs.Spelled.{test_passed}
 
 abbrev pub no_amount : Balance

@@ -10,9 +10,9 @@ use Rattle.std.proofs.lemmas.Str.Parse.{digit_at}
 use Rattle.std.proofs.lemmas.Str.Pattern.{IsSplitOnceResult, split_after, split_parts}
 use Rattle.ox_name.specs.Spaced.{bullet}
 use Rattle.ox_runestone.specs.declared.stone.RuneId.{RuneId}
-use Rattle.ox_ask.specs.Named.{rune_id_in, without_escapes, unescaped_past}
-use Rattle.ox_ask.proofs.Escapes.{escape_read}
-use Rattle.ox_ask.proofs.RuneIds.{parts, rune_id_read, rune_id_within, rune_id_written}
+use Rattle.ox_replies.specs.Named.{rune_id_in, without_escapes, unescaped_past}
+use Rattle.ox_replies.proofs.Escapes.{escape_read}
+use Rattle.ox_replies.proofs.RuneIds.{parts, rune_id_read, rune_id_within, rune_id_written}
 
 -- no id is written so
 abbrev pub NoneIs : List ℕ → Type 0

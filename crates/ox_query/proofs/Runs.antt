@@ -3,7 +3,7 @@ use Rattle.std.proofs.Common.{◌≡◌, List, [], ◌∷◌, map, refl, ap}
 use Rattle.serde_json.specs.Data.{item}
 use Rattle.serde_json.specs.View.{items_of}
 use Rattle.ox_range.specs.declared.runs.Run.{Run}
-use Rattle.ox_ask.specs.Trees.{run_items, run_tree}
+use Rattle.ox_replies.specs.Outputs.{run_items, run_tree}
 
 pub run_items-map : (runs : List Run) → run_items runs ≡ items_of (map run_tree runs)
 run_items-map [] = refl

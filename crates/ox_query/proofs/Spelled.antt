@@ -7,9 +7,9 @@ use Rattle.std.proofs.lemmas.Str.{IsUtf8-from_ascii, IsAscii-append}
 use Rattle.std.proofs.lemmas.Str.Ascii.{IsAscii-cons, IsAscii-from_all}
 use Rattle.std.proofs.lemmas.Fmt.{IsAscii-decimal}
 use Rattle.std.proofs.lemmas.Slice.Eq.{bytes_eq-Decides}
-use Rattle.ox_ask.specs.Texts.{number_in}
-use Rattle.ox_ask.proofs.Halves.{first_half}
-use Rattle.ox_ask.proofs.Read.{number_written, number_read}
+use Rattle.ox_replies.specs.Texts.{number_in}
+use Rattle.ox_replies.proofs.Halves.{first_half}
+use Rattle.ox_replies.proofs.Read.{number_written, number_read}
 use Rattle.ox_sat.specs.declared.profiles.Profile.{Profile}
 use Rattle.ox_sat.specs.Heights.{subsidy_at, first_at}
 use Rattle.ox_sat.specs.Names.{IsLetter, letters_value, name_of}

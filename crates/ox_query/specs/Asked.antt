@@ -1,5 +1,5 @@
 -- What is asked of a view.
-use Rattle.ox_ask.specs.Trees.{Asked}
+use Rattle.ox_replies.specs.Asked.{Asked}
 use Rattle.ox_model.specs.Index.{Index}
 use Rattle.ox_model.specs.declared.about.About.{About}
 use Rattle.ox_sat.specs.declared.profiles.Profile.{Profile}

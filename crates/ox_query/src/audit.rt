@@ -4,7 +4,7 @@ ghost use Rattle.std.specs.Prelude.{◌≡◌, IfOk, map};
 ghost use Rattle.serde_json.specs.Data.{array};
 ghost use Rattle.serde_json.specs.View.{items_of};
 ghost use Rattle.serde_json.specs.Written.{compact_text};
-ghost use Rattle.ox_ask.specs.Audits.{audit_tree, rune_audit_tree};
+ghost use Rattle.ox_replies.specs.Audits.{audit_tree, rune_audit_tree};
 ghost use Rattle.ox_model.specs.Audit.{audit_of};
 ghost use Rattle.ox_query.specs.Written.{AddsTokens, tokens_of};
 

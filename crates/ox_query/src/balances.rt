@@ -2,7 +2,7 @@
 
 ghost use Rattle.std.specs.Prelude.{◌≤◌, [], ◌∷◌};
 ghost use Rattle.std.specs.List.{filter_map};
-ghost use Rattle.ox_ask.specs.Runes.{balance_among, balance_tree, balances_tree};
+ghost use Rattle.ox_replies.specs.Runes.{balance_among, balance_tree, balances_tree};
 ghost use Rattle.ox_ledger.specs.Runes.{balances_at};
 ghost use Rattle.ox_query.specs.Written.{AddsTokens, tokens_of, tokens_of_all};
 

@@ -2,7 +2,7 @@
 
 ghost use Rattle.std.specs.Prelude.{◌≡◌, IfOk, option_map, slice_get};
 ghost use Rattle.serde_json.specs.Written.{compact_text};
-ghost use Rattle.ox_ask.specs.Trees.{block_tree};
+ghost use Rattle.ox_replies.specs.Blocks.{block_tree};
 ghost use Rattle.ox_query.specs.Written.{AddsTokens, tokens_of};
 
 use crate::bodies::{body_of, new_body};

@@ -4,10 +4,9 @@ ghost use Rattle.std.specs.Prelude.{◌≡◌, ◌&&◌, IfOk, codes, nat_le, op
 ghost use Rattle.std.specs.Prelude.{unwrap_or};
 ghost use Rattle.std.specs.List.{list_all};
 ghost use Rattle.std.specs.Option.{option_and_then};
-ghost use Rattle.ox_ask.specs.Content.{body_reply as body_said, content_at as content_said};
-ghost use Rattle.ox_ask.specs.Content.{header_text as header_said, is_header_text as is_headers};
-ghost use Rattle.ox_ask.specs.Content.{row_with as row_said, shown_for as shown_said};
-ghost use Rattle.ox_ask.specs.Named.{inscription_named};
+ghost use Rattle.ox_replies.specs.Content.{body_reply, content_at, header_text, is_header_text};
+ghost use Rattle.ox_replies.specs.Content.{row_with, shown_for};
+ghost use Rattle.ox_replies.specs.Named.{inscription_named};
 
 use crate::inscription::number_named;
 use ox_bytes::{Bytes, Memory};
@@ -28,7 +27,7 @@ fn row_named<'a, V: View>(live: &'a V, part: &[u8]) -> Option<&'a InsRow>
 
 /// The inscription with an id, if it is there.
 fn row_with<'a, V: View>(live: &'a V, id: &InsId) -> Option<&'a InsRow>
-    ensures { option_copied result ≡ row_said (V.index live.now).inscriptions id.now }
+    ensures { option_copied result ≡ row_with (V.index live.now).inscriptions id.now }
 {
     match live.find(id) {
         Some(n) => Some(live.inscription(n)),
@@ -39,7 +38,7 @@ fn row_with<'a, V: View>(live: &'a V, id: &InsId) -> Option<&'a InsRow>
 /// The inscription whose content is shown for this one, if it is there: the one that it delegates
 /// to, whatever that delegates to, or itself.
 fn shown_for<'a, V: View>(live: &'a V, row: &'a InsRow) -> Option<&'a InsRow>
-    ensures { option_copied result ≡ shown_said (V.index live.now).inscriptions row.now }
+    ensures { option_copied result ≡ shown_for (V.index live.now).inscriptions row.now }
 {
     match &row.delegate {
         Some(id) => row_with(live, id),
@@ -63,7 +62,7 @@ fn are_printable(bytes: &[u8]) -> bool
 
 /// Whether a header of a reply can carry these bytes: one or more, all of them printable ASCII.
 fn is_header_text(bytes: &[u8]) -> bool
-    ensures { result ≡ is_headers bytes.now }
+    ensures { result ≡ is_header_text bytes.now }
 {
     if bytes.is_empty() {
         return false;
@@ -73,7 +72,7 @@ fn is_header_text(bytes: &[u8]) -> bool
 
 /// The bytes once more, if there are any that a header of a reply can carry.
 fn header_text(alloc: Global, bytes: &Option<Bytes>) -> Result<Option<Bytes>, Memory>
-    ensures { IfOk result (λ text. text ≡ header_said bytes.now) }
+    ensures { IfOk result (λ text. text ≡ header_text bytes.now) }
 {
     let Some(bytes) = bytes else {
         return Ok(None);
@@ -87,7 +86,7 @@ fn header_text(alloc: Global, bytes: &Option<Bytes>) -> Result<Option<Bytes>, Me
 /// The kind of a reply that has this content type.
 fn kind_of(alloc: Global, content_type: &Option<Bytes>) -> Result<Bytes, Memory>
     ensures { IfOk result (λ kind. kind
-        ≡ unwrap_or (header_said content_type.now) (codes "application/octet-stream")) }
+        ≡ unwrap_or (header_text content_type.now) (codes "application/octet-stream")) }
 {
     match header_text(alloc, content_type)? {
         Some(kind) => Ok(kind),
@@ -97,7 +96,7 @@ fn kind_of(alloc: Global, content_type: &Option<Bytes>) -> Result<Bytes, Memory>
 
 /// A body, with the kind and the encoding that its inscription says.
 fn body_reply(alloc: Global, close: bool, row: &InsRow, body: &Bytes) -> Result<Reply, Memory>
-    ensures { IfOk result (λ reply. reply ≡ body_said close row.now body.now) }
+    ensures { IfOk result (λ reply. reply ≡ body_reply close row.now body.now) }
 {
     Ok(Reply {
         status: 200,
@@ -117,7 +116,7 @@ pub(crate) fn content_at<V: View>(
     close: bool,
 ) -> Result<Option<Reply>, Memory>
     ensures { IfOk result (λ reply. reply
-        ≡ content_said (V.index live.now).inscriptions part.now close) }
+        ≡ content_at (V.index live.now).inscriptions part.now close) }
 {
     let Some(row) = row_named(live, part) else {
         return Ok(None);

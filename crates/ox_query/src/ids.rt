@@ -1,8 +1,8 @@
 //! Ids of inscriptions, and lists of them.
 
 ghost use Rattle.std.specs.Prelude.{◌+◌, ◌^◌, ◌<◌, All, length};
-ghost use Rattle.ox_ask.specs.Inscriptions.{id_tree, ids_on_all, ids_tree};
-ghost use Rattle.ox_ask.specs.Walk.{on_between};
+ghost use Rattle.ox_replies.specs.Inscriptions.{id_tree, ids_on_all, ids_tree};
+ghost use Rattle.ox_replies.specs.Walk.{on_between};
 ghost use Rattle.ox_inscribe.specs.Inscriptions.{children, on};
 ghost use Rattle.ox_query.specs.Listed.{inscription_ids_of};
 ghost use Rattle.ox_query.specs.Written.{AddsTokens, tokens_of, tokens_of_all};

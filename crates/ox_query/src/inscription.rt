@@ -6,13 +6,12 @@ ghost use Rattle.std.specs.Option.{option_and_then};
 ghost use Rattle.serde_json.specs.Data.{array};
 ghost use Rattle.serde_json.specs.View.{items_of};
 ghost use Rattle.serde_json.specs.Written.{compact_text};
-ghost use Rattle.ox_ask.specs.Ask.{inscription_at};
-ghost use Rattle.ox_ask.specs.Inscriptions.{id_tree, inscription_id, inscription_tree};
-ghost use Rattle.ox_ask.specs.Named.{inscription_named};
-ghost use Rattle.ox_ask.specs.Pages.{page_tree};
-ghost use Rattle.ox_ask.specs.Texts.{number_in};
-ghost use Rattle.ox_ask.specs.Values.{count, hex as hex_said, or_null};
-ghost use Rattle.ox_ask.specs.Values.{text_or_null as text_said};
+ghost use Rattle.ox_replies.specs.Ask.{inscription_at};
+ghost use Rattle.ox_replies.specs.Inscriptions.{id_tree, inscription_id, inscription_tree};
+ghost use Rattle.ox_replies.specs.Named.{inscription_named};
+ghost use Rattle.ox_replies.specs.Pages.{page_tree};
+ghost use Rattle.ox_replies.specs.Texts.{number_in};
+ghost use Rattle.ox_replies.specs.Values.{count, hex, or_null, text_or_null};
 ghost use Rattle.ox_model.specs.Where.{where_is};
 ghost use Rattle.ox_query.specs.Paged.{rows_between};
 ghost use Rattle.ox_query.specs.Written.{AddsTokens, tokens_of};
@@ -43,7 +42,7 @@ fn write_length_or_null(out: &mut Writer, bytes: &Option<Bytes>) -> Result<(), M
 
 /// Writes bytes as text, or null where there are none or they aren't UTF-8.
 fn write_text_or_null(out: &mut Writer, bytes: &Option<Bytes>) -> Result<(), Memory>
-    ensures { AddsTokens result out.old out.new (tokens_of (or_null text_said bytes.now)) }
+    ensures { AddsTokens result out.old out.new (tokens_of (or_null text_or_null bytes.now)) }
 {
     let Some(bytes) = bytes else {
         return Ok(out.null()?);
@@ -56,7 +55,7 @@ fn write_text_or_null(out: &mut Writer, bytes: &Option<Bytes>) -> Result<(), Mem
 
 /// Writes bytes as hexadecimal digits, or null without any.
 fn write_hex_or_null(alloc: Global, out: &mut Writer, bytes: &Option<Bytes>) -> Result<(), Memory>
-    ensures { AddsTokens result out.old out.new (tokens_of (or_null hex_said bytes.now)) }
+    ensures { AddsTokens result out.old out.new (tokens_of (or_null hex bytes.now)) }
 {
     match bytes {
         Some(bytes) => write_hex(alloc, out, bytes.as_slice()),

@@ -1,7 +1,7 @@
 //! The marks of inscriptions.
 
 ghost use Rattle.std.specs.Prelude.{◌<◌, []};
-ghost use Rattle.ox_ask.specs.Inscriptions.{mark_if, marks_tree};
+ghost use Rattle.ox_replies.specs.Inscriptions.{mark_if, marks_tree};
 ghost use Rattle.ox_query.specs.Written.{AddsTokens, tokens_of, tokens_of_all};
 
 use json::Writer;

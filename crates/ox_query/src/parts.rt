@@ -5,7 +5,7 @@ ghost use Rattle.std.specs.Prelude.{IfSome, IfNone, ◌&&◌, nat_le};
 ghost use Rattle.std.specs.List.{list_any};
 ghost use Rattle.hex.specs.Hex.{IsBytes};
 ghost use Rattle.ox_rules.specs.Text.{hash_text};
-ghost use Rattle.ox_ask.specs.Texts.{number_in, outpoint_in};
+ghost use Rattle.ox_replies.specs.Texts.{number_in, outpoint_in};
 ghost use Rattle.ox_query.specs.Sides.{Sides};
 ghost use Rattle.ox_sat.specs.Profiles.{IsProfile};
 ghost use Rattle.ox_sat.specs.Spellings.{sat_in};

@@ -3,10 +3,10 @@
 ghost use Rattle.std.specs.Prelude.{◌≡◌, IfOk, option_map, unwrap_or};
 ghost use Rattle.serde_json.specs.Data.{Data};
 ghost use Rattle.serde_json.specs.Written.{compact_text};
-ghost use Rattle.ox_ask.specs.Ask.{error_reply as error_said, reply_of, route_reply as route_said};
-ghost use Rattle.ox_ask.specs.Ask.{named_reply as named_said, same_method as is_same, tree_at};
-ghost use Rattle.ox_ask.specs.Ask.{tree_reply as tree_said};
-ghost use Rattle.ox_ask.specs.Trees.{error_tree};
+ghost use Rattle.ox_replies.specs.Ask.{error_reply, named_reply, reply_of, route_reply};
+ghost use Rattle.ox_replies.specs.Ask.{same_method, tree_at, tree_reply};
+ghost use Rattle.ox_replies.specs.Content.{content_at};
+ghost use Rattle.ox_replies.specs.Errors.{error_tree};
 ghost use Rattle.ox_query.specs.Asked.{asked_of};
 ghost use Rattle.ox_query.specs.Written.{AddsTokens, tokens_of};
 
@@ -31,7 +31,7 @@ use std::alloc::Global;
 /// A reply whose body is the compact JSON of a tree.
 fn tree_reply(alloc: Global, status: u16, body: Bytes, close: bool) -> Result<Reply, Memory>
     ensures { (tree : Data) → body ≡ compact_text tree
-        → IfOk result (λ reply. reply ≡ tree_said status tree close) }
+        → IfOk result (λ reply. reply ≡ tree_reply status tree close) }
 {
     Ok(Reply {
         status,
@@ -63,14 +63,14 @@ fn error_body(alloc: Global, status: u16) -> Result<Bytes, Memory>
 
 /// A status that isn't 200.
 fn error_reply(alloc: Global, status: u16, close: bool) -> Result<Reply, Memory>
-    ensures { IfOk result (λ reply. reply ≡ error_said status close) }
+    ensures { IfOk result (λ reply. reply ≡ error_reply status close) }
 {
     let body = error_body(alloc, status)?;
     tree_reply(alloc, status, body, close)
 }
 
-/// The body of the tree that a route has for its part, if the part names something; a content isn't
-/// a tree.
+/// The body of the tree that a route has for its part, if the part names something. A content and a
+/// command have none.
 fn body_at<V: View>(
     alloc: Global,
     live: &V,
@@ -100,7 +100,7 @@ fn body_at<V: View>(
             Some(sat) => Ok(Some(sat_body(alloc, live, sat)?)),
             None => Ok(None),
         },
-        _ => Ok(None),
+        Route::Connect | Route::Content | Route::Disconnect => Ok(None),
     }
 }
 
@@ -112,12 +112,29 @@ fn found_tree<V: View>(
     found: &Found,
     close: bool,
 ) -> Result<Reply, Memory>
-    ensures { IfOk result (λ reply. reply ≡ unwrap_or (option_map (λ tree. tree_said 200 tree close)
+    ensures { IfOk result (λ reply. reply ≡ unwrap_or (option_map (λ tree. tree_reply 200 tree close)
         (tree_at (asked_of (V.chain live.now) (V.index live.now) about.now)
-        found.now.route found.now.part.now)) (error_said 404 close)) }
+        found.now.route found.now.part.now)) (error_reply 404 close)) }
 {
     match body_at(alloc, live, about, found)? {
         Some(body) => tree_reply(alloc, 200, body, close),
+        None => error_reply(alloc, 404, close),
+    }
+}
+
+/// The reply of 200 with the content of the inscription that a part names, or 404 where there is
+/// none.
+fn found_content<V: View>(
+    alloc: Global,
+    live: &V,
+    part: &[u8],
+    close: bool,
+) -> Result<Reply, Memory>
+    ensures { IfOk result (λ reply. reply ≡ unwrap_or
+        (content_at (V.index live.now).inscriptions part.now close) (error_reply 404 close)) }
+{
+    match content_at(alloc, live, part, close)? {
+        Some(reply) => Ok(reply),
         None => error_reply(alloc, 404, close),
     }
 }
@@ -132,21 +149,28 @@ fn found_reply<V: View>(
     close: bool,
 ) -> Result<Reply, Memory>
     ensures { IfOk result (λ reply. reply ≡ unwrap_or
-        (named_said (asked_of (V.chain live.now) (V.index live.now) about.now)
-        found.now.route found.now.part.now close) (error_said 404 close)) }
+        (named_reply (asked_of (V.chain live.now) (V.index live.now) about.now)
+        found.now.route found.now.part.now close) (error_reply 404 close)) }
 {
-    let Route::Content = found.route else {
-        return found_tree(alloc, live, about, found, close);
-    };
-    match content_at(alloc, live, found.part, close)? {
-        Some(reply) => Ok(reply),
-        None => error_reply(alloc, 404, close),
+    match found.route {
+        Route::Content => found_content(alloc, live, found.part, close),
+        Route::Audit
+        | Route::BlockHash
+        | Route::Connect
+        | Route::Disconnect
+        | Route::Inscription
+        | Route::Inscriptions
+        | Route::Output
+        | Route::Rune
+        | Route::Runes
+        | Route::Sat
+        | Route::Status => found_tree(alloc, live, about, found, close),
     }
 }
 
 /// Whether two methods are the same.
 fn same_method(a: Method, b: Method) -> bool
-    ensures { result ≡ is_same a b }
+    ensures { result ≡ same_method a b }
 {
     a == b
 }
@@ -160,7 +184,7 @@ fn route_reply<V: View>(
     found: &Found,
 ) -> Result<Reply, Memory>
     ensures { IfOk result (λ reply. reply
-        ≡ route_said (asked_of (V.chain live.now) (V.index live.now) about.now)
+        ≡ route_reply (asked_of (V.chain live.now) (V.index live.now) about.now)
         request.now found.now.route found.now.part.now) }
 {
     if !same_method(request.method, found.route.method()) {
@@ -190,7 +214,7 @@ pub fn answer<V: View>(
 
 /// The same reply by routes that are lent, so that they are made once for many requests. `Memory`
 /// where there is none for the reply.
-#[tactic(auto, unfolding(ox_ask::specs::Ask::reply_of))]
+#[tactic(auto, unfolding(ox_replies::specs::Ask::reply_of))]
 pub fn answer_by<V: View>(
     alloc: Global,
     routes: &Routes,

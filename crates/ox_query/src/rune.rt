@@ -3,12 +3,12 @@
 ghost use Rattle.std.specs.Prelude.{◌≡◌, IfOk, Some, is_some, length, option_and_then, option_map};
 ghost use Rattle.std.specs.Prelude.{slice_get};
 ghost use Rattle.serde_json.specs.Written.{compact_text};
-ghost use Rattle.ox_ask.specs.Ask.{rune_at};
-ghost use Rattle.ox_ask.specs.Named.{rune_named as rune_said};
-ghost use Rattle.ox_ask.specs.Runes.{character, rune_tree, span_tree};
-ghost use Rattle.ox_etching.specs.Minted.{minted as minted_at};
+ghost use Rattle.ox_replies.specs.Ask.{rune_at};
+ghost use Rattle.ox_replies.specs.Named.{rune_named};
+ghost use Rattle.ox_replies.specs.Runes.{character, rune_tree, span_tree};
+ghost use Rattle.ox_etching.specs.Minted.{minted};
 ghost use Rattle.ox_model.specs.Found.{held_of};
-ghost use Rattle.ox_ask.specs.Values.{amount as amount_said, or_null};
+ghost use Rattle.ox_replies.specs.Values.{amount, or_null};
 ghost use Rattle.ox_query.specs.Written.{AddsTokens, tokens_of};
 
 use crate::bodies::{body_of, new_body};
@@ -23,11 +23,11 @@ use ox_runestone::Terms;
 use std::alloc::Global;
 
 /// Writes an amount, or null without one.
-fn write_amount_or_null(out: &mut Writer, amount: Option<u128>) -> Result<(), Memory>
-    ensures { AddsTokens result out.old out.new (tokens_of (or_null amount_said amount)) }
+fn write_amount_or_null(out: &mut Writer, number: Option<u128>) -> Result<(), Memory>
+    ensures { AddsTokens result out.old out.new (tokens_of (or_null amount number)) }
 {
-    match amount {
-        Some(amount) => write_amount(out, amount),
+    match number {
+        Some(number) => write_amount(out, number),
         None => Ok(out.null()?),
     }
 }
@@ -99,7 +99,7 @@ fn amount_held<V: View>(live: &V, n: u32, row: &RuneRow) -> u128
 
 /// Whether a rune's mint is open for the next block.
 fn is_mintable<V: View>(live: &V, row: &RuneRow) -> bool
-    ensures { result ≡ is_some (minted_at row.now (length (V.index live.now).hashes)) }
+    ensures { result ≡ is_some (minted row.now (length (V.index live.now).hashes)) }
 {
     minted(row, live.blocks()).is_some()
 }
@@ -164,7 +164,7 @@ pub(crate) fn rune_body<V: View>(
 ) -> Result<Option<Bytes>, Memory>
     ensures { IfOk result (λ body. body ≡ option_map compact_text
         (option_and_then (rune_at (V.index live.now))
-        (rune_said (V.index live.now).runes part.now))) }
+        (rune_named (V.index live.now).runes part.now))) }
 {
     match rune_named(alloc, live, part)? {
         Some(n) => Ok(Some(body_with(alloc, live, n, live.rune(n))?)),

@@ -1,8 +1,7 @@
 //! Which rune a part of a path names.
 
 ghost use Rattle.std.specs.Prelude.{◌≡◌, ◌<◌, ◌++◌, [], length, IfOk, MatchOption, option_and_then};
-ghost use Rattle.ox_ask.specs.Named.{rune_id_in, rune_named as rune_said};
-ghost use Rattle.ox_ask.specs.Named.{without_escapes as text_said};
+ghost use Rattle.ox_replies.specs.Named.{rune_id_in, rune_named, without_escapes};
 ghost use Rattle.ox_model.specs.Found.{by_id, by_name};
 ghost use Rattle.ox_name.specs.Spaced.{name_in};
 
@@ -37,7 +36,7 @@ fn with_id<V: View>(live: &V, part: &[u8]) -> Option<u32>
 /// and else a byte.
 fn front_of(text: &[u8]) -> Option<(&[u8], &[u8])>
     ensures { MatchOption result (text.now ≡ []) (λ x.
-        (text_said text.now ≡ x.0.now ++ text_said x.1.now)
+        (without_escapes text.now ≡ x.0.now ++ without_escapes x.1.now)
         × (length x.1.now < length text.now)) }
 {
     match text.strip_prefix(b"%E2%80%A2") {
@@ -48,7 +47,7 @@ fn front_of(text: &[u8]) -> Option<(&[u8], &[u8])>
 
 /// A text with U+2022 for each `%E2%80%A2`. `Memory` where there is none for it.
 fn without_escapes(alloc: Global, text: &[u8]) -> Result<Bytes, Memory>
-    ensures { IfOk result (λ read. read ≡ text_said text.now) }
+    ensures { IfOk result (λ read. read ≡ without_escapes text.now) }
 {
     let mut read = Bytes::empty(alloc);
     let mut rest = text;
@@ -64,7 +63,7 @@ fn without_escapes(alloc: Global, text: &[u8]) -> Result<Bytes, Memory>
 fn with_name<V: View>(alloc: Global, live: &V, part: &[u8]) -> Result<Option<u32>, Memory>
     ensures { IfOk result (λ found. found ≡ option_and_then
         (λ named. by_name (V.index live.now).runes named.name)
-        (name_in (text_said part.now))) }
+        (name_in (without_escapes part.now))) }
 {
     let text = without_escapes(alloc, part)?;
     match read_name(text.as_slice()) {
@@ -80,7 +79,7 @@ pub(crate) fn rune_named<V: View>(
     live: &V,
     part: &[u8],
 ) -> Result<Option<u32>, Memory>
-    ensures { IfOk result (λ found. found ≡ rune_said (V.index live.now).runes part.now) }
+    ensures { IfOk result (λ found. found ≡ rune_named (V.index live.now).runes part.now) }
 {
     match with_id(live, part) {
         Some(n) => Ok(Some(n)),

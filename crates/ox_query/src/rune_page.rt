@@ -4,9 +4,9 @@ ghost use Rattle.std.specs.Prelude.{◌≡◌, ◌≤◌, IfOk, length, map, opt
 ghost use Rattle.serde_json.specs.Data.{array};
 ghost use Rattle.serde_json.specs.View.{items_of};
 ghost use Rattle.serde_json.specs.Written.{compact_text};
-ghost use Rattle.ox_ask.specs.Pages.{page_tree};
-ghost use Rattle.ox_ask.specs.Runes.{rune_id};
-ghost use Rattle.ox_ask.specs.Texts.{number_in};
+ghost use Rattle.ox_replies.specs.Pages.{page_tree};
+ghost use Rattle.ox_replies.specs.Runes.{rune_id};
+ghost use Rattle.ox_replies.specs.Texts.{number_in};
 ghost use Rattle.ox_query.specs.Paged.{rows_between};
 ghost use Rattle.ox_query.specs.Written.{AddsTokens, tokens_of};
 

@@ -2,9 +2,9 @@
 
 ghost use Rattle.std.specs.Prelude.{◌≡◌, ◌≤◌};
 ghost use Rattle.serde_json.specs.Data.{string};
-ghost use Rattle.ox_ask.specs.Named.{rune_id_text as rune_id_said};
-ghost use Rattle.ox_ask.specs.Runes.{name_tree, rune_id_tree};
-ghost use Rattle.ox_ask.specs.Values.{amount as amount_said};
+ghost use Rattle.ox_replies.specs.Named.{rune_id_text};
+ghost use Rattle.ox_replies.specs.Runes.{name_tree, rune_id_tree};
+ghost use Rattle.ox_replies.specs.Values.{amount};
 ghost use Rattle.ox_name.specs.Amount.{amount_text};
 ghost use Rattle.ox_query.specs.Written.{AddsTokens, tokens_of};
 
@@ -17,15 +17,15 @@ use ox_model::{RuneId, RuneRow};
 use ox_name::write_spaced;
 
 /// Writes an amount, as the text of its digits. `Memory` where there is none for it.
-pub(crate) fn write_amount(out: &mut Writer, amount: u128) -> Result<(), Memory>
-    ensures { AddsTokens result out.old out.new (tokens_of (amount_said amount)) }
+pub(crate) fn write_amount(out: &mut Writer, number: u128) -> Result<(), Memory>
+    ensures { AddsTokens result out.old out.new (tokens_of (amount number)) }
 {
-    Ok(out.string(Buffer::new().format(amount))?)
+    Ok(out.string(Buffer::new().format(number))?)
 }
 
 /// A rune's id: the height and the place of its etching, with a colon between.
 fn rune_id_text(id: &RuneId) -> ArrayString<31>
-    ensures { result.bytes ≡ rune_id_said id.now }
+    ensures { result.bytes ≡ rune_id_text id.now }
 {
     let mut text = ArrayString::new();
     text.push_str(Buffer::new().format(id.block));

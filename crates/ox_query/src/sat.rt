@@ -2,8 +2,8 @@
 
 ghost use Rattle.std.specs.Prelude.{◌≡◌, ◌<◌, IfOk};
 ghost use Rattle.serde_json.specs.Written.{compact_text};
-ghost use Rattle.ox_ask.specs.Trees.{sat_tree};
-ghost use Rattle.ox_ask.specs.Values.{place_tree};
+ghost use Rattle.ox_replies.specs.Sats.{sat_tree};
+ghost use Rattle.ox_replies.specs.Values.{place_tree};
 ghost use Rattle.ox_query.specs.Written.{AddsTokens, tokens_of};
 
 use crate::bodies::{body_of, new_body};

@@ -2,7 +2,7 @@
 
 ghost use Rattle.std.specs.Prelude.{◌≡◌, IfOk, option_copied};
 ghost use Rattle.serde_json.specs.Written.{compact_text};
-ghost use Rattle.ox_ask.specs.Trees.{status_tree, tip};
+ghost use Rattle.ox_replies.specs.Status.{status_tree, tip};
 ghost use Rattle.ox_query.specs.Asked.{asked_of};
 ghost use Rattle.ox_query.specs.Written.{AddsTokens, tokens_of};
 

@@ -2,10 +2,9 @@
 
 ghost use Rattle.std.specs.Prelude.{◌≡◌, ◌+◌, ◌<◌, ◌≤◌, ◌++◌, decimal, length};
 ghost use Rattle.serde_json.specs.Data.{string};
-ghost use Rattle.ox_ask.specs.Texts.{decimal_text as decimal_written};
-ghost use Rattle.ox_ask.specs.Texts.{degree_text as degree_written, rarity_text};
+ghost use Rattle.ox_replies.specs.Texts.{decimal_text, degree_text, rarity_text};
 ghost use Rattle.ox_query.specs.Written.{AddsTokens, tokens_of};
-ghost use Rattle.ox_rules.specs.Text.{outpoint_text as outpoint_printed};
+ghost use Rattle.ox_rules.specs.Text.{outpoint_text};
 ghost use Rattle.ox_sat.specs.Names.{name_of};
 ghost use Rattle.ox_sat.specs.Profiles.{IsProfile};
 
@@ -22,7 +21,7 @@ use ox_sat::{Degree, Profile, Rarity, first, height_of};
 pub(crate) fn decimal_text(p: &Profile, sat: u64) -> ArrayString<41>
     requires known { IsProfile p.now }
     requires minted { sat < p.now.supply }
-    ensures { result.bytes ≡ decimal_written p.now sat }
+    ensures { result.bytes ≡ decimal_text p.now sat }
 {
     let height = height_of(p, sat);
     let mut text = ArrayString::new();
@@ -44,7 +43,7 @@ fn push_part(text: &mut ArrayString<91>, number: u64, mark: &str)
 
 /// A degree as the Ordinal Theory Handbook writes it: hour°minute′second″third‴.
 pub(crate) fn degree_text(degree: &Degree) -> ArrayString<91>
-    ensures { result.bytes ≡ degree_written degree.now }
+    ensures { result.bytes ≡ degree_text degree.now }
 {
     let mut text = ArrayString::new();
     push_part(&mut text, degree.hour, "°");
@@ -82,7 +81,7 @@ pub(crate) fn write_sat_name(out: &mut Writer, p: &Profile, sat: u64) -> Result<
 /// An outpoint as it is printed.
 #[tactic(auto, unfolding(ox_rules::specs::Text::outpoint_text))]
 fn outpoint_text(at: &OutPoint) -> ArrayString<75>
-    ensures { result.bytes ≡ outpoint_printed at.now }
+    ensures { result.bytes ≡ outpoint_text at.now }
 {
     let mut text = ArrayString::new();
     text.push_str(text_of(&hash_digits(&at.txid.0)));
@@ -93,7 +92,7 @@ fn outpoint_text(at: &OutPoint) -> ArrayString<75>
 
 /// Writes an outpoint as it is printed. `Memory` where there is none for it.
 pub(crate) fn write_outpoint(out: &mut Writer, at: &OutPoint) -> Result<(), Memory>
-    ensures { AddsTokens result out.old out.new (tokens_of (string (outpoint_printed at.now))) }
+    ensures { AddsTokens result out.old out.new (tokens_of (string (outpoint_text at.now))) }
 {
     Ok(out.string(outpoint_text(at).as_str())?)
 }

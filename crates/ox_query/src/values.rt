@@ -3,8 +3,7 @@
 ghost use Rattle.std.specs.Prelude.{◌≡◌, option_copied};
 ghost use Rattle.std.specs.Str.{IsUtf8};
 ghost use Rattle.serde_json.specs.Data.{string};
-ghost use Rattle.ox_ask.specs.Values.{count, hash_or_null as hash_said, hex as hex_said};
-ghost use Rattle.ox_ask.specs.Values.{integer, or_null};
+ghost use Rattle.ox_replies.specs.Values.{count, hash_or_null, hex, integer, or_null};
 ghost use Rattle.ox_query.specs.Written.{AddsTokens, tokens_of};
 ghost use Rattle.ox_rules.specs.Text.{hash_text};
 
@@ -36,7 +35,7 @@ pub(crate) fn write_hash(out: &mut Writer, hash: &[u8; 32]) -> Result<(), Memory
 
 /// Writes a hash as it is printed, or null without one. `Memory` where there is none for it.
 pub(crate) fn write_hash_or_null(out: &mut Writer, hash: Option<&[u8; 32]>) -> Result<(), Memory>
-    ensures { AddsTokens result out.old out.new (tokens_of (hash_said (option_copied hash.entry))) }
+    ensures { AddsTokens result out.old out.new (tokens_of (hash_or_null (option_copied hash.entry))) }
 {
     match hash {
         Some(hash) => write_hash(out, hash),
@@ -63,7 +62,7 @@ pub(crate) fn write_integer(out: &mut Writer, number: i64) -> Result<(), Memory>
 
 /// Writes bytes in hexadecimal digits. `Memory` where there is none for it.
 pub(crate) fn write_hex(alloc: Global, out: &mut Writer, bytes: &[u8]) -> Result<(), Memory>
-    ensures { AddsTokens result out.old out.new (tokens_of (hex_said bytes.now)) }
+    ensures { AddsTokens result out.old out.new (tokens_of (hex bytes.now)) }
 {
     if bytes.len() > SHORT {
         return Ok(out.string(&hex::encode(alloc, bytes)?)?);

@@ -1,7 +1,7 @@
 use Rattle.std.proofs.Common.{◌≡◌, subst}
 use Rattle.serde_json.specs.Written.{compact_text}
 use Rattle.ox_model.specs.declared.audit.Audit.{Audit}
-use Rattle.ox_ask.specs.Audits.{audit_tree}
+use Rattle.ox_replies.specs.Audits.{audit_tree}
 use Rattle.ox_query.proofs.Arrays.{first_tree}
 use Rattle.ox_query.proofs.audit.audit_body.Goals as goal
 

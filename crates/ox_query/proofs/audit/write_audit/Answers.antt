@@ -1,7 +1,7 @@
 use Rattle.std.proofs.Common.{map}
 use Rattle.serde_json.specs.Data.{array}
 use Rattle.serde_json.specs.View.{items_of}
-use Rattle.ox_ask.specs.Audits.{rune_audit_tree}
+use Rattle.ox_replies.specs.Audits.{rune_audit_tree}
 use Rattle.ox_query.specs.Written.{tokens_of}
 use Rattle.ox_query.proofs.Steps.{all, same, token, value, ◌▸◌}
 use Rattle.ox_query.proofs.audit.write_audit.Goals as goal

@@ -1,6 +1,6 @@
 use Rattle.std.proofs.Common.{◌≡◌, [], ◌∷◌, ◌++◌, map, take}
 use Rattle.json.specs.Token.{begin_array}
-use Rattle.ox_ask.specs.Audits.{rune_audit_tree}
+use Rattle.ox_replies.specs.Audits.{rune_audit_tree}
 use Rattle.ox_query.specs.Written.{tokens_of_all}
 use Rattle.ox_query.proofs.audit.write_runes.Given as goal
 

@@ -2,7 +2,7 @@ use Rattle.std.proofs.Common.{◌∙◌, [], ◌∷◌, ◌++◌, List, ap}
 use Rattle.std.specs.List.{filter_map}
 use Rattle.json.specs.Token.{begin_array}
 use Rattle.ox_allocation.specs.Balances.{Balance}
-use Rattle.ox_ask.specs.Runes.{balance_among, balances_tree}
+use Rattle.ox_replies.specs.Runes.{balance_among, balances_tree}
 use Rattle.ox_query.specs.Written.{tokens_of}
 use Rattle.ox_query.proofs.Arrays.{bracketed}
 use Rattle.ox_query.proofs.Filtered.{all, one_more}

@@ -1,6 +1,6 @@
 use Rattle.std.proofs.Common.{◌≡◌, [], ◌∷◌, ◌++◌, take}
 use Rattle.json.specs.Token.{begin_array}
-use Rattle.ox_ask.specs.Runes.{balance_among}
+use Rattle.ox_replies.specs.Runes.{balance_among}
 use Rattle.ox_query.proofs.Filtered.{told_of}
 use Rattle.ox_query.proofs.balances.write_balances.Given as goal
 

@@ -1,4 +1,4 @@
-use Rattle.ox_ask.specs.Trees.{block_tree}
+use Rattle.ox_replies.specs.Blocks.{block_tree}
 use Rattle.ox_query.proofs.Arrays.{first_tree}
 use Rattle.ox_query.proofs.block.block_body.Goals as goal
 

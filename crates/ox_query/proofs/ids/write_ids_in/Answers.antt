@@ -1,5 +1,5 @@
 use Rattle.std.proofs.Common.{List, ℕ, subst}
-use Rattle.ox_ask.specs.Inscriptions.{ids_on_all}
+use Rattle.ox_replies.specs.Inscriptions.{ids_on_all}
 use Rattle.ox_query.specs.Written.{AddsTokens, tokens_of}
 use Rattle.ox_query.proofs.ids.write_ids_in.Goals as goal
 

@@ -1,6 +1,6 @@
 use Rattle.std.proofs.Common.{◌+◌, ◌∙◌, ◌++◌, arith}
 use Rattle.ox_range.specs.Runs.{end_of}
-use Rattle.ox_ask.specs.Walk.{on_between}
+use Rattle.ox_replies.specs.Walk.{on_between}
 use Rattle.ox_query.proofs.IdLists.{told_of, walk_below, walk_from, walk_none, walk_on, walk_past, walked_all, walked_one}
 use Rattle.ox_query.proofs.ids.write_ids_on_run.Goals as goal
 

@@ -1,5 +1,5 @@
 use Rattle.std.proofs.Common.{◌≡◌, ◌-◌, ◌++◌}
-use Rattle.ox_ask.specs.Walk.{on_between}
+use Rattle.ox_replies.specs.Walk.{on_between}
 use Rattle.ox_query.proofs.IdLists.{told_of}
 use Rattle.ox_query.proofs.ids.write_ids_on_run.Given as goal
 

@@ -1,5 +1,5 @@
-use Rattle.ox_ask.specs.Inscriptions.{inscription_id}
-use Rattle.ox_ask.specs.Pages.{page_tree}
+use Rattle.ox_replies.specs.Inscriptions.{inscription_id}
+use Rattle.ox_replies.specs.Pages.{page_tree}
 use Rattle.ox_query.proofs.Arrays.{first_tree}
 use Rattle.ox_query.proofs.inscription.page_body.Goals as goal
 

@@ -1,4 +1,4 @@
-use Rattle.ox_ask.specs.Inscriptions.{inscription_tree}
+use Rattle.ox_replies.specs.Inscriptions.{inscription_tree}
 use Rattle.ox_query.proofs.Arrays.{first_tree}
 use Rattle.ox_query.proofs.inscription.row_body.Goals as goal
 

@@ -4,8 +4,8 @@ use Rattle.std.proofs.lemmas.Option.{slice_get_within}
 use Rattle.json.specs.Token.{boolean}
 use Rattle.serde_json.specs.Data.{array}
 use Rattle.serde_json.specs.View.{items_of}
-use Rattle.ox_ask.specs.Inscriptions.{id_tree}
-use Rattle.ox_ask.specs.Values.{count, integer, place_tree}
+use Rattle.ox_replies.specs.Inscriptions.{id_tree}
+use Rattle.ox_replies.specs.Values.{count, integer, place_tree}
 use Rattle.ox_inscribe.specs.Signed.{is_cursed, is_vindicated, number_at, number_of}
 use Rattle.ox_inscribe.specs.declared.row.InsRow.{InsRow}
 use Rattle.ox_sat.specs.declared.profiles.Profile.{Profile}

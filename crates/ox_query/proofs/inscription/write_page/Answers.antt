@@ -1,7 +1,7 @@
 use Rattle.std.proofs.Common.{map}
 use Rattle.serde_json.specs.Data.{array}
 use Rattle.serde_json.specs.View.{items_of}
-use Rattle.ox_ask.specs.Inscriptions.{inscription_id}
+use Rattle.ox_replies.specs.Inscriptions.{inscription_id}
 use Rattle.ox_query.specs.Paged.{page_end}
 use Rattle.ox_query.specs.Written.{tokens_of}
 use Rattle.ox_query.proofs.PageRows.{entries_are, more_are}

@@ -1,6 +1,6 @@
 use Rattle.std.proofs.Common.{◌≡◌, ◌∙◌, [], ◌∷◌, ◌++◌, map, ap, arith}
 use Rattle.json.specs.Token.{begin_array}
-use Rattle.ox_ask.specs.Inscriptions.{inscription_id}
+use Rattle.ox_replies.specs.Inscriptions.{inscription_id}
 use Rattle.ox_query.specs.Paged.{rows_between}
 use Rattle.ox_query.specs.Written.{tokens_of_all}
 use Rattle.ox_query.proofs.Arrays.{bracketed}

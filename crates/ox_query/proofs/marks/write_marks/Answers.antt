@@ -1,7 +1,7 @@
 use Rattle.std.proofs.Common.{List, [], ◌∷◌, codes}
 use Rattle.json.specs.Token.{Token, end_array}
 use Rattle.serde_json.specs.Data.{Data}
-use Rattle.ox_ask.specs.Inscriptions.{mark_if}
+use Rattle.ox_replies.specs.Inscriptions.{mark_if}
 use Rattle.ox_query.proofs.MarkTexts.{bracketed_marks, mark}
 use Rattle.ox_query.proofs.Steps.{all, token, value, ◌▸◌}
 use Rattle.ox_query.proofs.marks.write_marks.Goals as goal

@@ -1,4 +1,4 @@
-use Rattle.ox_ask.specs.Trees.{output_tree}
+use Rattle.ox_replies.specs.Outputs.{output_tree}
 use Rattle.ox_query.proofs.Arrays.{first_tree}
 use Rattle.ox_query.proofs.output.output_body.Goals as goal
 

@@ -1,6 +1,6 @@
 use Rattle.serde_json.specs.Data.{array}
-use Rattle.ox_ask.specs.Trees.{run_items}
-use Rattle.ox_ask.specs.Values.{count, hex}
+use Rattle.ox_replies.specs.Outputs.{run_items}
+use Rattle.ox_replies.specs.Values.{count, hex}
 use Rattle.ox_query.specs.Written.{tokens_of}
 use Rattle.ox_query.proofs.Steps.{all, same, token, value, ◌▸◌}
 use Rattle.ox_query.proofs.output.write_output.Goals as goal

@@ -2,7 +2,7 @@ use Rattle.std.proofs.Common.{◌∙◌, [], ◌∷◌, ◌++◌, map, sym, ap}
 use Rattle.json.specs.Token.{begin_array}
 use Rattle.serde_json.specs.Data.{Items, array}
 use Rattle.ox_range.proofs.RunLemmas.{maximal-at, zero_run}
-use Rattle.ox_ask.specs.Trees.{run_tree}
+use Rattle.ox_replies.specs.Outputs.{run_tree}
 use Rattle.ox_query.specs.Written.{tokens_of}
 use Rattle.ox_query.proofs.Arrays.{all, bracketed, one_more}
 use Rattle.ox_query.proofs.Runs.{run_items-map}

@@ -1,5 +1,5 @@
 use Rattle.std.proofs.Common.{ap, ◌∙◌}
-use Rattle.ox_ask.specs.Texts.{number_in}
+use Rattle.ox_replies.specs.Texts.{number_in}
 use Rattle.ox_query.proofs.Spelled.{number_is, number_unread}
 use Rattle.ox_query.proofs.parts.number.Goals as goal
 

@@ -1,4 +1,4 @@
-use Rattle.ox_ask.specs.Trees.{error_tree}
+use Rattle.ox_replies.specs.Errors.{error_tree}
 use Rattle.ox_query.proofs.Arrays.{first_tree}
 use Rattle.ox_query.proofs.replies.error_body.Goals as goal
 

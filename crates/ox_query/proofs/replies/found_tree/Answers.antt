@@ -1,5 +1,5 @@
 use Rattle.std.proofs.Common.{sym, ◌∙◌}
-use Rattle.ox_ask.specs.Ask.{error_reply, tree_at}
+use Rattle.ox_replies.specs.Ask.{error_reply, tree_at}
 use Rattle.ox_query.specs.Asked.{asked_of}
 use Rattle.ox_query.proofs.Routes.{none_replied, some_replied}
 use Rattle.ox_query.proofs.replies.found_tree.Goals as goal

@@ -1,4 +1,4 @@
-use Rattle.ox_ask.specs.Runes.{rune_tree}
+use Rattle.ox_replies.specs.Runes.{rune_tree}
 use Rattle.ox_query.proofs.Arrays.{first_tree}
 use Rattle.ox_query.proofs.rune.body_with.Goals as goal
 

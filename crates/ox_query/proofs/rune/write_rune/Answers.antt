@@ -1,6 +1,6 @@
 use Rattle.json.specs.Token.{boolean}
 use Rattle.std.proofs.Common.{[], ◌∷◌}
-use Rattle.ox_ask.specs.Values.{amount, count, or_null}
+use Rattle.ox_replies.specs.Values.{amount, count, or_null}
 use Rattle.ox_query.specs.Written.{tokens_of}
 use Rattle.ox_query.proofs.Steps.{all, same, token, value, ◌▸◌}
 use Rattle.ox_query.proofs.rune.write_rune.Goals as goal

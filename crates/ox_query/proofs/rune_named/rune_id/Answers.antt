@@ -1,5 +1,5 @@
 use Rattle.std.proofs.Common.{decimal, sym, ap, ◌∙◌}
-use Rattle.ox_ask.specs.Named.{rune_id_in}
+use Rattle.ox_replies.specs.Named.{rune_id_in}
 use Rattle.ox_query.proofs.Outpoints.{index_past, index_within}
 use Rattle.ox_query.proofs.RuneParts.{id_unread, without_colon, without_height, without_place, past_places, id_is}
 use Rattle.ox_query.proofs.rune_named.rune_id.Goals as goal

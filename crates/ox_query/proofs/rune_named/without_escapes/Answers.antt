@@ -1,5 +1,5 @@
 use Rattle.std.proofs.Common.{ℕ, ◌++◌, List, sym, ap, ◌∙◌, append_assoc, append-nil}
-use Rattle.ox_ask.specs.Named.{without_escapes}
+use Rattle.ox_replies.specs.Named.{without_escapes}
 use Rattle.ox_query.proofs.RuneParts.{nothing_read}
 use Rattle.ox_query.proofs.rune_named.without_escapes.Goals as goal
 

@@ -1,5 +1,5 @@
 use Rattle.std.proofs.Common.{◌≡◌, ◌++◌, length}
-use Rattle.ox_ask.specs.Named.{without_escapes}
+use Rattle.ox_replies.specs.Named.{without_escapes}
 use Rattle.ox_query.proofs.rune_named.without_escapes.Given as goal
 
 abbrev pub invariant-loop-front : goal.invariant-loop-front

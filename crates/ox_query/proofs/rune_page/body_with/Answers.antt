@@ -1,5 +1,5 @@
-use Rattle.ox_ask.specs.Pages.{page_tree}
-use Rattle.ox_ask.specs.Runes.{rune_id}
+use Rattle.ox_replies.specs.Pages.{page_tree}
+use Rattle.ox_replies.specs.Runes.{rune_id}
 use Rattle.ox_query.proofs.Arrays.{first_tree}
 use Rattle.ox_query.proofs.rune_page.body_with.Goals as goal
 

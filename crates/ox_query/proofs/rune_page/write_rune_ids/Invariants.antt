@@ -1,6 +1,6 @@
 use Rattle.std.proofs.Common.{◌≡◌, [], ◌∷◌, ◌++◌, map}
 use Rattle.json.specs.Token.{begin_array}
-use Rattle.ox_ask.specs.Runes.{rune_id}
+use Rattle.ox_replies.specs.Runes.{rune_id}
 use Rattle.ox_query.specs.Paged.{rows_between}
 use Rattle.ox_query.specs.Written.{tokens_of_all}
 use Rattle.ox_query.proofs.rune_page.write_rune_ids.Given as goal

@@ -1,4 +1,4 @@
-use Rattle.ox_ask.specs.Trees.{sat_tree}
+use Rattle.ox_replies.specs.Sats.{sat_tree}
 use Rattle.ox_query.proofs.Arrays.{first_tree}
 use Rattle.ox_query.proofs.sat.sat_body.Goals as goal
 

@@ -4,8 +4,8 @@ use Rattle.ox_sat.specs.Degrees.{degree_at, rarity_by}
 use Rattle.ox_sat.specs.Names.{name_of}
 use Rattle.ox_sat.specs.Profiles.{IsProfile}
 use Rattle.ox_sat.specs.declared.profiles.Profile.{Profile}
-use Rattle.ox_ask.specs.Texts.{decimal_text, degree_text, rarity_text}
-use Rattle.ox_ask.specs.Values.{place_tree}
+use Rattle.ox_replies.specs.Texts.{decimal_text, degree_text, rarity_text}
+use Rattle.ox_replies.specs.Values.{place_tree}
 use Rattle.ox_query.specs.Written.{tokens_of}
 use Rattle.ox_query.proofs.Steps.{all, same, token, value, ◌▸◌}
 use Rattle.ox_query.proofs.sat.write_sat.Goals as goal

@@ -1,4 +1,4 @@
-use Rattle.ox_ask.specs.Trees.{status_tree}
+use Rattle.ox_replies.specs.Status.{status_tree}
 use Rattle.ox_query.specs.Asked.{asked_of}
 use Rattle.ox_query.proofs.Arrays.{first_tree}
 use Rattle.ox_query.proofs.status.status_body.Goals as goal

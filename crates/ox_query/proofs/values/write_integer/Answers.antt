@@ -2,7 +2,7 @@ use Rattle.std.proofs.Common.{◌≡◌, ℤ, pos, negsuc, List, [], ◌∷◌, 
 use Rattle.std.specs.Fmt.{signed_decimal}
 use Rattle.std.proofs.lemmas.Int.{to_z-of_z}
 use Rattle.json.specs.Token as Token
-use Rattle.ox_ask.specs.Values.{integer}
+use Rattle.ox_replies.specs.Values.{integer}
 use Rattle.ox_query.specs.Written.{tokens_of}
 use Rattle.ox_query.proofs.Steps.{Step, all, same, token}
 use Rattle.ox_query.proofs.values.write_integer.Goals as goal

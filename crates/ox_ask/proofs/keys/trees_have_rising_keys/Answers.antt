@@ -1,6 +1,0 @@
--- Key by key.
-use Rattle.ox_ask.proofs.Rising.{error_rises, tree_rises}
-use Rattle.ox_ask.proofs.keys.trees_have_rising_keys.Goals as goal
-
-pub returns : goal.returns
-returns c = record { trees = tree_rises; errors = error_rises }

@@ -1,5 +1,0 @@
-use Rattle.ox_ask.proofs.Floats.{tree_plain}
-use Rattle.ox_ask.proofs.laws.trees_have_no_floats.Goals as goal
-
-pub returns : goal.returns
-returns c = tree_plain

@@ -1,6 +1,0 @@
--- By the one place of its satoshi.
-use Rattle.ox_ask.proofs.Agree.{agree}
-use Rattle.ox_ask.proofs.places.outputs_and_inscriptions_agree.Goals as goal
-
-pub returns : goal.returns
-returns c = agree

@@ -1,0 +1,17 @@
+pub mod Ask
+pub mod Asked
+pub mod Audits
+pub mod Blocks
+pub mod Content
+pub mod Errors
+pub mod Inscriptions
+pub mod Keys
+pub mod Named
+pub mod Outputs
+pub mod Pages
+pub mod Runes
+pub mod Sats
+pub mod Status
+pub mod Texts
+pub mod Values
+pub mod Walk
