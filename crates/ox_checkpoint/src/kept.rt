@@ -18,6 +18,7 @@ ghost use Rattle.ox_files.specs.Body.{body_of, is_kept, leads_down, whole};
 
 use crate::read::{read_body, whole_change};
 use ox_bytes::Memory;
+use ox_files::{CONNECT, DISCONNECT};
 use ox_index::{Chain, Live};
 use ox_model::Change;
 use ox_plain::Index;
@@ -93,8 +94,8 @@ impl Kept {
             option_map stack_kept kept ≡ payload_step (stack_kept self) payload.now) }
     {
         match payload {
-            [1, rows @ ..] => self.by_rows(alloc, rows),
-            [0] => self.back(alloc),
+            [CONNECT, rows @ ..] => self.by_rows(alloc, rows),
+            [DISCONNECT] => self.back(alloc),
             _ => Ok(None),
         }
     }

@@ -1,7 +1,7 @@
 -- The reply to each request of a link of either door, by a state that turns by commands. The state
 -- is a machine, or a machine's stack.
-use Rattle.std.specs.Prelude.{ℕ, ◌-◌, Bool, List, ◌++◌, length, codes, decimal, slice_get}
-use Rattle.std.specs.Prelude.{Option, Some, None, option_map, Result, Ok, Err}
+use Rattle.std.specs.Prelude.{ℕ, Bool, List, ◌++◌, codes, decimal, Option, Some, None, Result, Ok}
+use Rattle.std.specs.Prelude.{Err}
 use Rattle.serde_json.specs.Data.{Data, string, object, no_members, member}
 use Rattle.ox_feed.specs.declared.command.Command.{Command}
 use Rattle.ox_http.specs.declared.Reply.{Reply}
@@ -12,19 +12,13 @@ use Rattle.ox_rules.specs.declared.refusal.Refusal.TheVariants.{TooLong, Syntax,
 use Rattle.ox_rules.specs.declared.refusal.Refusal.TheVariants.{ChainEnd, Unlinked, BadRoot}
 use Rattle.ox_rules.specs.declared.refusal.Refusal.TheVariants.{Coinbase, BadWitness, UnknownOutput}
 use Rattle.ox_rules.specs.declared.refusal.Refusal.TheVariants.{Overspend, Overclaim, Depth}
-use Rattle.ox_model.specs.Index.{Index}
+use Rattle.ox_index.specs.Tip.{tip_of}
 use Rattle.ox_replies.specs.Ask.{reply_of, tree_reply}
 use Rattle.ox_replies.specs.Asked.{Asked}
 use Rattle.ox_replies.specs.Values.{count, or_null}
 use Rattle.ox_desk.specs.Commands.{command_of}
 
 -- ---- what is said of a command
-
--- the newest block's height and hash, where there is a block
-abbrev pub tip_of : Index → Option (ℕ × List ℕ)
-tip_of index =
-    option_map (λ hash. (length index.hashes - 1, hash))
-    (slice_get index.hashes (length index.hashes - 1))
 
 -- an accepted command tells the newest block after it; both are null where there is none
 abbrev pub newest_tree : Option (ℕ × List ℕ) → Data

@@ -1,5 +1,5 @@
 //! What the two files of a store stand for, and what a crash leaves of runs over them: definitions,
-//! and their laws; and the profile that a head names.
+//! and their laws; the profile that a head names, and the bytes that payloads begin with.
 #![tactic(auto)]
 
 ghost use Rattle.std.specs.Prelude.{◌≡◌, ◌↔◌, IsTrue, List, ◌∷◌, All, Ok};
@@ -16,8 +16,10 @@ ghost use Rattle.ox_files.specs.Runs.{LastOf, Run, RunInTurn};
 ghost use Rattle.ox_files.specs.Stands.{stands};
 
 mod head;
+mod payload;
 
 pub use head::profile_of_head;
+pub use payload::{CONNECT, DISCONNECT};
 
 /// Of a stack that files stand for each index is sound: the newest, and each of the older ones.
 pub fn stores_are_sound()

@@ -7,3 +7,4 @@ pub mod Lengths
 pub mod Live
 pub mod Parts
 pub mod Tables
+pub mod Tip

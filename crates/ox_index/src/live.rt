@@ -67,8 +67,8 @@ impl Live {
     ghost use Rattle.ox_model.specs.Replies.{ok_line};
     ghost use Rattle.ox_model.specs.Ends.{BeginsIn, EndsIn};
     ghost use Rattle.ox_index.specs.Live.{profile_in, index_in, marked_in};
-    ghost use Rattle.ox_rules.specs.Why.{Refuses};
-    ghost use Rattle.ox_rules.specs.Text.{tip_line};
+    ghost use Rattle.ox_index.specs.Fault.{Refuses};
+    ghost use Rattle.ox_index.specs.Tip.{tip_of};
 
     /// The index of a chain without a block that counts by this profile. `Memory` where there is
     /// none for the rune that is there from the start, which mainnet has alone; else it takes none.
@@ -263,9 +263,10 @@ impl Live {
         Ok(ok_line_in(room, self.tip()))
     }
 
-    /// The newest block's height and hash.
-    fn tip(&self) -> Option<(u32, [u8; 32])>
-        ensures { tip_line result ≡ ok_line (index_in self.now) }
+    /// The newest block's height and its hash in serialized order; `None` exactly where there is no
+    /// block.
+    pub fn tip(&self) -> Option<(u32, [u8; 32])>
+        ensures { result ≡ tip_of (index_in self.now) }
     {
         let height = self.blocks().checked_sub(1)?;
         let hash = self.hash_of(height)?;

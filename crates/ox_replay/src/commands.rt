@@ -1,14 +1,10 @@
 //! Commands as their records have them.
 
 ghost use Rattle.std.specs.Prelude.{◌≡◌, Some, None, MatchOption};
-ghost use Rattle.ox_files.specs.OldStands.{command_in as command_there};
+ghost use Rattle.ox_files.specs.OldStands.{command_in};
 ghost use Rattle.ox_replay.specs.Replay.{command_of};
 
-/// The first byte of a record's payload that connects the block behind it.
-const CONNECT: u8 = 1;
-
-/// The payload of a disconnect's record.
-const DISCONNECT: u8 = 0;
+use ox_files::{CONNECT, DISCONNECT};
 
 /// A command as its record has it.
 #[derive(Clone, Copy)]
@@ -21,8 +17,8 @@ pub(crate) enum Recorded<'a> {
 
 /// The command of a record's payload, if it has one.
 pub(crate) fn command_in(payload: &[u8]) -> Option<Recorded<'_>>
-    ensures { MatchOption result (command_there payload.now ≡ None)
-        (λ r. command_there payload.now ≡ Some (command_of r)) }
+    ensures { MatchOption result (command_in payload.now ≡ None)
+        (λ r. command_in payload.now ≡ Some (command_of r)) }
 {
     match payload {
         [CONNECT, block @ ..] => Some(Recorded::Connect(block)),

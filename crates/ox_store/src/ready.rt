@@ -11,7 +11,7 @@ use crate::store::Store;
 use crate::writing::Writing;
 use ox_gated::{DiskFault, Tail};
 use ox_index::Chain;
-use ox_model::{Change, View};
+use ox_model::Change;
 use ox_outside::Site;
 use std::alloc::Global;
 use std::marker::Model;
@@ -68,7 +68,7 @@ impl Ready {
     ghost use Rattle.ox_model.specs.Stack.{Stack};
     ghost use Rattle.ox_files.specs.Stands.{stands};
     ghost use Rattle.ox_store.specs.Ready.{Leads, Moves, StandsForEither};
-    ghost use Rattle.ox_store.specs.Store.{tip_of};
+    ghost use Rattle.ox_index.specs.Tip.{tip_of};
     ghost use Rattle.ox_store.specs.Writing.{HasOneMore, HasTurned};
 
     /// The newest block's height and its hash in serialized order, as the command leaves them;
@@ -76,10 +76,7 @@ impl Ready {
     pub fn tip(&self) -> Option<(u32, [u8; 32])>
         ensures { result ≡ tip_of self.now.stack.index }
     {
-        let live = self.chain.live();
-        let height = live.blocks().checked_sub(1)?;
-        let hash = live.hash_of(height)?;
-        Some((height, *hash))
+        self.chain.live().tip()
     }
 
     /// The command's own change: that of the block that it connects, or takes back.

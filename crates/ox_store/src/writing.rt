@@ -20,17 +20,12 @@ ghost use Rattle.ox_store.specs.Writing.{HasOneMore, HasTurned, IsDue, LeadsTo};
 use ox_bytes::{Bytes, Memory};
 use ox_checkpoint::put_body;
 use ox_feed::Command;
+use ox_files::{CONNECT, DISCONNECT};
 use ox_gated::{Checkpoint, DiskFault, Framed, Head, Tail, checkpoint_of, frame_parts};
 use ox_index::Chain;
 use ox_outside::Site;
 use ox_rows::write_change;
 use std::alloc::Global;
-
-/// The first byte of a payload behind which a change stands.
-const CONNECT: u8 = 1;
-
-/// The payload where the newest block is taken back.
-const DISCONNECT: u8 = 0;
 
 /// The greatest length of a body. That of a payload is the same, with its first byte.
 const LONGEST: usize = 0xffff_ffff;
