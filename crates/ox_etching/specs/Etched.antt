@@ -1,4 +1,5 @@
 -- Etchings that stand: Runes specification, "Etching" and "Cenotaphs".
+pub use Rattle.ox_etching.specs.declared.spot.Spot.{Spot}
 use Rattle.std.specs.Prelude.{ℕ, Bool, false, not, ◌&&◌, Option, Some, None, unwrap_or, List}
 use Rattle.std.specs.Prelude.{nat_le, option_and_then, if◌then◌else◌}
 use Rattle.std.specs.Option.{option_map}
@@ -13,14 +14,6 @@ use Rattle.ox_sat.specs.declared.profiles.Profile.{Profile}
 use Rattle.ox_rules.specs.declared.rows.OutRow.{OutRow}
 use Rattle.ox_etching.specs.Commitment.{commits}
 use Rattle.ox_etching.specs.declared.row.RuneRow.{RuneRow}
-
--- a transaction in its block: the chain's profile, the block's height, the place in the block, and
--- the transaction's id
-pub record Spot : Type 0 where
-  pub profile : Profile
-  pub height : ℕ
-  pub tx : ℕ
-  pub txid : Txid
 
 -- a name may be given at a height: it is at least the least name of the height, and not reserved
 abbrev pub may_be_given : Profile → ℕ → ℕ → Bool

@@ -1,10 +1,12 @@
 //! Etchings that stand: Runes specification, "Etching" and "Cenotaphs".
 
 ghost use Rattle.std.specs.Prelude.{◌≡◌};
-ghost use Rattle.ox_etching.specs.Etched.{etched, etching_of, may_be_given, name_alone, row_of};
+ghost use Rattle.ox_etching.specs.Etched.{etched, etching_of, id_of, may_be_given, name_alone};
+ghost use Rattle.ox_etching.specs.Etched.{row_of};
 
 use crate::commitment::commits;
 use crate::row::RuneRow;
+use crate::spot::Spot;
 use ox_block::{Tx, Txid};
 use ox_name::{is_reserved, minimum, reserved_name};
 use ox_rules::SpentRows;
@@ -44,6 +46,16 @@ fn etching_of(artifact: &Artifact) -> Option<Etching>
     }
 }
 
+/// Where a transaction etches, which is the id of its rune.
+fn id_of(at: &Spot) -> RuneId
+    ensures { result ≡ id_of at.now }
+{
+    RuneId {
+        block: at.height as u64,
+        tx: at.tx,
+    }
+}
+
 /// A rune that is new, with what its etching says.
 fn row_of(id: RuneId, txid: Txid, etching: &Etching, name: u128) -> RuneRow
     ensures { result ≡ row_of id txid etching.now name }
@@ -62,10 +74,9 @@ fn row_of(id: RuneId, txid: Txid, etching: &Etching, name: u128) -> RuneRow
     }
 }
 
-/// The new rune of the transaction at place `tx` of a block, which has this id and this artifact
-/// and spends these rows: one for each input, in input order, and none for a coinbase. Whether a
-/// rune has the name that is etched is handed in. `None` where nothing is etched, or the etching
-/// is ignored.
+/// The new rune of the transaction at a spot, which has this artifact and spends these rows: one
+/// for each input, in input order, and none for a coinbase. Whether a rune has the name that is
+/// etched is handed in. `None` where nothing is etched, or the etching is ignored.
 ///
 /// A name that is given has to be at least the least one of the height, not reserved, not taken,
 /// and committed to (`commits`): else the etching is ignored. Without one the rune gets the name
@@ -74,30 +85,24 @@ fn row_of(id: RuneId, txid: Txid, etching: &Etching, name: u128) -> RuneRow
 ///
 /// Tapscripts are read only where all else lets the name stand.
 pub fn etched(
-    p: &Profile,
-    height: u32,
-    tx: u32,
-    id: Txid,
+    at: Spot,
     body: &Tx,
     spent: &SpentRows,
     artifact: &Artifact,
     is_taken: bool,
 ) -> Option<RuneRow>
-    ensures { result ≡ etched
-        (record { profile = p.now; height = height; tx = tx; txid = id })
-        body.now spent.now artifact.now is_taken }
+    ensures { result ≡ etched at body.now spent.now artifact.now is_taken }
 {
     let etching = etching_of(artifact)?;
     let name = match etching.name {
-        None => reserved_name(height, tx),
+        None => reserved_name(at.height, at.tx),
         Some(name) => {
-            let is_free = may_be_given(p, height, name) && !is_taken;
-            if !(is_free && commits(body, spent, name, height)) {
+            let is_free = may_be_given(&at.profile, at.height, name) && !is_taken;
+            if !(is_free && commits(body, spent, name, at.height)) {
                 return None;
             }
             name
         }
     };
-    let block = height as u64;
-    Some(row_of(RuneId { block, tx }, id, &etching, name))
+    Some(row_of(id_of(&at), at.txid, &etching, name))
 }

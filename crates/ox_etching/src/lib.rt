@@ -7,9 +7,11 @@ mod etching;
 mod laws;
 mod minting;
 mod row;
+mod spot;
 
 pub use commitment::commits;
 pub use etching::etched;
 pub use laws::mints_are_open;
 pub use minting::minted;
 pub use row::RuneRow;
+pub use spot::Spot;

@@ -2,7 +2,7 @@
 
 use ox_block::{Inputs, OutPoint, Outs, Tx, TxIn, Txid, Witness};
 use ox_bytes::Bytes;
-use ox_etching::{RuneRow, commits, etched, minted};
+use ox_etching::{RuneRow, Spot, commits, etched, minted};
 use ox_range::Ranges;
 use ox_rules::{OutRow, Script, SpentRows};
 use ox_runestone::{Artifact, Edicts, Etching, RuneId, Runestone, Terms, decipher, is_stone};
@@ -308,6 +308,16 @@ fn places_that_commit(rt: HostRuntime) {
     assert!(rt; !is_committed(&rt, alloc, &[PUSHES_IT, CONTROL], short, LABTESTS));
 }
 
+/// Where a transaction etches.
+fn spot(name: ProfileName, height: u32, tx: u32) -> Spot {
+    Spot {
+        profile: profile_of(name),
+        height,
+        tx,
+        txid: ETCHES,
+    }
+}
+
 /// The rune that transaction 1 of a block etches, which commits to LABTESTS at 5 confirmations in
 /// block 8 and at 6 in block 9.
 fn etched_at(
@@ -319,8 +329,8 @@ fn etched_at(
 ) -> Option<RuneRow> {
     let body = body_of(rt, alloc, &[PUSHES_IT, CONTROL]);
     let spent = rows_of(rt, alloc, TAPROOT);
-    let lab = profile_of(ProfileName::Lab);
-    etched(&lab, height, 1, ETCHES, &body, &spent, artifact, taken)
+    let at = spot(ProfileName::Lab, height, 1);
+    etched(at, &body, &spent, artifact, taken)
 }
 
 fn stone_of(alloc: Global, etching: Etching) -> Artifact {
@@ -398,10 +408,8 @@ fn stands_on_mainnet(rt: &impl Abort, alloc: Global, script: &[u8], name: u128) 
         mint: None,
         name: Some(name),
     };
-    let mainnet = profile_of(ProfileName::Mainnet);
-    let row = etched(
-        &mainnet, 840_000, 5, ETCHES, &body, &spent, &artifact, false,
-    );
+    let at = spot(ProfileName::Mainnet, 840_000, 5);
+    let row = etched(at, &body, &spent, &artifact, false);
     is_bare(row, 840_000, 5, name)
 }
 
