@@ -2,6 +2,7 @@ pub mod Brought
 pub mod ByIds
 pub mod HolderLemmas
 pub mod ListLemmas
+pub mod KeptLemmas
 pub mod ListChanges
 pub mod TableLemmas
 pub mod BurnLemmas

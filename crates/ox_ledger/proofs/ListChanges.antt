@@ -28,25 +28,25 @@ module _ {A : Type 0} where
   below : (at : ℕ → Option A) (n place : ℕ) → IsFull at n → place < length (listed at n) → place < n
   below at n place full less = let long = length-listed at n full in omega (arith, long, less)
 
-  there : (at : ℕ → Option A) (mark : Option (ℕ → Option A)) (n n_then : ℕ) (changed : ℕ → Bool) (places : List ℕ) → IsFull at n → IfSome mark (λ f. IsFull f n_then)
-      → IfSome mark (λ f. (q : ℕ) → changed q ≡ false → at q ≡ f q) → ((q : ℕ) → list_any (λ key. is_eq (nat_cmp q key)) places ≡ changed q)
-      → IfSome (option_map (λ f. listed f n_then) mark) (λ list. (place : ℕ) → place < length (listed at n) → place < length list → list_any (λ p. p == place) places ≡ false → slice_get (listed at n) place ≡ slice_get list place)
-  there at None n n_then changed places full full_then same put = tt
-  there at (Some f) n n_then changed places full full_then same put = λ place less less_then none.
+  there : (at f : ℕ → Option A) (n : ℕ) (n_then : Option ℕ) (changed : ℕ → Bool) (places : List ℕ) → IsFull at n → IfSome n_then (IsFull f)
+      → ((q : ℕ) → changed q ≡ false → at q ≡ f q) → ((q : ℕ) → list_any (λ key. is_eq (nat_cmp q key)) places ≡ changed q)
+      → IfSome (option_map (listed f) n_then) (λ list. (place : ℕ) → place < length (listed at n) → place < length list → list_any (λ p. p == place) places ≡ false → slice_get (listed at n) place ≡ slice_get list place)
+  there at f n None changed places full full_then same put = tt
+  there at f n (Some n_then) changed places full full_then same put = λ place less less_then none.
       get-listed at n place full (below at n place full less) ∙ same place (sym (put place) ∙ not_any places place none) ∙ sym (get-listed f n_then place full_then (below f n_then place full_then less_then))
 
-  pub stays_beside : (at : ℕ → Option A) (mark : Option (ℕ → Option A)) (n n_then : ℕ) (changed : ℕ → Bool) (places : List ℕ) (shown : WithMark (List A))
-      → record { now = listed at n; mark = option_map (λ f. listed f n_then) mark } ≡ shown → IsFull at n → IfSome mark (λ f. IsFull f n_then) → IfSome mark (λ f. (q : ℕ) → changed q ≡ false → at q ≡ f q)
+  pub stays_beside : (at f : ℕ → Option A) (n : ℕ) (n_then : Option ℕ) (changed : ℕ → Bool) (places : List ℕ) (shown : WithMark (List A))
+      → record { now = listed at n; mark = option_map (listed f) n_then } ≡ shown → IsFull at n → IfSome n_then (IsFull f) → ((q : ℕ) → changed q ≡ false → at q ≡ f q)
       → ((q : ℕ) → list_any (λ key. is_eq (nat_cmp q key)) places ≡ changed q)
       → IfSome shown.mark (λ list. (place : ℕ) → place < length shown.now → place < length list → list_any (λ p. p == place) places ≡ false → slice_get shown.now place ≡ slice_get list place)
-  stays_beside at mark n n_then changed places shown is full full_then same put =
+  stays_beside at f n n_then changed places shown is full full_then same put =
       subst (λ (s : WithMark (List A)). IfSome s.mark (λ list. (place : ℕ) → place < length s.now → place < length list → list_any (λ p. p == place) places ≡ false → slice_get s.now place ≡ slice_get list place)) is
-      (there at mark n n_then changed places full full_then same put)
+      (there at f n n_then changed places full full_then same put)
 
   -- what stood at the mark, seen in the list
-  pub values_then : (mark : Option (ℕ → Option A)) (n_then : ℕ) (changes : List (ℕ × Option (Bor A))) → IfSome mark (λ f. IsFull f n_then) → IfSome mark (λ f. All (λ change. option_copied change.1 ≡ f change.0) changes)
-      → IfSome (option_map (λ f. listed f n_then) mark) (λ list. All (λ change. change.0 < length list → slice_get list change.0 ≡ option_copied change.1) changes)
-  values_then None n_then changes full before = tt
-  values_then (Some f) n_then changes full before =
+  pub values_then : (f : ℕ → Option A) (n_then : Option ℕ) (changes : List (ℕ × Option (Bor A))) → IfSome n_then (IsFull f) → All (λ change. option_copied change.1 ≡ f change.0) changes
+      → IfSome (option_map (listed f) n_then) (λ list. All (λ change. change.0 < length list → slice_get list change.0 ≡ option_copied change.1) changes)
+  values_then f None changes full before = tt
+  values_then f (Some n_then) changes full before =
       All-weaker (λ (change : ℕ × Option (Bor A)). option_copied change.1 ≡ f change.0) (λ (change : ℕ × Option (Bor A)). change.0 < length (listed f n_then) → slice_get (listed f n_then) change.0 ≡ option_copied change.1)
       (λ change is less. get-listed f n_then change.0 full (below f n_then change.0 full less) ∙ sym is) changes before

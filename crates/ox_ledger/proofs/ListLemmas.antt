@@ -1,7 +1,7 @@
 -- Lists by the values at their places.
 use Rattle.std.proofs.Common.{◌≡◌, ◌≢◌, ◌∙◌, ℕ, zero, suc, ◌+◌, ◌<◌, ◌≤◌, Bool, true, false, true≢false, cond, List, [], ◌∷◌, ◌++◌, length, take, refl, sym, ap, subst, Option, Some, None, arith, length-append, Ordering}
 use Rattle.std.specs.Prelude.{IsSome, slice_get, slice_set}
-use Rattle.std.specs.Option.{IfSome, option_map}
+use Rattle.std.specs.Option.{IfSome, option_map, unwrap_or}
 use Rattle.std.specs.Ordering.{is_eq, nat_cmp}
 use Rattle.std.specs.declared.cmp.Ordering.TheVariants.{Less, Equal, Greater}
 use Rattle.std.specs.Cmp.{tied_itself}
@@ -16,7 +16,7 @@ below_or_last P zero (suc n) less first second = first (omega arith)
 below_or_last P (suc i) zero less first second = absurd (omega (arith, less))
 below_or_last P (suc i) (suc n) less first second = below_or_last P i n (omega (arith, less)) (λ l. first (omega (arith, l))) (λ e. second (ap suc e))
 
-same_or_other : (P : Type 0) (i k : ℕ) → (i ≡ k → P) → (i ≢ k → P) → P
+pub same_or_other : (P : Type 0) (i k : ℕ) → (i ≡ k → P) → (i ≢ k → P) → P
 same_or_other P zero zero first second = first refl
 same_or_other P zero (suc k) first second = second (λ e. absurd (omega (arith, e)))
 same_or_other P (suc i) zero first second = second (λ e. absurd (omega (arith, e)))
@@ -51,6 +51,9 @@ module _ {A : Type 0} where
       let before = length-listed at n (full_below at (suc n) n (omega arith) full) in
       let last = one_long (at n) (full n (omega arith)) in
       omega (arith, length-append (listed at n) (as_list (at n)), before, last)
+
+  pub full_same : (a b : ℕ → Option A) (n : ℕ) → ((i : ℕ) → b i ≡ a i) → IsFull a n → IsFull b n
+  full_same a b n same full = λ i less. subst IsSome (sym (same i)) (full i less)
 
   pub listed_same : (a b : ℕ → Option A) (n : ℕ) → ((i : ℕ) → i < n → a i ≡ b i) → listed a n ≡ listed b n
   unfolding listed
@@ -197,10 +200,29 @@ module _ {A : Type 0} where
   get_some at n place now full shown less none =
       true≢false (sym (subst IsSome (sym none) (full place (within_below at n place now full shown less))))
 
-  -- the list at a mark
-  abbrev pub listed_then : Option (ℕ → Option A) → ℕ → Option (List A)
-  listed_then mark n = option_map (λ at. listed at n) mark
+  -- ---- the list at a mark
 
-  pub then_length : (mark : Option (ℕ → Option A)) (n : ℕ) → IfSome mark (λ at. IsFull at n) → IfSome (listed_then mark n) (λ list. n ≡ length list)
-  then_length None n full = tt
-  then_length (Some at) n full = sym (length-listed at n full)
+  pub then_length : (at : ℕ → Option A) (n : Option ℕ) (end : ℕ) → end ≡ unwrap_or n 0 → IfSome n (IsFull at) → IfSome (option_map (listed at) n) (λ list. end ≡ length list)
+  then_length at None end is full = tt
+  then_length at (Some n) end is full = is ∙ sym (length-listed at n full)
+
+  -- what there is at the places before an end stays
+  abbrev pub Stays : (ℕ → Option A) → (ℕ → Option A) → ℕ → Type 0
+  Stays old new end = (q : ℕ) → q < end → IsSome (old q) → new q ≡ old q
+
+  pub then_same : (old new : ℕ → Option A) (n : Option ℕ) (end : ℕ) → end ≡ unwrap_or n 0 → Stays old new end → IfSome n (IsFull old) → option_map (listed new) n ≡ option_map (listed old) n
+  then_same old new None end is same full = refl
+  then_same old new (Some n) end is same full = ap Some (listed_same new old n (λ i less. same i (omega (arith, is, less)) (full i less)))
+
+  pub then_full : (old new : ℕ → Option A) (n : Option ℕ) (end : ℕ) → end ≡ unwrap_or n 0 → Stays old new end → IfSome n (IsFull old) → IfSome n (IsFull new)
+  then_full old new None end is same full = tt
+  then_full old new (Some n) end is same full = λ i less. subst IsSome (sym (same i (omega (arith, is, less)) (full i less))) (full i less)
+
+  -- with a mark it is the list of what stood then
+  pub then_is : (at : ℕ → Option A) (n : Option ℕ) (end : ℕ) (mark : Option (List A)) → end ≡ unwrap_or n 0 → option_map (listed at) n ≡ mark → IsSome mark → mark ≡ Some (listed at end)
+  then_is at None end mark is shown some = absurd (true≢false (sym (subst IsSome (sym shown) some)))
+  then_is at (Some n) end mark is shown some = sym shown ∙ ap (λ k. Some (listed at k)) (sym is)
+
+  pub then_now : (at : ℕ → Option A) (n : Option ℕ) (end : ℕ) (mark : Option (List A)) → end ≡ unwrap_or n 0 → option_map (listed at) n ≡ mark → IsSome mark → IfSome n (IsFull at) → IsFull at end
+  then_now at None end mark is shown some full = absurd (true≢false (sym (subst IsSome (sym shown) some)))
+  then_now at (Some n) end mark is shown some full = subst (IsFull at) (sym is) full

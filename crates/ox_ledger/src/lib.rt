@@ -4,6 +4,7 @@
 mod ahead;
 mod artifact;
 mod holders;
+mod kept;
 mod laws;
 mod ledger;
 mod list;
@@ -16,5 +17,6 @@ pub use laws::{
     parts_lead_both_ways, runes_go_on, runes_stay_balanced, turns_add_mint_and_premine,
 };
 pub use ledger::Ledger;
+pub use list::MarkedList;
 pub use ox_bytes::Memory;
 pub use part::{CountChange, Counts, RunePart};

@@ -8,4 +8,6 @@ mod etching;
 #[cfg(test)]
 mod marked;
 #[cfg(test)]
+mod marked_list;
+#[cfg(test)]
 mod shards;

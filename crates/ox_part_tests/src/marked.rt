@@ -8,7 +8,7 @@ use ox_marked::Marked;
 use std::alloc::Global;
 use std::process::Abort;
 
-type Amounts = Marked<u32, u64>;
+type Amounts = Marked<u128, u64>;
 
 /// A map with 10 at 1 and 20 at 2, marked there.
 fn two(rt: &impl Abort, alloc: Global) -> Amounts
@@ -25,7 +25,7 @@ fn two(rt: &impl Abort, alloc: Global) -> Amounts
 fn thousand(rt: &impl Abort, alloc: Global) -> Amounts {
     let mut map = Marked::new(alloc);
     for key in 0..1_000u32 {
-        map.put(key, Some(u64::from(key) * 10)).expect(rt, "memory");
+        map.put(u128::from(key), Some(u64::from(key) * 10)).expect(rt, "memory");
     }
     map
 }
@@ -35,17 +35,17 @@ fn take_even(rt: &impl Abort, map: &mut Amounts)
     ensures { mark_in nat_cmp map.new ≡ mark_in nat_cmp map.old }
 {
     for half in 0..500u32 {
-        map.put(half * 2, None).expect(rt, "memory");
+        map.put(u128::from(half * 2), None).expect(rt, "memory");
     }
 }
 
 /// Whether the map has this value at a key, or none.
-fn has(map: &Amounts, key: u32, value: Option<u64>) -> bool {
+fn has(map: &Amounts, key: u128, value: Option<u64>) -> bool {
     map.get(&key).copied() == value
 }
 
 /// Whether these are the keys that were put since the mark, with the values that there were then.
-fn has_changed(rt: &impl Abort, map: &Amounts, changes: &[(u32, Option<&u64>)]) -> bool {
+fn has_changed(rt: &impl Abort, map: &Amounts, changes: &[(u128, Option<&u64>)]) -> bool {
     map.changed().expect(rt, "memory").as_slice() == changes
 }
 

@@ -1,8 +1,7 @@
 use Rattle.std.proofs.Common.{◌∙◌, sym, ap, length}
-use Rattle.ox_marked.specs.Marked.{content_in}
-use Rattle.std.specs.Ordering.{nat_cmp}
+use Rattle.std.specs.Prelude.{slice_get}
 use Rattle.ox_ledger.proofs.ListLemmas.{length-listed}
 use Rattle.ox_ledger.proofs.list.MarkedList.len.Goals as goal
 
 pub returns : goal.returns
-returns g c = sym (length-listed (content_in nat_cmp c.self.inside.items) c.self.inside.len c.self.invariant.0) ∙ ap (λ v. length v.now) c.self.view_is
+returns g c = sym (length-listed (slice_get c.self.inside.values.items) c.self.inside.len c.self.invariant.0) ∙ ap (λ v. length v.now) c.self.view_is
