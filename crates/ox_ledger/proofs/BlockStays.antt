@@ -9,7 +9,8 @@ use Rattle.ox_sat.specs.declared.profiles.Profile.{Profile}
 use Rattle.ox_rules.specs.Transfer.{as_list}
 use Rattle.ox_rules.specs.declared.moved.MovedTx.{MovedTx}
 use Rattle.ox_allocation.specs.Laws.{NothingIsLostOrMade}
-use Rattle.ox_etching.specs.Etched.{Spot, id_of}
+use Rattle.ox_etching.specs.declared.spot.Spot.{Spot}
+use Rattle.ox_etching.specs.Etched.{id_of}
 use Rattle.ox_etching.specs.declared.row.RuneRow.{RuneRow}
 use Rattle.ox_ledger.specs.Balanced.{AreKnown, Balanced, IsBounded, IsSettled, amount_per_mint}
 use Rattle.ox_ledger.specs.Block.{runes_after, turn_all, turn_at}

@@ -23,7 +23,8 @@ use Rattle.ox_rules.specs.Transfer.{as_list}
 use Rattle.ox_rules.specs.declared.rows.OutRow.{OutRow}
 use Rattle.ox_allocation.specs.Balances.{Balance}
 use Rattle.ox_etching.specs.Commitment.{commits}
-use Rattle.ox_etching.specs.Etched.{Spot, etched, etching_of, id_of, may_be_given, may_stand, name_alone, name_of, row_of, row_where}
+use Rattle.ox_etching.specs.declared.spot.Spot.{Spot}
+use Rattle.ox_etching.specs.Etched.{etched, etching_of, id_of, may_be_given, may_stand, name_alone, name_of, row_of, row_where}
 use Rattle.ox_etching.specs.declared.row.RuneRow.{RuneRow}
 use Rattle.ox_ledger.specs.Balanced.{IsBounded, amount_per_mint, cap_in}
 use Rattle.ox_ledger.specs.Runes.{Runes, artifact_at, etching_by, is_taken, name_of as name_in, stone_in}

@@ -16,7 +16,7 @@ use Rattle.ox_runestone.specs.declared.stone.Edict.{Edict}
 use Rattle.ox_runestone.specs.declared.stone.RuneId.{RuneId}
 use Rattle.ox_allocation.specs.Laws.{NothingIsLostOrMade}
 use Rattle.ox_allocation.specs.Balances.{AreBalances, Balance, amount_in}
-use Rattle.ox_etching.specs.Etched.{Spot}
+use Rattle.ox_etching.specs.declared.spot.Spot.{Spot}
 use Rattle.ox_ledger.specs.Runes.{artifact_at, dealt_by, stone_in}
 use Rattle.ox_ledger.proofs.TurnLemmas.{dealt_amount, none_given}
 

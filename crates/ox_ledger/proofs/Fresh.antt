@@ -22,7 +22,8 @@ use Rattle.ox_rules.proofs.Orders.{outpoints_total, outpoints_exact}
 use Rattle.ox_rules.specs.Outputs.{outpoint_cmp}
 use Rattle.ox_allocation.specs.Balances.{Balance, amount_in, is_same}
 use Rattle.ox_allocation.proofs.Ids.{same_id, same_turned}
-use Rattle.ox_etching.specs.Etched.{Spot, etched, etching_of, id_of, name_of, row_of, row_where}
+use Rattle.ox_etching.specs.declared.spot.Spot.{Spot}
+use Rattle.ox_etching.specs.Etched.{etched, etching_of, id_of, name_of, row_of, row_where}
 use Rattle.ox_etching.specs.Minted.{minted}
 use Rattle.ox_etching.specs.declared.row.RuneRow.{RuneRow}
 use Rattle.ox_ledger.specs.Balanced.{AreKnown, Balanced}

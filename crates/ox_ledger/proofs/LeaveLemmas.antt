@@ -24,7 +24,7 @@ use Rattle.ox_rules.specs.declared.rows.OutRow.{OutRow}
 use Rattle.ox_allocation.specs.Allocation.{Allocation, balances_from}
 use Rattle.ox_allocation.specs.Balances.{Balance}
 use Rattle.ox_allocation.specs.Gifts.{Gift}
-use Rattle.ox_etching.specs.Etched.{Spot}
+use Rattle.ox_etching.specs.declared.spot.Spot.{Spot}
 use Rattle.ox_ledger.specs.Block.{turn_all, turn_at}
 use Rattle.ox_ledger.specs.Leaves.{IsMade, LeavesAt, LeavesLast, dealt_at, first_spot}
 use Rattle.ox_ledger.specs.Runes.{BalanceMap, Brought, InHand, Placement, Runes, artifact_at, balances_at, brought_by, brought_of, burn, dealt_by, end, gathered_by, joined_with, place, place_all, placements, settled_by, turn, with_balances}

@@ -7,7 +7,8 @@ use Rattle.ox_block.specs.declared.block.Tx.{Tx}
 use Rattle.ox_runestone.specs.declared.stone.RuneId.{RuneId}
 use Rattle.ox_rules.specs.declared.rows.OutRow.{OutRow}
 use Rattle.ox_allocation.specs.Laws.{NothingIsLostOrMade}
-use Rattle.ox_etching.specs.Etched.{Spot, id_of}
+use Rattle.ox_etching.specs.declared.spot.Spot.{Spot}
+use Rattle.ox_etching.specs.Etched.{id_of}
 use Rattle.ox_etching.specs.declared.row.RuneRow.{RuneRow}
 use Rattle.ox_ledger.specs.Balanced.{AreDistinct, Balanced, IsBounded, IsSettled}
 use Rattle.ox_ledger.specs.Runes.{Runes, artifact_at, etching_by, mint_by, mint_of, turn}

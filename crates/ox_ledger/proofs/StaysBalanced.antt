@@ -19,7 +19,7 @@ use Rattle.ox_allocation.specs.Gifts.{Gift}
 use Rattle.ox_allocation.specs.Laws.{NothingIsLostOrMade}
 use Rattle.ox_allocation.proofs.BalanceLemmas.{no_balances}
 use Rattle.ox_allocation.proofs.Sorting.{lawful-balances_by}
-use Rattle.ox_etching.specs.Etched.{Spot}
+use Rattle.ox_etching.specs.declared.spot.Spot.{Spot}
 use Rattle.ox_etching.specs.Minted.{minted}
 use Rattle.ox_etching.specs.declared.row.RuneRow.{RuneRow}
 use Rattle.ox_ledger.specs.Balanced.{AreKnown, Balanced, amount_held}

@@ -26,7 +26,8 @@ use Rattle.ox_allocation.proofs.Amounts.{zero_from}
 use Rattle.ox_allocation.proofs.BalanceLemmas.{no_balances}
 use Rattle.ox_allocation.proofs.Ids.{same_itself}
 use Rattle.ox_allocation.proofs.Sorting.{lawful-balances_by}
-use Rattle.ox_etching.specs.Etched.{Spot, id_of}
+use Rattle.ox_etching.specs.declared.spot.Spot.{Spot}
+use Rattle.ox_etching.specs.Etched.{id_of}
 use Rattle.ox_etching.specs.Minted.{minted}
 use Rattle.ox_etching.specs.declared.row.RuneRow.{RuneRow}
 use Rattle.ox_ledger.specs.Balanced.{Balanced, IsBounded, IsSettled, amount_per_mint, amount_there, cap_in, made_of}

@@ -12,7 +12,7 @@ use Rattle.ox_allocation.specs.Allocation.{Allocation}
 use Rattle.ox_allocation.specs.Balances.{Balance, amount_in, is_same}
 use Rattle.ox_allocation.proofs.Amounts.{amount-with_more}
 use Rattle.ox_allocation.proofs.Ids.{same_itself, same_turned}
-use Rattle.ox_etching.specs.Etched.{Spot}
+use Rattle.ox_etching.specs.declared.spot.Spot.{Spot}
 use Rattle.ox_etching.specs.declared.row.RuneRow.{RuneRow}
 use Rattle.ox_ledger.specs.Balanced.{amount_held}
 use Rattle.ox_ledger.specs.Runes.{InHand, Placement, Runes, brought_of, burn, burn_of, in_hand, mint_more, place_all, placements, pool_with, premine_of, settled_by, with_mint}

@@ -18,7 +18,7 @@ use Rattle.ox_allocation.specs.Allocation.{Allocation, balances_from, gifts_from
 use Rattle.ox_allocation.specs.Balances.{Balance, ids_of}
 use Rattle.ox_allocation.specs.Gifts.{Gift}
 use Rattle.ox_allocation.proofs.Amounts.{zero_from}
-use Rattle.ox_etching.specs.Etched.{Spot}
+use Rattle.ox_etching.specs.declared.spot.Spot.{Spot}
 use Rattle.ox_etching.specs.declared.row.RuneRow.{RuneRow}
 use Rattle.ox_ledger.specs.Runes.{BalanceMap, InHand, Runes, artifact_at, brought_of, burn, dealt_by, done_by, etching_by, gathered_by, mint_by, place_all, placements, pool_with, premine_of, turn, with_mint}
 use Rattle.ox_ledger.specs.Steps.{CanBurn, CanPlaceAll, CanSettle, CanTakeUp, CanTurn, dealt_without, given_out, turn_without_stone, without_brought}

@@ -4,7 +4,7 @@ use Rattle.std.specs.Option.{option_map}
 use Rattle.ox_block.specs.declared.block.Tx.{Tx}
 use Rattle.ox_rules.specs.declared.rows.OutRow.{OutRow}
 use Rattle.ox_allocation.specs.Laws.{NothingIsLostOrMade}
-use Rattle.ox_etching.specs.Etched.{Spot}
+use Rattle.ox_etching.specs.declared.spot.Spot.{Spot}
 use Rattle.ox_etching.specs.declared.row.RuneRow.{RuneRow}
 use Rattle.ox_ledger.specs.Balanced.{Balanced}
 use Rattle.ox_ledger.specs.Runes.{Runes, artifact_at, brought_of, dealt_by, etching_by, in_hand, mint_by, pool_with, premine_of, turn}

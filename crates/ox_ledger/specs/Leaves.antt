@@ -10,7 +10,7 @@ use Rattle.ox_rules.specs.declared.moved.MovedTx.{MovedTx}
 use Rattle.ox_rules.specs.declared.rows.OutRow.{OutRow}
 use Rattle.ox_allocation.specs.Allocation.{Allocation}
 use Rattle.ox_allocation.specs.Balances.{Balance}
-use Rattle.ox_etching.specs.Etched.{Spot}
+use Rattle.ox_etching.specs.declared.spot.Spot.{Spot}
 use Rattle.ox_ledger.specs.Block.{runes_after, turn_all}
 use Rattle.ox_ledger.specs.Runes.{Runes, artifact_at, balances_at, dealt_by, gathered_by, turn}
 

@@ -18,7 +18,8 @@ use Rattle.ox_runestone.specs.declared.stone.Artifact.TheVariants.{Stone, Cenota
 use Rattle.ox_runestone.specs.declared.stone.RuneId.{RuneId}
 use Rattle.ox_allocation.specs.Allocation.{Allocation, allocation_of}
 use Rattle.ox_allocation.specs.Balances.{Balance, amount_in, is_same, with_more}
-use Rattle.ox_etching.specs.Etched.{Spot, etched}
+use Rattle.ox_etching.specs.declared.spot.Spot.{Spot}
+use Rattle.ox_etching.specs.Etched.{etched}
 use Rattle.ox_etching.specs.Minted.{minted}
 use Rattle.ox_etching.specs.declared.row.RuneRow.{RuneRow}
 use Rattle.ox_rules.specs.Outputs.{outpoint_cmp}

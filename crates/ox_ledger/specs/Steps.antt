@@ -10,7 +10,7 @@ use Rattle.ox_runestone.specs.declared.stone.RuneId.{RuneId}
 use Rattle.ox_rules.specs.declared.rows.OutRow.{OutRow}
 use Rattle.ox_allocation.specs.Allocation.{Allocation}
 use Rattle.ox_allocation.specs.Balances.{AreBalances, Balance, amount_in}
-use Rattle.ox_etching.specs.Etched.{Spot}
+use Rattle.ox_etching.specs.declared.spot.Spot.{Spot}
 use Rattle.ox_etching.specs.declared.row.RuneRow.{RuneRow}
 use Rattle.ox_ledger.specs.Balanced.{amount_held, cap_in}
 use Rattle.ox_ledger.specs.Runes.{BalanceMap, InHand, Placement, Runes, artifact_at, balances_at}

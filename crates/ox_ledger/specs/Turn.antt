@@ -7,7 +7,8 @@ use Rattle.ox_runestone.specs.declared.stone.RuneId.{RuneId}
 use Rattle.ox_rules.specs.Transfer.{as_list}
 use Rattle.ox_rules.specs.declared.rows.OutRow.{OutRow}
 use Rattle.ox_allocation.specs.Balances.{Balance, amount_in, is_same}
-use Rattle.ox_etching.specs.Etched.{Spot, id_of}
+use Rattle.ox_etching.specs.declared.spot.Spot.{Spot}
+use Rattle.ox_etching.specs.Etched.{id_of}
 use Rattle.ox_etching.specs.declared.row.RuneRow.{RuneRow}
 use Rattle.ox_ledger.specs.Balanced.{Balanced, amount_there}
 use Rattle.ox_ledger.specs.Part.{counts_of, with_counts}

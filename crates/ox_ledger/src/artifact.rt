@@ -9,9 +9,9 @@ ghost use Rattle.ox_ledger.specs.Runes.{artifact_at, etching_by, is_taken, mint_
 ghost use Rattle.ox_ledger.specs.Runes.{mint_of, name_of, stone_in};
 
 use crate::table::RuneTable;
-use ox_block::{Tx, TxOut, Txid};
+use ox_block::{Tx, TxOut};
 use ox_bytes::Memory;
-use ox_etching::{RuneRow, etched, minted};
+use ox_etching::{RuneRow, Spot, etched, minted};
 use ox_rules::SpentRows;
 use ox_runestone::{Artifact, RuneId, is_stone};
 use ox_sat::Profile;
@@ -105,18 +105,13 @@ fn is_taken(table: &RuneTable, artifact: &Artifact) -> bool
 /// The rune that a transaction with this artifact etches.
 pub(crate) fn etching_by(
     table: &RuneTable,
-    p: &Profile,
-    height: u32,
-    tx: u32,
-    id: Txid,
+    at: Spot,
     body: &Tx,
     spent: &SpentRows,
     artifact: &Artifact,
 ) -> Option<RuneRow>
-    ensures { result ≡ etching_by
-        (record { profile = p.now; height = height; tx = tx; txid = id })
-        body.now spent.now table.now.now (Some artifact.now) }
+    ensures { result ≡ etching_by at body.now spent.now table.now.now (Some artifact.now) }
 {
     let is_taken = is_taken(table, artifact);
-    etched(p, height, tx, id, body, spent, artifact, is_taken)
+    etched(at, body, spent, artifact, is_taken)
 }

@@ -2,7 +2,7 @@
 
 ghost use Rattle.std.specs.Prelude.{◌≡◌, ℕ, List, []};
 ghost use Rattle.ox_block.specs.declared.block.Tx.{Tx};
-ghost use Rattle.ox_etching.specs.Etched.{Spot};
+ghost use Rattle.ox_etching.specs.declared.spot.Spot.{Spot};
 ghost use Rattle.ox_ledger.specs.Block.{StaysBalanced};
 ghost use Rattle.ox_ledger.specs.GoOn.{RunesGoOn};
 ghost use Rattle.ox_ledger.specs.Leaves.{LeavesAt, LeavesLast};

@@ -11,7 +11,7 @@ use crate::part::RunePart;
 use crate::tables::Tables;
 use ox_block::{OutPoint, Tx, Txid};
 use ox_bytes::Memory;
-use ox_etching::RuneRow;
+use ox_etching::{RuneRow, Spot};
 use ox_rules::{MovedTx, SpentRows};
 use ox_runestone::{RuneId, Terms};
 use ox_sat::Profile;
@@ -217,10 +217,13 @@ impl Ledger {
         ensures mark { mark_in self.new ≡ mark_in self.old }
         ensures profile { self.new.profile ≡ self.old.profile }
     {
-        match self
-            .tables
-            .turn(self.alloc, &self.profile, height, tx, id, body, spent)
-        {
+        let at = Spot {
+            profile: self.profile,
+            height,
+            tx,
+            txid: id,
+        };
+        match self.tables.turn(self.alloc, at, body, spent) {
             Ok(()) => Ok(()),
             Err(e) => {
                 self.tables.fall_back(self.alloc, self.marked);

@@ -28,11 +28,10 @@ use crate::table::RuneTable;
 use ox_allocation::{Allocated, Balances, Pool, allocate};
 use ox_block::{OutPoint, Tx, TxOut, Txid};
 use ox_bytes::{List, Memory};
-use ox_etching::RuneRow;
+use ox_etching::{RuneRow, Spot};
 use ox_marked::Marked;
 use ox_rules::SpentRows;
 use ox_runestone::{Artifact, RuneId, decipher};
-use ox_sat::Profile;
 use std::alloc::Global;
 
 /// What outputs hold, the runes, and what is due to the outputs of a block's coinbase.
@@ -291,33 +290,30 @@ impl Tables {
         self.give(alloc, tx, id, dealt)
     }
 
-    /// One transaction, with its id, in a block of this height, which spends these rows. After
-    /// `Memory` a part of it may be done.
+    /// One transaction in its block, which spends these rows. After `Memory` a part of it may be
+    /// done.
     pub(crate) fn turn(
         &mut self,
         alloc: Global,
-        p: &Profile,
-        height: u32,
-        tx: u32,
-        id: Txid,
+        at: Spot,
         body: &Tx,
         spent: &SpentRows,
     ) -> Result<(), Memory>
-        requires { CanTurn (record { profile = p.now; height = height; tx = tx; txid = id })
-            body.now spent.now (runes_of self.old) }
-        ensures ok { OnOk result (runes_of self.new
-            ≡ turn (record { profile = p.now; height = height; tx = tx; txid = id })
-            body.now spent.now (runes_of self.old)) }
+        requires { CanTurn at body.now spent.now (runes_of self.old) }
+        ensures ok { OnOk result
+            (runes_of self.new ≡ turn at body.now spent.now (runes_of self.old)) }
         ensures mark { mark_of self.new ≡ mark_of self.old }
     {
-        let Some(script) = stone_at(p, height, body) else {
+        let tx = at.tx;
+        let id = at.txid;
+        let Some(script) = stone_at(&at.profile, at.height, body) else {
             return self.turn_without_stone(alloc, tx, id, body);
         };
         let outputs = body.outputs.as_slice();
         let count = count_of(outputs)?;
         let artifact = decipher(alloc, script, count)?;
-        let mint = mint_by(&self.runes, height, &artifact);
-        let etching = etching_by(&self.runes, p, height, tx, id, body, spent, &artifact);
+        let mint = mint_by(&self.runes, at.height, &artifact);
+        let etching = etching_by(&self.runes, at, body, spent, &artifact);
         let mut pool = self.bring(alloc, tx, body)?;
         self.take_up(&mut pool, mint, etching)?;
         if pool.is_empty() && tx != 0 && are_free(&self.holders, id, count) {

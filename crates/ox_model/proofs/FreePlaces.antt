@@ -8,7 +8,8 @@ use Rattle.ox_runestone.specs.declared.stone.RuneId.{RuneId}
 use Rattle.ox_sat.specs.Profiles.{IsProfile}
 use Rattle.ox_sat.specs.declared.profiles.Profile.{Profile}
 use Rattle.ox_rules.specs.declared.moved.MovedTx.{MovedTx}
-use Rattle.ox_etching.specs.Etched.{Spot, id_of}
+use Rattle.ox_etching.specs.declared.spot.Spot.{Spot}
+use Rattle.ox_etching.specs.Etched.{id_of}
 use Rattle.ox_etching.specs.declared.row.RuneRow.{RuneRow}
 use Rattle.ox_ledger.specs.Block.{turn_at}
 use Rattle.ox_ledger.specs.Runes.{Runes}

@@ -35,7 +35,8 @@ use Rattle.ox_allocation.specs.Gifts.{Gift}
 use Rattle.ox_allocation.specs.Allocation.{gifts_from}
 use Rattle.ox_allocation.proofs.Ids.{same_id, same_itself}
 use Rattle.ox_allocation.proofs.LawLemmas.{lost_or_made}
-use Rattle.ox_etching.specs.Etched.{Spot, id_of}
+use Rattle.ox_etching.specs.declared.spot.Spot.{Spot}
+use Rattle.ox_etching.specs.Etched.{id_of}
 use Rattle.ox_etching.specs.declared.row.RuneRow.{RuneRow}
 use Rattle.ox_ledger.specs.Balanced.{Balanced}
 use Rattle.ox_ledger.specs.Block.{first_rune, no_runes, runes_after, turn_all, turn_at}

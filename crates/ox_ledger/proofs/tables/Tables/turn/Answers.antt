@@ -1,7 +1,6 @@
 use Rattle.std.proofs.Common.{◌∙◌, ℕ, Some, ap, arith, length, subst, sym}
 use Rattle.ox_allocation.specs.Allocation.{Allocation}
 use Rattle.ox_runestone.specs.Spelling.{StoneCanCome}
-use Rattle.ox_etching.specs.Etched.{Spot}
 use Rattle.ox_ledger.specs.Tables.{runes_of}
 use Rattle.ox_ledger.proofs.HolderLemmas.{on_ok}
 use Rattle.ox_ledger.proofs.TurnSteps.{Found, can_burn_it, can_place_them, can_settle_brought, can_take, dealt_same, deciphered, hand_pool, hand_state, length-dealt, nothing_to_do, turned, turned_without}
@@ -9,32 +8,32 @@ use Rattle.ox_ledger.proofs.tables.Tables.turn.Goals as goal
 
 pub turn_without_stone-requires-clause-burned : goal.turn_without_stone-requires-clause-burned
 turn_without_stone-requires-clause-burned c =
-    let at : Spot = (record { profile = c.args.p.now; height = c.args.height; tx = c.args.tx; txid = c.args.id }) in
-    (can_settle_brought at c.args.body.now c.args.spent.now (runes_of c.args.self.now) (sym (c.in_default.ensures.exact c.args.tx c.args.id)) c.requires).burned
+    let at = c.args.at in
+    (can_settle_brought at c.args.body.now c.args.spent.now (runes_of c.args.self.now) (sym (c.in_default.ensures.exact c.args.at.tx c.args.at.txid)) c.requires).burned
 
 pub turn_without_stone-requires-clause-displaced : goal.turn_without_stone-requires-clause-displaced
 turn_without_stone-requires-clause-displaced c =
-    let at : Spot = (record { profile = c.args.p.now; height = c.args.height; tx = c.args.tx; txid = c.args.id }) in
-    (can_settle_brought at c.args.body.now c.args.spent.now (runes_of c.args.self.now) (sym (c.in_default.ensures.exact c.args.tx c.args.id)) c.requires).displaced
+    let at = c.args.at in
+    (can_settle_brought at c.args.body.now c.args.spent.now (runes_of c.args.self.now) (sym (c.in_default.ensures.exact c.args.at.tx c.args.at.txid)) c.requires).displaced
 
 pub returns-in_default-clause-ok : goal.returns-in_default-clause-ok
 returns-in_default-clause-ok c =
-    let at : Spot = (record { profile = c.args.p.now; height = c.args.height; tx = c.args.tx; txid = c.args.id }) in
-    on_ok c.turn_without_stone.result (λ is. is ∙ turned_without at c.args.body.now c.args.spent.now (runes_of c.args.self.now) (sym (c.in_default.ensures.exact c.args.tx c.args.id))) c.turn_without_stone.ensures.ok
+    let at = c.args.at in
+    on_ok c.turn_without_stone.result (λ is. is ∙ turned_without at c.args.body.now c.args.spent.now (runes_of c.args.self.now) (sym (c.in_default.ensures.exact c.args.at.tx c.args.at.txid))) c.turn_without_stone.ensures.ok
 
 pub take_up-requires : goal.take_up-requires
 take_up-requires c =
-    let at : Spot = (record { profile = c.args.p.now; height = c.args.height; tx = c.args.tx; txid = c.args.id }) in
+    let at = c.args.at in
     let state = runes_of c.args.self.now in
-    let found : Found at c.args.body.now c.args.spent.now state (Some c.in_ok-artifact.artifact) c.mint_by-mint.result c.etching_by-etching.result (runes_of c.bring.new.self) c.in_ok-pool.pool = (record { artifact_is = deciphered c.in_ok-artifact.artifact c.in-Some.script.now c.in_ok-count.count c.as_slice-outputs.result.now at c.args.body.now c.in_ok-artifact.ensures.exact c.in_ok-count.ensures.count c.as_slice-outputs.ensures (c.in-Some.ensures.exact c.args.tx c.args.id); mint_is = c.mint_by-mint.ensures; etching_is = c.etching_by-etching.ensures; mid_is = c.in_ok-pool.ensures.left; pool_is = c.in_ok-pool.ensures.pool }) in
+    let found : Found at c.args.body.now c.args.spent.now state (Some c.in_ok-artifact.artifact) c.mint_by-mint.result c.etching_by-etching.result (runes_of c.bring.new.self) c.in_ok-pool.pool = (record { artifact_is = deciphered c.in_ok-artifact.artifact c.in-Some.script.now c.in_ok-count.count c.as_slice-outputs.result.now at c.args.body.now c.in_ok-artifact.ensures.exact c.in_ok-count.ensures.count c.as_slice-outputs.ensures (c.in-Some.ensures.exact c.args.at.tx c.args.at.txid); mint_is = c.mint_by-mint.ensures; etching_is = c.etching_by-etching.ensures; mid_is = c.in_ok-pool.ensures.left; pool_is = c.in_ok-pool.ensures.pool }) in
     can_take at c.args.body.now c.args.spent.now state (Some c.in_ok-artifact.artifact) c.mint_by-mint.result c.etching_by-etching.result (runes_of c.bring.new.self) c.in_ok-pool.pool found
     c.requires.takes
 
 pub returns-then-are_free-clause-ok : goal.returns-then-are_free-clause-ok
 returns-then-are_free-clause-ok c =
-    let at : Spot = (record { profile = c.args.p.now; height = c.args.height; tx = c.args.tx; txid = c.args.id }) in
+    let at = c.args.at in
     let state = runes_of c.args.self.now in
-    let found : Found at c.args.body.now c.args.spent.now state (Some c.in_ok-artifact.artifact) c.mint_by-mint.result c.etching_by-etching.result (runes_of c.bring.new.self) c.in_ok-pool.pool = (record { artifact_is = deciphered c.in_ok-artifact.artifact c.in-Some.script.now c.in_ok-count.count c.as_slice-outputs.result.now at c.args.body.now c.in_ok-artifact.ensures.exact c.in_ok-count.ensures.count c.as_slice-outputs.ensures (c.in-Some.ensures.exact c.args.tx c.args.id); mint_is = c.mint_by-mint.ensures; etching_is = c.etching_by-etching.ensures; mid_is = c.in_ok-pool.ensures.left; pool_is = c.in_ok-pool.ensures.pool }) in
+    let found : Found at c.args.body.now c.args.spent.now state (Some c.in_ok-artifact.artifact) c.mint_by-mint.result c.etching_by-etching.result (runes_of c.bring.new.self) c.in_ok-pool.pool = (record { artifact_is = deciphered c.in_ok-artifact.artifact c.in-Some.script.now c.in_ok-count.count c.as_slice-outputs.result.now at c.args.body.now c.in_ok-artifact.ensures.exact c.in_ok-count.ensures.count c.as_slice-outputs.ensures (c.in-Some.ensures.exact c.args.at.tx c.args.at.txid); mint_is = c.mint_by-mint.ensures; etching_is = c.etching_by-etching.ensures; mid_is = c.in_ok-pool.ensures.left; pool_is = c.in_ok-pool.ensures.pool }) in
     let mid_is = hand_state at c.args.body.now c.args.spent.now state (Some c.in_ok-artifact.artifact) c.mint_by-mint.result c.etching_by-etching.result (runes_of c.bring.new.self) c.in_ok-pool.pool found
     (runes_of c.take_up.new.self) c.in_ok-take_up.ensures.runes in
     let pool_is = hand_pool at c.args.body.now c.args.spent.now state (Some c.in_ok-artifact.artifact) c.mint_by-mint.result c.etching_by-etching.result (runes_of c.bring.new.self) c.in_ok-pool.pool found
@@ -52,10 +51,10 @@ give-requires-clause-count c =
 
 pub give-requires-clause-burned : goal.give-requires-clause-burned
 give-requires-clause-burned c =
-    let at : Spot = (record { profile = c.args.p.now; height = c.args.height; tx = c.args.tx; txid = c.args.id }) in
+    let at = c.args.at in
     let state = runes_of c.args.self.now in
     let artifact = Some c.in_ok-artifact.artifact in
-    let found : Found at c.args.body.now c.args.spent.now state artifact c.mint_by-mint.result c.etching_by-etching.result (runes_of c.bring.new.self) c.in_ok-pool.pool = (record { artifact_is = deciphered c.in_ok-artifact.artifact c.in-Some.script.now c.in_ok-count.count c.as_slice-outputs.result.now at c.args.body.now c.in_ok-artifact.ensures.exact c.in_ok-count.ensures.count c.as_slice-outputs.ensures (c.in-Some.ensures.exact c.args.tx c.args.id); mint_is = c.mint_by-mint.ensures; etching_is = c.etching_by-etching.ensures; mid_is = c.in_ok-pool.ensures.left; pool_is = c.in_ok-pool.ensures.pool }) in
+    let found : Found at c.args.body.now c.args.spent.now state artifact c.mint_by-mint.result c.etching_by-etching.result (runes_of c.bring.new.self) c.in_ok-pool.pool = (record { artifact_is = deciphered c.in_ok-artifact.artifact c.in-Some.script.now c.in_ok-count.count c.as_slice-outputs.result.now at c.args.body.now c.in_ok-artifact.ensures.exact c.in_ok-count.ensures.count c.as_slice-outputs.ensures (c.in-Some.ensures.exact c.args.at.tx c.args.at.txid); mint_is = c.mint_by-mint.ensures; etching_is = c.etching_by-etching.ensures; mid_is = c.in_ok-pool.ensures.left; pool_is = c.in_ok-pool.ensures.pool }) in
     let mid_is = hand_state at c.args.body.now c.args.spent.now state artifact c.mint_by-mint.result c.etching_by-etching.result (runes_of c.bring.new.self) c.in_ok-pool.pool found
     (runes_of c.take_up.new.self) c.in_ok-take_up.ensures.runes in
     let pool_is = hand_pool at c.args.body.now c.args.spent.now state artifact c.mint_by-mint.result c.etching_by-etching.result (runes_of c.bring.new.self) c.in_ok-pool.pool found
@@ -68,10 +67,10 @@ give-requires-clause-burned c =
 
 pub give-requires-clause-displaced : goal.give-requires-clause-displaced
 give-requires-clause-displaced c = λ other.
-    let at : Spot = (record { profile = c.args.p.now; height = c.args.height; tx = c.args.tx; txid = c.args.id }) in
+    let at = c.args.at in
     let state = runes_of c.args.self.now in
     let artifact = Some c.in_ok-artifact.artifact in
-    let found : Found at c.args.body.now c.args.spent.now state artifact c.mint_by-mint.result c.etching_by-etching.result (runes_of c.bring.new.self) c.in_ok-pool.pool = (record { artifact_is = deciphered c.in_ok-artifact.artifact c.in-Some.script.now c.in_ok-count.count c.as_slice-outputs.result.now at c.args.body.now c.in_ok-artifact.ensures.exact c.in_ok-count.ensures.count c.as_slice-outputs.ensures (c.in-Some.ensures.exact c.args.tx c.args.id); mint_is = c.mint_by-mint.ensures; etching_is = c.etching_by-etching.ensures; mid_is = c.in_ok-pool.ensures.left; pool_is = c.in_ok-pool.ensures.pool }) in
+    let found : Found at c.args.body.now c.args.spent.now state artifact c.mint_by-mint.result c.etching_by-etching.result (runes_of c.bring.new.self) c.in_ok-pool.pool = (record { artifact_is = deciphered c.in_ok-artifact.artifact c.in-Some.script.now c.in_ok-count.count c.as_slice-outputs.result.now at c.args.body.now c.in_ok-artifact.ensures.exact c.in_ok-count.ensures.count c.as_slice-outputs.ensures (c.in-Some.ensures.exact c.args.at.tx c.args.at.txid); mint_is = c.mint_by-mint.ensures; etching_is = c.etching_by-etching.ensures; mid_is = c.in_ok-pool.ensures.left; pool_is = c.in_ok-pool.ensures.pool }) in
     let mid_is = hand_state at c.args.body.now c.args.spent.now state artifact c.mint_by-mint.result c.etching_by-etching.result (runes_of c.bring.new.self) c.in_ok-pool.pool found
     (runes_of c.take_up.new.self) c.in_ok-take_up.ensures.runes in
     let pool_is = hand_pool at c.args.body.now c.args.spent.now state artifact c.mint_by-mint.result c.etching_by-etching.result (runes_of c.bring.new.self) c.in_ok-pool.pool found
@@ -84,10 +83,10 @@ give-requires-clause-displaced c = λ other.
 
 pub returns-clause-ok : goal.returns-clause-ok
 returns-clause-ok c =
-    let at : Spot = (record { profile = c.args.p.now; height = c.args.height; tx = c.args.tx; txid = c.args.id }) in
+    let at = c.args.at in
     let state = runes_of c.args.self.now in
     let artifact = Some c.in_ok-artifact.artifact in
-    let found : Found at c.args.body.now c.args.spent.now state artifact c.mint_by-mint.result c.etching_by-etching.result (runes_of c.bring.new.self) c.in_ok-pool.pool = (record { artifact_is = deciphered c.in_ok-artifact.artifact c.in-Some.script.now c.in_ok-count.count c.as_slice-outputs.result.now at c.args.body.now c.in_ok-artifact.ensures.exact c.in_ok-count.ensures.count c.as_slice-outputs.ensures (c.in-Some.ensures.exact c.args.tx c.args.id); mint_is = c.mint_by-mint.ensures; etching_is = c.etching_by-etching.ensures; mid_is = c.in_ok-pool.ensures.left; pool_is = c.in_ok-pool.ensures.pool }) in
+    let found : Found at c.args.body.now c.args.spent.now state artifact c.mint_by-mint.result c.etching_by-etching.result (runes_of c.bring.new.self) c.in_ok-pool.pool = (record { artifact_is = deciphered c.in_ok-artifact.artifact c.in-Some.script.now c.in_ok-count.count c.as_slice-outputs.result.now at c.args.body.now c.in_ok-artifact.ensures.exact c.in_ok-count.ensures.count c.as_slice-outputs.ensures (c.in-Some.ensures.exact c.args.at.tx c.args.at.txid); mint_is = c.mint_by-mint.ensures; etching_is = c.etching_by-etching.ensures; mid_is = c.in_ok-pool.ensures.left; pool_is = c.in_ok-pool.ensures.pool }) in
     let mid_is = hand_state at c.args.body.now c.args.spent.now state artifact c.mint_by-mint.result c.etching_by-etching.result (runes_of c.bring.new.self) c.in_ok-pool.pool found
     (runes_of c.take_up.new.self) c.in_ok-take_up.ensures.runes in
     let pool_is = hand_pool at c.args.body.now c.args.spent.now state artifact c.mint_by-mint.result c.etching_by-etching.result (runes_of c.bring.new.self) c.in_ok-pool.pool found
