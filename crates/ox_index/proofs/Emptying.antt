@@ -18,8 +18,9 @@ use Rattle.ox_transfer.proofs.Once.{at_most_one, row_held}
 use Rattle.ox_etching.specs.declared.row.RuneRow.{RuneRow}
 use Rattle.ox_ledger.specs.Balanced.{Balanced}
 use Rattle.ox_ledger.specs.Moves.{Begins, Leads}
-use Rattle.ox_ledger.specs.Part.{IsPart, changes_from}
+use Rattle.ox_ledger.specs.Part.{IsPart, changes_from, later_end}
 use Rattle.ox_ledger.specs.declared.part.RunePart.{RunePart}
+use Rattle.ox_ledger.proofs.PartLemmas.{part_forth}
 use Rattle.ox_ledger.specs.Runes.{Placement, Runes}
 use Rattle.ox_ledger.specs.Tables.{nothing}
 use Rattle.ox_model.specs.Index.{Index}
@@ -162,8 +163,11 @@ module _ (held : List Placement) (runes : List RuneRow) (rising : is_sorted outp
     is_it : part ≡ filling
     is_it = λ i. record { before = before i; after = after i; counts = counts i; appended = appended i }
 
-    pub fills_it : Leads state (state_of held runes) part
+    fills_it : Leads state (state_of held runes) part
     fills_it = subst (λ (s : Runes). Leads s (state_of held runes) part) (sym none) (subst (λ (p : RunePart). Leads nothing (state_of held runes) p) (sym is_it) fills)
+
+    pub filled_it : later_end state part ≡ state_of held runes
+    filled_it = part_forth state (state_of held runes) part fills_it.continues fills_it.undue_after fills_it.is
 
     pub begins_it : Balanced (state_of held runes) → Begins part state
     begins_it balanced = record { after = state_of held runes; leads = fills_it; balanced = balanced }

@@ -178,28 +178,24 @@ pub few_inscriptions : (p : Profile) (index : Index) (change : Change) → EndsI
 few_inscriptions p index change ends =
     omega (arith, ap (λ (l : List InsRow). length l) ends.leads.inscriptions, length-append (undone index change).inscriptions change.inscriptions)
 
-pub back_is : (p : Profile) (index : Index) (change : Change) (next : Held) → EndsIn p index change → IsBack (held_of index) next change
+pub back_is : (index : Index) (change : Change) (next : Held) → IsBack (held_of index) next change
     → index_of_parts (take (length index.hashes - 1) index.hashes) next (take (length index.lost - length change.lost) index.lost) ≡ undone index change
-back_is p index change next ends back =
-    let runes : next.runes ≡ runes_of (undone index change) = back.runes (runes_of (undone index change)) (led_back p index change ends) in
-    λ i. record {
-      hashes = take (length index.hashes - 1) index.hashes;
-      outs = back.outputs i;
-      lost = take (length index.lost - length change.lost) index.lost;
-      inscriptions = back.inscriptions i;
-      bal = (runes i).bal;
-      runes = (runes i).runes;
-    }
+back_is index change next back = λ i. record {
+  hashes = take (length index.hashes - 1) index.hashes;
+  outs = back.outputs i;
+  lost = take (length index.lost - length change.lost) index.lost;
+  inscriptions = back.inscriptions i;
+  bal = (back.runes i).bal;
+  runes = (back.runes i).runes;
+}
 
-pub on_is : (p : Profile) (index : Index) (change : Change) (next : Held) → BeginsIn p index change → IsOn (held_of index) next change
+pub on_is : (index : Index) (change : Change) (next : Held) → IsOn (held_of index) next change
     → index_of_parts (index.hashes ++ change.hash ∷ []) next (index.lost ++ change.lost) ≡ redone index change
-on_is p index change next begins on =
-    let runes : next.runes ≡ runes_of (redone index change) = on.runes (runes_of (redone index change)) (led_on p index change begins) in
-    λ i. record {
-      hashes = index.hashes ++ change.hash ∷ [];
-      outs = on.outputs i;
-      lost = index.lost ++ change.lost;
-      inscriptions = on.inscriptions i;
-      bal = (runes i).bal;
-      runes = (runes i).runes;
-    }
+on_is index change next on = λ i. record {
+  hashes = index.hashes ++ change.hash ∷ [];
+  outs = on.outputs i;
+  lost = index.lost ++ change.lost;
+  inscriptions = on.inscriptions i;
+  bal = (on.runes i).bal;
+  runes = (on.runes i).runes;
+}

@@ -12,8 +12,7 @@ use Rattle.ox_inscribe.specs.Reveal.{reveal_of}
 use Rattle.ox_inscribe.specs.declared.row.InsRow.{InsRow}
 use Rattle.ox_etching.specs.declared.row.RuneRow.{RuneRow}
 use Rattle.ox_ledger.specs.Block.{runes_after}
-use Rattle.ox_ledger.specs.Moves.{LeadsTo}
-use Rattle.ox_ledger.specs.Part.{Continues, IsPart}
+use Rattle.ox_ledger.specs.Part.{Continues, IsPart, earlier_end, later_end}
 use Rattle.ox_ledger.specs.Runes.{Runes}
 use Rattle.ox_model.specs.Change.{outputs_changed}
 use Rattle.ox_model.specs.declared.change.Change.{Change}
@@ -90,9 +89,9 @@ pub record IsBack (now other : Held) (change : Change) : Type 0 where
   pub outputs : other.outs ≡ other_end now.outs (outputs_changed change)
   pub inscriptions : other.inscriptions
       ≡ take (length now.inscriptions - length change.inscriptions) now.inscriptions
-  pub runes : (runes : Runes) → LeadsTo true now.runes change.runes runes → other.runes ≡ runes
+  pub runes : other.runes ≡ earlier_end now.runes change.runes
 
 pub record IsOn (now other : Held) (change : Change) : Type 0 where
   pub outputs : other.outs ≡ other_end now.outs (reverse_of (outputs_changed change))
   pub inscriptions : other.inscriptions ≡ now.inscriptions ++ change.inscriptions
-  pub runes : (runes : Runes) → LeadsTo false now.runes change.runes runes → other.runes ≡ runes
+  pub runes : other.runes ≡ later_end now.runes change.runes

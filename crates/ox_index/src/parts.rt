@@ -184,7 +184,7 @@ impl Parts {
         ensures profile { self.new.profile ≡ self.old.profile }
     {
         self.outputs.put(&change.gone, &change.came)?;
-        self.ledger.put(&change.runes, true)?;
+        self.ledger.back(&change.runes)?;
         let last = change.inscriptions.len().min(self.shelf.len() as usize);
         self.shelf.drop_last(last as u32);
         Ok(())
@@ -220,7 +220,7 @@ impl Parts {
         ensures profile { self.new.profile ≡ self.old.profile }
     {
         self.outputs.put(&change.came, &change.gone)?;
-        self.ledger.put(&change.runes, false)?;
+        self.ledger.again(&change.runes)?;
         append(&mut self.shelf, change.inscriptions.as_slice())
     }
 

@@ -16,7 +16,7 @@ use Rattle.ox_rules.proofs.Orders.{outpoints_total, outpoints_exact}
 use Rattle.ox_allocation.specs.Balances.{Balance}
 use Rattle.ox_etching.specs.declared.row.RuneRow.{RuneRow}
 use Rattle.ox_ledger.specs.Balanced.{AreDistinct, Balanced}
-use Rattle.ox_ledger.specs.Moves.{Begins, Ends, LeadsTo, Touches}
+use Rattle.ox_ledger.specs.Moves.{Begins, Ends}
 use Rattle.ox_ledger.specs.Part.{CountChange, RunePart, counts_at, earlier_end, later_end, rows_at_end}
 use Rattle.ox_ledger.specs.Runes.{BalanceMap, Placement, Runes}
 use Rattle.ox_ledger.proofs.MoveLemmas.{AreWithin, changes_within}
@@ -106,27 +106,15 @@ pub begins_distinct : {A : Type 0} (of : RuneRow → A) (part : RunePart) (state
 begins_distinct of part state begins rows is distinct =
     subst (AreDistinct of) (sym (ap (λ (l : List RuneRow). l ++ part.appended) is ∙ begins_runes part state begins)) distinct
 
--- ---- either way
+-- ---- the other end is balanced
 
-pub touches_end : (back : Bool) (part : RunePart) (state : Runes) → back ≡ true → Touches back part state → Ends part state
-touches_end true part state is touches = touches
-touches_end false part state is touches = absurd (true≢false (sym is))
+pub back_balanced : (part : RunePart) (state new : Runes) → Ends part state → new ≡ earlier_end state part → Balanced new
+back_balanced part state new ends is =
+    subst Balanced (sym (is ∙ part_back ends.before state part ends.leads.continues ends.leads.undue_before ends.leads.is)) ends.balanced
 
-pub touches_start : (back : Bool) (part : RunePart) (state : Runes) → back ≡ false → Touches back part state → Begins part state
-touches_start true part state is touches = absurd (true≢false is)
-touches_start false part state is touches = touches
-
-pub leads_back : (back : Bool) (part : RunePart) (state new other : Runes) → back ≡ true → new ≡ earlier_end state part → LeadsTo back state part other → new ≡ other
-leads_back true part state new other is new_is leads = new_is ∙ part_back other state part leads.continues leads.undue_before leads.is
-leads_back false part state new other is new_is leads = absurd (true≢false (sym is))
-
-pub leads_forth : (back : Bool) (part : RunePart) (state new other : Runes) → back ≡ false → new ≡ later_end state part → LeadsTo back state part other → new ≡ other
-leads_forth true part state new other is new_is leads = absurd (true≢false is)
-leads_forth false part state new other is new_is leads = new_is ∙ part_forth state other part leads.continues leads.undue_after leads.is
-
-pub put_balanced : (back : Bool) (part : RunePart) (state new : Runes) → Touches back part state → ((other : Runes) → LeadsTo back state part other → new ≡ other) → Balanced new
-put_balanced true part state new ends is = subst Balanced (sym (is ends.before ends.leads)) ends.balanced
-put_balanced false part state new begins is = subst Balanced (sym (is begins.after begins.leads)) begins.balanced
+pub again_balanced : (part : RunePart) (state new : Runes) → Begins part state → new ≡ later_end state part → Balanced new
+again_balanced part state new begins is =
+    subst Balanced (sym (is ∙ part_forth state begins.after part begins.leads.continues begins.leads.undue_after begins.leads.is)) begins.balanced
 
 -- ---- the runes that are left
 

@@ -1,5 +1,5 @@
 -- States between which a part leads.
-use Rattle.std.specs.Prelude.{◌≡◌, Bool, true, false, []}
+use Rattle.std.specs.Prelude.{◌≡◌, []}
 use Rattle.ox_ledger.specs.Balanced.{Balanced}
 use Rattle.ox_ledger.specs.Part.{Continues, IsPart, RunePart}
 use Rattle.ox_ledger.specs.Runes.{Runes}
@@ -22,13 +22,3 @@ pub record Ends (part : RunePart) (after : Runes) : Type 0 where
   pub before : Runes
   pub leads : Leads before after part
   pub balanced : Balanced before
-
--- what a part begins in, or where it leads back what it ends in
-abbrev pub Touches : Bool → RunePart → Runes → Type 0
-Touches true part state = Ends part state
-Touches false part state = Begins part state
-
--- these are the states at both ends of a part
-abbrev pub LeadsTo : Bool → Runes → RunePart → Runes → Type 0
-LeadsTo true state part other = Leads other state part
-LeadsTo false state part other = Leads state other part

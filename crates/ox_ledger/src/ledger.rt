@@ -87,9 +87,9 @@ impl Ledger {
     ghost use Rattle.ox_ledger.specs.Balanced.{amount_held};
     ghost use Rattle.ox_ledger.specs.Block.{no_runes};
     ghost use Rattle.ox_ledger.specs.Ledger.{mark_in, runes_in};
-    ghost use Rattle.ox_ledger.specs.Moves.{LeadsTo, Touches};
-    ghost use Rattle.ox_ledger.specs.Part.{Continues, IsPart};
-    ghost use Rattle.ox_ledger.specs.Runes.{Runes, balances_at, end, turn};
+    ghost use Rattle.ox_ledger.specs.Moves.{Begins, Ends};
+    ghost use Rattle.ox_ledger.specs.Part.{Continues, IsPart, earlier_end, later_end};
+    ghost use Rattle.ox_ledger.specs.Runes.{balances_at, end, turn};
     ghost use Rattle.ox_ledger.specs.Shown.{HasAt};
     ghost use Rattle.ox_ledger.specs.Tables.{nothing};
     ghost use Rattle.ox_ledger.specs.Turn.{IsFree};
@@ -263,19 +263,36 @@ impl Ledger {
         self.tables.changed(self.alloc)
     }
 
-    /// Goes to the other end of a part: where `back` is true, from the state in which the part ends
-    /// to the one in which it begins, else the other way. Nothing is due at either. After `Memory`
-    /// the ledger is as it was at the mark, which stays.
-    pub fn put(&mut self, part: &RunePart, back: bool) -> Result<(), Memory>
+    /// Goes from the state in which a part ends to the one in which it begins. Nothing is due at
+    /// either. After `Memory` the ledger is as it was at the mark, which stays.
+    pub fn back(&mut self, part: &RunePart) -> Result<(), Memory>
         requires mark { IsSome (mark_in self.old) }
-        requires touches { Touches back part.now (runes_in self.old) }
-        ensures ok { OnOk result ((other : Runes) → LeadsTo back (runes_in self.old) part.now other
-            → runes_in self.new ≡ other) }
+        requires ends { Ends part.now (runes_in self.old) }
+        ensures ok { OnOk result (runes_in self.new ≡ earlier_end (runes_in self.old) part.now) }
         ensures err { OnErr result (runes_in self.new ≡ unwrap_or (mark_in self.old) nothing) }
         ensures mark { mark_in self.new ≡ mark_in self.old }
         ensures profile { self.new.profile ≡ self.old.profile }
     {
-        match self.tables.put(self.alloc, part, back) {
+        match self.tables.back(self.alloc, part) {
+            Ok(()) => Ok(()),
+            Err(e) => {
+                self.tables.fall_back(self.alloc, self.marked);
+                Err(e)
+            }
+        }
+    }
+
+    /// Goes from the state in which a part begins to the one in which it ends. Nothing is due at
+    /// either. After `Memory` the ledger is as it was at the mark, which stays.
+    pub fn again(&mut self, part: &RunePart) -> Result<(), Memory>
+        requires mark { IsSome (mark_in self.old) }
+        requires begins { Begins part.now (runes_in self.old) }
+        ensures ok { OnOk result (runes_in self.new ≡ later_end (runes_in self.old) part.now) }
+        ensures err { OnErr result (runes_in self.new ≡ unwrap_or (mark_in self.old) nothing) }
+        ensures mark { mark_in self.new ≡ mark_in self.old }
+        ensures profile { self.new.profile ≡ self.old.profile }
+    {
+        match self.tables.again(self.alloc, part) {
             Ok(()) => Ok(()),
             Err(e) => {
                 self.tables.fall_back(self.alloc, self.marked);

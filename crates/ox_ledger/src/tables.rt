@@ -7,11 +7,10 @@ ghost use Rattle.ox_runestone.specs.Spelling.{StoneCanCome};
 ghost use Rattle.ox_rules.specs.Differences.{with_rows, without_rows};
 ghost use Rattle.ox_rules.specs.Transfer.{as_list};
 ghost use Rattle.ox_ledger.specs.Balanced.{amount_held};
-ghost use Rattle.ox_ledger.specs.Moves.{Begins, Ends, LeadsTo, Touches};
+ghost use Rattle.ox_ledger.specs.Moves.{Begins, Ends};
 ghost use Rattle.ox_ledger.specs.Part.{Continues, IsPart, earlier_end, later_end};
 ghost use Rattle.ox_ledger.specs.Runes.{balances_at, brought_of, burn, dealt_by};
-ghost use Rattle.ox_ledger.specs.Runes.{end, pool_with, place};
-ghost use Rattle.ox_ledger.specs.Runes.{Runes, place_all};
+ghost use Rattle.ox_ledger.specs.Runes.{end, pool_with, place, place_all};
 ghost use Rattle.ox_ledger.specs.Runes.{placements, premine_of, turn, with_mint};
 ghost use Rattle.ox_ledger.specs.Steps.{CanBurn, CanPlace, CanPlaceAll, CanTakeUp, CanTurn};
 ghost use Rattle.ox_ledger.specs.Steps.{HoldAmounts, dealt_without, given_out};
@@ -363,22 +362,8 @@ impl Tables {
         Ok(())
     }
 
-    /// Goes to the other end of a part: where `back` is true, to the state before it.
-    pub(crate) fn put(&mut self, alloc: Global, part: &RunePart, back: bool) -> Result<(), Memory>
-        requires { Touches back part.now (runes_of self.old) }
-        ensures ok { OnOk result ((other : Runes) → LeadsTo back (runes_of self.old) part.now other
-            → runes_of self.new ≡ other) }
-        ensures mark { mark_of self.new ≡ mark_of self.old }
-    {
-        if back {
-            self.back(alloc, part)
-        } else {
-            self.forth(alloc, part)
-        }
-    }
-
     /// Goes to the state before a part, from the one after it.
-    fn back(&mut self, alloc: Global, part: &RunePart) -> Result<(), Memory>
+    pub(crate) fn back(&mut self, alloc: Global, part: &RunePart) -> Result<(), Memory>
         requires { Ends part.now (runes_of self.old) }
         ensures ok { OnOk result (runes_of self.new ≡ earlier_end (runes_of self.old) part.now) }
         ensures mark { mark_of self.new ≡ mark_of self.old }
@@ -391,7 +376,7 @@ impl Tables {
     }
 
     /// Goes to the state after a part, from the one before it.
-    fn forth(&mut self, alloc: Global, part: &RunePart) -> Result<(), Memory>
+    pub(crate) fn again(&mut self, alloc: Global, part: &RunePart) -> Result<(), Memory>
         requires { Begins part.now (runes_of self.old) }
         ensures ok { OnOk result (runes_of self.new ≡ later_end (runes_of self.old) part.now) }
         ensures mark { mark_of self.new ≡ mark_of self.old }

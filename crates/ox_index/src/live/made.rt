@@ -143,7 +143,7 @@ fn ledger_of(
     };
     let mut ledger = Ledger::empty(alloc, p);
     ledger.begin();
-    ledger.put(&part, false)?;
+    ledger.again(&part)?;
     ledger.begin();
     Ok(ledger)
 }

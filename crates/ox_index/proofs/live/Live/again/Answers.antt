@@ -82,7 +82,7 @@ invariant_of-self-in-Ok-clause-sound c =
     let items : c.push_reserved.new.self.items ≡ live.hashes.items ++ change.hash ∷ [] = c.push_reserved.ensures.items ∙ ap (λ (l : List (List ℕ)). l ++ change.hash ∷ []) c.reserve.ensures.items in
     let to : index_to c.push_reserved.new.self.items next c.join.new.self c.with_block-self.result ≡ redone index change =
     more_to index live.hashes.items (held_in live.parts) live.lost live.shown whole next change.hash change.lost c.push_reserved.new.self.items c.join.new.self c.with_block-self.result items c.in-Ok.ensures.ok c.with_block-self.ensures
-    ∙ on_is p index change next begins on in
+    ∙ on_is index change next on in
     subst (λ (q : Profile). IsSound q (index_to c.push_reserved.new.self.items next c.join.new.self c.with_block-self.result)) (sym c.again.ensures.profile) (subst (IsSound p) (sym to) begins.sound)
 
 pub invariant_of-self-in-Ok-clause-mark : goal.invariant_of-self-in-Ok-clause-mark
@@ -118,5 +118,5 @@ returns-in-Ok-clause-ok c =
     let items : c.push_reserved.new.self.items ≡ live.hashes.items ++ change.hash ∷ [] = c.push_reserved.ensures.items ∙ ap (λ (l : List (List ℕ)). l ++ change.hash ∷ []) c.reserve.ensures.items in
     let to : index_to c.push_reserved.new.self.items next c.join.new.self c.with_block-self.result ≡ redone index change =
     more_to index live.hashes.items (held_in live.parts) live.lost live.shown whole next change.hash change.lost c.push_reserved.new.self.items c.join.new.self c.with_block-self.result items c.in-Ok.ensures.ok c.with_block-self.ensures
-    ∙ on_is p index change next begins on in
+    ∙ on_is index change next on in
     to

@@ -77,7 +77,7 @@ invariant_of-self-2-clause-sound c =
     let next = held_in c.back.new.self in
     let back : IsBack (held_of index) next change = subst (λ (h : Held). IsBack h next change) are c.in_ok-back.ensures.ok in
     let to : index_to live.hashes.items next live.lost c.without_block-self.result ≡ undone index change =
-    ap (index_to live.hashes.items next live.lost) c.without_block-self.ensures ∙ (without_block index live.hashes.items (held_in live.parts) live.lost live.shown whole change.lost next ∙ back_is p index change next ends back) in
+    ap (index_to live.hashes.items next live.lost) c.without_block-self.ensures ∙ (without_block index live.hashes.items (held_in live.parts) live.lost live.shown whole change.lost next ∙ back_is index change next back) in
     subst (λ (q : Profile). IsSound q (index_to live.hashes.items next live.lost c.without_block-self.result)) (sym c.back.ensures.profile) (subst (IsSound p) (sym to) ends.sound)
 
 pub invariant_of-self-2-clause-mark : goal.invariant_of-self-2-clause-mark
@@ -108,5 +108,5 @@ returns-clause-ok c =
     let next = held_in c.back.new.self in
     let back : IsBack (held_of index) next change = subst (λ (h : Held). IsBack h next change) are c.in_ok-back.ensures.ok in
     let to : index_to live.hashes.items next live.lost c.without_block-self.result ≡ undone index change =
-    ap (index_to live.hashes.items next live.lost) c.without_block-self.ensures ∙ (without_block index live.hashes.items (held_in live.parts) live.lost live.shown whole change.lost next ∙ back_is p index change next ends back) in
+    ap (index_to live.hashes.items next live.lost) c.without_block-self.ensures ∙ (without_block index live.hashes.items (held_in live.parts) live.lost live.shown whole change.lost next ∙ back_is index change next back) in
     to

@@ -14,8 +14,8 @@ put-requires-clause-marked c =
     let self = c.args.self.now in
     outs_marked (marked_in self.outputs) self.shelf.mark (mark_in self.ledger) c.requires.marked
 
-pub put-requires-2-clause-mark : goal.put-requires-2-clause-mark
-put-requires-2-clause-mark c =
+pub again-requires-clause-mark : goal.again-requires-clause-mark
+again-requires-clause-mark c =
     let self = c.args.self.now in
     runes_marked (marked_in self.outputs) self.shelf.mark (mark_in self.ledger) c.requires.marked
 
@@ -23,21 +23,20 @@ pub invariant_of-self-in-Break-branch-2 : goal.invariant_of-self-in-Break-branch
 invariant_of-self-in-Break-branch-2 c =
     let self = c.args.self.now in record {
       known = self.known;
-      counted = c.put-2.ensures.profile ∙ self.counted;
+      counted = c.again.ensures.profile ∙ self.counted;
       numbered = self.numbered;
-      undue = undue_fallen (mark_in self.ledger) (runes_in c.put-2.new.self) self.undue_then c.in_err-put-2.ensures.err;
-      undue_then = λ x is. self.undue_then x (sym c.put-2.ensures.mark ∙ is);
+      undue = undue_fallen (mark_in self.ledger) (runes_in c.again.new.self) self.undue_then c.in_err-again.ensures.err;
+      undue_then = λ x is. self.undue_then x (sym c.again.ensures.mark ∙ is);
     }
 
 pub invariant_of-self-2 : goal.invariant_of-self-2
 invariant_of-self-2 c =
-    let self = c.args.self.now in
-    let begins = c.requires.runes in record {
+    let self = c.args.self.now in record {
       known = self.known;
-      counted = c.put-2.ensures.profile ∙ self.counted;
+      counted = c.again.ensures.profile ∙ self.counted;
       numbered = c.append.ensures.jubilee ∙ self.numbered;
-      undue = ap (λ (r : Runes). r.due) (c.in_ok-put-2.ensures.ok begins.after begins.leads) ∙ begins.leads.undue_after;
-      undue_then = λ x is. self.undue_then x (sym c.put-2.ensures.mark ∙ is);
+      undue = ap (λ (r : Runes). r.due) c.in_ok-again.ensures.ok;
+      undue_then = λ x is. self.undue_then x (sym c.again.ensures.mark ∙ is);
     }
 
 pub returns-clause-ok : goal.returns-clause-ok
@@ -46,8 +45,8 @@ returns-clause-ok c =
     on_ok_weaker c.append.result (λ rows. record {
       outputs = c.in_ok-put.ensures.ok;
       inscriptions = rows ∙ ap (λ (l : List InsRow). self.shelf.rows ++ l) c.as_slice.ensures;
-      runes = c.in_ok-put-2.ensures.ok;
+      runes = c.in_ok-again.ensures.ok;
     }) c.append.ensures.ok
 
 pub returns-clause-mark : goal.returns-clause-mark
-returns-clause-mark c = λ i. held_then (c.put.ensures.mark i) (c.append.ensures.mark i) (c.put-2.ensures.mark i)
+returns-clause-mark c = λ i. held_then (c.put.ensures.mark i) (c.append.ensures.mark i) (c.again.ensures.mark i)

@@ -14,8 +14,8 @@ put-requires-clause-marked c =
 pub put-requires-clause-ends : goal.put-requires-clause-ends
 put-requires-clause-ends c = c.requires.rows
 
-pub put-requires-2-clause-mark : goal.put-requires-2-clause-mark
-put-requires-2-clause-mark c =
+pub back-requires-clause-mark : goal.back-requires-clause-mark
+back-requires-clause-mark c =
     let self = c.args.self.now in
     runes_marked (marked_in self.outputs) self.shelf.mark (mark_in self.ledger) c.requires.marked
 
@@ -23,21 +23,20 @@ pub invariant_of-self-in-Break-branch-2 : goal.invariant_of-self-in-Break-branch
 invariant_of-self-in-Break-branch-2 c =
     let self = c.args.self.now in record {
       known = self.known;
-      counted = c.put-2.ensures.profile ∙ self.counted;
+      counted = c.back.ensures.profile ∙ self.counted;
       numbered = self.numbered;
-      undue = undue_fallen (mark_in self.ledger) (runes_in c.put-2.new.self) self.undue_then c.in_err-put-2.ensures.err;
-      undue_then = λ x is. self.undue_then x (sym c.put-2.ensures.mark ∙ is);
+      undue = undue_fallen (mark_in self.ledger) (runes_in c.back.new.self) self.undue_then c.in_err-back.ensures.err;
+      undue_then = λ x is. self.undue_then x (sym c.back.ensures.mark ∙ is);
     }
 
 pub invariant_of-self-2 : goal.invariant_of-self-2
 invariant_of-self-2 c =
-    let self = c.args.self.now in
-    let ends = c.requires.runes in record {
+    let self = c.args.self.now in record {
       known = self.known;
-      counted = c.put-2.ensures.profile ∙ self.counted;
+      counted = c.back.ensures.profile ∙ self.counted;
       numbered = c.drop_last.ensures.jubilee ∙ self.numbered;
-      undue = ap (λ (r : Runes). r.due) (c.in_ok-put-2.ensures.ok ends.before ends.leads) ∙ ends.leads.undue_before;
-      undue_then = λ x is. self.undue_then x (sym c.put-2.ensures.mark ∙ is);
+      undue = ap (λ (r : Runes). r.due) c.in_ok-back.ensures.ok;
+      undue_then = λ x is. self.undue_then x (sym c.back.ensures.mark ∙ is);
     }
 
 pub returns-clause-ok : goal.returns-clause-ok
@@ -46,8 +45,8 @@ returns-clause-ok c =
     let last : c.min-last.result ≡ length c.args.change.now.inscriptions = omega (arith, c.min-last.ensures, c.len.ensures, c.len-2.ensures, c.requires.inscriptions) in record {
       outputs = c.in_ok-put.ensures.ok;
       inscriptions = c.drop_last.ensures.rows ∙ ap (λ (n : ℕ). take (length rows - n) rows) last;
-      runes = c.in_ok-put-2.ensures.ok;
+      runes = c.in_ok-back.ensures.ok;
     }
 
 pub returns-clause-mark : goal.returns-clause-mark
-returns-clause-mark c = λ i. held_then (c.put.ensures.mark i) (c.drop_last.ensures.mark i) (c.put-2.ensures.mark i)
+returns-clause-mark c = λ i. held_then (c.put.ensures.mark i) (c.drop_last.ensures.mark i) (c.back.ensures.mark i)

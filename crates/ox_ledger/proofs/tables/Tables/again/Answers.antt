@@ -7,7 +7,7 @@ use Rattle.ox_ledger.specs.Part.{CountChange, counts_at, rows_at_end}
 use Rattle.ox_ledger.specs.Runes.{Placement, Runes}
 use Rattle.ox_ledger.specs.Tables.{runes_of}
 use Rattle.ox_ledger.proofs.PartMoves.{begins_distinct, begins_filled, begins_within}
-use Rattle.ox_ledger.proofs.tables.Tables.forth.Goals as goal
+use Rattle.ox_ledger.proofs.tables.Tables.again.Goals as goal
 
 pub exchange-requires : goal.exchange-requires
 exchange-requires c =
