@@ -1,6 +1,7 @@
 pub mod AskedLines
 pub mod CommandAnswers
 pub mod Crashes
+pub mod Done
 pub mod Drilling
 pub mod FeedAnswers
 pub mod FeedState

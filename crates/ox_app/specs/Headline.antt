@@ -1,7 +1,8 @@
 -- The headline, from top to bottom: whatever lines come on channel 0 and at whatever moment a run
 -- stops, opening the files gives the index that fresh indexing of the chain gives that some first
 -- lines chose; these hold each line of whose answer a byte was shown; and what was shown answers no
--- more than these lines. `run` says it by `applies`, `survives` and `out_of_memory`.
+-- more than these lines. `run` says it by `survives`, and by `applies` and `out_of_memory` of
+-- `Applies`.
 --
 -- The words below it are those of ox_model: `replies machine lines` are the answers to lines, each
 -- by fresh indexing of the machine's blocks then, `after machine lines` is the machine that they

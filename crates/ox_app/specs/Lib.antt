@@ -1,10 +1,11 @@
--- Read Headline first: it says what `run` promises of a feed, of the files and of a crash.
--- Subcommands has the words of the command line, Status how a run ends, Show what is said of shown
--- lines and of faults, Init and Unopened the lines of a making and of files that are no store,
--- Query what a query shows, Serve what a server logs and a crash leaves of it, Drill the same of a
--- drill, and Migrate of a migration. Fold and Apply are of single lines, for the functions below
--- `run`.
+-- Read Headline first: it says what `run` promises of a feed, of the files and of a crash. Promises
+-- has what it promises of each subcommand, Subcommands the words of the command line, Status how a
+-- run ends, Show what is said of shown lines and of faults, Init and Unopened the lines of a making
+-- and of files that are no store, Query what a query shows, Serve what a server logs and a crash
+-- leaves of it, Drill the same of a drill, and Migrate of a migration. Fold and Apply are of single
+-- lines, for the functions below `run`.
 pub mod Headline
+pub mod Promises
 pub mod Subcommands
 pub mod Status
 pub mod Show

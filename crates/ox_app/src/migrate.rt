@@ -10,7 +10,7 @@ ghost use Rattle.ox_app.specs.Fold.{Anything};
 ghost use Rattle.ox_app.specs.Headline.{AddsNoImage};
 ghost use Rattle.ox_app.specs.Migrate.{AnswersOld, IsMigrated, IsUnmigrated, MigratesFirst};
 ghost use Rattle.ox_app.specs.Migrate.{SaysNoOldStore, SaysOldCommand};
-ghost use Rattle.ox_app.specs.Migrate.{migrated_line as migrated_told, old_line as old_told};
+ghost use Rattle.ox_app.specs.Migrate.{migrated_line, old_line};
 ghost use Rattle.ox_app.specs.Show.{DiskFails, EndsAtFault, ShowFails, ShowsText};
 ghost use Rattle.ox_app.specs.Status.{IsMigrateStatus};
 ghost use Rattle.ox_app.specs.declared.status.Status.TheVariants as ends;
@@ -38,7 +38,7 @@ const LONGEST_OLD: usize = 25;
 fn migrated_line(room: Room, commands: u64) -> Bytes
     requires empty { room.filled ≡ [] }
     requires spare { 24 ≤ room.spare }
-    ensures { result ≡ migrated_told commands }
+    ensures { result ≡ migrated_line commands }
 {
     let mut room = room;
     room.put(b"ok ");
@@ -50,7 +50,7 @@ fn migrated_line(room: Room, commands: u64) -> Bytes
 // The line of a command that the present rules refuse.
 #[tactic(auto, unfolding(crate::specs::Migrate::old_line))]
 fn old_line(alloc: Global, command: u64, refusal: Refusal) -> Result<Bytes, Memory>
-    ensures { IfOk result (λ line. line ≡ old_told command refusal) }
+    ensures { IfOk result (λ line. line ≡ old_line command refusal) }
 {
     let refused = refusal.line(alloc)?;
     let mut room = Room::new(alloc, LONGEST_OLD + refused.as_slice().len())?;
@@ -85,7 +85,7 @@ pub fn migrate<S: Site>(alloc: Global, site: &mut S) -> Status
     ensures shows { IsTrue (S.told site.old) → (stack : Stack) (commands : ℕ)
         → old_stands (S.seen site.old) ≡ Ok (stack, commands)
         → (result ≢ ends.NotStore) × (result ≢ ends.OldCommand)
-        × ShowsText S.Site (migrated_told commands) result site.old site.new }
+        × ShowsText S.Site (migrated_line commands) result site.old site.new }
     ensures migrated { IsTrue (S.told site.old) → (stack : Stack) (commands : ℕ)
         → old_stands (S.seen site.old) ≡ Ok (stack, commands)
         → (result ≡ ends.Done) ⊎ (result ≡ ends.ShowFault) → IsMigrated S.Site stack site.new }

@@ -1,30 +1,25 @@
 //! The program.
 
 ghost use Rattle.std.specs.Prelude.{◌≡◌, ◌≢◌, ◌⊎◌, ℕ, List, IsTrue};
-ghost use Rattle.ox_outside.specs.Log.{Grows};
-ghost use Rattle.ox_model.specs.Machine.{Machine, empty_machine, stack_of};
+ghost use Rattle.ox_model.specs.Machine.{Machine, stack_of};
 ghost use Rattle.ox_model.specs.Stack.{Stack};
 ghost use Rattle.ox_files.specs.OldStands.{OldFault};
 ghost use Rattle.ox_files.specs.Stands.{Misfit};
-ghost use Rattle.ox_sat.specs.Profiles.{profile_named};
 ghost use Rattle.ox_sat.specs.declared.profiles.ProfileName.{ProfileName};
 ghost use Rattle.ox_store.specs.Make.{no_files};
 ghost use Rattle.ox_app.specs.Drill.{RunsDrill, told_line};
-ghost use Rattle.ox_app.specs.Fold.{fold_depth};
-ghost use Rattle.ox_app.specs.Headline.{AddsNoImage, AnswersFeed, IsRunInTurn, StandsFor};
-ghost use Rattle.ox_app.specs.Headline.{StandsForNone, StopsAtLine, SurvivesCrash};
-ghost use Rattle.ox_app.specs.Init.{IsMade, MakesFirst, made_line, not_empty_line};
+ghost use Rattle.ox_app.specs.Headline.{AddsNoImage, StandsFor, StandsForNone, SurvivesCrash};
+ghost use Rattle.ox_app.specs.Init.{not_empty_line};
 ghost use Rattle.ox_app.specs.Migrate.{IsMigrated, IsUnmigrated, MigratesFirst, SaysNoOldStore};
 ghost use Rattle.ox_app.specs.Migrate.{SaysOldCommand, StandsForNoOld, StandsForOld};
 ghost use Rattle.ox_app.specs.Migrate.{migrated_line};
+ghost use Rattle.ox_app.specs.Promises.{Applies, Folds, Inits, Queries, Unopened};
 ghost use Rattle.ox_outside.specs.Runs.{Calls};
-ghost use Rattle.ox_app.specs.Query.{query_body};
 ghost use Rattle.ox_app.specs.Serve.{AnswersLinks, DoorFails, SurvivesServing};
-ghost use Rattle.ox_app.specs.Show.{DiskFails, EndsAtFault, EndsDone, HearFails, Says};
+ghost use Rattle.ox_app.specs.Show.{DiskFails, EndsAtFault, HearFails, Says};
 ghost use Rattle.ox_app.specs.Show.{ShowFails, ShowsText, usage_line};
-ghost use Rattle.ox_app.specs.Status.{IsApplyStatus, IsDone, IsDrillStatus, IsFoldStatus};
-ghost use Rattle.ox_app.specs.Status.{IsInitStatus, IsMigrateStatus, IsQueryStatus, IsRefusal};
-ghost use Rattle.ox_app.specs.Status.{IsServeStatus, IsSparing, IsUnopened};
+ghost use Rattle.ox_app.specs.Status.{IsDone, IsDrillStatus, IsMigrateStatus, IsRefusal};
+ghost use Rattle.ox_app.specs.Status.{IsServeStatus};
 ghost use Rattle.ox_app.specs.Subcommands.{IsDepth, IsDrillLength, IsOpening, IsReading};
 ghost use Rattle.ox_app.specs.Subcommands.{IsTurns, IsUnknown, apply_words, drill_words};
 ghost use Rattle.ox_app.specs.Subcommands.{fold_words, init_words, migrate_words, query_words};
@@ -98,79 +93,30 @@ use std::alloc::Global;
 pub fn run<S: Site>(alloc: Global, words: &[Bytes], site: &mut S) -> Status
     // ---- `fold`
 
-    // What was shown begins the answers to the lines heard, each by fresh indexing of the blocks
-    // that the lines before it chose, and is all of them where the run is done.
+    // Each line is answered in order, by fresh indexing.
     ensures folds { (name : ProfileName) → words.now ≡ fold_words name
-        → AnswersFeed S.Site (empty_machine (profile_named name) fold_depth)
-        result site.old site.new }
-    ensures fold_status { (name : ProfileName) → words.now ≡ fold_words name → IsFoldStatus result }
-    // On a feed that ends, without a fault, all is done, unless memory runs out.
-    ensures fold_completes { (name : ProfileName) → words.now ≡ fold_words name
-        → ¬ HearFails S.Site site.old site.new → ¬ ShowFails S.Site site.old site.new
-        → Grows (EndsDone result) (S.log site.old) (S.log site.new) }
+        → Folds S.Site name result site.old site.new }
 
-    // ---- `apply`, on files that stand for a machine's stack
+    // ---- `apply`
 
-    // What was shown begins the answers to the lines heard, as of `fold`, from that machine on.
-    ensures applies { words.now ≡ apply_words → (machine : Machine)
-        → StandsFor S.Site site.old (stack_of machine)
-        → (result ≢ ends.NotStore) × AnswersFeed S.Site machine result site.old site.new }
+    // Likewise from the machine on for whose stack the files stand.
+    ensures applies { words.now ≡ apply_words → Applies S.Site result site.old site.new }
     // Whatever the feed and at whatever moment the run stops: the files give the index of the first
     // lines, which are all whose moment is in the log or all but one; each of whose answer a byte
     // was shown is among them, and what was shown is a front of their answers.
     ensures survives { words.now ≡ apply_words → (machine : Machine)
         → StandsFor S.Site site.old (stack_of machine)
         → SurvivesCrash S.Site machine site.old site.new }
-    // What it leaves behind its first event is a run in turn, as `runs_follow_chains` counts them.
-    ensures in_turn { words.now ≡ apply_words → (machine : Machine)
-        → StandsFor S.Site site.old (stack_of machine)
-        → IsRunInTurn S.Site site.old site.new }
-    // The line at which memory ran out isn't carried out: what was shown is the answers to the
-    // lines before it, and whatever a crash leaves stands for these.
-    ensures out_of_memory { words.now ≡ apply_words → (machine : Machine)
-        → StandsFor S.Site site.old (stack_of machine)
-        → result ≡ ends.Memory → StopsAtLine S.Site machine site.old site.new }
-    ensures apply_status { words.now ≡ apply_words → IsApplyStatus result }
-    ensures apply_completes { words.now ≡ apply_words → (machine : Machine)
-        → StandsFor S.Site site.old (stack_of machine)
-        → ¬ DiskFails S.Site site.old site.new
-        → ¬ HearFails S.Site site.old site.new → ¬ ShowFails S.Site site.old site.new
-        → Grows (EndsDone result) (S.log site.old) (S.log site.new) }
 
     // ---- `init`
 
-    // The line is shown, and only once each crash leaves the store.
+    // Two empty files are made a store, and others are refused.
     ensures inits { (name : ProfileName) (depth : ℕ) → IsDepth depth
         → words.now ≡ init_words name depth
-        → result ≢ ends.NotEmpty → ShowsText S.Site made_line result site.old site.new }
-    ensures made { IsTrue (S.told site.old)
-        → (name : ProfileName) (depth : ℕ) → IsDepth depth → words.now ≡ init_words name depth
-        → (result ≡ ends.Done) ⊎ (result ≡ ends.ShowFault) → IsMade S.Site name depth site.new }
-    ensures made_before { IsTrue (S.told site.old)
-        → (name : ProfileName) (depth : ℕ) → IsDepth depth → words.now ≡ init_words name depth
-        → result ≢ ends.NotEmpty → MakesFirst S.Site name depth site.old site.new }
-    // Files that aren't both empty are refused, and spared whatever the status is.
-    ensures refuses_files { IsTrue (S.told site.old)
-        → (name : ProfileName) (depth : ℕ) → IsDepth depth → words.now ≡ init_words name depth
-        → S.seen site.old ≢ no_files → IsSparing result }
-    ensures spares { IsTrue (S.told site.old)
-        → (name : ProfileName) (depth : ℕ) → IsDepth depth → words.now ≡ init_words name depth
-        → S.seen site.old ≢ no_files → AddsNoImage S.Site site.old site.new }
-    // Memory runs out before the first write, or not at all.
-    ensures made_nothing { (name : ProfileName) (depth : ℕ) → IsDepth depth
-        → words.now ≡ init_words name depth
-        → result ≡ ends.Memory → AddsNoImage S.Site site.old site.new }
+        → Inits S.Site name depth result site.old site.new }
     ensures not_empty { result ≡ ends.NotEmpty → Says S.Site not_empty_line site.old site.new }
     ensures only_files { IsTrue (S.told site.old) → result ≡ ends.NotEmpty
         → S.seen site.old ≢ no_files }
-    ensures init_status { (name : ProfileName) (depth : ℕ) → IsDepth depth
-        → words.now ≡ init_words name depth
-        → IsInitStatus result }
-    ensures init_completes { IsTrue (S.told site.old)
-        → (name : ProfileName) (depth : ℕ) → IsDepth depth → words.now ≡ init_words name depth
-        → S.seen site.old ≡ no_files
-        → ¬ DiskFails S.Site site.old site.new → ¬ ShowFails S.Site site.old site.new
-        → IsDone result }
 
     // ---- `drill`
 
@@ -230,18 +176,11 @@ pub fn run<S: Site>(alloc: Global, words: &[Bytes], site: &mut S) -> Status
         → ¬ DiskFails S.Site site.old site.new → ¬ ShowFails S.Site site.old site.new
         → IsDone result }
 
-    // ---- `query`, on files that stand for a stack
+    // ---- `query`
 
-    // The body of the reply is shown, and nothing else.
+    // The body of the reply is shown, by the stack for which the files stand.
     ensures queries { (path : List ℕ) → words.now ≡ query_words path
-        → (stack : Stack) → StandsFor S.Site site.old stack
-        → (result ≢ ends.NotStore)
-        × ShowsText S.Site (query_body path stack) result site.old site.new }
-    ensures query_status { (path : List ℕ) → words.now ≡ query_words path → IsQueryStatus result }
-    ensures query_completes { (path : List ℕ) → words.now ≡ query_words path
-        → (stack : Stack) → StandsFor S.Site site.old stack
-        → ¬ DiskFails S.Site site.old site.new → ¬ ShowFails S.Site site.old site.new
-        → IsDone result }
+        → Queries S.Site path result site.old site.new }
 
     // ---- `serve`, on files that stand for a machine's stack
 
@@ -270,12 +209,7 @@ pub fn run<S: Site>(alloc: Global, words: &[Bytes], site: &mut S) -> Status
     // The first test that fails is shown, and nothing else; and the files are spared.
     ensures unopened { IsOpening words.now → (misfit : Misfit)
         → StandsForNone S.Site site.old misfit
-        → IsUnopened result }
-    ensures unsaid { IsOpening words.now → (misfit : Misfit) → StandsForNone S.Site site.old misfit
-        → result ≢ ends.NotStore → S.log site.new ≡ S.log site.old }
-    ensures opens_nothing { IsOpening words.now → (misfit : Misfit)
-        → StandsForNone S.Site site.old misfit
-        → AddsNoImage S.Site site.old site.new }
+        → Unopened S.Site result site.old site.new }
     ensures not_store { words.now ≢ migrate_words → result ≡ ends.NotStore
         → SaysNotStore S.Site site.old site.new }
 

@@ -1,0 +1,85 @@
+-- What `run` promises of a subcommand whose words came, a record each, but for what a crash leaves
+-- of `apply`: that is its clause `survives`, the headline's.
+use Rattle.std.specs.Prelude.{◌≡◌, ◌≢◌, ◌⊎◌, ℕ, IsTrue, List}
+use Rattle.ox_outside.specs.Log.{Grows}
+use Rattle.ox_outside.specs.declared.site.Site.{Ghosts as Meanings}
+use Rattle.ox_model.specs.Machine.{Machine, empty_machine, stack_of}
+use Rattle.ox_model.specs.Stack.{Stack}
+use Rattle.ox_sat.specs.Profiles.{profile_named}
+use Rattle.ox_sat.specs.declared.profiles.ProfileName.{ProfileName}
+use Rattle.ox_store.specs.Make.{no_files}
+use Rattle.ox_app.specs.Fold.{fold_depth}
+use Rattle.ox_app.specs.Headline.{AddsNoImage, AnswersFeed, IsRunInTurn, StandsFor, StopsAtLine}
+use Rattle.ox_app.specs.Init.{IsMade, MakesFirst, made_line}
+use Rattle.ox_app.specs.Query.{query_body}
+use Rattle.ox_app.specs.Show.{DiskFails, EndsDone, HearFails, ShowFails, ShowsText}
+use Rattle.ox_app.specs.Status.{IsApplyStatus, IsDone, IsFoldStatus, IsInitStatus, IsQueryStatus}
+use Rattle.ox_app.specs.Status.{IsSparing, IsUnopened}
+use Rattle.ox_app.specs.declared.status.Status.{Status}
+use Rattle.ox_app.specs.declared.status.Status.TheVariants.{Done, Memory, NotEmpty, NotStore}
+use Rattle.ox_app.specs.declared.status.Status.TheVariants.{ShowFault}
+
+-- `fold`
+pub record Folds {S : Type 0} (means : Meanings S) (name : ProfileName) (status : Status)
+    (old new : S) : Type 0 where
+  -- what was shown begins the answers to the lines heard, each by fresh indexing of the blocks that
+  -- the lines before it chose, and is all of them where the run is done
+  pub folds : AnswersFeed means (empty_machine (profile_named name) fold_depth) status old new
+  pub fold_status : IsFoldStatus status
+  -- on a feed that ends, without a fault, all is done, unless memory runs out
+  pub fold_completes : ¬ HearFails means old new → ¬ ShowFails means old new
+      → Grows (EndsDone status) (means.log old) (means.log new)
+
+-- `apply`, on files that stand for a machine's stack
+pub record Applies {S : Type 0} (means : Meanings S) (status : Status) (old new : S)
+    : Type 0 where
+  -- what was shown begins the answers to the lines heard, as of `fold`, from that machine on
+  pub applies : (machine : Machine) → StandsFor means old (stack_of machine)
+      → (status ≢ NotStore) × AnswersFeed means machine status old new
+  -- what it leaves behind its first event is a run in turn, as `runs_follow_chains` counts them
+  pub in_turn : (machine : Machine) → StandsFor means old (stack_of machine)
+      → IsRunInTurn means old new
+  -- the line at which memory ran out isn't carried out: what was shown is the answers to the lines
+  -- before it, and whatever a crash leaves stands for these
+  pub out_of_memory : (machine : Machine) → StandsFor means old (stack_of machine)
+      → status ≡ Memory → StopsAtLine means machine old new
+  pub apply_status : IsApplyStatus status
+  pub apply_completes : (machine : Machine) → StandsFor means old (stack_of machine)
+      → ¬ DiskFails means old new → ¬ HearFails means old new → ¬ ShowFails means old new
+      → Grows (EndsDone status) (means.log old) (means.log new)
+
+-- `init`
+pub record Inits {S : Type 0} (means : Meanings S) (name : ProfileName) (depth : ℕ)
+    (status : Status) (old new : S) : Type 0 where
+  -- the line is shown, and only once each crash leaves the store
+  pub inits : status ≢ NotEmpty → ShowsText means made_line status old new
+  pub made : IsTrue (means.told old) → (status ≡ Done) ⊎ (status ≡ ShowFault)
+      → IsMade means name depth new
+  pub made_before : IsTrue (means.told old) → status ≢ NotEmpty
+      → MakesFirst means name depth old new
+  -- files that aren't both empty are refused, and spared whatever the status is
+  pub refuses_files : IsTrue (means.told old) → means.seen old ≢ no_files → IsSparing status
+  pub spares : IsTrue (means.told old) → means.seen old ≢ no_files → AddsNoImage means old new
+  -- memory runs out before the first write, or not at all
+  pub made_nothing : status ≡ Memory → AddsNoImage means old new
+  pub init_status : IsInitStatus status
+  pub init_completes : IsTrue (means.told old) → means.seen old ≡ no_files
+      → ¬ DiskFails means old new → ¬ ShowFails means old new → IsDone status
+
+-- `query`, on files that stand for a stack
+pub record Queries {S : Type 0} (means : Meanings S) (path : List ℕ) (status : Status)
+    (old new : S) : Type 0 where
+  -- the body of the reply is shown, and nothing else
+  pub queries : (stack : Stack) → StandsFor means old stack
+      → (status ≢ NotStore) × ShowsText means (query_body path stack) status old new
+  pub query_status : IsQueryStatus status
+  pub query_completes : (stack : Stack) → StandsFor means old stack
+      → ¬ DiskFails means old new → ¬ ShowFails means old new → IsDone status
+
+-- `apply`, `query` and `serve` on files that stand for no stack: the first test that fails is
+-- shown, and nothing else; and the files are spared
+pub record Unopened {S : Type 0} (means : Meanings S) (status : Status) (old new : S)
+    : Type 0 where
+  pub unopened : IsUnopened status
+  pub unsaid : status ≢ NotStore → means.log new ≡ means.log old
+  pub opens_nothing : AddsNoImage means old new
