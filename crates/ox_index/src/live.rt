@@ -1,7 +1,8 @@
 //! The index in memory.
 
 ghost use Rattle.std.specs.Prelude.{◌≡◌, Some, None, Ok, IsSome, IfOk, IfErr, OnOk, OnErr};
-ghost use Rattle.std.specs.Prelude.{◌^◌, length, map};
+ghost use Rattle.std.specs.Prelude.{◌^◌, ◌≤◌, length, map, take};
+ghost use Rattle.std.specs.FinMap.{entries};
 ghost use Rattle.std.specs.Option.{ForSome};
 ghost use Rattle.std.proofs.Props.{props};
 ghost use Rattle.ox_model.specs.Sound.{IsSound};
@@ -18,6 +19,7 @@ use crate::parts::Parts;
 use ox_block::{Block, OutPoint, Txids, read_block};
 use ox_bytes::{Bytes, Memory, Room};
 use ox_model::{Audit, Change, InsId, InsRow, OutRow, OutTable, Place, RuneId, RuneRow, View};
+use ox_outputs::InOrder;
 use ox_range::Ranges;
 use ox_rules::{LONGEST_OK, Why, ok_line_in};
 use ox_sat::{Profile, first};
@@ -223,11 +225,28 @@ impl Live {
         }
     }
 
-    /// The hashes of the chain's blocks, by height.
-    fn hashes(&self) -> &[[u8; 32]]
+    /// The hashes of the chain's blocks, by height, each in serialized order.
+    pub fn hashes(&self) -> &[[u8; 32]]
         ensures { result.now ≡ (index_in self.now).hashes }
     {
         &self.hashes[..self.shown.blocks]
+    }
+
+    /// The unspent outputs by rising outpoint, to be read in this order. It takes 16 bytes for
+    /// each, and the time of a sort. `Memory` where there is none for them.
+    pub fn in_order(&self) -> Result<InOrder<'_>, Memory>
+        ensures { IfOk result (λ order. order ≡ entries (index_in self.now).outs) }
+    {
+        self.parts.outputs.in_order()
+    }
+
+    /// The satoshis that no output holds any more, in the order in which they were lost, and how
+    /// many of these count: those behind were lost by a block that was taken back.
+    pub fn lost_sats(&self) -> (&Ranges, u64)
+        ensures count { result.1 ≤ length result.0.now }
+        ensures first { take result.1 result.0.now ≡ (index_in self.now).lost }
+    {
+        (&self.lost, self.shown.lost)
     }
 
     /// The place of a satoshi among the lost ones.
