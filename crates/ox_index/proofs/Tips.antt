@@ -4,8 +4,7 @@ use Rattle.std.proofs.lemmas.Bool.Decides.{nat_tests}
 use Rattle.std.proofs.lemmas.Option.{slice_get-get_or}
 use Rattle.std.specs.Prelude.{false, option_map, slice_get, ◌==◌}
 use Rattle.ox_rules.specs.Newest.{zero_hash}
-use Rattle.ox_rules.specs.Text.{ok_text}
-use Rattle.ox_index.specs.Reply.{tip_line}
+use Rattle.ox_rules.specs.Text.{ok_text, tip_line}
 
 some_first : (h : List ℕ) (t : List (List ℕ)) → (length (h ∷ t) == 0) ≡ false
 some_first h t = grind (arith, nat_tests)
