@@ -1,5 +1,5 @@
 -- That each change ends in its index is one fact, and the changes lead down the older indexes.
-use Rattle.std.proofs.Common.{◌≡◌, List, [], ◌∷◌}
+use Rattle.std.proofs.Common.{List, [], ◌∷◌}
 use Rattle.std.specs.FinMap as map
 use Rattle.std.specs.Coded.{codes}
 use Rattle.std.proofs.Props.{props}

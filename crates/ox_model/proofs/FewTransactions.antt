@@ -1,5 +1,5 @@
 -- A block that is read has no more transactions than bytes, and so few.
-use Rattle.std.proofs.Common.{◌≡◌, ◌∙◌, ℕ, zero, suc, ◌+◌, ◌^◌, ◌<◌, ◌≤◌, Bool, true, false, cond, List, [], ◌∷◌, length, drop, refl, ap, subst, arith, inl, inr, ◌⊎◌, Result, Ok, Err, nat_lt, length-drop}
+use Rattle.std.proofs.Common.{◌≡◌, ◌∙◌, ℕ, zero, suc, ◌+◌, ◌^◌, ◌<◌, ◌≤◌, Bool, true, false, cond, List, [], ◌∷◌, length, drop, refl, ap, arith, inl, inr, Result, Ok, Err, nat_lt, length-drop}
 use Rattle.std.specs.Prelude.{◌==◌, take}
 use Rattle.std.specs.Int.{Width, w16, w32, w64, byte_len, from_le_bytes}
 use Rattle.std.specs.List.{list_any}
@@ -10,7 +10,6 @@ use Rattle.ox_bytes.specs.declared.compact.CompactFault.TheVariants.{Short, NotS
 use Rattle.ox_bytes.proofs.Laws.{bind_ok, chosen, guard_ok, ok_is}
 use Rattle.ox_block.specs.Spelling.{has_witness, most_bytes, most_value}
 use Rattle.ox_block.specs.Reading.{block_at, block_of, count_at, header_at, input_at, inputs_at, marker_at, maybe_witnesses_at, outpoint_at, output_at, outputs_at, outputs_of, stack_at, stacks_of, tx_at, whole_of, with_place, witnesses_at}
-use Rattle.ox_block.specs.declared.block.OutPoint.{OutPoint}
 use Rattle.ox_block.specs.declared.block.TxIn.{TxIn}
 use Rattle.ox_block.specs.declared.block.TxOut.{TxOut}
 use Rattle.ox_block.specs.declared.block.Tx.{Tx}

@@ -1,5 +1,5 @@
 -- What a block reveals stands at its height, on satoshis that were there before it.
-use Rattle.std.proofs.Common.{◌≡◌, ◌∙◌, ◌<◌, ◌≤◌, ℕ, ◌+◌, Bool, true, false, cond, List, [], ◌∷◌, ◌++◌, length, get_or, drop, refl, sym, ap, subst, arith, Option, Some, None, Ok, nat_lt, length-append}
+use Rattle.std.proofs.Common.{◌≡◌, ◌<◌, ◌≤◌, ℕ, ◌+◌, Bool, true, false, cond, List, [], ◌∷◌, ◌++◌, length, get_or, drop, refl, ap, subst, arith, Option, Some, None, Ok, nat_lt}
 use Rattle.std.specs.Prelude.{◌==◌, All, Contains, IfSome, slice_get}
 use Rattle.std.proofs.lemmas.Bool.{ltb-true}
 use Rattle.std.proofs.lemmas.Bool.Decides.{Decides-eqb}
@@ -13,7 +13,7 @@ use Rattle.ox_rules.specs.declared.moved.MovedTx.{MovedTx}
 use Rattle.ox_rules.specs.declared.refusal.Refusal.{Refusal}
 use Rattle.ox_rules.specs.Deal.{deal}
 use Rattle.ox_rules.specs.Outputs.{Outputs, sats_held, sats_of, times}
-use Rattle.ox_rules.specs.Transfer.{Spent, Transferred, claim, claimable_sats, or_refuse, spend, spend_all, spent_by, take_rows, transfer_of, values_of}
+use Rattle.ox_rules.specs.Transfer.{Spent, Transferred, claimable_sats, or_refuse, spend, spend_all, take_rows, transfer_of, values_of}
 use Rattle.ox_rules.proofs.Conservation.{bind_ok, ok_same, take_keeps, times-append, times_held, times_in}
 use Rattle.ox_rules.proofs.Transfers.{first_next, spend_keeps}
 use Rattle.ox_inscribe.specs.Origins.{ComesFrom, IsPlaced, Origin}

@@ -1,9 +1,9 @@
 -- The runes of a block's transactions come from its height, and stand at outputs that are there.
-use Rattle.std.proofs.Common.{◌≡◌, ◌≢◌, ◌∙◌, ◌<◌, ◌≤◌, ◌⊎◌, ℕ, zero, suc, ◌+◌, ◌^◌, Bool, true, false, cond, List, [], ◌∷◌, ◌++◌, length, map, refl, sym, ap, subst, arith, inl, inr, Option, Some, None, Ok, nat_lt}
+use Rattle.std.proofs.Common.{◌≡◌, ◌≢◌, ◌∙◌, ◌<◌, ◌≤◌, ◌⊎◌, ℕ, suc, ◌+◌, ◌^◌, Bool, true, false, cond, List, [], ◌∷◌, ◌++◌, length, map, refl, sym, ap, subst, arith, inl, inr, Option, Some, None, Ok, nat_lt}
 use Rattle.std.specs.Prelude.{◌==◌, ◌&&◌, ◌||◌, All, IsSome, IsTrue, if◌then◌else◌}
 use Rattle.std.specs.List.{AllByRecursion}
 use Rattle.std.specs.Ordering.{eq_by_cmp}
-use Rattle.std.specs.FinMap.{get, insert, remove, get-insert, get-remove, get-empty, empty}
+use Rattle.std.specs.FinMap.{get, insert, remove, get-insert, get-remove, get-empty}
 use Rattle.std.proofs.lemmas.Bool.{and_parts, lt-ltb, ltb-true}
 use Rattle.std.proofs.lemmas.Bool.Decides.{Decides-eqb}
 use Rattle.std.proofs.lemmas.List.{length-map}
@@ -26,7 +26,7 @@ use Rattle.ox_rules.specs.declared.refusal.Refusal.TheVariants.{UnknownOutput}
 use Rattle.ox_rules.specs.declared.rows.OutRow.{OutRow}
 use Rattle.ox_rules.specs.Deal.{deal}
 use Rattle.ox_rules.specs.Outputs.{Outputs, outpoint_cmp, sats_of}
-use Rattle.ox_rules.specs.Transfer.{Spent, Taken, Transferred, as_list, claim, claimable_sats, or_refuse, place_rows, spend, spend_all, spent_by, take_rows, transfer_of, txid_of, values_of}
+use Rattle.ox_rules.specs.Transfer.{Spent, Taken, Transferred, as_list, claimable_sats, or_refuse, place_rows, spend, spend_all, spent_by, take_rows, transfer_of, txid_of, values_of}
 use Rattle.ox_rules.proofs.Conservation.{bind_ok, chosen, deal_keeps, ok_same}
 use Rattle.ox_rules.proofs.Orders.{outpoints_total}
 use Rattle.ox_allocation.specs.Allocation.{balances_from}
@@ -40,13 +40,13 @@ use Rattle.ox_etching.specs.Etched.{id_of}
 use Rattle.ox_etching.specs.declared.row.RuneRow.{RuneRow}
 use Rattle.ox_ledger.specs.Balanced.{Balanced}
 use Rattle.ox_ledger.specs.Block.{first_rune, no_runes, runes_after, turn_all, turn_at}
-use Rattle.ox_ledger.specs.Runes.{BalanceMap, Brought, Placement, Runes, artifact_at, balances_at, brought_by, burn, burn_of, dealt_by, end, etching_by, gathered_by, mint_by, mint_more, place, place_all, placements, turn, with_balances, with_mint}
+use Rattle.ox_ledger.specs.Runes.{BalanceMap, Brought, Placement, Runes, artifact_at, balances_at, brought_by, burn, burn_of, dealt_by, etching_by, gathered_by, mint_by, mint_more, place, place_all, placements, turn, with_balances, with_mint}
 use Rattle.ox_ledger.proofs.BlockStays.{block_balanced, nothing_due}
 use Rattle.ox_ledger.proofs.Fresh.{etching_row}
 use Rattle.ox_ledger.proofs.Known.{place_all_due}
 use Rattle.ox_ledger.proofs.Settled.{all_append}
 use Rattle.ox_ledger.proofs.StartBalanced.{start_balanced}
-use Rattle.ox_model.specs.Index.{Index, runes_of}
+use Rattle.ox_model.specs.Index.{Index}
 use Rattle.ox_model.specs.Sound.{SoundRunes, is_first, is_of_chain}
 
 -- ---- where runes come from

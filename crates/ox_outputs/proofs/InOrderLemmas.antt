@@ -1,10 +1,10 @@
 -- The rows of slots in the order of their outpoints.
-use Rattle.std.proofs.Common.{◌≡◌, ◌≢◌, ◌∙◌, ◌<◌, ◌+◌, ℕ, zero, suc, Bool, true, false, cond, T, List, [], ◌∷◌, ◌++◌, map, length, get_or, refl, sym, ap, subst, arith, Option, Some, None, Ordering, inl, inr}
-use Rattle.std.specs.Prelude.{◌⊎◌, ◌&&◌, IsTrue, IsSome, is_some, unwrap_or}
-use Rattle.std.specs.List.{All, AllByRecursion, AllPairs, IsDistinct, find as find_first}
+use Rattle.std.proofs.Common.{◌≡◌, ◌∙◌, ◌+◌, ℕ, zero, suc, Bool, true, false, cond, T, List, [], ◌∷◌, ◌++◌, map, refl, sym, ap, subst, arith, Option, Some, None, Ordering, inl, inr}
+use Rattle.std.specs.Prelude.{◌⊎◌, ◌&&◌, is_some, unwrap_or}
+use Rattle.std.specs.List.{All, AllByRecursion, AllPairs, IsDistinct}
 use Rattle.std.specs.List.Sorted.{IsPermutation, IsSorted}
 use Rattle.std.specs.Map.{keys_of, lookup}
-use Rattle.std.specs.Ordering.{is_eq, is_lt, nat_cmp, ordering_reverse, ordering_then, eq_by_cmp}
+use Rattle.std.specs.Ordering.{is_eq, is_lt, nat_cmp, ordering_reverse, ordering_then}
 use Rattle.std.specs.Cmp.Lexicographic.{slice_cmp}
 use Rattle.std.specs.Cmp.{eq_by_cmp_equiv}
 use Rattle.std.specs.FinMap.{entries, entries_sorted, find, get, get-empty, get-entries, is_sorted, nat_cmp-IsAntisymmetric}
@@ -22,11 +22,11 @@ use Rattle.ox_rules.proofs.Orders.{outpoints_total, outpoints_exact}
 use Rattle.ox_shards.proofs.ListLemmas.{same_value, still_distinct}
 use Rattle.ox_outputs.specs.Differing.{row_at}
 use Rattle.ox_outputs.specs.InOrder.{entries_in, entry_in, entry_of, no_row}
-use Rattle.ox_outputs.specs.Slots.{SlotList, outpoint_at, put_slot, rows_of}
+use Rattle.ox_outputs.specs.Slots.{SlotList, rows_of}
 use Rattle.ox_outputs.specs.declared.held.Slot.{Slot}
 use Rattle.ox_outputs.specs.declared.ranked.Ranked.{Ranked}
-use Rattle.ox_outputs.proofs.PlaceLemmas.{AreApart, IsNowhere, get-nowhere, is_same, not_both, same_itself, same_or_not}
-use Rattle.ox_outputs.proofs.SlotLemmas.{equal, get-put_slot}
+use Rattle.ox_outputs.proofs.PlaceLemmas.{AreApart, IsNowhere, get-nowhere, is_same, same_itself, same_or_not}
+use Rattle.ox_outputs.proofs.SlotLemmas.{get-put_slot}
 
 abbrev Entries : Type 0
 Entries = List (OutPoint × OutRow)

@@ -1,12 +1,8 @@
 -- The rows by rising outpoint.
-use Rattle.std.specs.Prelude.{◌≡◌, ℕ, Bool, true, List, [], Option, Some, None, unwrap_or}
+use Rattle.std.specs.Prelude.{◌≡◌, ℕ, List, [], Some, None, unwrap_or}
 use Rattle.std.specs.Prelude.{◌∷◌, ◌++◌}
-use Rattle.std.specs.List.{find}
-use Rattle.std.specs.Ordering.{is_lt}
-use Rattle.std.specs.FinMap.{entries}
 use Rattle.ox_block.specs.declared.block.OutPoint.{OutPoint}
 use Rattle.ox_rules.specs.declared.rows.OutRow.{OutRow}
-use Rattle.ox_rules.specs.Outputs.{Outputs, outpoint_cmp}
 use Rattle.ox_outputs.specs.declared.held.Slot.{Slot}
 use Rattle.ox_outputs.specs.declared.ranked.Ranked.{Ranked}
 use Rattle.ox_outputs.specs.Differing.{row_at}
