@@ -77,7 +77,7 @@ some_there : {A : Type 0} (list : List A) → list ≢ [] → 0 < length list
 some_there [] some = absurd (some refl)
 some_there (x ∷ list) some = omega arith
 
-held_there : (p : Profile) (index : Index) → IsSound p index → (at : OutPoint) (balances : List Balance) → get index.bal at ≡ Some balances → AreHeld balances
+pub held_there : (p : Profile) (index : Index) → IsSound p index → (at : OutPoint) (balances : List Balance) → get index.bal at ≡ Some balances → AreHeld balances
 held_there p index sound at balances there =
     let held = sound.runes.balanced.held at balances there in record {
       some = some_there balances held.0;

@@ -3,6 +3,8 @@ pub mod RowLemmas
 pub mod KeepLemmas
 pub mod AgainLemmas
 pub mod PutLemmas
+pub mod HeldLemmas
+pub mod LostLemmas
 pub mod ReadLemmas
 pub mod StepLemmas
 pub mod StackLemmas

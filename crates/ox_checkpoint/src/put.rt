@@ -10,14 +10,24 @@ ghost use Rattle.ox_rows.specs.RowSpelling.{change_rows, index_rows};
 ghost use Rattle.ox_rows.specs.Spelling.{list};
 ghost use Rattle.ox_files.specs.Body.{FitsBody, body_of, body_rows};
 
+mod held;
+mod lost;
+mod outputs;
+mod rows;
+
+use held::put_balances;
+use lost::put_lost;
+use outputs::put_outputs;
 use ox_bytes::{Bytes, Memory};
 use ox_index::{Changes, Live};
-use ox_rows::{put_change, put_count, put_index};
+use ox_rows::{put_change, put_count, put_list};
+use rows::{put_inscriptions, put_runes};
 
 /// Puts the body of a checkpoint behind bytes: the rows of the index in memory, how many changes
 /// are kept, in 4 bytes, and the rows of each, the newest first. These changes have to lead down
-/// from the index, as those of a chain do. `Memory` where there is none for the rows or for the
-/// index as plain data, and where a list has 2^32 items or more: rows that were put before stay.
+/// from the index, as those of a chain do. Beside the rows it takes the order of the outputs, 16
+/// bytes for each. `Memory` where there is none for these, and where a list has 2^32 items or more:
+/// rows that were put before stay.
 #[tactic(auto, unfolding(ox_files::specs::Body::body_rows))]
 pub fn put_body(bytes: &mut Bytes, live: &Live, changes: &Changes) -> Result<(), Memory>
     requires { AllEnd (profile_in live.now) (index_in live.now) changes.now.kept }
@@ -31,13 +41,19 @@ pub fn put_body(bytes: &mut Bytes, live: &Live, changes: &Changes) -> Result<(),
     put_changes(bytes, changes)
 }
 
-/// Puts the rows of the index in memory.
+/// Puts the rows of the index in memory, list by list as they are spelled.
+#[tactic(auto, unfolding(ox_rows::specs::RowSpelling::index_rows))]
 fn put_live(bytes: &mut Bytes, live: &Live) -> Result<(), Memory>
     ensures ok { OnOk result (bytes.new ≡ bytes.old ++ index_rows (index_in live.now)) }
     ensures fits { OnOk result (FitsIndex (index_in live.now)) }
 {
-    let plain = live.plain()?;
-    put_index(bytes, &plain)
+    let order = live.in_order()?;
+    put_list(bytes, live.hashes())?;
+    put_outputs(bytes, &order)?;
+    put_lost(bytes, live)?;
+    put_inscriptions(bytes, live)?;
+    put_balances(bytes, live, &order)?;
+    put_runes(bytes, live)
 }
 
 /// Puts how many changes there are, in 4 bytes, and the rows of each.

@@ -1,0 +1,123 @@
+//! Lost satoshis, put from where they are in memory.
+
+ghost use Rattle.std.specs.Prelude.{◌≡◌, ◌==◌, ◌+◌, ◌<◌, ◌≤◌, ◌++◌, length, take, OnOk};
+ghost use Rattle.std.specs.Prelude.{None, Some, if◌then◌else◌, option_to_list};
+ghost use Rattle.std.specs.List.{flat_map};
+ghost use Rattle.ox_range.specs.Runs.{front_of, numbers_of, run_at, runs_of};
+ghost use Rattle.ox_index.specs.Live.{index_in};
+ghost use Rattle.ox_rows.specs.Fits.{AreSats, FitsSats};
+ghost use Rattle.ox_rows.specs.Spelling.{run, sats};
+
+use ox_bytes::{Bytes, Memory, put_u64le};
+use ox_index::Live;
+use ox_range::{Ranges, Run};
+use ox_rows::put_count;
+
+/// Puts the satoshis that no output holds any more, in the order in which they were lost.
+pub(super) fn put_lost(bytes: &mut Bytes, live: &Live) -> Result<(), Memory>
+    requires { AreSats (index_in live.now).lost }
+    ensures ok { OnOk result (bytes.new ≡ bytes.old ++ sats (index_in live.now).lost) }
+    ensures fits { OnOk result (FitsSats (index_in live.now).lost) }
+{
+    let (lost, count) = live.lost_sats();
+    put_first(bytes, lost, count)
+}
+
+/// Puts the first of some satoshis, so many: how many maximal runs these have, in 4 bytes, and of
+/// each its first number and its count.
+fn put_first(bytes: &mut Bytes, ranges: &Ranges, count: u64) -> Result<(), Memory>
+    requires within { count ≤ length ranges.now }
+    requires sats { AreSats (take count ranges.now) }
+    ensures ok { OnOk result (bytes.new ≡ bytes.old ++ sats (take count ranges.now)) }
+    ensures fits { OnOk result (FitsSats (take count ranges.now)) }
+{
+    let (whole, part) = first_runs(ranges, count);
+    put_count(bytes, count_of(whole, &part))?;
+    put_runs(bytes, whole)?;
+    put_part(bytes, part)
+}
+
+/// How many runs these are.
+fn count_of(whole: &[Run], part: &Option<Run>) -> usize
+    ensures { result ≡ length (whole.now ++ option_to_list part.now) }
+{
+    match part {
+        Some(_) => whole.len() + 1,
+        None => whole.len(),
+    }
+}
+
+/// Puts each run, without a count.
+fn put_runs(bytes: &mut Bytes, runs: &[Run]) -> Result<(), Memory>
+    ensures { OnOk result (bytes.new ≡ bytes.old ++ flat_map run runs.now) }
+{
+    for one in runs {
+        put_run(bytes, *one)?;
+    }
+    Ok(())
+}
+
+/// Puts a run: its first number and its count.
+fn put_run(bytes: &mut Bytes, one: Run) -> Result<(), Memory>
+    ensures { OnOk result (bytes.new ≡ bytes.old ++ run one) }
+{
+    put_u64le(bytes, one.first)?;
+    put_u64le(bytes, one.count)
+}
+
+/// Puts a run, if there is one.
+fn put_part(bytes: &mut Bytes, part: Option<Run>) -> Result<(), Memory>
+    ensures { OnOk result (bytes.new ≡ bytes.old ++ flat_map run (option_to_list part)) }
+{
+    match part {
+        Some(one) => put_run(bytes, one),
+        None => Ok(()),
+    }
+}
+
+/// The maximal runs of the first of some satoshis, so many: those that are there whole, and what is
+/// there of the one behind, if anything is.
+fn first_runs(ranges: &Ranges, count: u64) -> (&[Run], Option<Run>)
+    requires { count ≤ length ranges.now }
+    ensures { result.0.now ++ option_to_list result.1 ≡ runs_of (take count ranges.now) }
+{
+    let runs = ranges.runs();
+    let (whole, left) = cut_at(runs, count);
+    (&runs[..whole], part_at(runs, whole, left))
+}
+
+/// The first numbers of the run at an index, so many, if they are any.
+fn part_at(runs: &[Run], index: usize, count: u64) -> Option<Run>
+    requires { 0 < count → index < length runs.now }
+    ensures { result
+        ≡ (if count == 0 then None else Some (front_of count (run_at runs.now index))) }
+{
+    if count == 0 {
+        return None;
+    }
+    Some(Run {
+        first: runs[index].first,
+        count,
+    })
+}
+
+/// Where so many numbers of runs end: how many runs are there whole, and how many numbers of the
+/// next.
+fn cut_at(runs: &[Run], count: u64) -> (usize, u64)
+    requires { count ≤ length (numbers_of runs.now) }
+    ensures whole { result.0 ≤ length runs.now }
+    ensures left { length (numbers_of (take result.0 runs.now)) + result.1 ≡ count }
+    ensures part { 0 < result.1
+        → (result.0 < length runs.now) × (result.1 < (run_at runs.now result.0).count) }
+{
+    let mut whole = 0;
+    let mut left = count;
+    for run in runs {
+        if left < run.count {
+            return (whole, left);
+        }
+        left -= run.count;
+        whole += 1;
+    }
+    (whole, left)
+}
