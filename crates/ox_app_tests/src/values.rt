@@ -1,5 +1,5 @@
-//! Blocks, and what is shown and kept of them: Bitcoin's first block's hash, hashes of small blocks by
-//! a script of another language, and files byte by byte as docs/FORMATS.md has them.
+//! Blocks, and what is shown and kept of them: Bitcoin's first block's hash, hashes of small
+//! blocks by a script of another language, and files byte by byte as docs/FORMATS.md has them.
 
 /// Bitcoin's first block.
 pub(crate) const GENESIS: &str = "\

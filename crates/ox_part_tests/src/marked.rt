@@ -25,7 +25,8 @@ fn two(rt: &impl Abort, alloc: Global) -> Amounts
 fn thousand(rt: &impl Abort, alloc: Global) -> Amounts {
     let mut map = Marked::new(alloc);
     for key in 0..1_000u32 {
-        map.put(u128::from(key), Some(u64::from(key) * 10)).expect(rt, "memory");
+        map.put(u128::from(key), Some(u64::from(key) * 10))
+            .expect(rt, "memory");
     }
     map
 }

@@ -112,7 +112,8 @@ fn found_tree<V: View>(
     found: &Found,
     close: bool,
 ) -> Result<Reply, Memory>
-    ensures { IfOk result (λ reply. reply ≡ unwrap_or (option_map (λ tree. tree_reply 200 tree close)
+    ensures { IfOk result (λ reply. reply ≡ unwrap_or
+        (option_map (λ tree. tree_reply 200 tree close)
         (tree_at (asked_of (V.chain live.now) (V.index live.now) about.now)
         found.now.route found.now.part.now)) (error_reply 404 close)) }
 {

@@ -35,7 +35,8 @@ pub(crate) fn write_hash(out: &mut Writer, hash: &[u8; 32]) -> Result<(), Memory
 
 /// Writes a hash as it is printed, or null without one. `Memory` where there is none for it.
 pub(crate) fn write_hash_or_null(out: &mut Writer, hash: Option<&[u8; 32]>) -> Result<(), Memory>
-    ensures { AddsTokens result out.old out.new (tokens_of (hash_or_null (option_copied hash.entry))) }
+    ensures { AddsTokens result out.old out.new
+        (tokens_of (hash_or_null (option_copied hash.entry))) }
 {
     match hash {
         Some(hash) => write_hash(out, hash),

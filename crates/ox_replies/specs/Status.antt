@@ -1,5 +1,5 @@
--- The tree of a chain's status. Each object lists its keys, in order, with their values: so do those
--- of all trees.
+-- The tree of a chain's status. Each object lists its keys, in order, with their values: so do
+-- those of all trees.
 use Rattle.std.specs.Prelude.{ℕ, ◌-◌, List, length, codes, Option, slice_get}
 use Rattle.serde_json.specs.Data.{Data, string, object, no_members, member}
 use Rattle.ox_sat.specs.Profiles.{name_at, profile_word}

@@ -1,5 +1,6 @@
 -- The values that several trees share: numbers, amounts, texts, hashes and places.
-use Rattle.std.specs.Prelude.{ℕ, ℤ, pos, negsuc, List, codes, decimal, Option, Some, None, if◌then◌else◌}
+use Rattle.std.specs.Prelude.{ℕ, ℤ, pos, negsuc, List, codes, decimal}
+use Rattle.std.specs.Prelude.{Option, Some, None, if◌then◌else◌}
 use Rattle.std.specs.Option.{option_map_or}
 use Rattle.std.specs.Str.{is_utf8}
 use Rattle.hex.specs.Hex.{encode_lower}
