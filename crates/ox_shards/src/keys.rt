@@ -60,31 +60,6 @@ pub fn tag_of(id: &[u8; 32], index: u32) -> u32
     u32::from_le_bytes([id[2], id[3], id[4], id[5]]).wrapping_add(index)
 }
 
-/// Places of a list, which are few: one shard, all of them in the ordered map.
-impl Sharded for u32 {
-    ghost SHARDS = { 1 };
-
-    const SHARDS: usize = 1;
-
-    const MOST: usize = 0;
-
-    ghost shard = { λ _. 0 };
-
-    fn shard(&self) -> usize {
-        0
-    }
-
-    ghost alike = { λ _ _ _. refl };
-
-    ghost tag = { λ _. 0 };
-
-    fn tag(&self) -> u32 {
-        0
-    }
-
-    ghost same_tag = { λ _ _ _. refl };
-}
-
 /// Names of runes, which are few: one shard, all of them in the ordered map.
 impl Sharded for u128 {
     ghost SHARDS = { 1 };
