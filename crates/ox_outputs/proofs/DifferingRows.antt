@@ -32,7 +32,7 @@ use Rattle.ox_rules.proofs.Orders.{outpoints_total, outpoints_exact}
 use Rattle.ox_outputs.specs.Differing.{FitIn, gone_at, numbered_from, row_at, row_unless, rows_for}
 use Rattle.ox_outputs.specs.Slots.{SlotList, outpoint_at, undone, AreSpots}
 use Rattle.ox_outputs.specs.Table.{EndsIn}
-use Rattle.ox_outputs.specs.declared.spot.Spot.{Spot}
+use Rattle.ox_outputs.specs.declared.slot_of.SlotOf.{SlotOf}
 use Rattle.ox_outputs.proofs.PlaceLemmas.{is_same, same_or_not}
 use Rattle.ox_outputs.proofs.SlotLemmas.{equal, get-put_slot, spot_known}
 
@@ -57,11 +57,11 @@ same_run-Decides a b =
 -- ---- the oldest change at an outpoint
 
 -- whether a spot is that of this outpoint
-abbrev pub is_of : OutPoint → Spot → Bool
+abbrev pub is_of : OutPoint → SlotOf → Bool
 is_of at spot = is_same at spot.at
 
 -- the first that is numbered at an outpoint
-pub found_numbered : (at : OutPoint) (n : ℕ) (changed : List Spot) → lookup (is_at (outpoint_cmp at)) (numbered_from n changed) ≡ position_from (is_of at) n changed
+pub found_numbered : (at : OutPoint) (n : ℕ) (changed : List SlotOf) → lookup (is_at (outpoint_cmp at)) (numbered_from n changed) ≡ position_from (is_of at) n changed
 found_numbered at n [] = refl
 found_numbered at n (spot ∷ changed) = ap (cond (is_same at spot.at) (Some n)) (found_numbered at (n + 1) changed)
 
@@ -119,7 +119,7 @@ keys_sorted (x ∷ xs) sorted = (keys_below x.0 xs sorted.0, keys_sorted xs sort
 pub first_sorted : (xs : List (OutPoint × ℕ)) → IsSorted (λ a b. outpoint_cmp a.0 b.0) xs → IsStrictlySortedBy outpoint_cmp (keys_of (dedup have_one xs))
 first_sorted xs sorted = keys_sorted (dedup have_one xs) (IsStrictlySortedBy-dedup {R = λ (a b : OutPoint × ℕ). outpoint_cmp a.0 b.0} (on_total (λ (a : OutPoint × ℕ). a.0) outpoints_total) {E = have_one} (λ x y. refl) xs sorted)
 
-pub place_within : (at : OutPoint) (changed : List Spot) (n place : ℕ) → position_from (is_of at) n changed ≡ Some place → (n ≤ place) × (place < n + length changed)
+pub place_within : (at : OutPoint) (changed : List SlotOf) (n place : ℕ) → position_from (is_of at) n changed ≡ Some place → (n ≤ place) × (place < n + length changed)
 place_within at [] n place is = absurd (cc is)
 place_within at (spot ∷ changed) n place is = by_test (place_within at changed (n + 1) place) (is_same at spot.at) is where
   by_test : (position_from (is_of at) (n + 1) changed ≡ Some place → (n + 1 ≤ place) × (place < n + 1 + length changed))
@@ -128,7 +128,7 @@ place_within at (spot ∷ changed) n place is = by_test (place_within at changed
   by_test more false is = let rest = more is in (omega (arith, rest.0), omega (arith, rest.1))
 
 -- the spot there is the outpoint's
-pub place_of : (d : Spot) (at : OutPoint) (changed : List Spot) (n place : ℕ) → position_from (is_of at) n changed ≡ Some place → at ≡ (get_or changed (place - n) d).at
+pub place_of : (d : SlotOf) (at : OutPoint) (changed : List SlotOf) (n place : ℕ) → position_from (is_of at) n changed ≡ Some place → at ≡ (get_or changed (place - n) d).at
 place_of d at [] n place is = absurd (cc is)
 place_of d at (spot ∷ changed) n place is = by_same (place_of d at changed (n + 1) place) (same_or_not at spot.at) is where
   by_same : (position_from (is_of at) (n + 1) changed ≡ Some place → at ≡ (get_or changed (place - (n + 1)) d).at)
@@ -146,7 +146,7 @@ place_of d at (spot ∷ changed) n place is = by_same (place_of d at changed (n 
       more later ∙ sym (ap (λ (k : ℕ). (get_or (spot ∷ changed) k d).at) next)
 
 -- what stood there
-pub stood_at : (before : List (Option OutRow)) (changed : List Spot) (outs : Outputs) (at : OutPoint) (n place : ℕ) → length before ≡ length changed
+pub stood_at : (before : List (Option OutRow)) (changed : List SlotOf) (outs : Outputs) (at : OutPoint) (n place : ℕ) → length before ≡ length changed
     → position_from (is_of at) n changed ≡ Some place → get (undone before changed outs) at ≡ get_or before (place - n) None
 stood_at before [] outs at n place many is = absurd (cc is)
 stood_at [] (spot ∷ changed) outs at n place many is = absurd (omega (arith, many))
@@ -163,7 +163,7 @@ stood_at (row ∷ before) (spot ∷ changed) outs at n place many is =
           let next : place - n ≡ suc (place - (n + 1)) = omega (arith, within.0) in
           more is ∙ sym (ap (λ (k : ℕ). get_or (row ∷ before) k None) next)
 
-pub stays_at : (before : List (Option OutRow)) (changed : List Spot) (outs : Outputs) (at : OutPoint) (n : ℕ)
+pub stays_at : (before : List (Option OutRow)) (changed : List SlotOf) (outs : Outputs) (at : OutPoint) (n : ℕ)
     → position_from (is_of at) n changed ≡ None → get (undone before changed outs) at ≡ get outs at
 stays_at before [] outs at n none = by_rows before where
   by_rows : (rows : List (Option OutRow)) → get (undone rows [] outs) at ≡ get outs at
@@ -251,14 +251,14 @@ are_gone before after places ordered stays = record {
   by_place at None is = sym (ap (row_unless (get before at)) (sym (stays at is)) ∙ unless_itself (get before at))
 
 -- each place among these is that of the oldest change at its outpoint
-oldest_there : (changed : List Spot) (places : List (OutPoint × ℕ)) (k : ℕ) (d : OutPoint × ℕ) → IsStrictlySortedBy outpoint_cmp (keys_of places)
+oldest_there : (changed : List SlotOf) (places : List (OutPoint × ℕ)) (k : ℕ) (d : OutPoint × ℕ) → IsStrictlySortedBy outpoint_cmp (keys_of places)
     → ((at : OutPoint) → lookup (is_at (outpoint_cmp at)) places ≡ position_from (is_of at) 0 changed) → k < length places
     → position_from (is_of (get_or places k d).0) 0 changed ≡ Some (get_or places k d).1
 oldest_there changed places k d ordered found less =
     let e : OutPoint × ℕ = get_or places k d in
     sym (found e.0) ∙ lookup_from_place (eq_by_cmp_equiv outpoints_total) places k e.0 e.1 (IsDistinct-from_sorted outpoint_cmp (keys_of places) ordered) (slice_get-get_or places k d less)
 
-pub stays_stood : (before : List (Option OutRow)) (changed : List Spot) (outs : Outputs) (places : List (OutPoint × ℕ)) (k : ℕ) (d : OutPoint × ℕ) → length before ≡ length changed
+pub stays_stood : (before : List (Option OutRow)) (changed : List SlotOf) (outs : Outputs) (places : List (OutPoint × ℕ)) (k : ℕ) (d : OutPoint × ℕ) → length before ≡ length changed
     → IsStrictlySortedBy outpoint_cmp (keys_of places) → ((at : OutPoint) → lookup (is_at (outpoint_cmp at)) places ≡ position_from (is_of at) 0 changed) → k < length places
     → get_or before (get_or places k d).1 None ≡ get (undone before changed outs) (get_or places k d).0
 stays_stood before changed outs places k d many ordered found less =
@@ -267,7 +267,7 @@ stays_stood before changed outs places k d many ordered found less =
     sym (stood_at before changed outs e.0 0 e.1 many (oldest_there changed places k d ordered found less) ∙ ap (λ (n : ℕ). get_or before n None) same)
 
 -- and that of a spot of its outpoint
-pub stays_spot : (s : Spot) (changed : List Spot) (slots : SlotList) (places : List (OutPoint × ℕ)) (k : ℕ) (d : OutPoint × ℕ) → AreSpots changed slots
+pub stays_spot : (s : SlotOf) (changed : List SlotOf) (slots : SlotList) (places : List (OutPoint × ℕ)) (k : ℕ) (d : OutPoint × ℕ) → AreSpots changed slots
     → IsStrictlySortedBy outpoint_cmp (keys_of places) → ((at : OutPoint) → lookup (is_at (outpoint_cmp at)) places ≡ position_from (is_of at) 0 changed) → k < length places
     → ((get_or places k d).1 < length changed) × (outpoint_at slots (get_or changed (get_or places k d).1 s).place ≡ Some (get_or places k d).0)
 stays_spot s changed slots places k d known ordered found less =

@@ -6,12 +6,12 @@ use Rattle.ox_block.specs.declared.block.OutPoint.{OutPoint}
 use Rattle.ox_rules.specs.declared.rows.OutRow.{OutRow}
 use Rattle.ox_rules.specs.Outputs.{Outputs, MayStand, outpoint_cmp}
 use Rattle.ox_outputs.specs.Slots.{SlotList, put_slot, undone, AreSpots}
-use Rattle.ox_outputs.specs.declared.spot.Spot.{Spot}
+use Rattle.ox_outputs.specs.declared.slot_of.SlotOf.{SlotOf}
 use Rattle.ox_outputs.specs.Located.{StandOnce, LeadTo}
 use Rattle.ox_outputs.proofs.SlotLemmas.{get-put_slot}
 use Rattle.ox_outputs.proofs.RowLemmas.{once_taken, once_placed, once_alike, begun_in}
 
-pub undone_none : (before : List (Option OutRow)) (changed : List Spot) (outs : Outputs) → changed ≡ [] → undone before changed outs ≡ outs
+pub undone_none : (before : List (Option OutRow)) (changed : List SlotOf) (outs : Outputs) → changed ≡ [] → undone before changed outs ≡ outs
 undone_none [] changed outs none = refl
 undone_none (row ∷ before) [] outs none = refl
 undone_none (row ∷ before) (spot ∷ changed) outs none = absurd (cc none)
@@ -47,6 +47,6 @@ none_runs live slots outs is f at begun = absurd (let b = begun_in outs at f beg
   none_in : (row : OutRow) → ◌≡◌ {A = Option OutRow} None (Some row) → ⊥
   none_in row is = absurd (cc is)
 
-pub known_none : (spots : List Spot) (slots : SlotList) → spots ≡ [] → AreSpots spots slots
+pub known_none : (spots : List SlotOf) (slots : SlotList) → spots ≡ [] → AreSpots spots slots
 known_none [] slots none = refl
 known_none (spot ∷ spots) slots none = absurd (cc none)

@@ -13,7 +13,7 @@ use Rattle.ox_rules.specs.Outputs.{Outputs, outpoint_cmp}
 use Rattle.ox_rules.proofs.Orders.{outpoints_total, outpoints_exact}
 use Rattle.ox_outputs.specs.Slots.{SlotList, KeepRows, outpoint_at, slot_at, rows_of, put_slot, undone, AreSpots, unless_empty, is_place_of, tidied_at, filled_before}
 use Rattle.ox_outputs.specs.declared.held.Slot.{Slot}
-use Rattle.ox_outputs.specs.declared.spot.Spot.{Spot}
+use Rattle.ox_outputs.specs.declared.slot_of.SlotOf.{SlotOf}
 
 pub get-put_slot : (outs : Outputs) (at : OutPoint) (row : Option OutRow) (q : OutPoint) → get (put_slot outs at row) q ≡ cond (eq_by_cmp outpoint_cmp q at) row (get outs q)
 get-put_slot outs at None q = get-remove outpoints_total outs at q
@@ -48,20 +48,20 @@ put_none outs at none = same_map outpoints_total outpoints_exact (put_slot outs 
 
 -- ---- changes that are undone
 
-pub undone-append : (rows : List (Option OutRow)) (spots : List Spot) (row : Option OutRow) (spot : Spot) (outs : Outputs) → length rows ≡ length spots → undone (rows ++ row ∷ []) (spots ++ spot ∷ []) outs ≡ undone rows spots (put_slot outs spot.at row)
+pub undone-append : (rows : List (Option OutRow)) (spots : List SlotOf) (row : Option OutRow) (spot : SlotOf) (outs : Outputs) → length rows ≡ length spots → undone (rows ++ row ∷ []) (spots ++ spot ∷ []) outs ≡ undone rows spots (put_slot outs spot.at row)
 undone-append [] [] row spot outs same = refl
 undone-append (r ∷ rows) [] row spot outs same = absurd (cc same)
 undone-append [] (s ∷ spots) row spot outs same = absurd (cc same)
 undone-append (r ∷ rows) (s ∷ spots) row spot outs same = ap (λ (o : Outputs). put_slot o s.at r) (undone-append rows spots row spot outs (cc same))
 
 -- the newest change is undone first
-pub undone-last : (d : Spot) (rows : List (Option OutRow)) (spots : List Spot) (row : Option OutRow) (outs : Outputs) → length rows < length spots → undone (rows ++ row ∷ []) spots outs ≡ undone rows spots (put_slot outs (get_or spots (length rows) d).at row)
+pub undone-last : (d : SlotOf) (rows : List (Option OutRow)) (spots : List SlotOf) (row : Option OutRow) (outs : Outputs) → length rows < length spots → undone (rows ++ row ∷ []) spots outs ≡ undone rows spots (put_slot outs (get_or spots (length rows) d).at row)
 undone-last d rows [] row outs short = absurd (omega arith)
 undone-last d [] (spot ∷ spots) row outs short = refl
 undone-last d (r ∷ rows) (spot ∷ spots) row outs short = ap (λ (o : Outputs). put_slot o spot.at r) (undone-last d rows spots row outs (omega arith))
 
 -- one change is undone
-pub undo_step : (d : Spot) (rows rest : List (Option OutRow)) (row : Option OutRow) (spots : List Spot) (old new final : Outputs) (k : ℕ) → rows ≡ rest ++ row ∷ [] → length rows ≤ length spots → k ≡ length rest → new ≡ put_slot old (get_or spots k d).at row → undone rows spots old ≡ final → undone rest spots new ≡ final
+pub undo_step : (d : SlotOf) (rows rest : List (Option OutRow)) (row : Option OutRow) (spots : List SlotOf) (old new final : Outputs) (k : ℕ) → rows ≡ rest ++ row ∷ [] → length rows ≤ length spots → k ≡ length rest → new ≡ put_slot old (get_or spots k d).at row → undone rows spots old ≡ final → undone rest spots new ≡ final
 undo_step d rows rest row spots old new final k is short at step so_far =
     let fits : length rest < length spots = omega (arith, ap length is, length-append rest (row ∷ [])) in
     ap (undone rest spots) (step ∙ ap (λ (i : ℕ). put_slot old (get_or spots i d).at row) at) ∙ sym (undone-last d rest spots row old fits) ∙ sym (ap (λ (r : List (Option OutRow)). undone r spots old) is) ∙ so_far
@@ -71,21 +71,21 @@ no_rows [] none = refl
 no_rows (r ∷ rows) none = absurd (cc none)
 
 -- a change that is kept leaves what the mark stands for as it was
-pub mark_kept : (before before' : List (Option OutRow)) (changed changed' : List Spot) (rows rows' : Outputs) (kept new : Option OutRow) (spot : Spot) → before' ≡ before ++ kept ∷ [] → changed' ≡ changed ++ spot ∷ [] → rows' ≡ put_slot rows spot.at new → kept ≡ get rows spot.at → length before ≡ length changed → undone before' changed' rows' ≡ undone before changed rows
+pub mark_kept : (before before' : List (Option OutRow)) (changed changed' : List SlotOf) (rows rows' : Outputs) (kept new : Option OutRow) (spot : SlotOf) → before' ≡ before ++ kept ∷ [] → changed' ≡ changed ++ spot ∷ [] → rows' ≡ put_slot rows spot.at new → kept ≡ get rows spot.at → length before ≡ length changed → undone before' changed' rows' ≡ undone before changed rows
 mark_kept before before' changed changed' rows rows' kept new spot b c r k same =
-    ap (λ (x : List (Option OutRow)). undone x changed' rows') b ∙ ap (λ (x : List Spot). undone (before ++ kept ∷ []) x rows') c
+    ap (λ (x : List (Option OutRow)). undone x changed' rows') b ∙ ap (λ (x : List SlotOf). undone (before ++ kept ∷ []) x rows') c
     ∙ undone-append before changed kept spot rows' same
     ∙ ap (undone before changed) (ap (λ (x : Outputs). put_slot x spot.at kept) r ∙ ap (put_slot (put_slot rows spot.at new) spot.at) k ∙ put_slot-put_slot rows spot.at new)
 
-pub both_grown : (before before' : List (Option OutRow)) (changed changed' : List Spot) (kept : Option OutRow) (spot : Spot) → before' ≡ before ++ kept ∷ [] → changed' ≡ changed ++ spot ∷ [] → length before ≡ length changed → length before' ≡ length changed'
+pub both_grown : (before before' : List (Option OutRow)) (changed changed' : List SlotOf) (kept : Option OutRow) (spot : SlotOf) → before' ≡ before ++ kept ∷ [] → changed' ≡ changed ++ spot ∷ [] → length before ≡ length changed → length before' ≡ length changed'
 both_grown before before' changed changed' kept spot b c same = omega (arith, ap length b, ap length c, length-append before (kept ∷ []), length-append changed (spot ∷ []))
 
 -- where nothing has changed, the mark stands for what it stood for
-pub mark_still : (before before' : List (Option OutRow)) (changed changed' : List Spot) (rows rows' : Outputs) → before' ≡ before → changed' ≡ changed → rows' ≡ rows → undone before' changed' rows' ≡ undone before changed rows
+pub mark_still : (before before' : List (Option OutRow)) (changed changed' : List SlotOf) (rows rows' : Outputs) → before' ≡ before → changed' ≡ changed → rows' ≡ rows → undone before' changed' rows' ≡ undone before changed rows
 mark_still before before' changed changed' rows rows' b c r =
-    ap (λ (x : List (Option OutRow)). undone x changed' rows') b ∙ (ap (λ (x : List Spot). undone before x rows') c ∙ ap (undone before changed) r)
+    ap (λ (x : List (Option OutRow)). undone x changed' rows') b ∙ (ap (λ (x : List SlotOf). undone before x rows') c ∙ ap (undone before changed) r)
 
-pub both_still : (before before' : List (Option OutRow)) (changed changed' : List Spot) → before' ≡ before → changed' ≡ changed → length before ≡ length changed → length before' ≡ length changed'
+pub both_still : (before before' : List (Option OutRow)) (changed changed' : List SlotOf) → before' ≡ before → changed' ≡ changed → length before ≡ length changed → length before' ≡ length changed'
 both_still before before' changed changed' b c same = omega (arith, ap length b, ap length c)
 
 -- the rows at the mark
@@ -104,37 +104,37 @@ Keep old new = (p : ℕ) (q : OutPoint) → outpoint_at old p ≡ Some q → out
 pub keep_same : (old new : SlotList) → ((p : ℕ) → outpoint_at new p ≡ outpoint_at old p) → Keep old new
 keep_same old new same p q is = same p ∙ is
 
-one_spot : (spot : Spot) (spots : List Spot) (slots : SlotList) → AreSpots (spot ∷ spots) slots → outpoint_at slots spot.place ≡ Some spot.at
+one_spot : (spot : SlotOf) (spots : List SlotOf) (slots : SlotList) → AreSpots (spot ∷ spots) slots → outpoint_at slots spot.place ≡ Some spot.at
 one_spot spot spots slots known = cc known
 
-other_spots : (spot : Spot) (spots : List Spot) (slots : SlotList) → AreSpots (spot ∷ spots) slots → AreSpots spots slots
+other_spots : (spot : SlotOf) (spots : List SlotOf) (slots : SlotList) → AreSpots (spot ∷ spots) slots → AreSpots spots slots
 other_spots spot spots slots known = cc known
 
-spots_with : (spot : Spot) (spots : List Spot) (slots : SlotList) → outpoint_at slots spot.place ≡ Some spot.at → AreSpots spots slots → AreSpots (spot ∷ spots) slots
+spots_with : (spot : SlotOf) (spots : List SlotOf) (slots : SlotList) → outpoint_at slots spot.place ≡ Some spot.at → AreSpots spots slots → AreSpots (spot ∷ spots) slots
 spots_with spot spots slots one others i = one i ∷ others i
 
-pub spots_kept : (spots : List Spot) (old new : SlotList) → Keep old new → AreSpots spots old → AreSpots spots new
+pub spots_kept : (spots : List SlotOf) (old new : SlotList) → Keep old new → AreSpots spots old → AreSpots spots new
 spots_kept [] old new keeps known = refl
 spots_kept (spot ∷ spots) old new keeps known =
     spots_with spot spots new (keeps spot.place spot.at (one_spot spot spots old known)) (spots_kept spots old new keeps (other_spots spot spots old known))
 
-pub spot_known : (d : Spot) (spots : List Spot) (slots : SlotList) (k : ℕ) → k < length spots → AreSpots spots slots → outpoint_at slots (get_or spots k d).place ≡ Some (get_or spots k d).at
+pub spot_known : (d : SlotOf) (spots : List SlotOf) (slots : SlotList) (k : ℕ) → k < length spots → AreSpots spots slots → outpoint_at slots (get_or spots k d).place ≡ Some (get_or spots k d).at
 spot_known d [] slots k low known = absurd (omega arith)
 spot_known d (spot ∷ spots) slots zero low known = one_spot spot spots slots known
 spot_known d (spot ∷ spots) slots (suc k) low known = spot_known d spots slots k (omega arith) (other_spots spot spots slots known)
 
-pub spots_more : (spots : List Spot) (spot : Spot) (slots : SlotList) → AreSpots spots slots → outpoint_at slots spot.place ≡ Some spot.at → AreSpots (spots ++ spot ∷ []) slots
+pub spots_more : (spots : List SlotOf) (spot : SlotOf) (slots : SlotList) → AreSpots spots slots → outpoint_at slots spot.place ≡ Some spot.at → AreSpots (spots ++ spot ∷ []) slots
 spots_more [] spot slots known there = spots_with spot [] slots there refl
 spots_more (s ∷ spots) spot slots known there =
     spots_with s (spots ++ spot ∷ []) slots (one_spot s spots slots known) (spots_more spots spot slots (other_spots s spots slots known) there)
 
 -- the spots of the changes, one more among them, after a change
-pub known_more : (changed changed' : List Spot) (spot : Spot) (old new : SlotList) → changed' ≡ changed ++ spot ∷ [] → AreSpots changed old → outpoint_at new spot.place ≡ Some spot.at → Keep old new → AreSpots changed' new
-known_more changed changed' spot old new is known there keeps = subst (λ (l : List Spot). AreSpots l new) (sym is) (spots_more changed spot new (spots_kept changed old new keeps known) there)
+pub known_more : (changed changed' : List SlotOf) (spot : SlotOf) (old new : SlotList) → changed' ≡ changed ++ spot ∷ [] → AreSpots changed old → outpoint_at new spot.place ≡ Some spot.at → Keep old new → AreSpots changed' new
+known_more changed changed' spot old new is known there keeps = subst (λ (l : List SlotOf). AreSpots l new) (sym is) (spots_more changed spot new (spots_kept changed old new keeps known) there)
 
 -- the spots of the changes are slots still
-pub known_still : (changed changed' : List Spot) (old new : SlotList) → changed' ≡ changed → AreSpots changed old → Keep old new → AreSpots changed' new
-known_still changed changed' old new is known keeps = subst (λ (l : List Spot). AreSpots l new) (sym is) (spots_kept changed old new keeps known)
+pub known_still : (changed changed' : List SlotOf) (old new : SlotList) → changed' ≡ changed → AreSpots changed old → Keep old new → AreSpots changed' new
+known_still changed changed' old new is known keeps = subst (λ (l : List SlotOf). AreSpots l new) (sym is) (spots_kept changed old new keeps known)
 
 -- ---- slots that are tidied
 
@@ -148,12 +148,12 @@ or_true true = refl
 or_true false = refl
 
 -- the last of some spots is one of them
-last_place : (spots : List Spot) (spot : Spot) → is_place_of (spots ++ spot ∷ []) spot.place ≡ true
+last_place : (spots : List SlotOf) (spot : SlotOf) → is_place_of (spots ++ spot ∷ []) spot.place ≡ true
 last_place [] spot = ap (λ (b : Bool). b || false) (eq-eqb spot.place spot.place refl)
 last_place (s ∷ spots) spot = ap (λ (b : Bool). (s.place == spot.place) || b) (last_place spots spot) ∙ or_true (s.place == spot.place)
 
 -- and at other places it counts for nothing
-other_place : (spots : List Spot) (spot : Spot) (p : ℕ) → p ≢ spot.place → is_place_of (spots ++ spot ∷ []) p ≡ is_place_of spots p
+other_place : (spots : List SlotOf) (spot : SlotOf) (p : ℕ) → p ≢ spot.place → is_place_of (spots ++ spot ∷ []) p ≡ is_place_of spots p
 other_place [] spot p other = ap (λ (b : Bool). b || false) (ne_eqb spot.place p (λ same. other (sym same)))
 other_place (s ∷ spots) spot p other = ap (λ (b : Bool). (s.place == p) || b) (other_place spots spot p other)
 
@@ -170,22 +170,22 @@ either_way true slot = unless_empty_again slot
 either_way false slot = refl
 
 -- the last of some spots is tidied first
-pub tidied_step : (spots rest : List Spot) (spot : Spot) (old new : SlotList) → spots ≡ rest ++ spot ∷ [] → slot_at new spot.place ≡ unless_empty (slot_at old spot.place)
+pub tidied_step : (spots rest : List SlotOf) (spot : SlotOf) (old new : SlotList) → spots ≡ rest ++ spot ∷ [] → slot_at new spot.place ≡ unless_empty (slot_at old spot.place)
     → ((p : ℕ) → p ≢ spot.place → slot_at new p ≡ slot_at old p) → (p : ℕ) → tidied_at rest new p ≡ tidied_at spots old p
 tidied_step spots rest spot old new is here others p = ⊎_elim
     (λ same.
     ap (tidied_at rest new) same
     ∙ ap (λ (s : Option Slot). cond (is_place_of rest spot.place) (unless_empty s) s) here
     ∙ either_way (is_place_of rest spot.place) (slot_at old spot.place)
-    ∙ sym (ap (λ (b : Bool). cond b (unless_empty (slot_at old spot.place)) (slot_at old spot.place)) (ap (λ (l : List Spot). is_place_of l spot.place) is ∙ last_place rest spot))
+    ∙ sym (ap (λ (b : Bool). cond b (unless_empty (slot_at old spot.place)) (slot_at old spot.place)) (ap (λ (l : List SlotOf). is_place_of l spot.place) is ∙ last_place rest spot))
     ∙ sym (ap (tidied_at spots old) same))
     (λ other.
     ap (λ (s : Option Slot). cond (is_place_of rest p) (unless_empty s) s) (others p other)
-    ∙ sym (ap (λ (b : Bool). cond b (unless_empty (slot_at old p)) (slot_at old p)) (ap (λ (l : List Spot). is_place_of l p) is ∙ other_place rest spot p other)))
+    ∙ sym (ap (λ (b : Bool). cond b (unless_empty (slot_at old p)) (slot_at old p)) (ap (λ (l : List SlotOf). is_place_of l p) is ∙ other_place rest spot p other)))
     (cases_eq p spot.place)
 
 -- the first of some spots is tidied first
-pub tidied_first : (rest : List Spot) (spot : Spot) (old new : SlotList) → slot_at new spot.place ≡ unless_empty (slot_at old spot.place)
+pub tidied_first : (rest : List SlotOf) (spot : SlotOf) (old new : SlotList) → slot_at new spot.place ≡ unless_empty (slot_at old spot.place)
     → ((p : ℕ) → p ≢ spot.place → slot_at new p ≡ slot_at old p) → (p : ℕ) → tidied_at rest new p ≡ tidied_at (spot ∷ rest) old p
 tidied_first rest spot old new here others p = ⊎_elim
     (λ same.
@@ -200,10 +200,10 @@ tidied_first rest spot old new here others p = ⊎_elim
     (cases_eq p spot.place)
 
 -- the changes from one on, and what stood before them
-module _ (changed : List Spot) (before : List (Option OutRow)) (n : ℕ) (spot : Spot) (row : Option OutRow) (low : n < length changed) (too : n < length before) (is : (d : Spot) → spot ≡ get_or changed n d) (stood : (d : Option OutRow) → row ≡ get_or before n d) where
+module _ (changed : List SlotOf) (before : List (Option OutRow)) (n : ℕ) (spot : SlotOf) (row : Option OutRow) (low : n < length changed) (too : n < length before) (is : (d : SlotOf) → spot ≡ get_or changed n d) (stood : (d : Option OutRow) → row ≡ get_or before n d) where
   from_here : filled_before (drop n changed) (drop n before) ≡ filled_before (spot ∷ drop (suc n) changed) (row ∷ drop (suc n) before)
   from_here =
-      ap (λ (l : List Spot). filled_before l (drop n before)) (drop-cons changed n spot low ∙ ap (λ (s : Spot). s ∷ drop (suc n) changed) (sym (is spot)))
+      ap (λ (l : List SlotOf). filled_before l (drop n before)) (drop-cons changed n spot low ∙ ap (λ (s : SlotOf). s ∷ drop (suc n) changed) (sym (is spot)))
       ∙ ap (filled_before (spot ∷ drop (suc n) changed)) (drop-cons before n row too ∙ ap (λ (r : Option OutRow). r ∷ drop (suc n) before) (sym (stood row)))
 
   -- a row stood before this one
@@ -221,7 +221,7 @@ module _ (changed : List Spot) (before : List (Option OutRow)) (n : ℕ) (spot :
     by_row None none = refl
 
 -- behind the last change, or the last of what stood before, nothing is left
-pub none_left : (changed : List Spot) (before : List (Option OutRow)) → (changed ≡ []) ⊎ (before ≡ []) → filled_before changed before ≡ []
+pub none_left : (changed : List SlotOf) (before : List (Option OutRow)) → (changed ≡ []) ⊎ (before ≡ []) → filled_before changed before ≡ []
 none_left [] before none = refl
 none_left (s ∷ changed) [] none = refl
 none_left (s ∷ changed) (r ∷ before) (inl none) = absurd (cc none)

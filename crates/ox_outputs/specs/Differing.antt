@@ -5,7 +5,7 @@ use Rattle.std.specs.FinMap.{get}
 use Rattle.ox_block.specs.declared.block.OutPoint.{OutPoint}
 use Rattle.ox_rules.specs.declared.rows.OutRow.{OutRow}
 use Rattle.ox_rules.specs.Outputs.{Outputs, sats_held, times}
-use Rattle.ox_outputs.specs.declared.spot.Spot.{Spot}
+use Rattle.ox_outputs.specs.declared.slot_of.SlotOf.{SlotOf}
 
 -- whether two rows are the same
 abbrev pub is_same_row : OutRow → OutRow → Bool
@@ -20,7 +20,7 @@ row_unless (Some row) (Some other) =
     if is_same_row row other then None else Some row
 
 -- the outpoints of spots, numbered from here on
-abbrev pub numbered_from : ℕ → List Spot → List (OutPoint × ℕ)
+abbrev pub numbered_from : ℕ → List SlotOf → List (OutPoint × ℕ)
 numbered_from n [] = []
 numbered_from n (spot ∷ spots) = (spot.at, n) ∷ numbered_from (n + 1) spots
 

@@ -8,7 +8,7 @@ use Rattle.ox_block.specs.declared.block.OutPoint.{OutPoint}
 use Rattle.ox_rules.specs.declared.rows.OutRow.{OutRow}
 use Rattle.ox_rules.specs.Outputs.{Outputs}
 use Rattle.ox_outputs.specs.declared.held.Slot.{Slot}
-use Rattle.ox_outputs.specs.declared.spot.Spot.{Spot}
+use Rattle.ox_outputs.specs.declared.slot_of.SlotOf.{SlotOf}
 
 -- the slot or nothing at each place from 0 on
 abbrev pub SlotList : Type 0
@@ -52,27 +52,27 @@ KeepRows old new = (place : ℕ) (at : OutPoint) (row : OutRow) → outpoint_at 
 
 -- the rows without some changes, of which the oldest comes first: what stood at each outpoint is
 -- put back there
-abbrev pub undone : List (Option OutRow) → List Spot → Outputs → Outputs
+abbrev pub undone : List (Option OutRow) → List SlotOf → Outputs → Outputs
 undone (row ∷ before) (spot ∷ changed) outs = put_slot (undone before changed outs) spot.at row
 undone before changed outs = outs
 
 -- each of these spots is one of the slots
-abbrev pub AreSpots : List Spot → SlotList → Type 0
+abbrev pub AreSpots : List SlotOf → SlotList → Type 0
 AreSpots spots slots =
     map (λ spot. outpoint_at slots spot.place) spots ≡ map (λ spot. Some spot.at) spots
 
 -- whether a place is that of one of these spots
-abbrev pub is_place_of : List Spot → ℕ → Bool
+abbrev pub is_place_of : List SlotOf → ℕ → Bool
 is_place_of spots place = list_any (λ spot. spot.place == place) spots
 
 -- the slot at a place when these spots are tidied: there it stays unless it is empty, and anywhere
 -- else it stays
-abbrev pub tidied_at : List Spot → SlotList → ℕ → Option Slot
+abbrev pub tidied_at : List SlotOf → SlotList → ℕ → Option Slot
 tidied_at spots slots place =
     if is_place_of spots place then unless_empty (slot_at slots place) else slot_at slots place
 
 -- the spots of those changes before which a row stood
-abbrev pub filled_before : List Spot → List (Option OutRow) → List Spot
+abbrev pub filled_before : List SlotOf → List (Option OutRow) → List SlotOf
 filled_before (spot ∷ changed) (Some row ∷ before) = spot ∷ filled_before changed before
 filled_before (spot ∷ changed) (None ∷ before) = filled_before changed before
 filled_before changed before = []

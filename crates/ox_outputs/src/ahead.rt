@@ -3,8 +3,8 @@
 //! time and a little of each place: nothing there waits for what another place says, so that the
 //! processor fetches many side by side, and has them still at hand when they are asked for.
 
+use crate::slot_of::SlotOf;
 use crate::slots::Slots;
-use crate::spot::Spot;
 use ox_block::{Block, OutPoint, Tx, Txid, Txids};
 use ox_bytes::Memory;
 use ox_rules::{OutRow, TableRows};
@@ -121,7 +121,7 @@ impl Ahead {
     pub(crate) fn read_changed(
         &mut self,
         slots: &Slots,
-        changed: &[Spot],
+        changed: &[SlotOf],
         before: &[Option<OutRow>],
     ) {
         if !are_many(slots) {

@@ -14,8 +14,8 @@ ghost use Rattle.ox_outputs.specs.Slots.{outpoint_at, slot_at, put_slot, rows_of
 ghost use Rattle.ox_outputs.specs.Slots.{tidied_at, filled_before, KeepRows};
 
 use crate::locator::Locator;
+use crate::slot_of::SlotOf;
 use crate::slots::Slots;
-use crate::spot::Spot;
 use ox_block::OutPoint;
 use ox_range::Ranges;
 use ox_rules::{Memory, OutRow, Unplaced};
@@ -23,7 +23,7 @@ use std::alloc::Global;
 
 /// Takes the row out of the slot at this spot, if it holds one, and answers it. Its satoshis leave
 /// the locator. It takes no memory.
-pub(crate) fn take_from(slots: &mut Slots, locator: &mut Locator, spot: Spot) -> Option<OutRow>
+pub(crate) fn take_from(slots: &mut Slots, locator: &mut Locator, spot: SlotOf) -> Option<OutRow>
     requires spot { outpoint_at slots.old spot.place ≡ Some spot.at }
     requires runs { LeadTo (live_at locator.old) slots.old (rows_of slots.old) }
     ensures row { result ≡ map.get (rows_of slots.old) spot.at }
@@ -63,7 +63,7 @@ fn displace_copied(
 
 /// The satoshis of a row that now stands where none did come into the locator. It answers the place
 /// of the row's slot. Where there is no memory, the row is handed back, and its slot is empty.
-fn arrive_at(slots: &mut Slots, locator: &mut Locator, spot: Spot) -> Result<u32, Unplaced>
+fn arrive_at(slots: &mut Slots, locator: &mut Locator, spot: SlotOf) -> Result<u32, Unplaced>
     requires spot { outpoint_at slots.old spot.place ≡ Some spot.at }
     requires runs { LeadTo (live_at locator.old) slots.old
         (map.remove (rows_of slots.old) spot.at) }
@@ -115,7 +115,7 @@ pub(crate) fn fill_empty(
     ensures same { (q : ℕ) → kept_at locator.new q ≡ kept_at locator.old q }
 {
     let place = slots.fill(at, found, row)?;
-    arrive_at(slots, locator, Spot { at, place })
+    arrive_at(slots, locator, SlotOf { at, place })
 }
 
 /// A row that another displaced.
@@ -132,7 +132,7 @@ pub(crate) struct Displaced {
 pub(crate) fn displace_at(
     slots: &mut Slots,
     locator: &mut Locator,
-    spot: Spot,
+    spot: SlotOf,
     row: OutRow,
     alloc: Global,
 ) -> Result<Displaced, Unplaced>
@@ -167,7 +167,7 @@ pub(crate) fn displace_at(
 /// Forgets changes, and takes the slots away in which they left no row: no row is lost, and each
 /// other slot stays. Only where a row stood before is its slot looked at, since a change without
 /// one filled its slot, and a row that was taken since is another change.
-pub(crate) fn settle(slots: &mut Slots, changed: &mut Vec<Spot>, before: &mut Vec<Option<OutRow>>)
+pub(crate) fn settle(slots: &mut Slots, changed: &mut Vec<SlotOf>, before: &mut Vec<Option<OutRow>>)
     ensures rows { rows_of slots.new ≡ rows_of slots.old }
     ensures tidied { length before.old.items ≡ length changed.old.items → (p : ℕ)
         → slot_at slots.new p
@@ -182,7 +182,7 @@ pub(crate) fn settle(slots: &mut Slots, changed: &mut Vec<Spot>, before: &mut Ve
 }
 
 /// Takes the slots away in which changes left no row, of those changes before which one stood.
-fn tidy_filled(slots: &mut Slots, changed: &[Spot], before: &[Option<OutRow>])
+fn tidy_filled(slots: &mut Slots, changed: &[SlotOf], before: &[Option<OutRow>])
     ensures rows { rows_of slots.new ≡ rows_of slots.old }
     ensures tidied { (p : ℕ) → slot_at slots.new p
         ≡ tidied_at (filled_before changed.now before.now) slots.old p }
@@ -196,7 +196,7 @@ fn tidy_filled(slots: &mut Slots, changed: &[Spot], before: &[Option<OutRow>])
 }
 
 /// Takes the empty slots among these away: no row is lost, and each other slot stays.
-pub(crate) fn forget(slots: &mut Slots, changed: &mut Vec<Spot>)
+pub(crate) fn forget(slots: &mut Slots, changed: &mut Vec<SlotOf>)
     ensures rows { rows_of slots.new ≡ rows_of slots.old }
     ensures tidied { (p : ℕ) → slot_at slots.new p ≡ tidied_at changed.old.items slots.old p }
     ensures filled { KeepRows slots.old slots.new }
@@ -208,7 +208,7 @@ pub(crate) fn forget(slots: &mut Slots, changed: &mut Vec<Spot>)
 }
 
 /// Puts back what stood at the changed outpoints, the newest change first.
-pub(crate) fn go_back(slots: &mut Slots, changed: &[Spot], before: &mut Vec<Option<OutRow>>)
+pub(crate) fn go_back(slots: &mut Slots, changed: &[SlotOf], before: &mut Vec<Option<OutRow>>)
     requires paired { length before.old.items ≡ length changed.now }
     requires known { AreSpots changed.now slots.old }
     ensures rows { rows_of slots.new

@@ -14,8 +14,8 @@ ghost use Rattle.ox_rules.specs.Outputs.{Outputs, outpoint_cmp};
 ghost use Rattle.ox_outputs.specs.Differing.{numbered_from, row_at, row_unless, FitIn};
 ghost use Rattle.ox_outputs.specs.Slots.{rows_of, undone, AreSpots};
 
+use crate::slot_of::SlotOf;
 use crate::slots::Slots;
-use crate::spot::Spot;
 use ox_block::OutPoint;
 use ox_range::Ranges;
 use ox_rules::{Memory, OutRow, OutTable, TableRows};
@@ -26,7 +26,7 @@ use std::alloc::Global;
 pub(crate) fn differing(
     alloc: Global,
     slots: &Slots,
-    changed: &[Spot],
+    changed: &[SlotOf],
     before: &[Option<OutRow>],
 ) -> Result<(TableRows, TableRows), Memory>
     requires paired { length before.now ≡ length changed.now }
@@ -52,7 +52,7 @@ pub(crate) fn differing(
 /// these numbers, and the slots are read ahead.
 fn counts(
     slots: &Slots,
-    changed: &[Spot],
+    changed: &[SlotOf],
     before: &[Option<OutRow>],
     places: &[(OutPoint, usize)],
 ) -> (usize, usize) {
@@ -66,7 +66,7 @@ fn counts(
 }
 
 /// Whether a row stands where the change at this place was.
-fn stands(slots: &Slots, changed: &[Spot], place: usize) -> bool {
+fn stands(slots: &Slots, changed: &[SlotOf], place: usize) -> bool {
     match changed.get(place) {
         Some(spot) => slots.row(spot.place).is_some(),
         None => false,
@@ -84,7 +84,7 @@ fn row_before(before: &[Option<OutRow>], place: usize) -> Option<&OutRow>
 }
 
 /// The place of the oldest change at each outpoint, by rising outpoint.
-fn oldest(alloc: Global, changed: &[Spot]) -> Result<Vec<(OutPoint, usize)>, Memory>
+fn oldest(alloc: Global, changed: &[SlotOf]) -> Result<Vec<(OutPoint, usize)>, Memory>
     ensures places { IfOk result (λ places. (at : OutPoint)
         → lookup (is_at (outpoint_cmp at)) places.items
         ≡ position_from (λ spot. eq_by_cmp outpoint_cmp at spot.at) 0 changed.now) }
@@ -98,7 +98,7 @@ fn oldest(alloc: Global, changed: &[Spot]) -> Result<Vec<(OutPoint, usize)>, Mem
 }
 
 /// The outpoint of each change, with its place.
-fn numbered(alloc: Global, changed: &[Spot]) -> Result<Vec<(OutPoint, usize)>, Memory>
+fn numbered(alloc: Global, changed: &[SlotOf]) -> Result<Vec<(OutPoint, usize)>, Memory>
     ensures { IfOk result (λ places. places.items ≡ numbered_from 0 changed.now) }
 {
     let mut places = Vec::with_capacity(alloc, changed.len())?;

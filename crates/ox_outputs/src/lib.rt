@@ -13,8 +13,8 @@ mod next;
 mod outputs;
 mod places;
 mod ranked;
+mod slot_of;
 mod slots;
-mod spot;
 mod starts;
 
 pub use in_order::InOrder;

@@ -6,8 +6,8 @@ ghost use Rattle.ox_range.specs.Runs.{runs_of};
 ghost use Rattle.ox_outputs.specs.Located.{standing};
 ghost use Rattle.ox_outputs.specs.Starts.{is_among, firsts_of, slot_from, AreLogged, BeginsLast};
 
+use crate::slot_of::SlotOf;
 use crate::slots::Slots;
-use crate::spot::Spot;
 use crate::starts::{Before, Starts, drop_stale, last_slot, put_runs, restore, sweep};
 use ox_range::Ranges;
 use ox_rules::{Memory, OutRow};
@@ -92,7 +92,7 @@ impl Locator {
     /// Sets the mark at the runs as they are, for which it is told what changed since the last
     /// mark: the slots, and what stood there. It takes no memory, and costs a look-up for each run
     /// of a row that stood there, if a run went in whose place none came, and else nothing.
-    pub(crate) fn begin(&mut self, slots: &Slots, changed: &[Spot], before: &[Option<OutRow>])
+    pub(crate) fn begin(&mut self, slots: &Slots, changed: &[SlotOf], before: &[Option<OutRow>])
         ensures live { (q : ℕ) → standing slots.now (live_at self.new) q
             ≡ standing slots.now (live_at self.old) q }
         ensures kept { (q : ℕ) → kept_at self.new q ≡ live_at self.new q }
@@ -118,7 +118,7 @@ impl Locator {
 
 /// Takes the entries away that count for nothing, of the runs of the rows that stood in changed
 /// slots before.
-fn tidy_starts(starts: &mut Starts, slots: &Slots, changed: &[Spot], before: &[Option<OutRow>])
+fn tidy_starts(starts: &mut Starts, slots: &Slots, changed: &[SlotOf], before: &[Option<OutRow>])
     ensures { (q : ℕ) → standing slots.now (slot_from starts.new.entries) q
         ≡ standing slots.now (slot_from starts.old.entries) q }
 {

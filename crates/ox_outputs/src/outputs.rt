@@ -14,8 +14,8 @@ use crate::changes::{Displaced, displace_at, fill_empty, forget, go_back, settle
 use crate::differing::{differing, place_all};
 use crate::in_order::InOrder;
 use crate::locator::Locator;
+use crate::slot_of::SlotOf;
 use crate::slots::Slots;
-use crate::spot::Spot;
 use ox_block::{Block, OutPoint, Txids};
 use ox_rules::{Memory, OutRow, OutTable, Place, TableRows, Unplaced};
 use std::alloc::Global;
@@ -28,7 +28,7 @@ pub struct Outputs {
     alloc: Global,
     slots: Slots,
     /// The slots in which rows changed, the oldest change first, and what stood there.
-    changed: Vec<Spot>,
+    changed: Vec<SlotOf>,
     before: Vec<Option<OutRow>>,
     /// Whether a mark is set, from which on these are the changes.
     marked: bool,
@@ -123,7 +123,7 @@ impl Outputs {
 
     /// Takes the row out of a slot, and keeps it for the way back to the mark. `Memory` where there
     /// is none: all is as before.
-    fn set_aside(&mut self, spot: Spot) -> Result<(), Memory>
+    fn set_aside(&mut self, spot: SlotOf) -> Result<(), Memory>
         requires { outpoint_at self.old.slots spot.place ≡ Some spot.at }
         ensures ok { OnOk result (rows_in self.new ≡ map.remove (rows_in self.old) spot.at) }
         ensures err { OnErr result (rows_in self.new ≡ rows_in self.old) }
@@ -160,7 +160,7 @@ impl Outputs {
     {
         self.ahead.step(&self.slots);
         match self.slots.find(at) {
-            Some(place) => self.set_aside(Spot { at: *at, place }),
+            Some(place) => self.set_aside(SlotOf { at: *at, place }),
             None => Ok(()),
         }
     }
@@ -182,14 +182,14 @@ impl Outputs {
             return Err(Unplaced { row });
         }
         let place = fill_empty(&mut self.slots, &mut self.locator, at, found, row)?;
-        self.changed.push_reserved(Spot { at, place });
+        self.changed.push_reserved(SlotOf { at, place });
         self.before.push_reserved(None);
         Ok(())
     }
 
     /// Places a row where another stands, and answers the other, which is also kept for the way
     /// back. Where there is no memory, the row is handed back and all is as before.
-    fn displace(&mut self, spot: Spot, row: OutRow) -> Result<OutRow, Unplaced>
+    fn displace(&mut self, spot: SlotOf, row: OutRow) -> Result<OutRow, Unplaced>
         requires spot { outpoint_at self.old.slots spot.place ≡ Some spot.at }
         requires stands { IsSome (map.get (rows_in self.old) spot.at) }
         requires may { MayStand spot.at row.sats (rows_in self.old) }
@@ -255,7 +255,7 @@ impl OutTable for Outputs {
         let Some(place) = self.slots.find(at) else {
             return Ok(None);
         };
-        let spot = Spot { at: *at, place };
+        let spot = SlotOf { at: *at, place };
         let Some(row) = self.slots.row(place) else {
             return Ok(None);
         };
@@ -269,7 +269,7 @@ impl OutTable for Outputs {
         let found = self.slots.find(at);
         if let Some(place) = found {
             if self.slots.row(place).is_some() {
-                let displaced = self.displace(Spot { at: *at, place }, row)?;
+                let displaced = self.displace(SlotOf { at: *at, place }, row)?;
                 return Ok(Some(displaced));
             }
         }

@@ -10,7 +10,7 @@ use Rattle.ox_rules.specs.Differences.{AreGone}
 use Rattle.ox_rules.specs.Outputs.{Outputs, outpoint_cmp}
 use Rattle.ox_outputs.specs.Differing.{gone_at, row_unless}
 use Rattle.ox_outputs.specs.Slots.{rows_of, undone}
-use Rattle.ox_outputs.specs.declared.spot.Spot.{Spot}
+use Rattle.ox_outputs.specs.declared.slot_of.SlotOf.{SlotOf}
 use Rattle.ox_outputs.proofs.DifferingRows.{all_rows, are_gone, is_of, one_more, stays_at, stays_spot, stays_stood}
 use Rattle.ox_outputs.proofs.differing.differing.Goals as goal
 
@@ -18,7 +18,7 @@ use Rattle.ox_outputs.proofs.differing.differing.Goals as goal
 ordered_too : (places items : List (OutPoint × ℕ)) → items ≡ places → IsStrictlySortedBy outpoint_cmp (keys_of places) → IsStrictlySortedBy outpoint_cmp (keys_of items)
 ordered_too places items is ordered = subst (λ (l : List (OutPoint × ℕ)). IsStrictlySortedBy outpoint_cmp (keys_of l)) (sym is) ordered
 
-found_too : (changed : List Spot) (places items : List (OutPoint × ℕ)) → items ≡ places → ((at : OutPoint) → lookup (is_at (outpoint_cmp at)) places ≡ position_from (is_of at) 0 changed)
+found_too : (changed : List SlotOf) (places items : List (OutPoint × ℕ)) → items ≡ places → ((at : OutPoint) → lookup (is_at (outpoint_cmp at)) places ≡ position_from (is_of at) 0 changed)
     → (at : OutPoint) → lookup (is_at (outpoint_cmp at)) items ≡ position_from (is_of at) 0 changed
 found_too changed places items is found at = ap (lookup (is_at (outpoint_cmp at))) is ∙ found at
 
@@ -30,7 +30,7 @@ bounds-changed-place c =
     let places = c.in_ok-places.places.items in
     let items = c.deref-at-items.result.now in
     let is = c.deref-at-items.ensures.value in
-    let s : Spot = record { at = nothing.0; place = 0 } in
+    let s : SlotOf = record { at = nothing.0; place = 0 } in
     (stays_spot s c.args.changed.now c.args.slots.now items c.loop-at.at-index nothing c.requires.known (ordered_too places items is c.in_ok-places.ensures.ordered)
     (found_too c.args.changed.now places items is c.in_ok-places.ensures.places) c.loop-at-test.true).0
 
@@ -39,7 +39,7 @@ offset_bounds-changed-place c =
     let places = c.in_ok-places.places.items in
     let items = c.deref-at-items.result.now in
     let is = c.deref-at-items.ensures.value in
-    let s : Spot = record { at = nothing.0; place = 0 } in
+    let s : SlotOf = record { at = nothing.0; place = 0 } in
     let within : (get_or items c.loop-at.at-index nothing).1 < length c.args.changed.now =
     (stays_spot s c.args.changed.now c.args.slots.now items c.loop-at.at-index nothing c.requires.known (ordered_too places items is c.in_ok-places.ensures.ordered)
     (found_too c.args.changed.now places items is c.in_ok-places.ensures.places) c.loop-at-test.true).0 in

@@ -1,6 +1,6 @@
 use Rattle.std.proofs.Common.{◌≡◌, ◌∙◌, ap, List, Option, Some, [], ◌∷◌, ◌++◌}
 use Rattle.ox_rules.specs.declared.rows.OutRow.{OutRow}
-use Rattle.ox_outputs.specs.declared.spot.Spot.{Spot}
+use Rattle.ox_outputs.specs.declared.slot_of.SlotOf.{SlotOf}
 use Rattle.ox_outputs.specs.Locator.{kept_at}
 use Rattle.ox_outputs.specs.Slots.{rows_of, undone}
 use Rattle.ox_outputs.proofs.SlotLemmas.{keep_same, known_more, known_still, both_grown, both_still, mark_kept, mark_still, same_mark}
@@ -27,7 +27,7 @@ invariant_of-self-2 c =
     let self = c.args.self.now in
     let rows = rows_of c.displace_at.new.slots in
     let spot = c.args.spot in
-    let changed : c.push_reserved.new.self.items ≡ self.changed.items ++ spot ∷ [] = c.push_reserved.ensures.items ∙ ap (λ (l : List Spot). l ++ spot ∷ []) c.reserve.ensures.items in
+    let changed : c.push_reserved.new.self.items ≡ self.changed.items ++ spot ∷ [] = c.push_reserved.ensures.items ∙ ap (λ (l : List SlotOf). l ++ spot ∷ []) c.reserve.ensures.items in
     let before : c.push_reserved-2.new.self.items ≡ self.before.items ++ Some c.in_ok-displaced.field-0.kept ∷ [] = c.push_reserved-2.ensures.items ∙ ap (λ (l : List (Option OutRow)). l ++ Some c.in_ok-displaced.field-0.kept ∷ []) c.reserve-else-is_err.ensures.items in
     let mark = mark_kept self.before.items c.push_reserved-2.new.self.items self.changed.items c.push_reserved.new.self.items (rows_of self.slots) rows (Some c.in_ok-displaced.field-0.kept) (Some c.args.row) spot before changed c.in_ok-displaced.ensures.rows c.in_ok-displaced.ensures.kept self.paired in record {
       known = known_more self.changed.items c.push_reserved.new.self.items spot self.slots c.displace_at.new.slots changed self.known (c.displace_at.ensures.places spot.place ∙ c.requires.spot) (keep_same self.slots c.displace_at.new.slots c.displace_at.ensures.places);
@@ -43,6 +43,6 @@ returns-clause-mark c =
     let self = c.args.self.now in
     let rows = rows_of c.displace_at.new.slots in
     let spot = c.args.spot in
-    let changed : c.push_reserved.new.self.items ≡ self.changed.items ++ spot ∷ [] = c.push_reserved.ensures.items ∙ ap (λ (l : List Spot). l ++ spot ∷ []) c.reserve.ensures.items in
+    let changed : c.push_reserved.new.self.items ≡ self.changed.items ++ spot ∷ [] = c.push_reserved.ensures.items ∙ ap (λ (l : List SlotOf). l ++ spot ∷ []) c.reserve.ensures.items in
     let before : c.push_reserved-2.new.self.items ≡ self.before.items ++ Some c.in_ok-displaced.field-0.kept ∷ [] = c.push_reserved-2.ensures.items ∙ ap (λ (l : List (Option OutRow)). l ++ Some c.in_ok-displaced.field-0.kept ∷ []) c.reserve-else-is_err.ensures.items in
     same_mark self.marked _ _ (mark_kept self.before.items c.push_reserved-2.new.self.items self.changed.items c.push_reserved.new.self.items (rows_of self.slots) rows (Some c.in_ok-displaced.field-0.kept) (Some c.args.row) spot before changed c.in_ok-displaced.ensures.rows c.in_ok-displaced.ensures.kept self.paired)

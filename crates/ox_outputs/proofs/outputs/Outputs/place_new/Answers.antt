@@ -1,6 +1,6 @@
 use Rattle.std.proofs.Common.{◌≡◌, ◌∙◌, ap, sym, List, Option, Some, None, [], ◌∷◌, ◌++◌}
 use Rattle.ox_rules.specs.declared.rows.OutRow.{OutRow}
-use Rattle.ox_outputs.specs.declared.spot.Spot.{Spot}
+use Rattle.ox_outputs.specs.declared.slot_of.SlotOf.{SlotOf}
 use Rattle.ox_outputs.specs.Locator.{kept_at}
 use Rattle.ox_outputs.specs.Slots.{rows_of, undone}
 use Rattle.ox_outputs.proofs.SlotLemmas.{known_more, known_still, both_grown, both_still, mark_kept, mark_still, same_mark}
@@ -26,8 +26,8 @@ pub invariant_of-self-2 : goal.invariant_of-self-2
 invariant_of-self-2 c =
     let self = c.args.self.now in
     let rows = rows_of c.fill_empty.new.slots in
-    let spot : Spot = record { at = c.args.at; place = c.in_ok-place.place } in
-    let changed : c.push_reserved.new.self.items ≡ self.changed.items ++ spot ∷ [] = c.push_reserved.ensures.items ∙ ap (λ (l : List Spot). l ++ spot ∷ []) c.reserve.ensures.items in
+    let spot : SlotOf = record { at = c.args.at; place = c.in_ok-place.place } in
+    let changed : c.push_reserved.new.self.items ≡ self.changed.items ++ spot ∷ [] = c.push_reserved.ensures.items ∙ ap (λ (l : List SlotOf). l ++ spot ∷ []) c.reserve.ensures.items in
     let before : c.push_reserved-2.new.self.items ≡ self.before.items ++ None ∷ [] = c.push_reserved-2.ensures.items ∙ ap (λ (l : List (Option OutRow)). l ++ None ∷ []) c.reserve-else-is_err.ensures.items in
     let mark = mark_kept self.before.items c.push_reserved-2.new.self.items self.changed.items c.push_reserved.new.self.items (rows_of self.slots) rows None (Some c.args.row) spot before changed c.in_ok-place.ensures.rows (sym c.requires.none) self.paired in record {
       known = known_more self.changed.items c.push_reserved.new.self.items spot self.slots c.fill_empty.new.slots changed self.known c.in_ok-place.ensures.place c.fill_empty.ensures.places;
@@ -42,7 +42,7 @@ pub returns-clause-mark : goal.returns-clause-mark
 returns-clause-mark c =
     let self = c.args.self.now in
     let rows = rows_of c.fill_empty.new.slots in
-    let spot : Spot = record { at = c.args.at; place = c.in_ok-place.place } in
-    let changed : c.push_reserved.new.self.items ≡ self.changed.items ++ spot ∷ [] = c.push_reserved.ensures.items ∙ ap (λ (l : List Spot). l ++ spot ∷ []) c.reserve.ensures.items in
+    let spot : SlotOf = record { at = c.args.at; place = c.in_ok-place.place } in
+    let changed : c.push_reserved.new.self.items ≡ self.changed.items ++ spot ∷ [] = c.push_reserved.ensures.items ∙ ap (λ (l : List SlotOf). l ++ spot ∷ []) c.reserve.ensures.items in
     let before : c.push_reserved-2.new.self.items ≡ self.before.items ++ None ∷ [] = c.push_reserved-2.ensures.items ∙ ap (λ (l : List (Option OutRow)). l ++ None ∷ []) c.reserve-else-is_err.ensures.items in
     same_mark self.marked _ _ (mark_kept self.before.items c.push_reserved-2.new.self.items self.changed.items c.push_reserved.new.self.items (rows_of self.slots) rows None (Some c.args.row) spot before changed c.in_ok-place.ensures.rows (sym c.requires.none) self.paired)

@@ -1,6 +1,6 @@
 use Rattle.std.proofs.Common.{◌≡◌, ◌∙◌, ap, List, Option, None, [], ◌∷◌, ◌++◌}
 use Rattle.ox_rules.specs.declared.rows.OutRow.{OutRow}
-use Rattle.ox_outputs.specs.declared.spot.Spot.{Spot}
+use Rattle.ox_outputs.specs.declared.slot_of.SlotOf.{SlotOf}
 use Rattle.ox_outputs.specs.Locator.{kept_at}
 use Rattle.ox_outputs.specs.Slots.{rows_of, undone}
 use Rattle.ox_outputs.proofs.SlotLemmas.{keep_same, known_more, both_grown, mark_kept, same_mark}
@@ -14,7 +14,7 @@ invariant_of-self-2 c =
     let rows = rows_of c.take_from-taken.new.slots in
     let taken = c.take_from-taken.result in
     let spot = c.args.spot in
-    let changed : c.push_reserved.new.self.items ≡ self.changed.items ++ spot ∷ [] = c.push_reserved.ensures.items ∙ ap (λ (l : List Spot). l ++ spot ∷ []) c.reserve.ensures.items in
+    let changed : c.push_reserved.new.self.items ≡ self.changed.items ++ spot ∷ [] = c.push_reserved.ensures.items ∙ ap (λ (l : List SlotOf). l ++ spot ∷ []) c.reserve.ensures.items in
     let before : c.push_reserved-2.new.self.items ≡ self.before.items ++ taken ∷ [] = c.push_reserved-2.ensures.items ∙ ap (λ (l : List (Option OutRow)). l ++ taken ∷ []) c.reserve-2.ensures.items in
     let mark = mark_kept self.before.items c.push_reserved-2.new.self.items self.changed.items c.push_reserved.new.self.items (rows_of self.slots) rows taken None spot before changed c.take_from-taken.ensures.rows c.take_from-taken.ensures.row self.paired in record {
       known = known_more self.changed.items c.push_reserved.new.self.items spot self.slots c.take_from-taken.new.slots changed self.known (c.take_from-taken.ensures.places spot.place ∙ c.requires) (keep_same self.slots c.take_from-taken.new.slots c.take_from-taken.ensures.places);
@@ -30,6 +30,6 @@ returns-clause-mark c =
     let self = c.args.self.now in
     let taken = c.take_from-taken.result in
     let spot = c.args.spot in
-    let changed : c.push_reserved.new.self.items ≡ self.changed.items ++ spot ∷ [] = c.push_reserved.ensures.items ∙ ap (λ (l : List Spot). l ++ spot ∷ []) c.reserve.ensures.items in
+    let changed : c.push_reserved.new.self.items ≡ self.changed.items ++ spot ∷ [] = c.push_reserved.ensures.items ∙ ap (λ (l : List SlotOf). l ++ spot ∷ []) c.reserve.ensures.items in
     let before : c.push_reserved-2.new.self.items ≡ self.before.items ++ taken ∷ [] = c.push_reserved-2.ensures.items ∙ ap (λ (l : List (Option OutRow)). l ++ taken ∷ []) c.reserve-2.ensures.items in
     same_mark self.marked _ _ (mark_kept self.before.items _ self.changed.items _ (rows_of self.slots) _ taken None spot before changed c.take_from-taken.ensures.rows c.take_from-taken.ensures.row self.paired)

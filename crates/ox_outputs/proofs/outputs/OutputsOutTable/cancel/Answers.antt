@@ -1,7 +1,7 @@
 use Rattle.std.proofs.Common.{◌≡◌, ◌∙◌, ap, arith, length, List}
 use Rattle.std.specs.FinMap as map
 use Rattle.ox_rules.specs.Outputs.{Outputs as Rows}
-use Rattle.ox_outputs.specs.declared.spot.Spot.{Spot}
+use Rattle.ox_outputs.specs.declared.slot_of.SlotOf.{SlotOf}
 use Rattle.ox_outputs.specs.Locator.{live_at, kept_at}
 use Rattle.ox_outputs.specs.Slots.{rows_of, undone}
 use Rattle.ox_outputs.proofs.RowLemmas.{Stay, runs_alike, once_alike}
@@ -16,7 +16,7 @@ invariant_of-self c =
     let rows = rows_of slots in
     let changed = c.forget.new.changed.items in
     let before = c.go_back.new.before.items in
-    let back : rows_of c.go_back.new.slots ≡ was = c.go_back.ensures.rows ∙ ap (λ (l : List Spot). undone self.before.items l (rows_of self.slots)) c.deref.ensures.value in
+    let back : rows_of c.go_back.new.slots ≡ was = c.go_back.ensures.rows ∙ ap (λ (l : List SlotOf). undone self.before.items l (rows_of self.slots)) c.deref.ensures.value in
     let same = c.forget.ensures.rows ∙ back in
     let none = c.forget.ensures.none in
     let stay : Stay was self.slots slots = λ p at row is there. c.forget.ensures.filled p at row (c.go_back.ensures.places p ∙ is) (ap (λ (o : Rows). map.get o at) back ∙ there) in record {
