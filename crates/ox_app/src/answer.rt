@@ -11,7 +11,7 @@ use ox_index::Chain;
 use ox_rules::Why;
 use std::alloc::Global;
 
-// Carries out a command.
+/// Carries out a command.
 fn obey(chain: &mut Chain, command: &Command) -> Result<(), Why>
     ensures { Obeys (stack_in chain.old) command.now result (stack_in chain.new) }
 {
@@ -24,7 +24,7 @@ fn obey(chain: &mut Chain, command: &Command) -> Result<(), Why>
     }
 }
 
-// The line that says how a command went.
+/// The line that says how a command went.
 fn answer_to(alloc: Global, outcome: Result<(), Why>, chain: &Chain) -> Result<Bytes, Memory>
     ensures { IfOk result (λ line. IsAnswer outcome (stack_in chain.now) line) }
 {

@@ -27,7 +27,7 @@ use ox_outside::Site;
 use ox_store::Store;
 use std::alloc::Global;
 
-// Hears the next line and carries it out; `None` at the end of the feed.
+/// Hears the next line and carries it out; `None` at the end of the feed.
 fn next_carried<S: Site>(
     alloc: Global,
     lines: &mut Lines,
@@ -66,7 +66,7 @@ fn next_carried<S: Site>(
     carry_out(alloc, store, line, site)
 }
 
-// Reads the feed of channel 0 to its end; each line is carried out, and its answer shown.
+/// Reads the feed of channel 0 to its end; each line is carried out, and its answer shown.
 fn follow<S: Site>(alloc: Global, store: Store, site: &mut S) -> Result<(), Stop>
     requires holds { IsTrue (S.told site.old) → Holds S.Site store.tail site.old }
     requires fresh { store.commands ≡ 0 }

@@ -35,7 +35,7 @@ pub struct CarriedLine {
     pub answer: Bytes,
 }
 
-// The store as it is, and the line of a refusal.
+/// The store as it is, and the line of a refusal.
 fn refuse(alloc: Global, store: Store, refusal: Refusal) -> Result<CarriedLine, Memory>
     ensures store { IfOk result (λ carried. carried.store ≡ store) }
     ensures answer { IfOk result (λ carried. carried.answer ≡ refusal_line refusal) }
@@ -44,7 +44,7 @@ fn refuse(alloc: Global, store: Store, refusal: Refusal) -> Result<CarriedLine, 
     Ok(CarriedLine { store, answer })
 }
 
-// Commits a command that is prepared, and answers it in memory that was taken before.
+/// Commits a command that is prepared, and answers it in memory that was taken before.
 fn commit<S: Site>(ready: Ready, room: Room, site: &mut S) -> Result<CarriedLine, Stop>
     requires empty { room.filled ≡ [] }
     requires spare { 79 ≤ room.spare }
@@ -73,7 +73,7 @@ fn commit<S: Site>(ready: Ready, room: Room, site: &mut S) -> Result<CarriedLine
     }
 }
 
-// Carries out a command. The memory of its answer is taken first.
+/// Carries out a command. The memory of its answer is taken first.
 fn carry_command<S: Site>(
     alloc: Global,
     store: Store,

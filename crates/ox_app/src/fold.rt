@@ -27,7 +27,7 @@ use std::mem;
 /// How many of its blocks a chain without files keeps.
 const DEPTH: u16 = 1000;
 
-// Hears the next line and answers it; `None` at the end of the feed.
+/// Hears the next line and answers it; `None` at the end of the feed.
 fn next_answer<S: Site>(
     alloc: Global,
     lines: &mut Lines,

@@ -33,7 +33,7 @@ const LONGEST_MIGRATED: usize = 24;
 /// digits.
 const LONGEST_OLD: usize = 25;
 
-// The line that tells how many commands were carried out, in memory that was taken before.
+/// The line that tells how many commands were carried out, in memory that was taken before.
 #[tactic(auto, unfolding(crate::specs::Migrate::migrated_line))]
 fn migrated_line(room: Room, commands: u64) -> Bytes
     requires empty { room.filled ≡ [] }
@@ -47,7 +47,7 @@ fn migrated_line(room: Room, commands: u64) -> Bytes
     room.into_bytes()
 }
 
-// The line of a command that the present rules refuse.
+/// The line of a command that the present rules refuse.
 #[tactic(auto, unfolding(crate::specs::Migrate::old_line))]
 fn old_line(alloc: Global, command: u64, refusal: Refusal) -> Result<Bytes, Memory>
     ensures { IfOk result (λ line. line ≡ old_line command refusal) }
@@ -61,8 +61,8 @@ fn old_line(alloc: Global, command: u64, refusal: Refusal) -> Result<Bytes, Memo
     Ok(room.into_bytes())
 }
 
-// Shows which command the present rules refuse, and why: `OldCommand` then, and `Memory` where
-// there is none for the line.
+/// Shows which command the present rules refuse, and why: `OldCommand` then, and `Memory` where
+/// there is none for the line.
 fn explain_old<S: Site>(alloc: Global, command: u64, refusal: Refusal, site: &mut S) -> Status
     ensures says { AnswersOld S.Site command refusal result site.old site.new }
     ensures counted { StopsAtFault ⊥ ⊥ (result ≡ ends.OldCommand)

@@ -21,7 +21,7 @@ use ox_query::answer;
 use ox_store::Store;
 use std::alloc::Global;
 
-// A GET of a path.
+/// A GET of a path.
 fn get_of(alloc: Global, path: &[u8]) -> Result<Request, Memory>
     ensures { IfOk result (λ request. request ≡ get_of path.now) }
 {
@@ -33,7 +33,7 @@ fn get_of(alloc: Global, path: &[u8]) -> Result<Request, Memory>
     })
 }
 
-// The body of the reply to a query of a path.
+/// The body of the reply to a query of a path.
 #[tactic(auto, unfolding(crate::specs::Query::query_body))]
 fn body_of(alloc: Global, path: &[u8], store: &Store) -> Result<Bytes, Memory>
     ensures { IfOk result (λ body. body ≡ query_body path.now store.now.stack) }

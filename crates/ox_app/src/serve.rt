@@ -31,7 +31,7 @@ use std::alloc::Global;
 /// most 20 digits each.
 const LONGEST_TOTALS: usize = 56;
 
-// The line that tells what was counted, in memory that was taken before.
+/// The line that tells what was counted, in memory that was taken before.
 #[tactic(auto, unfolding(crate::specs::Serve::totals_line))]
 fn totals_line(room: Room, totals: Totals) -> Bytes
     requires empty { room.filled ≡ [] }
@@ -47,7 +47,7 @@ fn totals_line(room: Room, totals: Totals) -> Bytes
     room.into_bytes()
 }
 
-// How a run ends whose turns a fault ended.
+/// How a run ends whose turns a fault ended.
 fn fault_of(fault: ServeFault) -> Status
     ensures { result ≡ fault_status fault }
 {
@@ -58,7 +58,7 @@ fn fault_of(fault: ServeFault) -> Status
     }
 }
 
-// Serves by a store that was opened, and tells what was counted.
+/// Serves by a store that was opened, and tells what was counted.
 fn serve_by<S: Site>(alloc: Global, room: Room, store: Store, turns: u64, site: &mut S) -> Status
     requires empty { room.filled ≡ [] }
     requires spare { 56 ≤ room.spare }

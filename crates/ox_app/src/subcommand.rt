@@ -27,7 +27,7 @@ pub enum Subcommand<'a> {
     Unknown,
 }
 
-// The depth that a text writes.
+/// The depth that a text writes.
 fn read_depth(text: &str) -> Option<u16>
     ensures found { IfSome result (λ depth. IsDepth depth × (text.now ≡ decimal depth)) }
     ensures only { IfNone result ((depth : ℕ) → IsDepth depth → text.now ≢ decimal depth) }
@@ -38,7 +38,7 @@ fn read_depth(text: &str) -> Option<u16>
     }
 }
 
-// The depth that a word writes: decimal digits with no sign and no leading zero, from 1 to 1,000.
+/// The depth that a word writes: decimal digits with no sign and no leading zero, from 1 to 1,000.
 fn depth_in(word: &[u8]) -> Option<u16>
     ensures found { IfSome result (λ depth. IsDepth depth × (word.now ≡ decimal depth)) }
     ensures only { IfNone result ((depth : ℕ) → IsDepth depth → word.now ≢ decimal depth) }
@@ -49,7 +49,7 @@ fn depth_in(word: &[u8]) -> Option<u16>
     }
 }
 
-// The number of turns that a text writes.
+/// The number of turns that a text writes.
 fn read_turns(text: &str) -> Option<u64>
     ensures found { IfSome result (λ turns. IsTurns turns × (text.now ≡ decimal turns)) }
     ensures only { IfNone result ((turns : ℕ) → IsTurns turns → text.now ≢ decimal turns) }
@@ -60,8 +60,8 @@ fn read_turns(text: &str) -> Option<u64>
     }
 }
 
-// The number of turns that a word writes: decimal digits with no sign and no leading zero, from 1
-// to 18,446,744,073,709,551,615.
+/// The number of turns that a word writes: decimal digits with no sign and no leading zero, from 1
+/// to 18,446,744,073,709,551,615.
 fn turns_in(word: &[u8]) -> Option<u64>
     ensures found { IfSome result (λ turns. IsTurns turns × (word.now ≡ decimal turns)) }
     ensures only { IfNone result ((turns : ℕ) → IsTurns turns → word.now ≢ decimal turns) }
@@ -72,7 +72,7 @@ fn turns_in(word: &[u8]) -> Option<u64>
     }
 }
 
-// The length of a drill that a text writes.
+/// The length of a drill that a text writes.
 fn read_length(text: &str) -> Option<u32>
     ensures found { IfSome result (λ n. IsDrillLength n × (text.now ≡ decimal n)) }
     ensures only { IfNone result ((n : ℕ) → IsDrillLength n → text.now ≢ decimal n) }
@@ -83,8 +83,8 @@ fn read_length(text: &str) -> Option<u32>
     }
 }
 
-// The length of a drill that a word writes: decimal digits with no sign and no leading zero, from 1
-// to 100,000.
+/// The length of a drill that a word writes: decimal digits with no sign and no leading zero, from
+/// 1 to 100,000.
 fn length_in(word: &[u8]) -> Option<u32>
     ensures found { IfSome result (λ n. IsDrillLength n × (word.now ≡ decimal n)) }
     ensures only { IfNone result ((n : ℕ) → IsDrillLength n → word.now ≢ decimal n) }

@@ -14,7 +14,7 @@ use ox_outside::{Site, Which};
 use ox_store::OpenFault;
 use std::alloc::Global;
 
-// The letter of a file.
+/// The letter of a file.
 fn letter(file: Which) -> &'static str
     ensures { result.now ≡ letter_of file }
 {
@@ -24,7 +24,7 @@ fn letter(file: Which) -> &'static str
     }
 }
 
-// The line of files that are no store.
+/// The line of files that are no store.
 #[tactic(auto, unfolding(crate::specs::Unopened::not_store_line))]
 fn not_store_text(alloc: Global, file: Which, at: u64) -> Result<Bytes, Memory>
     ensures { IfOk result (λ line. line ≡ not_store_line (record { file = file; at = at })) }
