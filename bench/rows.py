@@ -106,7 +106,7 @@ def seconds(folder):
     """The least seconds that each program took for each work."""
 
     def taken(row, times):
-        words = map(str, times)
+        words = [str(number) for number in times]
         commands = {name: [*program, *words] for name, program in PROGRAMS.items()}
         return least(commands, folder / row)
 
