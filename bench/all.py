@@ -44,7 +44,7 @@ DEBIAN = [
 NEEDS = {
     "address": (["ox_address_rows"], ["address"]),
     "allocation": (["ox_speed"], ["allocation"]),
-    "apply_and_open": (["ox_main"], []),
+    "apply_and_open": (["ox_main"], ["opening"]),
     "checkpoint": (["ox_main"], ["checkpoint"]),
     "decipher_runestones": (["ox_speed"], []),
     "desk": (["ox_desk_rows", "ox_main"], ["desk"]),

@@ -9,9 +9,17 @@ beside it, does what no store of this design can do without: the same writes and
 which are two of each for a block, and for each 65th those of a whole file. The two take turns, five
 times each, so that others who use the disk slow both; printed are all times, the least and the
 middle ones as commands a second, and the ratio. The files that were applied have to have the bytes
-that docs/FORMATS.md says. Then it times `query /status` five times over a store of OPENED blocks
-(10,000 without a word), over one of a tenth of them, and over an empty one. PROGRAM is
-crates/ox_main/out/ox_main without a word. Nothing here is proved.
+that docs/FORMATS.md says. In the same way it times 64 blocks, by which no whole file is written,
+each forty times, less what `apply` of none takes. Then it times `query /status` five times over a
+store of OPENED blocks (10,000 without a word), over one of a tenth of them, and over an empty one.
+
+Last it opens stores of 100,000 and of 1,000,000 outputs, each with 10, 100 and 1,000 kept blocks
+that spend an output and make two, and with no and with 64 records of such. `query /status` and a
+plain Rust program that reads, tests by what each change touches and builds the same tables take
+turns, three times each. Printed are the processor time and the memory of the runs that took least,
+the ratios, and how much longer a start with more kept blocks takes. PROGRAM is
+crates/ox_main/out/ox_main without a word. Nothing here is proved. bench/all.py builds both
+programs.
 """
 
 import json
@@ -23,8 +31,9 @@ import sys
 import tempfile
 import time
 
-from runs import report
-from tools.programs import TOP, proved_program
+import large_stores
+from runs import in_another_process, report, run
+from tools.programs import TOP, plain_program, proved_program
 
 sys.path.append(str(TOP / "checks"))
 
@@ -38,6 +47,14 @@ RUNS = 5
 DEPTH = 100
 # how many commands there are from one whole file to the next
 TURN = 65
+# the large stores: their outputs, their kept blocks, and their records; how often each is opened,
+# by both programs in turn; how fast that should be by the plain program, and how much memory and
+# how much more time for the most kept blocks it may take at the most
+OUTPUTS, KEPT, RECORDS = (100_000, 1_000_000), (10, 100, 1_000), (0, 64)
+OPENINGS = 3
+# how often blocks that write no whole file are applied, and how fast that should be by bare writes
+SMALL_RUNS, SMALL_GOAL = 40, 0.9
+GOAL, MOST_MEMORY, MOST_GROWTH = 0.5, 1.5, 1.3
 
 
 class Calls(Disk):
@@ -120,16 +137,53 @@ def seconds_of_floor(folder, made, calls):
     return seconds
 
 
-def compare(program, top, count):
-    """Applies a feed and does the bare writes, in turns."""
-    blocks, _ = chain(count)
-    feed = top / "feed"
-    feed.write_bytes(b"".join(map(line, blocks)))
+def calls_of(blocks):
+    """The files of a new store, those that these blocks leave, and the calls on them."""
     store = make(Calls(), depth=DEPTH)
     made, begun = bytes_in(store), len(store.disk.calls)
     for block in blocks:
         store.carry_out(payload_of(block))
-    files, calls = bytes_in(store), store.disk.calls[begun:]
+    return made, bytes_in(store), store.disk.calls[begun:]
+
+
+def feed_of(top, blocks):
+    """A file with the lines that connect some blocks."""
+    feed = top / f"feed of {len(blocks)}"
+    feed.write_bytes(b"".join(map(line, blocks)))
+    return feed
+
+
+def compare_small(program, top):
+    """Applies as many blocks as write no whole file, and does the bare writes, in turns."""
+    count = TURN - 1
+    blocks, _ = chain(count)
+    made, files, calls = calls_of(blocks)
+    feed, none = feed_of(top, blocks), feed_of(top, [])
+    times = {"apply": [], "start": [], "bare": []}
+    for turn in range(SMALL_RUNS):
+        folder = top / f"small{turn}"
+        seconds = {
+            "apply": time_apply(program, folder, feed, count, files)[0],
+            "start": time_apply(program, top / f"none{turn}", none, 0, made)[0],
+            "bare": seconds_of_floor(top / f"bare{turn}", made, calls),
+        }
+        for name, taken in seconds.items():
+            times[name].append(taken)
+    for which, of in ("middle", statistics.median), ("least", min):
+        applied = 1000 * (of(times["apply"]) - of(times["start"])) / count
+        bare = 1000 * of(times["bare"]) / count
+        print(
+            f"outside the turns, {which}: apply {applied:.3f} ms a command, bare writes {bare:.3f}:"
+            f" {bare / applied:.2f}"
+        )
+    report("a small block applied", f"{count} commands", "ms", applied, bare, SMALL_GOAL)
+
+
+def compare(program, top, count):
+    """Applies a feed and does the bare writes, in turns."""
+    blocks, _ = chain(count)
+    feed = feed_of(top, blocks)
+    made, files, calls = calls_of(blocks)
     applied, works, floor = [], [], []
     for turn in range(RUNS):
         seconds, work = time_apply(program, top / f"applied{turn}", feed, count, files)
@@ -198,6 +252,59 @@ def open_stores(program, top, count):
         time_query(program, folder, part, tips[part - 1] if part else None)
 
 
+def told_by(name, shown):
+    """How many blocks a program told, and the newest."""
+    if name == "plain":
+        blocks, tip = shown.split()[:2]
+        return int(blocks), tip.decode()
+    body = json.loads(shown)
+    return body["blocks"], body["tip"]
+
+
+def open_large(program, folder, outputs, kept, records):
+    """The processor seconds of an opening."""
+    words = [program, folder, "init", "regtest", str(kept)]
+    folder.mkdir()
+    subprocess.run(words, check=True, stdout=subprocess.DEVNULL)
+    made = in_another_process(large_stores.write_store, folder / "a.ox", outputs, kept, records)
+    commands = {
+        "ox": [program, folder, "query", "/status"],
+        "plain": [plain_program("opening"), folder],
+    }
+    taken = {name: [] for name in commands}
+    for _ in range(OPENINGS):
+        for name, command in commands.items():
+            seconds, memory, shown = run(command)
+            taken[name].append((seconds, memory))
+            if told_by(name, shown) != made:
+                sys.exit(f"{name} told {shown}")
+    (ours, memory), (plain, held) = (min(taken[name]) for name in commands)
+    size = f"{outputs:,} outputs, {kept:,} kept, {records} records"
+    print(
+        f"{size}: ox {ours:.2f} s, plain {plain:.2f} s, ratio {plain / ours:.2f} and at least"
+        f" {GOAL}; {memory / 1e6:.0f} and {held / 1e6:.0f} MB, {memory / held:.2f} times the memory"
+        f" and at most {MOST_MEMORY}",
+        flush=True,
+    )
+    report("a large store opened", size, "ms", 1000 * ours, 1000 * plain, GOAL)
+    report("its memory", size, "MB", memory / 1e6, held / 1e6, 1 / MOST_MEMORY)
+    (folder / "a.ox").unlink()
+    return ours
+
+
+def open_all_large(program, top):
+    for outputs in OUTPUTS:
+        for records in RECORDS:
+            few, *_, most = [
+                open_large(program, top / f"{outputs} {kept} {records}", outputs, kept, records)
+                for kept in KEPT
+            ]
+            print(
+                f"  {KEPT[-1]:,} kept blocks take {most / few:.2f} times the time of {KEPT[0]}, and"
+                f" at most {MOST_GROWTH}"
+            )
+
+
 def main():
     words = sys.argv[1:]
     applied, opened = [int(word) for word in words[:2]] + [2000, 10_000][len(words[:2]) :]
@@ -214,7 +321,9 @@ def main():
         load = os.getloadavg()[0]
         print(f"{program}, {os.cpu_count()} processors with a load of {load:.1f}, {kind}")
         compare(program, top, applied)
+        compare_small(program, top)
         open_stores(program, top, opened)
+        open_all_large(program, top)
 
 
 if __name__ == "__main__":

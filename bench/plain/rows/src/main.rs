@@ -1,16 +1,11 @@
 //! Rows of an index and of a change, read and written in plain Rust, as bench/rows.py times them. On standard input stand
 //! the rows `index`, `change` and `fronts` of crates/ox_rows_rows, and its rows `sound` and `live` of regtest, and it shows
 //! the same for them. With two arguments each is read and spelled so many times, tested so many times, or made so many times.
-mod live;
-mod read;
-mod rows;
-mod sound;
-mod write;
-
-use live::Live;
-use read::{Fault, Reader};
-use rows::Index;
-use sound::is_sound;
+use rows::live::Live;
+use rows::read::{Fault, Reader};
+use rows::rows::Index;
+use rows::sound::is_sound;
+use rows::write;
 use std::hint::black_box;
 use std::io::{self, BufRead, Write};
 

@@ -16,6 +16,7 @@ pub struct OutPoint {
     pub index: u32,
 }
 
+#[derive(Clone, PartialEq)]
 pub enum Script {
     Short(u8, [u8; SHORT]),
     Long(Box<[u8]>),
@@ -39,6 +40,7 @@ impl Script {
     }
 }
 
+#[derive(Clone, PartialEq)]
 pub enum Runs {
     One(Run),
     Many(Vec<Run>),
@@ -53,6 +55,7 @@ impl Runs {
     }
 }
 
+#[derive(Clone, PartialEq)]
 pub struct Output {
     pub script: Script,
     pub height: u32,
@@ -61,6 +64,7 @@ pub struct Output {
 
 pub type Text = Option<Box<[u8]>>;
 
+#[derive(Clone, PartialEq)]
 pub struct Inscription {
     pub id: OutPoint,
     pub height: u32,
@@ -73,6 +77,7 @@ pub struct Inscription {
     pub sat: Option<u64>,
 }
 
+#[derive(Clone, PartialEq)]
 pub struct Terms {
     pub amount: Option<u128>,
     pub cap: Option<u128>,
@@ -80,6 +85,7 @@ pub struct Terms {
     pub bounds: [Option<u64>; 4],
 }
 
+#[derive(Clone, PartialEq)]
 pub struct Rune {
     pub id: RuneId,
     pub name: u128,

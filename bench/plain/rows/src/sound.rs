@@ -2,14 +2,14 @@
 use crate::rows::{Index, OutPoint, Rune, RuneId, Run, Runs};
 use std::collections::{HashMap, HashSet};
 
-const HALVING: u64 = 210_000;
-const SUBSIDY: u64 = 5_000_000_000;
-const LAST_HEIGHT: usize = 4_000_000_000;
+pub const HALVING: u64 = 210_000;
+pub const SUBSIDY: u64 = 5_000_000_000;
+pub const LAST_HEIGHT: usize = 4_000_000_000;
 /// The least name that is kept for etchings without one.
 const RESERVED: u128 = 6_402_364_363_415_443_603_228_541_259_936_211_926;
 
 /// The first satoshi of a height.
-fn first(height: u64) -> u64 {
+pub fn first(height: u64) -> u64 {
     let whole = (0..(height / HALVING).min(33)).map(|halvings| (SUBSIDY >> halvings) * HALVING).sum::<u64>();
     whole + (height % HALVING) * SUBSIDY.checked_shr((height / HALVING) as u32).unwrap_or(0)
 }
@@ -23,12 +23,12 @@ fn are_sats_sound(index: &Index, end: u64) -> bool {
     last == Some(end)
 }
 
-fn cap_and_amount(row: &Rune) -> (u128, u128) {
+pub fn cap_and_amount(row: &Rune) -> (u128, u128) {
     row.terms.as_ref().map_or((0, 0), |terms| (terms.cap.unwrap_or(0), terms.amount.unwrap_or(0)))
 }
 
 /// Whether the numbers of a rune of one of so many blocks are within their bounds.
-fn is_etched(row: &Rune, blocks: u64) -> bool {
+pub fn is_etched(row: &Rune, blocks: u64) -> bool {
     let (cap, amount) = cap_and_amount(row);
     let supply = cap.checked_mul(amount).and_then(|minted| minted.checked_add(row.premine));
     let place = (u128::from(row.id.0) << 32) + u128::from(row.id.1);
@@ -41,7 +41,7 @@ fn is_etched(row: &Rune, blocks: u64) -> bool {
 }
 
 /// Adds what an output holds. `false` where that isn't proper, or a sum passes 128 bits.
-fn add(sums: &mut HashMap<RuneId, u128>, balances: &[(RuneId, u128)]) -> bool {
+pub fn add(sums: &mut HashMap<RuneId, u128>, balances: &[(RuneId, u128)]) -> bool {
     let rise = balances.windows(2).all(|pair| pair[0].0 < pair[1].0);
     rise && !balances.is_empty()
         && balances.iter().all(|(id, amount)| match sums.get_mut(id) {

@@ -1,0 +1,62 @@
+"""Files of large stores as bench/apply_and_open.py opens them, spelled by docs/FORMATS.md."""
+
+import random
+import sys
+
+from tools.bitcoin import SUBSIDY
+from tools.programs import TOP
+
+sys.path.append(str(TOP / "checks"))
+
+from row_forms import SPELLED, Change, Index, Output, number, outpoint, output  # noqa: E402
+from store_files import body_of, file_of, payload_on  # noqa: E402
+
+# how many outputs each of the first blocks has
+MANY = 50_000
+EACH = SUBSIDY // MANY
+# an index without rows ends with five empty lists: outputs, lost satoshis, inscriptions, balances
+# and runes
+EMPTY_LISTS = 5 * 4
+
+
+def new_output(chance, height, run):
+    """An outpoint of its own, and a row with a script as pay-to-taproot has it."""
+    script = b"\x51\x20" + chance.randbytes(32)
+    return (chance.randbytes(32), 0), Output(script, height, [run])
+
+
+def small_change(chance, height, spent):
+    """What a block changes that spends one output and whose coinbase claims the subsidy."""
+    paid = new_output(chance, height, (height * SUBSIDY, SUBSIDY))
+    moved = new_output(chance, height, *spent[1].sats)
+    return Change(chance.randbytes(32), [spent], sorted([paid, moved]))
+
+
+def index_rows(hashes, outputs):
+    """The rows of an index of these hashes and rows of outputs, which rise."""
+    front = SPELLED["index"](Index(hashes))[:-EMPTY_LISTS]
+    lists = bytes(EMPTY_LISTS - 4)
+    return front + number(4)(len(outputs)) + b"".join(outputs) + lists
+
+
+def spelled(pair):
+    at, row = pair
+    return outpoint(at) + output(row)
+
+
+def write_store(path, outputs, kept, records):
+    """A file with a checkpoint of so many outputs, so many kept small blocks, and records of so
+    many further ones. How many blocks there are, and the newest."""
+    chance = random.Random(5)
+    first = outputs // MANY
+    runs = ((at // MANY, (at * EACH, EACH)) for at in range(outputs))
+    rows = [new_output(chance, height, run) for height, run in runs]
+    spent = rows[: kept + records]
+    changes = [small_change(chance, first + at, row) for at, row in enumerate(spent)]
+    hashes = [chance.randbytes(32) for _ in range(first)]
+    hashes += [change.hash for change in changes[:kept]]
+    came = [row for change in changes[:kept] for row in change.came]
+    body = index_rows(hashes, sorted(map(spelled, rows[kept:] + came)))
+    body += body_of(Index(), changes[:kept][::-1])[len(SPELLED["index"](Index())) :]
+    path.write_bytes(file_of("regtest", kept, body, map(payload_on, changes[kept:])))
+    return first + len(changes), changes[-1].hash[::-1].hex()
