@@ -287,7 +287,7 @@ def open_large(program, folder, outputs, kept, records):
         flush=True,
     )
     report("a large store opened", size, "ms", 1000 * ours, 1000 * plain, GOAL)
-    report("its memory", size, "MB", memory / 1e6, held / 1e6, 1 / MOST_MEMORY)
+    report("a large store opened, memory", size, "MB", memory / 1e6, held / 1e6, 1 / MOST_MEMORY)
     (folder / "a.ox").unlink()
     return ours
 

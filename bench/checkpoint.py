@@ -159,15 +159,15 @@ def compare(outputs, top):
     for what, of in ("", turns), (" in processor time", works):
         ratios = [f"{plain / ox:.2f}" for ox, plain in zip(of["ox"], of["plain"])]
         print(f"plain to ox: {', '.join(ratios)} where the files turn{what}")
-    name, size = "the whole index written by a command", f"{outputs:,} outputs"
+    name, size = "the whole index written", f"{outputs:,} outputs"
     worst = [1000 * max(turns[of]) for of in ("ox", "plain")]
     report(name, size, "ms", *worst, GOAL)
     worst = [1000 * max(works[of]) for of in ("ox", "plain")]
     report(f"{name}, processor time", size, "ms", *worst, GOAL)
     above = [memories[of][1] / 1e6 for of in ("ox", "plain")]
-    report("memory for it above what there was", size, "MB", *above)
+    report(f"{name}, memory above", size, "MB", *above)
     small = [1000 * others[of] for of in ("ox", "plain")]
-    report("a small block, the others", size, "ms", *small)
+    report("a small block, else", size, "ms", *small)
     return max(turns["ox"]), max(works["ox"])
 
 
