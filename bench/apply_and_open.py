@@ -9,9 +9,9 @@ beside it, does what no store of this design can do without: the same writes and
 which are two of each for a block, and for each 65th those of a whole file. The two take turns, five
 times each, so that others who use the disk slow both; printed are all times, the least and the
 middle ones as commands a second, and the ratio. The files that were applied have to have the bytes
-that docs/FORMATS.md says. In the same way it times 64 blocks, by which no whole file is written,
-each forty times, less what `apply` of none takes. Then it times `query /status` five times over a
-store of OPENED blocks (10,000 without a word), over one of a tenth of them, and over an empty one.
+that docs/FORMATS.md says. In the same way, sixty times, it times the 64 blocks between two whole
+files alone, which one `apply` hears. Then it times `query /status` five times over a store of
+OPENED blocks (10,000 without a word), over one of a tenth of them, and over an empty one.
 
 Last it opens stores of 100,000 and of 1,000,000 outputs, each with 10, 100 and 1,000 kept blocks
 that spend an output and make two, and with no and with 64 records of such. `query /status` and a
@@ -52,8 +52,8 @@ TURN = 65
 # how much more time for the most kept blocks it may take at the most
 OUTPUTS, KEPT, RECORDS = (100_000, 1_000_000), (10, 100, 1_000), (0, 64)
 OPENINGS = 3
-# how often blocks that write no whole file are applied, and how fast that should be by bare writes
-SMALL_RUNS, SMALL_GOAL = 40, 0.9
+# how often the blocks from one whole file to the next are applied, and how fast by bare writes
+SMALL_TURNS, SMALL_GOAL = 60, 0.9
 GOAL, MOST_MEMORY, MOST_GROWTH = 0.5, 1.5, 1.3
 
 
@@ -106,10 +106,11 @@ def time_run(command, **streams):
 def time_apply(program, folder, feed, count, files):
     """How long the feed of so many blocks takes, which leaves these files."""
     make_empty(program, folder)
-    shown = folder / "shown"
-    with open(feed, "rb") as given, open(shown, "wb") as taken:
-        times = time_run([program, folder, "apply"], stdin=given, stdout=taken)
-    answers = shown.read_bytes().splitlines()
+    # answers in a file on the disk would have each sync wait for them, too
+    with open(feed, "rb") as given, os.fdopen(os.memfd_create("shown"), "w+b") as shown:
+        times = time_run([program, folder, "apply"], stdin=given, stdout=shown)
+        shown.seek(0)
+        answers = shown.read().splitlines()
     if len(answers) != count or not all(answer.startswith(b"ok ") for answer in answers):
         sys.exit("not each block was accepted")
     if tuple((folder / name).read_bytes() for name in ("a.ox", "b.ox")) != files:
@@ -117,66 +118,79 @@ def time_apply(program, folder, feed, count, files):
     return times
 
 
-def seconds_of_floor(folder, made, calls):
-    """How long these writes and waits take, over files that have these bytes."""
+def calls_of(blocks):
+    """The files of a new store, those that these blocks leave, and the calls on them by block."""
+    store, calls = make(Calls(), depth=DEPTH), []
+    made = bytes_in(store)
+    for block in blocks:
+        begun = len(store.disk.calls)
+        store.carry_out(payload_of(block))
+        calls.append(store.disk.calls[begun:])
+    return made, bytes_in(store), calls
+
+
+def files_with(folder, made):
+    """Files in a new folder that have these bytes, on the disk."""
     folder.mkdir()
     files = {}
     for name, data in zip("AB", made):
         files[name] = os.open(folder / name, os.O_RDWR | os.O_CREAT)
         os.pwrite(files[name], data, 0)
         os.fsync(files[name])
+    return files
+
+
+def seconds_of_calls(files, calls):
+    """How long these writes and waits take."""
     begun = time.perf_counter()
     for name, at, data in calls:
         if at is None:
             os.fsync(files[name])
         else:
             os.pwrite(files[name], data, at)
+    return time.perf_counter() - begun
+
+
+def seconds_of_lines(child, lines):
+    """How long it takes until all these lines are answered."""
+    begun = time.perf_counter()
+    child.stdin.write(b"".join(lines))
+    child.stdin.flush()
+    answers = [child.stdout.readline() for _ in lines]
     seconds = time.perf_counter() - begun
-    for file in files.values():
-        os.close(file)
+    if not all(answer.startswith(b"ok ") for answer in answers):
+        sys.exit("not each block was accepted")
     return seconds
 
 
-def calls_of(blocks):
-    """The files of a new store, those that these blocks leave, and the calls on them."""
-    store = make(Calls(), depth=DEPTH)
-    made, begun = bytes_in(store), len(store.disk.calls)
-    for block in blocks:
-        store.carry_out(payload_of(block))
-    return made, bytes_in(store), store.disk.calls[begun:]
-
-
-def feed_of(top, blocks):
-    """A file with the lines that connect some blocks."""
-    feed = top / f"feed of {len(blocks)}"
-    feed.write_bytes(b"".join(map(line, blocks)))
-    return feed
-
-
 def compare_small(program, top):
-    """Applies as many blocks as write no whole file, and does the bare writes, in turns."""
-    count = TURN - 1
-    blocks, _ = chain(count)
-    made, files, calls = calls_of(blocks)
-    feed, none = feed_of(top, blocks), feed_of(top, [])
-    times = {"apply": [], "start": [], "bare": []}
-    for turn in range(SMALL_RUNS):
-        folder = top / f"small{turn}"
-        seconds = {
-            "apply": time_apply(program, folder, feed, count, files)[0],
-            "start": time_apply(program, top / f"none{turn}", none, 0, made)[0],
-            "bare": seconds_of_floor(top / f"bare{turn}", made, calls),
-        }
-        for name, taken in seconds.items():
-            times[name].append(taken)
+    """Applies blocks that write no whole file, and does the bare writes, in turns. Between them is
+    one that does."""
+    blocks, _ = chain(TURN * SMALL_TURNS)
+    made, left, calls = calls_of(blocks)
+    files, folder = files_with(top / "bare", made), top / "small"
+    make_empty(program, folder)
+    applied, bare = [], []
+    command = [program, folder, "apply"]
+    with subprocess.Popen(command, stdin=subprocess.PIPE, stdout=subprocess.PIPE) as child:
+        for first in range(0, len(blocks), TURN):
+            *small, last = (line(block) for block in blocks[first : first + TURN])
+            applied.append(seconds_of_lines(child, small) / len(small))
+            some = [call for each in calls[first : first + len(small)] for call in each]
+            bare.append(seconds_of_calls(files, some) / len(small))
+            seconds_of_lines(child, [last])
+            seconds_of_calls(files, calls[first + len(small)])
+        child.stdin.close()
+    if tuple((folder / name).read_bytes() for name in ("a.ox", "b.ox")) != left:
+        sys.exit("the files aren't what docs/FORMATS.md says")
     for which, of in ("middle", statistics.median), ("least", min):
-        applied = 1000 * (of(times["apply"]) - of(times["start"])) / count
-        bare = 1000 * of(times["bare"]) / count
+        ours, floor = 1000 * of(applied), 1000 * of(bare)
         print(
-            f"outside the turns, {which}: apply {applied:.3f} ms a command, bare writes {bare:.3f}:"
-            f" {bare / applied:.2f}"
+            f"a block that writes no whole file, {which}: apply {ours:.3f} ms, bare writes"
+            f" {floor:.3f}: {floor / ours:.2f}",
+            flush=True,
         )
-    report("a small block applied", f"{count} commands", "ms", applied, bare, SMALL_GOAL)
+    report("a small block applied", f"{TURN - 1} of {TURN}", "ms", ours, floor, SMALL_GOAL)
 
 
 def compare(program, top, count):
@@ -184,12 +198,13 @@ def compare(program, top, count):
     blocks, _ = chain(count)
     feed = feed_of(top, blocks)
     made, files, calls = calls_of(blocks)
+    all_calls = [call for each in calls for call in each]
     applied, works, floor = [], [], []
     for turn in range(RUNS):
         seconds, work = time_apply(program, top / f"applied{turn}", feed, count, files)
         applied.append(seconds)
         works.append(work)
-        floor.append(seconds_of_floor(top / f"floor{turn}", made, calls))
+        floor.append(seconds_of_calls(files_with(top / f"floor{turn}", made), all_calls))
         print(
             f"{count:,} commands: apply {seconds:6.2f} s, bare writes {floor[-1]:6.2f} s",
             flush=True,
