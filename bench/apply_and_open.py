@@ -196,7 +196,8 @@ def compare_small(program, top):
 def compare(program, top, count):
     """Applies a feed and does the bare writes, in turns."""
     blocks, _ = chain(count)
-    feed = feed_of(top, blocks)
+    feed = top / "feed"
+    feed.write_bytes(b"".join(map(line, blocks)))
     made, files, calls = calls_of(blocks)
     all_calls = [call for each in calls for call in each]
     applied, works, floor = [], [], []
