@@ -4,20 +4,20 @@
     python3 bench/apply_and_open.py [APPLIED [OPENED [PROGRAM]]]
 
 makes a folder below out/ beside this script, which has to be on a disk, and in it stores that are
-gone at the end. It applies a feed of so many small regtest blocks (2,000 without a word) and,
-beside it, does what no store of this design can do without: the same writes and waits for the disk,
-which are two of each for a block, and for each 65th those of a whole file. The two take turns, five
-times each, so that others who use the disk slow both; printed are all times, the least and the
-middle ones as commands a second, and the ratio. The files that were applied have to have the bytes
-that docs/FORMATS.md says. In the same way, sixty times, it times the 64 blocks between two whole
-files alone, which one `apply` hears. Then it times `query /status` five times over a store of
-OPENED blocks (10,000 without a word), over one of a tenth of them, and over an empty one.
+gone at the end. It opens stores of 100,000 and of 1,000,000 outputs, each with 10, 100 and 1,000
+kept blocks that spend an output and make two, and with no and with 64 records of such. `query
+/status` and a plain Rust program that reads, tests by what each change touches and builds the same
+tables take turns, three times each. Printed are the processor time and the memory of the runs that
+took least, the ratios, and how much longer a start with more kept blocks takes.
 
-Last it opens stores of 100,000 and of 1,000,000 outputs, each with 10, 100 and 1,000 kept blocks
-that spend an output and make two, and with no and with 64 records of such. `query /status` and a
-plain Rust program that reads, tests by what each change touches and builds the same tables take
-turns, three times each. Printed are the processor time and the memory of the runs that took least,
-the ratios, and how much longer a start with more kept blocks takes. PROGRAM is
+It applies a feed of so many small regtest blocks (2,000 without a word) and, beside it, does what
+no store of this design can do without: the same writes and waits for the disk, which are two of
+each for a block, and for each 65th those of a whole file. The two take turns, five times each, so
+that others who use the disk slow both; printed are all times, the least and the middle ones as
+commands a second, and the ratio. The files that were applied have to have the bytes that
+docs/FORMATS.md says. In the same way, sixty times, it times the 64 blocks between two whole files
+alone, which one `apply` hears. Then it times `query /status` five times over a store of OPENED
+blocks (10,000 without a word), over one of a tenth of them, and over an empty one. PROGRAM is
 crates/ox_main/out/ox_main without a word. Nothing here is proved. bench/all.py builds both
 programs.
 """
@@ -336,10 +336,11 @@ def main():
             sys.exit(f"{top} is in memory, and not on a disk")
         load = os.getloadavg()[0]
         print(f"{program}, {os.cpu_count()} processors with a load of {load:.1f}, {kind}")
+        # first, since a child's greatest memory is never below this one's
+        open_all_large(program, top)
         compare(program, top, applied)
         compare_small(program, top)
         open_stores(program, top, opened)
-        open_all_large(program, top)
 
 
 if __name__ == "__main__":
