@@ -7,9 +7,10 @@ plain Rust program of the same work.
 makes the rows of a sound index of so many outputs (100,000 and 1,000,000 without a word), each with
 a script of 34 bytes and one run of satoshis, with an inscription of a hundred bytes and a balance
 for every tenth of them. crates/ox_rows_rows and the plain program run in turn, three times: each
-reads the rows and spells the index once, or one of both six times; it tests the index once or six
-times; and it reads, tests and makes it live once or six times. It prints how many bytes of the rows
-a second of the processor time that the five others took, of the runs that took least, and how much
+reads the rows and spells the index once, or does one of both five times more; it tests the index
+once or five times more; and it reads, tests and makes it live once or five times more. Of 100,000
+outputs it is fifty times, so that as many rows are read. It prints how many bytes of the rows a
+second of the processor time that the further times took, of the runs that took least, and how much
 more time ten times the rows take. The plain program makes each table of a list that it read and
 that rises, at once. bench/all.py builds both programs.
 """
@@ -24,19 +25,20 @@ from runs import in_another_process, least, report
 from tools.programs import plain_program, proved_program
 
 PROGRAMS = {"ox": [proved_program("ox_rows_rows")], "plain": [plain_program("rows")]}
-TENTH, MORE = 10, 5
+TENTH = 10
+# how much more often a work is done, of this many outputs or more
+MORE, MANY = 5, 1_000_000
 SATS, SUBSIDY = 1_000_000, 5_000_000_000
 RUNES = 20
 # how fast each should be at least, by plain Rust
 GOALS = {"read": 0.6, "written": 0.7, "tested": 0.6, "read, tested and made live": 0.5}
-# the row and the arguments of each, and those without the others
+# the row of each, and which of its two arguments tells how often it is done
 WORKS = {
-    "read": ("index", (1 + MORE, 1)),
-    "written": ("index", (1, 1 + MORE)),
-    "tested": ("sound regtest", (1 + MORE, 1)),
-    "read, tested and made live": ("live regtest", (1 + MORE, 1)),
+    "read": ("index", 0),
+    "written": ("index", 1),
+    "tested": ("sound regtest", 0),
+    "read, tested and made live": ("live regtest", 0),
 }
-ONCE = (1, 1)
 # how much more time ten times the rows may take
 MOST_GROWTH = 12
 
@@ -102,18 +104,22 @@ def write_rows(folder, outputs):
     return len(digits) // 2
 
 
-def seconds(folder):
+def seconds(folder, outputs):
     """The least seconds that each program took for each work."""
+    more = MORE * max(1, MANY // outputs)
 
     def taken(row, times):
         words = [str(number) for number in times]
         commands = {name: [*program, *words] for name, program in PROGRAMS.items()}
         return least(commands, folder / row)
 
-    once = {row: taken(row, ONCE) for row in {row for row, _ in WORKS.values()}}
-    more = {work: taken(*told) for work, told in WORKS.items()}
+    once = {row: taken(row, (1, 1)) for row in {row for row, _ in WORKS.values()}}
+    often = {
+        work: taken(row, (1, 1 + more) if place else (1 + more, 1))
+        for work, (row, place) in WORKS.items()
+    }
     return {
-        work: {name: (more[work][name][0] - once[row][name][0]) / MORE for name in PROGRAMS}
+        work: {name: (often[work][name][0] - once[row][name][0]) / more for name in PROGRAMS}
         for work, (row, _) in WORKS.items()
     }
 
@@ -139,7 +145,7 @@ def main():
         with tempfile.TemporaryDirectory() as folder:
             folder = pathlib.Path(folder)
             size = in_another_process(write_rows, folder, outputs)
-            took = seconds(folder)
+            took = seconds(folder, outputs)
         tell(outputs, size, took)
         for work in before or ():
             growth = took[work]["ox"] / before[work]["ox"]
