@@ -136,7 +136,8 @@ fn an_entry_is_read_ahead_where_its_tag_is_there(rt: HostRuntime) {
 fn keys_of_one_shard_are_all_there(rt: HostRuntime) {
     let mut map = Shards::new(rt.alloc());
     for key in 0..1_000u32 {
-        map.insert(key, u64::from(key)).expect(&rt, "memory");
+        map.insert(u128::from(key), u64::from(key))
+            .expect(&rt, "memory");
     }
     assert!(rt; has(&map, 0, Some(0)) && has(&map, 999, Some(999)) && has(&map, 1_000, None));
 }
