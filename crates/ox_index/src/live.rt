@@ -69,7 +69,8 @@ impl Live {
     ghost use Rattle.ox_model.specs.Replies.{ok_line};
     ghost use Rattle.ox_model.specs.Ends.{BeginsIn, EndsIn};
     ghost use Rattle.ox_index.specs.Live.{profile_in, index_in, marked_in};
-    ghost use Rattle.ox_index.specs.Fault.{Refuses};
+    ghost use Rattle.ox_rules.specs.Why.{Refuses};
+    ghost use Rattle.ox_rules.specs.Text.{tip_line};
     ghost use Rattle.ox_index.specs.Tip.{tip_of};
 
     /// The index of a chain without a block that counts by this profile. `Memory` where there is

@@ -1,6 +1,6 @@
 use Rattle.std.proofs.Common.{ap, ◌∙◌}
 use Rattle.ox_index.specs.Live.{index_in}
-use Rattle.ox_index.specs.Reply.{tip_line}
+use Rattle.ox_rules.specs.Text.{tip_line}
 use Rattle.ox_index.proofs.Tips.{tip_says}
 use Rattle.ox_index.proofs.live.Live.line.Goals as goal
 
