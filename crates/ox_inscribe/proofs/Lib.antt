@@ -16,4 +16,5 @@ pub mod StandLaws
 pub mod OrderLaws
 pub mod TurnLaws
 pub mod CursedLaws
+pub mod FrontLaws
 pub mod SignedLaws

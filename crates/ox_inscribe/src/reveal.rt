@@ -82,9 +82,11 @@ fn reveal_one(
     ensures front { take (length rows.old.rows) rows.new.rows ≡ rows.old.rows }
     ensures jubilee { rows.new.jubilee ≡ rows.old.jubilee }
 {
-    fees.push(scene.goes_to_fees(&seen))?;
+    let in_fees = scene.goes_to_fees(&seen);
     let row = row_of(alloc, scene, rows, before, seen)?;
-    rows.push(row)
+    rows.push(row)?;
+    fees.push(in_fees)?;
+    Ok(())
 }
 
 /// Puts the rows of a transaction's envelopes behind the others, which all stood before it.
