@@ -1,5 +1,5 @@
 -- Rows taken apart by their flags, and put together again.
-use Rattle.std.proofs.Common.{◌≡◌, ◌∙◌, ℕ, ◌+◌, ◌-◌, ◌<◌, ◌≤◌, Bool, true, false, cond, List, [], ◌∷◌, ◌++◌, length, take, drop, get_or, refl, sym, ap, ap₂, arith, append_assoc, length-append, take-append-drop, take_at, drop_at}
+use Rattle.std.proofs.Common.{◌≡◌, ◌∙◌, ℕ, ◌+◌, ◌-◌, ◌<◌, ◌≤◌, Bool, true, false, cond, List, [], ◌∷◌, ◌++◌, length, take, drop, get_or, refl, sym, ap, ap₂, arith, append_assoc, length-append, take-append-drop, drop_at}
 use Rattle.std.specs.Prelude.{not, filter, reverse}
 use Rattle.std.specs.List.{list_any}
 use Rattle.std.proofs.lemmas.Bool.{cond-true, cond-false, true≢false}
@@ -7,6 +7,7 @@ use Rattle.std.proofs.lemmas.List.{drop_more, drop_all, take_more, length-drop, 
 use Rattle.ox_inscribe.specs.Reveal.{Revealed, rows_of, in_order}
 use Rattle.ox_inscribe.specs.Scenes.{fees_of, rows_if}
 use Rattle.ox_inscribe.specs.declared.row.InsRow.{InsRow}
+use Rattle.ox_inscribe.proofs.FrontLaws.{pushed_front}
 
 if-cons : (passes : Bool → Bool) (flag : Bool) (flags : List Bool) (row : InsRow) (rows : List InsRow) → rows_if passes (flag ∷ flags) (row ∷ rows) ≡ cond (passes flag) (row ∷ rows_if passes flags rows) (rows_if passes flags rows)
 unfolding rows_if
@@ -55,6 +56,13 @@ part_none passes flags rows part none =
     let all : length flags ≤ length flags - 0 = omega arith in
     none ∙ sym (ap reverse (ap (λ (fs : List Bool). rows_if passes fs (drop (length rows - 0) rows)) (drop_all (length flags - 0) flags all) ∙ if-none passes _))
 
+pub part_all : (passes : Bool → Bool) (flags : List Bool) (rows part : List InsRow) (behind : ℕ) → behind ≡ length flags
+    → part ≡ reverse (rows_if passes (drop (length flags - behind) flags) (drop (length rows - behind) rows))
+    → part ≡ reverse (rows_if passes flags (drop (length rows - length flags) rows))
+part_all passes flags rows part behind is so_far =
+    let none : length flags - behind ≡ 0 = omega (arith, is) in
+    so_far ∙ ap₂ (λ (n m : ℕ). reverse (rows_if passes (drop n flags) (drop (length rows - m) rows))) none is
+
 -- the row that comes off
 pub popped : (whole rows new : List InsRow) (behind : ℕ) (row : InsRow) → rows ≡ take (length whole - behind) whole → behind < length whole → rows ≡ new ++ row ∷ [] → (new ≡ take (length whole - (behind + 1)) whole) × (row ≡ get_or whole (length whole - behind - 1) row)
 popped whole rows new behind row is within split =
@@ -80,6 +88,14 @@ as_before flags rows each none =
     let start = length rows - length flags in
     sym (ap (λ (back : List InsRow). take start rows ++ back) (none_goes flags (drop start rows) (omega (arith, length-drop start rows)) none) ∙ take-append-drop start rows)
 
+-- a row goes back
+pub put_more : (rows after all more left : List InsRow) (row : InsRow) → after ≡ rows ++ row ∷ [] → more ≡ left ++ row ∷ [] → rows ++ reverse more ≡ all → after ++ reverse left ≡ all
+put_more rows after all more left row pushed is so_far =
+    ap (λ (front : List InsRow). front ++ reverse left) pushed
+    ∙ append_assoc rows (row ∷ []) (reverse left)
+    ∙ ap (λ (back : List InsRow). rows ++ back) (sym (ap reverse is ∙ reverse-append left (row ∷ [])))
+    ∙ so_far
+
 pub together : (first second third front kept gone : List InsRow) (kept_now gone_now : List InsRow) → first ≡ front → second ≡ first ++ reverse kept → third ≡ second ++ reverse gone → kept ≡ reverse kept_now → gone ≡ reverse gone_now → third ≡ front ++ (kept_now ++ gone_now)
 together first second third front kept gone kept_now gone_now is one other was_kept was_gone =
     other ∙ ap (λ (rows : List InsRow). rows ++ reverse gone) (one ∙ ap (λ (rows : List InsRow). rows ++ reverse kept) is)
@@ -96,12 +112,25 @@ parted passes (one ∷ all) = by_pass (passes one.in_fees) (parted passes all) w
   by_pass true later = ap (λ (rest : List InsRow). one.row ∷ rest) later
   by_pass false later = later
 
+-- there is a flag for each row that is new
+pub flags_fit : (rows now : List InsRow) (fees : List Bool) (all : List Revealed) → now ≡ rows ++ rows_of all → fees ≡ fees_of all → (length now - length fees ≡ length rows) × (length fees ≤ length now)
+flags_fit rows now fees all is flags =
+    let rows_long = ap length is ∙ length-append rows (rows_of all) in
+    let rows_many = length-map all (λ (one : Revealed). one.row) in
+    let fees_many = length-map all (λ (one : Revealed). one.in_fees) in
+    (omega (arith, rows_long, rows_many, ap length flags, fees_many), omega (arith, rows_long, rows_many, ap length flags, fees_many))
+
+pub ordered_front : (rows now after : List InsRow) (fees : List Bool) (all : List Revealed) → now ≡ rows ++ rows_of all → fees ≡ fees_of all → take (length now - length fees) after ≡ take (length now - length fees) now → take (length rows) after ≡ rows
+ordered_front rows now after fees all is flags front =
+    let start = (flags_fit rows now fees all is flags).0 in
+    sym (ap (λ (n : ℕ). take n after) start) ∙ front ∙ ap (λ (n : ℕ). take n now) start ∙ pushed_front rows now (rows_of all) is
+
 pub ordered : (rows now after : List InsRow) (fees : List Bool) (all : List Revealed) → now ≡ rows ++ rows_of all → fees ≡ fees_of all
     → after ≡ take (length now - length fees) now ++ (rows_if not fees (drop (length now - length fees) now) ++ rows_if (λ fee. fee) fees (drop (length now - length fees) now))
     → after ≡ rows ++ in_order all
 ordered rows now after fees all is flags done =
-    let start : length now - length fees ≡ length rows = omega (arith, ap length is ∙ length-append rows (rows_of all), ap length flags, length-map all (λ (one : Revealed). one.row), length-map all (λ (one : Revealed). one.in_fees)) in
-    let front : take (length rows) now ≡ rows = ap (take (length rows)) is ∙ take_at rows (rows_of all) (length rows) refl in
+    let start = (flags_fit rows now fees all is flags).0 in
+    let front = pushed_front rows now (rows_of all) is in
     let back : drop (length rows) now ≡ rows_of all = ap (drop (length rows)) is ∙ drop_at rows (rows_of all) (length rows) refl in
     done ∙ ap (λ (n : ℕ). take n now ++ (rows_if not fees (drop n now) ++ rows_if (λ fee. fee) fees (drop n now))) start
     ∙ ap₂ (λ (a b : List InsRow). a ++ (rows_if not fees b ++ rows_if (λ fee. fee) fees b)) front back

@@ -1,7 +1,7 @@
-use Rattle.std.proofs.Common.{arith, refl, sym, ap, ◌∙◌, ◌-◌, ◌+◌, length, take, false}
+use Rattle.std.proofs.Common.{arith, refl, sym, ap, ◌≡◌, ◌∙◌, ◌-◌, ◌+◌, ℕ, length, take, false}
 use Rattle.std.specs.Prelude.{not}
 use Rattle.std.proofs.lemmas.List.{take_all, take-take}
-use Rattle.ox_inscribe.proofs.OrderLaws.{part_more, part_same, part_none, popped}
+use Rattle.ox_inscribe.proofs.OrderLaws.{part_all, part_more, part_same, part_none, popped}
 use Rattle.ox_inscribe.proofs.reveal.take_apart.Goals as goal
 use Rattle.ox_inscribe.proofs.reveal.take_apart.Goals.{then-fees-behind+in_ok-push, else-fees-behind+in_ok-push-2}
 
@@ -43,3 +43,28 @@ loop-behind-preserved c =
             ∙ part_same (λ fee. fee) c.args.fees.now c.args.rows.now.rows c.loop-behind.gone.items c.loop-behind.behind false c.in-Some.row c.loop-behind-test.true c.requires.each out.1 w.if-fees-behind.false c.loop-behind.invariant.gone
       ];
     }
+
+pub returns-in_err-push-clause-jubilee : goal.returns-in_err-push-clause-jubilee
+returns-in_err-push-clause-jubilee c = c.in-Some.ensures.jubilee ∙ c.loop-behind.invariant.jubilee
+
+pub returns-in_err-push-2-clause-jubilee : goal.returns-in_err-push-2-clause-jubilee
+returns-in_err-push-2-clause-jubilee c = c.in-Some.ensures.jubilee ∙ c.loop-behind.invariant.jubilee
+
+pub returns-clause-kept : goal.returns-clause-kept
+returns-clause-kept c = part_all not c.args.fees.now c.args.rows.now.rows c.loop-behind.kept.items c.loop-behind.behind (omega arith) c.loop-behind.invariant.kept
+
+pub returns-clause-gone : goal.returns-clause-gone
+returns-clause-gone c = part_all (λ fee. fee) c.args.fees.now c.args.rows.now.rows c.loop-behind.gone.items c.loop-behind.behind (omega arith) c.loop-behind.invariant.gone
+
+pub returns-clause-rows : goal.returns-clause-rows
+returns-clause-rows c =
+    let all : c.loop-behind.behind ≡ length c.args.fees.now = omega arith in
+    c.loop-behind.invariant.rows ∙ ap (λ (n : ℕ). take (length c.args.rows.now.rows - n) c.args.rows.now.rows) all
+
+pub returns-clause-front : goal.returns-clause-front
+returns-clause-front c =
+    ap (take (length c.args.rows.now.rows - length c.args.fees.now)) c.loop-behind.invariant.rows
+    ∙ take-take (length c.args.rows.now.rows - length c.args.fees.now) (length c.args.rows.now.rows - c.loop-behind.behind) c.args.rows.now.rows (omega arith)
+
+pub returns-clause-jubilee : goal.returns-clause-jubilee
+returns-clause-jubilee c = c.loop-behind.invariant.jubilee
