@@ -8,6 +8,8 @@ use Rattle.ox_rules.specs.Outputs.{Outputs, MayStand, outpoint_cmp}
 use Rattle.ox_outputs.specs.Slots.{SlotList, put_slot, undone, AreSpots}
 use Rattle.ox_outputs.specs.declared.slot_of.SlotOf.{SlotOf}
 use Rattle.ox_outputs.specs.Located.{StandOnce, LeadTo}
+use Rattle.ox_outputs.specs.Sound.{AreSound}
+use Rattle.ox_outputs.specs.declared.locator.Locator.{Locator}
 use Rattle.ox_outputs.proofs.SlotLemmas.{get-put_slot}
 use Rattle.ox_outputs.proofs.RowLemmas.{once_taken, once_placed, once_alike, begun_in}
 
@@ -31,6 +33,11 @@ some_and P o x is holds = subst (λ (o : Option _). IsSomeAnd o P) (sym is) hold
 
 pub and_so : {X : Type 0} (P : X → Type 0) (o : Option X) (x : X) → o ≡ Some x → IsSomeAnd o P → P x
 and_so P o x is holds = subst (λ (o : Option _). IsSomeAnd o P) is holds
+
+-- where the changes are written otherwise, all is as it was
+pub sound_same : (slots : SlotList) (locator : Locator) (changed changed' : List SlotOf) (before before' : List (Option OutRow)) → AreSound slots locator changed before → changed' ≡ changed → before' ≡ before → AreSound slots locator changed' before'
+sound_same slots locator changed changed' before before' sound spots rows =
+    subst (λ (l : List (Option OutRow)). AreSound slots locator changed' l) (sym rows) (subst (λ (l : List SlotOf). AreSound slots locator l before) (sym spots) sound)
 
 -- ---- no outputs, and no changes
 

@@ -3,6 +3,7 @@ pub mod Locator
 pub mod Lists
 pub mod Places
 pub mod Slots
+pub mod Sound
 pub mod Starts
 pub mod Table
 pub mod Differing

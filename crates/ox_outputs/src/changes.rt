@@ -2,7 +2,7 @@
 
 ghost use Rattle.std.specs.Prelude.{◌≡◌, ℕ, Option, Some, None, IfOk, IfErr};
 ghost use Rattle.std.specs.Prelude.{OnOk, OnErr, [], length, if◌then◌else◌, IsSome, IsSomeAnd};
-ghost use Rattle.std.specs.Prelude.{◌≢◌, IfSome, IfNone};
+ghost use Rattle.std.specs.Prelude.{◌≢◌, ◌<◌, ◌∷◌, ◌++◌, IfSome, IfNone, vec_len, vec_capacity};
 ghost use Rattle.std.specs.FinMap as map;
 ghost use Rattle.ox_block.specs.declared.block.OutPoint.{OutPoint};
 ghost use Rattle.ox_range.specs.Runs.{runs_of};
@@ -20,6 +20,37 @@ use ox_block::OutPoint;
 use ox_range::Ranges;
 use ox_rules::{Memory, OutRow, Unplaced};
 use std::alloc::Global;
+
+/// Makes room for one more change. `Memory` where there is none. The changes stay.
+pub(crate) fn reserve_one(
+    changed: &mut Vec<SlotOf>,
+    before: &mut Vec<Option<OutRow>>,
+) -> Result<(), Memory>
+    ensures spots { changed.new.items ≡ changed.old.items }
+    ensures rows { before.new.items ≡ before.old.items }
+    ensures room { OnOk result (vec_len changed.new < vec_capacity changed.new) }
+    ensures room_before { OnOk result (vec_len before.new < vec_capacity before.new) }
+{
+    changed.reserve(1)?;
+    before.reserve(1)?;
+    Ok(())
+}
+
+/// Notes a change of a slot, in which this stood before. There has to be room for it.
+pub(crate) fn note(
+    changed: &mut Vec<SlotOf>,
+    before: &mut Vec<Option<OutRow>>,
+    spot: SlotOf,
+    row: Option<OutRow>,
+)
+    requires room { vec_len changed.old < vec_capacity changed.old }
+    requires room_before { vec_len before.old < vec_capacity before.old }
+    ensures spots { changed.new.items ≡ changed.old.items ++ spot ∷ [] }
+    ensures rows { before.new.items ≡ before.old.items ++ row ∷ [] }
+{
+    changed.push_reserved(spot);
+    before.push_reserved(row);
+}
 
 /// Takes the row out of the slot at this spot, if it holds one, and answers it. Its satoshis leave
 /// the locator. It takes no memory.

@@ -2,15 +2,16 @@
 
 ghost use Rattle.std.specs.Prelude.{◌≡◌, ◌≢◌, ℕ, true, false, [], IsSome, IfSome, IfNone};
 ghost use Rattle.std.specs.Prelude.{IfOk, IfErr, OnOk, OnErr};
-ghost use Rattle.std.specs.Prelude.{length, if◌then◌else◌, Some, None};
+ghost use Rattle.std.specs.Prelude.{if◌then◌else◌, Some, None};
 ghost use Rattle.std.specs.Option.{option_copied, option_map};
 ghost use Rattle.std.specs.FinMap as map;
-ghost use Rattle.ox_outputs.specs.Slots.{outpoint_at, rows_of, undone, AreSpots};
-ghost use Rattle.ox_outputs.specs.Located.{StandOnce, LeadTo};
-ghost use Rattle.ox_outputs.specs.Locator.{live_at, kept_at};
+ghost use Rattle.ox_outputs.specs.Slots.{outpoint_at, rows_of, undone};
+ghost use Rattle.ox_outputs.specs.Sound.{AreSound};
 
 use crate::ahead::Ahead;
-use crate::changes::{Displaced, displace_at, fill_empty, forget, go_back, settle, take_from};
+use crate::changes::{
+    Displaced, displace_at, fill_empty, forget, go_back, note, reserve_one, settle, take_from,
+};
 use crate::differing::{differing, place_all};
 use crate::in_order::InOrder;
 use crate::locator::Locator;
@@ -34,13 +35,7 @@ pub struct Outputs {
     marked: bool,
     locator: Locator,
     ahead: Ahead,
-    ghost known: { AreSpots changed.items slots },
-    ghost paired: { length before.items ≡ length changed.items },
-    ghost once: { StandOnce (rows_of slots) },
-    ghost once_before: { StandOnce (undone before.items changed.items (rows_of slots)) },
-    ghost runs: { LeadTo (live_at locator) slots (rows_of slots) },
-    ghost runs_before: { LeadTo (kept_at locator) slots
-        (undone before.items changed.items (rows_of slots)) },
+    ghost sound: { AreSound slots locator changed.items before.items },
 }
 
 /// By hand, so that whoever drops outputs makes one call, and proves nothing of its fields.
@@ -129,11 +124,9 @@ impl Outputs {
         ensures err { OnErr result (rows_in self.new ≡ rows_in self.old) }
         ensures mark { marked_in self.new ≡ marked_in self.old }
     {
-        self.changed.reserve(1)?;
-        self.before.reserve(1)?;
+        reserve_one(&mut self.changed, &mut self.before)?;
         let taken = take_from(&mut self.slots, &mut self.locator, spot);
-        self.changed.push_reserved(spot);
-        self.before.push_reserved(taken);
+        note(&mut self.changed, &mut self.before, spot, taken);
         Ok(())
     }
 
@@ -178,12 +171,16 @@ impl Outputs {
         ensures err { OnErr result (rows_in self.new ≡ rows_in self.old) }
         ensures mark { marked_in self.new ≡ marked_in self.old }
     {
-        if self.changed.reserve(1).is_err() || self.before.reserve(1).is_err() {
+        let Ok(()) = reserve_one(&mut self.changed, &mut self.before) else {
             return Err(Unplaced { row });
-        }
+        };
         let place = fill_empty(&mut self.slots, &mut self.locator, at, found, row)?;
-        self.changed.push_reserved(SlotOf { at, place });
-        self.before.push_reserved(None);
+        note(
+            &mut self.changed,
+            &mut self.before,
+            SlotOf { at, place },
+            None,
+        );
         Ok(())
     }
 
@@ -200,15 +197,14 @@ impl Outputs {
         ensures err { OnErr result (rows_in self.new ≡ rows_in self.old) }
         ensures mark { marked_in self.new ≡ marked_in self.old }
     {
-        if self.changed.reserve(1).is_err() || self.before.reserve(1).is_err() {
+        let Ok(()) = reserve_one(&mut self.changed, &mut self.before) else {
             return Err(Unplaced { row });
-        }
+        };
         let Displaced {
             row: displaced,
             kept,
         } = displace_at(&mut self.slots, &mut self.locator, spot, row, self.alloc)?;
-        self.changed.push_reserved(spot);
-        self.before.push_reserved(Some(kept));
+        note(&mut self.changed, &mut self.before, spot, Some(kept));
         Ok(displaced)
     }
 

@@ -10,11 +10,11 @@ returns-in_err-place c =
     let self = c.args.self.now in
     let live = live_at self.locator in
     c.from_residual.ensures
-    ∙ sym (found_none (standing self.slots live) self.slots (rows_of self.slots) c.args.sat c.find.result (standing_runs self.slots live self.runs) self.once c.find.ensures.last c.in_err-place.was)
+    ∙ sym (found_none (standing self.slots live) self.slots (rows_of self.slots) c.args.sat c.find.result (standing_runs self.slots live self.sound.runs) self.sound.once c.find.ensures.last c.in_err-place.was)
 
 pub returns : goal.returns
 returns c =
     let self = c.args.self.now in
     let live = live_at self.locator in
-    found_exact (standing self.slots live) self.slots (rows_of self.slots) c.args.sat c.find.result (standing_runs self.slots live self.runs) self.once c.find.ensures.last
+    found_exact (standing self.slots live) self.slots (rows_of self.slots) c.args.sat c.find.result (standing_runs self.slots live self.sound.runs) self.sound.once c.find.ensures.last
     c.in_ok-place.place c.locate.result c.in_ok-place.was c.in_ok-place.ensures.live c.locate.ensures

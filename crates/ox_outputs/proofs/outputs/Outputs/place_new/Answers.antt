@@ -5,21 +5,28 @@ use Rattle.ox_outputs.specs.Locator.{kept_at}
 use Rattle.ox_outputs.specs.Slots.{rows_of, undone}
 use Rattle.ox_outputs.proofs.SlotLemmas.{known_more, known_still, both_grown, both_still, mark_kept, mark_still, same_mark}
 use Rattle.ox_outputs.proofs.RowLemmas.{runs_alike, once_alike, stay_kept}
-use Rattle.ox_outputs.proofs.OutputsLemmas.{once_more}
+use Rattle.ox_outputs.proofs.OutputsLemmas.{once_more, sound_same}
 use Rattle.ox_outputs.proofs.outputs.Outputs.place_new.Goals as goal
+
+pub invariant_of-self : goal.invariant_of-self
+invariant_of-self c =
+    let self = c.args.self.now in
+    record { sound = sound_same self.slots self.locator self.changed.items c.reserve_one.new.changed.items self.before.items c.reserve_one.new.before.items self.sound c.reserve_one.ensures.spots c.reserve_one.ensures.rows }
 
 pub invariant_of-self-in-Break-1 : goal.invariant_of-self-in-Break-1
 invariant_of-self-in-Break-1 c =
     let self = c.args.self.now in
     let rows = rows_of c.fill_empty.new.slots in
     let same = c.in_err-place.ensures.err in
-    let mark = mark_still self.before.items c.reserve-else-is_err.new.self.items self.changed.items c.reserve.new.self.items (rows_of self.slots) rows c.reserve-else-is_err.ensures.items c.reserve.ensures.items same in record {
-      known = known_still self.changed.items c.reserve.new.self.items self.slots c.fill_empty.new.slots c.reserve.ensures.items self.known c.fill_empty.ensures.places;
-      paired = both_still self.before.items c.reserve-else-is_err.new.self.items self.changed.items c.reserve.new.self.items c.reserve-else-is_err.ensures.items c.reserve.ensures.items self.paired;
-      once = once_alike (rows_of self.slots) rows self.once same;
-      once_before = once_alike (undone self.before.items self.changed.items (rows_of self.slots)) _ self.once_before mark;
-      runs = c.fill_empty.ensures.runs;
-      runs_before = runs_alike (kept_at self.locator) (kept_at c.fill_empty.new.locator) self.slots c.fill_empty.new.slots (undone self.before.items self.changed.items (rows_of self.slots)) _ self.runs_before c.fill_empty.ensures.same (stay_kept _ self.slots c.fill_empty.new.slots c.fill_empty.ensures.places) mark;
+    let mark = mark_still self.before.items c.reserve_one.new.before.items self.changed.items c.reserve_one.new.changed.items (rows_of self.slots) rows c.reserve_one.ensures.rows c.reserve_one.ensures.spots same in record {
+      sound = record {
+        known = known_still self.changed.items c.reserve_one.new.changed.items self.slots c.fill_empty.new.slots c.reserve_one.ensures.spots self.sound.known c.fill_empty.ensures.places;
+        paired = both_still self.before.items c.reserve_one.new.before.items self.changed.items c.reserve_one.new.changed.items c.reserve_one.ensures.rows c.reserve_one.ensures.spots self.sound.paired;
+        once = once_alike (rows_of self.slots) rows self.sound.once same;
+        once_before = once_alike (undone self.before.items self.changed.items (rows_of self.slots)) _ self.sound.once_before mark;
+        runs = c.fill_empty.ensures.runs;
+        runs_before = runs_alike (kept_at self.locator) (kept_at c.fill_empty.new.locator) self.slots c.fill_empty.new.slots (undone self.before.items self.changed.items (rows_of self.slots)) _ self.sound.runs_before c.fill_empty.ensures.same (stay_kept _ self.slots c.fill_empty.new.slots c.fill_empty.ensures.places) mark;
+      };
     }
 
 pub invariant_of-self-2 : goal.invariant_of-self-2
@@ -27,15 +34,17 @@ invariant_of-self-2 c =
     let self = c.args.self.now in
     let rows = rows_of c.fill_empty.new.slots in
     let spot : SlotOf = record { at = c.args.at; place = c.in_ok-place.place } in
-    let changed : c.push_reserved.new.self.items ≡ self.changed.items ++ spot ∷ [] = c.push_reserved.ensures.items ∙ ap (λ (l : List SlotOf). l ++ spot ∷ []) c.reserve.ensures.items in
-    let before : c.push_reserved-2.new.self.items ≡ self.before.items ++ None ∷ [] = c.push_reserved-2.ensures.items ∙ ap (λ (l : List (Option OutRow)). l ++ None ∷ []) c.reserve-else-is_err.ensures.items in
-    let mark = mark_kept self.before.items c.push_reserved-2.new.self.items self.changed.items c.push_reserved.new.self.items (rows_of self.slots) rows None (Some c.args.row) spot before changed c.in_ok-place.ensures.rows (sym c.requires.none) self.paired in record {
-      known = known_more self.changed.items c.push_reserved.new.self.items spot self.slots c.fill_empty.new.slots changed self.known c.in_ok-place.ensures.place c.fill_empty.ensures.places;
-      paired = both_grown self.before.items c.push_reserved-2.new.self.items self.changed.items c.push_reserved.new.self.items _ _ before changed self.paired;
-      once = once_more (rows_of self.slots) rows c.args.at c.args.row self.once c.requires.may c.in_ok-place.ensures.rows;
-      once_before = once_alike (undone self.before.items self.changed.items (rows_of self.slots)) _ self.once_before mark;
-      runs = c.fill_empty.ensures.runs;
-      runs_before = runs_alike (kept_at self.locator) (kept_at c.fill_empty.new.locator) self.slots c.fill_empty.new.slots (undone self.before.items self.changed.items (rows_of self.slots)) _ self.runs_before c.fill_empty.ensures.same (stay_kept _ self.slots c.fill_empty.new.slots c.fill_empty.ensures.places) mark;
+    let changed : c.note.new.changed.items ≡ self.changed.items ++ spot ∷ [] = c.note.ensures.spots ∙ ap (λ (l : List SlotOf). l ++ spot ∷ []) c.reserve_one.ensures.spots in
+    let before : c.note.new.before.items ≡ self.before.items ++ None ∷ [] = c.note.ensures.rows ∙ ap (λ (l : List (Option OutRow)). l ++ None ∷ []) c.reserve_one.ensures.rows in
+    let mark = mark_kept self.before.items c.note.new.before.items self.changed.items c.note.new.changed.items (rows_of self.slots) rows None (Some c.args.row) spot before changed c.in_ok-place.ensures.rows (sym c.requires.none) self.sound.paired in record {
+      sound = record {
+        known = known_more self.changed.items c.note.new.changed.items spot self.slots c.fill_empty.new.slots changed self.sound.known c.in_ok-place.ensures.place c.fill_empty.ensures.places;
+        paired = both_grown self.before.items c.note.new.before.items self.changed.items c.note.new.changed.items _ _ before changed self.sound.paired;
+        once = once_more (rows_of self.slots) rows c.args.at c.args.row self.sound.once c.requires.may c.in_ok-place.ensures.rows;
+        once_before = once_alike (undone self.before.items self.changed.items (rows_of self.slots)) _ self.sound.once_before mark;
+        runs = c.fill_empty.ensures.runs;
+        runs_before = runs_alike (kept_at self.locator) (kept_at c.fill_empty.new.locator) self.slots c.fill_empty.new.slots (undone self.before.items self.changed.items (rows_of self.slots)) _ self.sound.runs_before c.fill_empty.ensures.same (stay_kept _ self.slots c.fill_empty.new.slots c.fill_empty.ensures.places) mark;
+      };
     }
 
 pub returns-clause-mark : goal.returns-clause-mark
@@ -43,6 +52,6 @@ returns-clause-mark c =
     let self = c.args.self.now in
     let rows = rows_of c.fill_empty.new.slots in
     let spot : SlotOf = record { at = c.args.at; place = c.in_ok-place.place } in
-    let changed : c.push_reserved.new.self.items ≡ self.changed.items ++ spot ∷ [] = c.push_reserved.ensures.items ∙ ap (λ (l : List SlotOf). l ++ spot ∷ []) c.reserve.ensures.items in
-    let before : c.push_reserved-2.new.self.items ≡ self.before.items ++ None ∷ [] = c.push_reserved-2.ensures.items ∙ ap (λ (l : List (Option OutRow)). l ++ None ∷ []) c.reserve-else-is_err.ensures.items in
-    same_mark self.marked _ _ (mark_kept self.before.items c.push_reserved-2.new.self.items self.changed.items c.push_reserved.new.self.items (rows_of self.slots) rows None (Some c.args.row) spot before changed c.in_ok-place.ensures.rows (sym c.requires.none) self.paired)
+    let changed : c.note.new.changed.items ≡ self.changed.items ++ spot ∷ [] = c.note.ensures.spots ∙ ap (λ (l : List SlotOf). l ++ spot ∷ []) c.reserve_one.ensures.spots in
+    let before : c.note.new.before.items ≡ self.before.items ++ None ∷ [] = c.note.ensures.rows ∙ ap (λ (l : List (Option OutRow)). l ++ None ∷ []) c.reserve_one.ensures.rows in
+    same_mark self.marked _ _ (mark_kept self.before.items c.note.new.before.items self.changed.items c.note.new.changed.items (rows_of self.slots) rows None (Some c.args.row) spot before changed c.in_ok-place.ensures.rows (sym c.requires.none) self.sound.paired)

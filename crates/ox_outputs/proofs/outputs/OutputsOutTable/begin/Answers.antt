@@ -15,11 +15,13 @@ invariant_of-self c =
     let cleared : before ≡ [] = c.settle.ensures.none_before in
     let same = undone_none before changed rows none ∙ c.settle.ensures.rows in
     let live = live_at c.begin.new.self in
-    let lead = lead_still self.slots (live_at self.locator) live self.runs c.begin.ensures.live in record {
-      known = known_none changed c.settle.new.slots none;
-      paired = omega (arith, ap length none, ap length cleared);
-      once = once_alike (rows_of self.slots) rows self.once c.settle.ensures.rows;
-      once_before = once_alike (rows_of self.slots) (undone before changed rows) self.once same;
-      runs = runs_alike live live self.slots c.settle.new.slots (rows_of self.slots) rows lead (λ q. refl) c.settle.ensures.filled c.settle.ensures.rows;
-      runs_before = runs_alike live (kept_at c.begin.new.self) self.slots c.settle.new.slots (rows_of self.slots) (undone before changed rows) lead c.begin.ensures.kept c.settle.ensures.filled same;
+    let lead = lead_still self.slots (live_at self.locator) live self.sound.runs c.begin.ensures.live in record {
+      sound = record {
+        known = known_none changed c.settle.new.slots none;
+        paired = omega (arith, ap length none, ap length cleared);
+        once = once_alike (rows_of self.slots) rows self.sound.once c.settle.ensures.rows;
+        once_before = once_alike (rows_of self.slots) (undone before changed rows) self.sound.once same;
+        runs = runs_alike live live self.slots c.settle.new.slots (rows_of self.slots) rows lead (λ q. refl) c.settle.ensures.filled c.settle.ensures.rows;
+        runs_before = runs_alike live (kept_at c.begin.new.self) self.slots c.settle.new.slots (rows_of self.slots) (undone before changed rows) lead c.begin.ensures.kept c.settle.ensures.filled same;
+      };
     }

@@ -20,10 +20,12 @@ invariant_of-self c =
     let same = c.forget.ensures.rows ∙ back in
     let none = c.forget.ensures.none in
     let stay : Stay was self.slots slots = λ p at row is there. c.forget.ensures.filled p at row (c.go_back.ensures.places p ∙ is) (ap (λ (o : Rows). map.get o at) back ∙ there) in record {
-      known = known_none changed slots none;
-      paired = omega (arith, ap length none, ap length c.go_back.ensures.none);
-      once = once_alike was rows self.once_before same;
-      once_before = once_alike was (undone before changed rows) self.once_before (undone_none before changed rows none ∙ same);
-      runs = runs_alike (kept_at self.locator) (live_at c.cancel.new.self) self.slots slots was rows self.runs_before c.cancel.ensures.live stay same;
-      runs_before = runs_alike (kept_at self.locator) (kept_at c.cancel.new.self) self.slots slots was (undone before changed rows) self.runs_before c.cancel.ensures.kept stay (undone_none before changed rows none ∙ same);
+      sound = record {
+        known = known_none changed slots none;
+        paired = omega (arith, ap length none, ap length c.go_back.ensures.none);
+        once = once_alike was rows self.sound.once_before same;
+        once_before = once_alike was (undone before changed rows) self.sound.once_before (undone_none before changed rows none ∙ same);
+        runs = runs_alike (kept_at self.locator) (live_at c.cancel.new.self) self.slots slots was rows self.sound.runs_before c.cancel.ensures.live stay same;
+        runs_before = runs_alike (kept_at self.locator) (kept_at c.cancel.new.self) self.slots slots was (undone before changed rows) self.sound.runs_before c.cancel.ensures.kept stay (undone_none before changed rows none ∙ same);
+      };
     }
