@@ -7,3 +7,4 @@ pub mod PlaceLemmas
 pub mod RowLemmas
 pub mod SlotLemmas
 pub mod StartLemmas
+pub mod TurnLemmas

@@ -138,3 +138,7 @@ set_again lists i j x low there = ⊎_elim
     (λ same. ap (items_at (slice_set lists i x)) (sym same) ∙ set_here lists i x low ∙ sym (items_there lists i x low there) ∙ ap (items_at lists) same)
     (λ other. set_elsewhere lists i j x other)
     (cases_eq i j)
+
+-- a list that is written back as it was, among lists that are as others were
+pub pushed_not : (lists old : List (SmallVec Entry)) (i : ℕ) (x v : SmallVec Entry) → i < length lists → x ≡ get_or lists i x → v ≡ x → ((j : ℕ) → items_at lists j ≡ items_at old j) → (j : ℕ) → items_at (slice_set lists i v) j ≡ items_at old j
+pushed_not lists old i x v low there is same j = ap (λ (w : SmallVec Entry). items_at (slice_set lists i w) j) is ∙ set_again lists i j x low there ∙ same j

@@ -1,7 +1,8 @@
-use Rattle.std.proofs.Common.{get_or, take, ◌+◌}
-use Rattle.std.proofs.lemmas.List.{take_more}
+use Rattle.std.proofs.Common.{◌∙◌, ap, cond, List, Some, get_or, take, ◌+◌}
+use Rattle.std.proofs.lemmas.List.{take_all, take_more}
 use Rattle.ox_range.proofs.RunLemmas.{zero_run}
-use Rattle.ox_outputs.specs.Starts.{slot_from}
+use Rattle.ox_range.specs.declared.runs.Run.{Run}
+use Rattle.ox_outputs.specs.Starts.{is_among, firsts_of, slot_from}
 use Rattle.ox_outputs.proofs.StartLemmas.{added_run, noted_more}
 use Rattle.ox_outputs.proofs.starts.put_runs.Goals as goal
 
@@ -18,3 +19,8 @@ loop-run-preserved c =
       noted = noted_more _ _ _ _ _ _ c.loop-run.invariant.noted c.put_run.ensures.noted;
       logged = c.put_run.ensures.logged;
     }
+
+pub returns-clause-ok : goal.returns-clause-ok
+returns-clause-ok c = λ q.
+    c.loop-run.invariant.ok q
+    ∙ ap (λ (runs : List Run). cond (is_among (firsts_of runs) q) (Some c.args.slot) (slot_from c.args.starts.now.entries q)) (take_all c.loop-run.run-index c.args.runs.now c.loop-run-test.false)
