@@ -35,6 +35,10 @@ module _ {K V : Type 0} (tag : K → ℕ) where
   tags_left tags new_tags es new i t x low are is items =
       is ∙ ap (λ (l : List ℕ). swap_remove l i t) are ∙ map-swap_remove (λ (e : K × V). tag e.0) es i x t low ∙ ap tags_of (sym items)
 
+  -- a tag stands at each place of the keys, as they are seen
+  pub tag_low : (tags : List ℕ) (es seen : Entries K V) (i : ℕ) → tags ≡ tags_of es → es ≡ seen → i < length seen → i < length tags
+  tag_low tags es seen i are is low = omega (arith, low, ap length is, ap length are, length-map es (λ (e : K × V). tag e.0))
+
   module _ (tags : List ℕ) (es : Entries K V) (are : tags ≡ tags_of es) where
     as_many : length tags ≡ length es
     as_many = ap length are ∙ length-map es (λ (e : K × V). tag e.0)

@@ -25,3 +25,6 @@ loop-place-preserved g c =
       | else-other-tag-via-else-other-tag w ↦
           other_tag g.K.Sharded.tag c.args.tags.now c.args.entries.now c.requires g.K.Ord.cmp c.args.key.now g.met.K.Sharded.same_tag c.tag-tag.result c.loop-place.place c.tag-tag.ensures c.loop-place-test.true w.if-other-tag.false
     ])
+
+pub bounds-entries-place : goal.bounds-entries-place
+bounds-entries-place g c = key_there g.K.Sharded.tag c.args.tags.now c.args.entries.now c.requires c.loop-place.place c.loop-place-test.true

@@ -1,6 +1,9 @@
-use Rattle.std.proofs.Common.{arith, ◌∷◌, List, IsPermutation, get_or, length, ap, subst}
-use Rattle.ox_shards.proofs.TagLemmas.{tags_left, left_after}
+use Rattle.std.proofs.Common.{rules, arith, ◌∷◌, List, IsPermutation, get_or, length, ap, subst}
+use Rattle.ox_shards.proofs.TagLemmas.{tags_left, tag_low, left_after}
 use Rattle.ox_shards.proofs.shard.Shard.take.Goals as goal
+
+pub swap_remove-requires : goal.swap_remove-requires
+swap_remove-requires g c = (search rules, tag_low g.K.Sharded.tag c.self.inside.tags.items c.self.inside.entries.items c.args.self.now c.args.place c.self.invariant c.self.view_is c.requires)
 
 pub invariant_of-self : goal.invariant_of-self
 invariant_of-self g c =
