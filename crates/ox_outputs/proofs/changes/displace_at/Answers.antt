@@ -19,3 +19,6 @@ returns-clause-runs c =
     (λ q. ap (λ (o : Outputs). map.get o q) (c.exchange.ensures.rows at c.requires.spot) ∙ get-put_slot rows at (Some row) q)
     c.requires.may c.requires.runs c.requires.spot c.in-Ok.ensures.ok in
     runs_alike moved moved slots c.exchange.new.self new new come (λ q. refl) (stay_same new slots c.exchange.new.self c.exchange.ensures.places) refl
+
+pub returns-clause-rows : goal.returns-clause-rows
+returns-clause-rows c = c.exchange.ensures.rows c.args.spot.at c.requires.spot

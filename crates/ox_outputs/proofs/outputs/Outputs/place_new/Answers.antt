@@ -1,4 +1,4 @@
-use Rattle.std.proofs.Common.{◌≡◌, ◌∙◌, ap, sym, List, Option, Some, None, [], ◌∷◌, ◌++◌}
+use Rattle.std.proofs.Common.{◌≡◌, ◌∙◌, refl, ap, sym, List, Option, Some, None, [], ◌∷◌, ◌++◌}
 use Rattle.ox_rules.specs.declared.rows.OutRow.{OutRow}
 use Rattle.ox_outputs.specs.declared.slot_of.SlotOf.{SlotOf}
 use Rattle.ox_outputs.specs.Locator.{kept_at}
@@ -46,6 +46,12 @@ invariant_of-self-2 c =
         runs_before = runs_alike (kept_at self.locator) (kept_at c.fill_empty.new.locator) self.slots c.fill_empty.new.slots (undone self.before.items self.changed.items (rows_of self.slots)) _ self.sound.runs_before c.fill_empty.ensures.same (stay_kept _ self.slots c.fill_empty.new.slots c.fill_empty.ensures.places) mark;
       };
     }
+
+pub returns-in_default-clause-mark : goal.returns-in_default-clause-mark
+returns-in_default-clause-mark c =
+    let self = c.args.self.now in
+    let rows = rows_of self.slots in
+    same_mark self.marked _ _ (mark_still self.before.items c.reserve_one.new.before.items self.changed.items c.reserve_one.new.changed.items rows rows c.reserve_one.ensures.rows c.reserve_one.ensures.spots refl)
 
 pub returns-clause-mark : goal.returns-clause-mark
 returns-clause-mark c =
