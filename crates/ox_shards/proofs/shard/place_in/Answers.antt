@@ -1,4 +1,4 @@
-use Rattle.std.proofs.Common.{◌≡◌, get_or, true, false}
+use Rattle.std.proofs.Common.{◌≡◌, ◌<◌, ◌≤◌, ℕ, arith, get_or, true, false}
 use Rattle.std.specs.BTreeMap.{is_at}
 use borrow.Author.Count.{below_more}
 use Rattle.ox_shards.proofs.ListLemmas.{first_place, no_place}
@@ -28,3 +28,9 @@ loop-place-preserved g c =
 
 pub bounds-entries-place : goal.bounds-entries-place
 bounds-entries-place g c = key_there g.K.Sharded.tag c.args.tags.now c.args.entries.now c.requires c.loop-place.place c.loop-place-test.true
+
+at_most : (i n : ℕ) → i < n → i ≤ n
+at_most i n low = omega (arith, low)
+
+pub offset_bounds-entries-place : goal.offset_bounds-entries-place
+offset_bounds-entries-place g c = at_most _ _ (key_there g.K.Sharded.tag c.args.tags.now c.args.entries.now c.requires c.loop-place.place c.loop-place-test.true)
