@@ -1,9 +1,10 @@
 //! The ledger of runes.
 
-ghost use Rattle.std.specs.Prelude.{◌≡◌, ◌↔◌, ◌^◌, ◌<◌, is_some};
+ghost use Rattle.std.specs.Prelude.{◌≡◌, ◌↔◌, ◌^◌, ◌<◌, is_some, IfOk, None};
 ghost use Rattle.std.proofs.Props.{props};
 ghost use Rattle.std.specs.Option.{ForSome, IfSome};
 ghost use Rattle.ox_ledger.specs.Balanced.{Balanced, made_of};
+ghost use Rattle.ox_ledger.specs.Block.{first_rune, no_runes};
 ghost use Rattle.ox_ledger.specs.Tables.{mark_of, runes_of};
 
 use crate::ahead::read_ahead;
@@ -37,6 +38,26 @@ const FIRST_RUNE: RuneRow = RuneRow {
     burned: 0,
     etching: Txid([0; 32]),
 };
+
+/// The rune that is there from the start of mainnet.
+fn first_rune() -> RuneRow
+    ensures { result ≡ first_rune }
+{
+    FIRST_RUNE
+}
+
+/// The runes that are there before a chain's first block, and no mark. `Memory` where there is none
+/// for them.
+fn tables_at_start(alloc: Global, p: &Profile) -> Result<Tables, Memory>
+    ensures runes { IfOk result (λ tables. runes_of tables ≡ no_runes p.now) }
+    ensures mark { IfOk result (λ tables. mark_of tables ≡ None) }
+{
+    let mut tables = Tables::new(alloc);
+    if p.first_rune {
+        tables.runes.push(first_rune())?;
+    }
+    Ok(tables)
+}
 
 /// What a rune's etching and its mints gave.
 fn made_of(row: &RuneRow) -> u128
@@ -81,11 +102,10 @@ impl Drop for Ledger {
 }
 
 impl Ledger {
-    ghost use Rattle.std.specs.Prelude.{ℕ, Some, None, IsSome, IfOk, OnOk, OnErr, length};
+    ghost use Rattle.std.specs.Prelude.{ℕ, Some, IsSome, OnOk, OnErr, length};
     ghost use Rattle.std.specs.Prelude.{slice_get, unwrap_or};
     ghost use Rattle.std.specs.FinMap.{values};
     ghost use Rattle.ox_ledger.specs.Balanced.{amount_held};
-    ghost use Rattle.ox_ledger.specs.Block.{no_runes};
     ghost use Rattle.ox_ledger.specs.Ledger.{mark_in, runes_in};
     ghost use Rattle.ox_ledger.specs.Moves.{Begins, Ends};
     ghost use Rattle.ox_ledger.specs.Part.{Continues, IsPart, earlier_end, later_end};
@@ -101,10 +121,7 @@ impl Ledger {
         ensures mark { IfOk result (λ ledger. mark_in ledger ≡ None) }
         ensures profile { IfOk result (λ ledger. ledger.profile ≡ p.now) }
     {
-        let mut tables = Tables::new(alloc);
-        if p.first_rune {
-            tables.runes.push(FIRST_RUNE)?;
-        }
+        let tables = tables_at_start(alloc, p)?;
         Ok(Ledger {
             alloc,
             profile: *p,
