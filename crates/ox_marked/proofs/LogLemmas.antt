@@ -1,6 +1,6 @@
 -- What stood where something was put, as a list of which the oldest comes first.
 use Rattle.std.proofs.Common.{not, ◌≡◌, ◌∙◌, ℕ, ◌<◌, ◌+◌, Bool, true, false, cond, List, [], ◌∷◌, ◌++◌, drop, get_or, length, Option, Some, None, is_some, Result, Ok, Err, Bor, Ordering, Less, Equal, Greater, refl, sym, ap, subst, true≢false}
-use Rattle.std.specs.Prelude.{IsSome, IsOk, IfOk, OnOk, All, ◌||◌, ◌&&◌, if◌then◌else◌}
+use Rattle.std.specs.Prelude.{IsSome, IsOk, IfOk, OnOk, OnErr, All, ◌||◌, ◌&&◌, if◌then◌else◌}
 use Rattle.std.specs.Ordering.{eq_by_cmp, is_eq, is_lt}
 use Rattle.std.specs.Cmp.{IsTotalOrder, eq_by_cmp_equiv}
 use Rattle.std.specs.Option.{IfSome, option_copied, option_flatten, option_map, option_or, unwrap_or}
@@ -14,7 +14,7 @@ use Rattle.std.proofs.lemmas.Map.Entries.{lookup-filter-keys, lookup_from_place}
 use Rattle.std.proofs.lemmas.Map.Keys.{IsDistinct-from_sorted}
 use Rattle.std.proofs.lemmas.Option.{slice_get-get_or}
 use Rattle.std.proofs.lemmas.List.{drop_more}
-use Rattle.std.proofs.lemmas.List.Elements.{All-weaker}
+use Rattle.std.proofs.lemmas.List.Elements.{All-push, All-same, All-weaker}
 use Rattle.ox_marked.specs.Marked.{Values, standing, before_in, AreLogged}
 
 equal : (r : Ordering) → is_eq r ≡ true → r ≡ Equal
@@ -26,6 +26,11 @@ equal Greater is = absurd (true≢false (sym is))
 pub of_ok : {A E P : Type 0} (r : Result A E) → IsOk r → OnOk r P → P
 of_ok (Ok x) is p = p
 of_ok (Err e) is p = absurd (true≢false (sym is))
+
+-- what holds in any case holds of an Err
+pub on_err : {A E P : Type 0} (r : Result A E) → P → OnErr r P
+on_err (Ok x) p = tt
+on_err (Err e) p = p
 
 -- what two facts on an answer say together
 pub both_ok : {A E : Type 0} (r : Result A E) (P Q R : A → Type 0) → ((a : A) → P a → Q a → R a) → IfOk r P → IfOk r Q → IfOk r R
@@ -56,6 +61,10 @@ noted_by : {V : Type 0} (a : Option (Option V)) (b : Bool) (stood value : Option
 noted_by (Some v) b stood value now was same is = refl
 noted_by None true stood value now was same is = same refl
 noted_by None false stood value now was same is = ap (λ o. unwrap_or o None) is
+
+pub content_by : {V : Type 0} (b : Bool) (value : Option V) (now was : Option (Option V)) → now ≡ cond b (Some value) was → unwrap_or now None ≡ (if b then value else unwrap_or was None)
+content_by true value now was is = ap (λ o. unwrap_or o None) is
+content_by false value now was is = ap (λ o. unwrap_or o None) is
 
 back_by : {V : Type 0} (b : Bool) (value rest after : Option V) (later : Option (Option V)) (now was : Option (Option V)) → now ≡ cond b (Some value) was → unwrap_or was None ≡ unwrap_or later after
     → unwrap_or now None ≡ unwrap_or (cond b (Some value) later) after
@@ -122,6 +131,23 @@ module _ {K V : Type 0} {cmp : K → K → Ordering} (o : IsTotalOrder cmp) wher
   logged_still log entries new key value put logged =
       All-weaker (λ (note : K × Option V). IsSome (lookup (is_at (cmp note.0)) entries)) (λ (note : K × Option V). IsSome (lookup (is_at (cmp note.0)) new))
       (λ note some. still_by (is_eq (cmp key note.0)) value _ _ (put note.0) some) log logged
+
+  -- and one stands where something was put
+  pub logged_more : (log later entries new : Values K V) (key : K) (value stood : Option V) → later ≡ log ++ (key, stood) ∷ []
+      → ((q : K) → lookup (is_at (cmp q)) new ≡ cond (is_eq (cmp key q)) (Some value) (lookup (is_at (cmp q)) entries)) → AreLogged cmp log entries → AreLogged cmp later new
+  logged_more log later entries new key value stood pushed put logged =
+      let There : K × Option V → Type 0 = λ note. IsSome (lookup (is_at (cmp note.0)) new) in
+      All-same There later (log ++ (key, stood) ∷ []) pushed
+      (All-push There log (key, stood) (logged_still log entries new key value put logged)
+      (subst IsSome (sym (put key ∙ ap (λ (b : Bool). cond b (Some value) (lookup (is_at (cmp key)) entries)) ((eq_by_cmp_equiv o).refl key))) refl))
+
+  -- what is put for a note that is the same
+  pub put_for : (entries new : Values K V) (told note : K × Option V) (value : Option V) → told ≡ note → value ≡ told.1
+      → ((q : K) → lookup (is_at (cmp q)) new ≡ cond (is_eq (cmp told.0 q)) (Some value) (lookup (is_at (cmp q)) entries))
+      → (q : K) → lookup (is_at (cmp q)) new ≡ cond (is_eq (cmp note.0 q)) (Some note.1) (lookup (is_at (cmp q)) entries)
+  put_for entries new told note value same is put q =
+      put q ∙ ap (λ (v : Option V). cond (is_eq (cmp told.0 q)) (Some v) (lookup (is_at (cmp q)) entries)) is
+      ∙ ap (λ (n : K × Option V). cond (is_eq (cmp n.0 q)) (Some n.1) (lookup (is_at (cmp q)) entries)) same
 
   -- one more is put back
   pub one_back : (log entries new : Values K V) (after : K → Option V) (note d : K × Option V) (k left : ℕ) → k + 1 ≡ left → k < length log → get_or log k d ≡ note

@@ -111,11 +111,10 @@ impl<K: Sharded, V> Marked<K, V> {
         ensures err { OnErr result (self.new ≡ self.old) }
     {
         self.log.reserve(1)?;
-        let goes = usize::from(value.is_none());
+        let goes = value.is_none();
         let stood = self.entries.insert(key, value)?;
-        let went = usize::from(is_empty(&stood));
-        self.gone = self.gone.wrapping_add(goes).wrapping_sub(went);
-        self.blank |= (goes > 0) & stood.is_none();
+        self.gone = count_after(self.gone, goes, is_empty(&stood));
+        self.blank |= goes & stood.is_none();
         self.log.push_reserved((key, stood.flatten()));
         Ok(())
     }
@@ -190,6 +189,12 @@ impl<K: Sharded, V> Marked<K, V> {
     {
         oldest(self.alloc, &self.log)
     }
+}
+
+/// How many entries have no value after one came without one, or one without one went.
+fn count_after(gone: usize, comes: bool, went: bool) -> usize {
+    gone.wrapping_add(usize::from(comes))
+        .wrapping_sub(usize::from(went))
 }
 
 /// Whether there is an entry without a value.

@@ -1,8 +1,8 @@
-use Rattle.std.proofs.Common.{◌≡◌, ◌∙◌, ◌<◌, ◌-◌, Option, Some, cond, is_eq, arith, ap, refl, sym, subst, length, length-set, get_or, get_or-set_other}
+use Rattle.std.proofs.Common.{◌≡◌, ◌∙◌, ◌<◌, ◌-◌, Option, arith, refl, sym, subst, length, length-set, get_or, get_or-set_other}
 use Rattle.std.specs.Prelude.{IsSome}
 use Rattle.std.specs.Map.{lookup}
 use Rattle.std.specs.BTreeMap.{is_at}
-use Rattle.ox_marked.proofs.LogLemmas.{logged_still, one_back}
+use Rattle.ox_marked.proofs.LogLemmas.{logged_still, one_back, put_for}
 use Rattle.ox_marked.proofs.marked.put_back.Given.{Over}
 use Rattle.ox_marked.proofs.marked.put_back.Goals.{After-take}
 use Rattle.ox_marked.proofs.marked.put_back.Goals as goal
@@ -26,8 +26,8 @@ loop-left-preserved g c =
     let k = c.loop-left.left - 1 in
     let d = c.index-log-left.result in
     let note = get_or log k d in
-    let put : (q : g.row.K.Denot) → lookup (is_at (g.K.Ord.cmp q)) c.set.new.entries ≡ cond (is_eq (g.K.Ord.cmp note.0 q)) (Some note.1) (lookup (is_at (g.K.Ord.cmp q)) c.loop-left.entries) =
-    λ q. c.set.ensures q ∙ (λ i. cond (is_eq (g.K.Ord.cmp (at g p i).0 q)) (Some ((c.take.ensures.value ∙ ap (λ (n : g.row.K.Denot × Option g.row.V.Denot). n.1) (at g p)) i)) (lookup (is_at (g.K.Ord.cmp q)) c.loop-left.entries)) in
+    let told = get_or c.loop-left.log k d in
+    let put = put_for g.met.K.Ord.total c.loop-left.entries c.set.new.entries told note c.take.result (at g p) c.take.ensures.value c.set.ensures in
     let after : g.row.K.Denot × Option g.row.V.Denot = ((get_or c.loop-left.log k d).0, c.take.new.self) in
     let same = length-set c.loop-left.log k after in record {
       within = omega (arith, same, c.loop-left.invariant.within);
