@@ -14,7 +14,7 @@ use Rattle.std.proofs.lemmas.Map.Entries.{lookup-filter-keys, lookup_from_place}
 use Rattle.std.proofs.lemmas.Map.Keys.{IsDistinct-from_sorted}
 use Rattle.std.proofs.lemmas.Option.{slice_get-get_or}
 use Rattle.std.proofs.lemmas.List.{drop_more}
-use Rattle.std.proofs.lemmas.List.Elements.{All-push, All-same, All-weaker}
+use Rattle.std.proofs.lemmas.List.Elements.{All-nil, All-push, All-same, All-weaker}
 use Rattle.ox_marked.specs.Marked.{Values, standing, before_in, AreLogged}
 
 equal : (r : Ordering) → is_eq r ≡ true → r ≡ Equal
@@ -166,6 +166,24 @@ module _ {K V : Type 0} {cmp : K → K → Ordering} (o : IsTotalOrder cmp) wher
   swept entries new key none gone q =
       swept_by (is_eq (cmp key q)) (lookup (is_at (cmp q)) new) (lookup (is_at (cmp q)) entries)
       (λ same. ap (λ (e : Option (Option V)). unwrap_or e None) (sym (alike o entries key q same)) ∙ none) (gone q)
+
+-- ---- all is put back
+
+pub none_logged : {K V : Type 0} (cmp : K → K → Ordering) (log entries : Values K V) → log ≡ [] → AreLogged cmp log entries
+none_logged {K} {V} cmp log entries none =
+    let There : K × Option V → Type 0 = λ note. IsSome (lookup (is_at (cmp note.0)) entries) in
+    All-same There log [] none (All-nil There)
+
+-- what stood at the mark stands again
+pub back_to : {K V : Type 0} (cmp : K → K → Ordering) (log told entries back swept : Values K V) → told ≡ log → ((q : K) → standing cmp back q ≡ before_in cmp told (standing cmp entries) q)
+    → ((q : K) → standing cmp swept q ≡ standing cmp back q) → (q : K) → standing cmp swept q ≡ before_in cmp log (standing cmp entries) q
+back_to {K} {V} cmp log told entries back swept same put sweeps q = sweeps q ∙ put q ∙ ap (λ (l : Values K V). before_in cmp l (standing cmp entries) q) same
+
+-- and the mark stays
+pub mark_kept : {K V : Type 0} (cmp : K → K → Ordering) (log cleared entries swept : Values K V) (marked : Bool) → cleared ≡ [] → ((q : K) → standing cmp swept q ≡ before_in cmp log (standing cmp entries) q)
+    → ◌≡◌ {A = Option (K → Option V)} (if marked then Some (before_in cmp cleared (standing cmp swept)) else None) (if marked then Some (before_in cmp log (standing cmp entries)) else None)
+mark_kept {K} {V} cmp log cleared entries swept marked none back =
+    ap (λ (f : K → Option V). if marked then Some f else None) (λ i q. (ap (λ (l : Values K V). before_in cmp l (standing cmp swept) q) none ∙ back q) i)
 
 -- ---- what was put
 
