@@ -6,7 +6,7 @@ use Rattle.std.proofs.lemmas.Bool.{cases_lt, ltb-false, le-ltb, eqb-true, eqb-fa
 use Rattle.std.proofs.lemmas.List.{append-nil, nil_from_length}
 use Rattle.ox_bytes.specs.Spelling.{compact}
 use Rattle.ox_bytes.specs.Reading.{◌>>=◌, number_at, run_at, both, counted_list}
-use Rattle.ox_bytes.proofs.Laws.{IsBytes, IsBytes-rest, bind_ok, chosen, guard_ok, ok_is, Takes, Takes-then, Law, wide32, number_law, run_law, compact_1, compact_2, compact_4, compact_8, both_law, reading_map_law, counted_list_law}
+use Rattle.ox_bytes.proofs.Laws.{IsBytes, IsBytes-rest, bind_ok, chosen, guard_ok, ok_of, ok_is, Takes, Takes-then, Law, wide32, number_law, run_law, compact_1, compact_2, compact_4, compact_8, both_law, reading_map_law, counted_list_law}
 use Rattle.ox_block.specs.declared.block.TxIn.{TxIn}
 use Rattle.ox_block.specs.declared.block.TxOut.{TxOut}
 use Rattle.ox_block.specs.declared.block.Tx.{Tx}
@@ -149,24 +149,84 @@ tx_joined bytes r1 r2 r3 r4 r5 r6 version m bare ins outs lock tv tm tb to tw tl
       },
     )
 
-tx_take : (bytes : List ℕ) (z : Tx × List ℕ) → IsBytes bytes → tx_at bytes ≡ Ok z → Takes bytes (tx z.0) z.1 × LawfulTx z.0
+-- What is left to read of a transaction, by the parts that were read.
+abbrev lock_then : ℕ → Bool → List TxIn → List TxOut → List ℕ → Result (Tx × List ℕ) ℕ
+lock_then version m ins outs bytes = number_at w32 bytes >>= λ lock. Ok (record { version = version; marked = m; inputs = ins; outputs = outs; lock = lock.0 }, lock.1)
+
+abbrev stacks_then : ℕ → Bool → ℕ → List TxIn → List TxOut → List ℕ → Result (Tx × List ℕ) ℕ
+stacks_then version m marker bare outs bytes = maybe_witnesses_at m marker bare bytes >>= λ ins. lock_then version m ins.0 outs ins.1
+
+abbrev outputs_then : ℕ → Bool → ℕ → List TxIn → List ℕ → Result (Tx × List ℕ) ℕ
+outputs_then version m marker bare bytes = outputs_at bytes >>= λ outs. stacks_then version m marker bare outs.0 outs.1
+
+abbrev inputs_then : ℕ → Bool → ℕ → List ℕ → Result (Tx × List ℕ) ℕ
+inputs_then version m marker bytes = inputs_at bytes >>= λ bare. outputs_then version m marker bare.0 bare.1
+
+abbrev marker_then : ℕ → List ℕ → Result (Tx × List ℕ) ℕ
+marker_then version bytes = marker_at bytes >>= λ m. inputs_then version m.0 (length bytes) m.1
+
+-- A lawful transaction was read, spelled by what it took.
+abbrev IsTaken : List ℕ → Tx × List ℕ → Type 0
+IsTaken bytes z = Takes bytes (tx z.0) z.1 × LawfulTx z.0
+
+-- what the bytes of a version, and of a mark, and so on, were taken from
+abbrev VersionTaken : List ℕ → ℕ → List ℕ → Type 0
+VersionTaken bytes version r1 = Takes bytes (to_le_bytes w32 version) r1 × (version < 2 ^ 32)
+
+abbrev BareTaken : List ℕ → List TxIn → List ℕ → Type 0
+BareTaken r2 bare r3 = Takes r2 (inputs bare) r3 × (IsCount (length bare) × AllByRecursion FitsBare bare)
+
+abbrev OutputsTaken : List ℕ → List TxOut → List ℕ → Type 0
+OutputsTaken r3 outs r4 = Takes r3 (outputs outs) r4 × FitsOutputs outs
+
+abbrev StacksTaken : List ℕ → Bool → List TxIn → List TxIn → List ℕ → Type 0
+StacksTaken r4 m bare ins r5 = Takes r4 (tail m ins) r5 × FitStacks ins × (bares ins ≡ bare) × (m ≡ list_any has_witness ins)
+
+-- each step, by the parts before it
+lock_taken : (bytes r1 r2 r3 r4 r5 : List ℕ) (version : ℕ) (m : Bool) (bare ins : List TxIn) (outs : List TxOut) (lock : ℕ × List ℕ) (z : Tx × List ℕ)
+    → VersionTaken bytes version r1 → Takes r1 (mark m) r2 → BareTaken r2 bare r3 → OutputsTaken r3 outs r4 → StacksTaken r4 m bare ins r5
+    → number_at w32 r5 ≡ Ok lock → ok_of {F = ℕ} (record { version = version; marked = m; inputs = ins; outputs = outs; lock = lock.0 }, lock.1) ≡ Ok z → IsTaken bytes z
+lock_taken bytes r1 r2 r3 r4 r5 version m bare ins outs lock z tv tm tb to tw is e =
+    let made : Tx × List ℕ = (record { version = version; marked = m; inputs = ins; outputs = outs; lock = lock.0 }, lock.1) in
+    subst (IsTaken bytes) (ok_is {F = ℕ} made z e)
+    (tx_joined bytes r1 r2 r3 r4 r5 lock.1 version m bare ins outs lock.0 tv tm tb to tw ((number_law w32 (2 ^ 32) wide32).takes r5 lock tw.0.rest_fits is))
+
+stacks_taken : (bytes r1 r2 r3 r4 : List ℕ) (version : ℕ) (m : Bool) (bare : List TxIn) (outs : List TxOut) (ins : List TxIn × List ℕ) (z : Tx × List ℕ)
+    → VersionTaken bytes version r1 → Takes r1 (mark m) r2 → BareTaken r2 bare r3 → OutputsTaken r3 outs r4
+    → maybe_witnesses_at m (length r1) bare r4 ≡ Ok ins → lock_then version m ins.0 outs ins.1 ≡ Ok z → IsTaken bytes z
+stacks_taken bytes r1 r2 r3 r4 version m bare outs ins z tv tm tb to is e =
+    let l = bind_ok (number_at w32 ins.1) (λ lock. Ok (record { version = version; marked = m; inputs = ins.0; outputs = outs; lock = lock.0 }, lock.1)) z e in
+    lock_taken bytes r1 r2 r3 r4 ins.1 version m bare ins.0 outs l.0 z tv tm tb to (maybe_take m (length r1) bare r4 ins to.0.rest_fits tb.1.1 is) l.1 l.2
+
+outputs_taken : (bytes r1 r2 r3 : List ℕ) (version : ℕ) (m : Bool) (bare : List TxIn) (outs : List TxOut × List ℕ) (z : Tx × List ℕ)
+    → VersionTaken bytes version r1 → Takes r1 (mark m) r2 → BareTaken r2 bare r3
+    → outputs_at r3 ≡ Ok outs → stacks_then version m (length r1) bare outs.0 outs.1 ≡ Ok z → IsTaken bytes z
+outputs_taken bytes r1 r2 r3 version m bare outs z tv tm tb is e =
+    let w = bind_ok (maybe_witnesses_at m (length r1) bare outs.1) (λ ins. lock_then version m ins.0 outs.0 ins.1) z e in
+    stacks_taken bytes r1 r2 r3 outs.1 version m bare outs.0 w.0 z tv tm tb (outputs_law.takes r3 outs tb.0.rest_fits is) w.1 w.2
+
+inputs_taken : (bytes r1 r2 : List ℕ) (version : ℕ) (m : Bool) (bare : List TxIn × List ℕ) (z : Tx × List ℕ)
+    → VersionTaken bytes version r1 → Takes r1 (mark m) r2 → inputs_at r2 ≡ Ok bare → outputs_then version m (length r1) bare.0 bare.1 ≡ Ok z → IsTaken bytes z
+inputs_taken bytes r1 r2 version m bare z tv tm is e =
+    let o = bind_ok (outputs_at bare.1) (λ outs. stacks_then version m (length r1) bare.0 outs.0 outs.1) z e in
+    outputs_taken bytes r1 r2 bare.1 version m bare.0 o.0 z tv tm (inputs_law.takes r2 bare tm.rest_fits is) o.1 o.2
+
+marker_taken : (bytes r1 : List ℕ) (version : ℕ) (m : Bool × List ℕ) (z : Tx × List ℕ)
+    → VersionTaken bytes version r1 → marker_at r1 ≡ Ok m → inputs_then version m.0 (length r1) m.1 ≡ Ok z → IsTaken bytes z
+marker_taken bytes r1 version m z tv is e =
+    let b = bind_ok (inputs_at m.1) (λ bare. outputs_then version m.0 (length r1) bare.0 bare.1) z e in
+    inputs_taken bytes r1 m.1 version m.0 b.0 z tv (marker_takes r1 m tv.0.rest_fits is) b.1 b.2
+
+version_taken : (bytes : List ℕ) (version : ℕ × List ℕ) (z : Tx × List ℕ) → IsBytes bytes → number_at w32 bytes ≡ Ok version → marker_then version.0 version.1 ≡ Ok z → IsTaken bytes z
+version_taken bytes version z fits is e =
+    let m = bind_ok (marker_at version.1) (λ m. inputs_then version.0 m.0 (length version.1) m.1) z e in
+    marker_taken bytes version.1 version.0 m.0 z ((number_law w32 (2 ^ 32) wide32).takes bytes version fits is) m.1 m.2
+
+tx_take : (bytes : List ℕ) (z : Tx × List ℕ) → IsBytes bytes → tx_at bytes ≡ Ok z → IsTaken bytes z
 unfolding tx_at
 tx_take bytes z fits e =
-    let v = bind_ok (number_at w32 bytes) (λ version. marker_at version.1 >>= λ marked. inputs_at marked.1 >>= λ bare. outputs_at bare.1 >>= λ outs. maybe_witnesses_at marked.0 (length version.1) bare.0 outs.1 >>= λ ins. number_at w32 ins.1 >>= λ lock. Ok (record { version = version.0; marked = marked.0; inputs = ins.0; outputs = outs.0; lock = lock.0 }, lock.1)) z e in
-    let m = bind_ok (marker_at v.0.1) (λ marked. inputs_at marked.1 >>= λ bare. outputs_at bare.1 >>= λ outs. maybe_witnesses_at marked.0 (length v.0.1) bare.0 outs.1 >>= λ ins. number_at w32 ins.1 >>= λ lock. Ok (record { version = v.0.0; marked = marked.0; inputs = ins.0; outputs = outs.0; lock = lock.0 }, lock.1)) z v.2 in
-    let b = bind_ok (inputs_at m.0.1) (λ bare. outputs_at bare.1 >>= λ outs. maybe_witnesses_at m.0.0 (length v.0.1) bare.0 outs.1 >>= λ ins. number_at w32 ins.1 >>= λ lock. Ok (record { version = v.0.0; marked = m.0.0; inputs = ins.0; outputs = outs.0; lock = lock.0 }, lock.1)) z m.2 in
-    let o = bind_ok (outputs_at b.0.1) (λ outs. maybe_witnesses_at m.0.0 (length v.0.1) b.0.0 outs.1 >>= λ ins. number_at w32 ins.1 >>= λ lock. Ok (record { version = v.0.0; marked = m.0.0; inputs = ins.0; outputs = outs.0; lock = lock.0 }, lock.1)) z b.2 in
-    let w = bind_ok (maybe_witnesses_at m.0.0 (length v.0.1) b.0.0 o.0.1) (λ ins. number_at w32 ins.1 >>= λ lock. Ok (record { version = v.0.0; marked = m.0.0; inputs = ins.0; outputs = o.0.0; lock = lock.0 }, lock.1)) z o.2 in
-    let l = bind_ok (number_at w32 w.0.1) (λ lock. Ok (record { version = v.0.0; marked = m.0.0; inputs = w.0.0; outputs = o.0.0; lock = lock.0 }, lock.1)) z w.2 in
-    let tv = (number_law w32 (2 ^ 32) wide32).takes bytes v.0 fits v.1 in
-    let tm = marker_takes v.0.1 m.0 tv.0.rest_fits m.1 in
-    let tb = inputs_law.takes m.0.1 b.0 tm.rest_fits b.1 in
-    let to = outputs_law.takes b.0.1 o.0 tb.0.rest_fits o.1 in
-    let tw = maybe_take m.0.0 (length v.0.1) b.0.0 o.0.1 w.0 to.0.rest_fits tb.1.1 w.1 in
-    let tl = (number_law w32 (2 ^ 32) wide32).takes w.0.1 l.0 tw.0.rest_fits l.1 in
-    let made : Tx = record { version = v.0.0; marked = m.0.0; inputs = w.0.0; outputs = o.0.0; lock = l.0.0 } in
-    subst (λ (y : Tx × List ℕ). Takes bytes (tx y.0) y.1 × LawfulTx y.0) (ok_is {F = ℕ} (made, l.0.1) z l.2)
-    (tx_joined bytes v.0.1 m.0.1 b.0.1 o.0.1 w.0.1 l.0.1 v.0.0 m.0.0 b.0.0 w.0.0 o.0.0 l.0.0 tv tm tb to tw tl)
+    let v = bind_ok (number_at w32 bytes) (λ version. marker_then version.0 version.1) z e in
+    version_taken bytes v.0 z fits v.1 v.2
 
 tx_repeat : (t : Tx) (rest : List ℕ) → LawfulTx t → tx_at (tx t ++ rest) ≡ Ok (t, rest)
 unfolding tx_at
