@@ -13,10 +13,8 @@ use crate::block::{Block, Header, OutPoint, Tx, TxIn, TxOut, Txid};
 use crate::few::Form;
 use crate::lists::{Inputs, Outs, Txs};
 use crate::script::Script;
-use crate::witness::{Witness, behind_strings};
-use ox_bytes::{
-    FieldFault, ReadError, compact_field, run_field, string_field, u32le_field, u64le_field,
-};
+use crate::witness::{Witness, behind_strings, string_of};
+use ox_bytes::{FieldFault, ReadError, compact_field, string_field, u32le_field, u64le_field};
 use std::alloc::Global;
 
 /// The most satoshis of a transaction's outputs together.
@@ -132,12 +130,10 @@ fn inputs_of(alloc: Global, bytes: &[u8]) -> Result<(Inputs, &[u8]), ReadError>
 
 /// A script, copied: its length as a compact size, and its bytes. The length and the bytes are two
 /// fields.
-#[tactic(auto, unfolding(ox_bytes::specs::Reading::string_at))]
 fn script_of(alloc: Global, bytes: &[u8]) -> Result<(Script, &[u8]), ReadError>
     ensures { GivesOrMemory (λ x. (x.0, x.1.now)) result (string_at bytes.now) }
 {
-    let (len, rest) = compact_field(bytes)?;
-    let (run, rest) = run_field(rest, len)?;
+    let (run, rest) = string_of(bytes)?;
     Ok((Script::copy(alloc, run)?, rest))
 }
 

@@ -107,7 +107,7 @@ impl Witness {
 
 /// A byte string, which isn't copied, and the bytes behind it.
 #[tactic(auto, unfolding(ox_bytes::specs::Reading::string_at))]
-fn string_of(bytes: &[u8]) -> Result<(&[u8], &[u8]), FieldFault>
+pub(crate) fn string_of(bytes: &[u8]) -> Result<(&[u8], &[u8]), FieldFault>
     ensures { Gives (λ x. (x.0.now, x.1.now)) result (string_at bytes.now) }
 {
     let (len, rest) = compact_field(bytes)?;
