@@ -1,5 +1,5 @@
 -- Scripts that commit to witnesses, and the ids that they commit to.
-use Rattle.std.proofs.Common.{◌≡◌, ℕ, zero, suc, ◌+◌, ◌<◌, ◌≤◌, Bool, true, false, List, [], ◌∷◌, ◌++◌, length, get_or, take, drop, map, refl, sym, ap, ◌∙◌, arith, Option, Some, None}
+use Rattle.std.proofs.Common.{◌≡◌, ℕ, zero, suc, ◌+◌, ◌-◌, ◌<◌, ◌≤◌, Bool, true, false, List, [], ◌∷◌, ◌++◌, length, get_or, take, drop, map, refl, sym, ap, ◌∙◌, arith, Option, Some, None}
 use Rattle.std.specs.Prelude.{◌==◌, ◌&&◌, not, nat_lt, bytes_eq, replicate, if◌then◌else◌}
 use Rattle.std.specs.List.{filter, last_or}
 use Rattle.std.proofs.Math.Seq.{take-suc}
@@ -70,6 +70,16 @@ length-witness_ids (coinbase ∷ txs) = ap suc (length-map txs wtxid)
 pub ids_begin : (txs : List Tx) → 0 < length txs → replicate 32 0 ∷ [] ≡ take 1 (witness_ids txs)
 ids_begin [] some = absurd (omega arith)
 ids_begin (coinbase ∷ txs) some = refl
+
+pub no_ids : (txs : List Tx) (ids : List (List ℕ)) → length txs < 1 → ids ≡ [] → ids ≡ witness_ids txs
+no_ids [] ids none is = is
+no_ids (coinbase ∷ txs) ids none is = absurd (omega arith)
+
+pub ids_behind : (txs : List Tx) (ids : List (List ℕ)) → 1 ≤ length txs → ids ≡ replicate 32 0 ∷ map wtxid (take (length txs - 1) (drop 1 txs)) → ids ≡ witness_ids txs
+ids_behind [] ids some is = absurd (omega arith)
+ids_behind (coinbase ∷ txs) ids some is =
+    let all : take (suc (length txs) - 1) txs ≡ txs = take_all (suc (length txs) - 1) txs (omega arith) in
+    is ∙ ap (λ xs. replicate 32 0 ∷ map wtxid xs) all
 
 id_at : (txs : List Tx) (i : ℕ) (tx : Tx) (d : List ℕ) → 0 < i → i < length txs → get_or (witness_ids txs) i d ≡ wtxid (get_or txs i tx)
 id_at [] i tx d some less = absurd (omega arith)

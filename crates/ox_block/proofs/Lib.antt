@@ -4,8 +4,10 @@ pub mod LayoutAgrees
 pub mod FirstFaultIsRead
 pub mod ReadLoops
 pub mod PiecesInTurn
+pub mod ItemsInTurn
 pub mod RowsOfHashes
 pub mod FrontsDecideOrder
 pub mod PartsAsPairs
 pub mod StringsInTurn
 pub mod Commitments
+pub mod FewForms
