@@ -177,6 +177,17 @@ empty_hand zero place = refl
 empty_hand (suc count) zero = refl
 empty_hand (suc count) (suc place) = empty_hand count place
 
+hands_end : (count : ℕ) → replicate {A = List Balance} count [] ++ [] ∷ [] ≡ replicate (suc count) []
+hands_end zero = refl
+hands_end (suc count) = ap (λ (hands : List (List Balance)). [] ∷ hands) (hands_end count)
+
+-- one more empty hand
+pub one_more_hand : (count : ℕ) (given : List (List Balance)) (new : List Balance) → new ≡ [] → given ≡ replicate count [] → given ++ new ∷ [] ≡ replicate (count + 1) []
+one_more_hand count given new none so_far =
+    let next : count + 1 ≡ suc count = omega arith in
+    ap (λ (hands : List (List Balance)). hands ++ new ∷ []) so_far ∙ ap (λ (hand : List Balance). replicate count [] ++ hand ∷ []) none
+    ∙ hands_end count ∙ ap (λ n. replicate {A = List Balance} n []) (sym next)
+
 -- with empty hands all that is left fits
 pub fits_at_first : (left : Left) (hands : Allocation) (count : ℕ) → hands ≡ empty_hands count → ((id : RuneId) → left id < 2 ^ 128) → Fits left hands
 fits_at_first left hands count is small = rw is (record {

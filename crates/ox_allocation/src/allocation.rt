@@ -43,9 +43,7 @@ pub fn allocate(
 {
     let holders = holders_of(alloc, outputs)?;
     let mut deal = Deal::new(pool, Hands::empty(alloc, outputs)?, &holders);
-    for edict in edicts {
-        deal.follow(etched, edict)?;
-    }
+    deal.follow_all(etched, edicts)?;
     let heir = match pointer {
         Some(place) => Some(place as usize),
         None => holders.first().copied(),

@@ -5,8 +5,8 @@ ghost use Rattle.std.specs.Option.{ForSome};
 ghost use Rattle.ox_allocation.specs.Balances.{amount_in};
 ghost use Rattle.std.specs.List.{AllByRecursion};
 ghost use Rattle.ox_allocation.specs.Dealing.{empty_hands, Gives, with_rest};
-ghost use Rattle.ox_allocation.specs.Gifts.{gifts_by, gifts_to, holders as holders_in, parts_of};
-ghost use Rattle.ox_allocation.specs.Gifts.{rune_of};
+ghost use Rattle.ox_allocation.specs.Gifts.{given_by, gifts_by, gifts_to, holders as holders_in};
+ghost use Rattle.ox_allocation.specs.Gifts.{parts_of, rune_of};
 
 use crate::balances::Pool;
 use crate::hands::Hands;
@@ -122,8 +122,23 @@ impl<'a> Deal<'a> {
         Ok(())
     }
 
+    /// Does what the edicts say, one after the other.
+    pub(crate) fn follow_all(
+        &mut self,
+        etched: Option<RuneId>,
+        edicts: &[Edict],
+    ) -> Result<(), Memory>
+        ensures { OnOk result (Gives self.old self.new
+            (given_by self.old.outputs etched edicts.now (amount_in self.old.left))) }
+    {
+        for edict in edicts {
+            self.follow(etched, edict)?;
+        }
+        Ok(())
+    }
+
     /// Does what an edict says.
-    pub(crate) fn follow(&mut self, etched: Option<RuneId>, edict: &Edict) -> Result<(), Memory>
+    fn follow(&mut self, etched: Option<RuneId>, edict: &Edict) -> Result<(), Memory>
         ensures { OnOk result (Gives self.old self.new
             (gifts_by self.old.outputs edict.now (amount_in self.old.left)
             (rune_of etched edict.now.id))) }

@@ -6,7 +6,7 @@ ghost use Rattle.ox_allocation.specs.Dealing.{empty_hands, Fits, gifts_for, hand
 ghost use Rattle.ox_allocation.specs.Dealing.{with_gift, with_gifts};
 
 use crate::allocation::Allocated;
-use crate::balances::Pool;
+use crate::balances::{Balances, Pool};
 use crate::rune_amounts::Amounts;
 use ox_block::TxOut;
 use ox_bytes::{List, Memory};
@@ -118,13 +118,20 @@ impl<'a> Hands<'a> {
         ensures given { IfOk result (λ allocated. allocated.given ≡ self.entry.hands.given) }
         ensures burned { IfOk result (λ allocated. allocated.burned ≡ self.entry.hands.burned) }
     {
-        let mut given = List::from_vec(Vec::with_capacity(alloc, self.given.len())?);
-        for pool in self.given {
-            given.push(pool.into_balances(alloc)?)?;
-        }
         Ok(Allocated {
-            given,
+            given: balances_of(alloc, self.given)?,
             burned: self.burned.into_balances(alloc)?,
         })
     }
+}
+
+/// What is in each of these pools, as outputs hold it.
+fn balances_of(alloc: Global, pools: Vec<Pool>) -> Result<List<Balances>, Memory>
+    ensures { IfOk result (λ balances. balances ≡ pools.items) }
+{
+    let mut balances = List::from_vec(Vec::with_capacity(alloc, pools.len())?);
+    for pool in pools {
+        balances.push(pool.into_balances(alloc)?)?;
+    }
+    Ok(balances)
 }

@@ -6,19 +6,14 @@ use Rattle.ox_allocation.specs.Balances.{AreBalances}
 use Rattle.ox_allocation.specs.Dealing.{Held}
 use Rattle.ox_allocation.specs.Gifts.{heir, holders}
 use Rattle.ox_allocation.proofs.Dealt.{IsSaid, allocated_as_said, if_ok}
-use Rattle.ox_allocation.proofs.Giving.{follows_end, follows_next, follows_on}
 use Rattle.ox_allocation.proofs.Holders.{first_within, holders_within}
 use Rattle.ox_allocation.proofs.allocation.allocate.Goals as goal
 use Rattle.ox_allocation.proofs.allocation.allocate.Goals.{in-Some, in-None}
 
-pub loop-edict-preserved : goal.loop-edict-preserved
-loop-edict-preserved c =
-    follows_on c.args.etched _ _ _ _ _ _ (follows_next _ _ _ c.args.edicts.now c.loop-edict.edict-index _ _ c.loop-edict-test.true c.loop-edict.invariant) c.in_ok-follow.ensures
-
 pub give_rest-requires : goal.give_rest-requires
 give_rest-requires c =
-    let are : c.loop-edict.deal.outputs ≡ c.args.outputs.now =
-    (follows_end _ _ _ c.args.edicts.now c.loop-edict.edict-index _ c.loop-edict-test.false c.loop-edict.invariant).outputs ∙ (c.new-deal.ensures.outputs ∙ ap (λ (held : Held). held.outputs) c.in_ok-empty.ensures)
+    let are : c.follow_all.new.self.outputs ≡ c.args.outputs.now =
+    c.in_ok-follow_all.ensures.outputs ∙ (c.new-deal.ensures.outputs ∙ ap (λ (held : Held). held.outputs) c.in_ok-empty.ensures)
     in elim c.match-pointer.branch [
       | in-Some w ↦ λ x is. subst (λ (outputs : List TxOut). x < length outputs) (sym are) (c.requires.pointer x (w.in-Some.is ∙ (sym w.heir-is ∙ is)))
       | in-None w ↦ λ x is.
@@ -38,9 +33,9 @@ heir_is c = elim c.match-pointer.branch [
 
 said : (c : goal.After-drop-holders-2) → IsSaid c.args.outputs.now c.args.pool (gifts_from c.args.pool c.args.edicts.now c.args.etched c.args.pointer c.args.outputs.now) c.in_ok-hands.hands.hands
 said c =
-    allocated_as_said c.args.outputs.now c.args.pool c.args.edicts.now c.args.etched c.args.pointer c.match-pointer.heir c.new-deal.result c.loop-edict.deal c.in_ok-hands.hands.hands
+    allocated_as_said c.args.outputs.now c.args.pool c.args.edicts.now c.args.etched c.args.pointer c.match-pointer.heir c.new-deal.result c.follow_all.new.self c.in_ok-hands.hands.hands
     (subst AreBalances c.pool.view_is c.pool.invariant.lawful) c.requires.pointer (heir_is c) (c.new-deal.ensures.outputs ∙ ap (λ (held : Held). held.outputs) c.in_ok-empty.ensures) (c.new-deal.ensures.left ∙ c.pool.view_is) (c.new-deal.ensures.hands ∙ ap (λ (held : Held). held.hands) c.in_ok-empty.ensures)
-    (follows_end _ _ _ c.args.edicts.now c.loop-edict.edict-index _ c.loop-edict-test.false c.loop-edict.invariant) c.in_ok-hands.ensures
+    c.in_ok-follow_all.ensures c.in_ok-hands.ensures
 
 pub returns-clause-given : goal.returns-clause-given
 returns-clause-given c = if_ok c.into_allocated.result (λ a is. is ∙ (said c).given) c.into_allocated.ensures.given
