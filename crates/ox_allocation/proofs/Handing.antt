@@ -1,5 +1,5 @@
 -- Gifts put into hands: what each hand has after them.
-use Rattle.std.proofs.Common.{◌≡◌, ◌∙◌, ℕ, ◌+◌, ◌-◌, ◌^◌, ◌<◌, ◌≤◌, List, [], ◌∷◌, ◌++◌, length, refl, sym, ap, subst, arith, Bool, true, false, slice_index_or, slice_set, zero, suc, Some}
+use Rattle.std.proofs.Common.{◌≡◌, ◌∙◌, ℕ, ◌+◌, ◌-◌, ◌^◌, ◌<◌, ◌≤◌, List, [], ◌∷◌, ◌++◌, length, append_assoc, refl, sym, ap, subst, arith, Bool, true, false, slice_index_or, slice_set, zero, suc, Some}
 use Rattle.std.specs.Prelude.{◌==◌, ◌&&◌, nat_lt, slice_get, replicate, if◌then◌else◌}
 use Rattle.std.proofs.lemmas.List.{length-set, get_or-set_same, get_or-set_other, get_or_read, set_past}
 use Rattle.std.proofs.lemmas.Bool.Decides.{nat_tests}
@@ -187,6 +187,11 @@ one_more_hand count given new none so_far =
     let next : count + 1 ≡ suc count = omega arith in
     ap (λ (hands : List (List Balance)). hands ++ new ∷ []) so_far ∙ ap (λ (hand : List Balance). replicate count [] ++ hand ∷ []) none
     ∙ hands_end count ∙ ap (λ n. replicate {A = List Balance} n []) (sym next)
+
+-- what was first in a row is now behind what was taken of it
+pub moved_on : {A : Type 0} (taken rest fewer all more : List A) (first last : A) → rest ≡ first ∷ fewer → last ≡ first → more ≡ taken ++ last ∷ [] → taken ++ rest ≡ all → more ++ fewer ≡ all
+moved_on taken rest fewer all more first last is same made so_far =
+    ap (λ xs. xs ++ fewer) (made ∙ ap (λ x. taken ++ x ∷ []) same) ∙ append_assoc taken (first ∷ []) fewer ∙ ap (λ xs. taken ++ xs) (sym is) ∙ so_far
 
 -- with empty hands all that is left fits
 pub fits_at_first : (left : Left) (hands : Allocation) (count : ℕ) → hands ≡ empty_hands count → ((id : RuneId) → left id < 2 ^ 128) → Fits left hands
