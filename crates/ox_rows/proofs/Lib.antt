@@ -2,6 +2,7 @@ pub mod Widths
 pub mod ReaderLaws
 pub mod RisingLaws
 pub mod SatsLaws
+pub mod Fours
 pub mod Loops
 pub mod Putting
 pub mod RowLaws

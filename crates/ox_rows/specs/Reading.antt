@@ -24,6 +24,14 @@ infixl 20 ◌<*>◌
 abbrev pub ◌<*>◌ : {A B : Type 0} → Reader (A → B) → Reader A → Reader B
 (front <*> field) bytes = front bytes >>= λ f. field f.1 >>= λ x. Ok (f.0 x.0, x.1)
 
+abbrev pub four : {A B C D : Type 0} → A → B → C → D → A × B × C × D
+four a b c d = (a, b, c, d)
+
+-- four values, one after the other
+unfoldable pub four_at : {A B C D : Type 0} → Reader A → Reader B → Reader C → Reader D
+    → Reader (A × B × C × D)
+four_at a b c d bytes = (made four <*> a <*> b <*> c <*> d) bytes
+
 -- a list: how many in 4 bytes, and the items
 abbrev pub list_at : {A : Type 0} → Reader A → Reader (List A)
 list_at item = counted_list (number_at w32) item

@@ -6,7 +6,7 @@ ghost use Rattle.ox_rows.specs.RowFits.{FitsCountChange};
 ghost use Rattle.ox_rows.specs.RowSpelling.{count_change};
 ghost use Rattle.ox_rows.specs.RowReading.{count_change_of, counts_at, counts_then_at};
 
-use crate::readable::Readable;
+use crate::readable::{Readable, four_of};
 use crate::rising::rising_of;
 use crate::writable::Writable;
 use ox_bytes::{Bytes, List, Memory, ReadError, u32le_field};
@@ -25,12 +25,10 @@ pub(crate) struct CountsThen {
 impl Readable for CountsThen {
     ghost at = { counts_then_at };
 
-    #[tactic(auto, unfolding(crate::specs::RowReading::counts_then_at))]
     fn read(alloc: Global, bytes: &[u8]) -> Result<(CountsThen, &[u8]), ReadError> {
-        let (mints_before, rest) = u128::read(alloc, bytes)?;
-        let (mints_after, rest) = u128::read(alloc, rest)?;
-        let (burned_before, rest) = u128::read(alloc, rest)?;
-        let (burned_after, rest) = u128::read(alloc, rest)?;
+        let ((mints_before, mints_after, burned_before, burned_after), rest) = four_of(
+            alloc, bytes,
+        )?;
         let counts = CountsThen {
             mints_before,
             mints_after,

@@ -7,9 +7,8 @@ ghost use Rattle.ox_rows.specs.RowReading.{inscription_at};
 ghost use Rattle.ox_rows.specs.RowSpelling.{inscription, inscription_id};
 
 use crate::ids::place_bytes;
-use crate::lists::list_of;
 use crate::put::{put_list, put_optional};
-use crate::readable::{Readable, optional_of};
+use crate::readable::{Readable, four_of};
 use crate::writable::Writable;
 use ox_bytes::{Bytes, Memory, ReadError};
 use ox_envelope::InsId;
@@ -19,20 +18,10 @@ use std::alloc::Global;
 impl Readable for InsRow {
     ghost at = { inscription_at };
 
-    #[tactic(auto, unfolding(crate::specs::RowReading::inscription_at))]
     fn read(alloc: Global, bytes: &[u8]) -> Result<(InsRow, &[u8]), ReadError> {
-        let (id, rest) = InsId::read(alloc, bytes)?;
-        let (height, rest) = u32::read(alloc, rest)?;
-        let (content_type, rest) = optional_of(alloc, rest)?;
-        let (body, rest) = optional_of(alloc, rest)?;
-        let (metadata, rest) = optional_of(alloc, rest)?;
-        let (metaprotocol, rest) = optional_of(alloc, rest)?;
-        let (encoding, rest) = optional_of(alloc, rest)?;
-        let (delegate, rest) = optional_of(alloc, rest)?;
-        let (pointer, rest) = optional_of(alloc, rest)?;
-        let (parents, rest) = list_of(alloc, rest)?;
-        let (marks, rest) = u16::read(alloc, rest)?;
-        let (sat, rest) = optional_of(alloc, rest)?;
+        let ((id, height, content_type, body), rest) = four_of(alloc, bytes)?;
+        let ((metadata, metaprotocol, encoding, delegate), rest) = four_of(alloc, rest)?;
+        let ((pointer, parents, marks, sat), rest) = four_of(alloc, rest)?;
         let row = InsRow {
             id,
             height,

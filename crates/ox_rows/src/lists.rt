@@ -36,3 +36,11 @@ fn values_of<T: Readable + Drop>(
     }
     Ok((values, rest))
 }
+
+impl<T: Readable + Drop> Readable for List<T> {
+    ghost at = { list_at T.at };
+
+    fn read(alloc: Global, bytes: &[u8]) -> Result<(List<T>, &[u8]), ReadError> {
+        list_of(alloc, bytes)
+    }
+}

@@ -3,7 +3,7 @@
 ghost use Rattle.std.specs.Prelude.{◌≡◌, length};
 ghost use Rattle.std.specs.Int.{w8, w16, w32, w64, w128};
 ghost use Rattle.ox_bytes.specs.Reading.{Gives, GivesOrMemory, Reader, number_at, run_at};
-ghost use Rattle.ox_rows.specs.Reading.{flag_at, optional_at, text_at};
+ghost use Rattle.ox_rows.specs.Reading.{flag_at, four_at, optional_at, text_at};
 
 use ox_bytes::{Bytes, FieldFault, ReadError, run_field, u32le_field, u64le_field};
 use std::alloc::Global;
@@ -70,11 +70,9 @@ impl Readable for u128 {
             return Err(ReadError::Fault(FieldFault { left: bytes.len() }));
         }
         let (front, rest) = bytes.split_at(16);
-        let number = u128::from_le_bytes([
-            front[0], front[1], front[2], front[3], front[4], front[5], front[6], front[7],
-            front[8], front[9], front[10], front[11], front[12], front[13], front[14], front[15],
-        ]);
-        Ok((number, rest))
+        let mut number = [0; 16];
+        number.copy_from_slice(front);
+        Ok((u128::from_le_bytes(number), rest))
     }
 }
 
@@ -137,4 +135,28 @@ pub fn optional_of<T: Readable>(
             Ok((Some(value), rest))
         }
     }
+}
+
+impl<T: Readable> Readable for Option<T> {
+    ghost at = { optional_at T.at };
+
+    fn read(alloc: Global, bytes: &[u8]) -> Result<(Option<T>, &[u8]), ReadError> {
+        optional_of(alloc, bytes)
+    }
+}
+
+/// Four values, one after the other.
+#[tactic(auto, unfolding(crate::specs::Reading::four_at))]
+pub(crate) fn four_of<A: Readable + Drop, B: Readable + Drop, C: Readable + Drop, D: Readable>(
+    alloc: Global,
+    bytes: &[u8],
+) -> Result<((A, B, C, D), &[u8]), ReadError>
+    ensures { GivesOrMemory (λ x. (x.0, x.1.now)) result
+        (four_at A.at B.at C.at D.at bytes.now) }
+{
+    let (first, rest) = A::read(alloc, bytes)?;
+    let (second, rest) = B::read(alloc, rest)?;
+    let (third, rest) = C::read(alloc, rest)?;
+    let (fourth, rest) = D::read(alloc, rest)?;
+    Ok(((first, second, third, fourth), rest))
 }

@@ -8,7 +8,7 @@ ghost use Rattle.ox_rows.specs.RowSpelling.{rune, rune_id, terms};
 
 use crate::ids::rune_id_bytes;
 use crate::put::put_optional;
-use crate::readable::{Readable, optional_of};
+use crate::readable::{Readable, four_of, optional_of};
 use crate::writable::Writable;
 use ox_block::Txid;
 use ox_bytes::{Bytes, FieldFault, Memory, ReadError, put_u32le};
@@ -44,12 +44,8 @@ impl Writable for char {
 impl Readable for Terms {
     ghost at = { terms_at };
 
-    #[tactic(auto, unfolding(crate::specs::RowReading::terms_at))]
     fn read(alloc: Global, bytes: &[u8]) -> Result<(Terms, &[u8]), ReadError> {
-        let (amount, rest) = optional_of(alloc, bytes)?;
-        let (cap, rest) = optional_of(alloc, rest)?;
-        let (height_start, rest) = optional_of(alloc, rest)?;
-        let (height_end, rest) = optional_of(alloc, rest)?;
+        let ((amount, cap, height_start, height_end), rest) = four_of(alloc, bytes)?;
         let (offset_start, rest) = optional_of(alloc, rest)?;
         let (offset_end, rest) = optional_of(alloc, rest)?;
         let terms = Terms {
@@ -84,16 +80,9 @@ impl Writable for Terms {
 impl Readable for RuneRow {
     ghost at = { rune_at };
 
-    #[tactic(auto, unfolding(crate::specs::RowReading::rune_at))]
     fn read(alloc: Global, bytes: &[u8]) -> Result<(RuneRow, &[u8]), ReadError> {
-        let (id, rest) = RuneId::read(alloc, bytes)?;
-        let (name, rest) = u128::read(alloc, rest)?;
-        let (spacers, rest) = u32::read(alloc, rest)?;
-        let (divisibility, rest) = u8::read(alloc, rest)?;
-        let (symbol, rest) = optional_of(alloc, rest)?;
-        let (premine, rest) = u128::read(alloc, rest)?;
-        let (terms, rest) = optional_of(alloc, rest)?;
-        let (mints, rest) = u128::read(alloc, rest)?;
+        let ((id, name, spacers, divisibility), rest) = four_of(alloc, bytes)?;
+        let ((symbol, premine, terms, mints), rest) = four_of(alloc, rest)?;
         let (burned, rest) = u128::read(alloc, rest)?;
         let (etching, rest) = <[u8; 32] as Readable>::read(alloc, rest)?;
         let row = RuneRow {
