@@ -1,11 +1,13 @@
 //! A change as rows.
 
 ghost use Rattle.std.specs.Prelude.{◌≡◌, ◌++◌, List, ℕ, length, IfOk, OnOk, Ok};
-ghost use Rattle.ox_bytes.specs.Reading.{GivesOrMemory};
+ghost use Rattle.ox_bytes.specs.Reading.{GivesOrMemory, run_at};
 ghost use Rattle.ox_model.specs.declared.change.Change.{Change};
 ghost use Rattle.ox_rows.specs.Answer.{Answers, BeginWith, front_of};
+ghost use Rattle.ox_rows.specs.Reading.{four_at, sats_at};
 ghost use Rattle.ox_rows.specs.RowFits.{FitsChange, KeepsChange};
-ghost use Rattle.ox_rows.specs.RowReading.{change_at};
+ghost use Rattle.ox_rows.specs.RowReading.{change_at, counts_at, outputs_at, placements_at};
+ghost use Rattle.ox_rows.specs.RowReading.{runes_at};
 ghost use Rattle.ox_rows.specs.RowSpelling.{change_rows};
 
 use crate::balances::placements_of;
@@ -19,33 +21,60 @@ use crate::sats::{put_sats, sats_of};
 use ox_bytes::{Bytes, Memory, ReadError};
 use ox_ledger::RunePart;
 use ox_model::Change;
+use ox_range::Ranges;
+use ox_rules::TableRows;
 use std::alloc::Global;
 
-#[tactic(auto, unfolding(crate::specs::RowReading::change_at))]
-fn change_of(alloc: Global, bytes: &[u8]) -> Result<(Change, &[u8]), ReadError>
-    ensures { GivesOrMemory (λ x. (x.0, x.1.now)) result (change_at bytes.now) }
+/// What a change begins with: its block's hash, the outputs that go, those that come, and the
+/// satoshis that are lost.
+#[tactic(auto, unfolding(crate::specs::Reading::four_at))]
+fn begin_of(
+    alloc: Global,
+    bytes: &[u8],
+) -> Result<(([u8; 32], TableRows, TableRows, Ranges), &[u8]), ReadError>
+    ensures { GivesOrMemory (λ x. (x.0, x.1.now)) result
+        (four_at (run_at 32) outputs_at outputs_at sats_at bytes.now) }
 {
     let (hash, rest) = <[u8; 32] as Readable>::read(alloc, bytes)?;
     let (gone, rest) = outputs_of(alloc, rest)?;
     let (came, rest) = outputs_of(alloc, rest)?;
     let (lost, rest) = sats_of(alloc, rest)?;
-    let (inscriptions, rest) = list_of(alloc, rest)?;
-    let (before, rest) = placements_of(alloc, rest)?;
+    Ok(((hash, gone, came, lost), rest))
+}
+
+/// What a change says of runes.
+#[tactic(auto, unfolding(crate::specs::Reading::four_at))]
+fn runes_of(alloc: Global, bytes: &[u8]) -> Result<(RunePart, &[u8]), ReadError>
+    ensures { GivesOrMemory
+        (λ x. ((x.0.before, x.0.after, x.0.counts, x.0.appended), x.1.now)) result
+        (four_at placements_at placements_at counts_at runes_at bytes.now) }
+{
+    let (before, rest) = placements_of(alloc, bytes)?;
     let (after, rest) = placements_of(alloc, rest)?;
     let (counts, rest) = counts_of(alloc, rest)?;
     let (appended, rest) = list_of(alloc, rest)?;
+    let runes = RunePart {
+        before,
+        after,
+        counts,
+        appended,
+    };
+    Ok((runes, rest))
+}
+
+fn change_of(alloc: Global, bytes: &[u8]) -> Result<(Change, &[u8]), ReadError>
+    ensures { GivesOrMemory (λ x. (x.0, x.1.now)) result (change_at bytes.now) }
+{
+    let ((hash, gone, came, lost), rest) = begin_of(alloc, bytes)?;
+    let (inscriptions, rest) = list_of(alloc, rest)?;
+    let (runes, rest) = runes_of(alloc, rest)?;
     let change = Change {
         hash,
         gone,
         came,
         lost,
         inscriptions,
-        runes: RunePart {
-            before,
-            after,
-            counts,
-            appended,
-        },
+        runes,
     };
     Ok((change, rest))
 }
