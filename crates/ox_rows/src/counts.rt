@@ -87,7 +87,7 @@ fn changes_of(alloc: Global, rows: &[(u32, CountsThen)]) -> Result<List<CountCha
 {
     let mut changes = Vec::with_capacity(alloc, rows.len())?;
     for row in rows {
-        changes.push(change_of(*row))?;
+        changes.push_reserved(change_of(*row));
     }
     Ok(List::from_vec(changes))
 }
