@@ -6,8 +6,9 @@
 It reads and hashes blocks by Bitcoin's serialization and BIP 141 and 144 on its own, with Python's
 standard library alone, and knows blocks that others made: the genesis block of the main chain, and
 two whose bytes, ids and roots were made with Debian's python3-bitcoinlib 0.11.2, which it asserts
-first. The rows about scripts are those of checks/envelope_rows.py, and those about blocks that are
-made those of checks/made_blocks.py.
+first. The rows about envelopes and ids are those of checks/envelope_rows.py, those about items and
+runestones those of checks/stone_rows.py, those about names, numbers and satoshis those of
+checks/number_rows.py, and those about blocks that are made those of checks/made_blocks.py.
 """
 
 import hashlib
@@ -15,6 +16,8 @@ import struct
 
 import envelope_rows
 import made_blocks
+import number_rows
+import stone_rows
 from tools.programs import write_rows
 
 COINS = 21_000_000 * 10 ** 8
@@ -286,9 +289,9 @@ def main():
     for row in envelope_rows.rows():
         stdin.append(row)
         stdout += envelope_rows.answer(row)
-    for row, made in made_blocks.rows():
+    for row, *lines in (*made_blocks.rows(), *stone_rows.rows(), *number_rows.rows()):
         stdin.append(row)
-        stdout.append(made)
+        stdout += lines
     write_rows("ox_block_rows", stdin, stdout)
 
 

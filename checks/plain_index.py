@@ -419,6 +419,7 @@ class Stone:
         self.read_edicts(numbers[end + 1 :])
         flags = self.take(2) or 0
         self.is_etching, has_terms = flags & 1 == 1, flags & 3 == 3
+        self.is_turbo = flags & 4 == 4
         self.is_cenotaph |= flags > 7 or flags in (2, 4, 6)
         self.name, self.premine = (self.take(tag, self.is_etching) for tag in (4, 6))
         cap, amount = (self.take(tag, has_terms) for tag in (8, 10))

@@ -1,57 +1,156 @@
-//! What blocks, scripts, field values and texts read as, a row of standard input each:
+//! What blocks, scripts, texts and numbers read as, a row of standard input each.
+//!
+//! Of blocks:
 //!
 //! - `block BYTES`: a block's hashes and roots, or the place of the fault;
 //! - `order HEX HEX`: which of two transactions' ids comes first;
 //! - `fronts HEX`: the place of the fault of each front of these bytes, from none of them to all
 //!   but one;
-//! - `script BYTES`: the envelopes of a script, and what each says;
-//! - `items BYTES`: how many items a script has;
-//! - `envelopes BYTES`: how many envelopes a script has, and how many of them have a body;
 //! - `made HEIGHT HEX HEX`: the bytes of the block that is made of this height behind the block of
-//!   that hash, whose coinbase has that id;
-//! - `value HEX`: a field's value as an id;
-//! - `text TEXT`: a text as an id.
+//!   that hash, whose coinbase has that id.
+//!
+//! Of scripts:
+//!
+//! - `script BYTES`: the envelopes of a script, and what each says;
+//! - `items BYTES`: how many items a script has; `listing BYTES`: each of them;
+//! - `envelopes BYTES`: how many envelopes a script has, and how many of them have a body;
+//! - `kinds HEX`: which kinds of output a script is;
+//! - `tapscript ITEMS HEX`: where the tapscript of a witness is, by its number of items and the
+//!   last of them;
+//! - `stone OUTPUTS HEX`: a script's runestone, and how it is written again (src/stones.rt);
+//! - `value HEX`: a field's value as an id; `text TEXT`: a text as an id.
+//!
+//! Of satoshis, of `PROFILE`, which is a profile's word:
+//!
+//! - `profile PROFILE`: the profile's numbers;
+//! - `height PROFILE HEIGHT`: how many satoshis a height mints, and the first of them;
+//! - `sat PROFILE TEXT`: the satoshi that a text spells;
+//! - `ranges STEP..`: what becomes of a list of satoshis. `FIRST:COUNT` puts numbers behind it,
+//!   `cut:PLACE` cuts it and keeps the end beside it, `keep:PLACE` cuts it and drops the end,
+//!   `copy` keeps a copy beside it, `join` puts behind it what is beside it, `swap` exchanges the
+//!   two, `new` begins anew, and `show`, `at:PLACE` and `of:NUMBER` print the list, the number at a
+//!   place and the place of a number.
+//!
+//! Of names, numbers and bytes, in decimals where they aren't HEX:
+//!
+//! - `name NUMBER`, `spaced NUMBER SPACERS`, `named HEX`: a rune's name, and what it is read as;
+//! - `least START INTERVAL HEIGHT`: the least name; `kept HEIGHT TX`: the name that is kept for a
+//!   rune without one;
+//! - `amount AMOUNT DECIMALS`: an amount;
+//! - `varint NUMBER`, `number HEX`: a number as LEB128, and what it is read as;
+//! - `put HEX FOUR EIGHT SIZE`, `fields HEX`: a number of four bytes, one of eight and a compact
+//!   size, behind these bytes, and what they are read as;
+//! - `room PLACE HEX`: bytes that are put into room by two parts.
+//!
+//! Of paths `route BYTES`: the route that a path takes.
 //!
 //! BYTES are four words, `N HEAD PART TAIL`: a head, N times a part, and a tail. Bytes are hex
-//! digits, or `-` for none.
+//! digits, or `-` for none. What is written into room is printed with whether the bytes behind it
+//! stayed.
 //!
-//! The rows and what has to be printed are made by checks/block_rows.py, which reads blocks and
-//! scripts by the public rules and shares nothing with the libraries.
+//! The rows and what has to be printed are made by checks/block_rows.py, which goes by the public
+//! rules and shares nothing with the libraries.
 //!
 //! With an argument the work of the rows `block`, `items` and `envelopes` is done so many times
 //! before it is printed, to be timed: see bench/read_block.py and bench/find_envelopes.py.
 #![tactic(auto)]
 
 mod blocks;
+mod fields;
 mod made;
+mod names;
 mod print;
+mod ranges;
+mod routes;
+mod sats;
 mod scripts;
 mod spell;
+mod stones;
 
 use crate::blocks::{print_fronts, print_order, print_read};
+use crate::fields::{numbers_of, print_fields, print_put, print_room, short};
 use crate::made::print_made;
-use crate::scripts::{print_id, print_items, print_script, print_tally};
+use crate::names::print_numbers;
+use crate::ranges::print_steps;
+use crate::routes::print_route;
+use crate::sats::{print_minted, print_profile};
+use crate::scripts::{
+    print_id, print_items, print_kinds, print_listing, print_script, print_tally, print_tapscript,
+};
 use crate::spell::{bytes_from, bytes_of};
-use anyhow::{Context, bail};
+use crate::stones::print_stone;
+use anyhow::Context;
 use ox_envelope::{read_id, read_id_text};
+use ox_name::read_name;
+use ox_varint::read;
 use std::alloc::Global;
 use std::env;
-use std::io::{BufRead, BufReader};
+use std::io::{self, BufRead, BufReader};
 
-/// Prints what a row reads as, whose work is done so many times.
+/// Prints what bytes read as: a name, a number as LEB128, fields, or kinds of output.
+fn run_bytes(rt: &impl Print, word: &str, bytes: &[u8]) -> io::Result<()> {
+    match word {
+        "named" => println!(rt; "{:?}", read_name(bytes)),
+        "number" => println!(rt; "{:?}", read(bytes)),
+        "fields" => print_fields(rt, bytes),
+        _ => print_kinds(rt, bytes),
+    }
+}
+
+/// Prints what a number and bytes say: the outputs of a transaction and a script, the items of a
+/// witness and the last of them, or a place in bytes that are put into room.
+fn run_counted(
+    rt: &impl Print,
+    alloc: Global,
+    word: &str,
+    count: &str,
+    bytes: &[u8],
+) -> io::Result<()> {
+    let count = count.parse::<usize>().unwrap_or(0);
+    match word {
+        "stone" => print_stone(rt, alloc, short(count as u128), bytes),
+        "tapscript" => print_tapscript(rt, count, bytes),
+        _ => print_room(rt, alloc, bytes, count),
+    }
+}
+
+/// Prints what a row says that is never done several times.
+fn run_once(rt: &impl Print, alloc: Global, word: &str, rest: &str) -> anyhow::Result<()> {
+    match word {
+        "fronts" => Ok(print_fronts(rt, alloc, &bytes_of(alloc, rest)?)?),
+        "order" => print_order(rt, rest),
+        "script" => print_script(rt, alloc, &bytes_from(alloc, rest)?),
+        "listing" => Ok(print_listing(rt, &bytes_from(alloc, rest)?)?),
+        "route" => Ok(print_route(rt, alloc, &bytes_from(alloc, rest)?)?),
+        "named" | "number" | "fields" | "kinds" => {
+            Ok(run_bytes(rt, word, &bytes_of(alloc, rest)?)?)
+        }
+        "stone" | "tapscript" | "room" => {
+            let (count, rest) = rest.split_once(' ').context("no count")?;
+            Ok(run_counted(rt, alloc, word, count, &bytes_of(alloc, rest)?)?)
+        }
+        "put" => {
+            let (front, numbers) = rest.split_once(' ').context("no numbers")?;
+            Ok(print_put(rt, alloc, &bytes_of(alloc, front)?, numbers)?)
+        }
+        "made" => print_made(rt, alloc, rest),
+        "value" => Ok(print_id(rt, read_id(&bytes_of(alloc, rest)?))?),
+        "text" => Ok(print_id(rt, read_id_text(rest.as_bytes()))?),
+        "profile" => Ok(print_profile(rt, rest)?),
+        "height" | "sat" => Ok(print_minted(rt, word, rest)?),
+        "ranges" => Ok(print_steps(rt, alloc, rest)?),
+        _ => Ok(print_numbers(rt, word, numbers_of(rest))?),
+    }
+}
+
+/// Prints what a row says, whose work is done so many times.
 fn run(rt: &impl Print, alloc: Global, row: &str, times: u32) -> anyhow::Result<()> {
     let (word, rest) = row.split_once(' ').context("no row")?;
     match word {
         "block" => print_read(rt, alloc, &bytes_from(alloc, rest)?, times),
-        "fronts" => Ok(print_fronts(rt, alloc, &bytes_of(alloc, rest)?)?),
-        "order" => print_order(rt, rest),
-        "script" => print_script(rt, alloc, &bytes_from(alloc, rest)?),
         "items" => Ok(print_items(rt, &bytes_from(alloc, rest)?, times)?),
         "envelopes" => print_tally(rt, alloc, &bytes_from(alloc, rest)?, times),
-        "made" => print_made(rt, alloc, rest),
-        "value" => Ok(print_id(rt, read_id(&bytes_of(alloc, rest)?))?),
-        "text" => Ok(print_id(rt, read_id_text(rest.as_bytes()))?),
-        _ => bail!("no row"),
+        _ => run_once(rt, alloc, word, rest),
     }
 }
 

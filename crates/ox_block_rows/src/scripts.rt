@@ -1,24 +1,13 @@
 //! What scripts read as.
 
-use crate::print::print_hex;
+use crate::print::print_bytes;
 use anyhow::Context;
 use ox_bytes::{Bytes, Memory};
 use ox_envelope::{Envelope, InsId, Inscribed, envelopes_of, parse, write_id};
-use ox_script::instructions_of;
+use ox_runestone::is_stone;
+use ox_script::{instructions_of, is_return, is_taproot, tapscript_place};
 use std::alloc::Global;
 use std::io;
-
-/// More bytes than these are shown by their number alone, and by how many of them are digits.
-const MOST_SHOWN: usize = 80;
-
-/// Bytes in hex digits, or how many they are.
-fn print_bytes(rt: &impl Print, bytes: &[u8]) -> io::Result<()> {
-    if bytes.len() > MOST_SHOWN {
-        let digits = bytes.iter().filter(|b| b.is_ascii_digit()).count();
-        return print!(rt; "{} bytes, {digits} digits", bytes.len());
-    }
-    print_hex(rt, bytes)
-}
 
 /// A field's name, and its value if there is one.
 fn print_field(rt: &impl Print, name: &str, value: &Option<Bytes>) -> io::Result<()> {
@@ -94,6 +83,34 @@ pub fn print_script(rt: &impl Print, alloc: Global, script: &[u8]) -> anyhow::Re
         print_envelope(rt, alloc, envelope)?;
     }
     Ok(())
+}
+
+/// The items of a script, whether it is cut short, and whether its end stays: it isn't known to be
+/// cut before the last item, and no item comes behind that.
+pub fn print_listing(rt: &impl Print, script: &[u8]) -> io::Result<()> {
+    let mut items = instructions_of(script);
+    let mut stays = true;
+    while let Some(item) = items.next() {
+        print!(rt; "{item:?} ")?;
+        stays = stays && !items.met_cut();
+    }
+    print!(rt; "cut: {}, ", items.met_cut())?;
+    println!(rt; "stays: {}", stays && items.next().is_none())
+}
+
+/// Which kinds of output a script is.
+pub fn print_kinds(rt: &impl Print, script: &[u8]) -> io::Result<()> {
+    print!(rt;
+        "return: {}, taproot: {}, ",
+        is_return(script),
+        is_taproot(script)
+    )?;
+    println!(rt; "runestone: {}", is_stone(script))
+}
+
+/// The place of the tapscript of a witness of so many items, which ends with this one.
+pub fn print_tapscript(rt: &impl Print, items: usize, last: &[u8]) -> io::Result<()> {
+    println!(rt; "{:?}", tapscript_place(items, last))
 }
 
 /// How many items a script has.

@@ -1,0 +1,88 @@
+//! Numbers as bytes, alone and one behind the other, and bytes in room.
+
+use crate::print::{FILLED, print_bytes_in, print_line};
+use ox_bytes::{Bytes, Cursor, Memory, Room, put_compact, put_u32le, put_u64le};
+use ox_varint::write;
+use std::alloc::Global;
+use std::io;
+
+/// The numbers of a text, 0 where there are fewer than three or one isn't read.
+pub fn numbers_of(text: &str) -> [u128; 3] {
+    let mut numbers = [0; 3];
+    for (number, word) in numbers.iter_mut().zip(text.split(' ')) {
+        *number = word.parse().unwrap_or(0);
+    }
+    numbers
+}
+
+/// A number of 64 bits, the greatest for a greater one.
+pub fn long(number: u128) -> u64 {
+    number.min(u64::MAX as u128) as u64
+}
+
+/// A number of 32 bits, the greatest for a greater one.
+pub fn short(number: u128) -> u32 {
+    number.min(u32::MAX as u128) as u32
+}
+
+/// A number as LEB128.
+pub fn print_varint(rt: &impl Print, number: u128) -> io::Result<()> {
+    let mut room = [FILLED; 19];
+    let len = write(number, &mut room);
+    print_bytes_in(rt, &room, len)
+}
+
+/// A number of 4 bytes, one of 8 and a compact size, as they stand one behind the other, what
+/// follows them, and where that begins.
+pub fn print_fields(rt: &impl Print, bytes: &[u8]) -> io::Result<()> {
+    let mut cursor = Cursor::new(bytes);
+    let four = cursor.u32le();
+    let eight = cursor.u64le();
+    let size = cursor.compact();
+    let place = cursor.place();
+    let behind = cursor.take(1);
+    println!(rt; "{four:?} {eight:?} {size:?} {behind:?} at {place}")
+}
+
+/// These bytes, and behind them a number of 4 bytes, one of 8 and a compact size. `Memory` where
+/// there is none for them.
+fn written(alloc: Global, front: &[u8], numbers: [u128; 3]) -> Result<Vec<u8>, Memory> {
+    let [four, eight, size] = numbers;
+    let mut bytes = Bytes::copy(alloc, front)?;
+    put_u32le(&mut bytes, short(four))?;
+    put_u64le(&mut bytes, long(eight))?;
+    put_compact(&mut bytes, long(size))?;
+    Ok(bytes.into_vec())
+}
+
+/// These bytes, and behind them the numbers of a text.
+pub fn print_put(rt: &impl Print, alloc: Global, front: &[u8], text: &str) -> io::Result<()> {
+    match written(alloc, front, numbers_of(text)) {
+        Ok(bytes) => print_line(rt, &bytes),
+        Err(Memory) => println!(rt; "no memory"),
+    }
+}
+
+/// Bytes that are put into room for them by two parts, and how much is spare before each and behind
+/// both. `Memory` where there is none for them.
+fn filled(alloc: Global, bytes: &[u8], place: usize) -> Result<(Bytes, [usize; 3]), Memory> {
+    let mut room = Room::new(alloc, bytes.len())?;
+    let (first, second) = bytes.split_at(place.min(bytes.len()));
+    let before = room.spare();
+    room.put(first);
+    let between = room.spare();
+    room.put(second);
+    let behind = room.spare();
+    Ok((room.into_bytes(), [before, between, behind]))
+}
+
+/// Bytes that are put into room for them by two parts, and how much was spare.
+pub fn print_room(rt: &impl Print, alloc: Global, bytes: &[u8], place: usize) -> io::Result<()> {
+    match filled(alloc, bytes, place) {
+        Ok((bytes, spare)) => {
+            print!(rt; "{spare:?} ")?;
+            print_line(rt, bytes.as_slice())
+        }
+        Err(Memory) => println!(rt; "no memory"),
+    }
+}

@@ -1,0 +1,130 @@
+//! Lists of satoshis, by steps.
+
+use ox_range::Ranges;
+use std::alloc::Global;
+use std::{io, mem};
+
+/// A list, and one that is kept beside it.
+#[derive(Drop)]
+struct Lists {
+    list: Ranges,
+    beside: Ranges,
+}
+
+/// Puts a list behind another, if there is memory and they aren't too long.
+fn join(list: &mut Ranges, tail: &Ranges) -> bool {
+    if tail.len() > u64::MAX - list.len() {
+        return false;
+    }
+    list.join(tail).is_ok()
+}
+
+/// Puts so many numbers behind a list, from the first on.
+fn put(alloc: Global, list: &mut Ranges, first: u64, count: u64) -> bool {
+    if first > u64::MAX - count {
+        return false;
+    }
+    match Ranges::one(alloc, first, count) {
+        Ok(tail) => join(list, &tail),
+        Err(_) => false,
+    }
+}
+
+/// Cuts a list at a place, and keeps beside it what stood from there on.
+fn cut(lists: &mut Lists, place: u64) -> bool {
+    if place > lists.list.len() {
+        return false;
+    }
+    match lists.list.split_off(place) {
+        Ok(rest) => {
+            lists.beside = rest;
+            true
+        }
+        Err(_) => false,
+    }
+}
+
+/// Keeps what stands before a place.
+fn keep(list: &mut Ranges, place: u64) -> bool {
+    if place > list.len() {
+        return false;
+    }
+    list.truncate(place);
+    true
+}
+
+/// Keeps a copy of the list beside it.
+fn copy(alloc: Global, lists: &mut Lists) -> bool {
+    match lists.list.copy(alloc) {
+        Ok(list) => {
+            lists.beside = list;
+            true
+        }
+        Err(_) => false,
+    }
+}
+
+/// Carries out a step, if it can be.
+fn change(alloc: Global, lists: &mut Lists, word: &str, number: u64) -> bool {
+    match word {
+        "cut" => cut(lists, number),
+        "keep" => keep(&mut lists.list, number),
+        "copy" => copy(alloc, lists),
+        "join" => join(&mut lists.list, &lists.beside),
+        "swap" => {
+            mem::swap(&mut lists.list, &mut lists.beside);
+            true
+        }
+        "new" => {
+            lists.list = Ranges::empty(alloc);
+            true
+        }
+        first => put(alloc, &mut lists.list, first.parse().unwrap_or(0), number),
+    }
+}
+
+/// How many numbers a list has, whether it is empty, and its runs.
+fn print_list(rt: &impl Print, list: &Ranges) -> io::Result<()> {
+    print!(rt; "{} empty: {}", list.len(), list.is_empty())?;
+    for run in list.runs() {
+        print!(rt; " {}+{}", run.first, run.count)?;
+    }
+    println!(rt)
+}
+
+/// The number at a place.
+fn print_at(rt: &impl Print, list: &Ranges, place: u64) -> io::Result<()> {
+    if place >= list.len() {
+        return println!(rt; "no place");
+    }
+    println!(rt; "{}", list.at(place))
+}
+
+/// Does what a step says.
+fn step(rt: &impl Print, alloc: Global, lists: &mut Lists, text: &str) -> io::Result<()> {
+    let (word, number) = text.split_once(':').unwrap_or((text, ""));
+    let number = number.parse().unwrap_or(0);
+    match word {
+        "show" => print_list(rt, &lists.list),
+        "at" => print_at(rt, &lists.list, number),
+        "of" => println!(rt; "{:?}", lists.list.place_of(number)),
+        _ => {
+            if change(alloc, lists, word, number) {
+                return Ok(());
+            }
+            println!(rt; "no memory, or no step")
+        }
+    }
+}
+
+/// Does what the steps of a row say, from two lists of no number on.
+pub fn print_steps(rt: &impl Print, alloc: Global, steps: &str) -> io::Result<()> {
+    let mut lists = Lists {
+        list: Ranges::empty(alloc),
+        beside: Ranges::empty(alloc),
+    };
+    for text in steps.split(' ') {
+        step(rt, alloc, &mut lists, text)?;
+    }
+    Ok(())
+}
