@@ -8,12 +8,12 @@ has a desk over a chain of 80,000 outputs and 8,000 inscriptions answer GETs aga
 `/status`, whose reply is kept after the first time; of 65 paths in turn, which is one more than
 replies are kept, so that each is made anew (block hashes, and pages of inscriptions); and of one
 page, whose reply is kept. Then it has one connect blocks of 4 MB, each with ten large inscriptions.
-`ox_desk_rows` and the plain program run in turn, three times, with the same rows and once without
-the work that is timed; both have to show the same. It prints, of the runs that took least, answers
-and blocks a second of the processor time that the others took, and how fast `ox_main` applies the
-same blocks as lines of a feed, from reading their digits to the bytes in its files. The plain
-program keeps replies by `lru`, and makes them as that of bench/query.py does. Nothing here is
-proved. bench/all.py builds the programs.
+`ox_serve_rows`, whose word `often` asks one desk, and the plain program run three times, with the
+work that is timed and without it; both have to count the same, and as many bytes. It prints, of the
+runs that took least, answers and blocks a second of the processor time that the work took, and how
+fast `ox_main` applies the same blocks as lines of a feed, from reading their digits to the bytes in
+its files. The plain program keeps replies by `lru`, and makes them as that of bench/query.py does.
+Nothing here is proved. bench/all.py builds the programs.
 """
 
 import pathlib
@@ -28,9 +28,10 @@ from runs import RUNS, in_another_process, least, report, run
 from tools.bitcoin import twice
 from tools.programs import plain_program, proved_program
 
-OX, MAIN = proved_program("ox_desk_rows"), proved_program("ox_main")
+OX, MAIN = proved_program("ox_serve_rows"), proved_program("ox_main")
 PROGRAMS = {"ox": [OX], "plain": [plain_program("desk")]}
-MAKE = b"make regtest 100\n"
+# the most bytes that are heard at once
+ROOM = 65_536
 # the chain that is asked has so many blocks of 20,000 outputs and 2,000 inscriptions, with three
 # more, and then so many of a coinbase alone
 ASKED, EMPTY = 4, 60
@@ -75,34 +76,50 @@ def write_large(path):
             feed.write(connect(body))
 
 
-def posts(blocks, door):
-    """Rows that post blocks, whose digits stand behind a word, at a door."""
-    front = b"%s POST keep /connect " % door
-    return b"".join(front + row.split(b" ", 1)[1] for row in blocks)
+def posted(line):
+    """The head of the request that posts the block of a feed's line, and the block's digits."""
+    digits = line.split()[1].decode()
+    head = f"POST /connect HTTP/1.1\r\nContent-Length: {len(digits) // 2}\r\n\r\n"
+    return head.encode().hex(), digits
 
 
-def asks(paths, times):
-    """Rows that ask a desk that was just opened for paths, once and then so many times more."""
-    rows = "".join(f"public GET keep {path}\n" for path in paths)
-    return f"open\n{rows}often {times}\n".encode()
+def served(lines, door):
+    """Rows that make a store and have it serve a link that posts these blocks at a door."""
+    words = ["".join(posted(line)) for line in lines]
+    # a link takes a turn of three, one for each piece that is heard, and one for each reply
+    turns = sum(len(word) // 2 // ROOM + 2 for word in words)
+    rows = ["run init regtest 100", f"link {door} {' '.join(words)}", f"run serve {3 * turns + 9}"]
+    return "".join(row + "\n" for row in rows).encode()
+
+
+def chains(lines):
+    """The rows by which each program gets a chain of these blocks."""
+    plain = b"".join(b"connect " + line.split()[1] + b"\n" for line in lines)
+    return {"ox": served(lines, "operator"), "plain": b"make regtest 100\n" + plain}
+
+
+def often(paths, times):
+    """A row that has a desk that was just opened asked for paths so many times."""
+    return f"often {times} {' '.join(paths)}\n".encode()
 
 
 def compare_answers(chain, feed):
-    """Ends where the programs don't show the same."""
-    rows = (asks(paths, 2) for paths, _ in ANSWERS.values())
-    feed.write_bytes(b"".join([chain, *rows]))
-    if len({run(words, feed)[2] for words in PROGRAMS.values()}) != 1:
+    """Ends where the programs don't count the same."""
+    rows, shown = b"".join(often(paths, 2) for paths, _ in ANSWERS.values()), set()
+    for name, words in PROGRAMS.items():
+        feed.write_bytes(chain[name] + rows)
+        shown.add(b"".join(run(words, feed)[2].splitlines(keepends=True)[-len(ANSWERS) :]))
+    if len(shown) != 1:
         sys.exit("the answers differ")
 
 
-def seconds_between(base, work, feed, among=None):
-    """The processor seconds that each program takes longer for the second rows than for the
-    first."""
+def seconds_of(name, base, work, feed):
+    """The processor seconds that a program takes longer for the second rows than for the first."""
     taken = []
     for rows in base, work:
         feed.write_bytes(rows)
-        taken.append(least(among or PROGRAMS, feed))
-    return {name: taken[1][name][0] - taken[0][name][0] for name in taken[0]}
+        taken.append(least({name: PROGRAMS[name]}, feed)[name][0])
+    return taken[1] - taken[0]
 
 
 def tell(work, size, count, unit, seconds, goal=None):
@@ -117,8 +134,10 @@ def tell(work, size, count, unit, seconds, goal=None):
 
 def time_answers(chain, feed):
     for work, (paths, times) in ANSWERS.items():
-        base, often = (chain + asks(paths, many) for many in (1, 1 + times))
-        seconds = seconds_between(base, often, feed)
+        seconds = {}
+        for name, rows in chain.items():
+            base, more = (rows + often(paths, many) for many in (1, 1 + times))
+            seconds[name] = seconds_of(name, base, more, feed)
         size = f"{len(paths)} {'path' if len(paths) == 1 else 'paths'}"
         tell(work, size, times * len(paths), "answers", seconds, GOAL)
 
@@ -140,10 +159,8 @@ def time_connects(folder, feed):
     in_another_process(write_large, lines)
     first, *blocks = lines.read_bytes().splitlines(keepends=True)
     size = f"{len(blocks[0]) // 2:,} bytes"
-    front = MAKE + posts([first], b"operator")
-    base, work = (front + posts(blocks, door) for door in (b"public", b"operator"))
-    seconds = seconds_between(base, work, feed, {"ox": PROGRAMS["ox"]})
-    seconds |= {"plain": apply_seconds(lines, folder)}
+    base, work = (served([first, *blocks], door) for door in ("public", "operator"))
+    seconds = {"ox": seconds_of("ox", base, work, feed), "plain": apply_seconds(lines, folder)}
     tell("a block posted, beside `apply`", size, LARGE, "blocks", seconds)
 
 
@@ -153,7 +170,7 @@ def main():
         rows, feed = folder / "rows", folder / "feed"
         in_another_process(write_blocks, rows, ASKED)
         blocks = lengthened(rows.read_bytes().splitlines(keepends=True)[1:])
-        chain = MAKE + posts(blocks, b"operator")
+        chain = chains(blocks)
         compare_answers(chain, feed)
         time_answers(chain, feed)
         time_connects(folder, feed)

@@ -1,56 +1,64 @@
-#!/usr/bin/env python3
-"""Makes the rows of crates/ox_desk_rows and what has to be printed for them:
-
-    checks/desk_rows.py
+"""The rows of crates/ox_serve_rows that ask one desk, and what has to be printed for them.
+checks/serve_rows.py writes them.
 
 Replies are told by docs/FORMATS.md. The chains and most of what they are asked are those of
-checks/index_rows.py and checks/query_rows.py, the disk that of checks/store_rows.py, and what files
-stand for is told by store_files. What is kept of replies is reckoned here: 64 of them, by the
-number of accepted commands and the path, the last used first, none with a body above 65,536 bytes.
+checks/index_rows.py and checks/query_rows.py. What is kept of replies is reckoned here: 64 of them,
+by the number of accepted commands and the path, the last used first, none with a body above 65,536
+bytes. A desk is asked by one link at a time, so that the order of its requests is plain: by the
+operator's, and over the same files by a public one.
 """
 
 import json
 
 import index_rows
 import query_rows
-import store_files
 import store_rows
-from chain import GENESIS, envelope, payload_of
+from chain import GENESIS, envelope
 from plain_index import NO_BLOCK
 from query_rows import checksum
 from rows import inscription, plain, reveal
-from store_files import stands
 from store_rows import block_on
-from tools.programs import write_rows
 
 JSON = "application/json"
 PHRASES = {
     200: "OK",
+    400: "Bad Request",
     403: "Forbidden",
     404: "Not Found",
     405: "Method Not Allowed",
     409: "Conflict",
+    411: "Length Required",
+    413: "Content Too Large",
+    431: "Request Header Fields Too Large",
 }
-WHOLE, FRONT = 1000, 200
+# the most bytes that are printed whole, and how many of more
+WHOLE, FRONT = 1_000, 200
+# the most bytes that are heard at once, and that a body may have
+ROOM, BODY = 65_536, 4_000_000
 
 
 def compact(tree):
     return json.dumps(tree, ensure_ascii=False, sort_keys=True, separators=(",", ":")).encode()
 
 
+def told(status, tree):
+    """A reply of this tree: its status, body, kind and encoding."""
+    return status, compact(tree), JSON, None
+
+
 def error(status):
-    return status, compact({"error": status}), JSON, None
+    return told(status, {"error": status})
 
 
 def newest(height, block_hash):
     """What is said of an accepted command; a hash is as it is printed, and both are None where no
     block is left."""
-    return 200, compact({"hash": block_hash, "height": height}), JSON, None
+    return told(200, {"hash": block_hash, "height": height})
 
 
 def refused(line):
     """What is said of a refused one, by the line of its refusal."""
-    return 409, compact({"refused": line.removeprefix("refused ")}), JSON, None
+    return told(409, {"refused": line.removeprefix("refused ")})
 
 
 def written(reply, close):
@@ -75,14 +83,14 @@ class Counts:
     """What a desk counts, and the keys of the replies that it keeps."""
 
     def __init__(self):
-        self.requests = self.hits = self.commands = 0
+        self.requests = self.hits = self.accepted = 0
         self.keys = []
 
     def request(self, method, path, size):
         self.requests += 1
         if method != "GET":
             return
-        key = self.commands, path
+        key = self.accepted, path
         if key in self.keys:
             self.hits += 1
             self.keys.remove(key)
@@ -91,63 +99,139 @@ class Counts:
         self.keys = ([key] + self.keys)[:64]
 
 
+# ---- requests
+
+
+class Body:
+    """The bytes of a body, by the hex digits of a head, of a part that stands so many times, and of
+    a tail."""
+
+    def __init__(self, head="", times=0, part="", tail=""):
+        self.head, self.times, self.part, self.tail = head, times, part, tail
+
+    def __len__(self):
+        return (len(self.head) + self.times * len(self.part) + len(self.tail)) // 2
+
+    def word(self, front):
+        """The word of a row that says these bytes behind others."""
+        if self.times:
+            return f"{front.hex()}{self.head}*{self.times}*{self.part}*{self.tail}"
+        return front.hex() + self.head
+
+
+class Asked:
+    """A request, and the reply that it has to get."""
+
+    def __init__(self, method, path, reply, close=False, body=Body()):
+        self.method, self.path, self.reply, self.close = method, path, reply, close
+        self.body = body
+        self.is_accepted = reply[0] == 200 and path in ("/connect", "/disconnect")
+
+    def front(self):
+        """The bytes of its head."""
+        lines = [f"{self.method} {self.path} HTTP/1.1"]
+        if self.method == "POST" or len(self.body):
+            lines.append(f"Content-Length: {len(self.body)}")
+        lines += ["Connection: close"] if self.close else []
+        return "".join(line + "\r\n" for line in lines).encode() + b"\r\n"
+
+    def turns(self):
+        """The most turns that its link takes for it: for each piece that is heard, and for the
+        reply."""
+        return -(-(len(self.front()) + len(self.body)) // ROOM) + 1
+
+
 class Desks:
     """The rows so far, and what is printed for them."""
 
     def __init__(self):
-        self.stdin, self.stdout, self.counts = [], [], Counts()
+        self.stdin, self.stdout = [], []
+        self.told, self.operators, self.publics = b"", [], []
 
     def row(self, *words):
         self.stdin.append(" ".join(map(str, words)))
 
     def heading(self, text):
+        self.serve()
         self.row("#", text)
         self.stdout.append(f"# {text}")
 
     def make(self, profile="regtest", depth=100):
         """A store is made of two fresh files."""
+        self.serve()
         self.row("fresh")
-        self.row("make", profile, depth)
-        self.counts = Counts()
+        self.row("run", "init", profile, depth)
+        self.told = b"ok empty\n"
+        self.stdout += ["status 0", printed(self.told)]
 
-    def ask(self, method, path, reply, door="public", close=False, body=""):
-        """A request that is replied so; a body is in the words of a row."""
-        self.row(door, method, "close" if close else "keep", path, *([body] if body else []))
-        self.counts.request(method, path, len(reply[1]))
-        data = written(reply, close)
-        counted = f"{self.counts.requests} requests {self.counts.hits} hits"
-        self.stdout.append(
-            f"{'close' if close else 'keep'} {counted} {len(data)} bytes: {printed(data)}"
-        )
+    def ask(self, method, path, reply, **how):
+        """A request of the operator's link that is replied so."""
+        asked = Asked(method, path, reply, **how)
+        if asked.is_accepted and self.publics:
+            self.serve()
+        self.operators.append(asked)
 
-    def again(self, times, asked):
-        """What was asked, by method, path and reply, is asked so many times more."""
-        self.row("often", times)
-        for method, path, reply in times * asked:
-            self.counts.request(method, path, len(reply[1]))
-        size = times * sum(len(written(reply, False)) for _, _, reply in asked)
-        counted = f"{self.counts.requests} requests {self.counts.hits} hits"
-        self.stdout.append(f"{counted} {size} bytes")
+    def ask_publicly(self, method, path, reply, **how):
+        """A request of a public link that is replied so, behind those of the operator's."""
+        self.publics.append(Asked(method, path, reply, **how))
 
-    def accepts(self, path, reply, body="", close=False):
+    def accepts(self, path, reply, **how):
         """An operator's command that is accepted."""
-        self.ask("POST", path, reply, "operator", close, body)
-        self.counts.commands += 1
+        self.ask("POST", path, reply, **how)
 
-    def refuses(self, path, line, body="", close=False):
-        self.ask("POST", path, refused(line), "operator", close, body)
+    def refuses(self, path, line, **how):
+        self.ask("POST", path, refused(line), **how)
+
+    def serve(self):
+        """Serves a link of the operator's with what was asked since, and then a public one."""
+        for door, requests in ("operator", self.operators), ("public", self.publics):
+            link = []
+            for asked in requests:
+                link.append(asked)
+                if asked.close:
+                    self.run((door, link))
+                    link = []
+            if link:
+                self.run((door, link))
+        self.operators, self.publics = [], []
+
+    def run(self, *links):
+        """Serves these links side by side, where it is one which of them is answered first. What
+        the desk has counted then."""
+        counts, shown = Counts(), []
+        for door, requests in links:
+            self.row("link", door, *(asked.body.word(asked.front()) for asked in requests))
+            shown.append(b"".join(written(asked.reply, asked.close) for asked in requests))
+            for asked in requests:
+                counts.request(asked.method, asked.path, len(asked.reply[1]))
+                counts.accepted += asked.is_accepted
+        turns = sum(asked.turns() for _, requests in links for asked in requests)
+        self.row("run", "serve", (2 + len(links)) * (turns + 2))
+        self.told += f"requests {counts.requests} hits {counts.hits}\n".encode()
+        self.stdout += ["status 0", printed(self.told), *map(printed, shown)]
+        return counts
+
+    def often(self, times, asked):
+        """One desk answers GETs of these paths, by their replies, so many times over."""
+        self.serve()
+        self.row("often", times, *asked)
+        counts, size = Counts(), 0
+        for path, reply in times * list(asked.items()):
+            counts.request("GET", path, len(reply[1]))
+            size += len(written(reply, False))
+        self.stdout.append(f"{counts.requests} requests {counts.hits} hits {size} bytes")
 
 
 # ---- the chains and requests of the other scripts
 
 
-def word_of(words):
-    """The bytes of a block as one word of a row, by the words that the other program reads."""
+def body_of(words):
+    """A block's bytes by the words that the other program reads."""
     if not any("*" in word for word in words):
-        return "".join(words)
+        return Body("".join(words))
     (at,) = (at for at, word in enumerate(words) if "*" in word)
     times, part = words[at].split("*")
-    return f"{''.join(words[:at])},{times},{part},{''.join(words[at + 1:])}"
+    return Body("".join(words[:at]), int(times), part, "".join(words[at + 1 :]))
 
 
 def answer_of(line):
@@ -172,22 +256,26 @@ def reply_of(line):
     return (int(status), body, kind, encoding), close == ["close"]
 
 
-def command(desks, path, line, body=""):
+def command(desks, path, line, body=Body()):
+    if len(body) > BODY:
+        # no link says so much
+        return
     if line.startswith("refused"):
-        desks.refuses(path, line, body)
+        desks.refuses(path, line, body=body)
     else:
-        desks.accepts(path, answer_of(line), body)
+        desks.accepts(path, answer_of(line), body=body)
 
 
 def asks(desks, row, line):
-    """A request of the other program, from either door; a command of the public one alone."""
+    """A request of the other program, from either door; a command of the public one alone. No head
+    has an empty path."""
     method, path = row.removeprefix("close ").split(" ")
-    if reply_of(line) is None or not path.isascii():
+    if reply_of(line) is None or not path or not path.isascii():
         return
     reply, close = reply_of(line)
-    desks.ask(method, path, reply, close=close)
+    desks.ask_publicly(method, path, reply, close=close)
     if reply[0] != 403:
-        desks.ask(method, path, reply, "operator", close)
+        desks.ask(method, path, reply, close=close)
 
 
 def replay(desks, rows):
@@ -199,7 +287,7 @@ def replay(desks, rows):
         elif word in ("chain", "live"):
             desks.make(words[0], words[1] if words[1:] else 100)
         elif word == "block":
-            command(desks, "/connect", lines[0], word_of(words))
+            command(desks, "/connect", lines[0], body_of(words))
         elif word == "disconnect":
             command(desks, "/disconnect", lines[0])
         elif word in ("GET", "POST", "PUT", "close"):
@@ -234,50 +322,47 @@ def connected(block):
 
 def status(blocks, kept, tip, depth=100, profile="regtest"):
     tree = {"blocks": blocks, "depth": depth, "kept": kept, "profile": profile, "tip": tip}
-    return 200, compact(tree), JSON, None
-
-
-def status_of(stack):
-    blocks = len(stack.hashes())
-    tip = stack.tip()[::-1].hex() if blocks else None
-    return status(blocks, len(stack.kept), tip, stack.depth)
+    return told(200, tree)
 
 
 EMPTY = status(0, 0, None)
 
 
 def commands(desks):
+    genesis = Body(GENESIS.hex())
     desks.heading("a block is connected and taken back; on an empty chain both are null")
     desks.make("mainnet")
-    desks.accepts("/connect", connected(GENESIS), GENESIS.hex())
-    assert query_rows.GENESIS_HASH in desks.stdout[-1]
+    assert query_rows.GENESIS_HASH.encode() in connected(GENESIS)[1]
+    desks.accepts("/connect", connected(GENESIS), body=genesis)
     desks.accepts("/disconnect", newest(None, None))
     desks.refuses("/disconnect", "refused 11")
     desks.heading("what a disconnect's body has isn't looked at, and a reply closes as asked")
     desks.make()
-    desks.accepts("/connect", connected(GENESIS), GENESIS.hex(), close=True)
-    desks.accepts("/disconnect", newest(None, None), "00ff", close=True)
-    desks.refuses("/disconnect", "refused 11", "00ff", close=True)
+    desks.accepts("/connect", connected(GENESIS), body=genesis, close=True)
+    desks.accepts("/disconnect", newest(None, None), body=Body("00ff"), close=True)
+    desks.refuses("/disconnect", "refused 11", body=Body("00ff"), close=True)
     desks.heading("a command of the public door is forbidden, and changes nothing")
     desks.make()
-    desks.ask("POST", "/connect", error(403), body=GENESIS.hex())
-    desks.ask("POST", "/disconnect", error(403))
-    desks.ask("GET", "/status", EMPTY)
+    desks.ask_publicly("POST", "/connect", error(403), body=genesis)
+    desks.ask_publicly("POST", "/disconnect", error(403))
+    desks.ask_publicly("GET", "/status", EMPTY)
     for method in ("GET", "PUT"):
         for path in ("/connect", "/disconnect"):
-            desks.ask(method, path, error(405), "operator", body=GENESIS.hex())
+            desks.ask(method, path, error(405), body=genesis)
     for path in ("/connect/", "/connec", "/", "/disconnect?"):
-        desks.ask("POST", path, error(404), "operator", body=GENESIS.hex())
+        desks.ask("POST", path, error(404), body=genesis)
     desks.ask("GET", "/status", EMPTY)
-    desks.heading("a block that is cut, too long or not on the newest one is refused")
+    desks.heading("a block that is cut or not on the newest one is refused")
     desks.make()
     desks.refuses("/connect", "refused 3 0")
-    desks.refuses("/connect", "refused 3 4000000", "00,4000000,00,")
+    # the header takes 80 bytes, and then no transaction is counted
+    desks.refuses("/connect", "refused 3 80", body=Body("", BODY, "00"))
     first, tip = block_on(NO_BLOCK, 1)
-    unlinked = block_on(tip, 2)[0]
-    desks.refuses("/connect", f"refused 5 {tip[::-1].hex()} {64 * '0'}", unlinked.hex())
-    desks.accepts("/connect", newest(0, tip[::-1].hex()), first.hex())
-    desks.refuses("/connect", f"refused 5 {64 * '0'} {tip[::-1].hex()}", first.hex())
+    unlinked = Body(block_on(tip, 2)[0].hex())
+    desks.refuses("/connect", f"refused 5 {tip[::-1].hex()} {64 * '0'}", body=unlinked)
+    desks.accepts("/connect", newest(0, tip[::-1].hex()), body=Body(first.hex()))
+    again = f"refused 5 {64 * '0'} {tip[::-1].hex()}"
+    desks.refuses("/connect", again, body=Body(first.hex()))
     desks.ask("GET", "/status", status(1, 1, tip[::-1].hex()))
 
 
@@ -287,47 +372,47 @@ def commands(desks):
 def kept(desks):
     first, tip = block_on(NO_BLOCK, 1)
     one = status(1, 1, tip[::-1].hex())
+    looks = Asked("GET", "/status", EMPTY)
     desks.heading("a path that is asked again is a hit, until a command is accepted")
     desks.make()
-    desks.ask("GET", "/status", EMPTY)
-    desks.ask("GET", "/status", EMPTY, "operator")
-    desks.refuses("/disconnect", "refused 11")
-    desks.ask("GET", "/status", EMPTY)
-    assert " 2 hits " in desks.stdout[-1]
-    desks.accepts("/connect", newest(0, tip[::-1].hex()), first.hex())
-    desks.ask("GET", "/status", one)
-    assert " 2 hits " in desks.stdout[-1]
-    desks.ask("GET", "/status", one)
-    desks.accepts("/disconnect", newest(None, None))
-    desks.ask("GET", "/status", EMPTY)
-    assert " 3 hits " in desks.stdout[-1]
+    asked = [
+        looks,
+        looks,
+        Asked("POST", "/disconnect", refused("refused 11")),
+        looks,
+        Asked("POST", "/connect", newest(0, tip[::-1].hex()), body=Body(first.hex())),
+        Asked("GET", "/status", one),
+        Asked("GET", "/status", one),
+        Asked("POST", "/disconnect", newest(None, None)),
+        looks,
+    ]
+    assert desks.run(("operator", asked)).hits == 3
+    desks.heading("a reply that one door was given is kept for the other")
+    desks.make()
+    assert desks.run(("public", [looks]), ("operator", [looks])).hits == 1
     desks.heading("a hit closes as it is asked, whatever the reply did that is kept")
     desks.make()
-    for close in (False, True, True, False):
-        desks.ask("GET", "/status", EMPTY, close=close)
-    desks.ask("GET", "/sat/", error(404), close=True)
-    desks.ask("GET", "/sat/", error(404))
-    assert " 4 hits " in desks.stdout[-1]
+    closes = Asked("GET", "/status", EMPTY, close=True)
+    lacks = [Asked("GET", "/sat/", error(404), close=close) for close in (False, True)]
+    links = [looks, closes], [closes], [looks], lacks[1:], lacks[:1]
+    assert desks.run(*(("public", link) for link in links)).hits == 4
     desks.heading("64 replies are kept, the last used ones")
     desks.make()
     paths = [f"/blockhash/{height}" for height in range(65)]
-    for path in paths + [paths[64], paths[1], paths[0], paths[2], paths[1]]:
-        desks.ask("GET", path, error(404))
-    assert " 3 hits " in desks.stdout[-1]
+    paths += [paths[64], paths[1], paths[0], paths[2], paths[1]]
+    asked = [Asked("GET", path, error(404)) for path in paths]
+    assert desks.run(("public", asked)).hits == 3
     desks.heading("requests are asked again, and a page is kept too")
     desks.make()
-    page = 200, b'{"ids":[],"more":false,"page":0}', JSON, None
-    asked = [("GET", "/status", EMPTY), ("GET", "/runes/0", page), ("POST", "/audit", error(405))]
-    for method, path, reply in asked:
-        desks.ask(method, path, reply)
-    desks.again(3, asked)
-    assert desks.stdout[-1].startswith("12 requests 6 hits ")
+    page = told(200, {"ids": [], "more": False, "page": 0})
+    asked = [looks, Asked("GET", "/runes/0", page), Asked("POST", "/audit", error(405))]
+    counts = desks.run(("public", 4 * asked))
+    assert (counts.requests, counts.hits) == (12, 6)
+    desks.often(4, {"/status": EMPTY, "/runes/0": page})
     desks.heading("a post is not kept")
     desks.make()
-    for _ in range(2):
-        desks.ask("POST", "/status", error(405))
-    desks.ask("GET", "/status", EMPTY)
-    assert " 0 hits " in desks.stdout[-1]
+    asked = Asked("POST", "/status", error(405))
+    assert desks.run(("public", [asked, asked, looks])).hits == 0
 
 
 def long_bodies(desks):
@@ -346,83 +431,15 @@ def long_bodies(desks):
         block, tip = query_rows.block_on(rows, tx)
         rows.takes(block.hex(), tip)
         replay(desks, rows.rows)
-        for _ in range(2):
-            desks.ask("GET", f"/content/{inscription(tx)}", (200, body, query_rows.OCTETS, None))
-        assert f" {int(size == 65_536)} hits " in desks.stdout[-1]
+        desks.serve()
+        asked = Asked("GET", f"/content/{inscription(tx)}", (200, body, query_rows.OCTETS, None))
+        assert desks.run(("public", [asked, asked])).hits == int(size == 65_536)
 
 
-# ---- the disk
-
-
-class Disk:
-    """A regtest store of depth 100 on a disk that may fail, with its desk."""
-
-    def __init__(self, desks, *failing):
-        self.desks, self.site = desks, store_rows.Site()
-        desks.row("fresh")
-        for call in failing:
-            desks.row("fail", call)
-            self.site.failing.add(call)
-        desks.row("make", "regtest", 100)
-        desks.counts = Counts()
-        # a store without a block says one line, once it is made
-        self.site.look()
-        self.site.look()
-        self.store = store_files.make(self.site)
-
-    def connect(self, block):
-        """A block is connected, and the reply told, unless a call fails."""
-        try:
-            self.store.carry_out(payload_of(block))
-        except store_rows.CallFailed:
-            self.desks.row("operator", "POST", "keep", "/connect", block.hex())
-            self.desks.stdout.append("a call failed")
-            return
-        self.desks.accepts("/connect", connected(block), block.hex())
-
-    def left(self, moment, fill, keep=1000):
-        """What a crash leaves is opened, and its status told."""
-        self.desks.row("crash", moment, fill, keep)
-        self.desks.counts = Counts()
-        stack, _ = stands(self.site.crash(moment, fill, keep).files)
-        self.desks.ask("GET", "/status", status_of(stack))
-
-
-def faults(desks):
-    block, _ = block_on(NO_BLOCK, 1)
-    desks.heading("each call of a connect fails, and what is opened afterwards")
-    made = 10
-    for call in range(made, made + 5):
-        for fill in (0x00, 0x07, 0xFF):
-            disk = Disk(desks, call)
-            assert disk.site.calls == made
-            disk.connect(block)
-            assert (desks.stdout[-1] == "a call failed") == (call < made + 4)
-            disk.left(len(disk.site.steps), fill)
-            # the record's sync is the second call of the four, and the gate's write the third
-            assert call > made + 1 or '"blocks":0' in desks.stdout[-1]
-
-
-def stops(desks):
-    block, _ = block_on(NO_BLOCK, 1)
-    desks.heading("a stop at each moment of a connect leaves the chain before or after")
-    disk = Disk(desks)
-    begun = len(disk.site.steps)
-    disk.connect(block)
-    ended = len(disk.site.steps)
-    for moment in range(begun, ended + 1):
-        for fill in (0x00, 0x07, 0xFF):
-            disk.left(moment, fill)
-            assert moment < ended or '"blocks":1' in desks.stdout[-1]
-            assert moment > begun or '"blocks":0' in desks.stdout[-1]
-
-
-def main():
-    desks = Desks()
-    for part in (routes, commands, kept, long_bodies, faults, stops):
-        part(desks)
-    write_rows("ox_desk_rows", desks.stdin, desks.stdout)
-
-
-if __name__ == "__main__":
-    main()
+def desks():
+    """The rows, and what has to be printed for them."""
+    made = Desks()
+    for part in (routes, commands, kept, long_bodies):
+        part(made)
+        made.serve()
+    return made

@@ -6,13 +6,14 @@
 Requests and replies are told by docs/FORMATS.md, and whose turn it is by README.md, 'Serving', on
 their own: with a rotation, sessions and a store that share nothing with the library. What these
 don't say and the rows go by: making and opening an empty store take so many calls, which
-checks/store_rows.py tells in part, and each event of a link is a moment.
+checks/store_rows.py tells in part, and each event of a link is a moment. What one desk answers is
+asked by the rows of checks/desk_rows.py behind them.
 """
 
-import json
-
+import desk_rows
 import store_files
 from chain import DISCONNECT, chain, payload_of
+from desk_rows import ROOM, Counts, compact, error, printed, refused, told, written
 from plain_index import Refused
 from store_files import NoStore, stands
 from store_rows import CallFailed, Site
@@ -20,37 +21,10 @@ from tools.bitcoin import SUBSIDY
 from tools.programs import write_rows
 
 SLOTS = 32
-ROOM = 65_536
 HEAD = 8_192
 BODY = 4_000_000
-KEPT = 64
 # the calls of an opening of an empty store behind the two syncs
 LOOKS = 6
-PHRASES = {
-    200: "OK",
-    400: "Bad Request",
-    403: "Forbidden",
-    404: "Not Found",
-    405: "Method Not Allowed",
-    409: "Conflict",
-    411: "Length Required",
-    413: "Content Too Large",
-    431: "Request Header Fields Too Large",
-}
-
-
-def text(tree):
-    """The compact text of a tree with sorted keys."""
-    return json.dumps(tree, ensure_ascii=False, sort_keys=True, separators=(",", ":")).encode()
-
-
-def written(status, tree, close):
-    body = text(tree)
-    head = (
-        f"HTTP/1.1 {status} {PHRASES[status]}\r\nContent-Type: application/json\r\n"
-        f"Content-Length: {len(body)}\r\n{'Connection: close' if close else ''}"
-    )
-    return (head + ("\r\n\r\n" if close else "\r\n")).encode() + body
 
 
 class Fault(Exception):
@@ -100,38 +74,29 @@ class Desk:
 
     def __init__(self, site):
         self.store = store_files.Store(site, *stands(site.files))
-        self.requests = self.hits = self.accepted = 0
-        self.keys = []
+        self.counts = Counts()
 
     def answer(self, method, path, body, operator):
-        self.requests += 1
-        status, tree = self.tree(method, path, body, operator)
-        if method == "GET":
-            self.count((self.accepted_before, path), len(text(tree)))
-        return status, tree
+        accepted = self.counts.accepted
+        reply = self.reply(method, path, body, operator)
+        commands, self.counts.accepted = self.counts.accepted, accepted
+        self.counts.request(method, path, len(reply[1]))
+        self.counts.accepted = commands
+        return reply
 
-    def count(self, key, size):
-        if key in self.keys:
-            self.hits += 1
-            self.keys.remove(key)
-            self.keys.insert(0, key)
-        elif size <= ROOM:
-            self.keys = [key, *self.keys][:KEPT]
-
-    def tree(self, method, path, body, operator):
-        self.accepted_before = self.accepted
+    def reply(self, method, path, body, operator):
         if path in ("/connect", "/disconnect"):
             if method != "POST":
-                return 405, {"error": 405}
+                return error(405)
             if not operator:
-                return 403, {"error": 403}
+                return error(403)
             return self.carry_out(payload_of(body) if path == "/connect" else DISCONNECT)
         found = self.looked_up(path)
         if found is None:
-            return 404, {"error": 404}
+            return error(404)
         if method != "GET":
-            return 405, {"error": 405}
-        return (200, found) if found else (404, {"error": 404})
+            return error(405)
+        return told(200, found) if found else error(404)
 
     def looked_up(self, path):
         """The tree of a path, an empty one where it names nothing, none where it has no route."""
@@ -160,12 +125,12 @@ class Desk:
     def carry_out(self, command):
         try:
             self.store.carry_out(command)
-        except Refused as refused:
-            return 409, {"refused": str(refused).split(" ", 1)[1]}
-        self.accepted += 1
+        except Refused as refusal:
+            return refused(str(refusal))
+        self.counts.accepted += 1
         hashes = self.store.stack.hashes()
         tip = (hashes[-1][::-1].hex(), len(hashes) - 1) if hashes else (None, None)
-        return 200, {"hash": tip[0], "height": tip[1]}
+        return told(200, {"hash": tip[0], "height": tip[1]})
 
 
 # ---- the rotation
@@ -262,14 +227,14 @@ class Server:
         try:
             asked = request_in(link.heard)
         except Fault as fault:
-            link.due, link.closing = written(fault.args[0], {"error": fault.args[0]}, True), True
+            link.due, link.closing = written(error(fault.args[0]), True), True
             return
         if asked is None:
             return
         method, path, body, closes, taken = asked
         link.heard = link.heard[taken:]
-        status, tree = self.desk.answer(method, path, body, link.operator)
-        link.due, link.closing = written(status, tree, closes), closes
+        reply = self.desk.answer(method, path, body, link.operator)
+        link.due, link.closing = written(reply, closes), closes
 
 
 # ---- rows
@@ -293,6 +258,7 @@ class Rows:
         """A regtest store of depth 100 without a block."""
         self.row("fresh")
         self.site, self.doors, self.links, self.told = Site(), [[], []], 0, b""
+        self.printed = 0
         self.row("run", "init", "regtest", 100)
         made_by(self.site)
         self.told = b"ok empty\n"
@@ -316,9 +282,10 @@ class Rows:
 
     def shows(self, status, shown=()):
         self.stdout.append(f"status {status}")
-        self.stdout.append(self.told.hex())
-        for number in range(1, self.links + 1):
-            self.stdout.append(dict(shown).get(number, b"").hex())
+        self.stdout.append(printed(self.told))
+        for number in range(self.printed + 1, self.links + 1):
+            self.stdout.append(printed(dict(shown).get(number, b"")))
+        self.printed = self.links
 
     def serve(self, turns):
         """Serves, from the store as it stands."""
@@ -335,11 +302,12 @@ class Rows:
             status = 4
         else:
             status = 0
-            told = f"requests {server.desk.requests} hits {server.desk.hits}\n".encode()
+            counts = server.desk.counts
+            line = f"requests {counts.requests} hits {counts.hits}\n".encode()
             if self.site.call():
-                self.told += told
+                self.told += line
                 server.event()
-                self.tellings.append((len(self.site.steps), told))
+                self.tellings.append((len(self.site.steps), line))
             else:
                 status = 6
                 server.event()
@@ -353,15 +321,15 @@ class Rows:
         try:
             desk = Desk(after)
         except NoStore as place:
-            told, status = f"not a store {str(place).lower().replace(' at', '')}\n".encode(), 3
+            line, status = f"not a store {str(place).lower().replace(' at', '')}\n".encode(), 3
         else:
-            told, status = text(desk.tree("GET", "/status", b"", False)[1]), 0
+            line, status = compact(desk.looked_up("/status")), 0
         self.stdout.append(f"status {status}")
-        self.stdout.append((self.told_at(moment) + told).hex())
+        self.stdout.append(printed(self.told_at(moment) + line))
 
     def told_at(self, moment):
         """What was told by then."""
-        return b"".join(told for at, told in self.tellings if at <= moment)
+        return b"".join(line for at, line in self.tellings if at <= moment)
 
 
 def made_by(site):
@@ -443,9 +411,8 @@ def commands(rows):
     rows.link(*said)
     rows.serve(200)
     rows.row("run", "query", "/status")
-    desk = Desk(rows.site)
-    rows.told += text(desk.tree("GET", "/status", b"", False)[1])
-    rows.shows(0, rows.shown)
+    rows.told += compact(Desk(rows.site).looked_up("/status"))
+    rows.shows(0)
 
 
 def pipelined(rows):
@@ -499,7 +466,7 @@ def short(rows):
 
 
 def fails(rows):
-    rows.heading("each call of a short run fails")
+    rows.heading("each call of a short run fails, and what is opened afterwards")
     short(rows)
     first = rows.site.calls + 2 + LOOKS
     rows.serve(24)
@@ -509,6 +476,8 @@ def fails(rows):
         short(rows)
         rows.fail(call)
         rows.serve(24)
+        for fill in (0, 7, 255):
+            rows.crash(len(rows.site.steps), fill, 10**9)
 
 
 def stops(rows):
@@ -517,7 +486,7 @@ def stops(rows):
     first = len(rows.site.steps)
     rows.serve(24)
     for moment in range(first, len(rows.site.steps) + 1):
-        for fill in (0, 1, 255):
+        for fill in (0, 7, 255):
             for keep in (0, 10**9):
                 rows.crash(moment, fill, keep)
 
@@ -532,7 +501,7 @@ def turns(rows):
     for moment in range(last - 24, last + 1):
         for fill in (0, 255):
             rows.crash(moment, fill, 10**9)
-    assert any('"blocks":64' in bytes.fromhex(line).decode() for line in rows.stdout[-97::2])
+    assert any('"blocks":64' in line for line in rows.stdout[-97::2])
 
 
 def main():
@@ -550,7 +519,8 @@ def main():
         turns,
     ):
         part(rows)
-    write_rows("ox_serve_rows", rows.stdin, rows.stdout)
+    desks = desk_rows.desks()
+    write_rows("ox_serve_rows", rows.stdin + desks.stdin, rows.stdout + desks.stdout)
 
 
 if __name__ == "__main__":

@@ -2,29 +2,39 @@
 //!
 //! - `fresh`: two empty files, no links, and no call that is to fail;
 //! - `link DOOR SAID..`: a link that waits at a door, `public` or `operator`, and says this: bytes
-//!   as hex digits, heard at once; `,` and bytes, each heard alone; `.`, nothing yet; or `$`, its
-//!   end;
+//!   as hex digits, heard at once; `HEAD*N*PART*TAIL`, so much of a head, N times a part, and a
+//!   tail; `,` and bytes, each heard alone; `.`, nothing yet; or `$`, its end;
 //! - `fail N`: the call of this number fails, counted from 0 since the files were `fresh`;
-//! - `run WORD..`: runs the program; its status, what it showed, and what each link was shown then;
+//! - `run WORD..`: runs the program; its status, what it showed, and what each link was shown that
+//!   came behind the last run;
 //! - `crash MOMENT FILL KEEP WORD..`: runs the program over what a crash would leave, where each
 //!   byte that it may change is `FILL` and each file is cut to `KEEP` bytes as far as it may be;
 //!   the site itself stays;
+//! - `often N PATH..`: opens the store, and has one desk answer a GET of each path, N times over;
+//!   how many requests and hits it counts, and how many bytes the replies have;
 //! - `now`: the moment;
 //! - `# ..`: a heading, which is printed.
+//!
+//! Of what was shown printable bytes are printed as they are, others and `\` as `\` and two hex
+//! digits; of more than 1,000 bytes the first 200, and the number that all of them come to.
 //!
 //! The rows and what has to be printed are made by checks/serve_rows.py, which has its own
 //! rotation, store and disk, and shares nothing with the library.
 #![tactic(auto)]
 
+mod often;
+mod say;
 mod words;
 
+use crate::often::often;
+use crate::say::print_bytes;
 use crate::words::{byte_of, door_of, number_of, script_of};
 use anyhow::{Context, bail};
 use ox_app::run;
 use ox_bytes::Bytes;
 use ox_memsite::{Choice, MemSite};
 use std::alloc::Global;
-use std::io::{self, Read};
+use std::io::Read;
 
 /// Two empty files and no links.
 fn fresh(alloc: Global) -> anyhow::Result<MemSite> {
@@ -43,28 +53,18 @@ fn words_of(alloc: Global, row: &[&str]) -> anyhow::Result<Vec<Bytes>> {
     Ok(words)
 }
 
-/// Bytes in hex digits.
-fn print_hex(rt: &impl Print, bytes: &[u8]) -> io::Result<()> {
-    for byte in bytes {
-        print!(rt; "{byte:02x}")?;
-    }
-    Ok(())
-}
-
 /// What was shown on a channel.
 fn print_shown(rt: &impl Print, site: &MemSite, channel: u32) -> anyhow::Result<()> {
     let shown = site.shown(channel).ok().context("no memory")?;
-    print_hex(rt, shown.as_slice())?;
+    print_bytes(rt, shown.as_slice())?;
     Ok(println!(rt)?)
 }
 
-/// Runs the program, and prints its status and what was shown on so many channels since the site
-/// was made.
+/// Runs the program, and prints its status and what it has shown since the site was made.
 fn run_aloud(
     rt: &impl Print,
     alloc: Global,
     site: &mut MemSite,
-    links: u32,
     row: &[&str],
 ) -> anyhow::Result<()> {
     let words = words_of(alloc, row)?;
@@ -73,10 +73,7 @@ fn run_aloud(
     if site.starved() > 0 {
         bail!("no memory");
     }
-    for channel in 0..=links {
-        print_shown(rt, site, channel)?;
-    }
-    Ok(())
+    print_shown(rt, site, 0)
 }
 
 /// Runs the program over what a crash leaves.
@@ -96,7 +93,7 @@ fn crash(
         bail!("no such moment");
     }
     let mut after = site.crash(&choice).ok().context("no memory")?;
-    run_aloud(rt, alloc, &mut after, 0, row)
+    run_aloud(rt, alloc, &mut after, row)
 }
 
 /// Lets links wait at a door.
@@ -105,30 +102,50 @@ fn link(alloc: Global, site: &mut MemSite, door: &str, said: &[&str]) -> anyhow:
     site.link(door_of(door)?, &script).ok().context("no memory")
 }
 
-/// A site, and how many links came to it.
+/// A site, how many links came to it, and how many of them it was printed of what they were shown.
 #[derive(Drop)]
 struct Desktop {
     site: MemSite,
     links: u32,
+    printed: u32,
+}
+
+/// A site of two empty files, without links.
+fn fresh_desktop(alloc: Global) -> anyhow::Result<Desktop> {
+    Ok(Desktop {
+        site: fresh(alloc)?,
+        links: 0,
+        printed: 0,
+    })
+}
+
+/// What each link was shown that came behind the last run.
+fn print_links(rt: &impl Print, on: &mut Desktop) -> anyhow::Result<()> {
+    for link in on.printed..on.links {
+        print_shown(rt, &on.site, link + 1)?;
+    }
+    on.printed = on.links;
+    Ok(())
 }
 
 /// Carries out a row.
 fn carry_out(rt: &impl Print, alloc: Global, on: &mut Desktop, row: &[&str]) -> anyhow::Result<()> {
     match row {
-        ["fresh"] => {
-            *on = Desktop {
-                site: fresh(alloc)?,
-                links: 0,
-            };
-        }
+        ["fresh"] => *on = fresh_desktop(alloc)?,
         ["link", door, said @ ..] => {
             link(alloc, &mut on.site, door, said)?;
             on.links = on.links.saturating_add(1);
         }
         ["fail", call] => on.site.fail(number_of(call)?).ok().context("no memory")?,
-        ["run", words @ ..] => run_aloud(rt, alloc, &mut on.site, on.links, words)?,
+        ["run", words @ ..] => {
+            run_aloud(rt, alloc, &mut on.site, words)?;
+            print_links(rt, on)?;
+        }
         ["crash", moment, fill, keep, words @ ..] => {
             crash(rt, alloc, &on.site, [moment, fill, keep], words)?;
+        }
+        ["often", times, paths @ ..] => {
+            often(rt, alloc, &mut on.site, number_of(times)?, paths)?;
         }
         ["now"] => println!(rt; "moment {}", on.site.now())?,
         _ => bail!("no row"),
@@ -138,10 +155,7 @@ fn carry_out(rt: &impl Print, alloc: Global, on: &mut Desktop, row: &[&str]) -> 
 
 /// Carries the rows of a text out, from two empty files on.
 fn carry_out_all(rt: &impl Print, alloc: Global, text: &str) -> anyhow::Result<()> {
-    let mut on = Desktop {
-        site: fresh(alloc)?,
-        links: 0,
-    };
+    let mut on = fresh_desktop(alloc)?;
     for row in text.split('\n') {
         if row.starts_with('#') {
             println!(rt; "{row}")?;

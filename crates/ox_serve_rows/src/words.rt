@@ -30,6 +30,26 @@ fn bytes_of(alloc: Global, word: &str) -> anyhow::Result<Vec<u8>> {
     hex::decode(alloc, word).ok().context("no hex digits")
 }
 
+/// The bytes of a head, so many times a part, and a tail.
+fn joined(alloc: Global, head: &str, times: u64, behind: [&str; 2]) -> anyhow::Result<Vec<u8>> {
+    let mut bytes = bytes_of(alloc, head)?;
+    let part = bytes_of(alloc, behind[0])?;
+    for _ in 0..times {
+        bytes.extend_from_slice(&part)?;
+    }
+    bytes.extend_from_slice(&bytes_of(alloc, behind[1])?)?;
+    Ok(bytes)
+}
+
+/// The bytes that are heard at once by a word.
+fn heard_at_once(alloc: Global, word: &str) -> anyhow::Result<Vec<u8>> {
+    let parts: Vec<&str> = word.split('*').collect(alloc)?;
+    match parts.as_slice() {
+        [head, times, part, tail] => joined(alloc, head, number_of(times)?, [*part, *tail]),
+        _ => bytes_of(alloc, word),
+    }
+}
+
 /// Appends bytes of which each is heard alone.
 fn append_alone(alloc: Global, said: &mut Vec<Said>, bytes: &[u8]) -> anyhow::Result<()> {
     for byte in bytes {
@@ -46,7 +66,7 @@ fn append(alloc: Global, said: &mut Vec<Said>, word: &str) -> anyhow::Result<()>
         "$" => said.push(Said::End)?,
         _ => match word.strip_prefix(',') {
             Some(digits) => append_alone(alloc, said, &bytes_of(alloc, digits)?)?,
-            None => said.push(Said::Bytes(Bytes::from_vec(bytes_of(alloc, word)?)))?,
+            None => said.push(Said::Bytes(Bytes::from_vec(heard_at_once(alloc, word)?)))?,
         },
     }
     Ok(())

@@ -1,0 +1,97 @@
+//! GETs that one desk answers again and again.
+
+ghost use Rattle.std.specs.Prelude.{IfSome};
+ghost use Rattle.ox_desk.specs.Desk.{Rests};
+
+use anyhow::{Context, bail};
+use ox_bytes::Bytes;
+use ox_desk::StoreDesk;
+use ox_http::{Method, Request};
+use ox_outside::Site;
+use ox_store::Store;
+use ox_turns::Desk;
+use std::alloc::Global;
+
+/// A GET of a path, with which the link goes on.
+fn get(alloc: Global, path: &str) -> anyhow::Result<Request> {
+    Ok(Request {
+        method: Method::Get,
+        path: Bytes::copy(alloc, path.as_bytes())
+            .ok()
+            .context("no memory")?,
+        body: Bytes::empty(alloc),
+        close: false,
+    })
+}
+
+/// A GET of each path.
+fn gets(alloc: Global, paths: &[&str]) -> anyhow::Result<Vec<Request>> {
+    let mut requests = Vec::new(alloc);
+    for path in paths {
+        requests.push(get(alloc, path)?)?;
+    }
+    Ok(requests)
+}
+
+/// Answers a request. How many bytes the reply has; `None` where there is none.
+fn answer<S: Site>(desk: &mut StoreDesk, site: &mut S, request: &Request) -> Option<u64>
+    requires { Rests S.Site desk.old site.old }
+    ensures { IfSome result (λ _. Rests S.Site desk.new site.new) }
+{
+    if desk.requests() == u64::MAX {
+        return None;
+    }
+    let made = desk.ask(site, request, false).ok()?;
+    Some(made.bytes.len() as u64)
+}
+
+/// The same for each of some requests.
+fn answer_round<S: Site>(desk: &mut StoreDesk, site: &mut S, requests: &[Request]) -> Option<u64>
+    requires { Rests S.Site desk.old site.old }
+    ensures { IfSome result (λ _. Rests S.Site desk.new site.new) }
+{
+    let mut bytes = 0u64;
+    for request in requests {
+        bytes = bytes.wrapping_add(answer(desk, site, request)?);
+    }
+    Some(bytes)
+}
+
+/// The same so many times.
+fn answer_often<S: Site>(
+    desk: &mut StoreDesk,
+    site: &mut S,
+    requests: &[Request],
+    times: u64,
+) -> Option<u64>
+    requires { Rests S.Site desk.old site.old }
+{
+    let mut bytes = 0u64;
+    for _ in 0..times {
+        bytes = bytes.wrapping_add(answer_round(desk, site, requests)?);
+    }
+    Some(bytes)
+}
+
+/// Opens the store, and has one desk answer a GET of each path, so many times over. Prints how many
+/// requests and hits it counts, and how many bytes the replies have.
+pub fn often<S: Site>(
+    rt: &impl Print,
+    alloc: Global,
+    site: &mut S,
+    times: u64,
+    paths: &[&str],
+) -> anyhow::Result<()> {
+    let requests = gets(alloc, paths)?;
+    let Ok(store) = Store::open(alloc, site) else {
+        bail!("no store");
+    };
+    let Ok(mut desk) = StoreDesk::new(alloc, store) else {
+        bail!("no memory");
+    };
+    let Some(bytes) = answer_often(&mut desk, site, requests.as_slice(), times) else {
+        bail!("no reply");
+    };
+    let (asked, hits) = (desk.requests(), desk.hits());
+    Ok(println!(rt; "{asked} requests {hits} hits {bytes} bytes")?)
+}
