@@ -411,6 +411,16 @@ def no_store(rows):
     for at, byte, place in ((18, 29, 26), (18, 27, 26), (6, 1, 6), (6, 3, 1), (1, 0, 1), (0, 0, 0)):
         rows.overwrite("A", at, bytes([byte]))
         not_at(rows, f"A at {place}")
+    rows.heading("a head is refused at its place, and its greatest depth is 1,000")
+    rows.make()
+    rows.overwrite("A", 5, b"y")
+    not_at(rows, "A at 1")
+    rows.overwrite("A", 5, b"x")
+    for depth in (1000, 1001):
+        rows.overwrite("A", 8, store_files.number(depth, 2))
+        rows.open()
+    assert rows.stdout[-2].startswith("0 blocks, 0 of 1000 kept")
+    assert rows.stdout[-1] == "not a store: A at 1"
     rows.heading("more disconnects than blocks are no store")
     rows.make()
     taken_back = OPEN + record_of(DISCONNECT)
@@ -438,6 +448,15 @@ def no_store(rows):
     rows.overwrite("B", 0, b"\0")
     rows.open()
     assert rows.stdout[-1].startswith("1 blocks")
+    block = payload_of(block_on(NO_BLOCK, 1)[0])
+    for current, generations in (("B", (1, 2)), ("A", (3, 2))):
+        rows.put(*(EMPTY[:10] + bytes([generation]) + EMPTY[11:] for generation in generations))
+        rows.open([block])
+        assert len(rows.site.files[current]) > len(EMPTY)
+        rows.file("A")
+        rows.file("B")
+    rows.overwrite("B", 10, b"\3")
+    not_at(rows, "B at 10")
 
 
 def faults(rows):
@@ -572,10 +591,11 @@ FILLS = 0x00, 0x07, 0xFF
 
 
 def each_call(rows, command, calls):
-    """Each of so many calls of a command fails, and the store is opened again."""
+    """Each call of an opening and of a command of so many calls fails, and the store is opened
+    again."""
     rows.settle()
     before = len(stands(rows.site.files)[0].hashes())
-    for call in range(LOOKS, LOOKS + calls + 1):
+    for call in range(LOOKS + calls + 1):
         rows.restart(0, 0, ALL)
         rows.fail(call)
         rows.open([command])
@@ -585,6 +605,11 @@ def each_call(rows, command, calls):
             blocks = int(rows.stdout[-1].split()[0])
             # the last two are the gate's write and its sync
             assert abs(blocks - before) == (call >= LOOKS + calls - (2 if fill else 0))
+        if call < LOOKS + calls:
+            rows.open()
+            blocks = int(rows.stdout[-1].split()[0])
+            # what a write that failed was to put isn't read, and what wasn't synced is
+            assert abs(blocks - before) == (call == LOOKS + calls - 1)
     rows.restart(0, 0, ALL)
 
 
@@ -687,6 +712,16 @@ def shorter(rows):
     rows.open(commands[193:194])
     rows.file("B")
     rows.open(2 * [DISCONNECT])
+
+
+def large(rows):
+    rows.heading("a whole file of more than two million bytes is put and read back")
+    first, tip = block_on(NO_BLOCK, 1, target=2_000_000 * bytes([0x51]))
+    rows.make("regtest", 1, [payload_of(first), *marks(2, 64, tip)[0]])
+    assert len(rows.site.files["B"]) > 2_000_000
+    rows.open([DISCONNECT])
+    rows.open()
+    assert rows.stdout[-1].startswith("64 blocks, 0 of 1 kept")
 
 
 def with_inscriptions(rows):
@@ -872,6 +907,15 @@ def migrates(rows):
         rows.put(old([], profile=profile, depth=7, generation=4))
         rows.migrate()
         rows.file("B")
+    rows.heading("one below the greatest generation is the last that another file can follow")
+    last = old([], generation=GREATEST - 1)
+    rows.put(last[:18] + store_files.number(2, 8) + last[26:])
+    rows.migrate()
+    assert rows.stdout[-1] == "not a store: A at 26"
+    rows.overwrite("A", 18, b"\0")
+    rows.migrate()
+    assert rows.stdout[-2] == "ok 0" and rows.site.files["B"][10:18] == 8 * b"\xff"
+    rows.file("B")
     rows.heading("files in the other order, over a longer one")
     rows.put(old([], generation=1) + 600 * b"\xff", old([payload_of(GENESIS)], generation=2))
     rows.migrate()
@@ -1024,7 +1068,7 @@ def main():
         part(rows)
     for part in (drills, keep_what_is_kept, stop_in_a_second_gate, spoil_a_first_byte):
         part(rows)
-    for part in (turns, greatest, shorter, with_inscriptions):
+    for part in (turns, greatest, shorter, large, with_inscriptions):
         part(rows)
     for part in (migrates, old_commands, not_old, migrations):
         part(rows)

@@ -6,10 +6,10 @@ use Rattle.ox_outside.specs.Log.{Adds}
 use Rattle.ox_outside.specs.declared.site.Failed.{Failed}
 use Rattle.ox_outside.proofs.Links.{opened_whole}
 use Rattle.ox_memsite.specs.World.{log_of}
-use Rattle.ox_memsite_tests.proofs.tests.come.Goals as goal
+use Rattle.ox_run_rows.proofs.calls.visit.Goals as goal
 
-pub returns : goal.returns
-returns g c =
+pub hear_all-requires : goal.hear_all-requires
+hear_all-requires g c =
     let link = c.in-Ok-Some.link in
     let old = log_of c.args.site.now in
     let new = log_of c.door.new.self in
@@ -18,6 +18,8 @@ returns g c =
     let logged = subst (λ (r : Result (Option ℕ) Failed). Adds (door_events c.args.door r) (Some old) (Some new)) is c.door.ensures.logged in
     let same : new ≡ old ++ Opened link c.args.door ∷ [] = cc logged in
     record {
-      open_ = subst (λ (r : Result (Option ℕ) Failed). IsOpenLink r new) is (c.door.ensures.open new refl);
-      whole = ap (has_given_up link) same ∙ opened_whole link c.args.door old unnamed;
+      live = record {
+        open_ = subst (λ (r : Result (Option ℕ) Failed). IsOpenLink r new) is (c.door.ensures.open new refl);
+        whole = ap (has_given_up link) same ∙ opened_whole link c.args.door old unnamed;
+      };
     }

@@ -2,7 +2,7 @@ use Rattle.std.proofs.Common.{◌≡◌, ◌∙◌, ◌++◌, ap}
 use Rattle.ox_outside.specs.Event.{is_open, has_given_up, hear_events}
 use Rattle.ox_outside.proofs.Links.{still_open, still_whole, hear_shuts_none, hear_gives_none_up}
 use Rattle.ox_memsite.specs.World.{log_of}
-use Rattle.ox_memsite_tests.proofs.tests.hear_link.Goals as goal
+use Rattle.ox_run_rows.proofs.calls.hear_link.Goals as goal
 
 pub returns : goal.returns
 returns c =

@@ -1,0 +1,173 @@
+//! What runs of the program and single calls do over a site in memory, a row of standard input
+//! each:
+//!
+//! - `fresh`: two empty files, no links, nothing to hear, and no call that is to fail;
+//! - `link DOOR SAID..`: a link that waits at a door, `public` or `operator`, and says this: bytes
+//!   as a part, heard at once; `.`, nothing yet; or `$`, its end;
+//! - `feed PART..`: bytes that channel 0 says next;
+//! - `fail N`: the call of this number fails, counted from 0 since the files were `fresh`;
+//! - `run WORD..`: runs the program; its status, and what was shown since the files were `fresh`;
+//! - `short PORTION N WORD..`: the same over a site that takes one `byte` or `half` of what it may
+//!   in a call, and of whose writes the first N are whole; and how many writes were cut short;
+//! - `crash MOMENT FILL KEEP RUN..`: runs the program, once for each word, whose own words stand
+//!   between commas, over what a crash would leave, where each byte that it may change is `FILL`
+//!   and each file is cut to `KEEP` bytes as far as it may be, and channel 0 says the last feed
+//!   again; the site itself stays;
+//! - `restart MOMENT FILL KEEP`: puts what such a crash leaves in the place of the site;
+//! - `overwrite FILE AT HEX`: writes bytes into a file;
+//! - `file FILE`: a file's length and its bytes;
+//! - `lines N`: the next N lines of channel 0, each with the command that it is;
+//! - `hear ROOM..`: hears channel 0 with rooms of these sizes: each answer, and the room then;
+//! - `visit DOOR ROOM..`: takes the link that waits at a door, hears it with rooms of these sizes,
+//!   gives it up and shuts it;
+//! - `show PART..`: shows bytes on channel 0;
+//! - `frame PART..`: the record of this payload;
+//! - `now`: the moment;
+//! - `# ..`: a heading, which is printed.
+//!
+//! A part is hex digits, or `N*` and digits, which stand for N times what they spell. A word of a
+//! run may be `=` and hex digits.
+//!
+//! The rows and what has to be printed are made by checks/run_rows.py, which has its own lines,
+//! store and disk, and shares nothing with the library.
+#![tactic(auto)]
+
+mod calls;
+mod runs;
+mod say;
+mod words;
+
+use crate::calls::{hear, overwrite, read_lines, show, visit};
+use crate::runs::{crash, run_aloud, run_short, site_after_crash};
+use crate::say::{print_file, print_frame};
+use crate::words::{bytes_of, door_of, file_of, number_of, parts_of, portion_of, script_of};
+use anyhow::{Context, bail};
+use ox_memsite::MemSite;
+use ox_outside::Site;
+use std::alloc::Global;
+use std::io::Read;
+use std::mem;
+
+/// A site, and what channel 0 said last.
+#[derive(Drop)]
+struct Desktop {
+    site: MemSite,
+    feed: Vec<u8>,
+}
+
+/// Two empty files, no links, and nothing to hear.
+fn fresh(alloc: Global) -> anyhow::Result<MemSite> {
+    MemSite::new(alloc).ok().context("no memory")
+}
+
+/// With this site, and nothing that was said.
+fn desktop_of(alloc: Global, site: MemSite) -> Desktop {
+    Desktop {
+        site,
+        feed: Vec::new(alloc),
+    }
+}
+
+/// Lets links wait at a door.
+fn link(alloc: Global, site: &mut MemSite, door: &str, said: &[&str]) -> anyhow::Result<()> {
+    let script = script_of(alloc, said)?;
+    site.link(door_of(door)?, &script).ok().context("no memory")
+}
+
+/// Lets channel 0 say bytes.
+fn feed(alloc: Global, on: &mut Desktop, words: &[&str]) -> anyhow::Result<()> {
+    on.feed = parts_of(alloc, words)?;
+    on.site.input(&on.feed).ok().context("no memory")
+}
+
+/// Carries out a row that changes the site alone; whether it is one.
+fn set(alloc: Global, on: &mut Desktop, row: &[&str]) -> anyhow::Result<bool> {
+    match row {
+        ["fresh"] => *on = desktop_of(alloc, fresh(alloc)?),
+        ["link", door, said @ ..] => link(alloc, &mut on.site, door, said)?,
+        ["feed", words @ ..] => feed(alloc, on, words)?,
+        ["fail", call] => on.site.fail(number_of(call)?).ok().context("no memory")?,
+        ["restart", moment, fill, keep] => {
+            *on = desktop_of(alloc, site_after_crash(&on.site, [moment, fill, keep])?);
+        }
+        ["overwrite", file, at, hex] => {
+            let bytes = bytes_of(alloc, hex)?;
+            overwrite(&mut on.site, file_of(file)?, number_of(at)?, &bytes)?;
+        }
+        _ => return Ok(false),
+    }
+    Ok(true)
+}
+
+/// Runs the program over a site of short calls.
+fn short(
+    rt: &impl Print,
+    alloc: Global,
+    on: &mut Desktop,
+    portion: &str,
+    writes: &str,
+    row: &[&str],
+) -> anyhow::Result<()> {
+    let portion = portion_of(portion)?;
+    let inner = mem::replace(&mut on.site, fresh(alloc)?);
+    on.site = run_short(rt, alloc, inner, portion, writes, row)?;
+    Ok(())
+}
+
+/// Carries out a row that runs the program; whether it is one.
+fn run_by(rt: &impl Print, alloc: Global, on: &mut Desktop, row: &[&str]) -> anyhow::Result<bool> {
+    match row {
+        ["run", words @ ..] => run_aloud(rt, alloc, &mut on.site, words)?,
+        ["short", portion, writes, words @ ..] => short(rt, alloc, on, portion, writes, words)?,
+        ["crash", moment, fill, keep, runs @ ..] => {
+            crash(rt, alloc, &on.site, &on.feed, [moment, fill, keep], runs)?;
+        }
+        _ => return Ok(false),
+    }
+    Ok(true)
+}
+
+/// Carries out a row that prints what calls on a site answer.
+fn tell(rt: &impl Print, alloc: Global, site: &mut MemSite, row: &[&str]) -> anyhow::Result<()> {
+    match row {
+        ["lines", count] => read_lines(rt, alloc, site, count),
+        ["hear", rooms @ ..] => hear(rt, alloc, site, rooms),
+        ["visit", door, rooms @ ..] => visit(rt, alloc, site, door_of(door)?, rooms),
+        ["show", words @ ..] => show(rt, site, &parts_of(alloc, words)?),
+        ["frame", words @ ..] => print_frame(rt, alloc, &parts_of(alloc, words)?),
+        ["file", file] => Ok(print_file(rt, site.file(file_of(file)?))?),
+        ["now"] => Ok(println!(rt; "moment {}", site.now())?),
+        _ => bail!("no row"),
+    }
+}
+
+/// Carries out a row.
+fn carry_out(rt: &impl Print, alloc: Global, on: &mut Desktop, row: &str) -> anyhow::Result<()> {
+    if row.starts_with('#') {
+        return Ok(println!(rt; "{row}")?);
+    }
+    let words: Vec<&str> = row.split(' ').collect(alloc)?;
+    if set(alloc, on, words.as_slice())? || run_by(rt, alloc, on, words.as_slice())? {
+        return Ok(());
+    }
+    tell(rt, alloc, &mut on.site, words.as_slice())
+}
+
+/// Carries the rows of a text out, from two empty files on.
+fn carry_out_all(rt: &impl Print, alloc: Global, text: &str) -> anyhow::Result<()> {
+    let mut on = desktop_of(alloc, fresh(alloc)?);
+    for row in text.split('\n') {
+        if !row.is_empty() {
+            carry_out(rt, alloc, &mut on, row)?;
+        }
+    }
+    Ok(())
+}
+
+fn main(rt: HostRuntime) -> anyhow::Result<()> {
+    let alloc = rt.alloc();
+    let mut rows = Vec::new(alloc);
+    rt.stdin().read_to_end(&mut rows)?;
+    let text = std::str::from_utf8(&rows).ok().context("no text")?;
+    carry_out_all(&rt, alloc, text)
+}

@@ -1,0 +1,102 @@
+//! What is printed.
+
+use anyhow::{Context, bail};
+use ox_feed::{Command, FeedFault, Line, SyntaxFault, command_of};
+use ox_gated::frame;
+use ox_memsite::MemSite;
+use ox_outside::{Failed, Heard, Shown};
+use std::alloc::Global;
+use std::io;
+
+/// Bytes in hex digits.
+pub fn print_hex(rt: &impl Print, bytes: &[u8]) -> io::Result<()> {
+    for byte in bytes {
+        print!(rt; "{byte:02x}")?;
+    }
+    Ok(())
+}
+
+/// What was shown on channel 0.
+pub fn print_shown(rt: &impl Print, site: &MemSite) -> anyhow::Result<()> {
+    let shown = site.shown(0).ok().context("no memory")?;
+    print_hex(rt, shown.as_slice())?;
+    Ok(println!(rt)?)
+}
+
+/// A file's length and its bytes.
+pub fn print_file(rt: &impl Print, bytes: &[u8]) -> io::Result<()> {
+    print!(rt; "{} bytes: ", bytes.len())?;
+    print_hex(rt, bytes)?;
+    println!(rt)
+}
+
+/// The answer of a hearing, and the room as it is then.
+pub fn print_heard(rt: &impl Print, heard: Result<Heard, Failed>, room: &[u8]) -> io::Result<()> {
+    match heard {
+        Ok(Heard::Bytes(count)) => print!(rt; "{count}: ")?,
+        Ok(Heard::NotYet) => print!(rt; "nothing yet: ")?,
+        Ok(Heard::End) => print!(rt; "end: ")?,
+        Err(Failed) => print!(rt; "failed: ")?,
+    }
+    print_hex(rt, room)?;
+    println!(rt)
+}
+
+/// The answer of a showing.
+pub fn print_took(rt: &impl Print, took: Result<Shown, Failed>) -> io::Result<()> {
+    match took {
+        Ok(Shown::Took(count)) => println!(rt; "took {count}"),
+        Ok(Shown::NotYet) => println!(rt; "nothing yet"),
+        Err(Failed) => println!(rt; "failed"),
+    }
+}
+
+/// A line's bytes; where they are all the same, how many there are.
+fn print_text(rt: &impl Print, text: &[u8]) -> io::Result<()> {
+    match text {
+        [first, rest @ ..] if rest.iter().all(|byte| byte == first) => {
+            print!(rt; "{} times {first:02x}: ", text.len())
+        }
+        _ => {
+            print_hex(rt, text)?;
+            print!(rt; ": ")
+        }
+    }
+}
+
+/// The command that a line is.
+fn print_command(rt: &impl Print, alloc: Global, text: &[u8]) -> io::Result<()> {
+    match command_of(alloc, text) {
+        Ok(Command::Connect(block)) => {
+            print!(rt; "connect ")?;
+            print_hex(rt, block.as_slice())?;
+            println!(rt)
+        }
+        Ok(Command::Disconnect) => println!(rt; "disconnect"),
+        Err(SyntaxFault::Syntax) => println!(rt; "no command"),
+        Err(SyntaxFault::Memory) => println!(rt; "no memory"),
+    }
+}
+
+/// A line, and the command that it is.
+pub fn print_line(rt: &impl Print, alloc: Global, line: Result<Line, FeedFault>) -> io::Result<()> {
+    match line {
+        Ok(Line::Text(text)) => {
+            print_text(rt, text.as_slice())?;
+            print_command(rt, alloc, text.as_slice())
+        }
+        Ok(Line::Long) => println!(rt; "too long"),
+        Ok(Line::End) => println!(rt; "end"),
+        Err(_) => println!(rt; "a fault"),
+    }
+}
+
+/// The record of a payload, but for its first gate.
+pub fn print_frame(rt: &impl Print, alloc: Global, payload: &[u8]) -> anyhow::Result<()> {
+    if payload.len() > 0xffff_ffff {
+        bail!("too long");
+    }
+    let framed = frame(alloc, payload).ok().context("no memory")?;
+    print_hex(rt, framed.as_slice())?;
+    Ok(println!(rt)?)
+}
