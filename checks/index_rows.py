@@ -6,14 +6,18 @@
 It makes blocks by docs/RULES.md and writes down what indexes have to hold after them, with Python's
 standard library alone. What is looked up of inscriptions and runes, as the first with an id, it
 looks up in these lists by itself. The rows that ask a chain, as requests do, are those of
-checks/query_rows.py.
+checks/query_rows.py; those whose indexes plain_index reckons are those of checks/rune_rows.py and
+checks/shelf_rows.py.
 """
 
 import made_blocks
 import query_rows
+import rune_rows
 import scenarios
+import shelf_rows
 from chain import SHORT, block_of, coinbase_to, commitment, committing, envelope, id_value
 from chain import transaction
+from reckoned import Reckoned
 from rows import Rows, carry, etch, hash_text, id_of, inscription, outpoint, plain, reveal, spend
 from scenarios import ETCHES, MINTS_AND_BURNS, POINTERS, TEN
 from tools.bitcoin import COMMITS, RESERVED, SUBSIDY, root, twice
@@ -159,17 +163,6 @@ class Indexes(Rows):
     def chain(self, what, depth, profile="lab"):
         self.begin(what, f"chain {profile} {depth}")
         self.halving, self.depth = HALVINGS[profile], depth
-
-    def cancels(self, *txs):
-        """A block of these transactions on the newest one is taken in, and that is cancelled."""
-        block, tip = block_of(self.tip(), txs)
-        self.row(f"cancel block {block.hex()}", f"ok {len(self.tips)} {hash_text(tip)}", self.ok())
-
-    def cancels_a_disconnect(self):
-        """The newest block is taken back, and that is cancelled."""
-        newest, tip = self.ok(), self.tips.pop()
-        self.row("cancel disconnect", self.ok(), newest)
-        self.tips.append(tip)
 
     def lines(self, held, looks, tips):
         """A whole index."""
@@ -1577,12 +1570,14 @@ GROUPS += [lone_commitments, commitments_to_others, first_commitment]
 
 
 def main():
-    rows, asking = Indexes(), query_rows.Queries()
+    rows, reckoned, asking = Indexes(), Reckoned(), query_rows.Queries()
     for group in GROUPS:
         group(rows)
+    for group in rune_rows.GROUPS + shelf_rows.GROUPS:
+        group(reckoned)
     for group in query_rows.GROUPS:
         group(asking)
-    rows.rows += asking.rows
+    rows.rows += reckoned.rows + asking.rows
     rows.write("ox_index_rows")
 
 

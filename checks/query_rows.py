@@ -23,6 +23,8 @@ LAB_SUPPLY = 99_999_999_890
 LAB_JUBILEE = 6
 # the marks of an inscription behind another of its input, on the same satoshi
 BEHIND = ("offset", "reinscription")
+# an envelope of the type a, whose tag is pushed as a number
+PUSHNUM = bytes.fromhex("0063036f726451016168")
 GOODS = 2_055_900_680_524_219_742
 # in 32 or in 64 bits 0, or 0 once it is a hundred times as much
 WRAPS = ("1073741824", "4294967296", "4611686018427387904", "9223372036854775808")
@@ -1165,15 +1167,13 @@ def marked(split, first):
     def lone(place, tapscript):
         return transaction([spend(split, first + place, tapscript)], [(1_000, SHORT)])
 
-    incomplete, pushnum = (
-        bytes.fromhex(script) for script in ("0063036f7264010168", "0063036f726451016168")
-    )
+    incomplete = bytes.fromhex("0063036f7264010168")
     scripts = (
         UNBOUND,
         envelope([(1, b"a"), (1, b"b")]),
         incomplete,
         envelope([(2, b"\1")]),
-        pushnum,
+        PUSHNUM,
         UNBOUND + envelope(),
     )
     txs = [lone(place, script) for place, script in enumerate(scripts)]
@@ -1231,6 +1231,94 @@ def marks_alone(rows):
             cursed, uncursed = cursed + is_cursed, uncursed + (not is_cursed)
 
 
+def numbers_in_place(rows):
+    """Below the jubilee: of a block's four inscriptions two are cursed."""
+    rows.case("signed numbers come back with their rows, and others are given in their place")
+    rows.plain(4)
+    split = transaction([spend(plain(2))], [(1_000, SHORT)] * 4)
+    first = reveal(plain(0), envelope())
+    rows.extend(split, first)
+    txs = [
+        transaction([spend(split, place, script)], [(1_000, SHORT)])
+        for place, script in enumerate((PUSHNUM, envelope(), PUSHNUM, envelope()))
+    ]
+
+    def tell(told):
+        """What is said of the first inscription, and of the others by their place in the split and
+        their numbers."""
+        rows.inscription(first, height=4, number=0, place=at(first, 0), sat=0)
+        for sequence, (place, number) in enumerate(told, 1):
+            marks, kind = (["pushnum"], "a") if number < 0 else ([], None)
+            rows.inscription(
+                txs[place],
+                0,
+                marks,
+                height=5,
+                number=number,
+                sequence=sequence,
+                content_type=kind,
+                place=at(txs[place], 0),
+                sat=2 * SUBSIDY + 1_000 * place,
+            )
+        rows.lacks(*(f"/inscription/{inscription(txs[at_])}" for at_ in range(len(told), 4)))
+
+    every = [(0, -1), (1, 1), (2, -2), (3, 2)]
+    rows.extend(*txs)
+    tell(every)
+    rows.cancels_a_disconnect()
+    tell(every)
+    rows.disconnects()
+    tell([])
+    # others in their place, by another order
+    other = txs[1], txs[0]
+    rows.cancels(plain(5), *other)
+    tell([])
+    rows.extend(*other)
+    rows.inscription(txs[1], height=5, number=1, place=at(txs[1], 0), sat=2 * SUBSIDY + 1_000)
+    rows.inscription(
+        txs[0],
+        0,
+        ["pushnum"],
+        height=5,
+        number=-1,
+        sequence=2,
+        content_type="a",
+        place=at(txs[0], 0),
+        sat=2 * SUBSIDY,
+    )
+    rows.disconnects()
+    tell([])
+    rows.extend(*txs)
+    tell(every)
+
+
+def thousand_numbers(rows):
+    """Of three inscriptions of each transaction the last two are cursed."""
+    rows.case("a thousand inscriptions have signed numbers, and the half of them is taken back")
+    rows.plain(3)
+    split = transaction([spend(plain(0))], [(1_000, SHORT)] * 334)
+    rows.extend(split)
+    inputs = [spend(split, place, 3 * envelope()) for place in range(334)]
+    txs = [transaction([input_], [(1_000, SHORT)]) for input_ in inputs]
+    rows.extend(*txs[:167])
+    rows.extend(*txs[167:])
+
+    def tell(sequences):
+        for sequence in sequences:
+            place, index = divmod(sequence, 3)
+            number = -2 * place - index if index else place
+            marks, height = BEHIND if index else (), 4 + place // 167
+            fields = {"number": number, "sequence": sequence, "sat": 1_000 * place}
+            rows.inscription(
+                txs[place], index, marks, height=height, place=at(txs[place], 0), **fields
+            )
+
+    tell([0, 1, 2, 3, 4, 5, 499, 500, 501, 502, 503, 998, 999, 1_000, 1_001])
+    rows.disconnects()
+    tell([0, 1, 498, 499, 500])
+    rows.lacks(f"/inscription/{inscription(txs[167])}")
+
+
 GROUPS = [
     chains,
     first_block,
@@ -1269,4 +1357,5 @@ GROUPS += [
     runs_that_fall,
 ]
 GROUPS += [parents_of_their_block, curse_below_the_jubilee, marks_alone]
+GROUPS += [numbers_in_place, thousand_numbers]
 GROUPS += [long_paths, many_runs, many_balances]

@@ -104,6 +104,17 @@ class Rows:
         self.tips.pop()
         self.row("disconnect", self.ok())
 
+    def cancels(self, *txs):
+        """A block of these transactions on the newest one is taken in, and that is cancelled."""
+        block, tip = block_of(self.tip(), txs)
+        self.row(f"cancel block {block.hex()}", f"ok {len(self.tips)} {hash_text(tip)}", self.ok())
+
+    def cancels_a_disconnect(self):
+        """The newest block is taken back, and that is cancelled."""
+        newest, tip = self.ok(), self.tips.pop()
+        self.row("cancel disconnect", self.ok(), newest)
+        self.tips.append(tip)
+
     def write(self, crate):
         """The program's files."""
         lines = (line for _, lines in self.rows for line in lines)

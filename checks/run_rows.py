@@ -18,8 +18,9 @@ import old_files
 import store_files
 from block_rows import Fault, Reader
 from chain import DISCONNECT, GENESIS, SHORT, line, payload_of, record_of
+from desk_rows import compact
 from plain_index import Refused
-from serve_rows import Desk, text
+from serve_rows import Desk
 from store_files import BYTES, CLOSED, NoStore, stands
 from store_rows import ALL, CallFailed, Site
 from tools import bitcoin
@@ -262,7 +263,7 @@ class World:
             self.answer_all(store.stack, store)
         elif len(words) == 2 and words[0] == "query":
             self.opened()
-            self.show(text(self.reply(words[1])))
+            self.show(self.reply(words[1]))
         elif words == ("migrate",):
             return self.migrate()
         else:
@@ -303,11 +304,11 @@ class World:
     def reply(self, path):
         if path == "/sat/satoshi":
             assert not stands(self.site.files)[0].hashes()
-            return SATOSHI
+            return compact(SATOSHI)
         if isinstance(path, bytes):
             # it isn't UTF-8, and takes no route
-            return {"error": 404}
-        return Desk(self.site).tree("GET", path, b"", False)[1]
+            return compact({"error": 404})
+        return Desk(self.site).reply("GET", path, b"", False)[1]
 
     def migrate(self):
         self.look_at_fronts()
@@ -532,7 +533,7 @@ class Runs:
 def status_text(count):
     """What a status tells of so many of the three blocks, all of which are kept."""
     tip = HASHES[count - 1] if count else None
-    return text({"blocks": count, "depth": 100, "kept": count, "profile": "regtest", "tip": tip})
+    return compact({"blocks": count, "depth": 100, "kept": count, "profile": "regtest", "tip": tip})
 
 
 # ---- folds
@@ -679,7 +680,7 @@ def queries(rows):
     rows.heading("a query of an empty store shows the body of its reply, and what isn't there")
     rows.store()
     rows.blocks(0)
-    rows.ends(("query", "/sat/satoshi"), 0, text(SATOSHI))
+    rows.ends(("query", "/sat/satoshi"), 0, compact(SATOSHI))
     for path in ("", "/x", "/blockhash/0", "/sat/01", b"/sat/\xff", "//status"):
         rows.ends(("query", path), 0, b'{"error":404}')
     rows.ends(("query", "/connect"), 0, b'{"error":405}')

@@ -1,13 +1,20 @@
-//! Tests of parts of the index, over their public items, so that they don't prove these again.
+//! Tests of parts of the index and of the server, over their public items, so that they don't prove
+//! these again.
 #![tactic(auto)]
 
 #[cfg(test)]
-mod allocation;
+mod cache;
 #[cfg(test)]
 mod etching;
+#[cfg(test)]
+mod inscribe;
 #[cfg(test)]
 mod marked;
 #[cfg(test)]
 mod marked_list;
 #[cfg(test)]
+mod outputs;
+#[cfg(test)]
 mod shards;
+#[cfg(test)]
+mod turns;

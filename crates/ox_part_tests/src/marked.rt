@@ -40,9 +40,26 @@ fn take_even(rt: &impl Abort, map: &mut Amounts)
     }
 }
 
+/// A key, and the value that is put there, or none where it is taken out; or what is there.
+type Entry = (u128, Option<u64>);
+
+/// Puts values at keys, one after the other.
+fn put_all(rt: &impl Abort, map: &mut Amounts, entries: &[Entry])
+    ensures { mark_in nat_cmp map.new ≡ mark_in nat_cmp map.old }
+{
+    for (key, value) in entries {
+        map.put(*key, *value).expect(rt, "memory");
+    }
+}
+
 /// Whether the map has this value at a key, or none.
 fn has(map: &Amounts, key: u128, value: Option<u64>) -> bool {
     map.get(&key).copied() == value
+}
+
+/// Whether the map has these.
+fn has_all(map: &Amounts, entries: &[Entry]) -> bool {
+    entries.iter().all(|(key, value)| has(map, *key, *value))
 }
 
 /// Whether these are the keys that were put since the mark, with the values that there were then.
@@ -50,51 +67,65 @@ fn has_changed(rt: &impl Abort, map: &Amounts, changes: &[(u128, Option<&u64>)])
     map.changed().expect(rt, "memory").as_slice() == changes
 }
 
-#[test]
-fn a_key_changed_twice_goes_back(rt: HostRuntime) {
-    let mut map = two(&rt, rt.alloc());
-    map.put(1, Some(11)).expect(&rt, "memory");
-    map.put(1, Some(12)).expect(&rt, "memory");
-    assert!(rt; has(&map, 1, Some(12)) && has_changed(&rt, &map, &[(1, Some(&10))]));
+/// Whether the map of two has these after puts, tells these changes then, and goes back.
+fn goes_back(
+    rt: &impl Abort,
+    alloc: Global,
+    puts: &[Entry],
+    then: &[Entry],
+    changes: &[(u128, Option<&u64>)],
+) -> bool {
+    let mut map = two(rt, alloc);
+    put_all(rt, &mut map, puts);
+    let is_so = has_all(&map, then) && has_changed(rt, &map, changes);
     map.cancel();
-    assert!(rt; has(&map, 1, Some(10)) && has(&map, 2, Some(20)));
-    assert!(rt; has_changed(&rt, &map, &[]));
+    is_so && has_all(&map, &[(1, Some(10)), (2, Some(20)), (3, None)]) && has_changed(rt, &map, &[])
 }
 
 #[test]
-fn a_key_taken_and_put_again_goes_back(rt: HostRuntime) {
-    let mut map = two(&rt, rt.alloc());
-    map.put(2, None).expect(&rt, "memory");
-    assert!(rt; has(&map, 2, None) && has_changed(&rt, &map, &[(2, Some(&20))]));
-    map.put(3, Some(30)).expect(&rt, "memory");
-    map.put(2, Some(21)).expect(&rt, "memory");
-    assert!(rt; has(&map, 2, Some(21)) && has_changed(&rt, &map, &[(2, Some(&20)), (3, None)]));
-    map.cancel();
-    assert!(rt; has(&map, 2, Some(20)) && has(&map, 3, None));
+fn a_few_keys_go_back(rt: HostRuntime) {
+    let alloc = rt.alloc();
+    let puts = [(1, Some(11)), (1, Some(12))];
+    assert!(rt; goes_back(&rt, alloc, &puts, &[(1, Some(12))], &[(1, Some(&10))]));
+    assert!(rt; goes_back(&rt, alloc, &[(2, None)], &[(2, None)], &[(2, Some(&20))]));
+    let puts = [(2, None), (3, Some(30)), (2, Some(21))];
+    let changes = [(2, Some(&20)), (3, None)];
+    assert!(rt; goes_back(&rt, alloc, &puts, &[(2, Some(21))], &changes));
+    let puts = [(3, Some(30)), (1, None), (3, None), (1, Some(11))];
+    let changes = [(1, Some(&10)), (3, None)];
+    assert!(rt; goes_back(&rt, alloc, &puts, &[(1, Some(11)), (3, None)], &changes));
+    assert!(rt; goes_back(&rt, alloc, &[(3, None)], &[(3, None)], &[(3, None)]));
 }
 
-#[test]
-fn changes_come_by_rising_key(rt: HostRuntime) {
-    let mut map = two(&rt, rt.alloc());
-    map.put(3, Some(30)).expect(&rt, "memory");
-    map.put(1, None).expect(&rt, "memory");
-    map.put(3, None).expect(&rt, "memory");
-    map.put(1, Some(11)).expect(&rt, "memory");
-    assert!(rt; has_changed(&rt, &map, &[(1, Some(&10)), (3, None)]));
+/// Whether the map of two goes back to a new mark, behind puts, at which it has these. An earlier
+/// change was taken back.
+fn goes_to_new_mark(
+    rt: &impl Abort,
+    alloc: Global,
+    before: &[Entry],
+    marked: &[Entry],
+    puts: &[Entry],
+) -> bool {
+    let mut map = two(rt, alloc);
+    put_all(rt, &mut map, &[(1, None)]);
+    map.cancel();
+    put_all(rt, &mut map, before);
+    map.begin();
+    let is_so = has_all(&map, marked) && has_changed(rt, &map, &[]);
+    put_all(rt, &mut map, puts);
+    let is_put = has_all(&map, puts) && !map.glance_value(&3);
+    map.cancel();
+    is_so && is_put && has_all(&map, marked)
 }
 
 #[test]
 fn a_new_mark_stands_where_changes_led(rt: HostRuntime) {
-    let mut map = two(&rt, rt.alloc());
-    map.put(1, None).expect(&rt, "memory");
-    map.cancel();
-    map.put(2, None).expect(&rt, "memory");
-    map.put(3, Some(30)).expect(&rt, "memory");
-    map.begin();
-    assert!(rt; has_changed(&rt, &map, &[]));
-    map.put(3, None).expect(&rt, "memory");
-    map.cancel();
-    assert!(rt; has(&map, 1, Some(10)) && has(&map, 2, None) && has(&map, 3, Some(30)));
+    let alloc = rt.alloc();
+    let before = [(2, None), (3, Some(30))];
+    let marked = [(1, Some(10)), (2, None), (3, Some(30))];
+    assert!(rt; goes_to_new_mark(&rt, alloc, &before, &marked, &[(3, None)]));
+    let marked = [(3, None), (2, Some(20))];
+    assert!(rt; goes_to_new_mark(&rt, alloc, &[(3, None)], &marked, &[(3, Some(30))]));
 }
 
 #[test]
@@ -109,11 +140,7 @@ fn a_thousand_keys_go_back(rt: HostRuntime) {
     take_even(&rt, &mut map);
     map.cancel();
     assert!(rt; has(&map, 998, Some(9_980)) && has(&map, 999, Some(9_990)));
-}
-
-#[test]
-fn what_a_thousand_keys_lost_stays_lost(rt: HostRuntime) {
-    let mut map = thousand(&rt, rt.alloc());
+    // what was lost before a mark stays lost
     take_even(&rt, &mut map);
     map.begin();
     assert!(rt; has(&map, 998, None) && has_changed(&rt, &map, &[]));
@@ -121,17 +148,4 @@ fn what_a_thousand_keys_lost_stays_lost(rt: HostRuntime) {
     assert!(rt; has(&map, 999, None));
     map.cancel();
     assert!(rt; has(&map, 998, None) && has(&map, 999, Some(9_990)));
-}
-
-#[test]
-fn nothing_put_where_nothing_was_stays_nothing(rt: HostRuntime) {
-    let mut map = two(&rt, rt.alloc());
-    map.put(3, None).expect(&rt, "memory");
-    assert!(rt; has(&map, 3, None) && has_changed(&rt, &map, &[(3, None)]));
-    map.begin();
-    assert!(rt; has(&map, 3, None) && has(&map, 2, Some(20)) && has_changed(&rt, &map, &[]));
-    map.put(3, Some(30)).expect(&rt, "memory");
-    assert!(rt; has(&map, 3, Some(30)) && !map.glance_value(&3));
-    map.cancel();
-    assert!(rt; has(&map, 3, None) && has(&map, 2, Some(20)));
 }

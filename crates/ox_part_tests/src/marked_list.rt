@@ -87,11 +87,7 @@ fn a_thousand_values_go_back(rt: HostRuntime) {
     list.restore();
     assert!(rt; has(&list, 998, Some(9_980)) && has(&list, 1_000, None));
     assert!(rt; tells(&rt, &list, 0));
-}
-
-#[test]
-fn a_list_cut_below_its_mark_goes_back(rt: HostRuntime) {
-    let mut list = thousand(&rt, rt.alloc());
+    // cut below the mark
     set_even(&rt, &mut list);
     cut(&mut list, 600);
     assert!(rt; has(&list, 599, Some(5_990)) && has(&list, 600, None));

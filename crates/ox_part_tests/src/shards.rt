@@ -1,5 +1,6 @@
 //! A map over many short lists, with keys of one list and of one tag.
 
+use Step::{Get, Put, Take};
 use ox_block::{OutPoint, Txid};
 use ox_envelope::InsId;
 use ox_shards::{Sharded, Shards};
@@ -28,15 +29,107 @@ fn four_outpoints() -> [OutPoint; 4] {
     ]
 }
 
-/// A map with 10, 11, 12 and 13 at the four, in their order.
-fn map_of_four(rt: &impl Abort, alloc: Global) -> Shards<OutPoint, u64> {
-    let mut map = Shards::new(alloc);
+/// What is done at a key.
+#[derive(Clone, Copy)]
+enum Step {
+    Put(u64),
+    Take,
+    Get,
+}
+
+/// The value that stands at a key, or stood there before the step.
+fn answer(
+    rt: &impl Abort,
+    map: &mut Shards<OutPoint, u64>,
+    step: Step,
+    key: OutPoint,
+) -> Option<u64> {
+    match step {
+        Put(value) => map.insert(key, value).expect(rt, "memory"),
+        Take => map.remove(&key),
+        Get => map.get(&key).copied(),
+    }
+}
+
+/// Whether each step answers the value beside it, or none.
+fn follows(
+    rt: &impl Abort,
+    map: &mut Shards<OutPoint, u64>,
+    steps: &[(Step, OutPoint, Option<u64>)],
+) -> bool {
+    for (step, key, value) in steps {
+        if answer(rt, map, *step, *key) != *value {
+            return false;
+        }
+    }
+    true
+}
+
+#[test]
+fn values_are_put_looked_up_displaced_and_taken_out(rt: HostRuntime) {
+    let mut map = Shards::new(rt.alloc());
     let [a, b, low, high] = four_outpoints();
-    map.insert(a, 10).expect(rt, "memory");
-    map.insert(b, 11).expect(rt, "memory");
-    map.insert(low, 12).expect(rt, "memory");
-    map.insert(high, 13).expect(rt, "memory");
-    map
+    assert!(rt;
+        follows(
+            &rt,
+            &mut map,
+            &[
+                (Get, a, None),
+                (Take, a, None),
+                (Put(10), a, None),
+                (Put(11), b, None),
+                (Put(12), low, None),
+                (Put(13), high, None),
+                (Get, a, Some(10)),
+                (Get, b, Some(11)),
+                (Get, low, Some(12)),
+                (Get, high, Some(13)),
+                (Get, outpoint(9, 7, 1, 0), None),
+                (Get, outpoint(7, 10, 1, 0), None),
+                (Put(20), a, Some(10)),
+                (Take, high, Some(13)),
+                (Take, high, None),
+                (Get, a, Some(20)),
+                (Get, b, Some(11)),
+                (Get, low, Some(12)),
+                (Get, high, None)
+            ]
+        )
+    );
+}
+
+#[test]
+fn outputs_of_a_transaction_and_keys_of_one_tag_are_told_apart(rt: HostRuntime) {
+    let mut map = Shards::new(rt.alloc());
+    let (one, other) = (outpoint(7, 9, 2, 0), outpoint(7, 8, 1, 1));
+    assert!(rt; one.shard() == other.shard() && one.tag() == other.tag());
+    assert!(rt;
+        follows(
+            &rt,
+            &mut map,
+            &[
+                (Put(1), outpoint(7, 9, 1, 0), None),
+                (Get, outpoint(7, 9, 1, 1), None),
+                (Put(2), outpoint(7, 9, 1, 1), None),
+                (Put(3), outpoint(7, 9, 1, 65_536), None),
+                (Put(4), outpoint(7, 9, 1, 65_537), None),
+                (Put(5), outpoint(7, 9, 1, u32::MAX), None),
+                (Get, outpoint(7, 9, 1, 0), Some(1)),
+                (Get, outpoint(7, 9, 1, 1), Some(2)),
+                (Get, outpoint(7, 9, 1, 65_536), Some(3)),
+                (Get, outpoint(7, 9, 1, u32::MAX), Some(5)),
+                (Get, outpoint(7, 9, 1, 2), None),
+                (Put(10), one, None),
+                (Get, one, Some(10)),
+                (Get, other, None),
+                (Put(11), other, None),
+                (Get, one, Some(10)),
+                (Take, other, Some(11)),
+                (Get, one, Some(10)),
+                (Get, other, None)
+            ]
+        )
+    );
 }
 
 /// Whether the map has this value at a key, or none.
@@ -45,101 +138,37 @@ fn has<K: Sharded>(map: &Shards<K, u64>, key: K, value: Option<u64>) -> bool {
 }
 
 #[test]
-fn each_key_has_its_own_value(rt: HostRuntime) {
-    let map = map_of_four(&rt, rt.alloc());
-    let [a, b, low, high] = four_outpoints();
-    assert!(rt; has(&map, a, Some(10)) && has(&map, b, Some(11)));
-    assert!(rt; has(&map, low, Some(12)) && has(&map, high, Some(13)));
-    assert!(rt; has(&map, outpoint(7, 9, 1, 1), None) && has(&map, outpoint(9, 7, 1, 0), None));
-}
-
-#[test]
-fn nothing_is_there_before_a_value_is_put_in(rt: HostRuntime) {
-    let mut map: Shards<OutPoint, u64> = Shards::new(rt.alloc());
-    let [a, _, _, _] = four_outpoints();
-    assert!(rt; has(&map, a, None) && map.remove(&a).is_none());
-}
-
-#[test]
-fn a_value_is_displaced_and_taken_out(rt: HostRuntime) {
-    let mut map = map_of_four(&rt, rt.alloc());
-    let [a, b, low, high] = four_outpoints();
-    assert!(rt; map.insert(a, 20).expect(&rt, "memory") == Some(10));
-    assert!(rt; map.remove(&high) == Some(13) && map.remove(&high).is_none());
-    assert!(rt; has(&map, a, Some(20)) && has(&map, b, Some(11)));
-    assert!(rt; has(&map, low, Some(12)) && has(&map, high, None));
-}
-
-#[test]
-fn outputs_of_a_transaction_are_told_apart(rt: HostRuntime) {
-    let mut map = Shards::new(rt.alloc());
-    for index in [0, 1, 65_536, 65_537, u32::MAX] {
-        map.insert(outpoint(7, 9, 1, index), u64::from(index))
-            .expect(&rt, "memory");
-    }
-    assert!(rt;
-        has(&map, outpoint(7, 9, 1, 0), Some(0)) && has(&map, outpoint(7, 9, 1, 1), Some(1))
-    );
-    assert!(rt; has(&map, outpoint(7, 9, 1, 65_536), Some(65_536)));
-    assert!(rt; has(&map, outpoint(7, 9, 1, u32::MAX), Some(u64::from(u32::MAX))));
-    assert!(rt; has(&map, outpoint(7, 9, 1, 2), None) && has(&map, outpoint(7, 10, 1, 0), None));
-}
-
-#[test]
-fn inscriptions_of_a_transaction_are_told_apart(rt: HostRuntime) {
-    let mut map = Shards::new(rt.alloc());
+fn other_keys_are_told_apart(rt: HostRuntime) {
+    let (mut ids, mut names) = (Shards::new(rt.alloc()), Shards::new(rt.alloc()));
     let txid = [7; 32];
     for index in 0..100u32 {
-        map.insert(InsId { txid, index }, u64::from(index))
+        ids.insert(InsId { txid, index }, u64::from(index))
             .expect(&rt, "memory");
     }
-    assert!(rt; has(&map, InsId { txid, index: 0 }, Some(0)));
-    assert!(rt; has(&map, InsId { txid, index: 99 }, Some(99)));
-    assert!(rt; has(&map, InsId { txid, index: 100 }, None));
+    for name in 0..1_000u32 {
+        names
+            .insert(u128::from(name), u64::from(name))
+            .expect(&rt, "memory");
+    }
+    assert!(rt; has(&ids, InsId { txid, index: 0 }, Some(0)));
+    assert!(rt; has(&ids, InsId { txid, index: 99 }, Some(99)));
+    assert!(rt; has(&ids, InsId { txid, index: 100 }, None));
+    assert!(rt; has(&names, 0, Some(0)) && has(&names, 999, Some(999)) && has(&names, 1_000, None));
 }
 
 #[test]
-fn keys_of_one_tag_are_told_apart(rt: HostRuntime) {
-    let mut map = Shards::new(rt.alloc());
-    let (one, other) = (outpoint(7, 9, 2, 0), outpoint(7, 8, 1, 1));
-    assert!(rt; one.shard() == other.shard() && one.tag() == other.tag());
-    map.insert(one, 10).expect(&rt, "memory");
-    assert!(rt; has(&map, one, Some(10)) && has(&map, other, None));
-    map.insert(other, 11).expect(&rt, "memory");
-    assert!(rt; has(&map, one, Some(10)) && map.remove(&other) == Some(11));
-    assert!(rt; has(&map, one, Some(10)) && has(&map, other, None));
-}
-
-#[test]
-fn a_list_is_read_ahead_where_there_is_one(rt: HostRuntime) {
-    let key = outpoint(7, 9, 1, 0);
-    let mut map = Shards::new(rt.alloc());
-    map.glance(&key);
-    map.insert(key, 10).expect(&rt, "memory");
-    map.glance(&key);
-    map.glance(&outpoint(7, 10, 1, 0));
-    assert!(rt; has(&map, key, Some(10)));
-}
-
-#[test]
-fn an_entry_is_read_ahead_where_its_tag_is_there(rt: HostRuntime) {
+fn what_is_there_is_read_ahead(rt: HostRuntime) {
     let [a, b, _, _] = four_outpoints();
-    let none: Shards<OutPoint, u64> = Shards::new(rt.alloc());
-    assert!(rt; none.glance_entry(&b) == 0);
-    let map = map_of_four(&rt, rt.alloc());
+    let mut map: Shards<OutPoint, u64> = Shards::new(rt.alloc());
+    map.glance(&a);
+    assert!(rt; map.glance_entry(&b) == 0 && map.candidate(&a).is_none());
+    map.insert(a, 10).expect(&rt, "memory");
+    map.insert(b, 11).expect(&rt, "memory");
+    map.glance(&a);
+    map.glance(&outpoint(7, 10, 1, 0));
     assert!(rt; map.glance_entry(&a) == a.tag() && map.glance_entry(&b) == b.tag());
-    assert!(rt; map.glance_entry(&outpoint(7, 9, 3, 0)) == 0 && has(&map, b, Some(11)));
-    assert!(rt; none.candidate(&a).is_none() && map.candidate(&b).copied() == Some((b, 11)));
-}
-
-#[test]
-fn keys_of_one_shard_are_all_there(rt: HostRuntime) {
-    let mut map = Shards::new(rt.alloc());
-    for key in 0..1_000u32 {
-        map.insert(u128::from(key), u64::from(key))
-            .expect(&rt, "memory");
-    }
-    assert!(rt; has(&map, 0, Some(0)) && has(&map, 999, Some(999)) && has(&map, 1_000, None));
+    assert!(rt; map.glance_entry(&outpoint(7, 9, 3, 0)) == 0);
+    assert!(rt; has(&map, a, Some(10)) && map.candidate(&b).copied() == Some((b, 11)));
 }
 
 /// One of the outpoints of one shard, whose list has room for 64.
@@ -205,11 +234,23 @@ fn a_key_behind_a_full_list_stands_once(rt: HostRuntime) {
             .expect(&rt, "memory");
     }
     let [first, last, new] = [of_one_shard(3), of_one_shard(69), of_one_shard(70)];
-    assert!(rt; map.remove(&first) == Some(3) && has(&map, first, None));
-    assert!(rt; map.insert(last, 190).expect(&rt, "memory") == Some(69));
-    assert!(rt; map.remove(&last) == Some(190) && has(&map, last, None));
-    assert!(rt; map.insert(new, 200).expect(&rt, "memory").is_none() && has(&map, new, Some(200)));
-    assert!(rt; has(&map, of_one_shard(0), Some(0)) && has(&map, of_one_shard(68), Some(68)));
+    assert!(rt;
+        follows(
+            &rt,
+            &mut map,
+            &[
+                (Take, first, Some(3)),
+                (Get, first, None),
+                (Put(190), last, Some(69)),
+                (Take, last, Some(190)),
+                (Get, last, None),
+                (Put(200), new, None),
+                (Get, new, Some(200)),
+                (Get, of_one_shard(0), Some(0)),
+                (Get, of_one_shard(68), Some(68))
+            ]
+        )
+    );
 }
 
 #[test]

@@ -1,5 +1,0 @@
-use Rattle.ox_outputs_tests.specs.Empty.{HoldNothing}
-use Rattle.ox_outputs_tests.proofs.ordered.fill.Given as goal
-
-abbrev pub invariant-loop-step : goal.invariant-loop-step
-invariant-loop-step g l = HoldNothing (g.O.OutTable.contents l.table)

@@ -1,5 +1,0 @@
-use Rattle.ox_outputs_tests.specs.Empty.{HoldNothing}
-use Rattle.ox_outputs_tests.proofs.tests.fill.Given as goal
-
-abbrev pub invariant-loop-number : goal.invariant-loop-number
-invariant-loop-number g l = HoldNothing (g.O.OutTable.contents l.table)

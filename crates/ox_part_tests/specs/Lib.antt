@@ -1,0 +1,4 @@
+pub mod Empty
+pub mod OneReply
+pub mod Rising
+pub mod Served

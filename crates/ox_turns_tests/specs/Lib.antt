@@ -1,2 +1,0 @@
-pub mod OneReply
-pub mod Served
