@@ -59,7 +59,12 @@ fn has(map: &Amounts, key: u128, value: Option<u64>) -> bool {
 
 /// Whether the map has these.
 fn has_all(map: &Amounts, entries: &[Entry]) -> bool {
-    entries.iter().all(|(key, value)| has(map, *key, *value))
+    for (key, value) in entries {
+        if !has(map, *key, *value) {
+            return false;
+        }
+    }
+    true
 }
 
 /// Whether these are the keys that were put since the mark, with the values that there were then.

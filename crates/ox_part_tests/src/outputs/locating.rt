@@ -105,10 +105,20 @@ fn is_located(table: &Outputs, number: u32) -> bool {
     is_at(table, sat, number, 0) && table.locate(sat + 1).is_none()
 }
 
+/// Whether each satoshi of a table that is filled so far is found, and none between.
+fn are_located(table: &Outputs, count: u32) -> bool {
+    for number in 0..count {
+        if !is_located(table, number) {
+            return false;
+        }
+    }
+    true
+}
+
 #[test]
 fn each_of_many_satoshis_is_found(rt: HostRuntime) {
     let table = filled(&rt, rt.alloc(), COUNT);
-    assert!(rt; (0..COUNT).all(|number| is_located(&table, number)));
+    assert!(rt; are_located(&table, COUNT));
 }
 
 /// Two outputs: that of 1 holds the satoshis from 0 to 9, that of 2 those from 10 to 14.
@@ -219,10 +229,20 @@ fn is_run_located(table: &Outputs, number: u32) -> bool {
         && table.locate(sat + 2).is_none()
 }
 
+/// Whether the runs of all numbers below one are found.
+fn are_runs_located(table: &Outputs, count: u32) -> bool {
+    for number in 0..count {
+        if !is_run_located(table, number) {
+            return false;
+        }
+    }
+    true
+}
+
 #[test]
 fn a_satoshi_is_found_in_a_row_of_many_runs(rt: HostRuntime) {
     let mut table = fresh(rt.alloc());
     put_many(&rt, rt.alloc(), &mut table);
-    assert!(rt; (0..RUNS).all(|number| is_run_located(&table, number)));
+    assert!(rt; are_runs_located(&table, RUNS));
     assert!(rt; table.locate(3 * u64::from(RUNS)).is_none());
 }

@@ -99,12 +99,12 @@ fn is_row(entry: Option<(&OutPoint, &OutRow)>, number: u32, thinned: bool) -> bo
 fn come_in_order(rt: &impl Abort, alloc: Global, table: &Outputs, thinned: bool) -> bool {
     let numbers = wanted(rt, alloc, thinned);
     let order = table.in_order().expect(rt, "memory");
+    for (place, number) in numbers.iter().enumerate() {
+        if !is_row(order.get(place), *number, thinned) {
+            return false;
+        }
+    }
     order.len() == numbers.len()
-        && numbers.iter().enumerate().all(|(place, number)| is_row(
-            order.get(place),
-            *number,
-            thinned,
-        ))
 }
 
 /// And whether the row past each outpoint, with or without a row there, is the next one.
