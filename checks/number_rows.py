@@ -117,8 +117,8 @@ def field_rows():
     for data in (fields, fields + "ff", fields[:6], fields[:22]):
         yield f"fields {data}", fields_line(bytes.fromhex(data))
     for data, place in ((b"abcd", 2), (b"abcd", 4), (bytes(range(256)), 100), (b"", 0)):
-        spare = [len(data), len(data) - place, 0]
-        yield f"room {place} {word(data)}", f"{spare} {data.hex()}"
+        line = f"{len(data)} {len(data) - place} 0 {data.hex()}"
+        yield f"room {place} {word(data)}", line
 
 
 # ---- names and amounts

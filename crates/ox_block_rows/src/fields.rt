@@ -63,9 +63,18 @@ pub fn print_put(rt: &impl Print, alloc: Global, front: &[u8], text: &str) -> io
     }
 }
 
-/// Bytes that are put into room for them by two parts, and how much is spare before each and behind
-/// both. `Memory` where there is none for them.
-fn filled(alloc: Global, bytes: &[u8], place: usize) -> Result<(Bytes, [usize; 3]), Memory> {
+/// Bytes that were put into room for them by two parts.
+#[derive(Drop)]
+struct Filled {
+    bytes: Bytes,
+    /// How much was spare before the first part, between the two, and behind both.
+    before: usize,
+    between: usize,
+    behind: usize,
+}
+
+/// Puts bytes into room for them, those up to a place and the others. `Memory` where there is none.
+fn fill_room(alloc: Global, bytes: &[u8], place: usize) -> Result<Filled, Memory> {
     let mut room = Room::new(alloc, bytes.len())?;
     let (first, second) = bytes.split_at(place.min(bytes.len()));
     let before = room.spare();
@@ -73,16 +82,24 @@ fn filled(alloc: Global, bytes: &[u8], place: usize) -> Result<(Bytes, [usize; 3
     let between = room.spare();
     room.put(second);
     let behind = room.spare();
-    Ok((room.into_bytes(), [before, between, behind]))
+    Ok(Filled {
+        bytes: room.into_bytes(),
+        before,
+        between,
+        behind,
+    })
+}
+
+/// How much was spare of room, and its bytes.
+fn print_filled(rt: &impl Print, filled: &Filled) -> io::Result<()> {
+    print!(rt; "{} {} {} ", filled.before, filled.between, filled.behind)?;
+    print_line(rt, filled.bytes.as_slice())
 }
 
 /// Bytes that are put into room for them by two parts, and how much was spare.
 pub fn print_room(rt: &impl Print, alloc: Global, bytes: &[u8], place: usize) -> io::Result<()> {
-    match filled(alloc, bytes, place) {
-        Ok((bytes, spare)) => {
-            print!(rt; "{spare:?} ")?;
-            print_line(rt, bytes.as_slice())
-        }
+    match fill_room(alloc, bytes, place) {
+        Ok(filled) => print_filled(rt, &filled),
         Err(Memory) => println!(rt; "no memory"),
     }
 }

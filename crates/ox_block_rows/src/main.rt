@@ -87,13 +87,24 @@ use std::alloc::Global;
 use std::env;
 use std::io::{self, BufRead, BufReader};
 
-/// Prints what bytes read as: a name, a number as LEB128, fields, or kinds of output.
-fn run_bytes(rt: &impl Print, word: &str, bytes: &[u8]) -> io::Result<()> {
+/// Prints what bytes read as.
+fn run_bytes(rt: &impl Print, alloc: Global, word: &str, bytes: &[u8]) -> io::Result<()> {
     match word {
+        "fronts" => print_fronts(rt, alloc, bytes),
+        "value" => print_id(rt, read_id(bytes)),
         "named" => println!(rt; "{:?}", read_name(bytes)),
         "number" => println!(rt; "{:?}", read(bytes)),
         "fields" => print_fields(rt, bytes),
         _ => print_kinds(rt, bytes),
+    }
+}
+
+/// Prints what bytes read as that may be long.
+fn run_long(rt: &impl Print, alloc: Global, word: &str, bytes: &[u8]) -> anyhow::Result<()> {
+    match word {
+        "script" => print_script(rt, alloc, bytes),
+        "route" => Ok(print_route(rt, alloc, bytes)?),
+        _ => Ok(print_listing(rt, bytes)?),
     }
 }
 
@@ -114,16 +125,23 @@ fn run_counted(
     }
 }
 
+/// Prints what texts and numbers say.
+fn run_text(rt: &impl Print, alloc: Global, word: &str, rest: &str) -> io::Result<()> {
+    match word {
+        "text" => print_id(rt, read_id_text(rest.as_bytes())),
+        "profile" => print_profile(rt, rest),
+        "height" | "sat" => print_minted(rt, word, rest),
+        "ranges" => print_steps(rt, alloc, rest),
+        _ => print_numbers(rt, word, numbers_of(rest)),
+    }
+}
+
 /// Prints what a row says that is never done several times.
 fn run_once(rt: &impl Print, alloc: Global, word: &str, rest: &str) -> anyhow::Result<()> {
     match word {
-        "fronts" => Ok(print_fronts(rt, alloc, &bytes_of(alloc, rest)?)?),
-        "order" => print_order(rt, rest),
-        "script" => print_script(rt, alloc, &bytes_from(alloc, rest)?),
-        "listing" => Ok(print_listing(rt, &bytes_from(alloc, rest)?)?),
-        "route" => Ok(print_route(rt, alloc, &bytes_from(alloc, rest)?)?),
-        "named" | "number" | "fields" | "kinds" => {
-            Ok(run_bytes(rt, word, &bytes_of(alloc, rest)?)?)
+        "script" | "listing" | "route" => run_long(rt, alloc, word, &bytes_from(alloc, rest)?),
+        "fronts" | "value" | "named" | "number" | "fields" | "kinds" => {
+            Ok(run_bytes(rt, alloc, word, &bytes_of(alloc, rest)?)?)
         }
         "stone" | "tapscript" | "room" => {
             let (count, rest) = rest.split_once(' ').context("no count")?;
@@ -133,13 +151,9 @@ fn run_once(rt: &impl Print, alloc: Global, word: &str, rest: &str) -> anyhow::R
             let (front, numbers) = rest.split_once(' ').context("no numbers")?;
             Ok(print_put(rt, alloc, &bytes_of(alloc, front)?, numbers)?)
         }
+        "order" => print_order(rt, rest),
         "made" => print_made(rt, alloc, rest),
-        "value" => Ok(print_id(rt, read_id(&bytes_of(alloc, rest)?))?),
-        "text" => Ok(print_id(rt, read_id_text(rest.as_bytes()))?),
-        "profile" => Ok(print_profile(rt, rest)?),
-        "height" | "sat" => Ok(print_minted(rt, word, rest)?),
-        "ranges" => Ok(print_steps(rt, alloc, rest)?),
-        _ => Ok(print_numbers(rt, word, numbers_of(rest))?),
+        _ => Ok(run_text(rt, alloc, word, rest)?),
     }
 }
 
