@@ -4,7 +4,7 @@ ghost use Rattle.std.specs.Prelude.{◌≤◌, length, IfOk};
 ghost use Rattle.ox_run_rows.specs.Live.{IsLive};
 
 use crate::say::{print_heard, print_line, print_shown, print_took};
-use crate::words::number_of;
+use crate::words::{bytes_of, file_of, number_of};
 use anyhow::{Context, bail};
 use ox_feed::Lines;
 use ox_memsite::MemSite;
@@ -105,11 +105,23 @@ pub fn show(rt: &impl Print, site: &mut MemSite, bytes: &[u8]) -> anyhow::Result
 }
 
 /// Writes bytes into a file at a place that it has.
-pub fn overwrite(site: &mut MemSite, file: Which, at: u64, bytes: &[u8]) -> anyhow::Result<()> {
+fn write_at(site: &mut MemSite, file: Which, at: u64, bytes: &[u8]) -> anyhow::Result<()> {
     if at > site.file(file).len() as u64 {
         bail!("no such place");
     }
     site.write(file, at, bytes).ok().context("a call failed")
+}
+
+/// The same for the words of a row.
+pub fn overwrite(
+    alloc: Global,
+    site: &mut MemSite,
+    file: &str,
+    at: &str,
+    hex: &str,
+) -> anyhow::Result<()> {
+    let bytes = bytes_of(alloc, hex)?;
+    write_at(site, file_of(file)?, number_of(at)?, &bytes)
 }
 
 /// Reads so many lines of channel 0, and at its end no more.

@@ -40,7 +40,7 @@ mod words;
 use crate::calls::{hear, overwrite, read_lines, show, visit};
 use crate::runs::{crash, run_aloud, run_short, site_after_crash};
 use crate::say::{print_file, print_frame};
-use crate::words::{bytes_of, door_of, file_of, number_of, parts_of, portion_of, script_of};
+use crate::words::{door_of, file_of, number_of, parts_of, portion_of, script_of};
 use anyhow::{Context, bail};
 use ox_memsite::MemSite;
 use ox_outside::Site;
@@ -80,23 +80,21 @@ fn feed(alloc: Global, on: &mut Desktop, words: &[&str]) -> anyhow::Result<()> {
     on.site.input(&on.feed).ok().context("no memory")
 }
 
-/// Carries out a row that changes the site alone; whether it is one.
-fn set(alloc: Global, on: &mut Desktop, row: &[&str]) -> anyhow::Result<bool> {
-    match row {
-        ["fresh"] => *on = desktop_of(alloc, fresh(alloc)?),
-        ["link", door, said @ ..] => link(alloc, &mut on.site, door, said)?,
-        ["feed", words @ ..] => feed(alloc, on, words)?,
-        ["fail", call] => on.site.fail(number_of(call)?).ok().context("no memory")?,
-        ["restart", moment, fill, keep] => {
-            *on = desktop_of(alloc, site_after_crash(&on.site, [moment, fill, keep])?);
-        }
-        ["overwrite", file, at, hex] => {
-            let bytes = bytes_of(alloc, hex)?;
-            overwrite(&mut on.site, file_of(file)?, number_of(at)?, &bytes)?;
-        }
-        _ => return Ok(false),
-    }
-    Ok(true)
+/// Begins with two empty files.
+fn begin(alloc: Global, on: &mut Desktop) -> anyhow::Result<()> {
+    *on = desktop_of(alloc, fresh(alloc)?);
+    Ok(())
+}
+
+/// Goes on with what a crash leaves.
+fn restart(alloc: Global, on: &mut Desktop, choice: [&str; 3]) -> anyhow::Result<()> {
+    *on = desktop_of(alloc, site_after_crash(&on.site, choice)?);
+    Ok(())
+}
+
+/// Lets a call fail.
+fn fail(site: &mut MemSite, call: &str) -> anyhow::Result<()> {
+    site.fail(number_of(call)?).ok().context("no memory")
 }
 
 /// Runs the program over a site of short calls.
@@ -114,17 +112,29 @@ fn short(
     Ok(())
 }
 
-/// Carries out a row that runs the program; whether it is one.
-fn run_by(rt: &impl Print, alloc: Global, on: &mut Desktop, row: &[&str]) -> anyhow::Result<bool> {
+/// Carries out a row that changes the site alone, or another one.
+fn set(rt: &impl Print, alloc: Global, on: &mut Desktop, row: &[&str]) -> anyhow::Result<()> {
     match row {
-        ["run", words @ ..] => run_aloud(rt, alloc, &mut on.site, words)?,
-        ["short", portion, writes, words @ ..] => short(rt, alloc, on, portion, writes, words)?,
-        ["crash", moment, fill, keep, runs @ ..] => {
-            crash(rt, alloc, &on.site, &on.feed, [moment, fill, keep], runs)?;
-        }
-        _ => return Ok(false),
+        ["fresh"] => begin(alloc, on),
+        ["link", door, said @ ..] => link(alloc, &mut on.site, door, said),
+        ["feed", words @ ..] => feed(alloc, on, words),
+        ["fail", call] => fail(&mut on.site, call),
+        ["restart", moment, fill, keep] => restart(alloc, on, [moment, fill, keep]),
+        ["overwrite", file, at, hex] => overwrite(alloc, &mut on.site, file, at, hex),
+        _ => run_by(rt, alloc, on, row),
     }
-    Ok(true)
+}
+
+/// Carries out a row that runs the program, or another one.
+fn run_by(rt: &impl Print, alloc: Global, on: &mut Desktop, row: &[&str]) -> anyhow::Result<()> {
+    match row {
+        ["run", words @ ..] => run_aloud(rt, alloc, &mut on.site, words),
+        ["short", portion, writes, words @ ..] => short(rt, alloc, on, portion, writes, words),
+        ["crash", moment, fill, keep, runs @ ..] => {
+            crash(rt, alloc, &on.site, &on.feed, [moment, fill, keep], runs)
+        }
+        _ => tell(rt, alloc, &mut on.site, row),
+    }
 }
 
 /// Carries out a row that prints what calls on a site answer.
@@ -147,10 +157,7 @@ fn carry_out(rt: &impl Print, alloc: Global, on: &mut Desktop, row: &str) -> any
         return Ok(println!(rt; "{row}")?);
     }
     let words: Vec<&str> = row.split(' ').collect(alloc)?;
-    if set(alloc, on, words.as_slice())? || run_by(rt, alloc, on, words.as_slice())? {
-        return Ok(());
-    }
-    tell(rt, alloc, &mut on.site, words.as_slice())
+    set(rt, alloc, on, words.as_slice())
 }
 
 /// Carries the rows of a text out, from two empty files on.
