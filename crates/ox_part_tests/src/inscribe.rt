@@ -98,10 +98,15 @@ fn shared_from(rt: &impl Abort, shelf: &Shelf, n: u32) -> usize {
     shelf.rows_from(n).expect(rt, "memory").len()
 }
 
+/// Whether the row at a place is there and has this number.
+fn is_numbered(shelf: &Shelf, n: u32, number: i64) -> bool {
+    n < shelf.len() && shelf.number(n) == number
+}
+
 /// Whether these are the numbers of all rows.
 fn are_numbered(shelf: &Shelf, numbers: &[i64]) -> bool {
     for (n, number) in (0..shelf.len()).zip(numbers.iter()) {
-        if shelf.number(n) != *number {
+        if !is_numbered(shelf, n, *number) {
             return false;
         }
     }
