@@ -572,10 +572,11 @@ def notified(desk):
             heard = pool.submit(listen)
             feed = desk.feed(served, node, env={"NOTIFY_SOCKET": str(place)})
             wait_for(lambda: is_at(served, node), "the index has the node's tip")
+            # what the feeder tells of a block comes behind the block
+            wait_for(lambda: "STATUS=12 blocks" in told, "the last block is told")
             feed.stops()
             heard.result()
     demand(told[0] == "READY=1" and "WATCHDOG=1" in told, f"it tells {told[:3]}")
-    demand("STATUS=12 blocks" in told, f"it tells {told}")
 
 
 # Watching.
