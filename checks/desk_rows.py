@@ -31,8 +31,8 @@ PHRASES = {
     413: "Content Too Large",
     431: "Request Header Fields Too Large",
 }
-# the most bytes that are printed whole, and how many of more
-WHOLE, FRONT = 1_000, 200
+# the most bytes that are printed whole as text, and how many of more
+WHOLE, FRONT = 1_024, 200
 # the most bytes that are heard at once, and that a body may have
 ROOM, BODY = 65_536, 4_000_000
 
@@ -71,9 +71,9 @@ def written(reply, close):
 
 
 def printed(data):
-    """Bytes as the program prints them."""
+    """Bytes as text, as the program prints them."""
     if len(data) > WHOLE:
-        return f"{printed(data[:FRONT])}.. {checksum(data)}"
+        return f"{printed(data[:FRONT])}.. {len(data)} bytes, checksum {checksum(data)}"
     return "".join(
         chr(byte) if 32 <= byte < 127 and byte != ord("\\") else f"\\{byte:02x}" for byte in data
     )

@@ -18,7 +18,7 @@ import old_files
 import store_files
 from block_rows import Fault, Reader
 from chain import DISCONNECT, GENESIS, SHORT, line, payload_of, record_of
-from desk_rows import compact
+from desk_rows import compact, printed
 from plain_index import Refused
 from serve_rows import Desk
 from store_files import BYTES, CLOSED, NoStore, stands
@@ -360,13 +360,11 @@ def heard_line(piece, room):
 def said_line(said):
     """How a line and the command that it is are printed."""
     command = command_in(said)
-    if said and said == said[:1] * len(said):
-        told = f"{len(said)} times {said[:1].hex()}: "
-    else:
-        told = f"{said.hex()}: "
     if command is None:
-        return told + "no command"
-    return told + ("disconnect" if command == DISCONNECT else f"connect {command[1:].hex()}")
+        told = "no command"
+    else:
+        told = "disconnect" if command == DISCONNECT else f"connect {command[1:].hex()}"
+    return f"{printed(said)}: {told}"
 
 
 # ---- rows
@@ -435,7 +433,7 @@ class Runs:
     def run(self, *words):
         self.row("run", *map(run_word, words))
         ended = self.ran(words)
-        self.stdout += [f"status {ended[0]}", self.world.told.hex()]
+        self.stdout += [f"status {ended[0]}", printed(self.world.told)]
         return ended
 
     def ends(self, words, status, told):
@@ -450,7 +448,7 @@ class Runs:
         world.disk = disk = Disk(world.site, world.portion, whole_writes)
         ended = self.ran(words)
         world.portion, world.disk = whole, Disk(world.site)
-        self.stdout += [f"status {ended[0]}, {disk.cut} cut short", world.told.hex()]
+        self.stdout += [f"status {ended[0]}, {disk.cut} cut short", printed(world.told)]
         return *ended, disk.cut
 
     def crash(self, moment, fill, keep, *runs):
@@ -463,7 +461,7 @@ class Runs:
             status = after.run(words)
             self.stdout.append(f"status {status}")
             ended.append((status, after.told[before:]))
-        self.stdout.append(after.told.hex())
+        self.stdout.append(printed(after.told))
         return ended
 
     def restart(self, moment, fill, keep):
@@ -523,7 +521,7 @@ class Runs:
             self.stdout.append("failed")
         else:
             self.stdout.append(f"took {len(data)}")
-        self.stdout.append(self.world.told.hex())
+        self.stdout.append(printed(self.world.told))
 
     def visit(self, door, *rooms):
         self.row("visit", door, *rooms)
@@ -850,14 +848,15 @@ def feeds(rows):
     rows.heading("a line feed ends a line, and a last line needs none")
     rows.feed(b"a\n\nbc")
     rows.lines(5)
-    told = ["1 times 61: no command", ": no command", "6263: no command", "end", "end"]
+    told = ["a: no command", ": no command", "bc: no command", "end", "end"]
     assert rows.stdout[-5:] == told
     rows.heading("a line may come in many pieces")
     rows.feed((65_535, b"a"), b"\n", (300, 1000 * b"b"), b"\n")
     rows.feed(b"c")
     rows.lines(4)
-    sizes = [told.split(" ")[0] for told in rows.stdout[-4:]]
-    assert sizes == ["65535", "300000", "1", "end"]
+    for told, size in zip(rows.stdout[-4:], (65_535, 300_000)):
+        assert f".. {size} bytes, " in told
+    assert rows.stdout[-2:] == ["c: no command", "end"]
 
 
 def hearings(rows):
@@ -868,7 +867,7 @@ def hearings(rows):
     rows.heading("what is shown is kept")
     rows.show(b"ok ")
     rows.show(b"7")
-    assert rows.stdout[-1] == b"ok 7".hex()
+    assert rows.stdout[-1] == "ok 7"
     rows.heading("a hearing, a showing and a door fail in turn")
     for call in range(4):
         rows.fresh()
@@ -891,7 +890,8 @@ def hearings(rows):
     rows.restart(len(rows.world.site.steps), 0, 0)
     rows.file("A")
     rows.show(b"x")
-    assert rows.world.site.files["A"] == bytes_of(large) and large[1].hex() in rows.stdout[-1]
+    assert rows.world.site.files["A"] == bytes_of(large)
+    assert rows.stdout[-1] == printed(bytes_of(large)) + "not a store b 0\\0ax"
 
 
 def two_links(rows, *, public=(), operator=()):

@@ -28,6 +28,10 @@
 //! A part is hex digits, or `N*` and digits, which stand for N times what they spell. A word of a
 //! run may be `=` and hex digits.
 //!
+//! Of what was shown, and of lines, printable bytes are printed as they are, others and `\` as `\`
+//! and two hex digits; of more than 1,024 bytes the first 200, how many there are, and the number
+//! that all of them come to.
+//!
 //! The rows and what has to be printed are made by checks/run_rows.py, which has its own lines,
 //! store and disk, and shares nothing with the library.
 #![tactic(auto)]

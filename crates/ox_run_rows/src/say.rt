@@ -8,18 +8,55 @@ use ox_outside::{Failed, Heard, Shown};
 use std::alloc::Global;
 use std::io;
 
+/// The most bytes that are printed whole as text.
+const WHOLE: usize = 1024;
+
+/// How many are printed of more than these.
+const FRONT: usize = 200;
+
 /// Bytes in hex digits.
-pub fn print_hex(rt: &impl Print, bytes: &[u8]) -> io::Result<()> {
+fn print_hex(rt: &impl Print, bytes: &[u8]) -> io::Result<()> {
     for byte in bytes {
         print!(rt; "{byte:02x}")?;
     }
     Ok(())
 }
 
+/// Bytes as text.
+fn print_text(rt: &impl Print, bytes: &[u8]) -> io::Result<()> {
+    for &byte in bytes {
+        if (32..127).contains(&byte) && byte != b'\\' {
+            print!(rt; "{}", byte as char)?;
+        } else {
+            print!(rt; "\\{byte:02x}")?;
+        }
+    }
+    Ok(())
+}
+
+/// The number that bytes come to.
+fn sum_of(bytes: &[u8]) -> u64 {
+    let mut sum = 0u64;
+    for &byte in bytes {
+        sum = sum.wrapping_mul(1_000_003).wrapping_add(u64::from(byte));
+    }
+    sum
+}
+
+/// Bytes, or the first of them, how many there are and what all come to.
+fn print_bytes(rt: &impl Print, bytes: &[u8]) -> io::Result<()> {
+    if bytes.len() <= WHOLE {
+        return print_text(rt, bytes);
+    }
+    let (front, _) = bytes.split_at(FRONT);
+    print_text(rt, front)?;
+    print!(rt; ".. {} bytes, checksum {}", bytes.len(), sum_of(bytes))
+}
+
 /// What was shown on channel 0.
 pub fn print_shown(rt: &impl Print, site: &MemSite) -> anyhow::Result<()> {
     let shown = site.shown(0).ok().context("no memory")?;
-    print_hex(rt, shown.as_slice())?;
+    print_bytes(rt, shown.as_slice())?;
     Ok(println!(rt)?)
 }
 
@@ -51,21 +88,10 @@ pub fn print_took(rt: &impl Print, took: Result<Shown, Failed>) -> io::Result<()
     }
 }
 
-/// A line's bytes; where they are all the same, how many there are.
-fn print_text(rt: &impl Print, text: &[u8]) -> io::Result<()> {
-    match text {
-        [first, rest @ ..] if rest.iter().all(|byte| byte == first) => {
-            print!(rt; "{} times {first:02x}: ", text.len())
-        }
-        _ => {
-            print_hex(rt, text)?;
-            print!(rt; ": ")
-        }
-    }
-}
-
-/// The command that a line is.
+/// A line's bytes, and the command that they are.
 fn print_command(rt: &impl Print, alloc: Global, text: &[u8]) -> io::Result<()> {
+    print_bytes(rt, text)?;
+    print!(rt; ": ")?;
     match command_of(alloc, text) {
         Ok(Command::Connect(block)) => {
             print!(rt; "connect ")?;
@@ -81,10 +107,7 @@ fn print_command(rt: &impl Print, alloc: Global, text: &[u8]) -> io::Result<()> 
 /// A line, and the command that it is.
 pub fn print_line(rt: &impl Print, alloc: Global, line: Result<Line, FeedFault>) -> io::Result<()> {
     match line {
-        Ok(Line::Text(text)) => {
-            print_text(rt, text.as_slice())?;
-            print_command(rt, alloc, text.as_slice())
-        }
+        Ok(Line::Text(text)) => print_command(rt, alloc, text.as_slice()),
         Ok(Line::Long) => println!(rt; "too long"),
         Ok(Line::End) => println!(rt; "end"),
         Err(_) => println!(rt; "a fault"),

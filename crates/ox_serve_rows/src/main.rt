@@ -16,7 +16,8 @@
 //! - `# ..`: a heading, which is printed.
 //!
 //! Of what was shown printable bytes are printed as they are, others and `\` as `\` and two hex
-//! digits; of more than 1,000 bytes the first 200, and the number that all of them come to.
+//! digits; of more than 1,024 bytes the first 200, how many there are, and the number that all of
+//! them come to.
 //!
 //! The rows and what has to be printed are made by checks/serve_rows.py, which has its own
 //! rotation, store and disk, and shares nothing with the library.

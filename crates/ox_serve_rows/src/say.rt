@@ -3,7 +3,7 @@
 use std::io;
 
 /// The most bytes that are printed whole.
-const WHOLE: usize = 1000;
+const WHOLE: usize = 1024;
 
 /// How many are printed of more than these.
 const FRONT: usize = 200;
@@ -29,12 +29,12 @@ fn sum_of(bytes: &[u8]) -> u64 {
     sum
 }
 
-/// Bytes, or the first of them and what all come to.
+/// Bytes, or the first of them, how many there are and what all come to.
 pub fn print_bytes(rt: &impl Print, bytes: &[u8]) -> io::Result<()> {
     if bytes.len() <= WHOLE {
         return print_text(rt, bytes);
     }
     let (front, _) = bytes.split_at(FRONT);
     print_text(rt, front)?;
-    print!(rt; ".. {}", sum_of(bytes))
+    print!(rt; ".. {} bytes, checksum {}", bytes.len(), sum_of(bytes))
 }
