@@ -1,5 +1,5 @@
-"""The rows of crates/ox_serve_rows that ask one desk, and what has to be printed for them.
-checks/serve_rows.py writes them.
+"""The rows of crates/ox_run_rows that ask one desk, and what has to be printed for them.
+checks/run_rows.py writes them.
 
 Replies are told by docs/FORMATS.md. The chains and most of what they are asked are those of
 checks/index_rows.py and checks/query_rows.py. What is kept of replies is reckoned here: 64 of them,
@@ -114,9 +114,8 @@ class Body:
 
     def word(self, front):
         """The word of a row that says these bytes behind others."""
-        if self.times:
-            return f"{front.hex()}{self.head}*{self.times}*{self.part}*{self.tail}"
-        return front.hex() + self.head
+        many = f"{self.times}*{self.part}" if self.times else ""
+        return "+".join(part for part in (front.hex() + self.head, many, self.tail) if part)
 
 
 class Asked:
@@ -146,7 +145,7 @@ class Desks:
 
     def __init__(self):
         self.stdin, self.stdout = [], []
-        self.told, self.operators, self.publics = b"", [], []
+        self.told, self.links, self.operators, self.publics = b"", 0, [], []
 
     def row(self, *words):
         self.stdin.append(" ".join(map(str, words)))
@@ -161,7 +160,7 @@ class Desks:
         self.serve()
         self.row("fresh")
         self.row("run", "init", profile, depth)
-        self.told = b"ok empty\n"
+        self.told, self.links = b"ok empty\n", 0
         self.stdout += ["status 0", printed(self.told)]
 
     def ask(self, method, path, reply, **how):
@@ -207,6 +206,8 @@ class Desks:
                 counts.accepted += asked.is_accepted
         turns = sum(asked.turns() for _, requests in links for asked in requests)
         self.row("run", "serve", (2 + len(links)) * (turns + 2))
+        self.row("shown", *range(self.links + 1, self.links + 1 + len(links)))
+        self.links += len(links)
         self.told += f"requests {counts.requests} hits {counts.hits}\n".encode()
         self.stdout += ["status 0", printed(self.told), *map(printed, shown)]
         return counts

@@ -3,18 +3,21 @@
 
     checks/run_rows.py
 
-These are runs of each subcommand but `serve` and `drill`, whole, with failing calls, stopped, and
-over a site of short calls; and lines, hearings, showings and links of a site by themselves. Lines,
-answers, statuses and files are told by docs/FORMATS.md and docs/OPERATING.md, on their own: blocks
-are read as block_rows does, indexes are plain_index's, and files store_files'. What these don't say
-and the rows go by: a run hears at most 65,536 bytes at a time, and only where it holds no whole
-line; each line is shown by a call of its own; and of the calls of an opening, a making and a record
-store_rows tells.
+Its own are runs of each subcommand but `serve` and `drill`, whole, with failing calls, stopped, and
+over a site of short calls; and lines, hearings, showings and links of a site by themselves. Those
+that serve links are those of checks/serve_rows.py, and those that ask one desk those of
+checks/desk_rows.py. Lines, answers, statuses and files are told by docs/FORMATS.md and
+docs/OPERATING.md, on their own: blocks are read as block_rows does, indexes are plain_index's, and
+files store_files'. What these don't say and the rows go by: a run hears at most 65,536 bytes at a
+time, and only where it holds no whole line; each line is shown by a call of its own; and of the
+calls of an opening, a making and a record store_rows tells.
 """
 
 import re
 
+import desk_rows
 import old_files
+import serve_rows
 import store_files
 from block_rows import Fault, Reader
 from chain import DISCONNECT, GENESIS, SHORT, line, payload_of, record_of
@@ -950,6 +953,9 @@ def main():
         part(rows)
     for part in (feeds, hearings, links):
         part(rows)
+    for others in (serve_rows.served(), desk_rows.desks()):
+        rows.stdin += others.stdin
+        rows.stdout += others.stdout
     write_rows("ox_run_rows", rows.stdin, rows.stdout)
 
 

@@ -1,16 +1,12 @@
-#!/usr/bin/env python3
-"""Makes the rows of crates/ox_serve_rows and what has to be printed for them:
-
-    checks/serve_rows.py
+"""The rows of crates/ox_run_rows that serve links, and what has to be printed for them.
+checks/run_rows.py writes them.
 
 Requests and replies are told by docs/FORMATS.md, and whose turn it is by README.md, 'Serving', on
 their own: with a rotation, sessions and a store that share nothing with the library. What these
 don't say and the rows go by: making and opening an empty store take so many calls, which
-checks/store_rows.py tells in part, and each event of a link is a moment. What one desk answers is
-asked by the rows of checks/desk_rows.py behind them.
+checks/store_rows.py tells in part, and each event of a link is a moment.
 """
 
-import desk_rows
 import store_files
 from chain import DISCONNECT, chain, payload_of
 from desk_rows import ROOM, Counts, compact, error, printed, refused, told, written
@@ -18,7 +14,6 @@ from plain_index import Refused
 from store_files import NoStore, stands
 from store_rows import CallFailed, Site
 from tools.bitcoin import SUBSIDY
-from tools.programs import write_rows
 
 SLOTS = 32
 HEAD = 8_192
@@ -283,8 +278,10 @@ class Rows:
     def shows(self, status, shown=()):
         self.stdout.append(f"status {status}")
         self.stdout.append(printed(self.told))
-        for number in range(self.printed + 1, self.links + 1):
-            self.stdout.append(printed(dict(shown).get(number, b"")))
+        numbers = range(self.printed + 1, self.links + 1)
+        if numbers:
+            self.row("shown", *numbers)
+        self.stdout += [printed(dict(shown).get(number, b"")) for number in numbers]
         self.printed = self.links
 
     def serve(self, turns):
@@ -316,7 +313,7 @@ class Rows:
 
     def crash(self, moment, fill, keep):
         """What a crash leaves is opened."""
-        self.row("crash", moment, fill, keep, "query", "/status")
+        self.row("crash", moment, fill, keep, "query,/status")
         after = self.site.crash(moment, fill, keep)
         try:
             desk = Desk(after)
@@ -504,7 +501,8 @@ def turns(rows):
     assert any('"blocks":64' in line for line in rows.stdout[-97::2])
 
 
-def main():
+def served():
+    """The rows, and what has to be printed for them."""
     rows = Rows()
     for part in (
         single_bytes,
@@ -519,9 +517,4 @@ def main():
         turns,
     ):
         part(rows)
-    desks = desk_rows.desks()
-    write_rows("ox_serve_rows", rows.stdin + desks.stdin, rows.stdout + desks.stdout)
-
-
-if __name__ == "__main__":
-    main()
+    return rows

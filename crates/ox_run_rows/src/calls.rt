@@ -101,7 +101,7 @@ pub fn show(rt: &impl Print, site: &mut MemSite, bytes: &[u8]) -> anyhow::Result
     }
     let took = site.show(0, bytes);
     print_took(rt, took)?;
-    print_shown(rt, site)
+    print_shown(rt, site, 0)
 }
 
 /// Writes bytes into a file at a place that it has.

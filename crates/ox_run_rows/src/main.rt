@@ -1,12 +1,14 @@
-//! What runs of the program and single calls do over a site in memory, a row of standard input
-//! each:
+//! What runs of the program, a desk and single calls do over a site in memory, a row of standard
+//! input each:
 //!
 //! - `fresh`: two empty files, no links, nothing to hear, and no call that is to fail;
 //! - `link DOOR SAID..`: a link that waits at a door, `public` or `operator`, and says this: bytes
-//!   as a part, heard at once; `.`, nothing yet; or `$`, its end;
+//!   as parts between `+`, heard at once; `,` and hex digits, bytes of which each is heard alone;
+//!   `.`, nothing yet; or `$`, its end;
 //! - `feed PART..`: bytes that channel 0 says next;
 //! - `fail N`: the call of this number fails, counted from 0 since the files were `fresh`;
-//! - `run WORD..`: runs the program; its status, and what was shown since the files were `fresh`;
+//! - `run WORD..`: runs the program; its status, and what was shown on channel 0 since the files
+//!   were `fresh`;
 //! - `short PORTION N WORD..`: the same over a site that takes one `byte` or `half` of what it may
 //!   in a call, and of whose writes the first N are whole; and how many writes were cut short;
 //! - `crash MOMENT FILL KEEP RUN..`: runs the program, once for each word, whose own words stand
@@ -14,13 +16,16 @@
 //!   and each file is cut to `KEEP` bytes as far as it may be, and channel 0 says the last feed
 //!   again; the site itself stays;
 //! - `restart MOMENT FILL KEEP`: puts what such a crash leaves in the place of the site;
+//! - `shown LINK..`: what the links of these numbers were shown, counted from 1 as they come;
+//! - `often N PATH..`: opens the store, and has one desk answer a GET of each path, N times over;
+//!   how many requests and hits it counts, and how many bytes the replies have;
 //! - `overwrite FILE AT HEX`: writes bytes into a file;
 //! - `file FILE`: a file's length and its bytes;
 //! - `lines N`: the next N lines of channel 0, each with the command that it is;
 //! - `hear ROOM..`: hears channel 0 with rooms of these sizes: each answer, and the room then;
 //! - `visit DOOR ROOM..`: takes the link that waits at a door, hears it with rooms of these sizes,
 //!   gives it up and shuts it;
-//! - `show PART..`: shows bytes on channel 0;
+//! - `show PART..`: shows bytes on channel 0; the answer, and what was shown there so far;
 //! - `frame PART..`: the record of this payload;
 //! - `now`: the moment;
 //! - `# ..`: a heading, which is printed.
@@ -33,17 +38,19 @@
 //! that all of them come to.
 //!
 //! The rows and what has to be printed are made by checks/run_rows.py, which has its own lines,
-//! store and disk, and shares nothing with the library.
+//! rotation, store and disk, and shares nothing with the library.
 #![tactic(auto)]
 
 mod calls;
+mod often;
 mod runs;
 mod say;
 mod words;
 
 use crate::calls::{hear, overwrite, read_lines, show, visit};
+use crate::often::often;
 use crate::runs::{crash, run_aloud, run_short, site_after_crash};
-use crate::say::{print_file, print_frame};
+use crate::say::{print_file, print_frame, print_links};
 use crate::words::{door_of, file_of, number_of, parts_of, portion_of, script_of};
 use anyhow::{Context, bail};
 use ox_memsite::MemSite;
@@ -129,7 +136,8 @@ fn set(rt: &impl Print, alloc: Global, on: &mut Desktop, row: &[&str]) -> anyhow
     }
 }
 
-/// Carries out a row that runs the program, or another one.
+/// Carries out a row that runs the program or a desk or prints what links were shown, or another
+/// one.
 fn run_by(rt: &impl Print, alloc: Global, on: &mut Desktop, row: &[&str]) -> anyhow::Result<()> {
     match row {
         ["run", words @ ..] => run_aloud(rt, alloc, &mut on.site, words),
@@ -137,6 +145,8 @@ fn run_by(rt: &impl Print, alloc: Global, on: &mut Desktop, row: &[&str]) -> any
         ["crash", moment, fill, keep, runs @ ..] => {
             crash(rt, alloc, &on.site, &on.feed, [moment, fill, keep], runs)
         }
+        ["often", times, paths @ ..] => often(rt, alloc, &mut on.site, times, paths),
+        ["shown", links @ ..] => print_links(rt, &on.site, links),
         _ => tell(rt, alloc, &mut on.site, row),
     }
 }

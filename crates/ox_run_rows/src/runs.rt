@@ -8,12 +8,12 @@ use ox_memsite::{Choice, MemSite};
 use ox_short_site::{Portion, ShortSite};
 use std::alloc::Global;
 
-/// Prints what was shown, if memory never ran out.
+/// Prints what was shown on channel 0, if memory never ran out.
 fn print_after(rt: &impl Print, site: &MemSite) -> anyhow::Result<()> {
     if site.starved() > 0 {
         bail!("no memory");
     }
-    print_shown(rt, site)
+    print_shown(rt, site, 0)
 }
 
 /// Runs the program, and prints its status.

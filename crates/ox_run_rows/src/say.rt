@@ -53,11 +53,20 @@ fn print_bytes(rt: &impl Print, bytes: &[u8]) -> io::Result<()> {
     print!(rt; ".. {} bytes, checksum {}", bytes.len(), sum_of(bytes))
 }
 
-/// What was shown on channel 0.
-pub fn print_shown(rt: &impl Print, site: &MemSite) -> anyhow::Result<()> {
-    let shown = site.shown(0).ok().context("no memory")?;
+/// What was shown on a channel.
+pub fn print_shown(rt: &impl Print, site: &MemSite, channel: u32) -> anyhow::Result<()> {
+    let shown = site.shown(channel).ok().context("no memory")?;
     print_bytes(rt, shown.as_slice())?;
     Ok(println!(rt)?)
+}
+
+/// What the links of these numbers were shown.
+pub fn print_links(rt: &impl Print, site: &MemSite, links: &[&str]) -> anyhow::Result<()> {
+    for link in links {
+        let link: u32 = link.parse().ok().context("no link")?;
+        print_shown(rt, site, link)?;
+    }
+    Ok(())
 }
 
 /// A file's length and its bytes.

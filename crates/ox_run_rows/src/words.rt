@@ -87,12 +87,30 @@ pub fn run_words_of(alloc: Global, row: &[&str]) -> anyhow::Result<Vec<Bytes>> {
     Ok(words)
 }
 
+/// The bytes of parts between `+`.
+fn joined(alloc: Global, word: &str) -> anyhow::Result<Bytes> {
+    let parts: Vec<&str> = word.split('+').collect(alloc)?;
+    Ok(Bytes::from_vec(parts_of(alloc, parts.as_slice())?))
+}
+
+/// Appends bytes of which each is heard alone.
+fn append_alone(alloc: Global, said: &mut Vec<Said>, bytes: &[u8]) -> anyhow::Result<()> {
+    for byte in bytes {
+        let alone = Bytes::copy(alloc, &[*byte]).ok().context("no memory")?;
+        said.push(Said::Bytes(alone))?;
+    }
+    Ok(())
+}
+
 /// Appends what a word says.
 fn append(alloc: Global, said: &mut Vec<Said>, word: &str) -> anyhow::Result<()> {
     match word {
         "." => said.push(Said::NotYet)?,
         "$" => said.push(Said::End)?,
-        _ => said.push(Said::Bytes(Bytes::from_vec(parts_of(alloc, &[word])?)))?,
+        _ => match word.strip_prefix(',') {
+            Some(digits) => append_alone(alloc, said, &bytes_of(alloc, digits)?)?,
+            None => said.push(Said::Bytes(joined(alloc, word)?))?,
+        },
     }
     Ok(())
 }

@@ -3,6 +3,7 @@
 ghost use Rattle.std.specs.Prelude.{IfSome};
 ghost use Rattle.ox_desk.specs.Desk.{Rests};
 
+use crate::words::number_of;
 use anyhow::{Context, bail};
 use ox_bytes::Bytes;
 use ox_desk::StoreDesk;
@@ -79,9 +80,10 @@ pub fn often<S: Site>(
     rt: &impl Print,
     alloc: Global,
     site: &mut S,
-    times: u64,
+    times: &str,
     paths: &[&str],
 ) -> anyhow::Result<()> {
+    let times = number_of(times)?;
     let requests = gets(alloc, paths)?;
     let Ok(store) = Store::open(alloc, site) else {
         bail!("no store");
