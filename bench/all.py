@@ -47,7 +47,7 @@ NEEDS = {
     "apply_and_open": (["ox_main"], ["opening"]),
     "checkpoint": (["ox_main"], ["checkpoint"]),
     "decipher_runestones": (["ox_speed"], []),
-    "desk": (["ox_serve_rows", "ox_main"], ["desk"]),
+    "desk": (["ox_run_rows", "ox_main"], ["desk"]),
     "find_envelopes": (["ox_block_rows"], []),
     "drill": (["ox_main"], ["drill"]),
     "fold_blocks": (["ox_main"], ["fold_blocks"]),

@@ -8,7 +8,7 @@ has a desk over a chain of 80,000 outputs and 8,000 inscriptions answer GETs aga
 `/status`, whose reply is kept after the first time; of 65 paths in turn, which is one more than
 replies are kept, so that each is made anew (block hashes, and pages of inscriptions); and of one
 page, whose reply is kept. Then it has one connect blocks of 4 MB, each with ten large inscriptions.
-`ox_serve_rows`, whose word `often` asks one desk, and the plain program run three times, with the
+`ox_run_rows`, whose word `often` asks one desk, and the plain program run three times, with the
 work that is timed and without it; both have to count the same, and as many bytes. It prints, of the
 runs that took least, answers and blocks a second of the processor time that the work took, and how
 fast `ox_main` applies the same blocks as lines of a feed, from reading their digits to the bytes in
@@ -28,7 +28,7 @@ from runs import RUNS, in_another_process, least, report, run
 from tools.bitcoin import twice
 from tools.programs import plain_program, proved_program
 
-OX, MAIN = proved_program("ox_serve_rows"), proved_program("ox_main")
+OX, MAIN = proved_program("ox_run_rows"), proved_program("ox_main")
 PROGRAMS = {"ox": [OX], "plain": [plain_program("desk")]}
 # the most bytes that are heard at once
 ROOM = 65_536

@@ -1,6 +1,6 @@
 //! A server's desk in plain Rust, as bench/desk.py times it: a whole index in memory, and the replies to the last 64 paths since
 //! the last accepted block. On standard input stand rows: `make regtest DEPTH` begins a chain, `connect HEX` connects a block,
-//! and `often N PATH..` answers a GET of each path, N times over, and shows what crates/ox_serve_rows shows for it. It keeps no
+//! and `often N PATH..` answers a GET of each path, N times over, and shows what crates/ox_run_rows shows for it. It keeps no
 //! files: `often` forgets what was counted and which replies were kept.
 use fold_blocks::feed::Chain;
 use index::Whole;
