@@ -1,6 +1,6 @@
 -- What a desk's answers come to: the server's replies, its states, and what is counted.
 use Rattle.std.proofs.Common.{◌≡◌, ◌∙◌, ℕ, ◌+◌, ◌-◌, ◌^◌, ◌<◌, ◌≤◌, Bool, true, false, cond, List, [], length, nat_le, Option, Some, None, is_some, refl, sym, ap, subst, arith, unwrap_or}
-use Rattle.std.specs.Prelude.{Result, Ok, Err, IfOk, IsTrue}
+use Rattle.std.specs.Prelude.{Result, Ok, Err, IfOk}
 use Rattle.std.specs.Result.{result_ok}
 use Rattle.ox_feed.specs.declared.command.Command.{Command}
 use Rattle.ox_http.specs.declared.Method.{Method}
@@ -14,12 +14,11 @@ use Rattle.ox_turns.specs.Desk.{state_behind}
 use Rattle.ox_turns.specs.declared.desk.Made.{Made}
 use Rattle.ox_rules.specs.declared.refusal.Refusal.{Refusal}
 use Rattle.ox_model.specs.Stack.{Stack, stack_after}
-use Rattle.ox_store.specs.Store.{StoreContents}
 use Rattle.ox_replies.specs.Ask.{reply_of}
 use Rattle.ox_cache.specs.Kept.{Answers, Entry, Kept, body_kept, closing, entry_of}
 use Rattle.ox_desk.specs.Asked.{asked_on}
 use Rattle.ox_desk.specs.Commands.{command_by, command_of}
-use Rattle.ox_desk.specs.Desk.{CarriesOut, ComesOf, DeskContents, IsCarried, IsSound, IsTrueOf, KeepsTrue, LooksUp, Moved, Tells, accepted_one, contents_in, stack_behind, tally_by, tally_of}
+use Rattle.ox_desk.specs.Desk.{CarriesOut, DeskContents, IsTrueOf, KeepsTrue, LooksUp, Moved, Tells, accepted_one, stack_behind, tally_by, tally_of}
 use Rattle.ox_desk.specs.Replies.{command_reply, reply_or}
 use Rattle.ox_desk.specs.Servers.{reply_to, server_on}
 use Rattle.ox_desk.proofs.Cached.{found, keeps_hit, keeps_miss, keeps_past, tally_hit, tally_miss}
@@ -149,18 +148,3 @@ one_at_most (Err refusal) = omega arith
 
 pub accepted_few : (stack : Stack) (command : Command) → accepted_one stack command ≤ 1
 accepted_few stack command = one_at_most (stack_after stack command)
-
--- a desk stays sound behind a command that is told
-pub sound_behind : (held : Option StoreContents) (store after : StoreContents) (requests : ℕ) (cache : Kept) (command : Command) (close : Bool) (told : Option (List ℕ)) (bytes : List ℕ)
-    → held ≡ Some store → (IsTrue (contents_in held requests cache).is_open → IsSound (contents_in held requests cache)) → ComesOf store command close told after → told ≡ Some bytes
-    → IsSound (contents_in (Some after) (requests + 1) cache)
-sound_behind held store after requests cache command close told bytes is sound comes some =
-    let was : IsSound (contents_in (Some store) requests cache) =
-    subst (λ (o : Option StoreContents). IsTrue (contents_in o requests cache).is_open → IsSound (contents_in o requests cache)) is sound refl in
-    let carried : IsCarried store command close bytes after = subst (λ (o : Option (List ℕ)). ComesOf store command close o after) some comes in
-    let few = accepted_few store.stack command in
-    record {
-      keeps = keeps_behind store.stack after.stack store.commands after.commands cache command carried.stack carried.commands was.keeps;
-      commands = let e = was.commands in omega (arith, carried.commands, few, e);
-      hits = let e = was.hits in omega (arith, e);
-    }

@@ -1,9 +1,11 @@
 pub mod Answering
+pub mod Asking
 pub mod Bodies
 pub mod Cached
 pub mod Closing
 pub mod Commanded
 pub mod Escapes
 pub mod Machines
+pub mod PutBack
 pub mod Refusals
 pub mod Whole

@@ -3,6 +3,7 @@ pub mod Commands
 pub mod Desk
 pub mod DeskLaws
 pub mod Plain
+pub mod PutBack
 pub mod Replies
 pub mod Servers
 pub mod Whole

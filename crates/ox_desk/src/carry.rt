@@ -79,7 +79,9 @@ pub(crate) fn carry_command<S: Site>(
     match store.prepare(command) {
         Ok(ready) => {
             let bytes = accepted_reply(rooms, ready.tip(), close);
-            let store = ready.commit(site)?;
+            let Ok(store) = ready.commit(site) else {
+                return Err(DiskFault);
+            };
             Ok(Carried {
                 store,
                 told: Some(bytes),

@@ -16,6 +16,7 @@ use crate::told::{Step, look_up, tell};
 use ox_bytes::{Bytes, Memory};
 use ox_cache::Cache;
 use ox_feed::Command;
+use ox_gated::DiskFault;
 use ox_http::{Method, Request};
 use ox_outside::Site;
 use ox_routes::Routes;
@@ -70,7 +71,8 @@ impl Model for StoreDesk {
 }
 
 impl StoreDesk {
-    ghost use Rattle.ox_desk.specs.Desk.{CarriesOut, Rests, Steps, Tells, stack_behind};
+    ghost use Rattle.ox_desk.specs.Desk.{CarriesOut, IsSound, Rests, Steps, Tells, stack_behind};
+    ghost use Rattle.ox_desk.specs.PutBack.{desk_behind, desk_by, made_by};
     ghost use Rattle.ox_store.specs.Ready.{StandsForEither};
 
     /// A desk over a store that has carried out no command since it was opened. It has answered
@@ -169,10 +171,25 @@ impl StoreDesk {
         let Some(store) = self.store.take() else {
             unreachable!();
         };
-        let Ok(carried) = carry_command(self.alloc, store, command, close, site) else {
+        let carried = carry_command(self.alloc, store, command, close, site);
+        self.put_back(carried, close)
+    }
+
+    /// Puts the store back that a command left, and makes the reply. A request that is answered is
+    /// counted. After a fault of the disk there is no store to put back.
+    fn put_back(
+        &mut self,
+        carried: Result<Carried, DiskFault>,
+        close: bool,
+    ) -> Result<Made, DeskFault>
+        requires room { self.old.requests < greatest }
+        requires sound { IfOk carried (λ left. IsSound (desk_behind left self.old)) }
+        ensures made { result ≡ made_by carried close }
+        ensures desk { self.new ≡ desk_by carried self.old }
+    {
+        let Ok(Carried { store, told }) = carried else {
             return Err(DeskFault::DiskFault);
         };
-        let Carried { store, told } = carried;
         self.store = Some(store);
         let Some(bytes) = told else {
             return Err(DeskFault::Memory);
