@@ -58,29 +58,45 @@ fn makes(rt: &impl Abort, asked: &mut Asked, path: &[u8], made: &[u8]) -> bool {
         .ends_with(made)
 }
 
+/// Whether the answer to `/status` after so many commands ends with a body, where another is made.
+fn gives(rt: &impl Abort, asked: &mut Asked, commands: u64, made: &[u8], body: &[u8]) -> bool {
+    answer(rt, asked, commands, b"/status", false, made)
+        .as_slice()
+        .ends_with(body)
+}
+
 #[test]
 fn a_reply_is_kept_for_its_number_and_path(rt: HostRuntime) {
     let mut asked = with_room(&rt, rt.alloc(), 64);
     assert!(rt; makes(&rt, &mut asked, b"/status", b"first"));
     assert!(rt; !makes(&rt, &mut asked, b"/status", b"second"));
     assert!(rt; makes(&rt, &mut asked, b"/audit", b"third"));
-    let later = answer(&rt, &mut asked, 1, b"/status", false, b"fourth");
-    assert!(rt; later.as_slice().ends_with(b"fourth"));
-    let earlier = answer(&rt, &mut asked, 0, b"/status", false, b"fifth");
-    assert!(rt; earlier.as_slice().ends_with(b"first"));
+    assert!(rt; gives(&rt, &mut asked, 1, b"fourth", b"fourth"));
+    assert!(rt; gives(&rt, &mut asked, 0, b"fifth", b"first"));
     assert!(rt; asked.cache.hits() == 2);
+}
+
+/// A reply to `/` whose link stays open.
+const OPEN: &[u8] = b"HTTP/1.1 200 OK\r\nContent-Type: a/b\r\nContent-Length: 2\r\n\r\nab";
+
+/// The same of one whose link is closed behind it.
+const CLOSING: &[u8] =
+    b"HTTP/1.1 200 OK\r\nContent-Type: a/b\r\nContent-Length: 2\r\nConnection: close\r\n\r\nab";
+
+/// Whether the answer to `/` after so many commands closes its link exactly where that was asked,
+/// and has the body `ab`, where another is made.
+fn closes(rt: &impl Abort, asked: &mut Asked, commands: u64, close: bool, made: &[u8]) -> bool {
+    let reply = answer(rt, asked, commands, b"/", close, made);
+    reply.as_slice() == if close { CLOSING } else { OPEN }
 }
 
 #[test]
 fn close_is_as_it_was_asked(rt: HostRuntime) {
     let mut asked = with_room(&rt, rt.alloc(), 1);
-    let open: &[u8] = b"HTTP/1.1 200 OK\r\nContent-Type: a/b\r\nContent-Length: 2\r\n\r\nab";
-    let closing: &[u8] =
-        b"HTTP/1.1 200 OK\r\nContent-Type: a/b\r\nContent-Length: 2\r\nConnection: close\r\n\r\nab";
-    assert!(rt; answer(&rt, &mut asked, 0, b"/", false, b"ab").as_slice() == open);
-    assert!(rt; answer(&rt, &mut asked, 0, b"/", true, b"cd").as_slice() == closing);
-    assert!(rt; answer(&rt, &mut asked, 0, b"/", false, b"ef").as_slice() == open);
-    assert!(rt; answer(&rt, &mut asked, 1, b"/", true, b"ab").as_slice() == closing);
+    assert!(rt; closes(&rt, &mut asked, 0, false, b"ab"));
+    assert!(rt; closes(&rt, &mut asked, 0, true, b"cd"));
+    assert!(rt; closes(&rt, &mut asked, 0, false, b"ef"));
+    assert!(rt; closes(&rt, &mut asked, 1, true, b"ab"));
     assert!(rt; asked.cache.hits() == 2);
 }
 

@@ -133,12 +133,17 @@ fn a_new_mark_stands_where_changes_led(rt: HostRuntime) {
     assert!(rt; goes_to_new_mark(&rt, alloc, &[(3, None)], &marked, &[(3, Some(30))]));
 }
 
+/// How many keys have changed since the mark.
+fn changes_of(rt: &impl Abort, map: &Amounts) -> usize {
+    map.changed().expect(rt, "memory").len()
+}
+
 #[test]
 fn a_thousand_keys_go_back(rt: HostRuntime) {
     let mut map = thousand(&rt, rt.alloc());
     map.begin();
     take_even(&rt, &mut map);
-    assert!(rt; map.changed().expect(&rt, "memory").len() == 500);
+    assert!(rt; changes_of(&rt, &map) == 500);
     assert!(rt; has(&map, 998, None) && has(&map, 999, Some(9_990)));
     map.restore();
     assert!(rt; has(&map, 998, Some(9_980)) && has_changed(&rt, &map, &[]));

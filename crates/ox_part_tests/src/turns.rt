@@ -119,6 +119,24 @@ fn crowded_site(rt: &impl Abort, alloc: Global) -> MemSite {
     site
 }
 
+/// The site's moment after so many more turns.
+fn moment_after(rt: &impl Abort, server: &mut Served, turns: usize) -> u64
+    requires { IsServed server.old.turns server.old.site }
+    ensures { IsServed server.new.turns server.new.site }
+{
+    server.make_turns(rt, turns);
+    server.site.now()
+}
+
+/// How often the desk was called after so many more turns.
+fn calls_after(rt: &impl Abort, server: &mut Served, turns: usize) -> u64
+    requires { IsServed server.old.turns server.old.site }
+    ensures { IsServed server.new.turns server.new.site }
+{
+    server.make_turns(rt, turns);
+    server.desk.calls
+}
+
 /// Each round before the 32nd has a turn of each door and one of each link; the 32nd has none of
 /// the operator's door, since no slot is free. The fifth link came in the fifth round, so it ends
 /// in the 33rd, which has no door's turn. The next turn of the public door takes the 33rd link,
@@ -126,21 +144,13 @@ fn crowded_site(rt: &impl Abort, alloc: Global) -> MemSite {
 #[test]
 fn a_link_waits_for_a_slot_and_takes_the_one_that_is_left(rt: HostRuntime) {
     let mut server = server_of(&rt, rt.alloc(), crowded_site(&rt, rt.alloc()));
-    let rounds = 31 * 2 + 31 * 32 / 2 + 33;
-    server.make_turns(&rt, rounds);
-    assert!(rt; server.site.now() == 32);
-    server.make_turns(&rt, 4);
-    assert!(rt; server.site.now() == 32);
-    server.make_turns(&rt, 1);
-    assert!(rt; server.site.now() == 34);
-    server.make_turns(&rt, 27);
-    assert!(rt; server.site.now() == 34);
-    server.make_turns(&rt, 1);
-    assert!(rt; server.site.now() == 35);
-    server.make_turns(&rt, 4);
-    assert!(rt; server.desk.calls == 0);
-    server.make_turns(&rt, 1);
-    assert!(rt; server.desk.calls == 1);
+    assert!(rt; moment_after(&rt, &mut server, 31 * 2 + 31 * 32 / 2 + 33) == 32);
+    assert!(rt; moment_after(&rt, &mut server, 4) == 32);
+    assert!(rt; moment_after(&rt, &mut server, 1) == 34);
+    assert!(rt; moment_after(&rt, &mut server, 27) == 34);
+    assert!(rt; moment_after(&rt, &mut server, 1) == 35);
+    assert!(rt; calls_after(&rt, &mut server, 4) == 0);
+    assert!(rt; calls_after(&rt, &mut server, 1) == 1);
     server.make_turns(&rt, 33);
     assert!(rt; has_shown(&rt, &server.site, 33, b"ok"));
 }
