@@ -36,20 +36,27 @@ impl FilePair {
             return Err(io::Error::from(ErrorKind::InvalidInput));
         };
         let folder = Path::new(folder);
-        let mut how = OpenOptions::new();
-        how.read(true).write(true).create(true);
         let pair = FilePair {
-            a: how.open(rt, folder.join(alloc, "a.ox")?.as_path())?,
-            b: how.open(rt, folder.join(alloc, "b.ox")?.as_path())?,
+            a: open_in(rt, alloc, folder, "a.ox")?,
+            b: open_in(rt, alloc, folder, "b.ox")?,
         };
-        if !is_apart(&pair.a) || !is_apart(&pair.b) {
-            return Err(io::Error::from(ErrorKind::InvalidInput));
-        }
-        if pair.a.try_lock().is_err() || pair.b.try_lock().is_err() {
-            return Err(io::Error::from(ErrorKind::WouldBlock));
-        }
+        pair.lock()?;
         File::open(rt, folder)?.sync_all()?;
         Ok(pair)
+    }
+
+    /// Locks both files, until the program ends. An error where one of them has the number of a
+    /// standard stream, or another program has it.
+    fn lock(&self) -> io::Result<()>
+        ensures { OnOk result (IsApart self.now.a × IsApart self.now.b) }
+    {
+        if !is_apart(&self.a) || !is_apart(&self.b) {
+            return Err(io::Error::from(ErrorKind::InvalidInput));
+        }
+        if self.a.try_lock().is_err() || self.b.try_lock().is_err() {
+            return Err(io::Error::from(ErrorKind::WouldBlock));
+        }
+        Ok(())
     }
 
     /// The file of this letter.
@@ -84,6 +91,18 @@ impl FilePair {
     pub fn sync(&self, file: Which) -> io::Result<()> {
         self.file(file).sync_all()
     }
+}
+
+/// Opens a file of a folder to read and to write, and makes it empty where it is absent.
+fn open_in<R: Files<File = File>>(
+    rt: &R,
+    alloc: Global,
+    folder: Path,
+    name: &str,
+) -> io::Result<File> {
+    let mut how = OpenOptions::new();
+    how.read(true).write(true).create(true);
+    how.open(rt, folder.join(alloc, name)?.as_path())
 }
 
 /// Whether the file's number is none of the three of the standard streams. It is one of them where
