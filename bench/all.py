@@ -57,7 +57,7 @@ NEEDS = {
     "migrate": (["ox_main"], []),
     "query": (["ox_index_rows"], ["query"]),
     "read_block": (["ox_block_rows"], ["read_block"]),
-    "rows": (["ox_rows_rows"], ["rows"]),
+    "rows": (["ox_index_rows"], ["rows"]),
     "runes": (["ox_speed"], ["runes"]),
     "serve": (["ox_main"], ["serve"]),
     "streams": (["ox_http_rows"], ["http"]),

@@ -6,7 +6,7 @@ plain Rust program of the same work.
 
 makes the rows of a sound index of so many outputs (100,000 and 1,000,000 without a word), each with
 a script of 34 bytes and one run of satoshis, with an inscription of a hundred bytes and a balance
-for every tenth of them. crates/ox_rows_rows and the plain program run in turn, three times: each
+for every tenth of them. crates/ox_index_rows and the plain program run in turn, three times: each
 reads the rows and spells the index once, or does one of both five times more; it tests the index
 once or five times more; and it reads, tests and makes it live once or five times more. Of 100,000
 outputs it is fifty times, so that as many rows are read. It prints how many bytes of the rows a
@@ -24,7 +24,7 @@ import tempfile
 from runs import in_another_process, least, report
 from tools.programs import plain_program, proved_program
 
-PROGRAMS = {"ox": [proved_program("ox_rows_rows")], "plain": [plain_program("rows")]}
+PROGRAMS = {"ox": [proved_program("ox_index_rows")], "plain": [plain_program("rows")]}
 TENTH = 10
 # how much more often a work is done, of this many outputs or more
 MORE, MANY = 5, 1_000_000
@@ -32,12 +32,12 @@ SATS, SUBSIDY = 1_000_000, 5_000_000_000
 RUNES = 20
 # how fast each should be at least, by plain Rust
 GOALS = {"read": 0.6, "written": 0.7, "tested": 0.6, "read, tested and made live": 0.5}
-# the row of each, and which of its two arguments tells how often it is done
+# the row of each, which is done as often as the argument says
 WORKS = {
-    "read": ("index", 0),
-    "written": ("index", 1),
-    "tested": ("sound regtest", 0),
-    "read, tested and made live": ("live regtest", 0),
+    "read": "index",
+    "written": "spell",
+    "tested": "sound regtest",
+    "read, tested and made live": "load regtest",
 }
 # how much more time ten times the rows may take
 MOST_GROWTH = 12
@@ -99,7 +99,7 @@ def write_rows(folder, outputs):
     """The rows of an index, in a file for each kind of row for the programs. How many bytes these
     are."""
     digits = b"".join(part.hex().encode() for part in index_rows(outputs))
-    for row in {row for row, _ in WORKS.values()}:
+    for row in WORKS.values():
         (folder / row).write_bytes(row.encode() + b" " + digits + b"\n")
     return len(digits) // 2
 
@@ -109,18 +109,14 @@ def seconds(folder, outputs):
     more = MORE * max(1, MANY // outputs)
 
     def taken(row, times):
-        words = [str(number) for number in times]
-        commands = {name: [*program, *words] for name, program in PROGRAMS.items()}
+        commands = {name: [*program, str(times)] for name, program in PROGRAMS.items()}
         return least(commands, folder / row)
 
-    once = {row: taken(row, (1, 1)) for row in {row for row, _ in WORKS.values()}}
-    often = {
-        work: taken(row, (1, 1 + more) if place else (1 + more, 1))
-        for work, (row, place) in WORKS.items()
-    }
+    once = {work: taken(row, 1) for work, row in WORKS.items()}
+    often = {work: taken(row, 1 + more) for work, row in WORKS.items()}
     return {
-        work: {name: (often[work][name][0] - once[row][name][0]) / more for name in PROGRAMS}
-        for work, (row, _) in WORKS.items()
+        work: {name: (often[work][name][0] - once[work][name][0]) / more for name in PROGRAMS}
+        for work in WORKS
     }
 
 

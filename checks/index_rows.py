@@ -7,11 +7,13 @@ It makes blocks by docs/RULES.md and writes down what indexes have to hold after
 standard library alone. What is looked up of inscriptions and runes, as the first with an id, it
 looks up in these lists by itself. The rows that ask a chain, as requests do, are those of
 checks/query_rows.py; those whose indexes plain_index reckons are those of checks/rune_rows.py and
-checks/shelf_rows.py.
+checks/shelf_rows.py; those that spell the rows of an index or of a change are those of
+checks/rows_of_files.py.
 """
 
 import made_blocks
 import query_rows
+import rows_of_files
 import rune_rows
 import scenarios
 import shelf_rows
@@ -1578,6 +1580,8 @@ def main():
     for group in query_rows.GROUPS:
         group(asking)
     rows.rows += reckoned.rows + asking.rows
+    for row, line in rows_of_files.rows():
+        rows.row(row, line)
     rows.write("ox_index_rows")
 
 

@@ -198,8 +198,8 @@ def sound_row(profile, index, is_right):
     yield row, "sound" if is_right else "not sound"
 
 
-def live_rows():
-    """Each row `live PROFILE HEX`, and how much the index in memory has, or `not sound`."""
+def load_rows():
+    """Each row `load PROFILE HEX`, and how much the index in memory has, or `not sound`."""
     empty = Index()
     for profile, index in (
         ("regtest", SOUND),
@@ -212,7 +212,7 @@ def live_rows():
     ):
         made = f"{len(index.hashes)} blocks, {len(index.inscriptions)} inscriptions"
         line = f"{made}, {len(index.runes)} runes" if is_sound(profile, index) else "not sound"
-        yield f"live {profile} {SPELLED['index'](index).hex()}", line
+        yield f"load {profile} {SPELLED['index'](index).hex()}", line
 
 
 # ---- a change between two indexes
@@ -323,5 +323,5 @@ def end_row(index, change, back):
 def rows():
     """All of them."""
     yield from sound_rows()
-    yield from live_rows()
+    yield from load_rows()
     yield from end_rows()

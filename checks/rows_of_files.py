@@ -1,7 +1,5 @@
-#!/usr/bin/env python3
-"""Makes the rows of crates/ox_rows_rows and what has to be printed for them:
-
-    checks/rows_of_files.py
+"""The rows of crates/ox_index_rows about the rows of an index and of a change, and what has to be
+printed for them. checks/index_rows.py writes them.
 
 Indexes and changes are spelled and read by docs/FORMATS.md (row_forms), with Python's standard
 library alone. Of each broken row the place is told beside it, and the reader has to find it there.
@@ -15,7 +13,7 @@ from row_forms import MOST_SATS, SPELLED, Change, Count, Fault, Index, Inscripti
 from row_forms import Rune, Terms, inscription, inscription_id, listed, number, optional, output
 from row_forms import outpoint, read, rune, sats, terms, text
 from row_forms import count as spelled_count
-from tools.programs import TOP, write_rows
+from tools.programs import TOP
 
 KINDS = ("index", "change")
 U32, U64, U128 = (1 << 32) - 1, (1 << 64) - 1, (1 << 128) - 1
@@ -366,11 +364,13 @@ def genesis_change():
 
 
 def forms():
-    """Each row, and what has to be printed for it."""
+    """Each row that says what bytes read as, and what has to be printed for it."""
     for kind, data in lawful():
         line = answer(kind, data)
         assert not line.startswith("not"), (kind, data.hex(), line)
         yield f"{kind} {data.hex()}", line
+        if kind == "index":
+            yield f"spell {data.hex()}", line
     for kind, data, at in broken():
         line = answer(kind, data)
         assert line == f"not rows {at}", (kind, data.hex(), line, at)
@@ -381,10 +381,8 @@ def forms():
         yield f"fronts {kind} {data.hex()}", "".join(places)
 
 
-def main():
-    rows = [*forms(), *row_chains.rows(), *row_keeps.rows()]
-    write_rows("ox_rows_rows", *zip(*rows))
-
-
-if __name__ == "__main__":
-    main()
+def rows():
+    """Each row, and what has to be printed for it."""
+    yield from forms()
+    yield from row_chains.rows()
+    yield from row_keeps.rows()

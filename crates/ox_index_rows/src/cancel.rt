@@ -4,7 +4,7 @@ ghost use Rattle.std.specs.Prelude.{IsSome};
 ghost use Rattle.ox_index.specs.Chain.{earlier_in};
 
 use crate::end::print_end;
-use crate::spell::bytes_of;
+use crate::words::bytes_of;
 use ox_index::Chain;
 use std::alloc::Global;
 use std::io;

@@ -1,10 +1,13 @@
-//! What indexes of chains hold, and what requests they are asked get, a row of standard input each:
+//! What indexes of chains hold, what requests they are asked get, and what the rows of an index and
+//! of a change read as, a row of standard input each.
+//!
+//! Of a chain:
 //!
 //! - `live NAME`: from here on an index of no block of this profile;
 //! - `chain NAME DEPTH`: from here on a chain of no block, of whose blocks at most so many are
 //!   kept;
 //! - `block WORD..`: connects the block that has these bytes, one word's behind the other's, and
-//!   says how that ended. A word has hex digits, or how often they stand, a `*` and hex digits;
+//!   says how that ended;
 //! - `disconnect`: takes a chain's newest block back, and says how that ended;
 //! - `cancel block WORD..`, `cancel disconnect`: does the same in a chain and cancels it, and says
 //!   how each ended;
@@ -18,41 +21,73 @@
 //!   a space in front the link ends with it, with `hex` the path is written in hex digits;
 //! - a row that begins with `#` is printed as it stands.
 //!
-//! Want of memory is said, and the next row is done: `no memory`, and the index is as before.
-//!
 //! The reply of `answer` is printed, that of `answer_by` has to be the same: its status, `close`
 //! where the link ends, its kind, its encoding if there is one, and its body. A body that isn't
 //! text in one line is shown in hex digits, and a long one by its length and a checksum.
 //!
-//! The rows and what has to be printed are made by checks/index_rows.py, which makes blocks by the
-//! public formats and shares nothing with the library.
+//! Of rows, whatever the chain:
 //!
-//! With an argument each GET is replied so many times, to be timed (see bench/query.py): once as
-//! its row comes, and the other times behind the last row, without being printed. Then it is told
-//! how many replies these were, and how many bytes their bodies had.
+//! - `index HEX`: how many of these bytes the rows of an index take that they begin with, and the
+//!   rows of the index that was read; or the place of the first field that doesn't fit. More than a
+//!   million bytes are told by their number alone, and by whether they are those that were read;
+//! - `spell HEX`: the same, where spelling is timed and not reading;
+//! - `change HEX`: the same of a change;
+//! - `fronts index HEX`, `fronts change HEX`: the place of that field in each front of these bytes,
+//!   from none of them to all but one;
+//! - `sound NAME HEX`: whether the index that these bytes spell is sound by this profile;
+//! - `load NAME HEX`: how much the index in memory has that is made from the index that these bytes
+//!   spell; or that it isn't sound;
+//! - `keeps NAME HEX HEX`: whether a change keeps the rules that leave a sound index, and whether
+//!   the index after it is sound; or `no end` where the change begins in no sound index here. The
+//!   index is spelled first, and then the change;
+//! - `on HEX HEX`, `back HEX HEX`: the rows of the index to which a change leads from this one, or
+//!   from which it led to it; or `no end` where it has none here. These are spelled in the same
+//!   order.
+//!
+//! Bytes are hex digits, or how often they stand, a `*` and hex digits, or `-` for none. Want of
+//! memory is said, and the next row is done: `no memory`, and the index is as before.
+//!
+//! The rows and what has to be printed are made by checks/index_rows.py, which makes blocks and
+//! spells rows by the public formats and shares nothing with the libraries.
+//!
+//! An argument says how often work is done, to be timed: `index` reads so many times, `spell`
+//! spells, `sound` tests and `load` reads, tests and makes (see bench/rows.py). Each GET is replied
+//! once as its row comes, and the other times behind the last row, without being printed; then it
+//! is told how many replies these were, and how many bytes their bodies had (see bench/query.py).
 #![tactic(auto)]
 
+mod again;
 mod both;
 mod cancel;
 mod end;
+mod lead;
+mod load;
 mod look;
 mod plain;
+mod print;
+mod read;
 mod replies;
 mod requests;
 mod show;
-mod spell;
+mod sound;
+mod whole;
+mod words;
 
+use crate::again::Times;
 use crate::both::lead_both_ways;
 use crate::cancel::carry_out_and_cancel;
 use crate::end::print_end;
+use crate::lead::print_lead;
+use crate::load::print_load;
 use crate::look::{dump, print_looks};
 use crate::plain::dump_plain;
+use crate::read::{print_change_again, print_fronts, print_index_again};
 use crate::requests::{print_answer, reply_often};
-use crate::spell::bytes_of;
+use crate::sound::{print_keeps, print_sound};
+use crate::words::{bytes_of, profile_in};
 use anyhow::Context;
 use ox_index::{Chain, Live, Why};
 use ox_routes::Routes;
-use ox_sat::{ProfileName, profile_of};
 use std::alloc::Global;
 use std::{env, io};
 
@@ -73,19 +108,19 @@ fn live_in(index: &Index) -> &Live {
 
 /// An index of no block.
 fn new_live(alloc: Global, name: &str) -> Option<Index> {
-    let name = ProfileName::of_word(name.as_bytes())?;
-    Some(Index::Live(Live::new(alloc, &profile_of(name)).ok()?))
+    let p = profile_in(name)?;
+    Some(Index::Live(Live::new(alloc, &p).ok()?))
 }
 
 /// A chain of no block: a profile's word, and how many blocks are kept.
 fn new_chain(alloc: Global, words: &str) -> Option<Index> {
     let (name, depth) = words.split_once(' ')?;
-    let name = ProfileName::of_word(name.as_bytes())?;
+    let p = profile_in(name)?;
     let depth: u16 = depth.parse().ok()?;
     if depth == 0 || depth > 1000 {
         return None;
     }
-    Some(Index::Chain(Chain::new(alloc, &profile_of(name), depth).ok()?))
+    Some(Index::Chain(Chain::new(alloc, &p, depth).ok()?))
 }
 
 /// Begins anew with an index of no block.
@@ -139,7 +174,7 @@ fn both_row(rt: &impl Print, alloc: Global, index: &mut Index, rest: &str) -> io
         return println!(rt; "no live index");
     };
     let (digits, words) = rest.split_once(' ').unwrap_or((rest, ""));
-    let Ok(block) = hex::decode(alloc, digits) else {
+    let Some(block) = bytes_of(alloc, digits) else {
         return println!(rt; "no memory");
     };
     lead_both_ways(rt, alloc, live, &block, words)
@@ -175,6 +210,30 @@ fn request_row(
     }
 }
 
+/// Prints what the bytes of a row read as, or a chain's reply. What is timed is done so many times.
+fn read_or_reply(
+    rt: &impl Print,
+    alloc: Global,
+    routes: &Routes,
+    index: &Index,
+    row: &str,
+    times: u32,
+) -> io::Result<()> {
+    let (word, rest) = row.split_once(' ').unwrap_or((row, ""));
+    match word {
+        "index" => print_index_again(rt, alloc, rest, Times::of_reads(times)),
+        "spell" => print_index_again(rt, alloc, rest, Times::of_writes(times)),
+        "change" => print_change_again(rt, alloc, rest),
+        "fronts" => print_fronts(rt, alloc, rest),
+        "sound" => print_sound(rt, alloc, rest, times),
+        "load" => print_load(rt, alloc, rest, times),
+        "keeps" => print_keeps(rt, alloc, rest),
+        "on" => print_lead(rt, alloc, rest, false),
+        "back" => print_lead(rt, alloc, rest, true),
+        _ => request_row(rt, alloc, routes, index, row),
+    }
+}
+
 /// Does what a row says.
 fn run(
     rt: &impl Print,
@@ -182,6 +241,7 @@ fn run(
     routes: &Routes,
     index: &mut Index,
     row: &str,
+    times: u32,
 ) -> io::Result<()> {
     let (word, rest) = row.split_once(' ').unwrap_or((row, ""));
     match word {
@@ -195,7 +255,7 @@ fn run(
         "dump" => dump_row(rt, index, rest),
         "plain" => dump_plain(rt, alloc, live_in(index), rest),
         "look" => print_looks(rt, live_in(index), rest),
-        _ => request_row(rt, alloc, routes, index, row),
+        _ => read_or_reply(rt, alloc, routes, index, row, times),
     }
 }
 
@@ -206,16 +266,17 @@ fn run_all(
     routes: &Routes,
     index: &mut Index,
     text: &str,
+    times: u32,
 ) -> io::Result<()> {
     for row in text.split('\n') {
         if !row.is_empty() {
-            run(rt, alloc, routes, index, row)?;
+            run(rt, alloc, routes, index, row, times)?;
         }
     }
     Ok(())
 }
 
-/// Replies to each GET among the rows, so many times more, and tells how much that was.
+/// Replies to each GET among a chain's rows, so many times more, and tells how much that was.
 fn repeat(
     rt: &impl Print,
     alloc: Global,
@@ -225,7 +286,7 @@ fn repeat(
     times: u32,
 ) -> io::Result<()> {
     let Index::Chain(chain) = index else {
-        return println!(rt; "no chain");
+        return Ok(());
     };
     match reply_often(alloc, routes, chain, text, times) {
         Some(tally) => println!(rt; "{} replies of {} bytes", tally.replies, tally.bytes),
@@ -233,18 +294,27 @@ fn repeat(
     }
 }
 
-fn main(rt: HostRuntime) -> anyhow::Result<()> {
-    let alloc = rt.alloc();
-    let mut times = 1;
-    if let Some(word) = env::args(&rt)?.nth(1) {
-        times = word.as_str().parse::<u32>()?;
+/// How often work is done: as the argument says, or once.
+fn times_of(rt: &HostRuntime) -> anyhow::Result<u32> {
+    match env::args(rt)?.nth(1) {
+        Some(word) => Ok(word.as_str().parse::<u32>()?),
+        None => Ok(1),
     }
-    let text = io::read_to_string(alloc, rt.stdin())?;
+}
+
+/// Does what each row of a text says. What is timed is done so many times.
+fn run_times(rt: &impl Print, alloc: Global, text: &str, times: u32) -> anyhow::Result<()> {
     let routes = Routes::new(alloc).ok().context("no memory")?;
     let mut index = new_live(alloc, "lab").context("no memory")?;
-    run_all(&rt, alloc, &routes, &mut index, text.as_str())?;
+    run_all(rt, alloc, &routes, &mut index, text, times)?;
     if times > 1 {
-        repeat(&rt, alloc, &routes, &index, text.as_str(), times - 1)?;
+        repeat(rt, alloc, &routes, &index, text, times - 1)?;
     }
     Ok(())
+}
+
+fn main(rt: HostRuntime) -> anyhow::Result<()> {
+    let times = times_of(&rt)?;
+    let text = io::read_to_string(rt.alloc(), rt.stdin())?;
+    run_times(&rt, rt.alloc(), text.as_str(), times)
 }

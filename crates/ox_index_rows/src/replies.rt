@@ -1,5 +1,6 @@
 //! Replies, in lines.
 
+use crate::print::print_hex;
 use ox_http::Reply;
 use std::io;
 
@@ -28,17 +29,14 @@ fn print_body(rt: &impl Print, body: &[u8]) -> io::Result<()> {
     }
     match str::from_utf8(body) {
         Ok(text) if !body.contains(&b'\n') => print!(rt; " {text}"),
-        _ => print_hex(rt, body),
+        _ => print_digits(rt, body),
     }
 }
 
-/// Bytes in hex digits.
-fn print_hex(rt: &impl Print, bytes: &[u8]) -> io::Result<()> {
+/// A body in hex digits.
+fn print_digits(rt: &impl Print, body: &[u8]) -> io::Result<()> {
     print!(rt; " (hex) ")?;
-    for byte in bytes {
-        print!(rt; "{byte:02x}")?;
-    }
-    Ok(())
+    print_hex(rt, body)
 }
 
 /// A part of a reply's head.

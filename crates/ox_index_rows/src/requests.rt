@@ -1,6 +1,7 @@
 //! Requests of a chain, as rows say them, and their replies.
 
 use crate::replies::print_reply;
+use crate::words::NO_ROW;
 use ox_bytes::Bytes;
 use ox_http::{Method, Reply, Request};
 use ox_index::Chain;
@@ -71,7 +72,7 @@ pub fn print_answer(
     row: &str,
 ) -> io::Result<()> {
     let Some(request) = request_in(alloc, row) else {
-        return println!(rt; "no row, or no memory");
+        return println!(rt; "{}", NO_ROW);
     };
     match reply_to(alloc, routes, chain, &request) {
         Some(reply) => print_reply(rt, &reply),

@@ -1,26 +1,12 @@
 //! What an index holds, in lines. Hashes and ids are printed in reversed order.
 
+use crate::print::{print_hash, print_hex};
 use ox_block::OutPoint;
 use ox_bytes::Bytes;
 use ox_index::Live;
 use ox_model::{Audit, InsId, InsRow, OutRow, RuneId, RuneRow, View};
 use ox_runestone::Terms;
 use std::io;
-
-/// Bytes in hex digits.
-fn print_bytes(rt: &impl Print, bytes: &[u8]) -> io::Result<()> {
-    for byte in bytes {
-        print!(rt; "{byte:02x}")?;
-    }
-    Ok(())
-}
-
-/// A hash or an id.
-pub fn print_hash(rt: &impl Print, hash: &[u8; 32]) -> io::Result<()> {
-    let mut reversed = *hash;
-    reversed.reverse();
-    print_bytes(rt, &reversed)
-}
 
 /// An outpoint.
 pub fn print_outpoint(rt: &impl Print, at: &OutPoint) -> io::Result<()> {
@@ -161,7 +147,7 @@ pub fn print_found(rt: &impl Print, number: Option<u32>) -> io::Result<()> {
 fn print_field(rt: &impl Print, name: &str, value: &Option<Bytes>) -> io::Result<()> {
     if let Some(bytes) = value {
         print!(rt; " {name}=")?;
-        print_bytes(rt, bytes.as_slice())?;
+        print_hex(rt, bytes.as_slice())?;
     }
     Ok(())
 }
@@ -271,7 +257,7 @@ fn print_sums(rt: &impl Print, audit: &Audit) -> io::Result<()> {
 /// An output's height, its script and the satoshis that it holds.
 pub fn print_output(rt: &impl Print, row: &OutRow) -> io::Result<()> {
     print!(rt; " height {} script ", row.height)?;
-    print_bytes(rt, row.script.as_slice())?;
+    print_hex(rt, row.script.as_slice())?;
     for run in row.sats.runs() {
         print!(rt; " {}+{}", run.first, run.count)?;
     }

@@ -1,6 +1,6 @@
 //! Rows of an index and of a change, read and written in plain Rust, as bench/rows.py times them. On standard input stand
-//! the rows `index`, `change` and `fronts` of crates/ox_rows_rows, and its rows `sound` and `live` of regtest, and it shows
-//! the same for them. With two arguments each is read and spelled so many times, tested so many times, or made so many times.
+//! the rows `index`, `spell`, `change` and `fronts` of crates/ox_index_rows, and its rows `sound` and `load` of regtest, and
+//! it shows the same for them. An argument says how often `index` reads, `spell` spells, `sound` tests and `load` makes.
 use rows::live::Live;
 use rows::read::{Fault, Reader};
 use rows::rows::Index;
@@ -38,10 +38,11 @@ fn again<T>(
     Ok((bytes.len() - reader.0.len(), write(&value)))
 }
 
-fn read_again(kind: &str, bytes: &[u8], times: [u32; 2]) -> Result<(usize, Vec<u8>), Fault> {
+fn read_again(kind: &str, bytes: &[u8], times: u32) -> Result<(usize, Vec<u8>), Fault> {
     match kind {
-        "index" => again(bytes, times, |reader| reader.index(), write::index),
-        _ => again(bytes, times, |reader| reader.change(), write::change),
+        "index" => again(bytes, [times, 1], |reader| reader.index(), write::index),
+        "spell" => again(bytes, [1, times], |reader| reader.index(), write::index),
+        _ => again(bytes, [1, 1], |reader| reader.change(), write::change),
     }
 }
 
@@ -81,10 +82,7 @@ fn made_of(bytes: &[u8], times: u32) -> String {
 }
 
 fn main() -> io::Result<()> {
-    let mut times = [1, 1];
-    for (number, word) in times.iter_mut().zip(std::env::args().skip(1)) {
-        *number = word.parse().expect("no number");
-    }
+    let times = std::env::args().nth(1).map_or(1, |word| word.parse().expect("no number"));
     let mut shown = io::BufWriter::new(io::stdout().lock());
     for line in io::stdin().lock().lines() {
         let line = line?;
@@ -93,7 +91,7 @@ fn main() -> io::Result<()> {
             let (kind, digits) = rest.split_once(' ').expect("no row");
             let bytes = decode(digits);
             for len in 0..bytes.len() {
-                match read_again(kind, &bytes[..len], [1, 1]) {
+                match read_again(kind, &bytes[..len], 1) {
                     Ok(_) => write!(shown, " none")?,
                     Err(Fault(left)) => write!(shown, " {}", len - left)?,
                 }
@@ -101,11 +99,11 @@ fn main() -> io::Result<()> {
             writeln!(shown)?;
             continue;
         }
-        if kind == "sound" || kind == "live" {
+        if kind == "sound" || kind == "load" {
             let bytes = decode(rest.strip_prefix("regtest ").expect("another profile"));
             match kind {
-                "sound" => writeln!(shown, "{}", told_of(&bytes, times[0]))?,
-                _ => writeln!(shown, "{}", made_of(&bytes, times[0]))?,
+                "sound" => writeln!(shown, "{}", told_of(&bytes, times))?,
+                _ => writeln!(shown, "{}", made_of(&bytes, times))?,
             }
             continue;
         }

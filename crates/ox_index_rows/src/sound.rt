@@ -2,14 +2,14 @@
 
 ghost use Rattle.ox_sat.specs.Profiles.{IsProfile};
 
-use crate::words::{change_of, index_of, profile_in};
-use anyhow::Context;
+use crate::words::{NO_ROW, index_and_change_of, index_of, profile_in};
 use ox_bytes::Memory;
 use ox_model::Change;
 use ox_plain::{Index, other_end};
 use ox_sat::Profile;
 use ox_sound::{is_sound, keeps_sound};
 use std::alloc::Global;
+use std::io;
 
 /// What is said of an index.
 fn word_of(sound: bool) -> &'static str {
@@ -26,15 +26,20 @@ fn test_often(alloc: Global, p: &Profile, index: &Index, times: u32) -> Result<b
     is_sound(alloc, p, index)
 }
 
+/// The same of an index that is spelled behind a profile's word.
+fn test_spelled(alloc: Global, words: &str, times: u32) -> Option<bool> {
+    let (profile, index) = words.split_once(' ')?;
+    let p = profile_in(profile)?;
+    test_often(alloc, &p, &index_of(alloc, index)?, times).ok()
+}
+
 /// Prints whether an index is sound, which is tested so many times; a profile's word and the index
 /// are spelled.
-pub fn print_sound(rt: &impl Print, alloc: Global, words: &str, times: u32) -> anyhow::Result<()> {
-    let (profile, index) = words.split_once(' ').context("no row")?;
-    let index = index_of(alloc, index)?;
-    let answer = test_often(alloc, &profile_in(profile)?, &index, times)
-        .ok()
-        .context("no memory")?;
-    Ok(println!(rt; "{}", word_of(answer))?)
+pub fn print_sound(rt: &impl Print, alloc: Global, words: &str, times: u32) -> io::Result<()> {
+    match test_spelled(alloc, words, times) {
+        Some(sound) => println!(rt; "{}", word_of(sound)),
+        None => println!(rt; "{}", NO_ROW),
+    }
 }
 
 /// What is said of a change of an index.
@@ -62,21 +67,30 @@ fn say(alloc: Global, p: &Profile, before: &Index, change: &Change) -> Result<Op
     Ok(Some(Said { kept, sound }))
 }
 
+/// The same of an index and a change that are spelled behind a profile's word, or why nothing is
+/// said of them.
+fn say_of_spelled(alloc: Global, words: &str) -> Result<Said, &'static str> {
+    let (profile, rest) = words.split_once(' ').ok_or(NO_ROW)?;
+    let p = profile_in(profile).ok_or(NO_ROW)?;
+    let (index, change) = index_and_change_of(alloc, rest).ok_or(NO_ROW)?;
+    match say(alloc, &p, &index, &change) {
+        Ok(Some(said)) => Ok(said),
+        Ok(None) => Err("no end"),
+        Err(_) => Err("no memory"),
+    }
+}
+
 /// Prints what is said of a change; a profile's word, the index before it and the change are
 /// spelled.
-pub fn print_keeps(rt: &impl Print, alloc: Global, words: &str) -> anyhow::Result<()> {
-    let (profile, rest) = words.split_once(' ').context("no row")?;
-    let (index, change) = rest.split_once(' ').context("no row")?;
-    let index = index_of(alloc, index)?;
-    let change = change_of(alloc, change)?;
-    let said = say(alloc, &profile_in(profile)?, &index, &change)
-        .ok()
-        .context("no memory")?;
-    match said {
-        Some(said) => {
-            let kept = if said.kept { "kept" } else { "not kept" };
-            Ok(println!(rt; "{kept}, {}", word_of(said.sound))?)
-        }
-        None => Ok(println!(rt; "no end")?),
+pub fn print_keeps(rt: &impl Print, alloc: Global, words: &str) -> io::Result<()> {
+    match say_of_spelled(alloc, words) {
+        Ok(said) => print_said(rt, said),
+        Err(why) => println!(rt; "{why}"),
     }
+}
+
+/// Prints what is said of a change.
+fn print_said(rt: &impl Print, said: Said) -> io::Result<()> {
+    let kept = if said.kept { "kept" } else { "not kept" };
+    println!(rt; "{kept}, {}", word_of(said.sound))
 }

@@ -1,10 +1,9 @@
 //! Rows that are read and spelled again.
 
 ghost use Rattle.ox_plain.specs.Plain.{index_in};
-ghost use Rattle.ox_rows.specs.RowFits.{KeepsChange, KeepsIndex};
+ghost use Rattle.ox_rows.specs.RowFits.{KeepsIndex};
 
 use ox_bytes::{Bytes, Memory};
-use ox_model::Change;
 use ox_plain::Index;
 use ox_rows::{
     RowsFault, read_change, read_index, what_fits_keeps_to_the_form, write_change, write_index,
@@ -15,9 +14,21 @@ use std::alloc::Global;
 #[derive(Clone, Copy)]
 pub struct Times {
     /// How often it is read.
-    pub reads: u32,
+    reads: u32,
     /// How often it is spelled.
-    pub writes: u32,
+    writes: u32,
+}
+
+impl Times {
+    /// An index that is read so many times, and spelled once.
+    pub fn of_reads(reads: u32) -> Times {
+        Times { reads, writes: 1 }
+    }
+
+    /// An index that is read once, and spelled so many times.
+    pub fn of_writes(writes: u32) -> Times {
+        Times { reads: 1, writes }
+    }
 }
 
 /// What was read, spelled.
@@ -39,16 +50,6 @@ fn index_rows(alloc: Global, index: &Index, times: u32) -> Result<Bytes, Memory>
     write_index(alloc, index)
 }
 
-/// The rows of a change, which are put so many times.
-fn change_rows(alloc: Global, change: &Change, times: u32) -> Result<Bytes, Memory>
-    requires { KeepsChange change.now }
-{
-    for _ in 1..times {
-        write_change(alloc, change)?;
-    }
-    write_change(alloc, change)
-}
-
 /// How many bytes were read, and how that is spelled.
 fn again_of(taken: usize, spelled: Result<Bytes, Memory>) -> Result<Again, RowsFault> {
     match spelled {
@@ -67,12 +68,9 @@ pub fn index_again(alloc: Global, bytes: &[u8], times: Times) -> Result<Again, R
     again_of(taken, index_rows(alloc, &index, times.writes))
 }
 
-/// A change is read and spelled, so many times each.
-pub fn change_again(alloc: Global, bytes: &[u8], times: Times) -> Result<Again, RowsFault> {
-    for _ in 1..times.reads {
-        read_change(alloc, bytes)?;
-    }
+/// A change is read and spelled.
+pub fn change_again(alloc: Global, bytes: &[u8]) -> Result<Again, RowsFault> {
     let (change, taken) = read_change(alloc, bytes)?;
     what_fits_keeps_to_the_form();
-    again_of(taken, change_rows(alloc, &change, times.writes))
+    again_of(taken, write_change(alloc, &change))
 }
