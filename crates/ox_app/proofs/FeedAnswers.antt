@@ -25,6 +25,7 @@ use Rattle.ox_app.proofs.FeedState.{HasAnswered, OwesAnswer}
 use Rattle.ox_app.specs.Headline.{OnlyOwn, RunsFeed}
 use Rattle.ox_app.specs.Show.{HearsNothing, ShowsFront, ShowsWhole}
 use Rattle.ox_app.specs.Status.{status_of}
+use Rattle.ox_app.specs.declared.status.Status.{Status}
 
 -- ---- hearings show nothing
 
@@ -131,15 +132,19 @@ module _ (first : Stack) where
     said = ap (λ (l : List (List ℕ)). concat l) (sym (replies_none turn_on index_on first));
   })
 
-  -- a run that hears nothing, since there is no memory for a chain
-  pub grows_unheard : (log : Option (List Event)) → Grows (RunsFeed (replies_on first) (status_of (Err Memory))) log log
-  grows_unheard log = grows_none (RunsFeed (replies_on first) (status_of (Err Memory))) log (record {
+  -- a run that hears nothing, and isn't done
+  pub grows_quiet : (status : Status) → (status ≡ ends.Done → ⊥) → (status ≡ ends.TooMuch → ⊥) → (log : Option (List Event)) → Grows (RunsFeed (replies_on first) status) log log
+  grows_quiet status undone bounded log = grows_none (RunsFeed (replies_on first) status) log (record {
     only = All-nil Own;
     shown = (concat (replies_on first (lines_in [])), refl);
-    whole = λ done. absurd (cc done);
+    whole = λ done. absurd (undone done);
     within = omega arith;
-    too_much = λ much. absurd (cc much);
+    too_much = λ much. absurd (bounded much);
   })
+
+  -- since there is no memory for a chain
+  pub grows_unheard : (log : Option (List Event)) → Grows (RunsFeed (replies_on first) (status_of (Err Memory))) log log
+  grows_unheard log = grows_quiet (status_of (Err Memory)) (λ done. cc done) (λ much. cc much) log
 
   -- a line is heard and carried out, and its answer is owed
   pub owes_answer : (lines lines' : Feed) (stack stack' : Stack) (answer : List ℕ) (x y : List Event)

@@ -1,4 +1,5 @@
 pub mod AskedLines
+pub mod Carrying
 pub mod CommandAnswers
 pub mod Crashes
 pub mod Done
@@ -8,10 +9,13 @@ pub mod FeedState
 pub mod FreshIndexing
 pub mod Images
 pub mod Migrating
+pub mod Opening
 pub mod Pieces
 pub mod Prefixes
 pub mod Serving
 pub mod Settled
+pub mod Statuses
 pub mod Stops
 pub mod Subcommands
 pub mod TalksOn
+pub mod Unmigrated

@@ -20,7 +20,7 @@ use Rattle.ox_app.specs.Show.{ShowsFront}
 use Rattle.ox_app.proofs.Images.{grows_from}
 
 -- two readings of the same files at version 1
-same_made : (standing : Result (Stack × ℕ) (OldFault Misfit)) (made made' : Stack × ℕ) → standing ≡ Ok made → standing ≡ Ok made' → made ≡ made'
+pub same_made : (standing : Result (Stack × ℕ) (OldFault Misfit)) (made made' : Stack × ℕ) → standing ≡ Ok made → standing ≡ Ok made' → made ≡ made'
 same_made standing made made' e f = cc (sym e ∙ f)
 
 module _ {S : Type 0} (means : Meanings S) where

@@ -69,6 +69,12 @@ piece_stops answer result e old mid new is none counted =
     stops_after ⊥ ⊥ (IsFailure result) old mid new none
     (stops_as ⊥ ⊥ (IsFailure answer) ⊥ ⊥ (IsFailure result) mid new (λ no. no) (λ no. no) (λ failed. subst IsFailure (sym is) tt) (own_showing answer mid new counted))
 
+-- a part stops for one reason
+pub stopped_as : {T : Type 0} (result : Result T Stop) (stop other : Stop) → result ≡ Err stop → IsErrOf result other → stop ≡ other
+stopped_as {T} result stop other is e =
+    let both : ◌≡◌ {A = Result T Stop} (Err stop) (Err other) = sym is ∙ e in
+    cc both
+
 -- ---- runs
 
 -- a run over a feed stopped as its stop says

@@ -3,7 +3,7 @@
 -- run ends, Show what is said of shown lines and of faults, Init and Unopened the lines of a making
 -- and of files that are no store, Query what a query shows, Serve what a server logs and a crash
 -- leaves of it, Drill the same of a drill, and Migrate of a migration. Fold and Apply are of single
--- lines, for the functions below `run`.
+-- lines, for the functions below `run`, and Carry of what a line asks for.
 pub mod Headline
 pub mod Promises
 pub mod Subcommands
@@ -17,3 +17,4 @@ pub mod Drill
 pub mod Migrate
 pub mod Fold
 pub mod Apply
+pub mod Carry

@@ -6,18 +6,20 @@ ghost use Rattle.ox_outside.specs.Crash.{AddsNothing};
 ghost use Rattle.ox_outside.specs.Runs.{LeavesOnly};
 ghost use Rattle.ox_gated.specs.Tail.{Holds};
 ghost use Rattle.ox_gated.specs.Writes.{OnlyWrites};
-ghost use Rattle.ox_model.specs.Replies.{after_turn, index_on, reply_by};
+ghost use Rattle.ox_model.specs.Replies.{index_on, reply_by};
 ghost use Rattle.ox_model.specs.Stack.{Stack, stack_after};
 ghost use Rattle.ox_files.specs.Stands.{stands};
 ghost use Rattle.ox_rules.specs.Text.{refusal_line};
 ghost use Rattle.ox_store.specs.Ready.{Leads, StandsForEither};
 ghost use Rattle.ox_app.specs.Apply.{CarriesOut, after_line};
+ghost use Rattle.ox_app.specs.Carry.{TakesTurn};
+ghost use Rattle.ox_app.specs.Fold.{turn_by};
 ghost use Rattle.ox_app.specs.Show.{DiskFails, EndsAtStop};
 ghost use Rattle.ox_app.specs.declared.stop.Stop.TheVariants as stops;
 
 use crate::line::asked_by;
 use crate::stop::Stop;
-use ox_bytes::{Bytes, Memory, Room};
+use ox_bytes::{Bytes, Room};
 use ox_feed::{Command, Line};
 use ox_gated::DiskFault;
 use ox_model::Refusal;
@@ -36,9 +38,10 @@ pub struct CarriedLine {
 }
 
 /// The store as it is, and the line of a refusal.
-fn refuse(alloc: Global, store: Store, refusal: Refusal) -> Result<CarriedLine, Memory>
+fn refuse(alloc: Global, store: Store, refusal: Refusal) -> Result<CarriedLine, Stop>
     ensures store { IfOk result (λ carried. carried.store ≡ store) }
     ensures answer { IfOk result (λ carried. carried.answer ≡ refusal_line refusal) }
+    ensures stops { IfErr result (λ stop. stop ≡ stops.Memory) }
 {
     let answer = refusal.line(alloc)?;
     Ok(CarriedLine { store, answer })
@@ -82,33 +85,35 @@ fn carry_command<S: Site>(
 ) -> Result<CarriedLine, Stop>
     requires holds { IsTrue (S.told site.old) → Holds S.Site store.tail site.old }
     requires few { store.commands < 2 ^ 64 - 1 }
-    ensures answer { IfOk result (λ carried.
-        carried.answer ≡ reply_by index_on (stack_after store.stack command.now)) }
-    ensures leads { IfOk result (λ carried.
-        carried.store.stack ≡ after_turn store.stack (stack_after store.stack command.now)) }
-    ensures one_more { IfOk result (λ carried. carried.store.commands ≤ store.commands + 1) }
-    ensures holds { IsTrue (S.told site.old)
-        → IfOk result (λ carried. Holds S.Site carried.store.tail site.new) }
-    ensures stands { IsTrue (S.told site.old) → stands (S.seen site.old) ≡ Ok store.stack
-        → IfOk result (λ carried. stands (S.seen site.new) ≡ Ok carried.store.stack) }
-    ensures any_moment { IsTrue (S.told site.old) → stands (S.seen site.old) ≡ Ok store.stack
-        → LeavesOnly S.Site site.old site.new (λ r.
-        StandsForEither store.stack (after_turn store.stack (stack_after store.stack command.now))
-        r.files) }
-    ensures out_of_memory { IsErrOf result Stop.Memory
-        → AddsNothing S.seen S.log S.may_leave site.old site.new }
-    ensures stops { IfErr result (λ stop. (stop ≡ stops.DiskFault) ⊎ (stop ≡ stops.Memory)) }
-    ensures failed { IsErrOf result Stop.DiskFault → DiskFails S.Site site.old site.new }
-    ensures counted { EndsAtStop result (S.counts site.old) (S.counts site.new) }
-    ensures writes { OnlyWrites S.Site site.old site.new }
+    ensures { TakesTurn S.Site store (stack_after store.stack command.now)
+        result site.old site.new }
 {
-    let room = Room::new(alloc, LONGEST_OK)?;
+    let Ok(room) = Room::new(alloc, LONGEST_OK) else {
+        return Err(Stop::Memory);
+    };
     match store.prepare(command) {
         Ok(ready) => commit(ready, room, site),
         Err(Kept { store, why }) => match why {
-            Why::Refused(refusal) => Ok(refuse(alloc, store, refusal)?),
+            Why::Refused(refusal) => refuse(alloc, store, refusal),
             Why::Memory => Err(Stop::Memory),
         },
+    }
+}
+
+/// Carries out what a line asks for: a command, or a refusal, which leaves the store as it is.
+fn carry_asked<S: Site>(
+    alloc: Global,
+    store: Store,
+    asked: Result<Command, Refusal>,
+    site: &mut S,
+) -> Result<CarriedLine, Stop>
+    requires holds { IsTrue (S.told site.old) → Holds S.Site store.tail site.old }
+    requires few { store.commands < 2 ^ 64 - 1 }
+    ensures { TakesTurn S.Site store (turn_by store.stack asked) result site.old site.new }
+{
+    match asked {
+        Ok(command) => carry_command(alloc, store, &command, site),
+        Err(refusal) => refuse(alloc, store, refusal),
     }
 }
 
@@ -144,8 +149,7 @@ pub fn carry_out<S: Site>(
     ensures writes { OnlyWrites S.Site site.old site.new }
 {
     match asked_by(alloc, line)? {
-        Some(Ok(command)) => Ok(Some(carry_command(alloc, store, &command, site)?)),
-        Some(Err(refusal)) => Ok(Some(refuse(alloc, store, refusal)?)),
+        Some(asked) => Ok(Some(carry_asked(alloc, store, asked, site)?)),
         None => Ok(None),
     }
 }

@@ -4,11 +4,18 @@ use Rattle.ox_model.specs.Replies.{after_on, replies_on}
 use Rattle.ox_model.specs.Stack.{Stack}
 use Rattle.ox_files.specs.Stands.{stands}
 use Rattle.ox_app.proofs.Images.{grows_from, looked_then_talked, memory_opens, opened_then_followed, same_stack, stopped_by_memory, stops_unopened, unopened_yet, says_nothing}
-use Rattle.ox_app.specs.Headline.{Leaves, StopsBefore}
+use Rattle.ox_app.specs.Headline.{Leaves, RunsFeed, StopsBefore}
 use Rattle.ox_outside.specs.Runs.{LeavesOnly}
 use Rattle.ox_app.proofs.Settled.{settled_talking}
 use Rattle.ox_app.proofs.Stops.{not_disk, opened_well, status_stops, unopened_stops}
+use Rattle.ox_outside.proofs.Calls.{calls_then}
+use Rattle.ox_outside.proofs.Counts.{then_rose}
+use Rattle.ox_outside.proofs.Log.{grows_same}
+use Rattle.ox_app.proofs.FeedAnswers.{grows_quiet}
+use Rattle.ox_app.proofs.Opening.{ends_run, no_misfit_stands, only_unopened, unopened_apply, unopened_disk, unopened_says}
+use Rattle.ox_app.proofs.Serving.{unserved_as}
 use Rattle.ox_app.specs.Show.{EndsAtFault}
+use Rattle.ox_app.specs.Status.{IsApplyStatus, status_of}
 use Rattle.ox_app.specs.declared.status.Status.{Status}
 use Rattle.ox_app.proofs.apply.apply.Goals as goal
 
@@ -69,3 +76,82 @@ returns-in-Ok-clause-stops g c =
 pub returns-in-Err-clause-stops : goal.returns-in-Err-clause-stops
 returns-in-Err-clause-stops g c =
     unopened_stops g.S.Site c.in-Err.fault c.explain.result c.args.site.now c.open.new.site c.explain.new.site c.explain.ensures.says c.in-Err.ensures.counted c.explain.ensures.counted
+
+pub returns-in-Ok-clause-feeds : goal.returns-in-Ok-clause-feeds
+returns-in-Ok-clause-feeds g c told stack stood =
+    let same = same_stack (stands (g.S.Site.seen c.args.site.now)) c.in-Ok.store.stack stack (c.in-Ok.ensures.stands told) stood in (
+      (λ is. (ends_run c.follow.result).opened (sym c.status.ensures ∙ is)),
+      subst (λ (s : Status). Grows (RunsFeed (replies_on stack) s) (g.S.Site.log c.args.site.now) (g.S.Site.log c.follow.new.site)) (sym c.status.ensures)
+          (subst (λ (s : Stack). Grows (RunsFeed (replies_on s) (status_of c.follow.result)) (g.S.Site.log c.args.site.now) (g.S.Site.log c.follow.new.site)) same
+          (grows_from (RunsFeed (replies_on c.in-Ok.store.stack) (status_of c.follow.result)) (g.S.Site.log c.args.site.now) (g.S.Site.log c.open.new.site) (g.S.Site.log c.follow.new.site) c.open.ensures.looks.nothing.as_logged c.follow.ensures.told)),
+    )
+
+pub returns-in-Ok-clause-unopened : goal.returns-in-Ok-clause-unopened
+returns-in-Ok-clause-unopened g c told misfit stood =
+    no_misfit_stands (stands (g.S.Site.seen c.args.site.now)) c.in-Ok.store.stack misfit (c.in-Ok.ensures.stands told) stood
+
+pub returns-in-Ok-clause-unsaid : goal.returns-in-Ok-clause-unsaid
+returns-in-Ok-clause-unsaid g c told misfit stood isnt =
+    no_misfit_stands (stands (g.S.Site.seen c.args.site.now)) c.in-Ok.store.stack misfit (c.in-Ok.ensures.stands told) stood
+
+pub returns-in-Ok-clause-looks : goal.returns-in-Ok-clause-looks
+returns-in-Ok-clause-looks g c told misfit stood =
+    no_misfit_stands (stands (g.S.Site.seen c.args.site.now)) c.in-Ok.store.stack misfit (c.in-Ok.ensures.stands told) stood
+
+pub returns-in-Ok-clause-no_store : goal.returns-in-Ok-clause-no_store
+returns-in-Ok-clause-no_store g c is = absurd ((ends_run c.follow.result).opened (sym c.status.ensures ∙ is))
+
+pub returns-in-Ok-clause-not_store : goal.returns-in-Ok-clause-not_store
+returns-in-Ok-clause-not_store g c is = absurd ((ends_run c.follow.result).opened (sym c.status.ensures ∙ is))
+
+pub returns-in-Ok-clause-status : goal.returns-in-Ok-clause-status
+returns-in-Ok-clause-status g c = subst IsApplyStatus (sym c.status.ensures) (ends_run c.follow.result).status
+
+pub returns-in-Ok-clause-hear_fault : goal.returns-in-Ok-clause-hear_fault
+returns-in-Ok-clause-hear_fault g c is =
+    let counts = g.S.Site.counts in
+    then_rose ((counts c.args.site.now).hear 0) ((counts c.open.new.site).hear 0) ((counts c.follow.new.site).hear 0) (c.open.ensures.looks.calls.none_fell.hear 0) (c.follow.ensures.hear_fault ((ends_run c.follow.result).hear (sym c.status.ensures ∙ is)))
+
+pub returns-in-Ok-clause-show_fault : goal.returns-in-Ok-clause-show_fault
+returns-in-Ok-clause-show_fault g c is =
+    let counts = g.S.Site.counts in
+    then_rose ((counts c.args.site.now).show 0) ((counts c.open.new.site).show 0) ((counts c.follow.new.site).show 0) (c.open.ensures.looks.calls.none_fell.show 0) (c.follow.ensures.show_fault ((ends_run c.follow.result).show (sym c.status.ensures ∙ is)))
+
+pub returns-in-Ok-clause-disk_fault : goal.returns-in-Ok-clause-disk_fault
+returns-in-Ok-clause-disk_fault g c is =
+    let counts = g.S.Site.counts in
+    then_rose (counts c.args.site.now).disk (counts c.open.new.site).disk (counts c.follow.new.site).disk (c.open.ensures.looks.calls.none_fell.disk) (c.follow.ensures.disk_fault ((ends_run c.follow.result).disk (sym c.status.ensures ∙ is)))
+
+pub returns-in-Ok-clause-calls : goal.returns-in-Ok-clause-calls
+returns-in-Ok-clause-calls g c = calls_then g.S.Site c.args.site.now c.open.new.site c.follow.new.site c.open.ensures.looks.calls c.follow.ensures.calls
+
+pub returns-in-Err-clause-feeds : goal.returns-in-Err-clause-feeds
+returns-in-Err-clause-feeds g c told stack stood =
+    let how = unserved_as g.S.Site (stands (g.S.Site.seen c.args.site.now)) stack c.in-Err.fault c.explain.result c.open.new.site c.explain.new.site stood (c.in-Err.ensures.not_store told) c.explain.ensures.says in
+    let only = (only_unopened c.explain.result c.explain.ensures.status) in (
+      how.opened,
+      grows_same (RunsFeed (replies_on stack) c.explain.result) (g.S.Site.log c.args.site.now) (g.S.Site.log c.args.site.now) (g.S.Site.log c.explain.new.site) (grows_quiet stack c.explain.result only.done only.much (g.S.Site.log c.args.site.now)) (how.logged ∙ c.open.ensures.looks.nothing.as_logged),
+    )
+
+pub returns-in-Err-clause-unopened : goal.returns-in-Err-clause-unopened
+returns-in-Err-clause-unopened g c told misfit stood = c.explain.ensures.status
+
+pub returns-in-Err-clause-not_store : goal.returns-in-Err-clause-not_store
+returns-in-Err-clause-not_store g c is =
+    unopened_says g.S.Site c.in-Err.fault c.explain.result c.args.site.now c.open.new.site c.explain.new.site c.open.ensures.looks c.in-Err.ensures.not_store c.explain.ensures.says is
+
+pub returns-in-Err-clause-status : goal.returns-in-Err-clause-status
+returns-in-Err-clause-status g c = unopened_apply c.explain.result c.explain.ensures.status
+
+pub returns-in-Err-clause-hear_fault : goal.returns-in-Err-clause-hear_fault
+returns-in-Err-clause-hear_fault g c is = absurd ((only_unopened c.explain.result c.explain.ensures.status).hear is)
+
+pub returns-in-Err-clause-show_fault : goal.returns-in-Err-clause-show_fault
+returns-in-Err-clause-show_fault g c is = absurd ((only_unopened c.explain.result c.explain.ensures.status).show is)
+
+pub returns-in-Err-clause-disk_fault : goal.returns-in-Err-clause-disk_fault
+returns-in-Err-clause-disk_fault g c is =
+    unopened_disk g.S.Site c.in-Err.fault c.explain.result c.args.site.now c.open.new.site c.explain.new.site c.explain.ensures.talks.calls c.in-Err.ensures.failed c.explain.ensures.says is
+
+pub returns-in-Err-clause-calls : goal.returns-in-Err-clause-calls
+returns-in-Err-clause-calls g c = calls_then g.S.Site c.args.site.now c.open.new.site c.explain.new.site c.open.ensures.looks.calls c.explain.ensures.talks.calls

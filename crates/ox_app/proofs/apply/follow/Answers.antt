@@ -1,4 +1,4 @@
-use Rattle.std.proofs.Common.{◌∙◌, ap, arith, subst, sym}
+use Rattle.std.proofs.Common.{◌≡◌, ◌∙◌, ap, arith, subst, sym}
 use Rattle.std.specs.Prelude.{Err}
 use Rattle.std.proofs.lemmas.Result.{err_from_is_err_and}
 use Rattle.ox_outside.specs.Log.{Grows}
@@ -6,10 +6,11 @@ use Rattle.ox_feed.specs.Feed.{Feed, bytes_left}
 use Rattle.ox_app.proofs.FeedAnswers.{carried_none, grows_broken, grows_carried}
 use Rattle.ox_app.proofs.Crashes.{grows_owing_store, grows_stopped_store, grows_stops, same_stop, grows_whole_store, holds_on, stands_on, survived_line, survived_none, survived_shown}
 use Rattle.ox_app.specs.declared.stop.Stop.TheVariants.{Memory}
+use Rattle.ox_app.specs.declared.stop.Stop.TheVariants as stops
 use Rattle.ox_app.proofs.FeedState.{HasAnswered}
 use Rattle.ox_outside.proofs.Calls.{calls_then, no_call}
 use Rattle.ox_outside.proofs.Counts.{no_fault_then, no_fault_yet, stops_at_none, then_rose}
-use Rattle.ox_app.proofs.Stops.{all_shown, part_stops, part_went, show_stops}
+use Rattle.ox_app.proofs.Stops.{all_shown, part_stops, part_went, show_stops, stopped_as}
 use Rattle.ox_app.proofs.apply.follow.Goals as goal
 
 pub loop-lines-init : goal.loop-lines-init
@@ -166,3 +167,61 @@ returns-in_err-carried-clause-calls g c =
 pub returns-clause-calls : goal.returns-clause-calls
 returns-clause-calls g c =
     calls_then g.S.Site c.args.site.now c.loop-lines.site c.next_carried.new.site c.loop-lines.invariant.1 c.next_carried.ensures.calls
+
+pub returns-in_err-carried-clause-hear_fault : goal.returns-in_err-carried-clause-hear_fault
+returns-in_err-carried-clause-hear_fault g c is =
+    let p = err_from_is_err_and c.from_residual.result c.from_residual.ensures.1 in
+    let counts = g.S.Site.counts in
+    then_rose ((counts c.args.site.now).hear 0) ((counts c.loop-lines.site).hear 0) ((counts c.next_carried.new.site).hear 0) (c.loop-lines.invariant.1.none_fell.hear 0)
+    (c.in_err-carried.ensures.hear_fault (ap Err (stopped_as c.from_residual.result c.in_err-carried.field-0.0 stops.HearFault (p.1 ∙ ap Err p.2) is)))
+
+pub returns-in_err-carried-clause-disk_fault : goal.returns-in_err-carried-clause-disk_fault
+returns-in_err-carried-clause-disk_fault g c is =
+    let p = err_from_is_err_and c.from_residual.result c.from_residual.ensures.1 in
+    let counts = g.S.Site.counts in
+    then_rose (counts c.args.site.now).disk (counts c.loop-lines.site).disk (counts c.next_carried.new.site).disk (c.loop-lines.invariant.1.none_fell.disk)
+    (c.in_err-carried.ensures.disk_fault (ap Err (stopped_as c.from_residual.result c.in_err-carried.field-0.0 stops.DiskFault (p.1 ∙ ap Err p.2) is)))
+
+pub returns-in_err-carried-clause-show_fault : goal.returns-in_err-carried-clause-show_fault
+returns-in_err-carried-clause-show_fault g c is =
+    let p = err_from_is_err_and c.from_residual.result c.from_residual.ensures.1 in
+    absurd (c.in_err-carried.ensures.no_show_fault (ap Err (stopped_as c.from_residual.result c.in_err-carried.field-0.0 stops.ShowFault (p.1 ∙ ap Err p.2) is)))
+
+pub returns-in_err-show_all-clause-hear_fault : goal.returns-in_err-show_all-clause-hear_fault
+returns-in_err-show_all-clause-hear_fault g c is =
+    let p = err_from_is_err_and c.from_residual-in_err-show_all.result c.from_residual-in_err-show_all.ensures.1 in
+    let same : stops.ShowFault ≡ stops.HearFault = stopped_as c.from_residual-in_err-show_all.result stops.ShowFault stops.HearFault (p.1 ∙ ap Err p.2) is in
+    absurd (cc same)
+
+pub returns-in_err-show_all-clause-disk_fault : goal.returns-in_err-show_all-clause-disk_fault
+returns-in_err-show_all-clause-disk_fault g c is =
+    let p = err_from_is_err_and c.from_residual-in_err-show_all.result c.from_residual-in_err-show_all.ensures.1 in
+    let same : stops.ShowFault ≡ stops.DiskFault = stopped_as c.from_residual-in_err-show_all.result stops.ShowFault stops.DiskFault (p.1 ∙ ap Err p.2) is in
+    absurd (cc same)
+
+pub returns-in_err-show_all-clause-settled : goal.returns-in_err-show_all-clause-settled
+returns-in_err-show_all-clause-settled g c told is =
+    let p = err_from_is_err_and c.from_residual-in_err-show_all.result c.from_residual-in_err-show_all.ensures.1 in
+    let same : stops.ShowFault ≡ stops.Memory = stopped_as c.from_residual-in_err-show_all.result stops.ShowFault stops.Memory (p.1 ∙ ap Err p.2) is in
+    absurd (cc same)
+
+pub returns-in_err-show_all-clause-out_of_memory : goal.returns-in_err-show_all-clause-out_of_memory
+returns-in_err-show_all-clause-out_of_memory g c told stood is =
+    let p = err_from_is_err_and c.from_residual-in_err-show_all.result c.from_residual-in_err-show_all.ensures.1 in
+    let same : stops.ShowFault ≡ stops.Memory = stopped_as c.from_residual-in_err-show_all.result stops.ShowFault stops.Memory (p.1 ∙ ap Err p.2) is in
+    absurd (cc same)
+
+pub returns-clause-hear_fault : goal.returns-clause-hear_fault
+returns-clause-hear_fault g c is = absurd (cc is)
+
+pub returns-clause-show_fault : goal.returns-clause-show_fault
+returns-clause-show_fault g c is = absurd (cc is)
+
+pub returns-clause-disk_fault : goal.returns-clause-disk_fault
+returns-clause-disk_fault g c is = absurd (cc is)
+
+pub returns-clause-settled : goal.returns-clause-settled
+returns-clause-settled g c told is = absurd (cc is)
+
+pub returns-clause-out_of_memory : goal.returns-clause-out_of_memory
+returns-clause-out_of_memory g c told stood is = absurd (cc is)

@@ -1,4 +1,4 @@
-use Rattle.std.proofs.Common.{◌∙◌, ap, subst, sym}
+use Rattle.std.proofs.Common.{◌≡◌, ◌∙◌, ap, subst, sym}
 use Rattle.std.specs.Prelude.{Err}
 use Rattle.std.proofs.lemmas.Result.{err_from_is_err_and}
 use Rattle.ox_outside.specs.Log.{Grows}
@@ -11,8 +11,10 @@ use Rattle.ox_app.proofs.FeedAnswers.{carried_none, grows_broken, grows_carried,
 use Rattle.ox_app.proofs.TalksOn.{talks_on}
 use Rattle.ox_app.proofs.FeedState.{HasAnswered}
 use Rattle.ox_outside.proofs.OnlyTalks.{talks_none}
-use Rattle.ox_outside.proofs.Counts.{no_fault_then, no_fault_yet, stops_at_none}
-use Rattle.ox_app.proofs.Stops.{all_shown, part_stops, part_went, show_stops}
+use Rattle.ox_outside.proofs.Calls.{calls_then}
+use Rattle.ox_outside.proofs.Counts.{no_fault_then, no_fault_yet, stops_at_none, then_rose}
+use Rattle.ox_app.specs.declared.stop.Stop.TheVariants as stops
+use Rattle.ox_app.proofs.Stops.{all_shown, part_stops, part_went, show_stops, stopped_as}
 use Rattle.ox_app.proofs.fold.fold.Goals as goal
 
 pub loop-chain-init : goal.loop-chain-init
@@ -110,3 +112,71 @@ pub returns-clause-talks : goal.returns-clause-talks
 returns-clause-talks g c =
     talks_on g.S.Site _ _ c.args.site.now c.loop-chain.site c.next_answer.new.site
     c.loop-chain.invariant.1 c.loop-chain.invariant.0 c.next_answer.ensures.talks
+
+pub returns-in_err-chain-clause-hear_fault : goal.returns-in_err-chain-clause-hear_fault
+returns-in_err-chain-clause-hear_fault g c is =
+    let p = err_from_is_err_and c.from_residual.result c.from_residual.ensures.1 in
+    let same : stops.Memory ≡ stops.HearFault = stopped_as c.from_residual.result stops.Memory stops.HearFault (p.1 ∙ ap Err p.2) is in
+    absurd (cc same)
+
+pub returns-in_err-chain-clause-show_fault : goal.returns-in_err-chain-clause-show_fault
+returns-in_err-chain-clause-show_fault g c is =
+    let p = err_from_is_err_and c.from_residual.result c.from_residual.ensures.1 in
+    let same : stops.Memory ≡ stops.ShowFault = stopped_as c.from_residual.result stops.Memory stops.ShowFault (p.1 ∙ ap Err p.2) is in
+    absurd (cc same)
+
+pub returns-in_err-chain-clause-no_disk_fault : goal.returns-in_err-chain-clause-no_disk_fault
+returns-in_err-chain-clause-no_disk_fault g c is =
+    let p = err_from_is_err_and c.from_residual.result c.from_residual.ensures.1 in
+    let same : stops.Memory ≡ stops.DiskFault = stopped_as c.from_residual.result stops.Memory stops.DiskFault (p.1 ∙ ap Err p.2) is in
+    absurd (cc same)
+
+pub returns-in_err-chain-clause-counted : goal.returns-in_err-chain-clause-counted
+returns-in_err-chain-clause-counted g c = stops_at_none _ _ _ _ _ (no_fault_yet (g.S.Site.counts c.args.site.now))
+
+pub returns-in_err-chain-clause-talks : goal.returns-in_err-chain-clause-talks
+returns-in_err-chain-clause-talks g c = talks_none g.S.Site g.met.S.Site.only_now g.met.S.Site.logs_now Anything c.args.site.now tt
+
+pub returns-in_err-answer-clause-hear_fault : goal.returns-in_err-answer-clause-hear_fault
+returns-in_err-answer-clause-hear_fault g c is =
+    let p = err_from_is_err_and c.from_residual-in_err-answer.result c.from_residual-in_err-answer.ensures.1 in
+    let counts = g.S.Site.counts in
+    then_rose ((counts c.args.site.now).hear 0) ((counts c.loop-chain.site).hear 0) ((counts c.next_answer.new.site).hear 0) (c.loop-chain.invariant.1.calls.none_fell.hear 0)
+    (c.in_err-answer.ensures.hear_fault (ap Err (stopped_as c.from_residual-in_err-answer.result c.in_err-answer.field-0.0 stops.HearFault (p.1 ∙ ap Err p.2) is)))
+
+pub returns-in_err-answer-clause-show_fault : goal.returns-in_err-answer-clause-show_fault
+returns-in_err-answer-clause-show_fault g c is =
+    let p = err_from_is_err_and c.from_residual-in_err-answer.result c.from_residual-in_err-answer.ensures.1 in
+    absurd (c.in_err-answer.ensures.no_show_fault (ap Err (stopped_as c.from_residual-in_err-answer.result c.in_err-answer.field-0.0 stops.ShowFault (p.1 ∙ ap Err p.2) is)))
+
+pub returns-in_err-answer-clause-no_disk_fault : goal.returns-in_err-answer-clause-no_disk_fault
+returns-in_err-answer-clause-no_disk_fault g c is =
+    let p = err_from_is_err_and c.from_residual-in_err-answer.result c.from_residual-in_err-answer.ensures.1 in
+    c.in_err-answer.ensures.no_disk_fault (ap Err (stopped_as c.from_residual-in_err-answer.result c.in_err-answer.field-0.0 stops.DiskFault (p.1 ∙ ap Err p.2) is))
+
+pub returns-in_err-show_all-clause-hear_fault : goal.returns-in_err-show_all-clause-hear_fault
+returns-in_err-show_all-clause-hear_fault g c is =
+    let p = err_from_is_err_and c.from_residual-in_err-show_all.result c.from_residual-in_err-show_all.ensures.1 in
+    let same : stops.ShowFault ≡ stops.HearFault = stopped_as c.from_residual-in_err-show_all.result stops.ShowFault stops.HearFault (p.1 ∙ ap Err p.2) is in
+    absurd (cc same)
+
+pub returns-in_err-show_all-clause-no_disk_fault : goal.returns-in_err-show_all-clause-no_disk_fault
+returns-in_err-show_all-clause-no_disk_fault g c is =
+    let p = err_from_is_err_and c.from_residual-in_err-show_all.result c.from_residual-in_err-show_all.ensures.1 in
+    let same : stops.ShowFault ≡ stops.DiskFault = stopped_as c.from_residual-in_err-show_all.result stops.ShowFault stops.DiskFault (p.1 ∙ ap Err p.2) is in
+    absurd (cc same)
+
+pub returns-in_err-show_all-clause-show_fault : goal.returns-in_err-show_all-clause-show_fault
+returns-in_err-show_all-clause-show_fault g c is =
+    let counts = g.S.Site.counts in
+    let so_far = calls_then g.S.Site c.args.site.now c.loop-chain.site c.next_answer.new.site c.loop-chain.invariant.1.calls c.next_answer.ensures.talks.calls in
+    then_rose ((counts c.args.site.now).show 0) ((counts c.next_answer.new.site).show 0) ((counts c.show_all.new.site).show 0) (so_far.none_fell.show 0) c.in_err-show_all.ensures.failed
+
+pub returns-clause-hear_fault : goal.returns-clause-hear_fault
+returns-clause-hear_fault g c is = absurd (cc is)
+
+pub returns-clause-show_fault : goal.returns-clause-show_fault
+returns-clause-show_fault g c is = absurd (cc is)
+
+pub returns-clause-no_disk_fault : goal.returns-clause-no_disk_fault
+returns-clause-no_disk_fault g c is = absurd (cc is)

@@ -13,7 +13,7 @@ use Rattle.ox_app.specs.Fold.{fold_depth}
 use Rattle.ox_app.specs.Headline.{RunsFeed, StopsBefore, stack_after}
 use Rattle.ox_app.specs.Init.{MakesFirst}
 use Rattle.ox_app.specs.Query.{query_body}
-use Rattle.ox_app.specs.Serve.{RunsServer}
+use Rattle.ox_app.specs.Serve.{DoorFails, RunsServer}
 use Rattle.ox_app.specs.Show.{DiskFails, EndsAtFault, EndsDone, HearFails, ShowFails, ShowsText}
 use Rattle.ox_app.specs.Status.{IsFoldStatus, status_of}
 use Rattle.ox_app.specs.declared.status.Status.{Status}
@@ -23,6 +23,7 @@ use Rattle.ox_app.proofs.FreshIndexing.{apply_refuses, apply_writes, ends_done, 
 use Rattle.ox_outside.proofs.Counts.{no_fault_yet}
 use Rattle.ox_app.proofs.Serving.{grows_of_machine, serve_refuses, serve_writes, serving_of_machine, turns_same}
 use Rattle.ox_app.proofs.Settled.{said_of_each}
+use Rattle.ox_app.proofs.Statuses.{migrate_done, not_apply, not_fold, not_init, not_migrate, not_query, not_serve, serve_done}
 use Rattle.ox_app.proofs.Stops.{said_stops, status_stops}
 use Rattle.ox_app.specs.declared.status.Status.TheVariants as ends
 use Rattle.ox_app.proofs.program.run.Goals as goal
@@ -184,3 +185,296 @@ returns-in-Drill-clause-no_image g c =
 
 pub returns-in-Migrate-clause-migrates : goal.returns-in-Migrate-clause-migrates
 returns-in-Migrate-clause-migrates g c words stack commands opened = c.migrate.ensures.shows opened.told stack commands opened.stands_for
+
+pub returns-in-Fold-clause-not_empty : goal.returns-in-Fold-clause-not_empty
+returns-in-Fold-clause-not_empty g c is = absurd ((not_fold c.status.result (subst IsFoldStatus (sym c.status.ensures) (fold_ends c.fold.result c.fold.ensures.no_disk_fault))).not_empty is)
+
+pub returns-in-Fold-clause-only_files : goal.returns-in-Fold-clause-only_files
+returns-in-Fold-clause-only_files g c told is = absurd ((not_fold c.status.result (subst IsFoldStatus (sym c.status.ensures) (fold_ends c.fold.result c.fold.ensures.no_disk_fault))).not_empty is)
+
+pub returns-in-Fold-clause-old_command : goal.returns-in-Fold-clause-old_command
+returns-in-Fold-clause-old_command g c is = absurd ((not_fold c.status.result (subst IsFoldStatus (sym c.status.ensures) (fold_ends c.fold.result c.fold.ensures.no_disk_fault))).old is)
+
+pub returns-in-Fold-clause-door_fault : goal.returns-in-Fold-clause-door_fault
+returns-in-Fold-clause-door_fault g c is = absurd ((not_fold c.status.result (subst IsFoldStatus (sym c.status.ensures) (fold_ends c.fold.result c.fold.ensures.no_disk_fault))).door is)
+
+pub returns-in-Fold-clause-disk_fault : goal.returns-in-Fold-clause-disk_fault
+returns-in-Fold-clause-disk_fault g c is = absurd ((not_fold c.status.result (subst IsFoldStatus (sym c.status.ensures) (fold_ends c.fold.result c.fold.ensures.no_disk_fault))).disk is)
+
+pub returns-in-Fold-clause-not_store : goal.returns-in-Fold-clause-not_store
+returns-in-Fold-clause-not_store g c others is = absurd ((not_fold c.status.result (subst IsFoldStatus (sym c.status.ensures) (fold_ends c.fold.result c.fold.ensures.no_disk_fault))).not_store is)
+
+pub returns-in-Fold-clause-no_old_store : goal.returns-in-Fold-clause-no_old_store
+returns-in-Fold-clause-no_old_store g c words is = absurd ((not_fold c.status.result (subst IsFoldStatus (sym c.status.ensures) (fold_ends c.fold.result c.fold.ensures.no_disk_fault))).not_store is)
+
+pub returns-in-Init-clause-old_command : goal.returns-in-Init-clause-old_command
+returns-in-Init-clause-old_command g c is = absurd ((not_init c.init.result c.init.ensures.status).old is)
+
+pub returns-in-Init-clause-door_fault : goal.returns-in-Init-clause-door_fault
+returns-in-Init-clause-door_fault g c is = absurd ((not_init c.init.result c.init.ensures.status).door is)
+
+pub returns-in-Init-clause-hear_fault : goal.returns-in-Init-clause-hear_fault
+returns-in-Init-clause-hear_fault g c is = absurd ((not_init c.init.result c.init.ensures.status).hear is)
+
+pub returns-in-Init-clause-not_store : goal.returns-in-Init-clause-not_store
+returns-in-Init-clause-not_store g c others is = absurd ((not_init c.init.result c.init.ensures.status).not_store is)
+
+pub returns-in-Init-clause-no_old_store : goal.returns-in-Init-clause-no_old_store
+returns-in-Init-clause-no_old_store g c words is = absurd ((not_init c.init.result c.init.ensures.status).not_store is)
+
+pub returns-in-Init-clause-disk_fault : goal.returns-in-Init-clause-disk_fault
+returns-in-Init-clause-disk_fault g c is = c.init.ensures.disk_fault is
+
+pub returns-in-Init-clause-show_fault : goal.returns-in-Init-clause-show_fault
+returns-in-Init-clause-show_fault g c is = c.init.ensures.show_fault is
+
+pub returns-in-Init-clause-stops : goal.returns-in-Init-clause-stops
+returns-in-Init-clause-stops g c = c.init.ensures.stops
+
+pub returns-in-Init-clause-calls : goal.returns-in-Init-clause-calls
+returns-in-Init-clause-calls g c = c.init.ensures.calls
+
+pub returns-in-Apply-clause-not_empty : goal.returns-in-Apply-clause-not_empty
+returns-in-Apply-clause-not_empty g c is = absurd ((not_apply c.apply.result c.apply.ensures.status).not_empty is)
+
+pub returns-in-Apply-clause-only_files : goal.returns-in-Apply-clause-only_files
+returns-in-Apply-clause-only_files g c told is = absurd ((not_apply c.apply.result c.apply.ensures.status).not_empty is)
+
+pub returns-in-Apply-clause-old_command : goal.returns-in-Apply-clause-old_command
+returns-in-Apply-clause-old_command g c is = absurd ((not_apply c.apply.result c.apply.ensures.status).old is)
+
+pub returns-in-Apply-clause-door_fault : goal.returns-in-Apply-clause-door_fault
+returns-in-Apply-clause-door_fault g c is = absurd ((not_apply c.apply.result c.apply.ensures.status).door is)
+
+pub returns-in-Apply-clause-disk_fault : goal.returns-in-Apply-clause-disk_fault
+returns-in-Apply-clause-disk_fault g c is = c.apply.ensures.disk_fault is
+
+pub returns-in-Apply-clause-show_fault : goal.returns-in-Apply-clause-show_fault
+returns-in-Apply-clause-show_fault g c is = c.apply.ensures.show_fault is
+
+pub returns-in-Apply-clause-hear_fault : goal.returns-in-Apply-clause-hear_fault
+returns-in-Apply-clause-hear_fault g c is = c.apply.ensures.hear_fault is
+
+pub returns-in-Apply-clause-stops : goal.returns-in-Apply-clause-stops
+returns-in-Apply-clause-stops g c = c.apply.ensures.stops
+
+pub returns-in-Apply-clause-calls : goal.returns-in-Apply-clause-calls
+returns-in-Apply-clause-calls g c = c.apply.ensures.calls
+
+pub returns-in-Query-clause-not_empty : goal.returns-in-Query-clause-not_empty
+returns-in-Query-clause-not_empty g c is = absurd ((not_query c.query.result c.query.ensures.status).not_empty is)
+
+pub returns-in-Query-clause-only_files : goal.returns-in-Query-clause-only_files
+returns-in-Query-clause-only_files g c told is = absurd ((not_query c.query.result c.query.ensures.status).not_empty is)
+
+pub returns-in-Query-clause-old_command : goal.returns-in-Query-clause-old_command
+returns-in-Query-clause-old_command g c is = absurd ((not_query c.query.result c.query.ensures.status).old is)
+
+pub returns-in-Query-clause-door_fault : goal.returns-in-Query-clause-door_fault
+returns-in-Query-clause-door_fault g c is = absurd ((not_query c.query.result c.query.ensures.status).door is)
+
+pub returns-in-Query-clause-hear_fault : goal.returns-in-Query-clause-hear_fault
+returns-in-Query-clause-hear_fault g c is = absurd ((not_query c.query.result c.query.ensures.status).hear is)
+
+pub returns-in-Query-clause-disk_fault : goal.returns-in-Query-clause-disk_fault
+returns-in-Query-clause-disk_fault g c is = c.query.ensures.disk_fault is
+
+pub returns-in-Query-clause-show_fault : goal.returns-in-Query-clause-show_fault
+returns-in-Query-clause-show_fault g c is = c.query.ensures.show_fault is
+
+pub returns-in-Query-clause-stops : goal.returns-in-Query-clause-stops
+returns-in-Query-clause-stops g c = c.query.ensures.stops
+
+pub returns-in-Query-clause-calls : goal.returns-in-Query-clause-calls
+returns-in-Query-clause-calls g c = c.query.ensures.calls
+
+pub returns-in-Serve-clause-not_empty : goal.returns-in-Serve-clause-not_empty
+returns-in-Serve-clause-not_empty g c is = absurd ((not_serve c.serve.result c.serve.ensures.status).not_empty is)
+
+pub returns-in-Serve-clause-only_files : goal.returns-in-Serve-clause-only_files
+returns-in-Serve-clause-only_files g c told is = absurd ((not_serve c.serve.result c.serve.ensures.status).not_empty is)
+
+pub returns-in-Serve-clause-old_command : goal.returns-in-Serve-clause-old_command
+returns-in-Serve-clause-old_command g c is = absurd ((not_serve c.serve.result c.serve.ensures.status).old is)
+
+pub returns-in-Serve-clause-hear_fault : goal.returns-in-Serve-clause-hear_fault
+returns-in-Serve-clause-hear_fault g c is = absurd ((not_serve c.serve.result c.serve.ensures.status).hear is)
+
+pub returns-in-Serve-clause-disk_fault : goal.returns-in-Serve-clause-disk_fault
+returns-in-Serve-clause-disk_fault g c is = c.serve.ensures.disk_fault is
+
+pub returns-in-Serve-clause-show_fault : goal.returns-in-Serve-clause-show_fault
+returns-in-Serve-clause-show_fault g c is = c.serve.ensures.show_fault is
+
+pub returns-in-Serve-clause-door_fault : goal.returns-in-Serve-clause-door_fault
+returns-in-Serve-clause-door_fault g c is = c.serve.ensures.door_fault is
+
+pub returns-in-Serve-clause-stops : goal.returns-in-Serve-clause-stops
+returns-in-Serve-clause-stops g c = c.serve.ensures.stops
+
+pub returns-in-Serve-clause-calls : goal.returns-in-Serve-clause-calls
+returns-in-Serve-clause-calls g c = c.serve.ensures.calls
+
+pub returns-in-Drill-clause-old_command : goal.returns-in-Drill-clause-old_command
+returns-in-Drill-clause-old_command g c is = absurd ((not_init c.drill.result c.drill.ensures.status).old is)
+
+pub returns-in-Drill-clause-door_fault : goal.returns-in-Drill-clause-door_fault
+returns-in-Drill-clause-door_fault g c is = absurd ((not_init c.drill.result c.drill.ensures.status).door is)
+
+pub returns-in-Drill-clause-hear_fault : goal.returns-in-Drill-clause-hear_fault
+returns-in-Drill-clause-hear_fault g c is = absurd ((not_init c.drill.result c.drill.ensures.status).hear is)
+
+pub returns-in-Drill-clause-not_store : goal.returns-in-Drill-clause-not_store
+returns-in-Drill-clause-not_store g c others is = absurd ((not_init c.drill.result c.drill.ensures.status).not_store is)
+
+pub returns-in-Drill-clause-no_old_store : goal.returns-in-Drill-clause-no_old_store
+returns-in-Drill-clause-no_old_store g c words is = absurd ((not_init c.drill.result c.drill.ensures.status).not_store is)
+
+pub returns-in-Drill-clause-disk_fault : goal.returns-in-Drill-clause-disk_fault
+returns-in-Drill-clause-disk_fault g c is = c.drill.ensures.disk_fault is
+
+pub returns-in-Drill-clause-show_fault : goal.returns-in-Drill-clause-show_fault
+returns-in-Drill-clause-show_fault g c is = c.drill.ensures.show_fault is
+
+pub returns-in-Drill-clause-stops : goal.returns-in-Drill-clause-stops
+returns-in-Drill-clause-stops g c = c.drill.ensures.stops
+
+pub returns-in-Drill-clause-calls : goal.returns-in-Drill-clause-calls
+returns-in-Drill-clause-calls g c = c.drill.ensures.calls
+
+pub returns-in-Migrate-clause-not_empty : goal.returns-in-Migrate-clause-not_empty
+returns-in-Migrate-clause-not_empty g c is = absurd ((not_migrate c.migrate.result c.migrate.ensures.status).not_empty is)
+
+pub returns-in-Migrate-clause-only_files : goal.returns-in-Migrate-clause-only_files
+returns-in-Migrate-clause-only_files g c told is = absurd ((not_migrate c.migrate.result c.migrate.ensures.status).not_empty is)
+
+pub returns-in-Migrate-clause-door_fault : goal.returns-in-Migrate-clause-door_fault
+returns-in-Migrate-clause-door_fault g c is = absurd ((not_migrate c.migrate.result c.migrate.ensures.status).door is)
+
+pub returns-in-Migrate-clause-hear_fault : goal.returns-in-Migrate-clause-hear_fault
+returns-in-Migrate-clause-hear_fault g c is = absurd ((not_migrate c.migrate.result c.migrate.ensures.status).hear is)
+
+pub returns-in-Migrate-clause-disk_fault : goal.returns-in-Migrate-clause-disk_fault
+returns-in-Migrate-clause-disk_fault g c is = c.migrate.ensures.disk_fault is
+
+pub returns-in-Migrate-clause-show_fault : goal.returns-in-Migrate-clause-show_fault
+returns-in-Migrate-clause-show_fault g c is = c.migrate.ensures.show_fault is
+
+pub returns-in-Migrate-clause-stops : goal.returns-in-Migrate-clause-stops
+returns-in-Migrate-clause-stops g c = c.migrate.ensures.stops
+
+pub returns-in-Migrate-clause-calls : goal.returns-in-Migrate-clause-calls
+returns-in-Migrate-clause-calls g c = c.migrate.ensures.calls
+
+pub returns-in-Init-clause-not_empty : goal.returns-in-Init-clause-not_empty
+returns-in-Init-clause-not_empty g c is = c.init.ensures.not_empty is
+
+pub returns-in-Init-clause-only_files : goal.returns-in-Init-clause-only_files
+returns-in-Init-clause-only_files g c told is = c.init.ensures.only_empty told is
+
+pub returns-in-Drill-clause-not_empty : goal.returns-in-Drill-clause-not_empty
+returns-in-Drill-clause-not_empty g c is = c.drill.ensures.not_empty is
+
+pub returns-in-Drill-clause-only_files : goal.returns-in-Drill-clause-only_files
+returns-in-Drill-clause-only_files g c told is = c.drill.ensures.only_files told is
+
+pub returns-in-Apply-clause-not_store : goal.returns-in-Apply-clause-not_store
+returns-in-Apply-clause-not_store g c others is = c.apply.ensures.not_store is
+
+pub returns-in-Query-clause-not_store : goal.returns-in-Query-clause-not_store
+returns-in-Query-clause-not_store g c others is = c.query.ensures.not_store is
+
+pub returns-in-Serve-clause-not_store : goal.returns-in-Serve-clause-not_store
+returns-in-Serve-clause-not_store g c others is = c.serve.ensures.not_store is
+
+pub returns-in-Serve-clause-serve_memory : goal.returns-in-Serve-clause-serve_memory
+returns-in-Serve-clause-serve_memory g c turns fits words is = c.serve.ensures.memory is
+
+pub returns-in-Serve-clause-serve_status : goal.returns-in-Serve-clause-serve_status
+returns-in-Serve-clause-serve_status g c turns fits words = c.serve.ensures.status
+
+pub returns-in-Serve-clause-serve_completes : goal.returns-in-Serve-clause-serve_completes
+returns-in-Serve-clause-serve_completes g c turns fits words machine opened no_disk no_door no_show =
+    serve_done c.serve.result (DiskFails g.S.Site c.args.site.now c.serve.new.site) (DoorFails g.S.Site c.args.site.now c.serve.new.site) (ShowFails g.S.Site c.args.site.now c.serve.new.site) c.serve.ensures.status
+    (c.serve.ensures.serves opened.told (stack_of machine) opened.stands_for).0 c.serve.ensures.disk_fault c.serve.ensures.door_fault c.serve.ensures.show_fault no_disk no_door no_show
+
+pub returns-in-Drill-clause-drill_status : goal.returns-in-Drill-clause-drill_status
+returns-in-Drill-clause-drill_status g c n fits words = c.drill.ensures.status
+
+pub returns-in-Drill-clause-drill_completes : goal.returns-in-Drill-clause-drill_completes
+returns-in-Drill-clause-drill_completes g c told n fits words empty no_disk no_show =
+    text_done c.drill.result ends.NotEmpty (DiskFails g.S.Site c.args.site.now c.drill.new.site) (ShowFails g.S.Site c.args.site.now c.drill.new.site) c.drill.ensures.status (λ is. c.drill.ensures.only_files told is empty) c.drill.ensures.disk_fault c.drill.ensures.show_fault no_disk no_show
+
+pub returns-in-Migrate-clause-migrated : goal.returns-in-Migrate-clause-migrated
+returns-in-Migrate-clause-migrated g c words stack commands opened is = c.migrate.ensures.migrated opened.told stack commands opened.stands_for is
+
+pub returns-in-Migrate-clause-migrate_survives : goal.returns-in-Migrate-clause-migrate_survives
+returns-in-Migrate-clause-migrate_survives g c words stack commands opened = c.migrate.ensures.survives opened.told stack commands opened.stands_for
+
+pub returns-in-Migrate-clause-unmigrated : goal.returns-in-Migrate-clause-unmigrated
+returns-in-Migrate-clause-unmigrated g c words fault opened = c.migrate.ensures.unmigrated opened.told fault opened.fails
+
+pub returns-in-Migrate-clause-migrate_unsaid : goal.returns-in-Migrate-clause-migrate_unsaid
+returns-in-Migrate-clause-migrate_unsaid g c words fault opened store old = c.migrate.ensures.unsaid opened.told fault opened.fails store old
+
+pub returns-in-Migrate-clause-migrates_nothing : goal.returns-in-Migrate-clause-migrates_nothing
+returns-in-Migrate-clause-migrates_nothing g c words fault opened = c.migrate.ensures.spares opened.told fault opened.fails
+
+pub returns-in-Migrate-clause-no_old_store : goal.returns-in-Migrate-clause-no_old_store
+returns-in-Migrate-clause-no_old_store g c words is = c.migrate.ensures.not_store is
+
+pub returns-in-Migrate-clause-old_command : goal.returns-in-Migrate-clause-old_command
+returns-in-Migrate-clause-old_command g c is = c.migrate.ensures.old_command is
+
+pub returns-in-Migrate-clause-not_store : goal.returns-in-Migrate-clause-not_store
+returns-in-Migrate-clause-not_store g c others is = absurd (others c.in-Migrate.ensures)
+
+pub returns-in-Migrate-clause-migrate_memory : goal.returns-in-Migrate-clause-migrate_memory
+returns-in-Migrate-clause-migrate_memory g c words is = c.migrate.ensures.looks (inr (inr is))
+
+pub returns-in-Migrate-clause-migrate_status : goal.returns-in-Migrate-clause-migrate_status
+returns-in-Migrate-clause-migrate_status g c words = c.migrate.ensures.status
+
+pub returns-in-Migrate-clause-migrate_completes : goal.returns-in-Migrate-clause-migrate_completes
+returns-in-Migrate-clause-migrate_completes g c words stack commands opened no_disk no_show =
+    let shows = c.migrate.ensures.shows opened.told stack commands opened.stands_for in
+    migrate_done c.migrate.result (DiskFails g.S.Site c.args.site.now c.migrate.new.site) (ShowFails g.S.Site c.args.site.now c.migrate.new.site) c.migrate.ensures.status shows.0 shows.1 c.migrate.ensures.disk_fault c.migrate.ensures.show_fault no_disk no_show
+
+pub returns-in-Query-clause-no_image : goal.returns-in-Query-clause-no_image
+returns-in-Query-clause-no_image g c either = c.query.ensures.looks
+
+pub returns-in-Unknown-clause-not_empty : goal.returns-in-Unknown-clause-not_empty
+returns-in-Unknown-clause-not_empty g c is = absurd (cc is)
+
+pub returns-in-Unknown-clause-only_files : goal.returns-in-Unknown-clause-only_files
+returns-in-Unknown-clause-only_files g c told is = absurd (cc is)
+
+pub returns-in-Unknown-clause-old_command : goal.returns-in-Unknown-clause-old_command
+returns-in-Unknown-clause-old_command g c is = absurd (cc is)
+
+pub returns-in-Unknown-clause-door_fault : goal.returns-in-Unknown-clause-door_fault
+returns-in-Unknown-clause-door_fault g c is = absurd (cc is)
+
+pub returns-in-Unknown-clause-hear_fault : goal.returns-in-Unknown-clause-hear_fault
+returns-in-Unknown-clause-hear_fault g c is = absurd (cc is)
+
+pub returns-in-Unknown-clause-disk_fault : goal.returns-in-Unknown-clause-disk_fault
+returns-in-Unknown-clause-disk_fault g c is = absurd (cc is)
+
+pub returns-in-Unknown-clause-show_fault : goal.returns-in-Unknown-clause-show_fault
+returns-in-Unknown-clause-show_fault g c is = absurd (cc is)
+
+pub returns-in-Unknown-clause-not_store : goal.returns-in-Unknown-clause-not_store
+returns-in-Unknown-clause-not_store g c others is = absurd (cc is)
+
+pub returns-in-Unknown-clause-no_old_store : goal.returns-in-Unknown-clause-no_old_store
+returns-in-Unknown-clause-no_old_store g c words is = absurd (cc is)
+
+pub returns-in-Unknown-clause-usage_status : goal.returns-in-Unknown-clause-usage_status
+returns-in-Unknown-clause-usage_status g c unknown = refl
+
+pub returns-in-Unknown-clause-usage : goal.returns-in-Unknown-clause-usage
+returns-in-Unknown-clause-usage g c unknown = c.say.ensures.says
+
+pub returns-in-Unknown-clause-calls : goal.returns-in-Unknown-clause-calls
+returns-in-Unknown-clause-calls g c = c.say.ensures.talks.calls

@@ -1,19 +1,21 @@
 use Rattle.std.proofs.Common.{◌≡◌, ◌∙◌, ◌⊎◌, ℕ, List, ap, inl, inr, refl, subst, sym}
 use Rattle.std.specs.Prelude.{Result, Ok, Err}
-use Rattle.ox_outside.specs.Counts.{Counts, IsFailure, StopsAtFault}
+use Rattle.ox_outside.specs.Counts.{Counts, IsFailure, NoFault, StopsAtFault}
 use Rattle.ox_outside.specs.Log.{Grows}
-use Rattle.ox_outside.proofs.Counts.{stops_after, stops_as, went_on}
+use Rattle.ox_outside.proofs.Calls.{calls_then}
+use Rattle.ox_outside.proofs.Counts.{no_fault_then, stops_after, stops_as, stops_at_none, then_rose, went_on}
 use Rattle.ox_desk.specs.Servers.{server_on}
 use Rattle.ox_serve.specs.Runs.{StandFor}
 use Rattle.ox_serve.specs.declared.fault.ServeFault.{ServeFault}
 use Rattle.ox_serve.specs.declared.fault.ServeFault.TheVariants as serves
 use Rattle.ox_app.specs.Serve.{RunsServer}
 use Rattle.ox_app.specs.Show.{EndsAtFault, ShowsReply}
-use Rattle.ox_app.specs.Status.{IsRefusal}
+use Rattle.ox_app.specs.Status.{IsRefusal, IsServeStatus, fault_status}
 use Rattle.ox_app.specs.declared.status.Status.{Status}
 use Rattle.ox_app.specs.declared.status.Status.TheVariants as ends
-use Rattle.ox_app.proofs.Images.{reply_front, reply_whole, show_undone}
+use Rattle.ox_app.proofs.Images.{done_opens, reply_front, reply_whole, show_opens, show_undone}
 use Rattle.ox_app.proofs.Serving.{runs_by_fault, runs_told, served_only, served_then_talked}
+use Rattle.ox_app.proofs.Stops.{all_shown}
 use Rattle.ox_app.proofs.serve.serve_by.Goals as goal
 
 -- behind turns of which none failed, the line of what was counted isn't shown whole
@@ -24,6 +26,30 @@ totals_stop {T} totals answer old mid new served stopped =
     (went_on (◌≡◌ {A = Result T ServeFault} (Ok totals) (Err serves.DiskFault)) ⊥ ⊥ old mid (λ is. cc is) (λ no. no) (λ no. no) served)
     (stops_as ⊥ ⊥ (IsFailure answer) (ends.ShowFault ≡ ends.DiskFault) (ends.ShowFault ≡ ends.HearFault) ((ends.ShowFault ≡ ends.ShowFault) ⊎ IsRefusal ends.ShowFault) mid new
     (λ no. absurd no) (λ no. absurd no) (λ failed. inl refl) stopped)
+
+-- turns that were all made
+served_well : {T : Type 0} (totals : T) (old new : Counts) → StopsAtFault (◌≡◌ {A = Result T ServeFault} (Ok totals) (Err serves.DiskFault)) ⊥ ⊥ old new → NoFault old new
+served_well {T} totals old new served =
+    went_on (◌≡◌ {A = Result T ServeFault} (Ok totals) (Err serves.DiskFault)) ⊥ ⊥ old new (λ is. cc is) (λ no. no) (λ no. no) served
+
+-- what a fault's status says of it
+record EndsTurns (fault : ServeFault) : Type 0 where
+  status : IsServeStatus (fault_status fault)
+  opened : fault_status fault ≡ ends.NotStore → ⊥
+  memory : fault_status fault ≡ ends.Memory → fault ≡ serves.Memory
+  disk : fault_status fault ≡ ends.DiskFault → fault ≡ serves.DiskFault
+  door : fault_status fault ≡ ends.DoorFault → fault ≡ serves.DoorFault
+  show : fault_status fault ≡ ends.ShowFault → ⊥
+
+ends_turns : (fault : ServeFault) → EndsTurns fault
+ends_turns serves.DiskFault = record { status = inr (inr (inl refl)); opened = λ e. cc e; memory = λ e. cc e; disk = λ e. refl; door = λ e. cc e; show = λ e. cc e }
+ends_turns serves.DoorFault = record { status = inr (inr (inr (inr (inl refl)))); opened = λ e. cc e; memory = λ e. cc e; disk = λ e. cc e; door = λ e. refl; show = λ e. cc e }
+ends_turns serves.Memory = record { status = inr (inr (inr (inr (inr refl)))); opened = λ e. cc e; memory = λ e. refl; disk = λ e. cc e; door = λ e. cc e; show = λ e. cc e }
+
+fault_stops : {T : Type 0} (fault : ServeFault) (status : Status) (old new : Counts) → status ≡ fault_status fault → StopsAtFault (◌≡◌ {A = Result T ServeFault} (Err fault) (Err serves.DiskFault)) ⊥ ⊥ old new → EndsAtFault status old new
+fault_stops {T} fault status old new is stopped =
+    stops_as (◌≡◌ {A = Result T ServeFault} (Err fault) (Err serves.DiskFault)) ⊥ ⊥ (status ≡ ends.DiskFault) (status ≡ ends.HearFault) ((status ≡ ends.ShowFault) ⊎ IsRefusal status) old new
+    (λ e. let same : fault ≡ serves.DiskFault = cc e in is ∙ ap fault_status same) (λ no. absurd no) (λ no. absurd no) stopped
 
 pub returns-in-Ok-show_all-clause-serves : goal.returns-in-Ok-show_all-clause-serves
 returns-in-Ok-show_all-clause-serves g c =
@@ -76,3 +102,75 @@ returns-in-Ok-clause-stops g c =
     let counts = g.S.Site.counts in
     totals_stop c.in-Ok.totals c.show_all.result (counts c.args.site.now) (counts c.serve.new.site) (counts c.show_all.new.site)
     c.in-Ok.ensures.counted c.show_all.ensures.counted
+
+pub returns-in-Ok-show_all-clause-memory : goal.returns-in-Ok-show_all-clause-memory
+returns-in-Ok-show_all-clause-memory g c is = absurd (cc is)
+
+pub returns-in-Ok-show_all-clause-opened : goal.returns-in-Ok-show_all-clause-opened
+returns-in-Ok-show_all-clause-opened g c is = done_opens is
+
+pub returns-in-Ok-show_all-clause-status : goal.returns-in-Ok-show_all-clause-status
+returns-in-Ok-show_all-clause-status g c = inl refl
+
+pub returns-in-Ok-show_all-clause-disk_fault : goal.returns-in-Ok-show_all-clause-disk_fault
+returns-in-Ok-show_all-clause-disk_fault g c is = absurd (cc is)
+
+pub returns-in-Ok-show_all-clause-door_fault : goal.returns-in-Ok-show_all-clause-door_fault
+returns-in-Ok-show_all-clause-door_fault g c is = absurd (cc is)
+
+pub returns-in-Ok-show_all-clause-show_fault : goal.returns-in-Ok-show_all-clause-show_fault
+returns-in-Ok-show_all-clause-show_fault g c is = absurd (cc is)
+
+pub returns-in-Ok-show_all-clause-stops : goal.returns-in-Ok-show_all-clause-stops
+returns-in-Ok-show_all-clause-stops g c =
+    stops_at_none _ _ _ _ _ (no_fault_then _ _ _ (served_well c.in-Ok.totals _ _ c.in-Ok.ensures.counted) (all_shown _ _ c.in-Ok-show_all.ensures.counted))
+
+pub returns-in-Ok-show_all-clause-calls : goal.returns-in-Ok-show_all-clause-calls
+returns-in-Ok-show_all-clause-calls g c = calls_then g.S.Site c.args.site.now c.serve.new.site c.show_all.new.site c.serve.ensures.calls c.show_all.ensures.talks.calls
+
+pub returns-in-Ok-clause-memory : goal.returns-in-Ok-clause-memory
+returns-in-Ok-clause-memory g c is = absurd (cc is)
+
+pub returns-in-Ok-clause-opened : goal.returns-in-Ok-clause-opened
+returns-in-Ok-clause-opened g c is = show_opens is
+
+pub returns-in-Ok-clause-status : goal.returns-in-Ok-clause-status
+returns-in-Ok-clause-status g c = inr (inr (inr (inl refl)))
+
+pub returns-in-Ok-clause-disk_fault : goal.returns-in-Ok-clause-disk_fault
+returns-in-Ok-clause-disk_fault g c is = absurd (cc is)
+
+pub returns-in-Ok-clause-door_fault : goal.returns-in-Ok-clause-door_fault
+returns-in-Ok-clause-door_fault g c is = absurd (cc is)
+
+pub returns-in-Ok-clause-show_fault : goal.returns-in-Ok-clause-show_fault
+returns-in-Ok-clause-show_fault g c is =
+    let counts = g.S.Site.counts in
+    then_rose ((counts c.args.site.now).show 0) ((counts c.serve.new.site).show 0) ((counts c.show_all.new.site).show 0) (c.serve.ensures.calls.none_fell.show 0) c.in-Err-show_all.ensures.failed
+
+pub returns-in-Ok-clause-calls : goal.returns-in-Ok-clause-calls
+returns-in-Ok-clause-calls g c = calls_then g.S.Site c.args.site.now c.serve.new.site c.show_all.new.site c.serve.ensures.calls c.show_all.ensures.talks.calls
+
+pub returns-clause-memory : goal.returns-clause-memory
+returns-clause-memory g c is = ap g.S.Site.log (c.in-Err.ensures.memory (ap Err ((ends_turns c.in-Err.fault).memory (sym c.fault_of.ensures ∙ is))))
+
+pub returns-clause-opened : goal.returns-clause-opened
+returns-clause-opened g c is = (ends_turns c.in-Err.fault).opened (sym c.fault_of.ensures ∙ is)
+
+pub returns-clause-status : goal.returns-clause-status
+returns-clause-status g c = subst IsServeStatus (sym c.fault_of.ensures) (ends_turns c.in-Err.fault).status
+
+pub returns-clause-disk_fault : goal.returns-clause-disk_fault
+returns-clause-disk_fault g c is = c.in-Err.ensures.disk_fault (ap Err ((ends_turns c.in-Err.fault).disk (sym c.fault_of.ensures ∙ is)))
+
+pub returns-clause-door_fault : goal.returns-clause-door_fault
+returns-clause-door_fault g c is = c.in-Err.ensures.door_fault (ap Err ((ends_turns c.in-Err.fault).door (sym c.fault_of.ensures ∙ is)))
+
+pub returns-clause-show_fault : goal.returns-clause-show_fault
+returns-clause-show_fault g c is = absurd ((ends_turns c.in-Err.fault).show (sym c.fault_of.ensures ∙ is))
+
+pub returns-clause-stops : goal.returns-clause-stops
+returns-clause-stops g c = fault_stops c.in-Err.fault c.fault_of.result _ _ c.fault_of.ensures c.in-Err.ensures.counted
+
+pub returns-clause-calls : goal.returns-clause-calls
+returns-clause-calls g c = c.serve.ensures.calls
