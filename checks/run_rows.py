@@ -5,12 +5,13 @@
 
 Its own are runs of each subcommand but `serve` and `drill`, whole, with failing calls, stopped, and
 over a site of short calls; and lines, hearings, showings and links of a site by themselves. Those
-that serve links are those of checks/serve_rows.py, and those that ask one desk those of
-checks/desk_rows.py. Lines, answers, statuses and files are told by docs/FORMATS.md and
-docs/OPERATING.md, on their own: blocks are read as block_rows does, indexes are plain_index's, and
-files store_files'. What these don't say and the rows go by: a run hears at most 65,536 bytes at a
-time, and only where it holds no whole line; each line is shown by a call of its own; and of the
-calls of an opening, a making and a record store_rows tells.
+that serve links are those of checks/serve_rows.py, those that ask one desk those of
+checks/desk_rows.py, and those that make and open a store those of checks/store_rows.py. Lines,
+answers, statuses and files are told by docs/FORMATS.md and docs/OPERATING.md, on their own: blocks
+are read as block_rows does, indexes are plain_index's, and files store_files'. What these don't say
+and the rows go by: a run hears at most 65,536 bytes at a time, and only where it holds no whole
+line; each line is shown by a call of its own; and of the calls of an opening, a making and a record
+store_rows tells.
 """
 
 import re
@@ -19,6 +20,7 @@ import desk_rows
 import old_files
 import serve_rows
 import store_files
+import store_rows
 from block_rows import Fault, Reader
 from chain import DISCONNECT, GENESIS, SHORT, line, payload_of, record_of
 from desk_rows import compact, printed
@@ -476,7 +478,7 @@ class Runs:
         self.world.site.write(file, at, data)
 
     def file(self, file):
-        self.row("file", file)
+        self.row("file", file, 0)
         data = self.world.site.files[file]
         self.stdout.append(f"{len(data)} bytes: {data.hex()}")
 
@@ -953,7 +955,7 @@ def main():
         part(rows)
     for part in (feeds, hearings, links):
         part(rows)
-    for others in (serve_rows.served(), desk_rows.desks()):
+    for others in (serve_rows.served(), desk_rows.desks(), store_rows.stores()):
         rows.stdin += others.stdin
         rows.stdout += others.stdout
     write_rows("ox_run_rows", rows.stdin, rows.stdout)

@@ -1,7 +1,5 @@
-#!/usr/bin/env python3
-"""Makes the rows of crates/ox_store_rows and what has to be printed for them:
-
-    checks/store_rows.py
+"""The rows of crates/ox_run_rows that make and open a store, and what has to be printed for them.
+checks/run_rows.py writes them.
 
 Blocks and what they leave of an index are told by docs/RULES.md, and the two files, what a crash
 leaves of them and what they stand for by docs/FORMATS.md, on their own: see plain_index and
@@ -23,7 +21,6 @@ from store_files import CLOSED, GREATEST, OPEN, NoStore, stands
 from table import offset_in
 from tools import bitcoin
 from tools.bitcoin import SUBSIDY, twice
-from tools.programs import write_rows
 
 ALL = 1_000_000_000
 # the calls of an opening: two syncs, of both files the length and the front, the body and what is
@@ -170,7 +167,7 @@ def word_of(payload):
     part = block[1000:2000]
     times = next(n for n in range(len(block)) if block[1000 + 1000 * n : 2000 + 1000 * n] != part)
     assert block == block[:1000] + times * part + block[1000 + 1000 * times :]
-    return f"+{block[:1000].hex()},{times},{part.hex()},{block[1000 + 1000 * times:].hex()}"
+    return f"+{block[:1000].hex()}+{times}*{part.hex()}+{block[1000 + 1000 * times:].hex()}"
 
 
 class Stores:
@@ -270,8 +267,8 @@ class Stores:
         yield f"ok {count}"
         yield store.line()
 
-    def crash(self, moment, fill, keep):
-        self.row("crash", moment, fill, keep)
+    def reopen(self, moment, fill, keep):
+        self.row("reopen", moment, fill, keep)
         after = self.site.crash(moment, fill, keep)
         self.run(self.lines_of_opening(after, ()))
         return after
@@ -508,7 +505,7 @@ def fails(rows):
         rows.make("regtest", 100, [payload_of(GENESIS)])
         assert (rows.stdout[-1] == "a call failed") == (call < 14)
         for fill in (0x00, 0x07):
-            rows.crash(len(rows.site.steps), fill, 1000)
+            rows.reopen(len(rows.site.steps), fill, 1000)
             # the record's sync is call 11, and the gate's write call 12
             assert call != 11 or rows.stdout[-1].startswith("0 blocks")
         rows.now()
@@ -530,7 +527,7 @@ def stops(rows):
     for moment in range(13):
         for fill in (0x00, 0x01, 0x07, 0xFF):
             for keep in (0, 1000):
-                rows.crash(moment, fill, keep)
+                rows.reopen(moment, fill, keep)
                 said = rows.stdout[-1]
                 assert moment < 8 or said.startswith(
                     "1 " if moment > 11 or (moment == 11 and fill) else "0 "
@@ -560,7 +557,7 @@ def prefixes(rows):
     for moment in range(ends[-1] + 1):
         for fill in (0x00, 0xFF):
             for keep in (0, ALL):
-                after = rows.crash(moment, fill, keep)
+                after = rows.reopen(moment, fill, keep)
                 acknowledged = sum(end <= moment for end in ends)
                 if acknowledged or rows.stdout[-1].endswith("tip"):
                     allowed = states[max(acknowledged - 1, 0):acknowledged + 1]
@@ -601,7 +598,7 @@ def each_call(rows, command, calls):
         rows.open([command])
         assert (rows.stdout[-1] == "a call failed") == (call < LOOKS + calls)
         for fill in (0x00, 0x07):
-            rows.crash(len(rows.site.steps), fill, ALL)
+            rows.reopen(len(rows.site.steps), fill, ALL)
             blocks = int(rows.stdout[-1].split()[0])
             # the last two are the gate's write and its sync
             assert abs(blocks - before) == (call >= LOOKS + calls - (2 if fill else 0))
@@ -624,7 +621,7 @@ def each_moment(rows, command, calls):
     for moment in range(2 + calls + 1):
         for fill in FILLS:
             for keep in (0, ALL):
-                rows.crash(moment, fill, keep)
+                rows.reopen(moment, fill, keep)
                 blocks = int(rows.stdout[-1].split()[0])
                 assert blocks in (before, after)
                 assert moment < 2 + calls or blocks == after
@@ -830,7 +827,7 @@ def drills(rows):
     for moment in range(first, last + 1):
         for fill in (0x00, 0xFF):
             for keep in (0, ALL):
-                rows.crash(moment, fill, keep)
+                rows.reopen(moment, fill, keep)
                 done, begun = (moment - 8) // 4, (moment - 8 + 3) // 4
                 blocks = int(rows.stdout[-1].split()[0])
                 assert done - 20 <= blocks <= begun - 20, (moment, fill, keep)
@@ -843,7 +840,7 @@ def drills(rows):
         rows.make("regtest", 100, commands)
         assert (rows.stdout[-1] == "a call failed") == (call < 10 + 4 * len(commands))
         for fill in (0x00, 0xFF):
-            rows.crash(len(rows.site.steps), fill, ALL)
+            rows.reopen(len(rows.site.steps), fill, ALL)
 
 
 def keep_what_is_kept(rows):
@@ -865,7 +862,7 @@ def stop_in_a_second_gate(rows):
     rows.make("regtest", 100, payloads)
     # the making has 8 moments, and each block 4: a write, a sync, the gate's write and its sync
     for moment, fill, blocks in ((14, 0x07, 1), (15, 0x00, 1), (15, 0x07, 2)):
-        rows.crash(moment, fill, ALL)
+        rows.reopen(moment, fill, ALL)
         assert rows.stdout[-1].startswith(f"{blocks} blocks")
 
 
@@ -1029,7 +1026,7 @@ def migrating(rows, b, turned):
         rows.fail(call)
         rows.migrate()
         assert (rows.stdout[-1] == "a call failed") == (call < LOOKS + turned)
-        rows.crash(len(rows.site.steps), 0x07, ALL)
+        rows.reopen(len(rows.site.steps), 0x07, ALL)
     for moment in range(2 + turned + 1):
         for fill in FILLS:
             for keep in (0, ALL):
@@ -1049,7 +1046,8 @@ def migrations(rows):
     migrating(rows, old([], generation=8), TURNED + 2)
 
 
-def main():
+def stores():
+    """The rows, and what has to be printed for them."""
     rows = Stores()
     for part in (
         makes,
@@ -1072,8 +1070,4 @@ def main():
         part(rows)
     for part in (migrates, old_commands, not_old, migrations):
         part(rows)
-    write_rows("ox_store_rows", rows.stdin, rows.stdout)
-
-
-if __name__ == "__main__":
-    main()
+    return rows

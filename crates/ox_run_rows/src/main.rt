@@ -1,5 +1,5 @@
-//! What runs of the program, a desk and single calls do over a site in memory, a row of standard
-//! input each:
+//! What runs of the program, a store, a desk and single calls do over a site in memory, a row of
+//! standard input each:
 //!
 //! - `fresh`: two empty files, no links, nothing to hear, and no call that is to fail;
 //! - `link DOOR SAID..`: a link that waits at a door, `public` or `operator`, and says this: bytes
@@ -20,13 +20,15 @@
 //! - `often N PATH..`: opens the store, and has one desk answer a GET of each path, N times over;
 //!   how many requests and hits it counts, and how many bytes the replies have;
 //! - `overwrite FILE AT HEX`: writes bytes into a file;
-//! - `file FILE`: a file's length and its bytes;
+//! - `file FILE FROM`: a file's length, and its bytes from there on;
 //! - `lines N`: the next N lines of channel 0, each with the command that it is;
 //! - `hear ROOM..`: hears channel 0 with rooms of these sizes: each answer, and the room then;
 //! - `visit DOOR ROOM..`: takes the link that waits at a door, hears it with rooms of these sizes,
 //!   gives it up and shuts it;
 //! - `show PART..`: shows bytes on channel 0; the answer, and what was shown there so far;
 //! - `frame PART..`: the record of this payload;
+//! - `make ..`, `open ..`, `reopen ..`, `migrate` and `locate ..`: what a store does over the two
+//!   files, as stores.rt has it;
 //! - `now`: the moment;
 //! - `# ..`: a heading, which is printed.
 //!
@@ -42,17 +44,21 @@
 #![tactic(auto)]
 
 mod calls;
+mod carry;
 mod often;
 mod runs;
 mod say;
+mod say_store;
+mod stores;
 mod words;
 
 use crate::calls::{hear, overwrite, read_lines, show, visit};
 use crate::often::often;
 use crate::runs::{crash, run_aloud, run_short, site_after_crash};
 use crate::say::{print_file, print_frame, print_links};
-use crate::words::{door_of, file_of, number_of, parts_of, portion_of, script_of};
-use anyhow::{Context, bail};
+use crate::stores::tell_store;
+use crate::words::{door_of, number_of, parts_of, portion_of, script_of};
+use anyhow::Context;
 use ox_memsite::MemSite;
 use ox_outside::Site;
 use std::alloc::Global;
@@ -151,7 +157,7 @@ fn run_by(rt: &impl Print, alloc: Global, on: &mut Desktop, row: &[&str]) -> any
     }
 }
 
-/// Carries out a row that prints what calls on a site answer.
+/// Carries out a row that prints what calls on a site answer, or another one.
 fn tell(rt: &impl Print, alloc: Global, site: &mut MemSite, row: &[&str]) -> anyhow::Result<()> {
     match row {
         ["lines", count] => read_lines(rt, alloc, site, count),
@@ -159,9 +165,9 @@ fn tell(rt: &impl Print, alloc: Global, site: &mut MemSite, row: &[&str]) -> any
         ["visit", door, rooms @ ..] => visit(rt, alloc, site, door_of(door)?, rooms),
         ["show", words @ ..] => show(rt, site, &parts_of(alloc, words)?),
         ["frame", words @ ..] => print_frame(rt, alloc, &parts_of(alloc, words)?),
-        ["file", file] => Ok(print_file(rt, site.file(file_of(file)?))?),
+        ["file", file, from] => print_file(rt, site, file, from),
         ["now"] => Ok(println!(rt; "moment {}", site.now())?),
-        _ => bail!("no row"),
+        _ => tell_store(rt, alloc, site, row),
     }
 }
 

@@ -1,5 +1,6 @@
 //! What is printed.
 
+use crate::words::{file_of, number_of};
 use anyhow::{Context, bail};
 use ox_feed::{Command, FeedFault, Line, SyntaxFault, command_of};
 use ox_gated::frame;
@@ -15,7 +16,7 @@ const WHOLE: usize = 1024;
 const FRONT: usize = 200;
 
 /// Bytes in hex digits.
-fn print_hex(rt: &impl Print, bytes: &[u8]) -> io::Result<()> {
+pub fn print_hex(rt: &impl Print, bytes: &[u8]) -> io::Result<()> {
     for byte in bytes {
         print!(rt; "{byte:02x}")?;
     }
@@ -69,11 +70,14 @@ pub fn print_links(rt: &impl Print, site: &MemSite, links: &[&str]) -> anyhow::R
     Ok(())
 }
 
-/// A file's length and its bytes.
-pub fn print_file(rt: &impl Print, bytes: &[u8]) -> io::Result<()> {
+/// A file's length, and its bytes from a place on.
+pub fn print_file(rt: &impl Print, site: &MemSite, file: &str, from: &str) -> anyhow::Result<()> {
+    let bytes = site.file(file_of(file)?);
+    let from = number_of(from)?;
+    let rest = bytes.get(from as usize..).context("no such place")?;
     print!(rt; "{} bytes: ", bytes.len())?;
-    print_hex(rt, bytes)?;
-    println!(rt)
+    print_hex(rt, rest)?;
+    Ok(println!(rt)?)
 }
 
 /// The answer of a hearing, and the room as it is then.

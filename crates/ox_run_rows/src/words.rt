@@ -1,9 +1,13 @@
 //! The words of a row.
 
+ghost use Rattle.std.specs.Prelude.{◌≤◌, IfOk};
+
 use anyhow::{Context, bail};
 use ox_bytes::Bytes;
+use ox_feed::Command;
 use ox_memsite::Said;
 use ox_outside::{Doorway, Which};
+use ox_sat::ProfileName;
 use ox_short_site::Portion;
 use std::alloc::Global;
 
@@ -15,6 +19,22 @@ pub fn number_of(word: &str) -> anyhow::Result<u64> {
 /// The byte that a word's number is.
 pub fn byte_of(word: &str) -> anyhow::Result<u8> {
     word.parse().ok().context("no byte")
+}
+
+/// The depth that a word's number is.
+pub fn depth_of(word: &str) -> anyhow::Result<u16>
+    ensures { IfOk result (λ depth. (1 ≤ depth) × (depth ≤ 1000)) }
+{
+    let depth: u16 = word.parse().ok().context("no depth")?;
+    if depth == 0 || depth > 1000 {
+        bail!("a depth is from 1 to 1000");
+    }
+    Ok(depth)
+}
+
+/// The profile that a word names.
+pub fn profile_of(word: &str) -> anyhow::Result<ProfileName> {
+    ProfileName::of_word(word.as_bytes()).context("no profile")
 }
 
 /// The door that a word names.
@@ -91,6 +111,23 @@ pub fn run_words_of(alloc: Global, row: &[&str]) -> anyhow::Result<Vec<Bytes>> {
 fn joined(alloc: Global, word: &str) -> anyhow::Result<Bytes> {
     let parts: Vec<&str> = word.split('+').collect(alloc)?;
     Ok(Bytes::from_vec(parts_of(alloc, parts.as_slice())?))
+}
+
+/// The command that a word is.
+fn command_of(alloc: Global, word: &str) -> anyhow::Result<Command> {
+    match word.strip_prefix("+") {
+        Some(block) => Ok(Command::Connect(joined(alloc, block)?)),
+        None => Ok(Command::Disconnect),
+    }
+}
+
+/// The commands that words are.
+pub fn commands_of(alloc: Global, words: &[&str]) -> anyhow::Result<Vec<Command>> {
+    let mut commands = Vec::new(alloc);
+    for word in words {
+        commands.push(command_of(alloc, *word)?)?;
+    }
+    Ok(commands)
 }
 
 /// Appends bytes of which each is heard alone.

@@ -1,19 +1,12 @@
-//! What is printed.
+//! What is printed of a store.
 
 use crate::carry::{Moved, Outcome};
+use crate::say::print_hex;
 use ox_model::{Place, Refusal, View};
 use ox_outside::Which;
 use ox_store::{MakeFault, MigrateFault, OpenFault, Store};
 use std::alloc::Global;
 use std::io;
-
-/// Bytes in hex digits.
-pub fn print_hex(rt: &impl Print, bytes: &[u8]) -> io::Result<()> {
-    for byte in bytes {
-        print!(rt; "{byte:02x}")?;
-    }
-    Ok(())
-}
 
 /// A height and a hash, or that there is no block.
 fn print_tip(rt: &impl Print, tip: Option<(u32, [u8; 32])>) -> io::Result<()> {
@@ -68,7 +61,7 @@ fn tip_of(store: &Store) -> Option<(u32, [u8; 32])> {
 }
 
 /// What a store says of itself.
-fn print_store(rt: &impl Print, store: &Store) -> io::Result<()> {
+pub fn print_store(rt: &impl Print, store: &Store) -> io::Result<()> {
     let about = store.about();
     print!(rt; "{} blocks, {} of ", store.live().blocks(), about.kept)?;
     print!(rt; "{} kept, {} changes, ", about.depth, store.changes().len())?;
@@ -78,14 +71,6 @@ fn print_store(rt: &impl Print, store: &Store) -> io::Result<()> {
         store.commands()
     )?;
     print_tip(rt, tip_of(store))
-}
-
-/// What a store says of itself, where it is left.
-pub fn print_left(rt: &impl Print, left: Option<Store>) -> io::Result<()> {
-    match left {
-        Some(store) => print_store(rt, &store),
-        None => Ok(()),
-    }
 }
 
 /// Why files aren't made a store.

@@ -3,7 +3,7 @@
 ghost use Rattle.std.specs.Prelude.{◌≡◌, IsTrue, IfOk, IfSome};
 ghost use Rattle.ox_gated.specs.Tail.{Holds};
 
-use crate::say::print_outcome;
+use crate::say_store::{print_outcome, print_store};
 use ox_feed::Command;
 use ox_model::{Change, Refusal};
 use ox_outside::Site;
@@ -133,23 +133,23 @@ fn carry_out_aloud<S: Site>(
     Ok(turn.store)
 }
 
-/// Carries commands out on a store until a call fails, and prints what came of each. The store
-/// after them; none where a call failed.
+/// Carries commands out on a store until a call fails, and prints what came of each, and then what
+/// the store says of itself, unless a call failed.
 pub fn carry_out_all<S: Site>(
     rt: &impl Print,
     alloc: Global,
     store: Store,
     commands: &[Command],
     site: &mut S,
-) -> io::Result<Option<Store>>
+) -> io::Result<()>
     requires { IsTrue (S.told site.old) → Holds S.Site store.tail site.old }
 {
     let mut store = store;
     for command in commands {
         match carry_out_aloud(rt, alloc, store, command, site)? {
             Some(after) => store = after,
-            None => return Ok(None),
+            None => return Ok(()),
         }
     }
-    Ok(Some(store))
+    print_store(rt, &store)
 }

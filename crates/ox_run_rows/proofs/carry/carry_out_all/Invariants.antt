@@ -1,7 +1,7 @@
 use Rattle.std.proofs.Common.{◌≡◌}
 use Rattle.std.specs.Prelude.{IsTrue}
 use Rattle.ox_gated.specs.Tail.{Holds}
-use Rattle.ox_store_rows.proofs.carry.carry_out_all.Given as goal
+use Rattle.ox_run_rows.proofs.carry.carry_out_all.Given as goal
 
 abbrev pub invariant-loop-command : goal.invariant-loop-command
 invariant-loop-command g l =
