@@ -7,8 +7,8 @@
 //! - `migrate`: makes a store of version 1 one of version 2;
 //! - `locate SATOSHI..`: where each is in the store.
 //!
-//! A command is `-`, which disconnects, or `+` and the bytes of a block, which it connects, as parts
-//! between `+`. Hashes are printed as they stand in a block.
+//! A command is `-`, which disconnects, or `+` and the bytes of a block, which it connects, as
+//! parts between `+`. Hashes are printed as they stand in a block.
 
 ghost use Rattle.std.specs.Prelude.{◌≤◌};
 
