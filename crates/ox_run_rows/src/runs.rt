@@ -99,8 +99,21 @@ pub fn site_after_crash(site: &MemSite, choice: [&str; 3]) -> anyhow::Result<Mem
     site.crash(&choice).ok().context("no memory")
 }
 
-/// Runs the program over what a crash leaves, once for each word, whose own words stand between
-/// commas. Channel 0 says the feed then.
+/// Runs the program once for each word, whose own words stand between commas.
+fn run_each(
+    rt: &impl Print,
+    alloc: Global,
+    site: &mut MemSite,
+    runs: &[&str],
+) -> anyhow::Result<()> {
+    for run in runs {
+        let words: Vec<&str> = run.split(',').collect(alloc)?;
+        run_once(rt, alloc, site, words.as_slice())?;
+    }
+    Ok(())
+}
+
+/// Runs the program over what a crash leaves, once for each word. Channel 0 says the feed then.
 pub fn crash(
     rt: &impl Print,
     alloc: Global,
@@ -111,9 +124,6 @@ pub fn crash(
 ) -> anyhow::Result<()> {
     let mut after = site_after_crash(site, choice)?;
     after.input(feed).ok().context("no memory")?;
-    for run in runs {
-        let words: Vec<&str> = run.split(',').collect(alloc)?;
-        run_once(rt, alloc, &mut after, words.as_slice())?;
-    }
+    run_each(rt, alloc, &mut after, runs)?;
     print_after(rt, &after)
 }
