@@ -13,7 +13,9 @@ use Rattle.std.proofs.lemmas.List.Elements.{All-cons, All-nil, All-weaker, filte
 use Rattle.std.proofs.lemmas.Option.{cond_some}
 use Rattle.std.proofs.lemmas.Str.{IsUtf8-from_ascii, IsAscii-append}
 use Rattle.std.proofs.lemmas.Str.Ascii.{IsAscii-cons}
-use Rattle.json.specs.Token.{Token, begin_array}
+use Rattle.json.specs.Token.{Token, begin_array, end_array}
+use Rattle.serde_json.specs.Data.{array}
+use Rattle.serde_json.specs.View.{items_of}
 use Rattle.hex.specs.Hex.{decode_sized, encode_lower}
 use Rattle.hex.specs.declared.error.FromHexError.{FromHexError}
 use Rattle.ox_range.specs.declared.runs.Run.{Run}
@@ -31,8 +33,11 @@ use Rattle.ox_replies.specs.Walk.{on_between, walk_of}
 use Rattle.ox_replies.proofs.Halves.{second_half}
 use Rattle.ox_replies.proofs.Walks.{all_walked}
 use Rattle.ox_query.specs.Listed.{inscription_ids_of}
-use Rattle.ox_query.specs.Written.{tokens_of, tokens_of_all}
+use Rattle.ox_query.specs.Written.{Adds, tokens_of, tokens_of_all}
+use Rattle.ox_query.specs.declared.bodies.Body.{Body}
+use Rattle.ox_query.proofs.Arrays.{begun, bracketed}
 use Rattle.ox_query.proofs.Digits.{digits_small}
+use Rattle.ox_query.proofs.Steps.{nothing, same, ◌▸◌}
 
 -- the index of what reads as an id is small
 small_index : (text : List ℕ) (id : InsId) → id_of_text text ≡ Some id → id.index < 2 ^ 32
@@ -125,39 +130,35 @@ module _ (rows : List InsRow) where
       let many : run.count ≡ end_of run - run.first = omega arith in
       ap (flat_map (on rows)) (numbers_of_one run.first run.count ∙ ap (numbers_from run.first) many)
 
-  -- behind what stood there
-  module _ (before so_far new : List Token) where
-    -- one more id
-    pub one_id_more : (numbers : List ℕ) (i : ℕ) (row : InsRow)
-        → i < length numbers → slice_get rows (get_or numbers i 0) ≡ Some row
-        → so_far ≡ before ++ told_of (take i numbers) → new ≡ so_far ++ tokens_of (inscription_id row)
-        → new ≡ before ++ told_of (take (i + 1) numbers)
-    one_id_more numbers i row within there is here =
-        here ∙ ap (λ (ts : List Token). ts ++ tokens_of (inscription_id row)) is
-        ∙ append_assoc before (told_of (take i numbers)) (tokens_of (inscription_id row))
-        ∙ ap (λ (ts : List Token). before ++ ts) (
-        ap (λ (ts : List Token). told_of (take i numbers) ++ ts) (sym (told_of_one (get_or numbers i 0) row there))
-        ∙ sym (told_of-append (take i numbers) (get_or numbers i 0 ∷ []))
-        ∙ ap told_of (sym (take_more numbers i 0 within))
-        )
+  -- one more id
+  pub one_id_more : {old so_far new : Body} (numbers : List ℕ) (i : ℕ) (row : InsRow)
+      → i < length numbers → slice_get rows (get_or numbers i 0) ≡ Some row
+      → Adds old so_far (told_of (take i numbers)) → Adds so_far new (tokens_of (inscription_id row))
+      → Adds old new (told_of (take (i + 1) numbers))
+  one_id_more numbers i row within there is here =
+      same told_of (sym (take_more numbers i 0 within))
+      (same (λ (ts : List Token). ts) (sym (told_of-append (take i numbers) (get_or numbers i 0 ∷ [])))
+      (is ▸ same (λ (ts : List Token). ts) (sym (told_of_one (get_or numbers i 0) row there)) here))
 
-    -- the ids on one more run
-    pub one_run_more : (runs : List Run) (i : ℕ) (d : Run) → i < length runs
-        → so_far ≡ before ++ told_of (flat_map (on rows) (numbers_of (take i runs)))
-        → new ≡ so_far ++ told_of (on_between rows (get_or runs i d).first (end_of (get_or runs i d)))
-        → new ≡ before ++ told_of (flat_map (on rows) (numbers_of (take (i + 1) runs)))
-    one_run_more runs i d within is here =
-        let run = get_or runs i d in
-        let these = flat_map (on rows) (numbers_of (take i runs)) in
-        let more = flat_map (on rows) (numbers_of (run ∷ [])) in
-        here ∙ ap₂ (λ (a b : List Token). a ++ b) is (ap told_of (sym (on_run run)))
-        ∙ append_assoc before (told_of these) (told_of more)
-        ∙ ap (λ (ts : List Token). before ++ ts) (
-        sym (told_of-append these more)
-        ∙ ap told_of (
-        sym (flat_map-append (on rows) (numbers_of (take i runs)) (numbers_of (run ∷ [])))
-        ∙ ap (flat_map (on rows)) (sym (numbers-append (take i runs) (run ∷ [])) ∙ ap numbers_of (sym (take_more runs i d within)))
-        ))
+  pub all_ids : {old new : Body} (numbers : List ℕ) (i : ℕ) → length numbers ≤ i → Adds old new (told_of (take i numbers)) → Adds old new (told_of numbers)
+  all_ids numbers i past is = same told_of (take_all i numbers past) is
+
+  -- the ids on one more run
+  pub one_run_more : {old so_far new : Body} (runs : List Run) (i : ℕ) (d : Run) → i < length runs
+      → Adds old so_far (begin_array ∷ told_of (flat_map (on rows) (numbers_of (take i runs))))
+      → Adds so_far new (told_of (on_between rows (get_or runs i d).first (end_of (get_or runs i d))))
+      → Adds old new (begin_array ∷ told_of (flat_map (on rows) (numbers_of (take (i + 1) runs))))
+  one_run_more runs i d within is here =
+      let run = get_or runs i d in
+      let these = flat_map (on rows) (numbers_of (take i runs)) in
+      let more = flat_map (on rows) (numbers_of (run ∷ [])) in
+      same begun (
+      ap (λ (ts : List Token). told_of these ++ ts) (ap told_of (sym (on_run run)))
+      ∙ sym (told_of-append these more)
+      ∙ ap told_of (
+      sym (flat_map-append (on rows) (numbers_of (take i runs)) (numbers_of (run ∷ [])))
+      ∙ ap (flat_map (on rows)) (sym (numbers-append (take i runs) (run ∷ [])) ∙ ap numbers_of (sym (take_more runs i d within)))
+      )) (is ▸ here)
 
   -- ---- a walk along a run
 
@@ -188,29 +189,29 @@ module _ (rows : List InsRow) where
   pub walk_none : (first end : ℕ) → None ≡ next_on rows first → on_between rows first end ≡ []
   walk_none first end e = all_walked rows first end ∙ ap (walk_of rows end) (sym e)
 
-  pub walked_one : (all so_far new : List Token) (numbers rest : List ℕ) (between : List ℕ) → between ≡ numbers ++ rest
-      → so_far ++ told_of between ≡ all → new ≡ so_far ++ told_of numbers → new ++ told_of rest ≡ all
-  walked_one all so_far new numbers rest between is told here =
-      ap (λ (ts : List Token). ts ++ told_of rest) here
-      ∙ append_assoc so_far (told_of numbers) (told_of rest)
-      ∙ ap (λ (ts : List Token). so_far ++ ts) (sym (told_of-append numbers rest) ∙ ap told_of (sym is)) ∙ told
+  -- what is written of some satoshis, and of the others behind them
+  pub walked_one : {old new last : Body} (numbers rest between : List ℕ) → between ≡ numbers ++ rest
+      → Adds old new (told_of numbers) → Adds new last (told_of rest) → Adds old last (told_of between)
+  walked_one numbers rest between is here behind =
+      same told_of (sym is) (same (λ (ts : List Token). ts) (sym (told_of-append numbers rest)) (here ▸ behind))
 
-  pub walked_all : (all so_far : List Token) (between : List ℕ) → between ≡ [] → so_far ++ told_of between ≡ all → so_far ≡ all
-  walked_all all so_far between none told =
-      sym (append-nil so_far) ∙ ap (λ (numbers : List ℕ). so_far ++ told_of numbers) (sym none) ∙ told
+  pub walked_all : (body : Body) (between : List ℕ) → between ≡ [] → Adds body body (told_of between)
+  walked_all body between none = same told_of (sym none) (nothing body)
 
-  -- the ids of these, behind a bracket
-  pub told_on : (old begun all : List Token) (numbers these : List ℕ) → begun ≡ old ++ begin_array ∷ []
-      → all ≡ begun ++ told_of numbers → numbers ≡ these → all ≡ (old ++ begin_array ∷ []) ++ told_of these
-  told_on old begun all numbers these begins told are = told ∙ ap₂ (λ (ts : List Token) (ns : List ℕ). ts ++ told_of ns) begins are
+  -- the ids of these, between brackets
+  pub told_on : {old begins all new : Body} (numbers these : List ℕ) → Adds old begins (begin_array ∷ []) → Adds begins all (told_of numbers) → numbers ≡ these
+      → Adds all new (end_array ∷ []) → Adds old new (tokens_of (array (items_of (inscription_ids_of rows these))))
+  told_on numbers these begins told are ends =
+      bracketed (inscription_ids_of rows these) (begins ▸ same told_of are told) ends
 
   -- ---- run by run
 
-  pub no_run : (before : List Token) → before ≡ before ++ told_of (flat_map (on rows) (numbers_of []))
-  no_run before = sym (append-nil before) ∙ ap (λ (numbers : List ℕ). before ++ told_of (flat_map (on rows) numbers)) (sym numbers-none)
+  pub no_run : {old new : Body} → Adds old new (begin_array ∷ []) → Adds old new (begin_array ∷ told_of (flat_map (on rows) (numbers_of [])))
+  no_run begins = same (λ (numbers : List ℕ). begin_array ∷ told_of (flat_map (on rows) numbers)) (sym numbers-none) begins
 
-  pub all_runs_told : (before so_far : List Token) (runs : List Run) (i : ℕ) → length runs ≤ i
-      → so_far ≡ before ++ told_of (flat_map (on rows) (numbers_of (take i runs)))
-      → so_far ≡ before ++ told_of (flat_map (on rows) (numbers_of runs))
-  all_runs_told before so_far runs i past is =
-      is ∙ ap (λ (rs : List Run). before ++ told_of (flat_map (on rows) (numbers_of rs))) (take_all i runs past)
+  pub all_runs_told : {old all new : Body} (runs : List Run) (i : ℕ) → length runs ≤ i
+      → Adds old all (begin_array ∷ told_of (flat_map (on rows) (numbers_of (take i runs)))) → Adds all new (end_array ∷ [])
+      → Adds old new (tokens_of (array (items_of (inscription_ids_of rows (flat_map (on rows) (numbers_of runs))))))
+  all_runs_told runs i past is ends =
+      bracketed (inscription_ids_of rows (flat_map (on rows) (numbers_of runs)))
+      (same (λ (rs : List Run). begin_array ∷ told_of (flat_map (on rows) (numbers_of rs))) (take_all i runs past) is) ends

@@ -1,14 +1,17 @@
 -- The rows of a page, one by one.
-use Rattle.std.proofs.Common.{◌≡◌, ℕ, Bool, ◌+◌, ◌-◌, ◌*◌, ◌<◌, ◌≤◌, min, List, [], ◌∷◌, ◌++◌, length, get_or, take, drop, map, Some, sym, ap, ◌∙◌, append_assoc, arith}
+use Rattle.std.proofs.Common.{◌≡◌, ℕ, Bool, ◌+◌, ◌-◌, ◌*◌, ◌<◌, ◌≤◌, min, List, [], ◌∷◌, ◌++◌, length, get_or, take, drop, map, Some, sym, ap, ◌∙◌, arith}
 use Rattle.std.specs.Prelude.{nat_lt, slice_get}
-use Rattle.std.proofs.lemmas.Grind.{flat_map-append}
-use Rattle.std.proofs.lemmas.List.{append-nil, drop_min, length-drop, map-append, take_more, get_or-drop, take_min}
+use Rattle.std.proofs.lemmas.List.{drop_min, length-drop, take_more, get_or-drop, take_min}
 use Rattle.std.proofs.lemmas.Option.{get_or_from_slice_get, slice_get_within}
-use Rattle.json.specs.Token.{Token}
-use Rattle.serde_json.specs.Data.{Data}
+use Rattle.json.specs.Token.{begin_array, end_array}
+use Rattle.serde_json.specs.Data.{Data, array}
+use Rattle.serde_json.specs.View.{items_of}
 use Rattle.ox_replies.specs.Pages.{entries_of, has_more}
 use Rattle.ox_query.specs.Paged.{rows_between}
-use Rattle.ox_query.specs.Written.{tokens_of, tokens_of_all}
+use Rattle.ox_query.specs.Written.{Adds, tokens_of, tokens_of_all}
+use Rattle.ox_query.specs.declared.bodies.Body.{Body}
+use Rattle.ox_query.proofs.Arrays.{begun, bracketed, one_behind}
+use Rattle.ox_query.proofs.Steps.{same, ◌▸◌}
 
 module _ {A : Type 0} where
   pub none_yet : (rows : List A) (first : ℕ) → rows_between rows first first ≡ []
@@ -26,25 +29,24 @@ module _ {A : Type 0} where
       ap (λ k. take k (drop first rows)) count ∙ take_more (drop first rows) (n - first) row many
       ∙ ap (λ x. take (n - first) (drop first rows) ++ x ∷ []) here
 
-  module _ (told : A → Data) (before : List Token) (rows : List A) where
+  module _ (told : A → Data) (rows : List A) where
     -- nothing is written of no row
-    pub none_written : (so_far : List Token) (first : ℕ) → so_far ≡ before → so_far ≡ before ++ tokens_of_all (map told (rows_between rows first first))
-    none_written so_far first is =
-        is ∙ sym (append-nil before) ∙ ap (λ (ids : List A). before ++ tokens_of_all (map told ids)) (sym (none_yet rows first))
+    pub none_written : {old new : Body} (first : ℕ) → Adds old new (begin_array ∷ []) → Adds old new (begin_array ∷ tokens_of_all (map told (rows_between rows first first)))
+    none_written first is = same (λ (xs : List A). begin_array ∷ tokens_of_all (map told xs)) (sym (none_yet rows first)) is
 
     -- one row more is written
-    pub one_row_more : (so_far new : List Token) (first n : ℕ) (row : A) → first ≤ n → slice_get rows n ≡ Some row
-        → so_far ≡ before ++ tokens_of_all (map told (rows_between rows first n)) → new ≡ so_far ++ tokens_of (told row)
-        → new ≡ before ++ tokens_of_all (map told (rows_between rows first (n + 1)))
-    one_row_more so_far new first n row from there is here =
-        let written : List Data = map told (rows_between rows first n) in
-        here ∙ ap (λ (ts : List Token). ts ++ tokens_of (told row)) is
-        ∙ append_assoc before (tokens_of_all written) (tokens_of (told row))
-        ∙ ap (λ (ts : List Token). before ++ ts) (
-        ap (λ (ts : List Token). tokens_of_all written ++ ts) (sym (append-nil (tokens_of (told row))))
-        ∙ sym (flat_map-append tokens_of written (told row ∷ []))
-        ∙ ap tokens_of_all (sym (map-append told (rows_between rows first n) (row ∷ [])) ∙ ap (map told) (sym (next_row rows first n row from there)))
-        )
+    pub one_row_more : {old so_far new : Body} (first n : ℕ) (row : A) → first ≤ n → slice_get rows n ≡ Some row
+        → Adds old so_far (begin_array ∷ tokens_of_all (map told (rows_between rows first n))) → Adds so_far new (tokens_of (told row))
+        → Adds old new (begin_array ∷ tokens_of_all (map told (rows_between rows first (n + 1))))
+    one_row_more first n row from there is here =
+        same begun (one_behind told (rows_between rows first n) row ∙ ap (λ (xs : List A). tokens_of_all (map told xs)) (sym (next_row rows first n row from there))) (is ▸ here)
+
+    -- all rows up to the end are written
+    pub rows_written : {old all new : Body} (first n end : ℕ) → n ≡ end
+        → Adds old all (begin_array ∷ tokens_of_all (map told (rows_between rows first n))) → Adds all new (end_array ∷ [])
+        → Adds old new (tokens_of (array (items_of (map told (rows_between rows first end)))))
+    rows_written first n end last is ends =
+        bracketed (map told (rows_between rows first end)) (same (λ (k : ℕ). begin_array ∷ tokens_of_all (map told (rows_between rows first k))) last is) ends
 
   -- the rows of a page are its entries
   module _ (page len : ℕ) (rows : List A) (long : len ≡ length rows) where

@@ -1,10 +1,10 @@
 -- What is written of trees, token by token.
-use Rattle.std.specs.Prelude.{◌≡◌, List, [], ◌++◌, flat_map, OnOk, Result}
+use Rattle.std.specs.Prelude.{◌≡◌, Bool, false, List, [], ◌++◌, flat_map}
 use Rattle.json.specs.Token.{Token}
 use Rattle.json.specs.Tree.{json_tokens}
-use Rattle.json.specs.Written.{Written}
 use Rattle.serde_json.specs.Data.{Data}
 use Rattle.serde_json.specs.Written.{outline}
+use Rattle.ox_query.specs.declared.bodies.Body.{Body}
 
 -- the tokens of a tree
 abbrev pub tokens_of : Data → List Token
@@ -14,15 +14,17 @@ tokens_of tree = json_tokens (outline tree)
 abbrev pub tokens_of_all : List Data → List Token
 tokens_of_all = flat_map tokens_of
 
--- if all went well, these tokens came behind those that stood there
-abbrev pub AddsTokens : {E : Type 0} → Result (Unit {0}) E → Written → Written → List Token → Type 0
-AddsTokens r old new tokens =
-    OnOk r ((new.before ≡ old.before) × (new.tokens ≡ old.tokens ++ tokens))
+-- with memory for all there was memory for what stood there before, and behind it came these tokens
+pub record Adds (old new : Body) (tokens : List Token) : Type 0 where
+  pub whole : new.is_short ≡ false
+      → (old.is_short ≡ false) × (new.out.before ≡ old.out.before)
+      × (new.out.tokens ≡ old.out.tokens ++ tokens)
 
 -- nothing is written yet
-abbrev pub IsBlank : Written → Type 0
-IsBlank out = (out.before ≡ []) × (out.tokens ≡ [])
+abbrev pub IsBlank : Body → Type 0
+IsBlank body = (body.out.before ≡ []) × (body.out.tokens ≡ [])
 
--- a tree is written, and nothing else
-abbrev pub IsTree : Written → Data → Type 0
-IsTree out tree = (out.before ≡ []) × (out.tokens ≡ tokens_of tree)
+-- if there was memory for all, a tree is written, and nothing else
+abbrev pub IsTree : Body → Data → Type 0
+IsTree body tree =
+    body.is_short ≡ false → (body.out.before ≡ []) × (body.out.tokens ≡ tokens_of tree)

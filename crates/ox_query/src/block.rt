@@ -3,34 +3,33 @@
 ghost use Rattle.std.specs.Prelude.{◌≡◌, IfOk, option_map, slice_get};
 ghost use Rattle.serde_json.specs.Written.{compact_text};
 ghost use Rattle.ox_replies.specs.Blocks.{block_tree};
-ghost use Rattle.ox_query.specs.Written.{AddsTokens, tokens_of};
+ghost use Rattle.ox_query.specs.Written.{Adds, tokens_of};
 
-use crate::bodies::{body_of, new_body};
+use crate::bodies::Body;
 use crate::values::write_hash;
-use json::Writer;
 use ox_bytes::{Bytes, Memory};
 use ox_model::View;
 use std::alloc::Global;
 
 /// Writes the block of a height and its hash.
-fn write_block(out: &mut Writer, height: u64, hash: &[u8; 32]) -> Result<(), Memory>
-    ensures { AddsTokens result out.old out.new (tokens_of (block_tree height hash.now)) }
+fn write_block(out: &mut Body, height: u64, hash: &[u8; 32])
+    ensures { Adds out.old out.new (tokens_of (block_tree height hash.now)) }
 {
-    out.begin_object()?;
-    out.key("hash")?;
-    write_hash(out, hash)?;
-    out.key("height")?;
-    out.u64(height)?;
-    Ok(out.end_object()?)
+    out.begin_object();
+    out.key("hash");
+    write_hash(out, hash);
+    out.key("height");
+    out.u64(height);
+    out.end_object();
 }
 
 /// The block of a height and its hash.
 fn block_body(alloc: Global, height: u64, hash: &[u8; 32]) -> Result<Bytes, Memory>
     ensures { IfOk result (λ body. body ≡ compact_text (block_tree height hash.now)) }
 {
-    let mut out = new_body(alloc)?;
-    write_block(&mut out, height, hash)?;
-    Ok(body_of(out))
+    let mut out = Body::new(alloc)?;
+    write_block(&mut out, height, hash);
+    out.into_bytes()
 }
 
 /// The block at a height, if there is one. `Memory` where there is none for it.

@@ -14,75 +14,74 @@ ghost use Rattle.ox_replies.specs.Texts.{number_in};
 ghost use Rattle.ox_replies.specs.Values.{count, hex, or_null, text_or_null};
 ghost use Rattle.ox_model.specs.Where.{where_is};
 ghost use Rattle.ox_query.specs.Paged.{rows_between};
-ghost use Rattle.ox_query.specs.Written.{AddsTokens, tokens_of};
+ghost use Rattle.ox_query.specs.Written.{Adds, tokens_of};
 
-use crate::bodies::{body_of, new_body};
+use crate::bodies::Body;
 use crate::ids::{write_children, write_id};
 use crate::marks::write_marks;
 use crate::pages::{page_of, write_page_end};
 use crate::parts::number;
 use crate::sat::write_place;
-use crate::values::{write_count_or_null, write_hex, write_integer};
-use json::Writer;
+use crate::values::{write_count_or_null, write_hex};
 use ox_bytes::{Bytes, Memory};
 use ox_envelope::read_id_text;
 use ox_model::{InsId, InsRow, Place, View};
 use std::alloc::Global;
 
 /// Writes how many bytes there are, or null without any.
-fn write_length_or_null(out: &mut Writer, bytes: &Option<Bytes>) -> Result<(), Memory>
-    ensures { AddsTokens result out.old out.new
+fn write_length_or_null(out: &mut Body, bytes: &Option<Bytes>)
+    ensures { Adds out.old out.new
         (tokens_of (or_null (λ bytes. count (length bytes)) bytes.now)) }
 {
     match bytes {
-        Some(bytes) => Ok(out.u64(bytes.len() as u64)?),
-        None => Ok(out.null()?),
+        Some(bytes) => out.u64(bytes.len() as u64),
+        None => out.null(),
     }
 }
 
 /// Writes bytes as text, or null where there are none or they aren't UTF-8.
-fn write_text_or_null(out: &mut Writer, bytes: &Option<Bytes>) -> Result<(), Memory>
-    ensures { AddsTokens result out.old out.new (tokens_of (or_null text_or_null bytes.now)) }
+fn write_text_or_null(out: &mut Body, bytes: &Option<Bytes>)
+    ensures { Adds out.old out.new (tokens_of (or_null text_or_null bytes.now)) }
 {
     let Some(bytes) = bytes else {
-        return Ok(out.null()?);
+        return out.null();
     };
     match str::from_utf8(bytes.as_slice()) {
-        Ok(text) => Ok(out.string(text)?),
-        Err(_) => Ok(out.null()?),
+        Ok(text) => out.string(text),
+        Err(_) => out.null(),
     }
 }
 
 /// Writes bytes as hexadecimal digits, or null without any.
-fn write_hex_or_null(alloc: Global, out: &mut Writer, bytes: &Option<Bytes>) -> Result<(), Memory>
-    ensures { AddsTokens result out.old out.new (tokens_of (or_null hex bytes.now)) }
+fn write_hex_or_null(alloc: Global, out: &mut Body, bytes: &Option<Bytes>)
+    ensures { Adds out.old out.new (tokens_of (or_null hex bytes.now)) }
 {
     match bytes {
         Some(bytes) => write_hex(alloc, out, bytes.as_slice()),
-        None => Ok(out.null()?),
+        None => out.null(),
     }
 }
 
 /// Writes an id, or null without one.
-fn write_id_or_null(out: &mut Writer, id: &Option<InsId>) -> Result<(), Memory>
-    ensures { AddsTokens result out.old out.new (tokens_of (or_null id_tree id.now)) }
+fn write_id_or_null(out: &mut Body, id: &Option<InsId>)
+    ensures { Adds out.old out.new (tokens_of (or_null id_tree id.now)) }
 {
     match id {
         Some(id) => write_id(out, id),
-        None => Ok(out.null()?),
+        None => out.null(),
     }
 }
 
 /// Writes ids, in order.
-fn write_id_list(out: &mut Writer, ids: &[InsId]) -> Result<(), Memory>
-    ensures { AddsTokens result out.old out.new
+fn write_id_list(out: &mut Body, ids: &[InsId])
+    ensures { Adds out.old out.new
         (tokens_of (array (items_of (map id_tree ids.now)))) }
 {
-    out.begin_array()?;
+    out.begin_array();
     for id in ids {
-        write_id(out, id)?;
+        write_id(out, id);
     }
-    Ok(out.end_array()?)
+    out.end_array();
 }
 
 /// Where an inscription is that is on this satoshi, if it is anywhere.
@@ -93,54 +92,48 @@ fn place_on<V: View>(live: &V, sat: Option<u64>) -> Option<Place>
 }
 
 /// Writes an inscription with its sequence.
-fn write_inscription<V: View>(
-    alloc: Global,
-    out: &mut Writer,
-    live: &V,
-    n: u32,
-    row: &InsRow,
-) -> Result<(), Memory>
+fn write_inscription<V: View>(alloc: Global, out: &mut Body, live: &V, n: u32, row: &InsRow)
     requires { slice_get (V.index live.now).inscriptions n ≡ Some row.now }
-    ensures { AddsTokens result out.old out.new (tokens_of
+    ensures { Adds out.old out.new (tokens_of
         (inscription_tree (V.chain live.now).jubilee (V.index live.now) n row.now)) }
 {
     let jubilee = live.profile().jubilee;
-    out.begin_object()?;
-    out.key("children")?;
-    write_children(out, live, n)?;
-    out.key("content_length")?;
-    write_length_or_null(out, &row.body)?;
-    out.key("content_type")?;
-    write_text_or_null(out, &row.content_type)?;
-    out.key("cursed")?;
-    out.boolean(row.is_cursed(jubilee))?;
-    out.key("delegate")?;
-    write_id_or_null(out, &row.delegate)?;
-    out.key("encoding")?;
-    write_text_or_null(out, &row.encoding)?;
-    out.key("height")?;
-    out.u64(u64::from(row.height))?;
-    out.key("id")?;
-    write_id(out, &row.id)?;
-    out.key("marks")?;
-    write_marks(out, row.marks)?;
-    out.key("metadata")?;
-    write_hex_or_null(alloc, out, &row.metadata)?;
-    out.key("metaprotocol")?;
-    write_text_or_null(out, &row.metaprotocol)?;
-    out.key("number")?;
-    write_integer(out, live.number(n))?;
-    out.key("parents")?;
-    write_id_list(out, row.parents.as_slice())?;
-    out.key("place")?;
-    write_place(out, place_on(live, row.sat))?;
-    out.key("sat")?;
-    write_count_or_null(out, row.sat)?;
-    out.key("sequence")?;
-    out.u64(u64::from(n))?;
-    out.key("vindicated")?;
-    out.boolean(row.is_vindicated(jubilee))?;
-    Ok(out.end_object()?)
+    out.begin_object();
+    out.key("children");
+    write_children(out, live, n);
+    out.key("content_length");
+    write_length_or_null(out, &row.body);
+    out.key("content_type");
+    write_text_or_null(out, &row.content_type);
+    out.key("cursed");
+    out.boolean(row.is_cursed(jubilee));
+    out.key("delegate");
+    write_id_or_null(out, &row.delegate);
+    out.key("encoding");
+    write_text_or_null(out, &row.encoding);
+    out.key("height");
+    out.u64(u64::from(row.height));
+    out.key("id");
+    write_id(out, &row.id);
+    out.key("marks");
+    write_marks(out, row.marks);
+    out.key("metadata");
+    write_hex_or_null(alloc, out, &row.metadata);
+    out.key("metaprotocol");
+    write_text_or_null(out, &row.metaprotocol);
+    out.key("number");
+    out.i64(live.number(n));
+    out.key("parents");
+    write_id_list(out, row.parents.as_slice());
+    out.key("place");
+    write_place(out, place_on(live, row.sat));
+    out.key("sat");
+    write_count_or_null(out, row.sat);
+    out.key("sequence");
+    out.u64(u64::from(n));
+    out.key("vindicated");
+    out.boolean(row.is_vindicated(jubilee));
+    out.end_object();
 }
 
 /// The sequence of the inscription that a part names, if there is one.
@@ -160,9 +153,9 @@ fn row_body<V: View>(alloc: Global, live: &V, n: u32, row: &InsRow) -> Result<By
     ensures { IfOk result (λ body. body ≡ compact_text
         (inscription_tree (V.chain live.now).jubilee (V.index live.now) n row.now)) }
 {
-    let mut out = new_body(alloc)?;
-    write_inscription(alloc, &mut out, live, n, row)?;
-    Ok(body_of(out))
+    let mut out = Body::new(alloc)?;
+    write_inscription(alloc, &mut out, live, n, row);
+    out.into_bytes()
 }
 
 /// The inscription that a part names, if there is one. `Memory` where there is none for it.
@@ -182,30 +175,30 @@ pub(crate) fn inscription_body<V: View>(
 }
 
 /// Writes the ids of the inscriptions from one up to another, without that.
-fn write_row_ids<V: View>(out: &mut Writer, live: &V, first: u32, end: u32) -> Result<(), Memory>
+fn write_row_ids<V: View>(out: &mut Body, live: &V, first: u32, end: u32)
     requires rising { first ≤ end }
     requires there { end ≤ length (V.index live.now).inscriptions }
-    ensures { AddsTokens result out.old out.new (tokens_of (array (items_of
+    ensures { Adds out.old out.new (tokens_of (array (items_of
         (map inscription_id (rows_between (V.index live.now).inscriptions first end))))) }
 {
-    out.begin_array()?;
+    out.begin_array();
     for n in first..end {
-        write_id(out, &live.inscription(n).id)?;
+        write_id(out, &live.inscription(n).id);
     }
-    Ok(out.end_array()?)
+    out.end_array();
 }
 
 /// Writes a page of inscriptions.
-fn write_page<V: View>(out: &mut Writer, live: &V, page: u64) -> Result<(), Memory>
-    ensures { AddsTokens result out.old out.new
+fn write_page<V: View>(out: &mut Body, live: &V, page: u64)
+    ensures { Adds out.old out.new
         (tokens_of (page_tree inscription_id (V.index live.now).inscriptions page)) }
 {
     let rows = page_of(page, live.inscriptions());
-    out.begin_object()?;
-    out.key("ids")?;
-    write_row_ids(out, live, rows.first, rows.end)?;
-    write_page_end(out, rows.more, page)?;
-    Ok(out.end_object()?)
+    out.begin_object();
+    out.key("ids");
+    write_row_ids(out, live, rows.first, rows.end);
+    write_page_end(out, rows.more, page);
+    out.end_object();
 }
 
 /// The body of a page of inscriptions.
@@ -213,9 +206,9 @@ fn page_body<V: View>(alloc: Global, live: &V, page: u64) -> Result<Bytes, Memor
     ensures { IfOk result (λ body. body
         ≡ compact_text (page_tree inscription_id (V.index live.now).inscriptions page)) }
 {
-    let mut out = new_body(alloc)?;
-    write_page(&mut out, live, page)?;
-    Ok(body_of(out))
+    let mut out = Body::new(alloc)?;
+    write_page(&mut out, live, page);
+    out.into_bytes()
 }
 
 /// The page of inscriptions whose number a part spells, if any. `Memory` where there is none for

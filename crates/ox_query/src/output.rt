@@ -5,14 +5,13 @@ ghost use Rattle.std.specs.FinMap as map;
 ghost use Rattle.serde_json.specs.Data.{array};
 ghost use Rattle.serde_json.specs.Written.{compact_text};
 ghost use Rattle.ox_replies.specs.Outputs.{output_tree, run_items, run_tree};
-ghost use Rattle.ox_query.specs.Written.{AddsTokens, tokens_of};
+ghost use Rattle.ox_query.specs.Written.{Adds, tokens_of};
 ghost use Rattle.ox_range.specs.Runs.{AreMaximal};
 
 use crate::balances::write_balances;
-use crate::bodies::{body_of, new_body};
+use crate::bodies::Body;
 use crate::ids::write_ids_in;
 use crate::values::write_hex;
-use json::Writer;
 use ox_block::OutPoint;
 use ox_bytes::{Bytes, Memory};
 use ox_model::{OutRow, View};
@@ -20,53 +19,47 @@ use ox_range::Run;
 use std::alloc::Global;
 
 /// Writes a run's first satoshi, and the one behind its last.
-fn write_run(out: &mut Writer, run: &Run) -> Result<(), Memory>
+fn write_run(out: &mut Body, run: &Run)
     requires { run.now.first + run.now.count < 2 ^ 64 }
-    ensures { AddsTokens result out.old out.new (tokens_of (run_tree run.now)) }
+    ensures { Adds out.old out.new (tokens_of (run_tree run.now)) }
 {
-    out.begin_array()?;
-    out.u64(run.first)?;
-    out.u64(run.first + run.count)?;
-    Ok(out.end_array()?)
+    out.begin_array();
+    out.u64(run.first);
+    out.u64(run.first + run.count);
+    out.end_array();
 }
 
 /// Writes runs, in order.
-fn write_runs(out: &mut Writer, runs: &[Run]) -> Result<(), Memory>
+fn write_runs(out: &mut Body, runs: &[Run])
     requires { AreMaximal runs.now }
-    ensures { AddsTokens result out.old out.new (tokens_of (array (run_items runs.now))) }
+    ensures { Adds out.old out.new (tokens_of (array (run_items runs.now))) }
 {
-    out.begin_array()?;
+    out.begin_array();
     for run in runs {
-        write_run(out, run)?;
+        write_run(out, run);
     }
-    Ok(out.end_array()?)
+    out.end_array();
 }
 
 /// Writes an unspent output.
-fn write_output<V: View>(
-    alloc: Global,
-    out: &mut Writer,
-    live: &V,
-    at: &OutPoint,
-    row: &OutRow,
-) -> Result<(), Memory>
-    ensures { AddsTokens result out.old out.new
+fn write_output<V: View>(alloc: Global, out: &mut Body, live: &V, at: &OutPoint, row: &OutRow)
+    ensures { Adds out.old out.new
         (tokens_of (output_tree (V.index live.now) at.now row.now)) }
 {
-    out.begin_object()?;
-    out.key("height")?;
-    out.u64(u64::from(row.height))?;
-    out.key("inscriptions")?;
-    write_ids_in(out, live, &row.sats)?;
-    out.key("ranges")?;
-    write_runs(out, row.sats.runs())?;
-    out.key("runes")?;
-    write_balances(out, live, at)?;
-    out.key("script")?;
-    write_hex(alloc, out, row.script.as_slice())?;
-    out.key("value")?;
-    out.u64(row.sats.len())?;
-    Ok(out.end_object()?)
+    out.begin_object();
+    out.key("height");
+    out.u64(u64::from(row.height));
+    out.key("inscriptions");
+    write_ids_in(out, live, &row.sats);
+    out.key("ranges");
+    write_runs(out, row.sats.runs());
+    out.key("runes");
+    write_balances(out, live, at);
+    out.key("script");
+    write_hex(alloc, out, row.script.as_slice());
+    out.key("value");
+    out.u64(row.sats.len());
+    out.end_object();
 }
 
 /// An unspent output.
@@ -79,9 +72,9 @@ fn output_body<V: View>(
     ensures { IfOk result
         (λ body. body ≡ compact_text (output_tree (V.index live.now) at.now row.now)) }
 {
-    let mut out = new_body(alloc)?;
-    write_output(alloc, &mut out, live, at, row)?;
-    Ok(body_of(out))
+    let mut out = Body::new(alloc)?;
+    write_output(alloc, &mut out, live, at, row);
+    out.into_bytes()
 }
 
 /// The unspent output at an outpoint, if there is one. `Memory` where there is none for it.

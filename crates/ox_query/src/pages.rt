@@ -2,13 +2,12 @@
 
 ghost use Rattle.std.specs.Prelude.{◌≡◌, ◌+◌, ◌*◌, min, nat_lt};
 ghost use Rattle.ox_query.specs.Paged.{page_end};
-ghost use Rattle.ox_query.specs.Written.{AddsTokens};
+ghost use Rattle.ox_query.specs.Written.{Adds};
 
-use json::Writer;
-use ox_bytes::Memory;
+use crate::bodies::Body;
 
 /// Which rows a page has.
-#[derive(Clone, Copy, Debug, PartialEq, Eq)]
+#[derive(Drop)]
 pub(crate) struct PageRows {
     /// The first of them.
     pub first: u32,
@@ -34,13 +33,12 @@ pub(crate) fn page_of(page: u64, len: u32) -> PageRows
     }
 }
 
-/// Writes what stands behind a page's ids: whether more follow, and its number. `Memory` where
-/// there is none for it.
-pub(crate) fn write_page_end(out: &mut Writer, more: bool, page: u64) -> Result<(), Memory>
-    ensures { AddsTokens result out.old out.new (page_end more page) }
+/// Writes what stands behind a page's ids: whether more follow, and its number.
+pub(crate) fn write_page_end(out: &mut Body, more: bool, page: u64)
+    ensures { Adds out.old out.new (page_end more page) }
 {
-    out.key("more")?;
-    out.boolean(more)?;
-    out.key("page")?;
-    Ok(out.u64(page)?)
+    out.key("more");
+    out.boolean(more);
+    out.key("page");
+    out.u64(page);
 }

@@ -8,11 +8,11 @@ ghost use Rattle.ox_replies.specs.Ask.{same_method, tree_at, tree_reply};
 ghost use Rattle.ox_replies.specs.Content.{content_at};
 ghost use Rattle.ox_replies.specs.Errors.{error_tree};
 ghost use Rattle.ox_query.specs.Asked.{asked_of};
-ghost use Rattle.ox_query.specs.Written.{AddsTokens, tokens_of};
+ghost use Rattle.ox_query.specs.Written.{Adds, tokens_of};
 
 use crate::audit::audit_body;
 use crate::block::block_at;
-use crate::bodies::{body_of, new_body};
+use crate::bodies::Body;
 use crate::content::content_at;
 use crate::inscription::{inscription_body, inscription_page_body};
 use crate::output::output_at;
@@ -21,7 +21,6 @@ use crate::rune::rune_body;
 use crate::rune_page::rune_page_body;
 use crate::sat::sat_body;
 use crate::status::status_body;
-use json::Writer;
 use ox_bytes::{Bytes, Memory};
 use ox_http::{Method, Reply, Request};
 use ox_model::{About, View};
@@ -43,22 +42,22 @@ fn tree_reply(alloc: Global, status: u16, body: Bytes, close: bool) -> Result<Re
 }
 
 /// Writes what a status that isn't 200 says.
-fn write_error(out: &mut Writer, status: u16) -> Result<(), Memory>
-    ensures { AddsTokens result out.old out.new (tokens_of (error_tree status)) }
+fn write_error(out: &mut Body, status: u16)
+    ensures { Adds out.old out.new (tokens_of (error_tree status)) }
 {
-    out.begin_object()?;
-    out.key("error")?;
-    out.u64(u64::from(status))?;
-    Ok(out.end_object()?)
+    out.begin_object();
+    out.key("error");
+    out.u64(u64::from(status));
+    out.end_object();
 }
 
 /// What a status that isn't 200 says.
 fn error_body(alloc: Global, status: u16) -> Result<Bytes, Memory>
     ensures { IfOk result (λ body. body ≡ compact_text (error_tree status)) }
 {
-    let mut out = new_body(alloc)?;
-    write_error(&mut out, status)?;
-    Ok(body_of(out))
+    let mut out = Body::new(alloc)?;
+    write_error(&mut out, status);
+    out.into_bytes()
 }
 
 /// A status that isn't 200.

@@ -9,13 +9,12 @@ ghost use Rattle.ox_replies.specs.Runes.{character, rune_tree, span_tree};
 ghost use Rattle.ox_etching.specs.Minted.{minted};
 ghost use Rattle.ox_model.specs.Found.{held_of};
 ghost use Rattle.ox_replies.specs.Values.{amount, or_null};
-ghost use Rattle.ox_query.specs.Written.{AddsTokens, tokens_of};
+ghost use Rattle.ox_query.specs.Written.{Adds, tokens_of};
 
-use crate::bodies::{body_of, new_body};
+use crate::bodies::Body;
 use crate::rune_named::rune_named;
 use crate::rune_values::{write_amount, write_rune_id, write_rune_name};
 use crate::values::{write_count_or_null, write_hash};
-use json::Writer;
 use ox_bytes::{Bytes, Memory};
 use ox_etching::minted;
 use ox_model::{RuneRow, View};
@@ -23,69 +22,69 @@ use ox_runestone::Terms;
 use std::alloc::Global;
 
 /// Writes an amount, or null without one.
-fn write_amount_or_null(out: &mut Writer, number: Option<u128>) -> Result<(), Memory>
-    ensures { AddsTokens result out.old out.new (tokens_of (or_null amount number)) }
+fn write_amount_or_null(out: &mut Body, number: Option<u128>)
+    ensures { Adds out.old out.new (tokens_of (or_null amount number)) }
 {
     match number {
         Some(number) => write_amount(out, number),
-        None => Ok(out.null()?),
+        None => out.null(),
     }
 }
 
 /// Writes a start and an end, each null where it is missing.
-fn write_span(out: &mut Writer, start: Option<u64>, end: Option<u64>) -> Result<(), Memory>
-    ensures { AddsTokens result out.old out.new (tokens_of (span_tree start end)) }
+fn write_span(out: &mut Body, start: Option<u64>, end: Option<u64>)
+    ensures { Adds out.old out.new (tokens_of (span_tree start end)) }
 {
-    out.begin_array()?;
-    write_count_or_null(out, start)?;
-    write_count_or_null(out, end)?;
-    Ok(out.end_array()?)
+    out.begin_array();
+    write_count_or_null(out, start);
+    write_count_or_null(out, end);
+    out.end_array();
 }
 
 /// What a mint gives, if the terms say it.
-fn amount_of(terms: Option<Terms>) -> Option<u128>
-    ensures { result ≡ option_and_then (λ t. t.amount) terms }
+fn amount_of(terms: &Option<Terms>) -> Option<u128>
+    ensures { result ≡ option_and_then (λ t. t.amount) terms.now }
 {
-    terms?.amount
+    terms.as_ref()?.amount
 }
 
 /// How many mints there may be, if the terms say it.
-fn cap_of(terms: Option<Terms>) -> Option<u128>
-    ensures { result ≡ option_and_then (λ t. t.cap) terms }
+fn cap_of(terms: &Option<Terms>) -> Option<u128>
+    ensures { result ≡ option_and_then (λ t. t.cap) terms.now }
 {
-    terms?.cap
+    terms.as_ref()?.cap
 }
 
 /// Writes the first open and the first closed height, or null without terms.
-fn write_heights(out: &mut Writer, terms: Option<Terms>) -> Result<(), Memory>
-    ensures { AddsTokens result out.old out.new
-        (tokens_of (or_null (λ t. span_tree t.height_start t.height_end) terms)) }
+fn write_heights(out: &mut Body, terms: &Option<Terms>)
+    ensures { Adds out.old out.new
+        (tokens_of (or_null (λ t. span_tree t.height_start t.height_end) terms.now)) }
 {
     match terms {
         Some(terms) => write_span(out, terms.height_start, terms.height_end),
-        None => Ok(out.null()?),
+        None => out.null(),
     }
 }
 
 /// Writes the first open and the first closed height, counted from the etching's, or null without
 /// terms.
-fn write_offsets(out: &mut Writer, terms: Option<Terms>) -> Result<(), Memory>
-    ensures { AddsTokens result out.old out.new
-        (tokens_of (or_null (λ t. span_tree t.offset_start t.offset_end) terms)) }
+fn write_offsets(out: &mut Body, terms: &Option<Terms>)
+    ensures { Adds out.old out.new
+        (tokens_of (or_null (λ t. span_tree t.offset_start t.offset_end) terms.now)) }
 {
     match terms {
         Some(terms) => write_span(out, terms.offset_start, terms.offset_end),
-        None => Ok(out.null()?),
+        None => out.null(),
     }
 }
 
 /// Writes a character, or null without one.
-fn write_symbol(out: &mut Writer, symbol: Option<char>) -> Result<(), Memory>
-    ensures { AddsTokens result out.old out.new (tokens_of (or_null character symbol)) }
+fn write_symbol(out: &mut Body, symbol: Option<char>)
+    ensures { Adds out.old out.new (tokens_of (or_null character symbol)) }
 {
     match symbol {
-        Some(symbol) => Ok(out.string(symbol.encode_utf8(&mut [0; 4]))?),
-        None => Ok(out.null()?),
+        Some(symbol) => out.string(symbol.encode_utf8(&mut [0; 4])),
+        None => out.null(),
     }
 }
 
@@ -105,43 +104,43 @@ fn is_mintable<V: View>(live: &V, row: &RuneRow) -> bool
 }
 
 /// Writes a rune with its number.
-fn write_rune<V: View>(out: &mut Writer, live: &V, n: u32, row: &RuneRow) -> Result<(), Memory>
+fn write_rune<V: View>(out: &mut Body, live: &V, n: u32, row: &RuneRow)
     requires { slice_get (V.index live.now).runes n ≡ Some row.now }
-    ensures { AddsTokens result out.old out.new
+    ensures { Adds out.old out.new
         (tokens_of (rune_tree (V.index live.now) n row.now)) }
 {
-    out.begin_object()?;
-    out.key("amount")?;
-    write_amount_or_null(out, amount_of(row.terms))?;
-    out.key("burned")?;
-    write_amount(out, row.burned)?;
-    out.key("cap")?;
-    write_amount_or_null(out, cap_of(row.terms))?;
-    out.key("divisibility")?;
-    out.u64(u64::from(row.divisibility))?;
-    out.key("etching")?;
-    write_hash(out, &row.etching.0)?;
-    out.key("height")?;
-    write_heights(out, row.terms)?;
-    out.key("held")?;
-    write_amount(out, amount_held(live, n, row))?;
-    out.key("id")?;
-    write_rune_id(out, &row.id)?;
-    out.key("mintable")?;
-    out.boolean(is_mintable(live, row))?;
-    out.key("mints")?;
-    write_amount(out, row.mints)?;
-    out.key("name")?;
-    write_rune_name(out, row)?;
-    out.key("number")?;
-    out.u64(u64::from(n))?;
-    out.key("offset")?;
-    write_offsets(out, row.terms)?;
-    out.key("premine")?;
-    write_amount(out, row.premine)?;
-    out.key("symbol")?;
-    write_symbol(out, row.symbol)?;
-    Ok(out.end_object()?)
+    out.begin_object();
+    out.key("amount");
+    write_amount_or_null(out, amount_of(&row.terms));
+    out.key("burned");
+    write_amount(out, row.burned);
+    out.key("cap");
+    write_amount_or_null(out, cap_of(&row.terms));
+    out.key("divisibility");
+    out.u64(u64::from(row.divisibility));
+    out.key("etching");
+    write_hash(out, &row.etching.0);
+    out.key("height");
+    write_heights(out, &row.terms);
+    out.key("held");
+    write_amount(out, amount_held(live, n, row));
+    out.key("id");
+    write_rune_id(out, &row.id);
+    out.key("mintable");
+    out.boolean(is_mintable(live, row));
+    out.key("mints");
+    write_amount(out, row.mints);
+    out.key("name");
+    write_rune_name(out, row);
+    out.key("number");
+    out.u64(u64::from(n));
+    out.key("offset");
+    write_offsets(out, &row.terms);
+    out.key("premine");
+    write_amount(out, row.premine);
+    out.key("symbol");
+    write_symbol(out, row.symbol);
+    out.end_object();
 }
 
 /// The body of a rune with its number.
@@ -150,9 +149,9 @@ fn body_with<V: View>(alloc: Global, live: &V, n: u32, row: &RuneRow) -> Result<
     ensures { IfOk result
         (λ body. body ≡ compact_text (rune_tree (V.index live.now) n row.now)) }
 {
-    let mut out = new_body(alloc)?;
-    write_rune(&mut out, live, n, row)?;
-    Ok(body_of(out))
+    let mut out = Body::new(alloc)?;
+    write_rune(&mut out, live, n, row);
+    out.into_bytes()
 }
 
 /// The rune with the id or the name that a part spells, if there is one: its terms, how much of it

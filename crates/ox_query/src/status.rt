@@ -4,11 +4,10 @@ ghost use Rattle.std.specs.Prelude.{◌≡◌, IfOk, option_copied};
 ghost use Rattle.serde_json.specs.Written.{compact_text};
 ghost use Rattle.ox_replies.specs.Status.{status_tree, tip};
 ghost use Rattle.ox_query.specs.Asked.{asked_of};
-ghost use Rattle.ox_query.specs.Written.{AddsTokens, tokens_of};
+ghost use Rattle.ox_query.specs.Written.{Adds, tokens_of};
 
-use crate::bodies::{body_of, new_body};
+use crate::bodies::Body;
 use crate::values::write_hash_or_null;
-use json::Writer;
 use ox_bytes::{Bytes, Memory};
 use ox_model::{About, View};
 use ox_sat::ProfileName;
@@ -22,23 +21,23 @@ fn newest<V: View>(live: &V) -> Option<&[u8; 32]>
 }
 
 /// Writes what is asked of a chain's blocks.
-fn write_status<V: View>(out: &mut Writer, live: &V, about: &About) -> Result<(), Memory>
-    ensures { AddsTokens result out.old out.new (tokens_of
+fn write_status<V: View>(out: &mut Body, live: &V, about: &About)
+    ensures { Adds out.old out.new (tokens_of
         (status_tree (asked_of (V.chain live.now) (V.index live.now) about.now))) }
 {
     let profile = ProfileName::of_byte(live.profile().byte);
-    out.begin_object()?;
-    out.key("blocks")?;
-    out.u64(u64::from(live.blocks()))?;
-    out.key("depth")?;
-    out.u64(u64::from(about.depth))?;
-    out.key("kept")?;
-    out.u64(u64::from(about.kept))?;
-    out.key("profile")?;
-    out.string(profile.word())?;
-    out.key("tip")?;
-    write_hash_or_null(out, newest(live))?;
-    Ok(out.end_object()?)
+    out.begin_object();
+    out.key("blocks");
+    out.u64(u64::from(live.blocks()));
+    out.key("depth");
+    out.u64(u64::from(about.depth));
+    out.key("kept");
+    out.u64(u64::from(about.kept));
+    out.key("profile");
+    out.string(profile.word());
+    out.key("tip");
+    write_hash_or_null(out, newest(live));
+    out.end_object();
 }
 
 /// How many blocks there are, may be taken back and can be, the profile and the newest block's
@@ -47,7 +46,7 @@ pub(crate) fn status_body<V: View>(alloc: Global, live: &V, about: &About) -> Re
     ensures { IfOk result (λ body. body ≡ compact_text
         (status_tree (asked_of (V.chain live.now) (V.index live.now) about.now))) }
 {
-    let mut out = new_body(alloc)?;
-    write_status(&mut out, live, about)?;
-    Ok(body_of(out))
+    let mut out = Body::new(alloc)?;
+    write_status(&mut out, live, about);
+    out.into_bytes()
 }

@@ -3,22 +3,21 @@
 ghost use Rattle.std.specs.Prelude.{◌≡◌, ◌+◌, ◌<◌, ◌≤◌, ◌++◌, decimal, length};
 ghost use Rattle.serde_json.specs.Data.{string};
 ghost use Rattle.ox_replies.specs.Texts.{decimal_text, degree_text, rarity_text};
-ghost use Rattle.ox_query.specs.Written.{AddsTokens, tokens_of};
+ghost use Rattle.ox_query.specs.Written.{Adds, tokens_of};
 ghost use Rattle.ox_rules.specs.Text.{outpoint_text};
 ghost use Rattle.ox_sat.specs.Names.{name_of};
 ghost use Rattle.ox_sat.specs.Profiles.{IsProfile};
 
+use crate::bodies::Body;
 use crate::values::text_of;
 use arrayvec::ArrayString;
 use itoa::Buffer;
-use json::Writer;
 use ox_block::OutPoint;
-use ox_bytes::Memory;
 use ox_rules::hash_digits;
 use ox_sat::{Degree, Profile, Rarity, first, height_of};
 
 /// A satoshi's height and its place in that block, with a point between.
-pub(crate) fn decimal_text(p: &Profile, sat: u64) -> ArrayString<41>
+fn decimal_text(p: &Profile, sat: u64) -> ArrayString<41>
     requires known { IsProfile p.now }
     requires minted { sat < p.now.supply }
     ensures { result.bytes ≡ decimal_text p.now sat }
@@ -29,6 +28,15 @@ pub(crate) fn decimal_text(p: &Profile, sat: u64) -> ArrayString<41>
     text.push_str(".");
     text.push_str(Buffer::new().format(sat - first(p, height)));
     text
+}
+
+/// Writes a satoshi's height and its place in that block, with a point between.
+pub(crate) fn write_decimal(out: &mut Body, p: &Profile, sat: u64)
+    requires known { IsProfile p.now }
+    requires minted { sat < p.now.supply }
+    ensures { Adds out.old out.new (tokens_of (string (decimal_text p.now sat))) }
+{
+    out.string(decimal_text(p, sat).as_str());
 }
 
 /// Puts a number and the mark behind it.
@@ -42,7 +50,7 @@ fn push_part(text: &mut ArrayString<91>, number: u64, mark: &str)
 }
 
 /// A degree as the Ordinal Theory Handbook writes it: hour°minute′second″third‴.
-pub(crate) fn degree_text(degree: &Degree) -> ArrayString<91>
+fn degree_text(degree: &Degree) -> ArrayString<91>
     ensures { result.bytes ≡ degree_text degree.now }
 {
     let mut text = ArrayString::new();
@@ -51,6 +59,13 @@ pub(crate) fn degree_text(degree: &Degree) -> ArrayString<91>
     push_part(&mut text, degree.second, "″");
     push_part(&mut text, degree.third, "‴");
     text
+}
+
+/// Writes a degree as the Ordinal Theory Handbook does.
+pub(crate) fn write_degree(out: &mut Body, degree: &Degree)
+    ensures { Adds out.old out.new (tokens_of (string (degree_text degree.now))) }
+{
+    out.string(degree_text(degree).as_str());
 }
 
 /// The word of a rarity.
@@ -67,15 +82,15 @@ pub(crate) fn rarity_word(rarity: Rarity) -> &'static str
     }
 }
 
-/// Writes a satoshi's name. `Memory` where there is none for it.
-pub(crate) fn write_sat_name(out: &mut Writer, p: &Profile, sat: u64) -> Result<(), Memory>
+/// Writes a satoshi's name.
+pub(crate) fn write_sat_name(out: &mut Body, p: &Profile, sat: u64)
     requires known { IsProfile p.now }
     requires minted { sat < p.now.supply }
-    ensures { AddsTokens result out.old out.new (tokens_of (string (name_of p.now sat))) }
+    ensures { Adds out.old out.new (tokens_of (string (name_of p.now sat))) }
 {
     let mut letters = [0; 11];
     let len = ox_sat::write_name(p, sat, &mut letters);
-    Ok(out.string(text_of(&letters[..len]))?)
+    out.string(text_of(&letters[..len]));
 }
 
 /// An outpoint as it is printed.
@@ -90,9 +105,9 @@ fn outpoint_text(at: &OutPoint) -> ArrayString<75>
     text
 }
 
-/// Writes an outpoint as it is printed. `Memory` where there is none for it.
-pub(crate) fn write_outpoint(out: &mut Writer, at: &OutPoint) -> Result<(), Memory>
-    ensures { AddsTokens result out.old out.new (tokens_of (string (outpoint_text at.now))) }
+/// Writes an outpoint as it is printed.
+pub(crate) fn write_outpoint(out: &mut Body, at: &OutPoint)
+    ensures { Adds out.old out.new (tokens_of (string (outpoint_text at.now))) }
 {
-    Ok(out.string(outpoint_text(at).as_str())?)
+    out.string(outpoint_text(at).as_str());
 }

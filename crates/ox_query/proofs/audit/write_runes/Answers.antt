@@ -1,13 +1,16 @@
-use Rattle.std.proofs.Common.{◌∙◌, [], ◌∷◌, ◌++◌, map}
-use Rattle.json.specs.Token.{begin_array}
+use Rattle.std.proofs.Common.{map}
 use Rattle.ox_replies.specs.Audits.{rune_audit_tree}
-use Rattle.ox_query.proofs.Arrays.{all, bracketed}
+use Rattle.ox_query.proofs.Arrays.{all, bracketed, one_more}
 use Rattle.ox_query.proofs.audit.write_runes.Goals as goal
 
+pub loop-rune-init : goal.loop-rune-init
+loop-rune-init c = c.begin_array.ensures
+
+pub loop-rune-preserved : goal.loop-rune-preserved
+loop-rune-preserved c =
+    one_more rune_audit_tree c.args.runes.now c.loop-rune.rune-index _ c.loop-rune-test.true c.loop-rune.invariant c.write_rune_audit.ensures
+
 pub returns : goal.returns
-returns c = (
-  c.in_ok-end_array.ensures.room.0 ∙ c.loop-rune.invariant.0,
-  bracketed c.args.out.now.tokens c.loop-rune.out.tokens c.end_array.new.self.tokens (map rune_audit_tree c.args.runes.now)
-      (all rune_audit_tree (c.args.out.now.tokens ++ begin_array ∷ []) c.args.runes.now c.loop-rune.out.tokens c.loop-rune.rune-index c.loop-rune-test.false c.loop-rune.invariant.1)
-      c.in_ok-end_array.ensures.ok,
-)
+returns c =
+    bracketed (map rune_audit_tree c.args.runes.now)
+    (all rune_audit_tree c.args.runes.now c.loop-rune.rune-index c.loop-rune-test.false c.loop-rune.invariant) c.end_array.ensures

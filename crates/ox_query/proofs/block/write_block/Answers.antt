@@ -1,9 +1,9 @@
-use Rattle.ox_query.proofs.Steps.{all, token, value, ◌▸◌}
+use Rattle.ox_query.proofs.Steps.{◌▸◌}
 use Rattle.ox_query.proofs.block.write_block.Goals as goal
 
 pub returns : goal.returns
 returns c =
-    all (token c.in_ok-begin_object.ensures
-    ▸ token c.in_ok-key.ensures ▸ value _ _ _ c.in_ok-write_hash.ensures
-    ▸ token c.in_ok-key-2.ensures ▸ token c.in_ok-u64.ensures
-    ▸ token c.in_ok-end_object.ensures)
+    c.begin_object.ensures
+    ▸ c.key.ensures ▸ c.write_hash.ensures
+    ▸ c.key-2.ensures ▸ c.u64.ensures
+    ▸ c.end_object.ensures

@@ -1,13 +1,16 @@
-use Rattle.std.proofs.Common.{◌∙◌, [], ◌∷◌, ◌++◌, map}
-use Rattle.json.specs.Token.{begin_array}
+use Rattle.std.proofs.Common.{map}
 use Rattle.ox_replies.specs.Inscriptions.{id_tree}
-use Rattle.ox_query.proofs.Arrays.{all, bracketed}
+use Rattle.ox_query.proofs.Arrays.{all, bracketed, one_more}
 use Rattle.ox_query.proofs.inscription.write_id_list.Goals as goal
 
+pub loop-id-init : goal.loop-id-init
+loop-id-init c = c.begin_array.ensures
+
+pub loop-id-preserved : goal.loop-id-preserved
+loop-id-preserved c =
+    one_more id_tree c.args.ids.now c.loop-id.id-index _ c.loop-id-test.true c.loop-id.invariant c.write_id.ensures
+
 pub returns : goal.returns
-returns c = (
-  c.in_ok-end_array.ensures.room.0 ∙ c.loop-id.invariant.0,
-  bracketed c.args.out.now.tokens c.loop-id.out.tokens c.end_array.new.self.tokens (map id_tree c.args.ids.now)
-      (all id_tree (c.args.out.now.tokens ++ begin_array ∷ []) c.args.ids.now c.loop-id.out.tokens c.loop-id.id-index c.loop-id-test.false c.loop-id.invariant.1)
-      c.in_ok-end_array.ensures.ok,
-)
+returns c =
+    bracketed (map id_tree c.args.ids.now)
+    (all id_tree c.args.ids.now c.loop-id.id-index c.loop-id-test.false c.loop-id.invariant) c.end_array.ensures

@@ -1,14 +1,14 @@
 use Rattle.ox_query.specs.Written.{tokens_of}
 use Rattle.ox_query.proofs.Bytes.{no_text, text_is}
-use Rattle.ox_query.proofs.Steps.{all, same, token}
+use Rattle.ox_query.proofs.Steps.{same}
 use Rattle.ox_query.proofs.inscription.write_text_or_null.Goals as goal
 
-pub returns-in_ok-string-in-Ok : goal.returns-in_ok-string-in-Ok
-returns-in_ok-string-in-Ok c =
-    all (same tokens_of
+pub returns-in-Ok : goal.returns-in-Ok
+returns-in-Ok c =
+    same tokens_of
     (text_is c.args.bytes.now c.in-Some.bytes c.as_slice.result.now c.in-Ok.text.now c.in-Some.is c.as_slice.ensures c.in-Ok.ensures.cases.0 c.in-Ok.ensures.cases.1)
-    (token c.in_ok-string-in-Ok.ensures))
+    c.string.ensures
 
-pub returns-in_ok-null-in-Err : goal.returns-in_ok-null-in-Err
-returns-in_ok-null-in-Err c =
-    all (same tokens_of (no_text c.args.bytes.now c.in-Some.bytes c.as_slice.result.now c.in-Some.is c.as_slice.ensures c.in-Err.ensures.cases.0) (token c.in_ok-null-in-Err.ensures))
+pub returns-in-Err : goal.returns-in-Err
+returns-in-Err c =
+    same tokens_of (no_text c.args.bytes.now c.in-Some.bytes c.as_slice.result.now c.in-Some.is c.as_slice.ensures c.in-Err.ensures.cases.0) c.null-in-Err.ensures

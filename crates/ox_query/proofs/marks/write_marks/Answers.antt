@@ -3,7 +3,7 @@ use Rattle.json.specs.Token.{Token, end_array}
 use Rattle.serde_json.specs.Data.{Data}
 use Rattle.ox_replies.specs.Inscriptions.{mark_if}
 use Rattle.ox_query.proofs.MarkTexts.{bracketed_marks, mark}
-use Rattle.ox_query.proofs.Steps.{all, token, value, ◌▸◌}
+use Rattle.ox_query.proofs.Steps.{◌▸◌}
 use Rattle.ox_query.proofs.marks.write_marks.Goals as goal
 
 pub returns : goal.returns
@@ -18,12 +18,12 @@ returns c =
     let from_input : List Data = mark_if m 8 (codes "input") from_offset in
     let from_incomplete : List Data = mark_if m 4 (codes "incomplete") from_input in
     let from_repeated : List Data = mark_if m 2 (codes "repeated") from_incomplete in
-    all (bracketed_marks m (token c.in_ok-begin_array.ensures
-    ▸ mark m 1 (codes "even") from_repeated bracket (value c.begin_array.new.self c.write_mark.new.out _ c.in_ok-write_mark.ensures)
-    (mark m 2 (codes "repeated") from_incomplete bracket (value c.write_mark.new.out c.write_mark-2.new.out _ c.in_ok-write_mark-2.ensures)
-    (mark m 4 (codes "incomplete") from_input bracket (value c.write_mark-2.new.out c.write_mark-3.new.out _ c.in_ok-write_mark-3.ensures)
-    (mark m 8 (codes "input") from_offset bracket (value c.write_mark-3.new.out c.write_mark-4.new.out _ c.in_ok-write_mark-4.ensures)
-    (mark m 16 (codes "offset") from_pointer bracket (value c.write_mark-4.new.out c.write_mark-5.new.out _ c.in_ok-write_mark-5.ensures)
-    (mark m 32 (codes "pointer") from_pushnum bracket (value c.write_mark-5.new.out c.write_mark-6.new.out _ c.in_ok-write_mark-6.ensures)
-    (mark m 64 (codes "pushnum") from_reinscription bracket (value c.write_mark-6.new.out c.write_mark-7.new.out _ c.in_ok-write_mark-7.ensures)
-    (mark m 128 (codes "reinscription") none bracket (value c.write_mark-7.new.out c.write_mark-8.new.out _ c.in_ok-write_mark-8.ensures) (token c.in_ok-end_array.ensures))))))))))
+    bracketed_marks m (c.begin_array.ensures
+    ▸ mark m 1 (codes "even") from_repeated bracket c.write_mark.ensures
+    (mark m 2 (codes "repeated") from_incomplete bracket c.write_mark-2.ensures
+    (mark m 4 (codes "incomplete") from_input bracket c.write_mark-3.ensures
+    (mark m 8 (codes "input") from_offset bracket c.write_mark-4.ensures
+    (mark m 16 (codes "offset") from_pointer bracket c.write_mark-5.ensures
+    (mark m 32 (codes "pointer") from_pushnum bracket c.write_mark-6.ensures
+    (mark m 64 (codes "pushnum") from_reinscription bracket c.write_mark-7.ensures
+    (mark m 128 (codes "reinscription") none bracket c.write_mark-8.ensures c.end_array.ensures))))))))

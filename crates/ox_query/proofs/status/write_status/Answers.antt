@@ -4,16 +4,16 @@ use Rattle.ox_sat.specs.Profiles.{name_at, profile_word}
 use Rattle.ox_sat.specs.declared.profiles.Profile.{Profile}
 use Rattle.ox_replies.specs.Values.{count, hash_or_null}
 use Rattle.ox_query.specs.Written.{tokens_of}
-use Rattle.ox_query.proofs.Steps.{all, same, token, value, ◌▸◌}
+use Rattle.ox_query.proofs.Steps.{same, ◌▸◌}
 use Rattle.ox_query.proofs.status.write_status.Goals as goal
 
 pub returns : goal.returns
 returns g c =
     let word = c.word.ensures ∙ ap profile_word (c.of_byte-profile.ensures ∙ ap (λ (p : Profile). name_at p.byte) c.profile.ensures) in
-    all (token c.in_ok-begin_object.ensures
-    ▸ token c.in_ok-key.ensures ▸ same (λ n. tokens_of (count n)) (c.from.ensures ∙ c.blocks-2.ensures) (token c.in_ok-u64.ensures)
-    ▸ token c.in_ok-key-2.ensures ▸ same (λ n. tokens_of (count n)) c.from-2.ensures (token c.in_ok-u64-2.ensures)
-    ▸ token c.in_ok-key-3.ensures ▸ same (λ n. tokens_of (count n)) c.from-3.ensures (token c.in_ok-u64-3.ensures)
-    ▸ token c.in_ok-key-4.ensures ▸ same (λ text. string text ∷ []) word (token c.in_ok-string.ensures)
-    ▸ token c.in_ok-key-5.ensures ▸ same (λ hash. tokens_of (hash_or_null hash)) c.newest.ensures (value _ _ _ c.in_ok-write_hash_or_null.ensures)
-    ▸ token c.in_ok-end_object.ensures)
+    c.begin_object.ensures
+    ▸ c.key.ensures ▸ same (λ n. tokens_of (count n)) (c.from.ensures ∙ c.blocks-2.ensures) c.u64.ensures
+    ▸ c.key-2.ensures ▸ same (λ n. tokens_of (count n)) c.from-2.ensures c.u64-2.ensures
+    ▸ c.key-3.ensures ▸ same (λ n. tokens_of (count n)) c.from-3.ensures c.u64-3.ensures
+    ▸ c.key-4.ensures ▸ same (λ text. string text ∷ []) word c.string.ensures
+    ▸ c.key-5.ensures ▸ same (λ hash. tokens_of (hash_or_null hash)) c.newest.ensures c.write_hash_or_null.ensures
+    ▸ c.end_object.ensures
