@@ -1,11 +1,11 @@
 -- The content that is shown, by what each look-up gave.
-use Rattle.std.proofs.Common.{◌≡◌, ◌==◌, ◌&&◌, true≢false, Bool, true, false, List, [], ◌∷◌, ℕ, suc, length, lt-ltb, Option, Some, None, sym, ap, ◌∙◌, arith}
+use Rattle.std.proofs.Common.{◌≡◌, ◌==◌, ◌&&◌, true≢false, Bool, true, false, cond, List, [], ◌∷◌, ℕ, suc, length, lt-ltb, Option, Some, None, sym, ap, ◌∙◌, arith}
 use Rattle.std.specs.Prelude.{nat_le, nat_lt, slice_get}
 use Rattle.std.specs.List.{list_all}
 use Rattle.std.specs.Option.{option_and_then, option_map}
 use Rattle.ox_http.specs.declared.Reply.{Reply}
 use Rattle.ox_inscribe.specs.declared.row.InsRow.{InsRow}
-use Rattle.ox_replies.specs.Content.{body_reply, content_at, is_header_text, shown_for, shown_reply}
+use Rattle.ox_replies.specs.Content.{body_reply, content_at, header_text, is_header_text, shown_for, shown_reply}
 use Rattle.ox_replies.specs.Named.{inscription_named}
 
 module _ (rows : List InsRow) (text : List ℕ) (close : Bool) where
@@ -38,3 +38,9 @@ pub headers_are : (bytes : List ℕ) (empty printable : Bool) → empty ≡ (len
     → printable ≡ list_all (λ b. nat_le 32 b && nat_le b 126) bytes → printable ≡ is_header_text bytes
 headers_are bytes empty printable is none all =
     all ∙ ap (λ (v : Bool). v && list_all (λ b. nat_le 32 b && nat_le b 126) bytes) (sym (some_first bytes (sym is ∙ none)))
+
+-- bytes that a header of a reply can carry are its text
+pub some_header : (field : Option (List ℕ)) (bytes copied : List ℕ) → field ≡ Some bytes → copied ≡ bytes → is_header_text bytes ≡ true
+    → Some copied ≡ header_text field
+some_header field bytes copied some same is =
+    ap Some same ∙ ap (λ (v : Bool). cond v (Some bytes) None) (sym is) ∙ ap header_text (sym some)

@@ -66,7 +66,7 @@ pub(crate) fn audit_body<V: View>(alloc: Global, live: &V) -> Result<Bytes, Memo
         ≡ compact_text (audit_tree (audit_of (V.chain live.now) (V.index live.now)))) }
 {
     let audit = live.audit()?;
-    let mut out = Body::new(alloc)?;
+    let mut out = Body::new(alloc);
     write_audit(&mut out, &audit);
     out.into_bytes()
 }

@@ -27,7 +27,7 @@ fn write_block(out: &mut Body, height: u64, hash: &[u8; 32])
 fn block_body(alloc: Global, height: u64, hash: &[u8; 32]) -> Result<Bytes, Memory>
     ensures { IfOk result (λ body. body ≡ compact_text (block_tree height hash.now)) }
 {
-    let mut out = Body::new(alloc)?;
+    let mut out = Body::new(alloc);
     write_block(&mut out, height, hash);
     out.into_bytes()
 }

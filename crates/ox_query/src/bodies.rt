@@ -28,17 +28,25 @@ pub(crate) struct Body {
 }
 
 impl Body {
-    /// A body in which nothing is written yet. `Memory` where there is none for it.
-    pub fn new(alloc: Global) -> Result<Body, Memory>
-        ensures { IfOk result IsBlank }
+    /// A body in which nothing is written yet. Where there is no memory for its room it takes
+    /// nothing.
+    pub fn new(alloc: Global) -> Body
+        ensures { IsBlank result }
     {
-        Ok(Body {
-            out: Writer::new(Vec::with_capacity(alloc, ROOM)?),
-            is_short: false,
-        })
+        match Vec::with_capacity(alloc, ROOM) {
+            Ok(room) => Body {
+                out: Writer::new(room),
+                is_short: false,
+            },
+            Err(_) => Body {
+                out: Writer::new(Vec::new(alloc)),
+                is_short: true,
+            },
+        }
     }
 
-    /// The bytes of the tree that is written. `Memory` where there was none for a token.
+    /// The bytes of the tree that is written. `Memory` where there was none for it or for a
+    /// token.
     pub fn into_bytes(self) -> Result<Bytes, Memory>
         ensures { (tree : Data) → IsTree self tree
             → IfOk result (λ bytes. bytes ≡ compact_text tree) }

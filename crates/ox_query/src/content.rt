@@ -77,10 +77,11 @@ fn header_text(alloc: Global, bytes: &Option<Bytes>) -> Result<Option<Bytes>, Me
     let Some(bytes) = bytes else {
         return Ok(None);
     };
-    if !is_header_text(bytes.as_slice()) {
+    let text = bytes.as_slice();
+    if !is_header_text(text) {
         return Ok(None);
     }
-    Ok(Some(Bytes::copy(alloc, bytes.as_slice())?))
+    Ok(Some(Bytes::copy(alloc, text)?))
 }
 
 /// The kind of a reply that has this content type.

@@ -153,7 +153,7 @@ fn row_body<V: View>(alloc: Global, live: &V, n: u32, row: &InsRow) -> Result<By
     ensures { IfOk result (λ body. body ≡ compact_text
         (inscription_tree (V.chain live.now).jubilee (V.index live.now) n row.now)) }
 {
-    let mut out = Body::new(alloc)?;
+    let mut out = Body::new(alloc);
     write_inscription(alloc, &mut out, live, n, row);
     out.into_bytes()
 }
@@ -206,7 +206,7 @@ fn page_body<V: View>(alloc: Global, live: &V, page: u64) -> Result<Bytes, Memor
     ensures { IfOk result (λ body. body
         ≡ compact_text (page_tree inscription_id (V.index live.now).inscriptions page)) }
 {
-    let mut out = Body::new(alloc)?;
+    let mut out = Body::new(alloc);
     write_page(&mut out, live, page);
     out.into_bytes()
 }

@@ -72,7 +72,7 @@ fn output_body<V: View>(
     ensures { IfOk result
         (λ body. body ≡ compact_text (output_tree (V.index live.now) at.now row.now)) }
 {
-    let mut out = Body::new(alloc)?;
+    let mut out = Body::new(alloc);
     write_output(alloc, &mut out, live, at, row);
     out.into_bytes()
 }

@@ -55,7 +55,7 @@ fn write_error(out: &mut Body, status: u16)
 fn error_body(alloc: Global, status: u16) -> Result<Bytes, Memory>
     ensures { IfOk result (λ body. body ≡ compact_text (error_tree status)) }
 {
-    let mut out = Body::new(alloc)?;
+    let mut out = Body::new(alloc);
     write_error(&mut out, status);
     out.into_bytes()
 }

@@ -149,7 +149,7 @@ fn body_with<V: View>(alloc: Global, live: &V, n: u32, row: &RuneRow) -> Result<
     ensures { IfOk result
         (λ body. body ≡ compact_text (rune_tree (V.index live.now) n row.now)) }
 {
-    let mut out = Body::new(alloc)?;
+    let mut out = Body::new(alloc);
     write_rune(&mut out, live, n, row);
     out.into_bytes()
 }

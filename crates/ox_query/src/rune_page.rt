@@ -50,7 +50,7 @@ fn body_with<V: View>(alloc: Global, live: &V, page: u64) -> Result<Bytes, Memor
     ensures { IfOk result (λ body. body
         ≡ compact_text (page_tree rune_id (V.index live.now).runes page)) }
 {
-    let mut out = Body::new(alloc)?;
+    let mut out = Body::new(alloc);
     write_rune_page(&mut out, live, page);
     out.into_bytes()
 }

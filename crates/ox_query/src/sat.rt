@@ -82,7 +82,7 @@ pub(crate) fn sat_body<V: View>(alloc: Global, live: &V, sat: u64) -> Result<Byt
     ensures { IfOk result
         (λ body. body ≡ compact_text (sat_tree (V.chain live.now) (V.index live.now) sat)) }
 {
-    let mut out = Body::new(alloc)?;
+    let mut out = Body::new(alloc);
     write_sat(&mut out, live, sat);
     out.into_bytes()
 }

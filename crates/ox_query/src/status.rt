@@ -46,7 +46,7 @@ pub(crate) fn status_body<V: View>(alloc: Global, live: &V, about: &About) -> Re
     ensures { IfOk result (λ body. body ≡ compact_text
         (status_tree (asked_of (V.chain live.now) (V.index live.now) about.now))) }
 {
-    let mut out = Body::new(alloc)?;
+    let mut out = Body::new(alloc);
     write_status(&mut out, live, about);
     out.into_bytes()
 }

@@ -9,4 +9,4 @@ pub returns : goal.returns
 returns g c =
     let tree = audit_tree c.in_ok-audit.audit in
     subst (λ (audit : Audit). IfOk c.into_bytes.result (λ body. body ≡ compact_text (audit_tree audit))) c.in_ok-audit.ensures
-    (c.into_bytes.ensures tree (first_tree c.in_ok-out.out c.write_audit.new.out tree c.in_ok-out.ensures c.write_audit.ensures))
+    (c.into_bytes.ensures tree (first_tree c.new-out.result c.write_audit.new.out tree c.new-out.ensures c.write_audit.ensures))

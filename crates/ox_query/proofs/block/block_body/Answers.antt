@@ -5,4 +5,4 @@ use Rattle.ox_query.proofs.block.block_body.Goals as goal
 pub returns : goal.returns
 returns c =
     let tree = block_tree c.args.height c.args.hash.now in
-    c.into_bytes.ensures tree (first_tree c.in_ok-out.out c.write_block.new.out tree c.in_ok-out.ensures c.write_block.ensures)
+    c.into_bytes.ensures tree (first_tree c.new-out.result c.write_block.new.out tree c.new-out.ensures c.write_block.ensures)

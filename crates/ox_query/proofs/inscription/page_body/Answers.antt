@@ -6,4 +6,4 @@ use Rattle.ox_query.proofs.inscription.page_body.Goals as goal
 pub returns : goal.returns
 returns g c =
     let tree = page_tree inscription_id (g.V.View.index c.args.live.now).inscriptions c.args.page in
-    c.into_bytes.ensures tree (first_tree c.in_ok-out.out c.write_page.new.out tree c.in_ok-out.ensures c.write_page.ensures)
+    c.into_bytes.ensures tree (first_tree c.new-out.result c.write_page.new.out tree c.new-out.ensures c.write_page.ensures)

@@ -5,4 +5,4 @@ use Rattle.ox_query.proofs.output.output_body.Goals as goal
 pub returns : goal.returns
 returns g c =
     let tree = output_tree (g.V.View.index c.args.live.now) c.args.at.now c.args.row.now in
-    c.into_bytes.ensures tree (first_tree c.in_ok-out.out c.write_output.new.out tree c.in_ok-out.ensures c.write_output.ensures)
+    c.into_bytes.ensures tree (first_tree c.new-out.result c.write_output.new.out tree c.new-out.ensures c.write_output.ensures)

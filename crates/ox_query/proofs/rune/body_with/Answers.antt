@@ -5,4 +5,4 @@ use Rattle.ox_query.proofs.rune.body_with.Goals as goal
 pub returns : goal.returns
 returns g c =
     let tree = rune_tree (g.V.View.index c.args.live.now) c.args.n c.args.row.now in
-    c.into_bytes.ensures tree (first_tree c.in_ok-out.out c.write_rune.new.out tree c.in_ok-out.ensures c.write_rune.ensures)
+    c.into_bytes.ensures tree (first_tree c.new-out.result c.write_rune.new.out tree c.new-out.ensures c.write_rune.ensures)

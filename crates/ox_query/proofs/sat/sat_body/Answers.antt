@@ -5,4 +5,4 @@ use Rattle.ox_query.proofs.sat.sat_body.Goals as goal
 pub returns : goal.returns
 returns g c =
     let tree = sat_tree (g.V.View.chain c.args.live.now) (g.V.View.index c.args.live.now) c.args.sat in
-    c.into_bytes.ensures tree (first_tree c.in_ok-out.out c.write_sat.new.out tree c.in_ok-out.ensures c.write_sat.ensures)
+    c.into_bytes.ensures tree (first_tree c.new-out.result c.write_sat.new.out tree c.new-out.ensures c.write_sat.ensures)
