@@ -1,3 +1,4 @@
+pub mod Admit
 pub mod Audits
 pub mod Chain
 pub mod Changes

@@ -10,6 +10,7 @@ ghost use Rattle.ox_rules.specs.Newest.{newest_of};
 ghost use Rattle.ox_model.specs.Step.{misplaced_coinbase as first_misplaced, admission};
 ghost use Rattle.ox_model.specs.Step.{lacks_commitment as lacks};
 ghost use Rattle.ox_rules.specs.Why.{Refuses};
+ghost use Rattle.ox_index.specs.Admit.{IsNext};
 
 use ox_block::{Block, Tx, TxIn, Txids, committed_by, root_over, txids_of};
 use ox_bytes::Memory;
@@ -91,11 +92,22 @@ fn lacks_commitment(
 /// block that it names before it, its root, where coinbases stand, and, from the profile's height
 /// on, the commitment to its witnesses. It answers the ids of the block's transactions, in order,
 /// of which the root is made. `Memory` where there is none for the ids or a root.
-#[tactic(auto, unfolding(ox_block::specs::Hashes::block_root))]
 pub fn admit(alloc: Global, p: &Profile, hashes: &[[u8; 32]], block: &Block) -> Result<Txids, Why>
     requires lawful { Lawful block.now }
     ensures ok { OnOk result (admission p.now hashes.now block.now ≡ Ok tt) }
     ensures ids { IfOk result (λ ids. ids ≡ map txid block.now.txs) }
+    ensures refused { IfErr result (λ fault. Refuses fault (admission p.now hashes.now block.now)) }
+{
+    test_place(p, hashes, block)?;
+    let ids = txids_of(alloc, block)?;
+    test_txs(alloc, p, hashes, block, &ids)?;
+    Ok(ids)
+}
+
+/// Tests the height of a block that is to stand on this chain, and the block that it names before
+/// it.
+fn test_place(p: &Profile, hashes: &[[u8; 32]], block: &Block) -> Result<(), Why>
+    ensures ok { OnOk result (IsNext p.now hashes.now block.now) }
     ensures refused { IfErr result (λ fault. Refuses fault (admission p.now hashes.now block.now)) }
 {
     let height = hashes.len() as u64;
@@ -107,17 +119,36 @@ pub fn admit(alloc: Global, p: &Profile, hashes: &[[u8; 32]], block: &Block) -> 
     if have != want {
         return Err(Why::Refused(Refusal::Unlinked { have, want }));
     }
+    Ok(())
+}
+
+/// Tests the transactions of a block that may come next on this chain, of which these are the ids:
+/// their root, where coinbases stand, and the commitment to witnesses. `Memory` where there is none
+/// for a root.
+#[tactic(auto, unfolding(ox_block::specs::Hashes::block_root))]
+fn test_txs(
+    alloc: Global,
+    p: &Profile,
+    hashes: &[[u8; 32]],
+    block: &Block,
+    ids: &Txids,
+) -> Result<(), Why>
+    requires lawful { Lawful block.now }
+    requires next { IsNext p.now hashes.now block.now }
+    requires ids { ids.now ≡ map txid block.now.txs }
+    ensures ok { OnOk result (admission p.now hashes.now block.now ≡ Ok tt) }
+    ensures refused { IfErr result (λ fault. Refuses fault (admission p.now hashes.now block.now)) }
+{
     let have = block.header.root;
-    let ids = txids_of(alloc, block)?;
-    let want = root_over(alloc, &ids)?;
+    let want = root_over(alloc, ids)?;
     if have != want {
         return Err(Why::Refused(Refusal::BadRoot { have, want }));
     }
     if let Some(tx) = misplaced_coinbase(block.txs.as_slice()) {
         return Err(Why::Refused(Refusal::Coinbase { tx: tx as u32 }));
     }
-    if lacks_commitment(alloc, p, height, block, &ids)? {
+    if lacks_commitment(alloc, p, hashes.len() as u64, block, ids)? {
         return Err(Why::Refused(Refusal::BadWitness));
     }
-    Ok(ids)
+    Ok(())
 }
