@@ -140,12 +140,7 @@ impl Changes {
     {
         match mem::replace(&mut self.last, Last::Nothing) {
             Last::Nothing => (),
-            Last::Pushed(fallen) => {
-                let _newest = self.items.pop_front();
-                if let Some(change) = fallen {
-                    self.items.push_back_reserved(change);
-                }
-            }
+            Last::Pushed(fallen) => take_off(&mut self.items, fallen),
             Last::Taken(change) => self.items.push_front_reserved(change),
         }
     }
@@ -161,5 +156,17 @@ fn shorten(items: &mut VecDeque<Change>, depth: usize) -> Option<Change>
         items.pop_back()
     } else {
         None
+    }
+}
+
+/// Takes away the first of these, and puts the one that fell off, if any, behind the others again.
+/// It takes no memory.
+fn take_off(items: &mut VecDeque<Change>, fallen: Option<Change>)
+    requires { 1 ≤ deque_len items.old }
+    ensures { items.new.items ≡ drop 1 items.old.items ++ option_to_list fallen }
+{
+    let _newest = items.pop_front();
+    if let Some(change) = fallen {
+        items.push_back_reserved(change);
     }
 }
