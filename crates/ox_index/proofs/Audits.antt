@@ -34,13 +34,20 @@ module _ (told : RuneRow → RuneAudit) (runes : List RuneRow) (n : ℕ) (done :
   pub all_done : length runes ≤ n → done ≡ map told runes
   all_done past = sym (append-nil done) ∙ ap (λ (l : List RuneRow). done ++ map told l) (sym (drop_all n runes past)) ∙ so_far
 
+-- what is counted but for what is lost
+part_within : (all lost left claimable counted : ℕ) → all ≡ lost + left → claimable ≡ all → counted ≡ lost → counted ≤ claimable
+part_within all lost left claimable counted sum is some = omega arith
+
+part_left : (all lost left claimable counted : ℕ) → all ≡ lost + left → claimable ≡ all → counted ≡ lost → claimable - counted ≡ left
+part_left all lost left claimable counted sum is some = omega arith
+
 module _ (p : Profile) (index : Index) (sound : IsSound p index) (claimable lost : ℕ) (all : claimable ≡ first_at p (length index.hashes)) (some : lost ≡ length index.lost) where
   pub lost_within : lost ≤ claimable
-  lost_within = omega (arith, satoshis_balance p index sound, all, some)
+  lost_within = part_within (first_at p (length index.hashes)) (length index.lost) (length (sats_held index.outs)) claimable lost (satoshis_balance p index sound) all some
 
   -- outputs hold what isn't lost
   others : claimable - lost ≡ length (sats_held index.outs)
-  others = omega (arith, satoshis_balance p index sound, all, some)
+  others = part_left (first_at p (length index.hashes)) (length index.lost) (length (sats_held index.outs)) claimable lost (satoshis_balance p index sound) all some
 
   pub adds_up : (runes : List RuneAudit) → runes ≡ map (rune_audit index) index.runes
       → record { claimable = claimable; lost = lost; outputs = claimable - lost; runes = runes } ≡ audit_of p index
