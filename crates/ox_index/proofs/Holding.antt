@@ -1,11 +1,11 @@
 -- What outputs hold of runes, looked up output by output.
-use Rattle.std.proofs.Common.{◌≡◌, ◌∙◌, ◌≢◌, ℕ, ◌+◌, ◌<◌, ◌≤◌, ◌^◌, Bool, true, false, cond, T, List, [], ◌∷◌, ◌++◌, length, take, get_or, refl, sym, ap, subst, arith, Option, Some, None}
+use Rattle.std.proofs.Common.{◌≡◌, ◌∙◌, ◌≢◌, ℕ, ◌+◌, ◌<◌, ◌≤◌, Bool, true, false, cond, T, List, [], ◌∷◌, ◌++◌, length, take, refl, sym, ap, arith, Option, Some, None}
 use Rattle.std.specs.Prelude.{◌==◌, ◌||◌, IsSome, is_some, slice_get, unwrap_or}
 use Rattle.std.specs.Map.{lookup}
 use Rattle.std.specs.BTreeMap.{is_at}
 use Rattle.std.specs.Ordering.{eq_by_cmp}
 use Rattle.std.specs.Cmp.{eq_by_cmp_equiv}
-use Rattle.std.specs.FinMap.{empty, entries, entries_sorted, find, from_entries, get, get-empty, get-entries, get-from_entries, get-insert, insert, is_sorted, same_map}
+use Rattle.std.specs.FinMap.{entries, entries_sorted, find, from_entries, get, get-empty, get-entries, get-from_entries, get-insert, insert, is_sorted, same_map}
 use Rattle.std.proofs.lemmas.List.{take_all, take_more}
 use Rattle.std.proofs.lemmas.Option.{get_or_from_slice_get, slice_get-get_or, slice_get_within}
 use Rattle.ox_block.specs.declared.block.OutPoint.{OutPoint}
@@ -37,13 +37,17 @@ pub entries_rise : (order : List (OutPoint × OutRow)) (outs : Outputs) → orde
 entries_rise order outs are = ap (is_sorted outpoint_cmp) are ∙ true_of (is_sorted outpoint_cmp (entries outs)) (entries_sorted outs)
 
 -- where unspent outputs alone hold runes
-pub placed_found : (index : Index) (order : List (OutPoint × OutRow)) → order ≡ entries index.outs → ((at : OutPoint) (held : List Balance) → get index.bal at ≡ Some held → IsSome (get index.outs at))
-    → (at : OutPoint) → IsSome (get index.bal at) → IsSome (find outpoint_cmp at order)
-placed_found index order are placed at some = by_held (get index.bal at) refl some where
-  by_held : (o : Option (List Balance)) → get index.bal at ≡ o → IsSome o → IsSome (find outpoint_cmp at order)
+pub placed_found : (index : Index) → ((at : OutPoint) (held : List Balance) → get index.bal at ≡ Some held → IsSome (get index.outs at))
+    → (at : OutPoint) → IsSome (get index.bal at) → IsSome (get index.outs at)
+placed_found index placed at some = by_held (get index.bal at) refl some where
+  by_held : (o : Option (List Balance)) → get index.bal at ≡ o → IsSome o → IsSome (get index.outs at)
   by_held None is some = absurd (cc some)
-  by_held (Some held) is some =
-      ap (λ (es : List (OutPoint × OutRow)). is_some (find outpoint_cmp at es)) are ∙ ap (λ (o : Option OutRow). is_some o) (sym (get-entries index.outs at)) ∙ placed at held is
+  by_held (Some held) is some = placed at held is
+
+-- an unspent output is found in order
+pub ordered : (outs : Outputs) (order : List (OutPoint × OutRow)) → order ≡ entries outs → (at : OutPoint) → IsSome (get outs at) → IsSome (find outpoint_cmp at order)
+ordered outs order are at there =
+    ap (λ (es : List (OutPoint × OutRow)). is_some (find outpoint_cmp at es)) are ∙ ap (λ (o : Option OutRow). is_some o) (sym (get-entries outs at)) ∙ there
 
 -- an entry is put into a table
 pub inserted : (old new : List Placement) (at : OutPoint) (held : List Balance)

@@ -7,6 +7,7 @@ ghost use Rattle.ox_block.specs.declared.block.OutPoint.{OutPoint};
 ghost use Rattle.ox_rules.specs.Outputs.{outpoint_cmp};
 ghost use Rattle.ox_allocation.specs.Dealing.{IsPool};
 ghost use Rattle.ox_ledger.specs.Ledger.{runes_in};
+ghost use Rattle.ox_outputs.specs.Table.{rows_in};
 ghost use Rattle.ox_index.specs.Tables.{with_some};
 
 use super::Live;
@@ -15,7 +16,7 @@ use ox_block::OutPoint;
 use ox_bytes::{List, Memory};
 use ox_ledger::Ledger;
 use ox_model::RuneRow;
-use ox_outputs::InOrder;
+use ox_outputs::{InOrder, Outputs};
 use ox_plain::Index;
 use ox_range::Ranges;
 use ox_rules::OutRow;
@@ -33,17 +34,49 @@ impl Live {
     pub fn plain(&self) -> Result<Index, Memory>
         ensures { IfOk result (λ plain. stands plain ≡ shown self.now) }
     {
-        let order = self.parts.outputs.in_order()?;
-        let hashes = Vec::from_slice(self.alloc, &self.hashes[..self.shown.blocks])?;
+        let (outs, bal) = tables_of(self.alloc, &self.parts.outputs, &self.parts.ledger)?;
+        let inscriptions = self.parts.shelf.rows_from(0)?;
+        let runes = runes_of(self.alloc, &self.parts.ledger)?;
+        let (hashes, lost) = self.lists()?;
         Ok(Index {
-            hashes: List::from_vec(hashes),
-            outs: table_of(self.alloc, &order)?,
-            lost: first_of(self.alloc, &self.lost, self.shown.lost)?,
-            inscriptions: self.parts.shelf.rows_from(0)?,
-            bal: balances_of(self.alloc, &order, &self.parts.ledger)?,
-            runes: runes_of(self.alloc, &self.parts.ledger)?,
+            hashes,
+            outs,
+            lost,
+            inscriptions,
+            bal,
+            runes,
         })
     }
+
+    /// What counts of the blocks' hashes and of the lost satoshis. `Memory` where there is none for
+    /// them.
+    fn lists(&self) -> Result<(List<[u8; 32]>, Ranges), Memory>
+        ensures hashes { IfOk result (λ lists. lists.0 ≡ (shown self.now).hashes) }
+        ensures lost { IfOk result (λ lists. lists.1 ≡ (shown self.now).lost) }
+    {
+        let lost = first_of(self.alloc, &self.lost, self.shown.lost)?;
+        let hashes = Vec::from_slice(self.alloc, self.hashes())?;
+        Ok((List::from_vec(hashes), lost))
+    }
+}
+
+/// The outputs by outpoint, and what they hold of runes. No other output holds any. `Memory` where
+/// there is none for them.
+fn tables_of(
+    alloc: Global,
+    outputs: &Outputs,
+    ledger: &Ledger,
+) -> Result<(BTreeMap<OutPoint, OutRow>, BTreeMap<OutPoint, Balances>), Memory>
+    requires { (at : OutPoint) → IsSome (get (runes_in ledger.now).bal at)
+        → IsSome (get (rows_in outputs.now) at) }
+    ensures outs { IfOk result (λ tables. from_entries tables.0.entries ≡ rows_in outputs.now) }
+    ensures balances { IfOk result
+        (λ tables. from_entries tables.1.entries ≡ (runes_in ledger.now).bal) }
+{
+    let order = outputs.in_order()?;
+    let outs = table_of(alloc, &order)?;
+    let bal = balances_of(alloc, &order, ledger)?;
+    Ok((outs, bal))
 }
 
 /// The first of some satoshis, so many. `Memory` where there is none for them.
