@@ -29,6 +29,15 @@ use Rattle.ox_index.specs.declared.lengths.Lengths.{Lengths}
 pub whole_list : {X : Type 0} (xs : List X) (n : ℕ) → length xs ≡ n → take n xs ≡ xs
 whole_list xs n is = take_all n xs (omega (arith, is))
 
+-- ---- where all counts
+
+pub all_to : (items : List (List ℕ)) (lost : List ℕ) (held : Held) (lengths : Lengths) → length items ≡ lengths.blocks → length lost ≡ lengths.lost
+    → index_to items held lost lengths ≡ index_of_parts items held lost
+all_to items lost held lengths many few = λ i. index_of_parts (whole_list items lengths.blocks many i) held (whole_list lost lengths.lost few i)
+
+pub all_there : (items : List (List ℕ)) (lost : List ℕ) (lengths : Lengths) → length items ≡ lengths.blocks → length lost ≡ lengths.lost → AreWithin items lost lengths
+all_there items lost lengths many few = record { hashes_there = omega (arith, many); lost_there = omega (arith, few) }
+
 -- ---- one block more
 
 pushed : {X : Type 0} (xs ys : List X) (n m : ℕ) → length xs ≡ n → length ys ≡ m → take (n + m) (xs ++ ys) ≡ take n xs ++ ys

@@ -6,7 +6,7 @@ ghost use Rattle.std.specs.FinMap.{entries};
 ghost use Rattle.std.specs.Option.{ForSome};
 ghost use Rattle.std.proofs.Props.{props};
 ghost use Rattle.ox_model.specs.Sound.{IsSound};
-ghost use Rattle.ox_index.specs.Lengths.{index_to, AreWithin, IsMark};
+ghost use Rattle.ox_index.specs.Lengths.{index_of_parts, index_to, AreWithin, IsMark};
 ghost use Rattle.ox_index.specs.Parts.{held_in, mark_of};
 
 mod made;
@@ -81,14 +81,28 @@ impl Live {
         ensures index { IfOk result (λ live. index_in live ≡ no_blocks p.now) }
     {
         let parts = Parts::new(alloc, p)?;
-        Ok(Live {
+        Ok(Live::unmarked(alloc, Vec::new(alloc), parts, Ranges::empty(alloc)))
+    }
+
+    /// The index of these parts and of all of these lists. It has to be sound. There is no mark.
+    fn unmarked(alloc: Global, hashes: Vec<[u8; 32]>, parts: Parts, lost: Ranges) -> Live
+        requires { IsSound parts.profile (index_of_parts hashes.items (held_in parts) lost) }
+        ensures profile { profile_in result ≡ parts.profile }
+        ensures index { index_in result ≡ index_of_parts hashes.items (held_in parts) lost }
+        ensures no_mark { marked_in result ≡ None }
+    {
+        let shown = Lengths {
+            blocks: hashes.len(),
+            lost: lost.len(),
+        };
+        Live {
             alloc,
-            hashes: Vec::new(alloc),
+            hashes,
             parts,
-            lost: Ranges::empty(alloc),
-            shown: Lengths { blocks: 0, lost: 0 },
+            lost,
+            shown,
             marked: None,
-        })
+        }
     }
 
     /// Takes in the block that has these bytes, at the height after the newest, and answers what it

@@ -14,7 +14,6 @@ ghost use Rattle.ox_index.specs.Parts.{held_in};
 ghost use Rattle.ox_plain.specs.Plain.{index_in as stands};
 
 use super::Live;
-use crate::lengths::Lengths;
 use crate::parts::{Parts, append};
 use ox_allocation::Balances;
 use ox_block::OutPoint;
@@ -51,18 +50,7 @@ impl Live {
         let hashes = mem::replace(&mut index.hashes, List::new(alloc));
         let lost = mem::replace(&mut index.lost, Ranges::empty(alloc));
         let parts = parts_of(alloc, p, index)?;
-        let shown = Lengths {
-            blocks: hashes.len(),
-            lost: lost.len(),
-        };
-        Ok(Live {
-            alloc,
-            hashes: hashes.into_vec(),
-            parts,
-            lost,
-            shown,
-            marked: None,
-        })
+        Ok(Live::unmarked(alloc, hashes.into_vec(), parts, lost))
     }
 }
 
