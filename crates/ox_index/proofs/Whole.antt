@@ -151,6 +151,17 @@ pub within_to : (index : Index) (items : List (List ℕ)) (held : Held) (sats : 
 within_to index items held sats lengths whole more new items' sats' items_are sats_are =
     rw (items_are, sats_are) (within_more items more sats new lengths (all_within index items held sats lengths whole))
 
+-- so much of them counts
+pub within_grown : (index : Index) (items : List (List ℕ)) (held : Held) (sats : List ℕ) (lengths : Lengths) → Whole index items held sats lengths
+    → (hash new : List ℕ) (items' : List (List ℕ)) (sats' : List ℕ) (lengths' : Lengths)
+    → items' ≡ items ++ hash ∷ [] → sats' ≡ sats ++ new → lengths' ≡ record { blocks = lengths.blocks + 1; lost = lengths.lost + length new }
+    → AreWithin items' sats' lengths'
+within_grown index items held sats lengths whole hash new items' sats' lengths' items_are sats_are lengths_are =
+    rw (items_are, sats_are, lengths_are) (record {
+      hashes_there = omega (arith, whole.many, length-append items (hash ∷ []));
+      lost_there = omega (arith, whole.few, length-append sats new);
+    })
+
 -- ---- back and on
 
 -- a change ends in what an index holds of runes

@@ -1,4 +1,4 @@
-use Rattle.std.proofs.Common.{◌≡◌, ◌∙◌, ◌≤◌, ◌^◌, ℕ, List, [], ◌∷◌, ◌++◌, length, sym, ap, subst, arith}
+use Rattle.std.proofs.Common.{◌≡◌, ◌∙◌, ◌≤◌, ◌^◌, ℕ, List, [], ◌∷◌, ◌++◌, length, refl, sym, ap, subst, arith}
 use Rattle.std.specs.Prelude.{Ok, Result}
 use Rattle.ox_model.specs.Change.{IsChange}
 use Rattle.ox_model.specs.Index.{Index}
@@ -15,7 +15,10 @@ use Rattle.ox_index.specs.Parts.{held_in, mark_of}
 use Rattle.ox_index.specs.declared.lengths.Lengths.{Lengths}
 use Rattle.ox_index.proofs.Begun.{none_here, once_here}
 use Rattle.ox_index.proofs.Steps.{after_taken, lost_fits}
-use Rattle.ox_index.proofs.Whole.{Whole, blocks_are, blocks_few, change_right, held_are, held_of, is_grown, mark_right, marked_to, more_to, next_index, sats_are, some_same, taken_of, within_to}
+use Rattle.ox_index.proofs.Whole.{Whole, blocks_are, blocks_few, change_right, held_are, held_of, is_grown, mark_right, mark_shown, marked_to, more_to, next_index, sats_are, some_same, taken_of, within_grown, within_to}
+use Rattle.std.proofs.lemmas.Result.{err_from_is_err_and}
+use Rattle.ox_index.proofs.Marks.{marked_some, same_held}
+use Rattle.ox_index.proofs.Standing.{none_marked, none_shown, still_sound, still_within, unmoved_here}
 use Rattle.ox_index.proofs.live.Live.take_in.Goals as goal
 
 pub take_in-requires-clause-once : goal.take_in-requires-clause-once
@@ -143,3 +146,139 @@ returns-in-Ok-clause-change c =
     let to : index_to c.push_reserved.new.self.items next c.join.new.self c.with_block-self.result ≡ next_index p index c.args.block.now next change taken =
     more_to index live.hashes.items (held_in live.parts) live.lost live.shown whole next change.hash change.lost c.push_reserved.new.self.items c.join.new.self c.with_block-self.result items c.in-Ok.ensures.ok c.with_block-self.ensures in
     subst (λ (i : Index). IsChange index i change) (sym to) (change_right p index c.args.block.now next change taken)
+
+-- ---- where there is no memory for one hash more
+
+pub invariant_of-self : goal.invariant_of-self
+invariant_of-self c =
+    let live = c.forget.new.self in
+    let p = live.parts.profile in
+    let held = held_in live.parts in record {
+      within = still_within live.hashes.items c.reserve.new.self.items live.lost live.lost live.shown c.reserve.ensures.items refl live.within;
+      sound = still_sound p p live.hashes.items c.reserve.new.self.items held held live.lost live.lost live.shown refl c.reserve.ensures.items refl refl live.sound;
+      mark = λ lengths some. none_marked live.marked lengths c.forget.ensures.none some;
+    }
+
+pub returns-in_err-reserve-clause-ok : goal.returns-in_err-reserve-clause-ok
+returns-in_err-reserve-clause-ok c =
+    let p = err_from_is_err_and c.from_residual.result c.from_residual.ensures.1 in
+    rw p.1 tt
+
+pub returns-in_err-reserve-clause-change : goal.returns-in_err-reserve-clause-change
+returns-in_err-reserve-clause-change c =
+    let p = err_from_is_err_and c.from_residual.result c.from_residual.ensures.1 in
+    rw p.1 tt
+
+pub returns-in_err-reserve-clause-refused : goal.returns-in_err-reserve-clause-refused
+returns-in_err-reserve-clause-refused c =
+    let p = err_from_is_err_and c.from_residual.result c.from_residual.ensures.1 in
+    rw (p.1, p.2) tt
+
+pub returns-in_err-reserve-clause-err : goal.returns-in_err-reserve-clause-err
+returns-in_err-reserve-clause-err c =
+    let p = err_from_is_err_and c.from_residual.result c.from_residual.ensures.1 in
+    let live = c.forget.new.self in
+    rw p.1 ((λ i. index_to (c.reserve.ensures.items i) (held_in live.parts) live.lost live.shown) ∙ c.forget.ensures.index)
+
+pub returns-in_err-reserve-clause-mark : goal.returns-in_err-reserve-clause-mark
+returns-in_err-reserve-clause-mark c =
+    let p = err_from_is_err_and c.from_residual.result c.from_residual.ensures.1 in
+    rw p.1 tt
+
+pub returns-in_err-reserve-clause-no_mark : goal.returns-in_err-reserve-clause-no_mark
+returns-in_err-reserve-clause-no_mark c =
+    let p = err_from_is_err_and c.from_residual.result c.from_residual.ensures.1 in
+    rw p.1 (none_shown _ c.forget.new.self.marked c.forget.ensures.none)
+
+pub returns-in_err-reserve-clause-profile : goal.returns-in_err-reserve-clause-profile
+returns-in_err-reserve-clause-profile c = c.forget.ensures.profile
+
+-- ---- where the block's satoshis, or all else of it, can't be moved
+
+pub returns-in_err-change-clause-ok : goal.returns-in_err-change-clause-ok
+returns-in_err-change-clause-ok c =
+    let p = err_from_is_err_and c.from_residual-in_err-change.result c.from_residual-in_err-change.ensures.1 in
+    rw p.1 tt
+
+pub returns-in_err-change-clause-change : goal.returns-in_err-change-clause-change
+returns-in_err-change-clause-change c =
+    let p = err_from_is_err_and c.from_residual-in_err-change.result c.from_residual-in_err-change.ensures.1 in
+    rw p.1 tt
+
+pub returns-in_err-change-clause-refused : goal.returns-in_err-change-clause-refused
+returns-in_err-change-clause-refused c =
+    let p = err_from_is_err_and c.from_residual-in_err-change.result c.from_residual-in_err-change.ensures.1 in
+    let live = c.forget.new.self in
+    let index : Index = index_in c.args.self.now in
+    let whole : Whole index live.hashes.items (held_in live.parts) live.lost live.shown = record { index_is = c.forget.ensures.index; undue = live.parts.undue; many = c.forget.ensures.blocks; few = c.forget.ensures.lost } in
+    rw (p.1, p.2)
+    (unmoved_here live.parts.profile c.args.self.now.parts.profile index live.hashes.items (held_in live.parts) live.lost live.shown whole c.args.block.now c.in_err-change.field-0.0 c.forget.ensures.profile c.requires.admitted c.in_err-change.ensures.refused)
+
+pub returns-in_err-change-clause-err : goal.returns-in_err-change-clause-err
+returns-in_err-change-clause-err c =
+    let p = err_from_is_err_and c.from_residual-in_err-change.result c.from_residual-in_err-change.ensures.1 in
+    let live = c.forget.new.self in
+    rw p.1 ((λ i. index_to (c.reserve.ensures.items i) (c.in_err-change.ensures.err i) live.lost live.shown) ∙ c.forget.ensures.index)
+
+pub returns-in_err-change-clause-mark : goal.returns-in_err-change-clause-mark
+returns-in_err-change-clause-mark c =
+    let p = err_from_is_err_and c.from_residual-in_err-change.result c.from_residual-in_err-change.ensures.1 in
+    rw p.1 tt
+
+pub returns-in_err-change-clause-no_mark : goal.returns-in_err-change-clause-no_mark
+returns-in_err-change-clause-no_mark c =
+    let p = err_from_is_err_and c.from_residual-in_err-change.result c.from_residual-in_err-change.ensures.1 in
+    rw p.1 (none_shown _ c.forget.new.self.marked c.forget.ensures.none)
+
+pub returns-in_err-change-clause-profile : goal.returns-in_err-change-clause-profile
+returns-in_err-change-clause-profile c = c.take_in.ensures.profile ∙ c.forget.ensures.profile
+
+-- ---- where there is no memory for the satoshis that it lost
+
+pub cancel-requires : goal.cancel-requires
+cancel-requires c = marked_some (mark_of c.take_in.new.self) (held_in c.forget.new.self.parts) c.in_ok-change.ensures.mark
+
+pub invariant_of-self-in-Err : goal.invariant_of-self-in-Err
+invariant_of-self-in-Err c =
+    let live = c.forget.new.self in
+    let back = same_held (held_in c.cancel.new.self) (held_in live.parts) (c.cancel.ensures.held ∙ c.in_ok-change.ensures.mark) in record {
+      within = still_within live.hashes.items c.reserve.new.self.items live.lost c.join.new.self live.shown c.reserve.ensures.items c.in-Err.ensures.err live.within;
+      sound = still_sound live.parts.profile c.cancel.new.self.profile live.hashes.items c.reserve.new.self.items (held_in live.parts) (held_in c.cancel.new.self) live.lost c.join.new.self live.shown
+          (c.cancel.ensures.profile ∙ c.take_in.ensures.profile) c.reserve.ensures.items back c.in-Err.ensures.err live.sound;
+      mark = λ lengths some. none_marked live.marked lengths c.forget.ensures.none some;
+    }
+
+pub returns-in-Err-clause-err : goal.returns-in-Err-clause-err
+returns-in-Err-clause-err c =
+    let live = c.forget.new.self in
+    let back = same_held (held_in c.cancel.new.self) (held_in live.parts) (c.cancel.ensures.held ∙ c.in_ok-change.ensures.mark) in
+    (λ i. index_to (c.reserve.ensures.items i) (back i) (c.in-Err.ensures.err i) live.shown) ∙ c.forget.ensures.index
+
+pub returns-in-Err-clause-no_mark : goal.returns-in-Err-clause-no_mark
+returns-in-Err-clause-no_mark c = none_shown _ c.forget.new.self.marked c.forget.ensures.none
+
+pub returns-in-Err-clause-profile : goal.returns-in-Err-clause-profile
+returns-in-Err-clause-profile c = c.cancel.ensures.profile ∙ c.take_in.ensures.profile ∙ c.forget.ensures.profile
+
+-- ---- where it is taken in
+
+pub invariant_of-self-in-Ok-clause-within : goal.invariant_of-self-in-Ok-clause-within
+invariant_of-self-in-Ok-clause-within c =
+    let live = c.forget.new.self in
+    let index : Index = index_in c.args.self.now in
+    let whole : Whole index live.hashes.items (held_in live.parts) live.lost live.shown = record { index_is = c.forget.ensures.index; undue = live.parts.undue; many = c.forget.ensures.blocks; few = c.forget.ensures.lost } in
+    let items : c.push_reserved.new.self.items ≡ live.hashes.items ++ c.in_ok-change.change.hash ∷ [] = c.push_reserved.ensures.items ∙ ap (λ (l : List (List ℕ)). l ++ c.in_ok-change.change.hash ∷ []) c.reserve.ensures.items in
+    within_grown index live.hashes.items (held_in live.parts) live.lost live.shown whole c.in_ok-change.change.hash c.in_ok-change.change.lost c.push_reserved.new.self.items c.join.new.self c.with_block-self.result items c.in-Ok.ensures.ok c.with_block-self.ensures
+
+pub returns-in-Ok-clause-mark : goal.returns-in-Ok-clause-mark
+returns-in-Ok-clause-mark c =
+    let live = c.forget.new.self in
+    let index : Index = index_in c.args.self.now in
+    let whole : Whole index live.hashes.items (held_in live.parts) live.lost live.shown = record { index_is = c.forget.ensures.index; undue = live.parts.undue; many = c.forget.ensures.blocks; few = c.forget.ensures.lost } in
+    let change = c.in_ok-change.change in
+    let items : c.push_reserved.new.self.items ≡ live.hashes.items ++ change.hash ∷ [] = c.push_reserved.ensures.items ∙ ap (λ (l : List (List ℕ)). l ++ change.hash ∷ []) c.reserve.ensures.items in
+    mark_shown index c.push_reserved.new.self.items (held_in live.parts) c.join.new.self live.shown (mark_of c.take_in.new.self) c.in_ok-change.ensures.mark
+    (marked_to index live.hashes.items (held_in live.parts) live.lost live.shown whole (change.hash ∷ []) change.lost c.push_reserved.new.self.items c.join.new.self items c.in-Ok.ensures.ok)
+
+pub returns-in-Ok-clause-profile : goal.returns-in-Ok-clause-profile
+returns-in-Ok-clause-profile c = c.take_in.ensures.profile ∙ c.forget.ensures.profile
