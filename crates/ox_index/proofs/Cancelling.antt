@@ -1,11 +1,16 @@
 -- What a command of a chain can be cancelled by.
-use Rattle.std.proofs.Common.{◌≡◌, ◌∙◌, ◌≤◌, ℕ, List, length, refl, sym, ap, subst}
-use Rattle.std.specs.Prelude.{Option, Some, None, IsSome}
+use Rattle.std.proofs.Common.{◌≡◌, ◌∙◌, ◌≤◌, ℕ, List, length, take, refl, sym, ap, subst, arith, length-take}
+use Rattle.std.specs.Prelude.{Option, Some, None, IsSome, Result}
 use Rattle.std.specs.Option.{ForSome}
 use Rattle.ox_sat.specs.declared.profiles.Profile.{Profile}
 use Rattle.ox_model.specs.Ends.{AllEnd, older_by}
 use Rattle.ox_model.specs.Index.{Index}
+use Rattle.ox_model.specs.Stack.{Stack, with_index}
 use Rattle.ox_model.specs.declared.change.Change.{Change}
+use Rattle.ox_rules.specs.Why.{Refuses}
+use Rattle.ox_rules.specs.declared.refusal.Refusal.{Refusal}
+use Rattle.ox_rules.specs.declared.why.Why.{Why}
+use Rattle.ox_rules.specs.declared.why.Why.TheVariants.{Refused, Memory}
 use Rattle.ox_index.specs.Earlier.{EndThen, stack_then}
 use Rattle.ox_index.specs.Live.{marked_in, profile_in}
 use Rattle.ox_index.specs.declared.live.Live.{Live}
@@ -36,6 +41,38 @@ stack_then_is p q depth mark index before changes of_p of_mark of_before =
     ap (λ (r : Profile). stack_then r depth mark before) of_p
     ∙ ap (λ (m : Option Index). stack_then p depth m before) of_mark
     ∙ ap (stack_then p depth (Some index)) of_before
+
+-- nothing is left of it
+
+pub no_then : {A : Type 0} (before : Option (List Change)) (changes : List Change) → before ≡ None → before ≡ Some changes → A
+no_then before changes none some = absurd (cc (sym none ∙ some))
+
+pub no_mark_then : {A : Type 0} (mark : Option Index) (index : Index) → mark ≡ None → mark ≡ Some index → A
+no_mark_then mark index none some = absurd (cc (sym none ∙ some))
+
+-- ---- a command that isn't accepted
+
+pub refused_on : (stack : Stack) (r : Result Index Refusal) (why : Why) → Refuses why r → Refuses why (with_index stack r)
+refused_on stack r (Refused refusal) is = ap (with_index stack) is
+refused_on stack r Memory is = tt
+
+pub same_stack : (p q : Profile) (depth : ℕ) (index index' : Index) (changes changes' : List Change) → q ≡ p → index' ≡ index → changes' ≡ changes
+    → ◌≡◌ {A = Stack} (record { profile = q; depth = depth; index = index'; older = older_by index' changes' }) (record { profile = p; depth = depth; index = index; older = older_by index changes })
+same_stack p q depth index index' changes changes' of_p of_index of_changes = λ i. record {
+  profile = of_p i;
+  depth = depth;
+  index = of_index i;
+  older = older_by (of_index i) (of_changes i);
+}
+
+pub same_index : (a b : Index) → Some a ≡ Some b → a ≡ b
+same_index a b same = cc
+
+pub still_few : (depth : ℕ) (changes changes' : List Change) → changes' ≡ changes → length changes ≤ depth → length changes' ≤ depth
+still_few depth changes changes' is few = subst (λ (l : List Change). length l ≤ depth) (sym is) few
+
+pub taken_few : (depth : ℕ) (changes changes' : List Change) → changes' ≡ take depth changes → length changes' ≤ depth
+taken_few depth changes changes' is = omega (arith, ap (λ (l : List Change). length l) is, length-take depth changes)
 
 -- ---- going back there
 
