@@ -1,14 +1,12 @@
 -- Tables of plain data, emptied into an index in memory.
-use Rattle.std.proofs.Common.{◌≡◌, ◌∙◌, ◌≢◌, ◌⊎◌, inl, inr, ℕ, ◌+◌, ◌<◌, ◌≤◌, Bool, true, false, cond, List, [], ◌∷◌, length, refl, sym, ap, subst, arith, Option, Some, None, Ordering}
-use Rattle.std.specs.Prelude.{◌↔◌, IsSome, is_some, IsTrue, drop}
+use Rattle.std.proofs.Common.{◌≡◌, ◌∙◌, ◌≢◌, ◌⊎◌, inl, inr, ℕ, ◌<◌, ◌≤◌, Bool, true, false, cond, List, [], ◌∷◌, length, refl, sym, ap, subst, arith, Option, Some, None, Ordering}
 use Rattle.std.specs.Ordering.{eq_by_cmp, is_eq}
 use Rattle.std.specs.declared.cmp.Ordering.TheVariants.{Less, Equal, Greater}
 use Rattle.std.specs.Map.{lookup}
 use Rattle.std.specs.BTreeMap.{is_at}
-use Rattle.std.specs.FinMap.{FinMap, empty, find, from_entries, get, get-empty, get-from_entries, get-insert, get-remove, insert, is_sorted, remove, same_map}
-use Rattle.std.specs.Cmp.{IsTotalOrder}
+use Rattle.std.specs.FinMap.{empty, find, from_entries, get, get-empty, get-from_entries, get-insert, get-remove, insert, is_sorted, remove, same_map}
 use Rattle.ox_block.specs.declared.block.OutPoint.{OutPoint}
-use Rattle.ox_rules.specs.Differences.{AreGone, Differ, Difference}
+use Rattle.ox_rules.specs.Differences.{AreGone}
 use Rattle.ox_rules.specs.Outputs.{MayStand, Outputs, outpoint_cmp, sats_held, times}
 use Rattle.ox_rules.specs.declared.rows.OutRow.{OutRow}
 use Rattle.ox_rules.proofs.Conservation.{times_held}

@@ -1,6 +1,6 @@
 -- Tables of plain data, filled by rising outpoint from what is in memory.
-use Rattle.std.proofs.Common.{◌≡◌, ◌∙◌, ◌≢◌, ℕ, ◌+◌, ◌<◌, ◌≤◌, ◌^◌, Bool, true, false, cond, eqb, List, [], ◌∷◌, ◌++◌, length, drop, take, get_or, append_assoc, refl, sym, ap, subst, arith, Option, Some, None, Ordering}
-use Rattle.std.specs.Prelude.{All, ◌&&◌, ◌||◌, IsSome, is_some, slice_get, unwrap_or}
+use Rattle.std.proofs.Common.{◌≡◌, ◌∙◌, ℕ, ◌+◌, ◌<◌, ◌≤◌, ◌^◌, Bool, true, false, cond, eqb, List, [], ◌∷◌, ◌++◌, length, drop, append_assoc, refl, sym, ap, subst, arith, Option, Some, None, Ordering}
+use Rattle.std.specs.Prelude.{All, ◌&&◌, ◌||◌, is_some, slice_get, unwrap_or}
 use Rattle.std.specs.List.{AllByRecursion}
 use Rattle.std.specs.List.Sorted.{IsStrictlySortedBy}
 use Rattle.std.specs.Map.{keys_of, lookup, values_of}

@@ -1,6 +1,6 @@
 -- What the parts of an index hold that go back to a mark, and what a block makes of it.
 use Rattle.std.specs.Prelude.{◌≡◌, ◌≢◌, ℕ, ◌-◌, ◌≤◌, All, List, ◌++◌, drop, length, take}
-use Rattle.std.specs.Prelude.{Option, Some, None, Ok, true, false}
+use Rattle.std.specs.Prelude.{Option, Some, None, Ok}
 use Rattle.ox_block.specs.Hashes.{block_hash}
 use Rattle.ox_block.specs.declared.block.Block.{Block}
 use Rattle.ox_sat.specs.declared.profiles.Profile.{Profile}

@@ -1,4 +1,4 @@
-use Rattle.std.proofs.Common.{◌≡◌, ◌∙◌, List, Some, refl, sym, ap, subst}
+use Rattle.std.proofs.Common.{◌∙◌, List, Some, refl, sym, ap, subst}
 use Rattle.ox_ledger.specs.Balanced.{Balanced}
 use Rattle.ox_ledger.specs.Ledger.{runes_in}
 use Rattle.ox_ledger.specs.Runes.{Placement, Runes}

@@ -1,6 +1,5 @@
 use Rattle.std.proofs.Common.{slice_index_or}
 use Rattle.std.proofs.lemmas.Option.{slice_get-get_or}
-use Rattle.ox_runestone.specs.declared.stone.RuneId.{RuneId}
 use Rattle.ox_index.proofs.Filling.{one_fits, one_put}
 use Rattle.ox_index.proofs.live.plain.copy_of.Goals as goal
 

@@ -1,4 +1,4 @@
-use Rattle.std.proofs.Common.{◌≡◌, ◌∙◌, ◌+◌, List, ◌++◌, drop, sym, ap}
+use Rattle.std.proofs.Common.{◌∙◌, ◌+◌, List, ◌++◌, drop, sym, ap}
 use Rattle.std.specs.BTreeMap.{BTreeMap}
 use Rattle.std.specs.FinMap.{is_sorted}
 use Rattle.ox_block.specs.declared.block.OutPoint.{OutPoint}
