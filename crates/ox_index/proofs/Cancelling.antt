@@ -1,5 +1,5 @@
 -- What a command of a chain can be cancelled by.
-use Rattle.std.proofs.Common.{◌≡◌, ◌∙◌, ◌≤◌, ℕ, List, length, take, refl, sym, ap, subst, arith, length-take}
+use Rattle.std.proofs.Common.{◌≡◌, ◌∙◌, ◌≤◌, ℕ, List, length, drop, take, refl, sym, ap, subst, arith, length-drop, length-take}
 use Rattle.std.specs.Prelude.{Option, Some, None, IsSome, Result}
 use Rattle.std.specs.Option.{ForSome}
 use Rattle.ox_sat.specs.declared.profiles.Profile.{Profile}
@@ -11,7 +11,8 @@ use Rattle.ox_rules.specs.Why.{Refuses}
 use Rattle.ox_rules.specs.declared.refusal.Refusal.{Refusal}
 use Rattle.ox_rules.specs.declared.why.Why.{Why}
 use Rattle.ox_rules.specs.declared.why.Why.TheVariants.{Refused, Memory}
-use Rattle.ox_index.specs.Earlier.{EndThen, stack_then}
+use Rattle.ox_model.specs.Change.{IsChange}
+use Rattle.ox_index.specs.Earlier.{EndThen, LeadsBy, stack_then}
 use Rattle.ox_index.specs.Live.{marked_in, profile_in}
 use Rattle.ox_index.specs.declared.live.Live.{Live}
 
@@ -47,6 +48,10 @@ stack_then_is p q depth mark index before changes of_p of_mark of_before =
 pub no_then : {A : Type 0} (before : Option (List Change)) (changes : List Change) → before ≡ None → before ≡ Some changes → A
 no_then before changes none some = absurd (cc (sym none ∙ some))
 
+pub none_then : (p : Profile) (depth : ℕ) (mark : Option Index) (before : Option (List Change)) → before ≡ None → stack_then p depth mark before ≡ None
+none_then p depth (Some index) before none = ap (stack_then p depth (Some index)) none
+none_then p depth None before none = refl
+
 pub no_mark_then : {A : Type 0} (mark : Option Index) (index : Index) → mark ≡ None → mark ≡ Some index → A
 no_mark_then mark index none some = absurd (cc (sym none ∙ some))
 
@@ -70,6 +75,13 @@ same_index a b same = cc
 
 pub still_few : (depth : ℕ) (changes changes' : List Change) → changes' ≡ changes → length changes ≤ depth → length changes' ≤ depth
 still_few depth changes changes' is few = subst (λ (l : List Change). length l ≤ depth) (sym is) few
+
+pub dropped_few : (depth : ℕ) (changes changes' : List Change) → changes' ≡ drop 1 changes → length changes ≤ depth → length changes' ≤ depth
+dropped_few depth changes changes' is few = omega (arith, ap (λ (l : List Change). length l) is, length-drop 1 changes)
+
+-- a change that was taken back leads from the one index to the other
+pub leads_by : (before after : Index) (taken : Option Change) (change : Change) → taken ≡ Some change → IsChange before after change → LeadsBy before after taken
+leads_by before after taken change is leads = subst (LeadsBy before after) (sym is) leads
 
 pub taken_few : (depth : ℕ) (changes changes' : List Change) → changes' ≡ take depth changes → length changes' ≤ depth
 taken_few depth changes changes' is = omega (arith, ap (λ (l : List Change). length l) is, length-take depth changes)
