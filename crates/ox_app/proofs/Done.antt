@@ -1,5 +1,5 @@
 -- Without a fault a run is done, or memory ran out.
-use Rattle.std.proofs.Common.{◌≡◌, ◌⊎◌, inl, inr, Bool, true, false, List, ℕ, ◌∷◌, [], refl, codes}
+use Rattle.std.proofs.Common.{◌≡◌, ◌⊎◌, inl, inr, Bool, true, false, List, ℕ, ◌∷◌, [], refl, codes, subst, sym}
 use Rattle.std.specs.Prelude.{Result, Ok, Err, IsErrOf}
 use Rattle.ox_outside.specs.Event.{Event, has_ended}
 use Rattle.ox_feed.specs.Feed.{FeedLine}
@@ -11,6 +11,7 @@ use Rattle.ox_app.specs.declared.status.Status.{Status}
 use Rattle.ox_app.specs.declared.status.Status.TheVariants as ends
 use Rattle.ox_app.specs.declared.stop.Stop.{Stop}
 use Rattle.ox_app.specs.declared.stop.Stop.TheVariants as stops
+use Rattle.ox_app.proofs.Statuses.{NotFold, not_fold}
 
 -- how a run without files ends
 pub fold_ends : (r : Result (Unit {0}) Stop) → (IsErrOf r stops.DiskFault → ⊥) → IsFoldStatus (status_of r)
@@ -20,6 +21,10 @@ fold_ends (Err stops.HearFault) no_disk = inr (inl refl)
 fold_ends (Err stops.ShowFault) no_disk = inr (inr (inl refl))
 fold_ends (Err stops.Memory) no_disk = inr (inr (inr (inl refl)))
 fold_ends (Err stops.TooMuch) no_disk = inr (inr (inr (inr refl)))
+
+-- nor in another way
+pub not_folded : (r : Result (Unit {0}) Stop) (status : Status) → status ≡ status_of r → (IsErrOf r stops.DiskFault → ⊥) → NotFold status
+not_folded r status is no_disk = not_fold status (subst IsFoldStatus (sym is) (fold_ends r no_disk))
 
 contradicts : (b : Bool) → b ≡ true → b ≡ false → ⊥
 contradicts b e f = cc

@@ -1,5 +1,5 @@
 -- A drill in a run: its commands, and then what is told of them.
-use Rattle.std.proofs.Common.{◌≡◌, ◌∙◌, ℕ, List, [], ◌∷◌, Some, codes, inl, inr, refl, sym, ap, arith}
+use Rattle.std.proofs.Common.{◌≡◌, ◌∙◌, ℕ, List, [], ◌∷◌, Some, inl, inr, refl, sym, ap, arith}
 use Rattle.std.specs.Prelude.{Ok, Err}
 use Rattle.ox_outside.specs.Crash.{Remains}
 use Rattle.ox_outside.specs.Event.{Event}
@@ -19,12 +19,11 @@ use Rattle.ox_drill.specs.declared.fault.DrillFault.TheVariants as drills
 use Rattle.ox_app.specs.Drill.{DrilledBefore, DrillsFirst, IsTold, RunsDrill}
 use Rattle.ox_app.specs.Show.{HearsNothing, ShowsFront}
 use Rattle.ox_app.specs.Status.{IsSparing, drill_status}
-use Rattle.ox_app.specs.Subcommands.{IsDrillLength, IsReading, drill_words}
+use Rattle.ox_app.specs.Subcommands.{IsDrillLength, drill_words}
 use Rattle.ox_app.specs.declared.status.Status.{Status}
 use Rattle.ox_app.specs.declared.status.Status.TheVariants as ends
 use Rattle.ox_app.proofs.Images.{grows_from, looked_then_talked, only_looked}
 use Rattle.ox_app.proofs.Pieces.{quiet_none}
-use Rattle.ox_app.proofs.Serving.{apart, first_same}
 use Rattle.ox_app.proofs.Settled.{settled_talking}
 use Rattle.ox_app.proofs.Subcommands.{same_number}
 
@@ -127,8 +126,3 @@ second_of x a b is = cc is
 
 pub lengths_same : (m n : ℕ) → IsDrillLength m → IsDrillLength n → drill_words m ≡ drill_words n → m ≡ n
 lengths_same m n p q is = same_number m n (omega (arith, p.few)) (omega (arith, q.few)) (second_of _ _ _ is)
-
--- the words of a drill aren't those of a run that writes no file
-pub drill_writes : (words : List (List ℕ)) (n : ℕ) → words ≡ drill_words n → IsReading words → ⊥
-drill_writes words n is (inl fold) = apart (codes "drill") (codes "fold") refl (first_same _ _ _ _ (sym is ∙ fold.1))
-drill_writes words n is (inr query) = apart (codes "drill") (codes "query") refl (first_same _ _ _ _ (sym is ∙ query.1))

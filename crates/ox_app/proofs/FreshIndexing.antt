@@ -1,8 +1,6 @@
 -- What a run carries along is fresh indexing of the machine's blocks.
 use Rattle.std.proofs.Common.{◌≡◌, ◌≢◌, ◌∙◌, ◌⊎◌, ◌≤◌, inl, inr, ℕ, suc, Bool, true, false, List, [], ◌∷◌, take, Option, Some, refl, sym, ap, subst}
-use Rattle.std.specs.Prelude.{Result, Ok, bytes_eq}
-use Rattle.std.proofs.lemmas.Bool.{true≢false}
-use Rattle.std.proofs.lemmas.Slice.Eq.{bytes_eq-Decides}
+use Rattle.std.specs.Prelude.{Result, Ok}
 use Rattle.std.specs.List.{concat}
 use Rattle.ox_outside.specs.Event.{Event, has_ended}
 use Rattle.ox_outside.specs.Files.{Files}
@@ -22,14 +20,15 @@ use Rattle.ox_sat.specs.declared.profiles.ProfileName.{ProfileName}
 use Rattle.ox_sat.specs.declared.profiles.ProfileName.TheVariants.{Mainnet, Regtest, Lab}
 use Rattle.ox_store.specs.Make.{made_stack}
 use Rattle.ox_app.specs.declared.status.Status.{Status}
-use Rattle.ox_app.specs.declared.status.Status.TheVariants.{DiskFault, HearFault, NotEmpty, NotStore, ShowFault}
+use Rattle.ox_app.specs.declared.status.Status.TheVariants.{DiskFault, HearFault, NotStore, ShowFault}
+use Rattle.ox_app.proofs.OtherWords.{apart}
 use Rattle.ox_app.proofs.Subcommands.{same_depth}
 use Rattle.ox_outside.proofs.Calls.{leaves_weaker}
 use Rattle.ox_app.specs.Headline.{IsRunInTurn, Leaves, RunsFeed, StopsBefore, Survives, stack_after}
 use Rattle.ox_outside.specs.Runs.{LeavesOnly}
 use Rattle.ox_app.specs.Show.{EndsDone}
-use Rattle.ox_app.specs.Status.{IsApplyStatus, IsInitStatus, IsRefusal}
-use Rattle.ox_app.specs.Subcommands.{IsDepth, IsReading, apply_words, fold_words, init_words}
+use Rattle.ox_app.specs.Status.{IsApplyStatus}
+use Rattle.ox_app.specs.Subcommands.{IsDepth, fold_words, init_words}
 
 same_answers : (machine : Machine) (lines : List FeedLine) → concat (replies_on (stack_of machine) lines) ≡ concat (replies machine lines)
 same_answers machine lines = ap (λ (l : List (List ℕ)). concat l) (sym (replies_alike machine lines))
@@ -113,10 +112,6 @@ grows_stops_alike machine files first now =
 
 -- ---- words
 
--- two words that differ aren't the same
-apart : (x y : List ℕ) → bytes_eq x y ≡ false → x ≡ y → ⊥
-apart x y differ is = true≢false (sym ((bytes_eq-Decides x y).1 is) ∙ differ)
-
 same_word : (a b : ProfileName) → profile_word a ≡ profile_word b → a ≡ b
 same_word Mainnet Mainnet is = refl
 same_word Mainnet Regtest is = absurd (apart (profile_word Mainnet) (profile_word Regtest) refl is)
@@ -144,60 +139,6 @@ init_same a b m n p q is =
 
 pub made_same : (a b : ProfileName) (m n : ℕ) → a ≡ b → m ≡ n → made_stack a m ≡ made_stack b n
 made_same a b m n e f = rw (e, f) refl
-
--- the words of an apply aren't those of a run that writes no file
-pub apply_writes : (words : List (List ℕ)) → words ≡ apply_words → IsReading words → ⊥
-apply_writes words is (inl fold) = cc (sym is ∙ fold.1)
-apply_writes words is (inr query) = cc (sym is ∙ query.1)
-
--- nor are those of a making
-pub init_writes : (words : List (List ℕ)) (name : ProfileName) (depth : ℕ) → words ≡ init_words name depth → IsReading words → ⊥
-init_writes words name depth is (inl fold) = cc (sym is ∙ fold.1)
-init_writes words name depth is (inr query) = cc (sym is ∙ query.1)
-
--- how an apply ends that shows a line of refusal
-pub apply_refuses : (status : Status) → IsApplyStatus status → IsRefusal status → status ≡ NotStore
-apply_refuses status a (inr (inr (inl e))) = e
-apply_refuses status (inl a) (inl e) = cc
-apply_refuses status (inl a) (inr (inl e)) = cc
-apply_refuses status (inl a) (inr (inr (inr e))) = cc
-apply_refuses status (inr (inl a)) (inl e) = a
-apply_refuses status (inr (inl a)) (inr (inl e)) = a
-apply_refuses status (inr (inl a)) (inr (inr (inr e))) = a
-apply_refuses status (inr (inr (inl a))) (inl e) = cc
-apply_refuses status (inr (inr (inl a))) (inr (inl e)) = cc
-apply_refuses status (inr (inr (inl a))) (inr (inr (inr e))) = cc
-apply_refuses status (inr (inr (inr (inl a)))) (inl e) = cc
-apply_refuses status (inr (inr (inr (inl a)))) (inr (inl e)) = cc
-apply_refuses status (inr (inr (inr (inl a)))) (inr (inr (inr e))) = cc
-apply_refuses status (inr (inr (inr (inr (inl a))))) (inl e) = cc
-apply_refuses status (inr (inr (inr (inr (inl a))))) (inr (inl e)) = cc
-apply_refuses status (inr (inr (inr (inr (inl a))))) (inr (inr (inr e))) = cc
-apply_refuses status (inr (inr (inr (inr (inr (inl a)))))) (inl e) = cc
-apply_refuses status (inr (inr (inr (inr (inr (inl a)))))) (inr (inl e)) = cc
-apply_refuses status (inr (inr (inr (inr (inr (inl a)))))) (inr (inr (inr e))) = cc
-apply_refuses status (inr (inr (inr (inr (inr (inr a)))))) (inl e) = cc
-apply_refuses status (inr (inr (inr (inr (inr (inr a)))))) (inr (inl e)) = cc
-apply_refuses status (inr (inr (inr (inr (inr (inr a)))))) (inr (inr (inr e))) = cc
-
--- how an init ends that shows a line of refusal
-pub init_refuses : (status : Status) → IsInitStatus status → IsRefusal status → status ≡ NotEmpty
-init_refuses status a (inr (inl e)) = e
-init_refuses status (inl a) (inl e) = cc
-init_refuses status (inl a) (inr (inr (inl e))) = cc
-init_refuses status (inl a) (inr (inr (inr e))) = cc
-init_refuses status (inr (inl a)) (inl e) = a
-init_refuses status (inr (inl a)) (inr (inr (inl e))) = a
-init_refuses status (inr (inl a)) (inr (inr (inr e))) = a
-init_refuses status (inr (inr (inl a))) (inl e) = cc
-init_refuses status (inr (inr (inl a))) (inr (inr (inl e))) = cc
-init_refuses status (inr (inr (inl a))) (inr (inr (inr e))) = cc
-init_refuses status (inr (inr (inr (inl a)))) (inl e) = cc
-init_refuses status (inr (inr (inr (inl a)))) (inr (inr (inl e))) = cc
-init_refuses status (inr (inr (inr (inl a)))) (inr (inr (inr e))) = cc
-init_refuses status (inr (inr (inr (inr a)))) (inl e) = cc
-init_refuses status (inr (inr (inr (inr a)))) (inr (inr (inl e))) = cc
-init_refuses status (inr (inr (inr (inr a)))) (inr (inr (inr e))) = cc
 
 -- ---- a run without a fault
 

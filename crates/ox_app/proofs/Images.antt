@@ -131,13 +131,18 @@ module _ {S : Type 0} (means : Meanings S) where
   pub talked_old : (P : List Event → Type 0) (old new : S) → OnlyTalks means P old new → LeavesOnly means old new (λ r. MayLeaveFiles means.may_leave old r.files)
   talked_old P old new talks = leaves_weaker means old new _ (λ r. MayLeaveFiles means.may_leave old r.files) (λ r talked. talked.files) talks.moments
 
+  -- nothing is logged while a store is made
+  pub making : (name : ProfileName) (depth : ℕ) (old mid : S) → LeavesOnly means old mid (λ r. means.log old ≡ Some r.log) → LeavesOnly means old mid (λ r. Grows (MadeBefore name depth r.files) (means.log old) (Some r.log))
+  making name depth old mid =
+      leaves_weaker means old mid _ _ (λ r is. grows_same (MadeBefore name depth r.files) (means.log old) (means.log old) (Some r.log) (grows_none (MadeBefore name depth r.files) (means.log old) tt) (sym is))
+
   -- a store is made, and then a line is shown
   pub made_then_talked : (P : List Event → Type 0) (name : ProfileName) (depth : ℕ) (old mid new : S) → LeavesOnly means old mid (λ r. means.log old ≡ Some r.log) → means.log mid ≡ means.log old
       → IsSettled means mid → stands (means.seen mid) ≡ Ok (made_stack name depth) → OnlyTalks means P mid new
       → LeavesOnly means old new (λ r. Grows (MadeBefore name depth r.files) (means.log old) (Some r.log))
   made_then_talked P name depth old mid new stays same settled stood talks =
       leaves_then means old mid new (λ r. Grows (MadeBefore name depth r.files) (means.log old) (Some r.log))
-      (leaves_weaker means old mid _ _ (λ r is. grows_same (MadeBefore name depth r.files) (means.log old) (means.log old) (Some r.log) (grows_none (MadeBefore name depth r.files) (means.log old) tt) (sym is)) stays)
+      (making name depth old mid stays)
       (leaves_weaker means mid new _ _ (λ r talked.
       grows_from (MadeBefore name depth r.files) (means.log old) (means.log mid) (Some r.log) same
       (grows_weaker P (MadeBefore name depth r.files) (means.log mid) (Some r.log)

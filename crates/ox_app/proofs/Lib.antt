@@ -10,6 +10,7 @@ pub mod FreshIndexing
 pub mod Images
 pub mod Migrating
 pub mod Opening
+pub mod OtherWords
 pub mod Pieces
 pub mod Prefixes
 pub mod Serving

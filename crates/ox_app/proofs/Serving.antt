@@ -1,7 +1,6 @@
 -- A server in a run of the program: what is told behind its turns, what a crash leaves, and machines for stacks.
-use Rattle.std.proofs.Common.{◌≡◌, ◌≢◌, ◌∙◌, ◌⊎◌, false, true≢false, codes, ◌≤◌, ℕ, zero, suc, List, [], ◌∷◌, ◌++◌, take, Option, Some, None, refl, sym, ap, subst, arith, inl, inr, ⊎_elim}
-use Rattle.std.specs.Prelude.{Result, Ok, Err, bytes_eq}
-use Rattle.std.proofs.lemmas.Slice.Eq.{bytes_eq-Decides}
+use Rattle.std.proofs.Common.{◌≡◌, ◌≢◌, ◌∙◌, ◌⊎◌, ◌≤◌, ℕ, zero, suc, List, [], ◌∷◌, ◌++◌, take, Option, Some, None, refl, sym, ap, subst, arith, inl, inr, ⊎_elim}
+use Rattle.std.specs.Prelude.{Result, Ok, Err}
 use Rattle.std.proofs.lemmas.List.{append-nil, append_cancel_left}
 use Rattle.std.proofs.lemmas.List.Elements.{All-nil}
 use Rattle.std.proofs.lemmas.Option.{same_Some}
@@ -33,8 +32,8 @@ use Rattle.ox_serve.specs.declared.fault.ServeFault.TheVariants as serves
 use Rattle.ox_serve.proofs.Alike.{counted_alike, fronts_alike, short_alike, survives_alike}
 use Rattle.ox_app.specs.Serve.{LeavesServing, RunsServer, StandForMachine, SurvivesLinks, totals_line}
 use Rattle.ox_app.specs.Show.{EndsAtFault, ShowsFront, ShowsReply}
-use Rattle.ox_app.specs.Status.{IsRefusal, IsServeStatus, fault_status}
-use Rattle.ox_app.specs.Subcommands.{IsReading, IsTurns, serve_words}
+use Rattle.ox_app.specs.Status.{IsRefusal, fault_status}
+use Rattle.ox_app.specs.Subcommands.{IsTurns, serve_words}
 use Rattle.ox_app.specs.Unopened.{LogsUnopened, UnopenedAs}
 use Rattle.ox_app.specs.declared.status.Status.{Status}
 use Rattle.ox_app.specs.declared.status.Status.TheVariants as ends
@@ -390,36 +389,3 @@ second_of x a b is = cc is
 
 pub turns_same : (m n : ℕ) → IsTurns m → IsTurns n → serve_words m ≡ serve_words n → m ≡ n
 turns_same m n p q is = same_number m n (omega (arith, p.few)) (omega (arith, q.few)) (second_of _ _ _ is)
-
--- two words that differ aren't the same
-pub apart : (x y : List ℕ) → bytes_eq x y ≡ false → x ≡ y → ⊥
-apart x y differ is = true≢false (sym ((bytes_eq-Decides x y).1 is) ∙ differ)
-
-pub first_same : (x y a b : List ℕ) → x ∷ a ∷ [] ≡ y ∷ b ∷ [] → x ≡ y
-first_same x y a b is = cc is
-
-pub serve_writes : (words : List (List ℕ)) (turns : ℕ) → words ≡ serve_words turns → IsReading words → ⊥
-serve_writes words turns is (inl fold) = apart (codes "serve") (codes "fold") refl (first_same _ _ _ _ (sym is ∙ fold.1))
-serve_writes words turns is (inr query) = apart (codes "serve") (codes "query") refl (first_same _ _ _ _ (sym is ∙ query.1))
-
--- how a server ends that shows a line of refusal
-pub serve_refuses : (status : Status) → IsServeStatus status → IsRefusal status → status ≡ ends.NotStore
-serve_refuses status a (inr (inr (inl e))) = e
-serve_refuses status (inl a) (inl e) = cc
-serve_refuses status (inl a) (inr (inl e)) = cc
-serve_refuses status (inl a) (inr (inr (inr e))) = cc
-serve_refuses status (inr (inl a)) (inl e) = a
-serve_refuses status (inr (inl a)) (inr (inl e)) = a
-serve_refuses status (inr (inl a)) (inr (inr (inr e))) = a
-serve_refuses status (inr (inr (inl a))) (inl e) = cc
-serve_refuses status (inr (inr (inl a))) (inr (inl e)) = cc
-serve_refuses status (inr (inr (inl a))) (inr (inr (inr e))) = cc
-serve_refuses status (inr (inr (inr (inl a)))) (inl e) = cc
-serve_refuses status (inr (inr (inr (inl a)))) (inr (inl e)) = cc
-serve_refuses status (inr (inr (inr (inl a)))) (inr (inr (inr e))) = cc
-serve_refuses status (inr (inr (inr (inr (inl a))))) (inl e) = cc
-serve_refuses status (inr (inr (inr (inr (inl a))))) (inr (inl e)) = cc
-serve_refuses status (inr (inr (inr (inr (inl a))))) (inr (inr (inr e))) = cc
-serve_refuses status (inr (inr (inr (inr (inr a))))) (inl e) = cc
-serve_refuses status (inr (inr (inr (inr (inr a))))) (inr (inl e)) = cc
-serve_refuses status (inr (inr (inr (inr (inr a))))) (inr (inr (inr e))) = cc

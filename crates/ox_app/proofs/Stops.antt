@@ -1,5 +1,5 @@
 -- Of the calls of a run none fails but the last.
-use Rattle.std.proofs.Common.{◌≡◌, ◌∙◌, ◌⊎◌, inl, inr, ℕ, sym, ap, subst, arith}
+use Rattle.std.proofs.Common.{◌≡◌, ◌∙◌, ◌⊎◌, inl, inr, ℕ, false, eqb, refl, sym, ap, subst, arith}
 use Rattle.std.specs.Prelude.{Result, Ok, Err, IsErrOf}
 use Rattle.ox_outside.specs.Counts.{Counts, CountsShowing, FailsLast, IsFailure, NoFault, StopsAtFault}
 use Rattle.ox_outside.proofs.Counts.{own_showing, stops_after, stops_as, went_on}
@@ -14,12 +14,13 @@ use Rattle.ox_store.specs.declared.fault.OpenFault.{OpenFault}
 use Rattle.ox_store.specs.declared.fault.OpenFault.TheVariants as opens
 use Rattle.ox_app.specs.Fold.{stop_of}
 use Rattle.ox_app.specs.Show.{EndsAtFault, EndsAtStop, MayFailToShow}
-use Rattle.ox_app.specs.Status.{IsRefusal, status_of}
+use Rattle.ox_app.specs.Status.{IsRefusal, code_of, status_of}
 use Rattle.ox_app.specs.Unopened.{UnopenedAs}
 use Rattle.ox_app.specs.declared.status.Status.{Status}
 use Rattle.ox_app.specs.declared.status.Status.TheVariants as ends
 use Rattle.ox_app.specs.declared.stop.Stop.{Stop}
 use Rattle.ox_app.specs.declared.stop.Stop.TheVariants as stops
+use Rattle.ox_app.proofs.Statuses.{ends_apart}
 
 -- ---- parts that went on
 
@@ -70,6 +71,14 @@ piece_stops answer result e old mid new is none counted =
     (stops_as ⊥ ⊥ (IsFailure answer) ⊥ ⊥ (IsFailure result) mid new (λ no. no) (λ no. no) (λ failed. subst IsFailure (sym is) tt) (own_showing answer mid new counted))
 
 -- a part stops for one reason
+-- two stops that differ, by how they end a run
+pub stops_apart : (a b : Stop) → eqb (code_of (status_of (Err a))) (code_of (status_of (Err b))) ≡ false → a ≡ b → ⊥
+stops_apart a b differ is = ends_apart (status_of (Err a)) (status_of (Err b)) differ (ap (λ (s : Stop). status_of (Err s)) is)
+
+-- what is done wasn't stopped
+pub unstopped : {T : Type 0} {done : T} (stop : Stop) → ◌≡◌ {A = Result T Stop} (Ok done) (Err stop) → ⊥
+unstopped stop is = cc is
+
 pub stopped_as : {T : Type 0} (result : Result T Stop) (stop other : Stop) → result ≡ Err stop → IsErrOf result other → stop ≡ other
 stopped_as {T} result stop other is e =
     let both : ◌≡◌ {A = Result T Stop} (Err stop) (Err other) = sym is ∙ e in
@@ -145,10 +154,32 @@ made_well {T} x old new stopped = went_on (IsErrOf {T = T} {E = MakeFault} (Ok x
 pub drilled_well : {T : Type 0} (x : T) (old new : Counts) → StopsAtFault (IsErrOf {T = T} {E = DrillFault} (Ok x) drills.DiskFault) ⊥ ⊥ old new → NoFault old new
 drilled_well {T} x old new stopped = went_on (IsErrOf {T = T} {E = DrillFault} (Ok x) drills.DiskFault) ⊥ ⊥ old new (λ is. cc is) (λ no. no) (λ no. no) stopped
 
+pub drill_disk_stops : {T : Type 0} (fault : DrillFault) (old new : Counts) → StopsAtFault (IsErrOf {T = T} (Err fault) drills.DiskFault) ⊥ ⊥ old new → EndsAtFault ends.DiskFault old new
+drill_disk_stops {T} fault old new stopped =
+    stops_as (IsErrOf {T = T} (Err fault) drills.DiskFault) ⊥ ⊥ (ends.DiskFault ≡ ends.DiskFault) (ends.DiskFault ≡ ends.HearFault) ((ends.DiskFault ≡ ends.ShowFault) ⊎ IsRefusal ends.DiskFault) old new
+    (λ is. refl) (λ no. absurd no) (λ no. absurd no) stopped
+
+pub memory_drilled : (fault : DrillFault) → fault ≡ drills.Memory → fault ≡ drills.DiskFault → ⊥
+memory_drilled fault is other = let e : drills.Memory ≡ drills.DiskFault = sym is ∙ other in cc e
+
+pub none_drilled : (fault : DrillFault) → fault ≡ drills.NotEmpty → fault ≡ drills.DiskFault → ⊥
+none_drilled fault is other = let e : drills.NotEmpty ≡ drills.DiskFault = sym is ∙ other in cc e
+
 -- a drill that ends for another reason than the disk
 pub not_drilled : {T : Type 0} (fault : DrillFault) (old new : Counts) → (fault ≡ drills.DiskFault → ⊥) → StopsAtFault (IsErrOf {T = T} (Err fault) drills.DiskFault) ⊥ ⊥ old new → NoFault old new
 not_drilled {T} fault old new other stopped =
     went_on (IsErrOf {T = T} (Err fault) drills.DiskFault) ⊥ ⊥ old new (λ is. let e : fault ≡ drills.DiskFault = cc is in other e) (λ no. no) (λ no. no) stopped
+
+pub make_disk_stops : {T : Type 0} (fault : MakeFault) (old new : Counts) → StopsAtFault (IsErrOf {T = T} (Err fault) makes.DiskFault) ⊥ ⊥ old new → EndsAtFault ends.DiskFault old new
+make_disk_stops {T} fault old new stopped =
+    stops_as (IsErrOf {T = T} (Err fault) makes.DiskFault) ⊥ ⊥ (ends.DiskFault ≡ ends.DiskFault) (ends.DiskFault ≡ ends.HearFault) ((ends.DiskFault ≡ ends.ShowFault) ⊎ IsRefusal ends.DiskFault) old new
+    (λ is. refl) (λ no. absurd no) (λ no. absurd no) stopped
+
+pub memory_made : (fault : MakeFault) → fault ≡ makes.Memory → fault ≡ makes.DiskFault → ⊥
+memory_made fault is other = let e : makes.Memory ≡ makes.DiskFault = sym is ∙ other in cc e
+
+pub none_made : (fault : MakeFault) → fault ≡ makes.NotEmpty → fault ≡ makes.DiskFault → ⊥
+none_made fault is other = let e : makes.NotEmpty ≡ makes.DiskFault = sym is ∙ other in cc e
 
 -- a store that isn't made for another reason than the disk
 pub not_made : {T : Type 0} (fault : MakeFault) (old new : Counts) → (fault ≡ makes.DiskFault → ⊥) → StopsAtFault (IsErrOf {T = T} (Err fault) makes.DiskFault) ⊥ ⊥ old new → NoFault old new

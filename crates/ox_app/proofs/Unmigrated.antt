@@ -95,6 +95,16 @@ pub not_disk_old : {T : Type 0} (fault : MigrateFault) (old new : Counts) → (f
 not_disk_old {T} fault old new other stopped =
     went_on (IsErrOf {T = T} (Err fault) migrates.DiskFault) ⊥ ⊥ old new (λ is. let e : fault ≡ migrates.DiskFault = cc is in other e) (λ no. no) (λ no. no) stopped
 
+-- a fault that isn't the disk's
+pub store_isnt_disk : (fault : MigrateFault) (file : Which) (at : ℕ) → fault ≡ migrates.NotStore file at → fault ≡ migrates.DiskFault → ⊥
+store_isnt_disk fault file at is other = let e : migrates.NotStore file at ≡ migrates.DiskFault = sym is ∙ other in cc e
+
+pub old_isnt_disk : (fault : MigrateFault) (command : ℕ) (refusal : Refusal) → fault ≡ migrates.Old command refusal → fault ≡ migrates.DiskFault → ⊥
+old_isnt_disk fault command refusal is other = let e : migrates.Old command refusal ≡ migrates.DiskFault = sym is ∙ other in cc e
+
+pub memory_isnt_disk : (fault : MigrateFault) → fault ≡ migrates.Memory → fault ≡ migrates.DiskFault → ⊥
+memory_isnt_disk fault is other = let e : migrates.Memory ≡ migrates.DiskFault = sym is ∙ other in cc e
+
 pub disk_stops : {T : Type 0} (fault : MigrateFault) (old new : Counts) → StopsAtFault (IsErrOf {T = T} (Err fault) migrates.DiskFault) ⊥ ⊥ old new → EndsAtFault ends.DiskFault old new
 disk_stops {T} fault old new stopped =
     stops_as (IsErrOf {T = T} (Err fault) migrates.DiskFault) ⊥ ⊥ (ends.DiskFault ≡ ends.DiskFault) (ends.DiskFault ≡ ends.HearFault) ((ends.DiskFault ≡ ends.ShowFault) ⊎ IsRefusal ends.DiskFault) old new

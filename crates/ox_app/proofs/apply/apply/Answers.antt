@@ -19,139 +19,76 @@ use Rattle.ox_app.specs.Status.{IsApplyStatus, status_of}
 use Rattle.ox_app.specs.declared.status.Status.{Status}
 use Rattle.ox_app.proofs.apply.apply.Goals as goal
 
-pub returns-in-Ok-clause-survives : goal.returns-in-Ok-clause-survives
-returns-in-Ok-clause-survives g c told stack stood =
-    let same = same_stack (stands (g.S.Site.seen c.args.site.now)) c.in-Ok.store.stack stack (c.in-Ok.ensures.stands told) stood in
-    let mid = c.open.ensures.looks.calls.as_told ∙ told in
-    let stood_mid = ap stands c.open.ensures.looks.nothing.files ∙ c.in-Ok.ensures.stands told in
-    subst (λ (s : Stack). LeavesOnly g.S.Site c.args.site.now c.follow.new.site
-    (λ r. Grows (Leaves g.S.Site.may_leave c.args.site.now (replies_on s) (after_on s) r.files) (g.S.Site.log c.args.site.now) (Some r.log))) same
-    (opened_then_followed g.S.Site g.met.S.Site.logs_now c.in-Ok.store.stack c.args.site.now c.open.new.site c.follow.new.site c.open.ensures.looks (c.follow.ensures.survives mid stood_mid))
+pub returns-in-Ok : goal.returns-in-Ok
+returns-in-Ok g c = record {
+  feeds = λ told stack stood.
+      let same = same_stack (stands (g.S.Site.seen c.args.site.now)) c.in-Ok.store.stack stack (c.in-Ok.ensures.stands told) stood in (
+        (λ is. (ends_run c.follow.result).opened (sym c.status.ensures ∙ is)),
+        subst (λ (s : Status). Grows (RunsFeed (replies_on stack) s) (g.S.Site.log c.args.site.now) (g.S.Site.log c.follow.new.site)) (sym c.status.ensures)
+            (subst (λ (s : Stack). Grows (RunsFeed (replies_on s) (status_of c.follow.result)) (g.S.Site.log c.args.site.now) (g.S.Site.log c.follow.new.site)) same
+            (grows_from (RunsFeed (replies_on c.in-Ok.store.stack) (status_of c.follow.result)) (g.S.Site.log c.args.site.now) (g.S.Site.log c.open.new.site) (g.S.Site.log c.follow.new.site) c.open.ensures.looks.nothing.as_logged c.follow.ensures.told)),
+      );
+  survives = λ told stack stood.
+      let same = same_stack (stands (g.S.Site.seen c.args.site.now)) c.in-Ok.store.stack stack (c.in-Ok.ensures.stands told) stood in
+      let mid = c.open.ensures.looks.calls.as_told ∙ told in
+      let stood_mid = ap stands c.open.ensures.looks.nothing.files ∙ c.in-Ok.ensures.stands told in
+      subst (λ (s : Stack). LeavesOnly g.S.Site c.args.site.now c.follow.new.site
+      (λ r. Grows (Leaves g.S.Site.may_leave c.args.site.now (replies_on s) (after_on s) r.files) (g.S.Site.log c.args.site.now) (Some r.log))) same
+      (opened_then_followed g.S.Site g.met.S.Site.logs_now c.in-Ok.store.stack c.args.site.now c.open.new.site c.follow.new.site c.open.ensures.looks (c.follow.ensures.survives mid stood_mid));
+  out_of_memory = λ told stack stood is.
+      let same = same_stack (stands (g.S.Site.seen c.args.site.now)) c.in-Ok.store.stack stack (c.in-Ok.ensures.stands told) stood in
+      let mid = c.open.ensures.looks.calls.as_told ∙ told in
+      let stood_mid = ap stands c.open.ensures.looks.nothing.files ∙ c.in-Ok.ensures.stands told in
+      subst (λ (s : Stack). Grows (StopsBefore (replies_on s) (after_on s) (g.S.Site.seen c.follow.new.site)) (g.S.Site.log c.args.site.now) (g.S.Site.log c.follow.new.site)) same
+      (grows_from (StopsBefore (replies_on c.in-Ok.store.stack) (after_on c.in-Ok.store.stack) (g.S.Site.seen c.follow.new.site))
+      (g.S.Site.log c.args.site.now) (g.S.Site.log c.open.new.site) (g.S.Site.log c.follow.new.site) c.open.ensures.looks.nothing.as_logged
+      (c.follow.ensures.out_of_memory mid stood_mid (stopped_by_memory c.follow.result (sym c.status.ensures ∙ is))));
+  unopened = λ told misfit stood. no_misfit_stands (stands (g.S.Site.seen c.args.site.now)) c.in-Ok.store.stack misfit (c.in-Ok.ensures.stands told) stood;
+  unsaid = λ told misfit stood isnt. no_misfit_stands (stands (g.S.Site.seen c.args.site.now)) c.in-Ok.store.stack misfit (c.in-Ok.ensures.stands told) stood;
+  looks = λ told misfit stood. no_misfit_stands (stands (g.S.Site.seen c.args.site.now)) c.in-Ok.store.stack misfit (c.in-Ok.ensures.stands told) stood;
+  no_store = λ is. absurd ((ends_run c.follow.result).opened (sym c.status.ensures ∙ is));
+  not_store = λ is. absurd ((ends_run c.follow.result).opened (sym c.status.ensures ∙ is));
+  status = subst IsApplyStatus (sym c.status.ensures) (ends_run c.follow.result).status;
+  hear_fault = λ is.
+      let counts = g.S.Site.counts in
+      then_rose ((counts c.args.site.now).hear 0) ((counts c.open.new.site).hear 0) ((counts c.follow.new.site).hear 0) (c.open.ensures.looks.calls.none_fell.hear 0) (c.follow.ensures.hear_fault ((ends_run c.follow.result).hear (sym c.status.ensures ∙ is)));
+  show_fault = λ is.
+      let counts = g.S.Site.counts in
+      then_rose ((counts c.args.site.now).show 0) ((counts c.open.new.site).show 0) ((counts c.follow.new.site).show 0) (c.open.ensures.looks.calls.none_fell.show 0) (c.follow.ensures.show_fault ((ends_run c.follow.result).show (sym c.status.ensures ∙ is)));
+  disk_fault = λ is.
+      let counts = g.S.Site.counts in
+      then_rose (counts c.args.site.now).disk (counts c.open.new.site).disk (counts c.follow.new.site).disk (c.open.ensures.looks.calls.none_fell.disk) (c.follow.ensures.disk_fault ((ends_run c.follow.result).disk (sym c.status.ensures ∙ is)));
+  settled = λ told is. c.follow.ensures.settled (c.open.ensures.looks.calls.as_told ∙ told) (stopped_by_memory c.follow.result (sym c.status.ensures ∙ is));
+  stops =
+      subst (λ (s : Status). EndsAtFault s (g.S.Site.counts c.args.site.now) (g.S.Site.counts c.follow.new.site)) (sym c.status.ensures)
+      (status_stops c.follow.result _ _ _ (opened_well c.in-Ok.store _ _ c.in-Ok.ensures.counted) c.follow.ensures.counted);
+  calls = calls_then g.S.Site c.args.site.now c.open.new.site c.follow.new.site c.open.ensures.looks.calls c.follow.ensures.calls;
+}
 
-pub returns-in-Err-clause-survives : goal.returns-in-Err-clause-survives
-returns-in-Err-clause-survives g c told stack stood =
-    unopened_yet g.S.Site g.met.S.Site.logs_now stack c.in-Err.fault c.args.site.now c.open.new.site c.explain.new.site stood (c.in-Err.ensures.not_store told) c.open.ensures.looks c.explain.ensures.talks
-
-pub returns-in-Err-clause-looks : goal.returns-in-Err-clause-looks
-returns-in-Err-clause-looks g c told misfit stood =
-    looked_then_talked g.S.Site _ c.args.site.now c.open.new.site c.explain.new.site c.open.ensures.looks c.explain.ensures.talks
-
-pub returns-in-Err-clause-no_store : goal.returns-in-Err-clause-no_store
-returns-in-Err-clause-no_store g c is =
-    looked_then_talked g.S.Site _ c.args.site.now c.open.new.site c.explain.new.site c.open.ensures.looks c.explain.ensures.talks
-
-pub returns-in-Err-clause-unsaid : goal.returns-in-Err-clause-unsaid
-returns-in-Err-clause-unsaid g c told misfit stood isnt =
-    says_nothing g.S.Site c.in-Err.fault c.explain.result c.open.new.site c.explain.new.site c.explain.ensures.says isnt ∙ c.open.ensures.looks.nothing.as_logged
-
-pub returns-in-Ok-clause-out_of_memory : goal.returns-in-Ok-clause-out_of_memory
-returns-in-Ok-clause-out_of_memory g c told stack stood is =
-    let same = same_stack (stands (g.S.Site.seen c.args.site.now)) c.in-Ok.store.stack stack (c.in-Ok.ensures.stands told) stood in
-    let mid = c.open.ensures.looks.calls.as_told ∙ told in
-    let stood_mid = ap stands c.open.ensures.looks.nothing.files ∙ c.in-Ok.ensures.stands told in
-    subst (λ (s : Stack). Grows (StopsBefore (replies_on s) (after_on s) (g.S.Site.seen c.follow.new.site)) (g.S.Site.log c.args.site.now) (g.S.Site.log c.follow.new.site)) same
-    (grows_from (StopsBefore (replies_on c.in-Ok.store.stack) (after_on c.in-Ok.store.stack) (g.S.Site.seen c.follow.new.site))
-    (g.S.Site.log c.args.site.now) (g.S.Site.log c.open.new.site) (g.S.Site.log c.follow.new.site) c.open.ensures.looks.nothing.as_logged
-    (c.follow.ensures.out_of_memory mid stood_mid (stopped_by_memory c.follow.result (sym c.status.ensures ∙ is))))
-
-pub returns-in-Err-clause-out_of_memory : goal.returns-in-Err-clause-out_of_memory
-returns-in-Err-clause-out_of_memory g c told stack stood is =
-    stops_unopened g.S.Site stack c.in-Err.fault c.explain.result c.args.site.now c.open.new.site c.explain.new.site stood
-    c.open.ensures.looks c.explain.ensures.says (λ e. memory_opens (sym is ∙ e)) c.explain.ensures.talks
-
-pub returns-in-Ok-clause-settled : goal.returns-in-Ok-clause-settled
-returns-in-Ok-clause-settled g c told is =
-    c.follow.ensures.settled (c.open.ensures.looks.calls.as_told ∙ told) (stopped_by_memory c.follow.result (sym c.status.ensures ∙ is))
-
-pub returns-in-Err-clause-settled : goal.returns-in-Err-clause-settled
-returns-in-Err-clause-settled g c told is =
-    settled_talking g.S.Site c.open.new.site c.explain.new.site c.explain.ensures.talks.files
-    (c.in-Err.ensures.settled (not_disk g.S.Site c.in-Err.fault c.explain.result c.open.new.site c.explain.new.site c.explain.ensures.says is))
-
-pub returns-in-Ok-clause-stops : goal.returns-in-Ok-clause-stops
-returns-in-Ok-clause-stops g c =
-    subst (λ (s : Status). EndsAtFault s (g.S.Site.counts c.args.site.now) (g.S.Site.counts c.follow.new.site)) (sym c.status.ensures)
-    (status_stops c.follow.result _ _ _ (opened_well c.in-Ok.store _ _ c.in-Ok.ensures.counted) c.follow.ensures.counted)
-
-pub returns-in-Err-clause-stops : goal.returns-in-Err-clause-stops
-returns-in-Err-clause-stops g c =
-    unopened_stops g.S.Site c.in-Err.fault c.explain.result c.args.site.now c.open.new.site c.explain.new.site c.explain.ensures.says c.in-Err.ensures.counted c.explain.ensures.counted
-
-pub returns-in-Ok-clause-feeds : goal.returns-in-Ok-clause-feeds
-returns-in-Ok-clause-feeds g c told stack stood =
-    let same = same_stack (stands (g.S.Site.seen c.args.site.now)) c.in-Ok.store.stack stack (c.in-Ok.ensures.stands told) stood in (
-      (λ is. (ends_run c.follow.result).opened (sym c.status.ensures ∙ is)),
-      subst (λ (s : Status). Grows (RunsFeed (replies_on stack) s) (g.S.Site.log c.args.site.now) (g.S.Site.log c.follow.new.site)) (sym c.status.ensures)
-          (subst (λ (s : Stack). Grows (RunsFeed (replies_on s) (status_of c.follow.result)) (g.S.Site.log c.args.site.now) (g.S.Site.log c.follow.new.site)) same
-          (grows_from (RunsFeed (replies_on c.in-Ok.store.stack) (status_of c.follow.result)) (g.S.Site.log c.args.site.now) (g.S.Site.log c.open.new.site) (g.S.Site.log c.follow.new.site) c.open.ensures.looks.nothing.as_logged c.follow.ensures.told)),
-    )
-
-pub returns-in-Ok-clause-unopened : goal.returns-in-Ok-clause-unopened
-returns-in-Ok-clause-unopened g c told misfit stood =
-    no_misfit_stands (stands (g.S.Site.seen c.args.site.now)) c.in-Ok.store.stack misfit (c.in-Ok.ensures.stands told) stood
-
-pub returns-in-Ok-clause-unsaid : goal.returns-in-Ok-clause-unsaid
-returns-in-Ok-clause-unsaid g c told misfit stood isnt =
-    no_misfit_stands (stands (g.S.Site.seen c.args.site.now)) c.in-Ok.store.stack misfit (c.in-Ok.ensures.stands told) stood
-
-pub returns-in-Ok-clause-looks : goal.returns-in-Ok-clause-looks
-returns-in-Ok-clause-looks g c told misfit stood =
-    no_misfit_stands (stands (g.S.Site.seen c.args.site.now)) c.in-Ok.store.stack misfit (c.in-Ok.ensures.stands told) stood
-
-pub returns-in-Ok-clause-no_store : goal.returns-in-Ok-clause-no_store
-returns-in-Ok-clause-no_store g c is = absurd ((ends_run c.follow.result).opened (sym c.status.ensures ∙ is))
-
-pub returns-in-Ok-clause-not_store : goal.returns-in-Ok-clause-not_store
-returns-in-Ok-clause-not_store g c is = absurd ((ends_run c.follow.result).opened (sym c.status.ensures ∙ is))
-
-pub returns-in-Ok-clause-status : goal.returns-in-Ok-clause-status
-returns-in-Ok-clause-status g c = subst IsApplyStatus (sym c.status.ensures) (ends_run c.follow.result).status
-
-pub returns-in-Ok-clause-hear_fault : goal.returns-in-Ok-clause-hear_fault
-returns-in-Ok-clause-hear_fault g c is =
-    let counts = g.S.Site.counts in
-    then_rose ((counts c.args.site.now).hear 0) ((counts c.open.new.site).hear 0) ((counts c.follow.new.site).hear 0) (c.open.ensures.looks.calls.none_fell.hear 0) (c.follow.ensures.hear_fault ((ends_run c.follow.result).hear (sym c.status.ensures ∙ is)))
-
-pub returns-in-Ok-clause-show_fault : goal.returns-in-Ok-clause-show_fault
-returns-in-Ok-clause-show_fault g c is =
-    let counts = g.S.Site.counts in
-    then_rose ((counts c.args.site.now).show 0) ((counts c.open.new.site).show 0) ((counts c.follow.new.site).show 0) (c.open.ensures.looks.calls.none_fell.show 0) (c.follow.ensures.show_fault ((ends_run c.follow.result).show (sym c.status.ensures ∙ is)))
-
-pub returns-in-Ok-clause-disk_fault : goal.returns-in-Ok-clause-disk_fault
-returns-in-Ok-clause-disk_fault g c is =
-    let counts = g.S.Site.counts in
-    then_rose (counts c.args.site.now).disk (counts c.open.new.site).disk (counts c.follow.new.site).disk (c.open.ensures.looks.calls.none_fell.disk) (c.follow.ensures.disk_fault ((ends_run c.follow.result).disk (sym c.status.ensures ∙ is)))
-
-pub returns-in-Ok-clause-calls : goal.returns-in-Ok-clause-calls
-returns-in-Ok-clause-calls g c = calls_then g.S.Site c.args.site.now c.open.new.site c.follow.new.site c.open.ensures.looks.calls c.follow.ensures.calls
-
-pub returns-in-Err-clause-feeds : goal.returns-in-Err-clause-feeds
-returns-in-Err-clause-feeds g c told stack stood =
-    let how = unserved_as g.S.Site (stands (g.S.Site.seen c.args.site.now)) stack c.in-Err.fault c.explain.result c.open.new.site c.explain.new.site stood (c.in-Err.ensures.not_store told) c.explain.ensures.says in
-    let only = (only_unopened c.explain.result c.explain.ensures.status) in (
-      how.opened,
-      grows_same (RunsFeed (replies_on stack) c.explain.result) (g.S.Site.log c.args.site.now) (g.S.Site.log c.args.site.now) (g.S.Site.log c.explain.new.site) (grows_quiet stack c.explain.result only.done only.much (g.S.Site.log c.args.site.now)) (how.logged ∙ c.open.ensures.looks.nothing.as_logged),
-    )
-
-pub returns-in-Err-clause-unopened : goal.returns-in-Err-clause-unopened
-returns-in-Err-clause-unopened g c told misfit stood = c.explain.ensures.status
-
-pub returns-in-Err-clause-not_store : goal.returns-in-Err-clause-not_store
-returns-in-Err-clause-not_store g c is =
-    unopened_says g.S.Site c.in-Err.fault c.explain.result c.args.site.now c.open.new.site c.explain.new.site c.open.ensures.looks c.in-Err.ensures.not_store c.explain.ensures.says is
-
-pub returns-in-Err-clause-status : goal.returns-in-Err-clause-status
-returns-in-Err-clause-status g c = unopened_apply c.explain.result c.explain.ensures.status
-
-pub returns-in-Err-clause-hear_fault : goal.returns-in-Err-clause-hear_fault
-returns-in-Err-clause-hear_fault g c is = absurd ((only_unopened c.explain.result c.explain.ensures.status).hear is)
-
-pub returns-in-Err-clause-show_fault : goal.returns-in-Err-clause-show_fault
-returns-in-Err-clause-show_fault g c is = absurd ((only_unopened c.explain.result c.explain.ensures.status).show is)
-
-pub returns-in-Err-clause-disk_fault : goal.returns-in-Err-clause-disk_fault
-returns-in-Err-clause-disk_fault g c is =
-    unopened_disk g.S.Site c.in-Err.fault c.explain.result c.args.site.now c.open.new.site c.explain.new.site c.explain.ensures.talks.calls c.in-Err.ensures.failed c.explain.ensures.says is
-
-pub returns-in-Err-clause-calls : goal.returns-in-Err-clause-calls
-returns-in-Err-clause-calls g c = calls_then g.S.Site c.args.site.now c.open.new.site c.explain.new.site c.open.ensures.looks.calls c.explain.ensures.talks.calls
+pub returns-in-Err : goal.returns-in-Err
+returns-in-Err g c = record {
+  feeds = λ told stack stood.
+      let how = unserved_as g.S.Site (stands (g.S.Site.seen c.args.site.now)) stack c.in-Err.fault c.explain.result c.open.new.site c.explain.new.site stood (c.in-Err.ensures.not_store told) c.explain.ensures.says in
+      let only = (only_unopened c.explain.result c.explain.ensures.status) in (
+        how.opened,
+        grows_same (RunsFeed (replies_on stack) c.explain.result) (g.S.Site.log c.args.site.now) (g.S.Site.log c.args.site.now) (g.S.Site.log c.explain.new.site) (grows_quiet stack c.explain.result only.done only.much (g.S.Site.log c.args.site.now)) (how.logged ∙ c.open.ensures.looks.nothing.as_logged),
+      );
+  survives = λ told stack stood. unopened_yet g.S.Site g.met.S.Site.logs_now stack c.in-Err.fault c.args.site.now c.open.new.site c.explain.new.site stood (c.in-Err.ensures.not_store told) c.open.ensures.looks c.explain.ensures.talks;
+  out_of_memory = λ told stack stood is.
+      stops_unopened g.S.Site stack c.in-Err.fault c.explain.result c.args.site.now c.open.new.site c.explain.new.site stood
+      c.open.ensures.looks c.explain.ensures.says (λ e. memory_opens (sym is ∙ e)) c.explain.ensures.talks;
+  unopened = λ told misfit stood. c.explain.ensures.status;
+  unsaid = λ told misfit stood isnt. says_nothing g.S.Site c.in-Err.fault c.explain.result c.open.new.site c.explain.new.site c.explain.ensures.says isnt ∙ c.open.ensures.looks.nothing.as_logged;
+  looks = λ told misfit stood. looked_then_talked g.S.Site _ c.args.site.now c.open.new.site c.explain.new.site c.open.ensures.looks c.explain.ensures.talks;
+  no_store = λ is. looked_then_talked g.S.Site _ c.args.site.now c.open.new.site c.explain.new.site c.open.ensures.looks c.explain.ensures.talks;
+  not_store = λ is. unopened_says g.S.Site c.in-Err.fault c.explain.result c.args.site.now c.open.new.site c.explain.new.site c.open.ensures.looks c.in-Err.ensures.not_store c.explain.ensures.says is;
+  status = unopened_apply c.explain.result c.explain.ensures.status;
+  hear_fault = λ is. absurd ((only_unopened c.explain.result c.explain.ensures.status).hear is);
+  show_fault = λ is. absurd ((only_unopened c.explain.result c.explain.ensures.status).show is);
+  disk_fault = λ is. unopened_disk g.S.Site c.in-Err.fault c.explain.result c.args.site.now c.open.new.site c.explain.new.site c.explain.ensures.talks.calls c.in-Err.ensures.failed c.explain.ensures.says is;
+  settled = λ told is.
+      settled_talking g.S.Site c.open.new.site c.explain.new.site c.explain.ensures.talks.files
+      (c.in-Err.ensures.settled (not_disk g.S.Site c.in-Err.fault c.explain.result c.open.new.site c.explain.new.site c.explain.ensures.says is));
+  stops = unopened_stops g.S.Site c.in-Err.fault c.explain.result c.args.site.now c.open.new.site c.explain.new.site c.explain.ensures.says c.in-Err.ensures.counted c.explain.ensures.counted;
+  calls = calls_then g.S.Site c.args.site.now c.open.new.site c.explain.new.site c.open.ensures.looks.calls c.explain.ensures.talks.calls;
+}

@@ -65,134 +65,78 @@ stops_feed feeds.HearFault = record { disk = λ e. cc e; hear = λ e. refl; show
 stops_feed feeds.TooMuch = record { disk = λ e. cc e; hear = λ e. cc e; show = λ e. cc e; much = λ e. refl }
 stops_feed feeds.Memory = record { disk = λ e. cc e; hear = λ e. cc e; show = λ e. cc e; much = λ e. cc e }
 
-pub returns-clause-told : goal.returns-clause-told
-returns-clause-told g c =
-    grows_line c.in_ok-line.line c.args.lines.now c.next.new.self c.args.store.stack c.carry_out.result
-    (g.S.Site.log c.args.site.now) (g.S.Site.log c.next.new.site) (g.S.Site.log c.carry_out.new.site)
-    c.in_ok-line.ensures.told c.carry_out.ensures.carried c.carry_out.ensures.writes.as_logged
+pub returns : goal.returns
+returns g c = record {
+  told =
+      grows_line c.in_ok-line.line c.args.lines.now c.next.new.self c.args.store.stack c.carry_out.result
+      (g.S.Site.log c.args.site.now) (g.S.Site.log c.next.new.site) (g.S.Site.log c.carry_out.new.site)
+      c.in_ok-line.ensures.told c.carry_out.ensures.carried c.carry_out.ensures.writes.as_logged;
+  during = λ told stood.
+      let holds = c.requires.holds told in
+      let told_mid = c.next.ensures.talks.calls.as_told ∙ told in
+      let stood_mid = stands_on g.S.Site c.args.site.now c.next.new.site c.args.store.stack c.next.ensures.talks.files stood in
+      during_carried g.S.Site
+      c.in_ok-line.line c.args.lines.now c.next.new.self c.args.store.stack c.args.site.now c.next.new.site c.carry_out.new.site
+      c.next.ensures.talks holds.settled stood c.in_ok-line.ensures.told c.carry_out.ensures.writes.moments (c.carry_out.ensures.any_moment told_mid stood_mid);
+  holds = λ told. c.carry_out.ensures.holds (c.next.ensures.talks.calls.as_told ∙ told);
+  stands = λ told stood. c.carry_out.ensures.stands (c.next.ensures.talks.calls.as_told ∙ told) (stands_on g.S.Site c.args.site.now c.next.new.site c.args.store.stack c.next.ensures.talks.files stood);
+  out_of_memory = λ told stood is.
+      ap stands (c.carry_out.ensures.out_of_memory is).files
+      ∙ stands_on g.S.Site c.args.site.now c.next.new.site c.args.store.stack c.next.ensures.talks.files stood;
+  settled = λ told is.
+      settled_looking g.S.Site c.next.new.site c.carry_out.new.site (c.carry_out.ensures.out_of_memory is)
+      (settled_talking g.S.Site c.args.site.now c.next.new.site c.next.ensures.talks.files (c.requires.holds told).settled);
+  one_more = c.carry_out.ensures.one_more;
+  fewer = fewer_carried c.in_ok-line.line c.args.store.stack c.carry_out.result (bytes_left c.next.new.self < bytes_left c.args.lines.now) c.carry_out.ensures.carried c.in_ok-line.ensures.fewer;
+  count = c.next.ensures.count;
+  too_much = λ is. absurd ((two_stops c.carry_out.result c.carry_out.ensures.stops).much is);
+  hear_fault = λ is. absurd ((two_stops c.carry_out.result c.carry_out.ensures.stops).hear is);
+  disk_fault = λ is.
+      let counts = g.S.Site.counts in
+      then_rose (counts c.args.site.now).disk (counts c.next.new.site).disk (counts c.carry_out.new.site).disk c.next.ensures.talks.calls.none_fell.disk (c.carry_out.ensures.failed is);
+  no_show_fault = λ is. (two_stops c.carry_out.result c.carry_out.ensures.stops).show is;
+  counted = stops_after _ _ _ _ _ _ (hearing_worked c.in_ok-line.line _ _ c.in_ok-line.ensures.counted) c.carry_out.ensures.counted;
+  calls = calls_then g.S.Site c.args.site.now c.next.new.site c.carry_out.new.site c.next.ensures.talks.calls c.carry_out.ensures.writes.calls;
+}
 
-pub returns-clause-during : goal.returns-clause-during
-returns-clause-during g c told stood =
-    let holds = c.requires.holds told in
-    let told_mid = c.next.ensures.talks.calls.as_told ∙ told in
-    let stood_mid = stands_on g.S.Site c.args.site.now c.next.new.site c.args.store.stack c.next.ensures.talks.files stood in
-    during_carried g.S.Site
-    c.in_ok-line.line c.args.lines.now c.next.new.self c.args.store.stack c.args.site.now c.next.new.site c.carry_out.new.site
-    c.next.ensures.talks holds.settled stood c.in_ok-line.ensures.told c.carry_out.ensures.writes.moments (c.carry_out.ensures.any_moment told_mid stood_mid)
-
-pub returns-in_err-line-clause-during : goal.returns-in_err-line-clause-during
-returns-in_err-line-clause-during g c told stood =
-    during_heard g.S.Site c.args.lines.now c.next.new.self c.args.store.stack c.args.site.now c.next.new.site
-    c.next.ensures.talks (c.requires.holds told).settled stood
-
-pub returns-in_err-line-clause-settled : goal.returns-in_err-line-clause-settled
-returns-in_err-line-clause-settled g c told is =
-    settled_talking g.S.Site c.args.site.now c.next.new.site c.next.ensures.talks.files (c.requires.holds told).settled
-
-pub returns-clause-settled : goal.returns-clause-settled
-returns-clause-settled g c told is =
-    settled_looking g.S.Site c.next.new.site c.carry_out.new.site (c.carry_out.ensures.out_of_memory is)
-    (settled_talking g.S.Site c.args.site.now c.next.new.site c.next.ensures.talks.files (c.requires.holds told).settled)
-
-pub returns-clause-out_of_memory : goal.returns-clause-out_of_memory
-returns-clause-out_of_memory g c told stood is =
-    ap stands (c.carry_out.ensures.out_of_memory is).files
-    ∙ stands_on g.S.Site c.args.site.now c.next.new.site c.args.store.stack c.next.ensures.talks.files stood
-
-pub returns-in_err-line-clause-counted : goal.returns-in_err-line-clause-counted
-returns-in_err-line-clause-counted g c =
-    let p = err_from_is_err_and c.from_residual.result c.from_residual.ensures.1 in
-    feed_stops c.from_residual.result c.in_err-line.field-0.0 _ _ (p.1 ∙ ap Err p.2) c.in_err-line.ensures.counted
-
-pub returns-clause-counted : goal.returns-clause-counted
-returns-clause-counted g c =
-    stops_after _ _ _ _ _ _ (hearing_worked c.in_ok-line.line _ _ c.in_ok-line.ensures.counted) c.carry_out.ensures.counted
-
-pub returns-clause-holds : goal.returns-clause-holds
-returns-clause-holds g c told = c.carry_out.ensures.holds (c.next.ensures.talks.calls.as_told ∙ told)
-
-pub returns-clause-stands : goal.returns-clause-stands
-returns-clause-stands g c told stood =
-    c.carry_out.ensures.stands (c.next.ensures.talks.calls.as_told ∙ told) (stands_on g.S.Site c.args.site.now c.next.new.site c.args.store.stack c.next.ensures.talks.files stood)
-
-pub returns-clause-one_more : goal.returns-clause-one_more
-returns-clause-one_more g c = c.carry_out.ensures.one_more
-
-pub returns-clause-fewer : goal.returns-clause-fewer
-returns-clause-fewer g c =
-    fewer_carried c.in_ok-line.line c.args.store.stack c.carry_out.result (bytes_left c.next.new.self < bytes_left c.args.lines.now) c.carry_out.ensures.carried c.in_ok-line.ensures.fewer
-
-pub returns-clause-count : goal.returns-clause-count
-returns-clause-count g c = c.next.ensures.count
-
-pub returns-clause-too_much : goal.returns-clause-too_much
-returns-clause-too_much g c is = absurd ((two_stops c.carry_out.result c.carry_out.ensures.stops).much is)
-
-pub returns-clause-hear_fault : goal.returns-clause-hear_fault
-returns-clause-hear_fault g c is = absurd ((two_stops c.carry_out.result c.carry_out.ensures.stops).hear is)
-
-pub returns-clause-no_show_fault : goal.returns-clause-no_show_fault
-returns-clause-no_show_fault g c is = (two_stops c.carry_out.result c.carry_out.ensures.stops).show is
-
-pub returns-clause-disk_fault : goal.returns-clause-disk_fault
-returns-clause-disk_fault g c is =
-    let counts = g.S.Site.counts in
-    then_rose (counts c.args.site.now).disk (counts c.next.new.site).disk (counts c.carry_out.new.site).disk c.next.ensures.talks.calls.none_fell.disk (c.carry_out.ensures.failed is)
-
-pub returns-clause-calls : goal.returns-clause-calls
-returns-clause-calls g c = calls_then g.S.Site c.args.site.now c.next.new.site c.carry_out.new.site c.next.ensures.talks.calls c.carry_out.ensures.writes.calls
-
-pub returns-in_err-line-clause-told : goal.returns-in_err-line-clause-told
-returns-in_err-line-clause-told g c =
-    let p = err_from_is_err_and c.from_residual.result c.from_residual.ensures.1 in
-    subst (λ (r : Result (Option CarriedLine) Stop). Grows (CarriesOutNext c.args.lines.now c.args.store.stack r c.next.new.self) (g.S.Site.log c.args.site.now) (g.S.Site.log c.next.new.site)) (sym (p.1 ∙ ap Err p.2))
-    (grows_no_line c.in_err-line.field-0.0 (stop_of c.in_err-line.field-0.0) c.args.lines.now c.next.new.self c.args.store.stack (g.S.Site.log c.args.site.now) (g.S.Site.log c.next.new.site) c.in_err-line.ensures.told)
-
-pub returns-in_err-line-clause-holds : goal.returns-in_err-line-clause-holds
-returns-in_err-line-clause-holds g c told =
-    let p = err_from_is_err_and c.from_residual.result c.from_residual.ensures.1 in
-    if_ok_err c.from_residual.result _ _ (p.1 ∙ ap Err p.2)
-
-pub returns-in_err-line-clause-stands : goal.returns-in_err-line-clause-stands
-returns-in_err-line-clause-stands g c told stood =
-    let p = err_from_is_err_and c.from_residual.result c.from_residual.ensures.1 in
-    if_ok_err c.from_residual.result _ _ (p.1 ∙ ap Err p.2)
-
-pub returns-in_err-line-clause-one_more : goal.returns-in_err-line-clause-one_more
-returns-in_err-line-clause-one_more g c =
-    let p = err_from_is_err_and c.from_residual.result c.from_residual.ensures.1 in
-    if_ok_err c.from_residual.result _ _ (p.1 ∙ ap Err p.2)
-
-pub returns-in_err-line-clause-fewer : goal.returns-in_err-line-clause-fewer
-returns-in_err-line-clause-fewer g c =
-    let p = err_from_is_err_and c.from_residual.result c.from_residual.ensures.1 in
-    if_ok_err c.from_residual.result _ _ (p.1 ∙ ap Err p.2)
-
-pub returns-in_err-line-clause-out_of_memory : goal.returns-in_err-line-clause-out_of_memory
-returns-in_err-line-clause-out_of_memory g c told stood is = stands_on g.S.Site c.args.site.now c.next.new.site c.args.store.stack c.next.ensures.talks.files stood
-
-pub returns-in_err-line-clause-count : goal.returns-in_err-line-clause-count
-returns-in_err-line-clause-count g c = c.next.ensures.count
-
-pub returns-in_err-line-clause-too_much : goal.returns-in_err-line-clause-too_much
-returns-in_err-line-clause-too_much g c is =
-    let p = err_from_is_err_and c.from_residual.result c.from_residual.ensures.1 in
-    c.in_err-line.ensures.too_much (ap Err ((stops_feed c.in_err-line.field-0.0).much (stopped_as c.from_residual.result (stop_of c.in_err-line.field-0.0) stops.TooMuch (p.1 ∙ ap Err p.2) is)))
-
-pub returns-in_err-line-clause-hear_fault : goal.returns-in_err-line-clause-hear_fault
-returns-in_err-line-clause-hear_fault g c is =
-    let p = err_from_is_err_and c.from_residual.result c.from_residual.ensures.1 in
-    c.in_err-line.ensures.hear_fault (ap Err ((stops_feed c.in_err-line.field-0.0).hear (stopped_as c.from_residual.result (stop_of c.in_err-line.field-0.0) stops.HearFault (p.1 ∙ ap Err p.2) is)))
-
-pub returns-in_err-line-clause-disk_fault : goal.returns-in_err-line-clause-disk_fault
-returns-in_err-line-clause-disk_fault g c is =
-    let p = err_from_is_err_and c.from_residual.result c.from_residual.ensures.1 in
-    absurd ((stops_feed c.in_err-line.field-0.0).disk (stopped_as c.from_residual.result (stop_of c.in_err-line.field-0.0) stops.DiskFault (p.1 ∙ ap Err p.2) is))
-
-pub returns-in_err-line-clause-no_show_fault : goal.returns-in_err-line-clause-no_show_fault
-returns-in_err-line-clause-no_show_fault g c is =
-    let p = err_from_is_err_and c.from_residual.result c.from_residual.ensures.1 in
-    (stops_feed c.in_err-line.field-0.0).show (stopped_as c.from_residual.result (stop_of c.in_err-line.field-0.0) stops.ShowFault (p.1 ∙ ap Err p.2) is)
-
-pub returns-in_err-line-clause-calls : goal.returns-in_err-line-clause-calls
-returns-in_err-line-clause-calls g c = c.next.ensures.talks.calls
+pub returns-in_err-line : goal.returns-in_err-line
+returns-in_err-line g c = record {
+  told =
+      let p = err_from_is_err_and c.from_residual.result c.from_residual.ensures.1 in
+      subst (λ (r : Result (Option CarriedLine) Stop). Grows (CarriesOutNext c.args.lines.now c.args.store.stack r c.next.new.self) (g.S.Site.log c.args.site.now) (g.S.Site.log c.next.new.site)) (sym (p.1 ∙ ap Err p.2))
+      (grows_no_line c.in_err-line.field-0.0 (stop_of c.in_err-line.field-0.0) c.args.lines.now c.next.new.self c.args.store.stack (g.S.Site.log c.args.site.now) (g.S.Site.log c.next.new.site) c.in_err-line.ensures.told);
+  during = λ told stood.
+      during_heard g.S.Site c.args.lines.now c.next.new.self c.args.store.stack c.args.site.now c.next.new.site
+      c.next.ensures.talks (c.requires.holds told).settled stood;
+  holds = λ told.
+      let p = err_from_is_err_and c.from_residual.result c.from_residual.ensures.1 in
+      if_ok_err c.from_residual.result _ _ (p.1 ∙ ap Err p.2);
+  stands = λ told stood.
+      let p = err_from_is_err_and c.from_residual.result c.from_residual.ensures.1 in
+      if_ok_err c.from_residual.result _ _ (p.1 ∙ ap Err p.2);
+  out_of_memory = λ told stood is. stands_on g.S.Site c.args.site.now c.next.new.site c.args.store.stack c.next.ensures.talks.files stood;
+  settled = λ told is. settled_talking g.S.Site c.args.site.now c.next.new.site c.next.ensures.talks.files (c.requires.holds told).settled;
+  one_more =
+      let p = err_from_is_err_and c.from_residual.result c.from_residual.ensures.1 in
+      if_ok_err c.from_residual.result _ _ (p.1 ∙ ap Err p.2);
+  fewer =
+      let p = err_from_is_err_and c.from_residual.result c.from_residual.ensures.1 in
+      if_ok_err c.from_residual.result _ _ (p.1 ∙ ap Err p.2);
+  count = c.next.ensures.count;
+  too_much = λ is.
+      let p = err_from_is_err_and c.from_residual.result c.from_residual.ensures.1 in
+      c.in_err-line.ensures.too_much (ap Err ((stops_feed c.in_err-line.field-0.0).much (stopped_as c.from_residual.result (stop_of c.in_err-line.field-0.0) stops.TooMuch (p.1 ∙ ap Err p.2) is)));
+  hear_fault = λ is.
+      let p = err_from_is_err_and c.from_residual.result c.from_residual.ensures.1 in
+      c.in_err-line.ensures.hear_fault (ap Err ((stops_feed c.in_err-line.field-0.0).hear (stopped_as c.from_residual.result (stop_of c.in_err-line.field-0.0) stops.HearFault (p.1 ∙ ap Err p.2) is)));
+  disk_fault = λ is.
+      let p = err_from_is_err_and c.from_residual.result c.from_residual.ensures.1 in
+      absurd ((stops_feed c.in_err-line.field-0.0).disk (stopped_as c.from_residual.result (stop_of c.in_err-line.field-0.0) stops.DiskFault (p.1 ∙ ap Err p.2) is));
+  no_show_fault = λ is.
+      let p = err_from_is_err_and c.from_residual.result c.from_residual.ensures.1 in
+      (stops_feed c.in_err-line.field-0.0).show (stopped_as c.from_residual.result (stop_of c.in_err-line.field-0.0) stops.ShowFault (p.1 ∙ ap Err p.2) is);
+  counted =
+      let p = err_from_is_err_and c.from_residual.result c.from_residual.ensures.1 in
+      feed_stops c.from_residual.result c.in_err-line.field-0.0 _ _ (p.1 ∙ ap Err p.2) c.in_err-line.ensures.counted;
+  calls = c.next.ensures.talks.calls;
+}

@@ -1,4 +1,4 @@
-use Rattle.std.proofs.Common.{◌∙◌, ap, refl}
+use Rattle.std.proofs.Common.{◌≡◌, ◌∙◌, ◌≤◌, ℕ, ap, arith, refl}
 use Rattle.std.specs.Prelude.{Err, IsErrOf, Result}
 use Rattle.ox_outside.specs.Counts.{IsFailure}
 use Rattle.ox_outside.proofs.Counts.{stops_as, stops_at_none}
@@ -7,17 +7,40 @@ use Rattle.ox_rules.specs.Text.{tip_line}
 use Rattle.ox_app.specs.declared.carry.CarriedLine.{CarriedLine}
 use Rattle.ox_app.specs.declared.stop.Stop.{Stop}
 use Rattle.ox_app.specs.declared.stop.Stop.TheVariants as stops
-use Rattle.ox_app.proofs.Stops.{all_shown}
+use Rattle.ox_app.proofs.Stops.{all_shown, unstopped}
 use Rattle.ox_app.proofs.carry.commit.Goals as goal
 
-pub returns-in-Ok-clause-answer : goal.returns-in-Ok-clause-answer
-returns-in-Ok-clause-answer g c = c.ok_line_in-answer.ensures ∙ ap tip_line c.tip.ensures ∙ tip_says c.args.ready.stack.index.hashes
+at_most : (m n : ℕ) → m ≡ n → m ≤ n
+at_most m n is = omega (arith, is)
 
-pub returns-in-Ok-clause-counted : goal.returns-in-Ok-clause-counted
-returns-in-Ok-clause-counted g c = stops_at_none _ _ _ _ _ (all_shown _ _ c.in-Ok.ensures.counted)
+pub returns-in-Ok : goal.returns-in-Ok
+returns-in-Ok g c = record {
+  answer = c.ok_line_in-answer.ensures ∙ ap tip_line c.tip.ensures ∙ tip_says c.args.ready.stack.index.hashes;
+  leads = c.in-Ok.ensures.stack;
+  one_more = at_most _ _ c.in-Ok.ensures.one_more;
+  holds = c.in-Ok.ensures.holds;
+  stands = c.in-Ok.ensures.stands;
+  any_moment = c.commit.ensures.any_moment;
+  stops = tt;
+  failed = λ is. absurd (unstopped stops.DiskFault is);
+  counted = stops_at_none _ _ _ _ _ (all_shown _ _ c.in-Ok.ensures.counted);
+  writes = c.commit.ensures.writes;
+}
 
-pub returns-in-Err-clause-counted : goal.returns-in-Err-clause-counted
-returns-in-Err-clause-counted g c =
+pub returns-in-Err : goal.returns-in-Err
+returns-in-Err g c =
     let failed : Result CarriedLine Stop = Err stops.DiskFault in
-    stops_as (IsFailure c.commit.result) ⊥ ⊥ (IsErrOf failed stops.DiskFault) (IsErrOf failed stops.HearFault) (IsErrOf failed stops.ShowFault) _ _
-    (λ is. refl) (λ no. absurd no) (λ no. absurd no) c.commit.ensures.counted
+    record {
+      answer = tt;
+      leads = tt;
+      one_more = tt;
+      holds = λ told. tt;
+      stands = λ told before stood leads. tt;
+      any_moment = c.commit.ensures.any_moment;
+      stops = refl;
+      failed = λ is. c.in-Err.ensures.failed;
+      counted =
+          stops_as (IsFailure c.commit.result) ⊥ ⊥ (IsErrOf failed stops.DiskFault) (IsErrOf failed stops.HearFault) (IsErrOf failed stops.ShowFault) _ _
+          (λ is. refl) (λ no. absurd no) (λ no. absurd no) c.commit.ensures.counted;
+      writes = c.commit.ensures.writes;
+    }

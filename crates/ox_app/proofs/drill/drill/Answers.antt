@@ -1,73 +1,87 @@
-use Rattle.std.proofs.Common.{◌≡◌, ◌∙◌, ⊎_elim, ℕ, List, ap, inl, inr, refl, subst, sym}
+use Rattle.std.proofs.Common.{◌∙◌, ⊎_elim, ℕ, List, ap, inl, inr, refl, subst}
 use Rattle.std.specs.Prelude.{Err}
 use Rattle.ox_outside.proofs.Calls.{calls_then}
-use Rattle.ox_outside.proofs.Counts.{then_rose}
+use Rattle.ox_outside.proofs.Counts.{stops_at_none, then_rose}
 use Rattle.ox_drill.specs.Drill.{DrillsInTurn}
 use Rattle.ox_drill.specs.declared.fault.DrillFault.{DrillFault}
 use Rattle.ox_drill.specs.declared.fault.DrillFault.TheVariants as drills
+use Rattle.ox_app.specs.Drill.{told_line}
+use Rattle.ox_app.specs.Init.{not_empty_line}
 use Rattle.ox_app.specs.declared.status.Status.TheVariants as ends
 use Rattle.ox_app.proofs.Drilling.{drill_refused, drill_stopped, drill_told}
-use Rattle.ox_app.proofs.Images.{looked_then_talked, only_told, told_after}
-use Rattle.ox_app.proofs.Stops.{drilled_well, not_drilled, said_stops, told_stops}
+use Rattle.ox_app.proofs.Images.{looked_then_talked, only_told, reply_none, told_after}
+use Rattle.ox_app.proofs.Opening.{says_after}
+use Rattle.ox_app.proofs.Statuses.{ends_apart}
+use Rattle.ox_app.proofs.Stops.{drill_disk_stops, drilled_well, memory_drilled, none_drilled, not_drilled, said_stops, told_stops}
 use Rattle.ox_app.proofs.drill.drill.Goals as goal
 
-pub returns-in-Ok-clause-shows : goal.returns-in-Ok-clause-shows
-returns-in-Ok-clause-shows g c isnt =
-    told_after g.S.Site _ _ c.tell.result c.args.site.now c.drill_store.new.site c.tell.new.site (c.as_slice.ensures ∙ c.in-Ok.ensures.line) c.drill_store.ensures.writes.as_logged c.tell.ensures.shows
+pub returns-in-Ok : goal.returns-in-Ok
+returns-in-Ok g c = record {
+  shows = λ isnt. told_after g.S.Site _ _ c.tell.result c.args.site.now c.drill_store.new.site c.tell.new.site (c.as_slice.ensures ∙ c.in-Ok.ensures.line) c.drill_store.ensures.writes.as_logged c.tell.ensures.shows;
+  runs = λ told.
+      drill_told g.S.Site c.in-Ok.line _ c.args.n c.tell.result c.args.site.now c.drill_store.new.site c.tell.new.site c.tell.ensures.status
+      (c.in-Ok.ensures.in_turn told) (c.in-Ok.ensures.drilled told) (c.in-Ok.ensures.empty told) c.drill_store.ensures.writes c.tell.ensures.talks;
+  not_empty = λ is. absurd ((only_told c.tell.result c.tell.ensures.status).not_empty is);
+  only_files = λ told is. absurd ((only_told c.tell.result c.tell.ensures.status).not_empty is);
+  looks = λ is. absurd ((only_told c.tell.result c.tell.ensures.status).not_empty is);
+  status = ⊎_elim (λ is. inl is) (λ is. inr (inr (inr (inl is)))) c.tell.ensures.status;
+  show_fault = λ is.
+      let counts = g.S.Site.counts in
+      then_rose ((counts c.args.site.now).show 0) ((counts c.drill_store.new.site).show 0) ((counts c.tell.new.site).show 0) (c.drill_store.ensures.writes.calls.none_fell.show 0) (c.tell.ensures.failed is);
+  disk_fault = λ is. absurd ((only_told c.tell.result c.tell.ensures.status).disk is);
+  stops = told_stops c.tell.result _ _ _ (drilled_well c.in-Ok.line _ _ c.in-Ok.ensures.counted) c.tell.ensures.counted;
+  calls = calls_then g.S.Site c.args.site.now c.drill_store.new.site c.tell.new.site c.drill_store.ensures.writes.calls c.tell.ensures.talks.calls;
+}
 
-pub returns-in-Ok-clause-runs : goal.returns-in-Ok-clause-runs
-returns-in-Ok-clause-runs g c told =
-    drill_told g.S.Site c.in-Ok.line _ c.args.n c.tell.result c.args.site.now c.drill_store.new.site c.tell.new.site c.tell.ensures.status
-    (c.in-Ok.ensures.in_turn told) (c.in-Ok.ensures.drilled told) (c.in-Ok.ensures.empty told) c.drill_store.ensures.writes c.tell.ensures.talks
+pub returns-in-Err-NotEmpty : goal.returns-in-Err-NotEmpty
+returns-in-Err-NotEmpty g c = record {
+  shows = λ isnt. absurd (isnt refl);
+  runs = λ told. drill_refused g.S.Site _ c.args.n c.args.site.now c.drill_store.new.site c.say.new.site (c.in-Err-NotEmpty.ensures.wrote_nothing (ap Err c.in-Err-NotEmpty.field-0-is)) c.say.ensures.talks;
+  not_empty = λ is.
+      let looks = c.in-Err-NotEmpty.ensures.wrote_nothing (ap Err c.in-Err-NotEmpty.field-0-is) in
+      says_after g.S.Site not_empty_line c.args.site.now c.drill_store.new.site c.say.new.site looks.calls looks.nothing.as_logged c.say.ensures.says;
+  only_files = λ told is. c.in-Err-NotEmpty.ensures.not_empty told (ap Err c.in-Err-NotEmpty.field-0-is);
+  looks = λ is. looked_then_talked g.S.Site _ c.args.site.now c.drill_store.new.site c.say.new.site (c.in-Err-NotEmpty.ensures.wrote_nothing (ap Err c.in-Err-NotEmpty.field-0-is)) c.say.ensures.talks;
+  status = inr (inl refl);
+  show_fault = λ is. absurd (ends_apart ends.NotEmpty ends.ShowFault refl is);
+  disk_fault = λ is. absurd (ends_apart ends.NotEmpty ends.DiskFault refl is);
+  stops =
+      said_stops ends.NotEmpty _ _ _ (inr (inl refl))
+      (not_drilled c.in-Err-NotEmpty.field-0 _ _ (none_drilled c.in-Err-NotEmpty.field-0 c.in-Err-NotEmpty.field-0-is) c.in-Err-NotEmpty.ensures.counted)
+      c.say.ensures.counted;
+  calls = calls_then g.S.Site c.args.site.now c.drill_store.new.site c.say.new.site c.drill_store.ensures.writes.calls c.say.ensures.talks.calls;
+}
 
-pub returns-in-Ok-clause-not_empty : goal.returns-in-Ok-clause-not_empty
-returns-in-Ok-clause-not_empty g c is = absurd ((only_told c.tell.result c.tell.ensures.status).not_empty is)
+pub returns-in-Err-DiskFault : goal.returns-in-Err-DiskFault
+returns-in-Err-DiskFault g c = record {
+  shows = λ isnt. reply_none (told_line c.args.n) ends.DiskFault (g.S.Site.log c.args.site.now) (g.S.Site.log c.drill_store.new.site) (ends_apart ends.DiskFault ends.Done refl) c.drill_store.ensures.writes.as_logged;
+  runs = λ told.
+      drill_stopped g.S.Site g.met.S.Site.only_now g.met.S.Site.logs_now drills.DiskFault c.args.n c.args.site.now c.drill_store.new.site
+      (subst (λ (f : DrillFault). DrillsInTurn {T = List ℕ} g.S.Site c.args.n (Err f) c.args.site.now c.drill_store.new.site) c.in-Err-DiskFault.field-0-is (c.in-Err-DiskFault.ensures.in_turn told))
+      c.drill_store.ensures.writes (c.drill_store.ensures.spared told);
+  not_empty = λ is. absurd (ends_apart ends.DiskFault ends.NotEmpty refl is);
+  only_files = λ told is. absurd (ends_apart ends.DiskFault ends.NotEmpty refl is);
+  looks = λ is. absurd (ends_apart ends.DiskFault ends.NotEmpty refl is);
+  status = inr (inr (inl refl));
+  show_fault = λ is. absurd (ends_apart ends.DiskFault ends.ShowFault refl is);
+  disk_fault = λ is. c.in-Err-DiskFault.ensures.failed (ap Err c.in-Err-DiskFault.field-0-is);
+  stops = drill_disk_stops c.in-Err-DiskFault.field-0 _ _ c.in-Err-DiskFault.ensures.counted;
+  calls = c.drill_store.ensures.writes.calls;
+}
 
-pub returns-in-Ok-clause-only_files : goal.returns-in-Ok-clause-only_files
-returns-in-Ok-clause-only_files g c told is = absurd ((only_told c.tell.result c.tell.ensures.status).not_empty is)
-
-pub returns-in-Ok-clause-looks : goal.returns-in-Ok-clause-looks
-returns-in-Ok-clause-looks g c is = absurd ((only_told c.tell.result c.tell.ensures.status).not_empty is)
-
-pub returns-in-Ok-clause-status : goal.returns-in-Ok-clause-status
-returns-in-Ok-clause-status g c = ⊎_elim (λ is. inl is) (λ is. inr (inr (inr (inl is)))) c.tell.ensures.status
-
-pub returns-in-Ok-clause-show_fault : goal.returns-in-Ok-clause-show_fault
-returns-in-Ok-clause-show_fault g c is =
-    let counts = g.S.Site.counts in
-    then_rose ((counts c.args.site.now).show 0) ((counts c.drill_store.new.site).show 0) ((counts c.tell.new.site).show 0) (c.drill_store.ensures.writes.calls.none_fell.show 0) (c.tell.ensures.failed is)
-
-pub returns-in-Ok-clause-disk_fault : goal.returns-in-Ok-clause-disk_fault
-returns-in-Ok-clause-disk_fault g c is = absurd ((only_told c.tell.result c.tell.ensures.status).disk is)
-
-pub returns-in-Ok-clause-stops : goal.returns-in-Ok-clause-stops
-returns-in-Ok-clause-stops g c = told_stops c.tell.result _ _ _ (drilled_well c.in-Ok.line _ _ c.in-Ok.ensures.counted) c.tell.ensures.counted
-
-pub returns-in-Ok-clause-calls : goal.returns-in-Ok-clause-calls
-returns-in-Ok-clause-calls g c = calls_then g.S.Site c.args.site.now c.drill_store.new.site c.tell.new.site c.drill_store.ensures.writes.calls c.tell.ensures.talks.calls
-
-pub returns-in-Err-NotEmpty-clause-runs : goal.returns-in-Err-NotEmpty-clause-runs
-returns-in-Err-NotEmpty-clause-runs g c told =
-    drill_refused g.S.Site _ c.args.n c.args.site.now c.drill_store.new.site c.say.new.site (c.in-Err-NotEmpty.ensures.wrote_nothing (ap Err c.in-Err-NotEmpty.field-0-is)) c.say.ensures.talks
-
-pub returns-in-Err-NotEmpty-clause-looks : goal.returns-in-Err-NotEmpty-clause-looks
-returns-in-Err-NotEmpty-clause-looks g c is =
-    looked_then_talked g.S.Site _ c.args.site.now c.drill_store.new.site c.say.new.site (c.in-Err-NotEmpty.ensures.wrote_nothing (ap Err c.in-Err-NotEmpty.field-0-is)) c.say.ensures.talks
-
-pub returns-in-Err-NotEmpty-clause-stops : goal.returns-in-Err-NotEmpty-clause-stops
-returns-in-Err-NotEmpty-clause-stops g c =
-    said_stops ends.NotEmpty _ _ _ (inr (inl refl))
-    (not_drilled c.in-Err-NotEmpty.field-0 _ _ (λ e. let other : drills.NotEmpty ≡ drills.DiskFault = sym c.in-Err-NotEmpty.field-0-is ∙ e in cc other) c.in-Err-NotEmpty.ensures.counted)
-    c.say.ensures.counted
-
-pub returns-in-Err-DiskFault-clause-runs : goal.returns-in-Err-DiskFault-clause-runs
-returns-in-Err-DiskFault-clause-runs g c told =
-    drill_stopped g.S.Site g.met.S.Site.only_now g.met.S.Site.logs_now drills.DiskFault c.args.n c.args.site.now c.drill_store.new.site
-    (subst (λ (f : DrillFault). DrillsInTurn {T = List ℕ} g.S.Site c.args.n (Err f) c.args.site.now c.drill_store.new.site) c.in-Err-DiskFault.field-0-is (c.in-Err-DiskFault.ensures.in_turn told))
-    c.drill_store.ensures.writes (c.drill_store.ensures.spared told)
-
-pub returns-in-Err-Memory-clause-runs : goal.returns-in-Err-Memory-clause-runs
-returns-in-Err-Memory-clause-runs g c told =
-    drill_stopped g.S.Site g.met.S.Site.only_now g.met.S.Site.logs_now drills.Memory c.args.n c.args.site.now c.drill_store.new.site
-    (subst (λ (f : DrillFault). DrillsInTurn {T = List ℕ} g.S.Site c.args.n (Err f) c.args.site.now c.drill_store.new.site) c.in-Err-Memory.field-0-is (c.in-Err-Memory.ensures.in_turn told))
-    c.drill_store.ensures.writes (c.drill_store.ensures.spared told)
+pub returns-in-Err-Memory : goal.returns-in-Err-Memory
+returns-in-Err-Memory g c = record {
+  shows = λ isnt. reply_none (told_line c.args.n) ends.Memory (g.S.Site.log c.args.site.now) (g.S.Site.log c.drill_store.new.site) (ends_apart ends.Memory ends.Done refl) c.drill_store.ensures.writes.as_logged;
+  runs = λ told.
+      drill_stopped g.S.Site g.met.S.Site.only_now g.met.S.Site.logs_now drills.Memory c.args.n c.args.site.now c.drill_store.new.site
+      (subst (λ (f : DrillFault). DrillsInTurn {T = List ℕ} g.S.Site c.args.n (Err f) c.args.site.now c.drill_store.new.site) c.in-Err-Memory.field-0-is (c.in-Err-Memory.ensures.in_turn told))
+      c.drill_store.ensures.writes (c.drill_store.ensures.spared told);
+  not_empty = λ is. absurd (ends_apart ends.Memory ends.NotEmpty refl is);
+  only_files = λ told is. absurd (ends_apart ends.Memory ends.NotEmpty refl is);
+  looks = λ is. absurd (ends_apart ends.Memory ends.NotEmpty refl is);
+  status = inr (inr (inr (inr refl)));
+  show_fault = λ is. absurd (ends_apart ends.Memory ends.ShowFault refl is);
+  disk_fault = λ is. absurd (ends_apart ends.Memory ends.DiskFault refl is);
+  stops = stops_at_none _ _ _ _ _ (not_drilled c.in-Err-Memory.field-0 _ _ (memory_drilled c.in-Err-Memory.field-0 c.in-Err-Memory.field-0-is) c.in-Err-Memory.ensures.counted);
+  calls = c.drill_store.ensures.writes.calls;
+}

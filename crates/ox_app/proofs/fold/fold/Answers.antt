@@ -1,4 +1,4 @@
-use Rattle.std.proofs.Common.{◌≡◌, ◌∙◌, ap, subst, sym}
+use Rattle.std.proofs.Common.{◌∙◌, ap, refl, subst, sym}
 use Rattle.std.specs.Prelude.{Err}
 use Rattle.std.proofs.lemmas.Result.{err_from_is_err_and}
 use Rattle.ox_outside.specs.Log.{Grows}
@@ -14,7 +14,7 @@ use Rattle.ox_outside.proofs.OnlyTalks.{talks_none}
 use Rattle.ox_outside.proofs.Calls.{calls_then}
 use Rattle.ox_outside.proofs.Counts.{no_fault_then, no_fault_yet, stops_at_none, then_rose}
 use Rattle.ox_app.specs.declared.stop.Stop.TheVariants as stops
-use Rattle.ox_app.proofs.Stops.{all_shown, part_stops, part_went, show_stops, stopped_as}
+use Rattle.ox_app.proofs.Stops.{all_shown, part_stops, part_went, show_stops, stopped_as, stops_apart, unstopped}
 use Rattle.ox_app.proofs.fold.fold.Goals as goal
 
 pub loop-chain-init : goal.loop-chain-init
@@ -27,33 +27,89 @@ loop-chain-init g c =
       no_fault_yet (g.S.Site.counts c.args.site.now),
     )
 
-pub returns-in_err-chain-clause-told : goal.returns-in_err-chain-clause-told
-returns-in_err-chain-clause-told g c =
-    let p = err_from_is_err_and c.from_residual.result c.from_residual.ensures.1 in
-    rw (p.1, p.2) (grows_unheard (stack_of (empty_machine c.args.p.now fold_depth)) (g.S.Site.log c.args.site.now))
+pub returns-in_err-chain : goal.returns-in_err-chain
+returns-in_err-chain g c = record {
+  told =
+      let p = err_from_is_err_and c.from_residual.result c.from_residual.ensures.1 in
+      rw (p.1, p.2) (grows_unheard (stack_of (empty_machine c.args.p.now fold_depth)) (g.S.Site.log c.args.site.now));
+  hear_fault = λ is.
+      let p = err_from_is_err_and c.from_residual.result c.from_residual.ensures.1 in
+      absurd (stops_apart stops.Memory stops.HearFault refl (stopped_as c.from_residual.result stops.Memory stops.HearFault (p.1 ∙ ap Err p.2) is));
+  show_fault = λ is.
+      let p = err_from_is_err_and c.from_residual.result c.from_residual.ensures.1 in
+      absurd (stops_apart stops.Memory stops.ShowFault refl (stopped_as c.from_residual.result stops.Memory stops.ShowFault (p.1 ∙ ap Err p.2) is));
+  no_disk_fault = λ is.
+      let p = err_from_is_err_and c.from_residual.result c.from_residual.ensures.1 in
+      absurd (stops_apart stops.Memory stops.DiskFault refl (stopped_as c.from_residual.result stops.Memory stops.DiskFault (p.1 ∙ ap Err p.2) is));
+  counted = stops_at_none _ _ _ _ _ (no_fault_yet (g.S.Site.counts c.args.site.now));
+  talks = talks_none g.S.Site g.met.S.Site.only_now g.met.S.Site.logs_now Anything c.args.site.now tt;
+}
 
-pub returns-in_err-answer-clause-told : goal.returns-in_err-answer-clause-told
-returns-in_err-answer-clause-told g c =
-    let p = err_from_is_err_and c.from_residual-in_err-answer.result c.from_residual-in_err-answer.ensures.1 in
-    rw (p.1, p.2)
-    (grows_stopped (stack_of (empty_machine c.args.p.now fold_depth)) c.loop-chain.lines c.next_answer.new.lines (stack_in c.loop-chain.chain) (stack_in c.next_answer.new.chain) c.in_err-answer.field-0.0
-    (g.S.Site.log c.args.site.now) (g.S.Site.log c.loop-chain.site) (g.S.Site.log c.next_answer.new.site)
-    c.next_answer.ensures.count (λ e. c.in_err-answer.ensures.too_much (ap Err e))
-    c.loop-chain.invariant.0 c.in_err-answer.ensures.told)
+pub returns-in_err-answer : goal.returns-in_err-answer
+returns-in_err-answer g c = record {
+  told =
+      let p = err_from_is_err_and c.from_residual-in_err-answer.result c.from_residual-in_err-answer.ensures.1 in
+      rw (p.1, p.2)
+      (grows_stopped (stack_of (empty_machine c.args.p.now fold_depth)) c.loop-chain.lines c.next_answer.new.lines (stack_in c.loop-chain.chain) (stack_in c.next_answer.new.chain) c.in_err-answer.field-0.0
+      (g.S.Site.log c.args.site.now) (g.S.Site.log c.loop-chain.site) (g.S.Site.log c.next_answer.new.site)
+      c.next_answer.ensures.count (λ e. c.in_err-answer.ensures.too_much (ap Err e))
+      c.loop-chain.invariant.0 c.in_err-answer.ensures.told);
+  hear_fault = λ is.
+      let p = err_from_is_err_and c.from_residual-in_err-answer.result c.from_residual-in_err-answer.ensures.1 in
+      let counts = g.S.Site.counts in
+      then_rose ((counts c.args.site.now).hear 0) ((counts c.loop-chain.site).hear 0) ((counts c.next_answer.new.site).hear 0) (c.loop-chain.invariant.1.calls.none_fell.hear 0)
+      (c.in_err-answer.ensures.hear_fault (ap Err (stopped_as c.from_residual-in_err-answer.result c.in_err-answer.field-0.0 stops.HearFault (p.1 ∙ ap Err p.2) is)));
+  show_fault = λ is.
+      let p = err_from_is_err_and c.from_residual-in_err-answer.result c.from_residual-in_err-answer.ensures.1 in
+      absurd (c.in_err-answer.ensures.no_show_fault (ap Err (stopped_as c.from_residual-in_err-answer.result c.in_err-answer.field-0.0 stops.ShowFault (p.1 ∙ ap Err p.2) is)));
+  no_disk_fault = λ is.
+      let p = err_from_is_err_and c.from_residual-in_err-answer.result c.from_residual-in_err-answer.ensures.1 in
+      c.in_err-answer.ensures.no_disk_fault (ap Err (stopped_as c.from_residual-in_err-answer.result c.in_err-answer.field-0.0 stops.DiskFault (p.1 ∙ ap Err p.2) is));
+  counted =
+      let p = err_from_is_err_and c.from_residual-in_err-answer.result c.from_residual-in_err-answer.ensures.1 in
+      part_stops c.from_residual-in_err-answer.result c.in_err-answer.field-0.0 _ _ _ (p.1 ∙ ap Err p.2) c.loop-chain.invariant.2 c.in_err-answer.ensures.counted;
+  talks =
+      talks_on g.S.Site _ _ c.args.site.now c.loop-chain.site c.next_answer.new.site
+      c.loop-chain.invariant.1 c.loop-chain.invariant.0 c.next_answer.ensures.talks;
+}
 
-pub returns-in_err-show_all-clause-told : goal.returns-in_err-show_all-clause-told
-returns-in_err-show_all-clause-told g c =
-    let p = err_from_is_err_and c.from_residual-in_err-show_all.result c.from_residual-in_err-show_all.ensures.1 in
-    let heard = rw c.in-Some.is at c.in_ok-answer.ensures.told in
-    let shown = rw c.as_slice.ensures at c.in_err-show_all.ensures.told in
-    let first = stack_of (empty_machine c.args.p.now fold_depth) in
-    rw (p.1, p.2)
-    (grows_broken first c.in-Some.answer c.next_answer.new.lines (stack_in c.next_answer.new.chain)
-    (g.S.Site.log c.args.site.now) (g.S.Site.log c.next_answer.new.site) (g.S.Site.log c.show_all.new.site)
-    c.next_answer.ensures.count
-    (grows_owing first c.loop-chain.lines c.next_answer.new.lines (stack_in c.loop-chain.chain) (stack_in c.next_answer.new.chain) c.in-Some.answer
-    (g.S.Site.log c.args.site.now) (g.S.Site.log c.loop-chain.site) (g.S.Site.log c.next_answer.new.site) c.loop-chain.invariant.0 heard)
-    shown)
+pub returns-in_err-show_all : goal.returns-in_err-show_all
+returns-in_err-show_all g c = record {
+  told =
+      let p = err_from_is_err_and c.from_residual-in_err-show_all.result c.from_residual-in_err-show_all.ensures.1 in
+      let heard = rw c.in-Some.is at c.in_ok-answer.ensures.told in
+      let shown = rw c.as_slice.ensures at c.in_err-show_all.ensures.told in
+      let first = stack_of (empty_machine c.args.p.now fold_depth) in
+      rw (p.1, p.2)
+      (grows_broken first c.in-Some.answer c.next_answer.new.lines (stack_in c.next_answer.new.chain)
+      (g.S.Site.log c.args.site.now) (g.S.Site.log c.next_answer.new.site) (g.S.Site.log c.show_all.new.site)
+      c.next_answer.ensures.count
+      (grows_owing first c.loop-chain.lines c.next_answer.new.lines (stack_in c.loop-chain.chain) (stack_in c.next_answer.new.chain) c.in-Some.answer
+      (g.S.Site.log c.args.site.now) (g.S.Site.log c.loop-chain.site) (g.S.Site.log c.next_answer.new.site) c.loop-chain.invariant.0 heard)
+      shown);
+  hear_fault = λ is.
+      let p = err_from_is_err_and c.from_residual-in_err-show_all.result c.from_residual-in_err-show_all.ensures.1 in
+      absurd (stops_apart stops.ShowFault stops.HearFault refl (stopped_as c.from_residual-in_err-show_all.result stops.ShowFault stops.HearFault (p.1 ∙ ap Err p.2) is));
+  show_fault = λ is.
+      let counts = g.S.Site.counts in
+      let so_far = calls_then g.S.Site c.args.site.now c.loop-chain.site c.next_answer.new.site c.loop-chain.invariant.1.calls c.next_answer.ensures.talks.calls in
+      then_rose ((counts c.args.site.now).show 0) ((counts c.next_answer.new.site).show 0) ((counts c.show_all.new.site).show 0) (so_far.none_fell.show 0) c.in_err-show_all.ensures.failed;
+  no_disk_fault = λ is.
+      let p = err_from_is_err_and c.from_residual-in_err-show_all.result c.from_residual-in_err-show_all.ensures.1 in
+      absurd (stops_apart stops.ShowFault stops.DiskFault refl (stopped_as c.from_residual-in_err-show_all.result stops.ShowFault stops.DiskFault (p.1 ∙ ap Err p.2) is));
+  counted =
+      let p = err_from_is_err_and c.from_residual-in_err-show_all.result c.from_residual-in_err-show_all.ensures.1 in
+      show_stops c.show_all.result c.from_residual-in_err-show_all.result _ _ _ (p.1 ∙ ap Err p.2)
+      (no_fault_then _ _ _ c.loop-chain.invariant.2 (part_went _ _ _ c.in_ok-answer.ensures.counted)) c.show_all.ensures.counted;
+  talks =
+      let heard = rw c.in-Some.is at c.in_ok-answer.ensures.told in
+      talks_on g.S.Site _ _ c.args.site.now c.next_answer.new.site c.show_all.new.site
+      (talks_on g.S.Site _ _ c.args.site.now c.loop-chain.site c.next_answer.new.site
+      c.loop-chain.invariant.1 c.loop-chain.invariant.0 c.next_answer.ensures.talks)
+      (grows_owing (stack_of (empty_machine c.args.p.now fold_depth)) c.loop-chain.lines c.next_answer.new.lines (stack_in c.loop-chain.chain) (stack_in c.next_answer.new.chain) c.in-Some.answer
+      (g.S.Site.log c.args.site.now) (g.S.Site.log c.loop-chain.site) (g.S.Site.log c.next_answer.new.site) c.loop-chain.invariant.0 heard)
+      c.show_all.ensures.talks;
+}
 
 pub loop-chain-preserved : goal.loop-chain-preserved
 loop-chain-preserved g c =
@@ -71,112 +127,18 @@ loop-chain-preserved g c =
       no_fault_then _ _ _ (no_fault_then _ _ _ c.loop-chain.invariant.2 (part_went _ _ _ c.in_ok-answer.ensures.counted)) (all_shown _ _ c.in_ok-show_all.ensures.counted),
     )
 
-pub returns-in_err-answer-clause-counted : goal.returns-in_err-answer-clause-counted
-returns-in_err-answer-clause-counted g c =
-    let p = err_from_is_err_and c.from_residual-in_err-answer.result c.from_residual-in_err-answer.ensures.1 in
-    part_stops c.from_residual-in_err-answer.result c.in_err-answer.field-0.0 _ _ _ (p.1 ∙ ap Err p.2) c.loop-chain.invariant.2 c.in_err-answer.ensures.counted
-
-pub returns-in_err-show_all-clause-counted : goal.returns-in_err-show_all-clause-counted
-returns-in_err-show_all-clause-counted g c =
-    let p = err_from_is_err_and c.from_residual-in_err-show_all.result c.from_residual-in_err-show_all.ensures.1 in
-    show_stops c.show_all.result c.from_residual-in_err-show_all.result _ _ _ (p.1 ∙ ap Err p.2)
-    (no_fault_then _ _ _ c.loop-chain.invariant.2 (part_went _ _ _ c.in_ok-answer.ensures.counted)) c.show_all.ensures.counted
-
-pub returns-clause-counted : goal.returns-clause-counted
-returns-clause-counted g c =
-    stops_at_none _ _ _ _ _ (no_fault_then _ _ _ c.loop-chain.invariant.2 (part_went _ _ _ c.in_ok-answer.ensures.counted))
-
-pub returns-clause-told : goal.returns-clause-told
-returns-clause-told g c =
-    let heard = rw c.in_default.is at c.in_ok-answer.ensures.told in
-    grows_whole (stack_of (empty_machine c.args.p.now fold_depth)) c.loop-chain.lines c.next_answer.new.lines (stack_in c.loop-chain.chain) (stack_in c.next_answer.new.chain)
-    (g.S.Site.log c.args.site.now) (g.S.Site.log c.loop-chain.site) (g.S.Site.log c.next_answer.new.site)
-    c.next_answer.ensures.count c.loop-chain.invariant.0 heard
-
-pub returns-in_err-answer-clause-talks : goal.returns-in_err-answer-clause-talks
-returns-in_err-answer-clause-talks g c =
-    talks_on g.S.Site _ _ c.args.site.now c.loop-chain.site c.next_answer.new.site
-    c.loop-chain.invariant.1 c.loop-chain.invariant.0 c.next_answer.ensures.talks
-
-pub returns-in_err-show_all-clause-talks : goal.returns-in_err-show_all-clause-talks
-returns-in_err-show_all-clause-talks g c =
-    let heard = rw c.in-Some.is at c.in_ok-answer.ensures.told in
-    talks_on g.S.Site _ _ c.args.site.now c.next_answer.new.site c.show_all.new.site
-    (talks_on g.S.Site _ _ c.args.site.now c.loop-chain.site c.next_answer.new.site
-    c.loop-chain.invariant.1 c.loop-chain.invariant.0 c.next_answer.ensures.talks)
-    (grows_owing (stack_of (empty_machine c.args.p.now fold_depth)) c.loop-chain.lines c.next_answer.new.lines (stack_in c.loop-chain.chain) (stack_in c.next_answer.new.chain) c.in-Some.answer
-    (g.S.Site.log c.args.site.now) (g.S.Site.log c.loop-chain.site) (g.S.Site.log c.next_answer.new.site) c.loop-chain.invariant.0 heard)
-    c.show_all.ensures.talks
-
-pub returns-clause-talks : goal.returns-clause-talks
-returns-clause-talks g c =
-    talks_on g.S.Site _ _ c.args.site.now c.loop-chain.site c.next_answer.new.site
-    c.loop-chain.invariant.1 c.loop-chain.invariant.0 c.next_answer.ensures.talks
-
-pub returns-in_err-chain-clause-hear_fault : goal.returns-in_err-chain-clause-hear_fault
-returns-in_err-chain-clause-hear_fault g c is =
-    let p = err_from_is_err_and c.from_residual.result c.from_residual.ensures.1 in
-    let same : stops.Memory ≡ stops.HearFault = stopped_as c.from_residual.result stops.Memory stops.HearFault (p.1 ∙ ap Err p.2) is in
-    absurd (cc same)
-
-pub returns-in_err-chain-clause-show_fault : goal.returns-in_err-chain-clause-show_fault
-returns-in_err-chain-clause-show_fault g c is =
-    let p = err_from_is_err_and c.from_residual.result c.from_residual.ensures.1 in
-    let same : stops.Memory ≡ stops.ShowFault = stopped_as c.from_residual.result stops.Memory stops.ShowFault (p.1 ∙ ap Err p.2) is in
-    absurd (cc same)
-
-pub returns-in_err-chain-clause-no_disk_fault : goal.returns-in_err-chain-clause-no_disk_fault
-returns-in_err-chain-clause-no_disk_fault g c is =
-    let p = err_from_is_err_and c.from_residual.result c.from_residual.ensures.1 in
-    let same : stops.Memory ≡ stops.DiskFault = stopped_as c.from_residual.result stops.Memory stops.DiskFault (p.1 ∙ ap Err p.2) is in
-    absurd (cc same)
-
-pub returns-in_err-chain-clause-counted : goal.returns-in_err-chain-clause-counted
-returns-in_err-chain-clause-counted g c = stops_at_none _ _ _ _ _ (no_fault_yet (g.S.Site.counts c.args.site.now))
-
-pub returns-in_err-chain-clause-talks : goal.returns-in_err-chain-clause-talks
-returns-in_err-chain-clause-talks g c = talks_none g.S.Site g.met.S.Site.only_now g.met.S.Site.logs_now Anything c.args.site.now tt
-
-pub returns-in_err-answer-clause-hear_fault : goal.returns-in_err-answer-clause-hear_fault
-returns-in_err-answer-clause-hear_fault g c is =
-    let p = err_from_is_err_and c.from_residual-in_err-answer.result c.from_residual-in_err-answer.ensures.1 in
-    let counts = g.S.Site.counts in
-    then_rose ((counts c.args.site.now).hear 0) ((counts c.loop-chain.site).hear 0) ((counts c.next_answer.new.site).hear 0) (c.loop-chain.invariant.1.calls.none_fell.hear 0)
-    (c.in_err-answer.ensures.hear_fault (ap Err (stopped_as c.from_residual-in_err-answer.result c.in_err-answer.field-0.0 stops.HearFault (p.1 ∙ ap Err p.2) is)))
-
-pub returns-in_err-answer-clause-show_fault : goal.returns-in_err-answer-clause-show_fault
-returns-in_err-answer-clause-show_fault g c is =
-    let p = err_from_is_err_and c.from_residual-in_err-answer.result c.from_residual-in_err-answer.ensures.1 in
-    absurd (c.in_err-answer.ensures.no_show_fault (ap Err (stopped_as c.from_residual-in_err-answer.result c.in_err-answer.field-0.0 stops.ShowFault (p.1 ∙ ap Err p.2) is)))
-
-pub returns-in_err-answer-clause-no_disk_fault : goal.returns-in_err-answer-clause-no_disk_fault
-returns-in_err-answer-clause-no_disk_fault g c is =
-    let p = err_from_is_err_and c.from_residual-in_err-answer.result c.from_residual-in_err-answer.ensures.1 in
-    c.in_err-answer.ensures.no_disk_fault (ap Err (stopped_as c.from_residual-in_err-answer.result c.in_err-answer.field-0.0 stops.DiskFault (p.1 ∙ ap Err p.2) is))
-
-pub returns-in_err-show_all-clause-hear_fault : goal.returns-in_err-show_all-clause-hear_fault
-returns-in_err-show_all-clause-hear_fault g c is =
-    let p = err_from_is_err_and c.from_residual-in_err-show_all.result c.from_residual-in_err-show_all.ensures.1 in
-    let same : stops.ShowFault ≡ stops.HearFault = stopped_as c.from_residual-in_err-show_all.result stops.ShowFault stops.HearFault (p.1 ∙ ap Err p.2) is in
-    absurd (cc same)
-
-pub returns-in_err-show_all-clause-no_disk_fault : goal.returns-in_err-show_all-clause-no_disk_fault
-returns-in_err-show_all-clause-no_disk_fault g c is =
-    let p = err_from_is_err_and c.from_residual-in_err-show_all.result c.from_residual-in_err-show_all.ensures.1 in
-    let same : stops.ShowFault ≡ stops.DiskFault = stopped_as c.from_residual-in_err-show_all.result stops.ShowFault stops.DiskFault (p.1 ∙ ap Err p.2) is in
-    absurd (cc same)
-
-pub returns-in_err-show_all-clause-show_fault : goal.returns-in_err-show_all-clause-show_fault
-returns-in_err-show_all-clause-show_fault g c is =
-    let counts = g.S.Site.counts in
-    let so_far = calls_then g.S.Site c.args.site.now c.loop-chain.site c.next_answer.new.site c.loop-chain.invariant.1.calls c.next_answer.ensures.talks.calls in
-    then_rose ((counts c.args.site.now).show 0) ((counts c.next_answer.new.site).show 0) ((counts c.show_all.new.site).show 0) (so_far.none_fell.show 0) c.in_err-show_all.ensures.failed
-
-pub returns-clause-hear_fault : goal.returns-clause-hear_fault
-returns-clause-hear_fault g c is = absurd (cc is)
-
-pub returns-clause-show_fault : goal.returns-clause-show_fault
-returns-clause-show_fault g c is = absurd (cc is)
-
-pub returns-clause-no_disk_fault : goal.returns-clause-no_disk_fault
-returns-clause-no_disk_fault g c is = absurd (cc is)
+pub returns : goal.returns
+returns g c = record {
+  told =
+      let heard = rw c.in_default.is at c.in_ok-answer.ensures.told in
+      grows_whole (stack_of (empty_machine c.args.p.now fold_depth)) c.loop-chain.lines c.next_answer.new.lines (stack_in c.loop-chain.chain) (stack_in c.next_answer.new.chain)
+      (g.S.Site.log c.args.site.now) (g.S.Site.log c.loop-chain.site) (g.S.Site.log c.next_answer.new.site)
+      c.next_answer.ensures.count c.loop-chain.invariant.0 heard;
+  hear_fault = λ is. absurd (unstopped stops.HearFault is);
+  show_fault = λ is. absurd (unstopped stops.ShowFault is);
+  no_disk_fault = λ is. absurd (unstopped stops.DiskFault is);
+  counted = stops_at_none _ _ _ _ _ (no_fault_then _ _ _ c.loop-chain.invariant.2 (part_went _ _ _ c.in_ok-answer.ensures.counted));
+  talks =
+      talks_on g.S.Site _ _ c.args.site.now c.loop-chain.site c.next_answer.new.site
+      c.loop-chain.invariant.1 c.loop-chain.invariant.0 c.next_answer.ensures.talks;
+}

@@ -15,6 +15,7 @@ use Rattle.ox_app.specs.declared.status.Status.{Status}
 use Rattle.ox_app.specs.declared.status.Status.TheVariants as ends
 use Rattle.ox_app.proofs.Images.{done_opens, reply_front, reply_whole, show_opens, show_undone}
 use Rattle.ox_app.proofs.Serving.{runs_by_fault, runs_told, served_only, served_then_talked}
+use Rattle.ox_app.proofs.Statuses.{ends_apart}
 use Rattle.ox_app.proofs.Stops.{all_shown}
 use Rattle.ox_app.proofs.serve.serve_by.Goals as goal
 
@@ -51,126 +52,76 @@ fault_stops {T} fault status old new is stopped =
     stops_as (◌≡◌ {A = Result T ServeFault} (Err fault) (Err serves.DiskFault)) ⊥ ⊥ (status ≡ ends.DiskFault) (status ≡ ends.HearFault) ((status ≡ ends.ShowFault) ⊎ IsRefusal status) old new
     (λ e. let same : fault ≡ serves.DiskFault = cc e in is ∙ ap fault_status same) (λ no. absurd no) (λ no. absurd no) stopped
 
-pub returns-in-Ok-show_all-clause-serves : goal.returns-in-Ok-show_all-clause-serves
-returns-in-Ok-show_all-clause-serves g c =
-    let log = g.S.Site.log in
-    let counts = g.S.Site.counts in
-    let mid = c.serve.new.site in
-    let new = c.show_all.new.site in
-    let bytes = c.as_slice-in-Ok.ensures ∙ c.totals_line.ensures in
-    runs_told server_on c.args.store.stack c.args.turns ends.Done (counts c.args.site.now) (counts mid) (counts new) c.in-Ok.totals.requests c.in-Ok.totals.hits (log c.args.site.now) (log mid) (log new) (inl refl)
-    c.show_all.ensures.talks.calls.none_fell c.in-Ok.ensures.served c.in-Ok.ensures.fronts
-    (subst (λ (l : List ℕ). Grows (ShowsReply l ends.Done) (log mid) (log new)) bytes (reply_whole _ (log mid) (log mid) (log new) refl c.in-Ok-show_all.ensures.told))
+pub returns-in-Ok-show_all : goal.returns-in-Ok-show_all
+returns-in-Ok-show_all g c = record {
+  serves =
+      let log = g.S.Site.log in
+      let counts = g.S.Site.counts in
+      let mid = c.serve.new.site in
+      let new = c.show_all.new.site in
+      let bytes = c.as_slice-in-Ok.ensures ∙ c.totals_line.ensures in
+      runs_told server_on c.args.store.stack c.args.turns ends.Done (counts c.args.site.now) (counts mid) (counts new) c.in-Ok.totals.requests c.in-Ok.totals.hits (log c.args.site.now) (log mid) (log new) (inl refl)
+      c.show_all.ensures.talks.calls.none_fell c.in-Ok.ensures.served c.in-Ok.ensures.fronts
+      (subst (λ (l : List ℕ). Grows (ShowsReply l ends.Done) (log mid) (log new)) bytes (reply_whole _ (log mid) (log mid) (log new) refl c.in-Ok-show_all.ensures.told));
+  survives = λ told.
+      served_then_talked g.S.Site server_on c.args.store.stack StandFor g.met.S.Site.counts_now g.met.S.Site.logs_now c.as_slice-in-Ok.result.now c.args.site.now c.serve.new.site c.show_all.new.site
+      (c.in-Ok.ensures.survives told) c.show_all.ensures.talks;
+  memory = λ is. absurd (ends_apart ends.Done ends.Memory refl is);
+  opened = λ is. done_opens is;
+  status = inl refl;
+  disk_fault = λ is. absurd (ends_apart ends.Done ends.DiskFault refl is);
+  door_fault = λ is. absurd (ends_apart ends.Done ends.DoorFault refl is);
+  show_fault = λ is. absurd (ends_apart ends.Done ends.ShowFault refl is);
+  stops = stops_at_none _ _ _ _ _ (no_fault_then _ _ _ (served_well c.in-Ok.totals _ _ c.in-Ok.ensures.counted) (all_shown _ _ c.in-Ok-show_all.ensures.counted));
+  calls = calls_then g.S.Site c.args.site.now c.serve.new.site c.show_all.new.site c.serve.ensures.calls c.show_all.ensures.talks.calls;
+}
 
-pub returns-in-Ok-clause-serves : goal.returns-in-Ok-clause-serves
-returns-in-Ok-clause-serves g c =
-    let log = g.S.Site.log in
-    let counts = g.S.Site.counts in
-    let mid = c.serve.new.site in
-    let new = c.show_all.new.site in
-    let bytes = c.as_slice-in-Ok.ensures ∙ c.totals_line.ensures in
-    runs_told server_on c.args.store.stack c.args.turns ends.ShowFault (counts c.args.site.now) (counts mid) (counts new) c.in-Ok.totals.requests c.in-Ok.totals.hits (log c.args.site.now) (log mid) (log new) (inr refl)
-    c.show_all.ensures.talks.calls.none_fell c.in-Ok.ensures.served c.in-Ok.ensures.fronts
-    (subst (λ (l : List ℕ). Grows (ShowsReply l ends.ShowFault) (log mid) (log new)) bytes (reply_front _ ends.ShowFault (log mid) (log mid) (log new) show_undone refl c.in-Err-show_all.ensures.told))
+pub returns-in-Ok : goal.returns-in-Ok
+returns-in-Ok g c = record {
+  serves =
+      let log = g.S.Site.log in
+      let counts = g.S.Site.counts in
+      let mid = c.serve.new.site in
+      let new = c.show_all.new.site in
+      let bytes = c.as_slice-in-Ok.ensures ∙ c.totals_line.ensures in
+      runs_told server_on c.args.store.stack c.args.turns ends.ShowFault (counts c.args.site.now) (counts mid) (counts new) c.in-Ok.totals.requests c.in-Ok.totals.hits (log c.args.site.now) (log mid) (log new) (inr refl)
+      c.show_all.ensures.talks.calls.none_fell c.in-Ok.ensures.served c.in-Ok.ensures.fronts
+      (subst (λ (l : List ℕ). Grows (ShowsReply l ends.ShowFault) (log mid) (log new)) bytes (reply_front _ ends.ShowFault (log mid) (log mid) (log new) show_undone refl c.in-Err-show_all.ensures.told));
+  survives = λ told.
+      served_then_talked g.S.Site server_on c.args.store.stack StandFor g.met.S.Site.counts_now g.met.S.Site.logs_now c.as_slice-in-Ok.result.now c.args.site.now c.serve.new.site c.show_all.new.site
+      (c.in-Ok.ensures.survives told) c.show_all.ensures.talks;
+  memory = λ is. absurd (ends_apart ends.ShowFault ends.Memory refl is);
+  opened = λ is. show_opens is;
+  status = inr (inr (inr (inl refl)));
+  disk_fault = λ is. absurd (ends_apart ends.ShowFault ends.DiskFault refl is);
+  door_fault = λ is. absurd (ends_apart ends.ShowFault ends.DoorFault refl is);
+  show_fault = λ is.
+      let counts = g.S.Site.counts in
+      then_rose ((counts c.args.site.now).show 0) ((counts c.serve.new.site).show 0) ((counts c.show_all.new.site).show 0) (c.serve.ensures.calls.none_fell.show 0) c.in-Err-show_all.ensures.failed;
+  stops =
+      let counts = g.S.Site.counts in
+      totals_stop c.in-Ok.totals c.show_all.result (counts c.args.site.now) (counts c.serve.new.site) (counts c.show_all.new.site)
+      c.in-Ok.ensures.counted c.show_all.ensures.counted;
+  calls = calls_then g.S.Site c.args.site.now c.serve.new.site c.show_all.new.site c.serve.ensures.calls c.show_all.ensures.talks.calls;
+}
 
-pub returns-in-Ok-show_all-clause-survives : goal.returns-in-Ok-show_all-clause-survives
-returns-in-Ok-show_all-clause-survives g c told =
-    served_then_talked g.S.Site server_on c.args.store.stack StandFor g.met.S.Site.counts_now g.met.S.Site.logs_now c.as_slice-in-Ok.result.now c.args.site.now c.serve.new.site c.show_all.new.site
-    (c.in-Ok.ensures.survives told) c.show_all.ensures.talks
-
-pub returns-in-Ok-clause-survives : goal.returns-in-Ok-clause-survives
-returns-in-Ok-clause-survives g c told =
-    served_then_talked g.S.Site server_on c.args.store.stack StandFor g.met.S.Site.counts_now g.met.S.Site.logs_now c.as_slice-in-Ok.result.now c.args.site.now c.serve.new.site c.show_all.new.site
-    (c.in-Ok.ensures.survives told) c.show_all.ensures.talks
-
-pub returns-clause-serves : goal.returns-clause-serves
-returns-clause-serves g c =
-    let log = g.S.Site.log in
-    let counts = g.S.Site.counts in
-    subst (λ (s : Status). Grows (RunsServer server_on c.args.store.stack c.args.turns s (counts c.args.site.now) (counts c.serve.new.site)) (log c.args.site.now) (log c.serve.new.site)) (sym c.fault_of.ensures)
-    (runs_by_fault server_on c.args.store.stack c.args.turns c.in-Err.fault (counts c.args.site.now) (counts c.serve.new.site) (log c.args.site.now) (log c.serve.new.site)
-    (λ is. ap log (c.in-Err.ensures.memory (ap Err is)))
-    (λ isnt. c.in-Err.ensures.cut (λ e. let f : c.in-Err.fault ≡ serves.Memory = cc e in isnt f))
-    c.in-Err.ensures.fronts c.requires.some)
-
-pub returns-clause-survives : goal.returns-clause-survives
-returns-clause-survives g c told =
-    served_only g.S.Site server_on c.args.store.stack StandFor c.args.site.now c.serve.new.site (c.in-Err.ensures.survives told)
-
-pub returns-in-Ok-clause-stops : goal.returns-in-Ok-clause-stops
-returns-in-Ok-clause-stops g c =
-    let counts = g.S.Site.counts in
-    totals_stop c.in-Ok.totals c.show_all.result (counts c.args.site.now) (counts c.serve.new.site) (counts c.show_all.new.site)
-    c.in-Ok.ensures.counted c.show_all.ensures.counted
-
-pub returns-in-Ok-show_all-clause-memory : goal.returns-in-Ok-show_all-clause-memory
-returns-in-Ok-show_all-clause-memory g c is = absurd (cc is)
-
-pub returns-in-Ok-show_all-clause-opened : goal.returns-in-Ok-show_all-clause-opened
-returns-in-Ok-show_all-clause-opened g c is = done_opens is
-
-pub returns-in-Ok-show_all-clause-status : goal.returns-in-Ok-show_all-clause-status
-returns-in-Ok-show_all-clause-status g c = inl refl
-
-pub returns-in-Ok-show_all-clause-disk_fault : goal.returns-in-Ok-show_all-clause-disk_fault
-returns-in-Ok-show_all-clause-disk_fault g c is = absurd (cc is)
-
-pub returns-in-Ok-show_all-clause-door_fault : goal.returns-in-Ok-show_all-clause-door_fault
-returns-in-Ok-show_all-clause-door_fault g c is = absurd (cc is)
-
-pub returns-in-Ok-show_all-clause-show_fault : goal.returns-in-Ok-show_all-clause-show_fault
-returns-in-Ok-show_all-clause-show_fault g c is = absurd (cc is)
-
-pub returns-in-Ok-show_all-clause-stops : goal.returns-in-Ok-show_all-clause-stops
-returns-in-Ok-show_all-clause-stops g c =
-    stops_at_none _ _ _ _ _ (no_fault_then _ _ _ (served_well c.in-Ok.totals _ _ c.in-Ok.ensures.counted) (all_shown _ _ c.in-Ok-show_all.ensures.counted))
-
-pub returns-in-Ok-show_all-clause-calls : goal.returns-in-Ok-show_all-clause-calls
-returns-in-Ok-show_all-clause-calls g c = calls_then g.S.Site c.args.site.now c.serve.new.site c.show_all.new.site c.serve.ensures.calls c.show_all.ensures.talks.calls
-
-pub returns-in-Ok-clause-memory : goal.returns-in-Ok-clause-memory
-returns-in-Ok-clause-memory g c is = absurd (cc is)
-
-pub returns-in-Ok-clause-opened : goal.returns-in-Ok-clause-opened
-returns-in-Ok-clause-opened g c is = show_opens is
-
-pub returns-in-Ok-clause-status : goal.returns-in-Ok-clause-status
-returns-in-Ok-clause-status g c = inr (inr (inr (inl refl)))
-
-pub returns-in-Ok-clause-disk_fault : goal.returns-in-Ok-clause-disk_fault
-returns-in-Ok-clause-disk_fault g c is = absurd (cc is)
-
-pub returns-in-Ok-clause-door_fault : goal.returns-in-Ok-clause-door_fault
-returns-in-Ok-clause-door_fault g c is = absurd (cc is)
-
-pub returns-in-Ok-clause-show_fault : goal.returns-in-Ok-clause-show_fault
-returns-in-Ok-clause-show_fault g c is =
-    let counts = g.S.Site.counts in
-    then_rose ((counts c.args.site.now).show 0) ((counts c.serve.new.site).show 0) ((counts c.show_all.new.site).show 0) (c.serve.ensures.calls.none_fell.show 0) c.in-Err-show_all.ensures.failed
-
-pub returns-in-Ok-clause-calls : goal.returns-in-Ok-clause-calls
-returns-in-Ok-clause-calls g c = calls_then g.S.Site c.args.site.now c.serve.new.site c.show_all.new.site c.serve.ensures.calls c.show_all.ensures.talks.calls
-
-pub returns-clause-memory : goal.returns-clause-memory
-returns-clause-memory g c is = ap g.S.Site.log (c.in-Err.ensures.memory (ap Err ((ends_turns c.in-Err.fault).memory (sym c.fault_of.ensures ∙ is))))
-
-pub returns-clause-opened : goal.returns-clause-opened
-returns-clause-opened g c is = (ends_turns c.in-Err.fault).opened (sym c.fault_of.ensures ∙ is)
-
-pub returns-clause-status : goal.returns-clause-status
-returns-clause-status g c = subst IsServeStatus (sym c.fault_of.ensures) (ends_turns c.in-Err.fault).status
-
-pub returns-clause-disk_fault : goal.returns-clause-disk_fault
-returns-clause-disk_fault g c is = c.in-Err.ensures.disk_fault (ap Err ((ends_turns c.in-Err.fault).disk (sym c.fault_of.ensures ∙ is)))
-
-pub returns-clause-door_fault : goal.returns-clause-door_fault
-returns-clause-door_fault g c is = c.in-Err.ensures.door_fault (ap Err ((ends_turns c.in-Err.fault).door (sym c.fault_of.ensures ∙ is)))
-
-pub returns-clause-show_fault : goal.returns-clause-show_fault
-returns-clause-show_fault g c is = absurd ((ends_turns c.in-Err.fault).show (sym c.fault_of.ensures ∙ is))
-
-pub returns-clause-stops : goal.returns-clause-stops
-returns-clause-stops g c = fault_stops c.in-Err.fault c.fault_of.result _ _ c.fault_of.ensures c.in-Err.ensures.counted
-
-pub returns-clause-calls : goal.returns-clause-calls
-returns-clause-calls g c = c.serve.ensures.calls
+pub returns : goal.returns
+returns g c = record {
+  serves =
+      let log = g.S.Site.log in
+      let counts = g.S.Site.counts in
+      subst (λ (s : Status). Grows (RunsServer server_on c.args.store.stack c.args.turns s (counts c.args.site.now) (counts c.serve.new.site)) (log c.args.site.now) (log c.serve.new.site)) (sym c.fault_of.ensures)
+      (runs_by_fault server_on c.args.store.stack c.args.turns c.in-Err.fault (counts c.args.site.now) (counts c.serve.new.site) (log c.args.site.now) (log c.serve.new.site)
+      (λ is. ap log (c.in-Err.ensures.memory (ap Err is)))
+      (λ isnt. c.in-Err.ensures.cut (λ e. let f : c.in-Err.fault ≡ serves.Memory = cc e in isnt f))
+      c.in-Err.ensures.fronts c.requires.some);
+  survives = λ told. served_only g.S.Site server_on c.args.store.stack StandFor c.args.site.now c.serve.new.site (c.in-Err.ensures.survives told);
+  memory = λ is. ap g.S.Site.log (c.in-Err.ensures.memory (ap Err ((ends_turns c.in-Err.fault).memory (sym c.fault_of.ensures ∙ is))));
+  opened = λ is. (ends_turns c.in-Err.fault).opened (sym c.fault_of.ensures ∙ is);
+  status = subst IsServeStatus (sym c.fault_of.ensures) (ends_turns c.in-Err.fault).status;
+  disk_fault = λ is. c.in-Err.ensures.disk_fault (ap Err ((ends_turns c.in-Err.fault).disk (sym c.fault_of.ensures ∙ is)));
+  door_fault = λ is. c.in-Err.ensures.door_fault (ap Err ((ends_turns c.in-Err.fault).door (sym c.fault_of.ensures ∙ is)));
+  show_fault = λ is. absurd ((ends_turns c.in-Err.fault).show (sym c.fault_of.ensures ∙ is));
+  stops = fault_stops c.in-Err.fault c.fault_of.result _ _ c.fault_of.ensures c.in-Err.ensures.counted;
+  calls = c.serve.ensures.calls;
+}
