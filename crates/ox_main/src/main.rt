@@ -1,17 +1,12 @@
-//! The program: the top call over a folder, the real streams, the doors of a server and the words
-//! of the command line.
+//! The program: the top call over the real site, the words of the command line and the exit status.
 #![tactic(auto)]
 
-mod doors;
-mod files;
-mod real;
 mod words;
 
-use crate::doors::listen;
-use crate::real::RealSite;
 use crate::words::{addresses_in, lacks_words, words_of};
 use ox_app::{Status, run};
 use ox_bytes::Bytes;
+use ox_real_site::{RealSite, listen};
 use std::alloc::Global;
 use std::env::Env;
 use std::fs::File;

@@ -1,4 +1,5 @@
 pub mod Faults
 pub mod Idles
+pub mod Seen
 pub mod Streams
 pub mod Tallied

@@ -5,7 +5,8 @@
 ghost use Rattle.std.specs.Prelude.{◌≡◌, ◌≤◌, ◌+◌, length, IfOk, IfSome, IsUtf8, OnOk};
 ghost use Rattle.ox_outside.specs.Answers.{HeardWithin, IsLinkNumber, ShownWithin};
 ghost use Rattle.ox_outside.specs.Counts.{Rose};
-ghost use Rattle.ox_main.specs.Tallied.{SameTally};
+ghost use Rattle.ox_real_site.specs.Seen.{counts_of};
+ghost use Rattle.ox_real_site.specs.Tallied.{SameTally};
 
 use crate::files::FilePair;
 use ox_outside::{Doorway, Failed, Heard, Shown, Site, Which};
@@ -49,9 +50,9 @@ impl<C: Clock + Drop> RealSite<C> {
         output: Stdout,
     ) -> io::Result<RealSite<C>>
         ensures text { OnOk result (IsUtf8 folder.now) }
-        ensures disk { IfOk result (λ site. site.disk_faults ≡ 0) }
-        ensures hear { IfOk result (λ site. site.hear_faults ≡ 0) }
-        ensures show { IfOk result (λ site. site.show_faults ≡ 0) }
+        ensures disk { IfOk result (λ site. (counts_of site).disk ≡ 0) }
+        ensures hear { IfOk result (λ site. (counts_of site).hear 0 ≡ 0) }
+        ensures show { IfOk result (λ site. (counts_of site).show 0 ≡ 0) }
     {
         Ok(RealSite {
             files: FilePair::open(rt, alloc, folder)?,
@@ -72,9 +73,7 @@ impl<C: Clock + Drop> RealSite<C> {
 
     /// Opens the doors of a server.
     pub fn open_doors(&mut self, links: Sockets<C>)
-        ensures disk { self.new.disk_faults ≡ self.old.disk_faults }
-        ensures hear { self.new.hear_faults ≡ self.old.hear_faults }
-        ensures show { self.new.show_faults ≡ self.old.show_faults }
+        ensures { counts_of self.new ≡ counts_of self.old }
     {
         self.links = Some(links);
     }
@@ -166,8 +165,6 @@ fn shown<W: Write>(output: &mut W, bytes: &[u8]) -> Option<usize>
 impl<C: Clock + Drop> Site for RealSite<C> {
     ghost use Rattle.std.specs.Prelude.{[], false, None};
     ghost use Rattle.ox_outside.specs.Counts.{greatest};
-    ghost use Rattle.ox_main.specs.Faults.{faults_of};
-    ghost use Rattle.ox_main.specs.Idles.{idles_of};
 
     ghost told = { λ _. false };
 
@@ -181,14 +178,7 @@ impl<C: Clock + Drop> Site for RealSite<C> {
 
     ghost left_since = { λ _ _ _. ⊥ };
 
-    ghost counts = { λ s. record {
-      disk = s.disk_faults;
-      door = s.door_faults;
-      hear = faults_of s.hear_faults s.link_hear_faults;
-      show = faults_of s.show_faults s.link_show_faults;
-      not_yets = λ _. s.not_yets;
-      door_idles = idles_of s.public_idles s.operator_idles;
-    } };
+    ghost counts = { λ s. counts_of s };
 
     fn len(&mut self, file: Which) -> Result<u64, Failed> {
         match self.files.len(file) {

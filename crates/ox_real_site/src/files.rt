@@ -1,7 +1,7 @@
 //! The two files of a folder.
 
 ghost use Rattle.std.specs.Prelude.{◌≡◌, ◌↔◌, IfOk, IsTrue, IsUtf8, OnOk};
-ghost use Rattle.ox_main.specs.Streams.{IsApart};
+ghost use Rattle.ox_real_site.specs.Streams.{IsApart};
 ghost use Rattle.ox_outside.specs.declared.site.Which.TheVariants.{A, B};
 
 use ox_outside::Which;

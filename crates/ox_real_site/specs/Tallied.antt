@@ -1,6 +1,6 @@
 -- What a real site has counted.
-use Rattle.std.specs.Prelude.{◌≡◌, ℕ}
-use Rattle.ox_main.specs.declared.real.RealSite.{RealSite}
+use Rattle.std.specs.Prelude.{◌≡◌}
+use Rattle.ox_real_site.specs.declared.real.RealSite.{RealSite}
 
 -- nothing more was counted
 pub record SameTally {C : Type 0} (old new : RealSite C) : Type 0 where
