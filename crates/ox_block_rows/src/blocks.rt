@@ -1,7 +1,6 @@
 //! What blocks read as.
 
-use crate::print::print_hex;
-use anyhow::{Context, bail};
+use crate::print::{NO_ROW, print_line, say};
 use ox_block::{
     Block, BlockFault, Header, Txid, hash, read_block, root, txid_of, witness_root, write_block,
     wtxid_of,
@@ -10,38 +9,53 @@ use std::alloc::Global;
 use std::cmp::Ordering;
 use std::io;
 
-/// A block, and the roots of its ids in both ways.
-#[derive(Drop)]
-struct Read {
-    block: Block,
+/// The roots of a block's ids in both ways.
+#[derive(Clone, Copy)]
+struct Roots {
     over_ids: [u8; 32],
     over_wtxids: [u8; 32],
 }
 
-/// What the bytes read as, or the place of the fault.
-fn read_once(alloc: Global, bytes: &[u8]) -> anyhow::Result<Result<Read, usize>> {
-    let block = match read_block(alloc, bytes) {
-        Ok(block) => block,
-        Err(BlockFault::Malformed { at }) => return Ok(Err(at)),
-        Err(BlockFault::Memory) => bail!("no memory"),
-    };
+/// A block, and the roots of its ids.
+#[derive(Drop)]
+struct Read {
+    block: Block,
+    roots: Roots,
+}
+
+/// The roots of the ids of a block, which has a transaction. `None` where there is no memory for
+/// the ids.
+fn roots_of(alloc: Global, block: &Block) -> Option<Roots> {
     if block.txs.is_empty() {
-        bail!("a block without a transaction");
+        return None;
     }
-    let over_ids = root(alloc, &block).ok().context("no memory")?;
-    let over_wtxids = witness_root(alloc, &block).ok().context("no memory")?;
-    Ok(Ok(Read {
-        block,
-        over_ids,
-        over_wtxids,
-    }))
+    Some(Roots {
+        over_ids: root(alloc, block).ok()?,
+        over_wtxids: witness_root(alloc, block).ok()?,
+    })
+}
+
+/// What the bytes read as, or the fault.
+fn read_once(alloc: Global, bytes: &[u8]) -> Result<Read, BlockFault> {
+    let block = read_block(alloc, bytes)?;
+    match roots_of(alloc, &block) {
+        Some(roots) => Ok(Read { block, roots }),
+        None => Err(BlockFault::Memory),
+    }
+}
+
+/// The same, read so many times.
+fn read_often(alloc: Global, bytes: &[u8], times: u32) -> Result<Read, BlockFault> {
+    for _ in 1..times {
+        read_once(alloc, bytes)?;
+    }
+    read_once(alloc, bytes)
 }
 
 /// A name, and bytes in hex digits.
 fn print_named(rt: &impl Print, name: &str, bytes: &[u8]) -> io::Result<()> {
     print!(rt; "  {name} ")?;
-    print_hex(rt, bytes)?;
-    println!(rt)
+    print_line(rt, bytes)
 }
 
 /// The ids of the block's transactions, where there are few.
@@ -64,44 +78,45 @@ fn is_written_so(alloc: Global, block: &Block, bytes: &[u8]) -> bool {
     }
 }
 
-/// The numbers of a header.
-fn print_header(rt: &impl Print, header: &Header) -> io::Result<()> {
-    print!(rt; "version {}, time {}", header.version, header.time)?;
-    print!(rt; ", bits {}, nonce {}, ", header.bits, header.nonce)
+/// The numbers of a header, and how many transactions the block has.
+fn print_header(rt: &impl Print, header: &Header, txs: usize) -> io::Result<()> {
+    println!(rt;
+        "version {}, time {}, bits {}, nonce {}, {txs} transactions",
+        header.version, header.time, header.bits, header.nonce
+    )
 }
 
 /// The roots of a block's ids.
-fn print_roots(rt: &impl Print, read: &Read) -> io::Result<()> {
-    print_named(rt, "root", &read.over_ids)?;
-    println!(rt;
-        "  root is the header's: {}",
-        read.over_ids == read.block.header.root
-    )?;
-    print_named(rt, "witness root", &read.over_wtxids)
+fn print_roots(rt: &impl Print, header: &Header, roots: &Roots) -> io::Result<()> {
+    print_named(rt, "root", &roots.over_ids)?;
+    println!(rt; "  root is the header's: {}", roots.over_ids == header.root)?;
+    print_named(rt, "witness root", &roots.over_wtxids)
 }
 
 /// The hash of a block, its ids and its roots.
 fn print_block(rt: &impl Print, alloc: Global, read: &Read, bytes: &[u8]) -> io::Result<()> {
-    print_header(rt, &read.block.header)?;
-    println!(rt; "{} transactions", read.block.txs.len())?;
-    print_named(rt, "hash", &hash(&read.block.header))?;
-    print_ids(rt, &read.block)?;
-    print_roots(rt, read)?;
-    println!(rt;
-        "  written so: {}",
-        is_written_so(alloc, &read.block, bytes)
-    )
+    let block = &read.block;
+    print_header(rt, &block.header, block.txs.len())?;
+    print_named(rt, "hash", &hash(&block.header))?;
+    print_ids(rt, block)?;
+    print_roots(rt, &block.header, &read.roots)?;
+    println!(rt; "  written so: {}", is_written_so(alloc, block, bytes))
 }
 
 /// What the bytes read as, which are read so many times.
-pub fn print_read(rt: &impl Print, alloc: Global, bytes: &[u8], times: u32) -> anyhow::Result<()> {
-    let mut last = read_once(alloc, bytes)?;
-    for _ in 1..times {
-        last = read_once(alloc, bytes)?;
+pub fn print_read(rt: &impl Print, alloc: Global, bytes: &[u8], times: u32) -> io::Result<()> {
+    match read_often(alloc, bytes, times) {
+        Ok(read) => print_block(rt, alloc, &read, bytes),
+        Err(BlockFault::Malformed { at }) => println!(rt; "fault at {at}"),
+        Err(BlockFault::Memory) => say(rt, NO_ROW),
     }
-    match last {
-        Ok(last) => Ok(print_block(rt, alloc, &last, bytes)?),
-        Err(at) => Ok(println!(rt; "fault at {at}")?),
+}
+
+/// The place of the fault of bytes, if they have one.
+fn fault_in(alloc: Global, bytes: &[u8]) -> Option<usize> {
+    match read_block(alloc, bytes) {
+        Err(BlockFault::Malformed { at }) => Some(at),
+        _ => None,
     }
 }
 
@@ -109,32 +124,32 @@ pub fn print_read(rt: &impl Print, alloc: Global, bytes: &[u8], times: u32) -> a
 pub fn print_fronts(rt: &impl Print, alloc: Global, bytes: &[u8]) -> io::Result<()> {
     for len in 0..bytes.len() {
         let (front, _) = bytes.split_at(len);
-        match read_block(alloc, front) {
-            Err(BlockFault::Malformed { at }) => print!(rt; " {at}")?,
-            _ => print!(rt; " none")?,
+        match fault_in(alloc, front) {
+            Some(at) => print!(rt; " {at}")?,
+            None => print!(rt; " none")?,
         }
     }
-    println!(rt)
+    say(rt, "")
 }
 
 /// The id that a word's hex digits spell.
-fn id_of(word: &str) -> anyhow::Result<Txid> {
+fn id_of(word: &str) -> Option<Txid> {
     let mut id = [0; 32];
-    hex::decode_to_slice(word, &mut id).ok().context("no id")?;
-    Ok(Txid(id))
+    hex::decode_to_slice(word, &mut id).ok()?;
+    Some(Txid(id))
 }
 
-/// How two ids are ordered.
-fn order_of(first: Txid, second: Txid) -> &'static str {
-    match first.cmp(&second) {
-        Ordering::Less => "less",
-        Ordering::Equal => "equal",
-        Ordering::Greater => "greater",
+/// How two ids are ordered that two words spell.
+fn order_of(words: &str) -> Option<&'static str> {
+    let (first, second) = words.split_once(' ')?;
+    match id_of(first)?.cmp(&id_of(second)?) {
+        Ordering::Less => Some("less"),
+        Ordering::Equal => Some("equal"),
+        Ordering::Greater => Some("greater"),
     }
 }
 
 /// How the ids that two words spell are ordered.
-pub fn print_order(rt: &impl Print, words: &str) -> anyhow::Result<()> {
-    let (first, second) = words.split_once(' ').context("no ids")?;
-    Ok(println!(rt; "{}", order_of(id_of(first)?, id_of(second)?))?)
+pub fn print_order(rt: &impl Print, words: &str) -> io::Result<()> {
+    say(rt, order_of(words).unwrap_or(NO_ROW))
 }

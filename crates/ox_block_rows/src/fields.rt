@@ -1,18 +1,22 @@
 //! Numbers as bytes, alone and one behind the other, and bytes in room.
 
-use crate::print::{FILLED, print_bytes_in, print_line};
+use crate::print::{FILLED, NO_ROW, print_bytes_in, print_line, say};
 use ox_bytes::{Bytes, Cursor, Memory, Room, put_compact, put_u32le, put_u64le};
 use ox_varint::write;
 use std::alloc::Global;
 use std::io;
 
+/// The number that a word is, 0 where it isn't read.
+fn number_of(word: &str) -> u128 {
+    word.parse().unwrap_or(0)
+}
+
 /// The numbers of a text, 0 where there are fewer than three or one isn't read.
 pub fn numbers_of(text: &str) -> [u128; 3] {
-    let mut numbers = [0; 3];
-    for (number, word) in numbers.iter_mut().zip(text.split(' ')) {
-        *number = word.parse().unwrap_or(0);
-    }
-    numbers
+    let (first, rest) = text.split_once(' ').unwrap_or((text, ""));
+    let (second, rest) = rest.split_once(' ').unwrap_or((rest, ""));
+    let (third, _) = rest.split_once(' ').unwrap_or((rest, ""));
+    [number_of(first), number_of(second), number_of(third)]
 }
 
 /// A number of 64 bits, the greatest for a greater one.
@@ -59,7 +63,7 @@ fn written(alloc: Global, front: &[u8], numbers: [u128; 3]) -> Result<Vec<u8>, M
 pub fn print_put(rt: &impl Print, alloc: Global, front: &[u8], text: &str) -> io::Result<()> {
     match written(alloc, front, numbers_of(text)) {
         Ok(bytes) => print_line(rt, &bytes),
-        Err(Memory) => println!(rt; "no memory"),
+        Err(Memory) => say(rt, NO_ROW),
     }
 }
 
@@ -100,6 +104,6 @@ fn print_filled(rt: &impl Print, filled: &Filled) -> io::Result<()> {
 pub fn print_room(rt: &impl Print, alloc: Global, bytes: &[u8], place: usize) -> io::Result<()> {
     match fill_room(alloc, bytes, place) {
         Ok(filled) => print_filled(rt, &filled),
-        Err(Memory) => println!(rt; "no memory"),
+        Err(Memory) => say(rt, NO_ROW),
     }
 }

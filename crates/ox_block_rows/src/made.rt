@@ -1,29 +1,32 @@
 //! The blocks that are made.
 
-use crate::print::print_line;
+use crate::print::{NO_ROW, print_line, say};
 use crate::spell::bytes_of;
-use anyhow::Context;
 use ox_block::{Txid, write_block};
+use ox_bytes::Bytes;
 use ox_gen::block;
 use std::alloc::Global;
+use std::io;
 
 /// The hash that a word's hex digits spell, in serialized order.
-fn hash_of(alloc: Global, word: &str) -> anyhow::Result<[u8; 32]> {
-    let bytes = bytes_of(alloc, word)?;
-    <[u8; 32]>::try_from(bytes.as_slice())
-        .ok()
-        .context("no hash")
+fn hash_of(alloc: Global, word: &str) -> Option<[u8; 32]> {
+    <[u8; 32]>::try_from(bytes_of(alloc, word)?.as_slice()).ok()
 }
 
-/// Prints the bytes of the block of this height behind the block of that hash, whose coinbase has
-/// that id.
-pub fn print_made(rt: &impl Print, alloc: Global, text: &str) -> anyhow::Result<()> {
-    let (height, ids) = text.split_once(' ').context("no height")?;
-    let (tip, paid) = ids.split_once(' ').context("no hash")?;
-    let height = height.parse::<u32>()?;
+/// The bytes of the block of this height behind the block of that hash, whose coinbase has that id.
+fn bytes_made(alloc: Global, text: &str) -> Option<Bytes> {
+    let (height, ids) = text.split_once(' ')?;
+    let (tip, paid) = ids.split_once(' ')?;
     let tip = hash_of(alloc, tip)?;
     let paid = Txid(hash_of(alloc, paid)?);
-    let made = block(alloc, height, &tip, &paid).ok().context("no memory")?;
-    let bytes = write_block(alloc, &made).ok().context("no memory")?;
-    Ok(print_line(rt, bytes.as_slice())?)
+    let made = block(alloc, height.parse().ok()?, &tip, &paid).ok()?;
+    write_block(alloc, &made).ok()
+}
+
+/// Prints the bytes of the block that is made by a text.
+pub fn print_made(rt: &impl Print, alloc: Global, text: &str) -> io::Result<()> {
+    match bytes_made(alloc, text) {
+        Some(bytes) => print_line(rt, bytes.as_slice()),
+        None => say(rt, NO_ROW),
+    }
 }

@@ -71,6 +71,7 @@ use crate::blocks::{print_fronts, print_order, print_read};
 use crate::fields::{numbers_of, print_fields, print_put, print_room, short};
 use crate::made::print_made;
 use crate::names::print_numbers;
+use crate::print::{NO_ROW, say};
 use crate::ranges::print_steps;
 use crate::routes::print_route;
 use crate::sats::{print_minted, print_profile};
@@ -79,13 +80,11 @@ use crate::scripts::{
 };
 use crate::spell::{bytes_from, bytes_of};
 use crate::stones::print_stone;
-use anyhow::Context;
 use ox_envelope::{read_id, read_id_text};
 use ox_name::read_name;
 use ox_varint::read;
 use std::alloc::Global;
-use std::env;
-use std::io::{self, BufRead, BufReader};
+use std::{env, io};
 
 /// Prints what bytes read as.
 fn run_bytes(rt: &impl Print, alloc: Global, word: &str, bytes: &[u8]) -> io::Result<()> {
@@ -99,12 +98,43 @@ fn run_bytes(rt: &impl Print, alloc: Global, word: &str, bytes: &[u8]) -> io::Re
     }
 }
 
-/// Prints what bytes read as that may be long.
-fn run_long(rt: &impl Print, alloc: Global, word: &str, bytes: &[u8]) -> anyhow::Result<()> {
+/// The same of the bytes that hex digits spell.
+fn run_digits(rt: &impl Print, alloc: Global, word: &str, digits: &str) -> io::Result<()> {
+    match bytes_of(alloc, digits) {
+        Some(bytes) => run_bytes(rt, alloc, word, &bytes),
+        None => say(rt, NO_ROW),
+    }
+}
+
+/// Prints what bytes read as that may be long. What is timed is done so many times.
+fn run_long(
+    rt: &impl Print,
+    alloc: Global,
+    word: &str,
+    bytes: &[u8],
+    times: u32,
+) -> io::Result<()> {
     match word {
+        "block" => print_read(rt, alloc, bytes, times),
+        "items" => print_items(rt, bytes, times),
+        "envelopes" => print_tally(rt, alloc, bytes, times),
         "script" => print_script(rt, alloc, bytes),
-        "route" => Ok(print_route(rt, alloc, bytes)?),
-        _ => Ok(print_listing(rt, bytes)?),
+        "route" => print_route(rt, alloc, bytes),
+        _ => print_listing(rt, bytes),
+    }
+}
+
+/// The same of the bytes that four words spell.
+fn run_parts(
+    rt: &impl Print,
+    alloc: Global,
+    word: &str,
+    parts: &str,
+    times: u32,
+) -> io::Result<()> {
+    match bytes_from(alloc, parts) {
+        Some(bytes) => run_long(rt, alloc, word, &bytes, times),
+        None => say(rt, NO_ROW),
     }
 }
 
@@ -114,14 +144,31 @@ fn run_counted(
     rt: &impl Print,
     alloc: Global,
     word: &str,
-    count: &str,
+    count: usize,
     bytes: &[u8],
 ) -> io::Result<()> {
-    let count = count.parse::<usize>().unwrap_or(0);
     match word {
         "stone" => print_stone(rt, alloc, short(count as u128), bytes),
         "tapscript" => print_tapscript(rt, count, bytes),
         _ => print_room(rt, alloc, bytes, count),
+    }
+}
+
+/// The same of a number and of the bytes that hex digits spell.
+fn run_count(rt: &impl Print, alloc: Global, word: &str, rest: &str) -> io::Result<()> {
+    let (count, digits) = rest.split_once(' ').unwrap_or((rest, ""));
+    match bytes_of(alloc, digits) {
+        Some(bytes) => run_counted(rt, alloc, word, count.parse().unwrap_or(0), &bytes),
+        None => say(rt, NO_ROW),
+    }
+}
+
+/// Prints numbers behind the bytes that hex digits spell.
+fn run_put(rt: &impl Print, alloc: Global, rest: &str) -> io::Result<()> {
+    let (digits, numbers) = rest.split_once(' ').unwrap_or((rest, ""));
+    match bytes_of(alloc, digits) {
+        Some(front) => print_put(rt, alloc, &front, numbers),
+        None => say(rt, NO_ROW),
     }
 }
 
@@ -132,50 +179,48 @@ fn run_text(rt: &impl Print, alloc: Global, word: &str, rest: &str) -> io::Resul
         "profile" => print_profile(rt, rest),
         "height" | "sat" => print_minted(rt, word, rest),
         "ranges" => print_steps(rt, alloc, rest),
+        "order" => print_order(rt, rest),
+        "made" => print_made(rt, alloc, rest),
         _ => print_numbers(rt, word, numbers_of(rest)),
     }
 }
 
-/// Prints what a row says that is never done several times.
-fn run_once(rt: &impl Print, alloc: Global, word: &str, rest: &str) -> anyhow::Result<()> {
+/// Prints what a row says. What is timed is done so many times.
+fn run(rt: &impl Print, alloc: Global, row: &str, times: u32) -> io::Result<()> {
+    let (word, rest) = row.split_once(' ').unwrap_or((row, ""));
     match word {
-        "script" | "listing" | "route" => run_long(rt, alloc, word, &bytes_from(alloc, rest)?),
+        "block" | "items" | "envelopes" | "script" | "route" | "listing" => {
+            run_parts(rt, alloc, word, rest, times)
+        }
         "fronts" | "value" | "named" | "number" | "fields" | "kinds" => {
-            Ok(run_bytes(rt, alloc, word, &bytes_of(alloc, rest)?)?)
+            run_digits(rt, alloc, word, rest)
         }
-        "stone" | "tapscript" | "room" => {
-            let (count, rest) = rest.split_once(' ').context("no count")?;
-            Ok(run_counted(rt, alloc, word, count, &bytes_of(alloc, rest)?)?)
-        }
-        "put" => {
-            let (front, numbers) = rest.split_once(' ').context("no numbers")?;
-            Ok(print_put(rt, alloc, &bytes_of(alloc, front)?, numbers)?)
-        }
-        "order" => print_order(rt, rest),
-        "made" => print_made(rt, alloc, rest),
-        _ => Ok(run_text(rt, alloc, word, rest)?),
+        "stone" | "tapscript" | "room" => run_count(rt, alloc, word, rest),
+        "put" => run_put(rt, alloc, rest),
+        _ => run_text(rt, alloc, word, rest),
     }
 }
 
-/// Prints what a row says, whose work is done so many times.
-fn run(rt: &impl Print, alloc: Global, row: &str, times: u32) -> anyhow::Result<()> {
-    let (word, rest) = row.split_once(' ').context("no row")?;
-    match word {
-        "block" => print_read(rt, alloc, &bytes_from(alloc, rest)?, times),
-        "items" => Ok(print_items(rt, &bytes_from(alloc, rest)?, times)?),
-        "envelopes" => print_tally(rt, alloc, &bytes_from(alloc, rest)?, times),
-        _ => run_once(rt, alloc, word, rest),
-    }
-}
-
-fn main(rt: HostRuntime) -> anyhow::Result<()> {
-    let alloc = rt.alloc();
-    let mut times = 1;
-    if let Some(word) = env::args(&rt)?.nth(1) {
-        times = word.as_str().parse::<u32>()?;
-    }
-    for row in BufReader::new(alloc, rt.reader())?.lines(alloc) {
-        run(&rt, alloc, &row?, times)?;
+/// Prints what each row of a text says. What is timed is done so many times.
+fn run_all(rt: &impl Print, alloc: Global, text: &str, times: u32) -> io::Result<()> {
+    for row in text.split('\n') {
+        if !row.is_empty() {
+            run(rt, alloc, row, times)?;
+        }
     }
     Ok(())
+}
+
+/// How often work is done: as the argument says, or once.
+fn times_of(rt: &HostRuntime) -> io::Result<u32> {
+    match env::args(rt)?.nth(1) {
+        Some(word) => Ok(word.as_str().parse().unwrap_or(1)),
+        None => Ok(1),
+    }
+}
+
+fn main(rt: HostRuntime) -> io::Result<()> {
+    let times = times_of(&rt)?;
+    let text = io::read_to_string(rt.alloc(), rt.stdin())?;
+    run_all(&rt, rt.alloc(), text.as_str(), times)
 }

@@ -1,7 +1,7 @@
 //! Names of runes, and amounts.
 
 use crate::fields::{long, print_varint, short};
-use crate::print::{FILLED, print_bytes_in, print_text_in};
+use crate::print::{FILLED, print_bytes_in, print_text_in, say};
 use ox_name::{
     commitment, is_reserved, minimum, reserved_name, write_amount, write_name, write_spaced,
 };
@@ -42,6 +42,6 @@ pub fn print_numbers(rt: &impl Print, word: &str, numbers: [u128; 3]) -> io::Res
         "least" => println!(rt; "{}", minimum(long(first), long(second), long(third))),
         "kept" => println!(rt; "{}", reserved_name(short(first), short(second))),
         "amount" => print_amount(rt, first, second),
-        _ => println!(rt; "no row"),
+        _ => say(rt, "no row"),
     }
 }

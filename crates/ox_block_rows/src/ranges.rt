@@ -1,5 +1,6 @@
 //! Lists of satoshis, by steps.
 
+use crate::print::say;
 use ox_range::Ranges;
 use std::alloc::Global;
 use std::{io, mem};
@@ -89,13 +90,13 @@ fn print_list(rt: &impl Print, list: &Ranges) -> io::Result<()> {
     for run in list.runs() {
         print!(rt; " {}+{}", run.first, run.count)?;
     }
-    println!(rt)
+    say(rt, "")
 }
 
 /// The number at a place.
 fn print_at(rt: &impl Print, list: &Ranges, place: u64) -> io::Result<()> {
     if place >= list.len() {
-        return println!(rt; "no place");
+        return say(rt, "no place");
     }
     println!(rt; "{}", list.at(place))
 }
@@ -112,7 +113,7 @@ fn step(rt: &impl Print, alloc: Global, lists: &mut Lists, text: &str) -> io::Re
             if change(alloc, lists, word, number) {
                 return Ok(());
             }
-            println!(rt; "no memory, or no step")
+            say(rt, "no memory, or no step")
         }
     }
 }

@@ -1,6 +1,6 @@
 //! The routes that paths take.
 
-use crate::print::print_bytes;
+use crate::print::{NO_ROW, print_bytes, say};
 use ox_routes::{Found, Routes};
 use std::alloc::Global;
 use std::io;
@@ -10,16 +10,16 @@ fn print_found(rt: &impl Print, found: &Found<'_>) -> io::Result<()> {
     let route = found.route;
     print!(rt; "{route:?} {:?} {} ", route.method(), route.text())?;
     print_bytes(rt, found.part)?;
-    println!(rt)
+    say(rt, "")
 }
 
 /// The route that a path takes.
 pub fn print_route(rt: &impl Print, alloc: Global, path: &[u8]) -> io::Result<()> {
     let Ok(routes) = Routes::new(alloc) else {
-        return println!(rt; "no memory");
+        return say(rt, NO_ROW);
     };
     match routes.find(path) {
         Some(found) => print_found(rt, &found),
-        None => println!(rt; "no route"),
+        None => say(rt, "no route"),
     }
 }

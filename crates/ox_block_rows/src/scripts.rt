@@ -1,7 +1,6 @@
 //! What scripts read as.
 
-use crate::print::print_bytes;
-use anyhow::Context;
+use crate::print::{NO_ROW, print_bytes, say};
 use ox_bytes::{Bytes, Memory};
 use ox_envelope::{Envelope, InsId, Inscribed, envelopes_of, parse, write_id};
 use ox_runestone::is_stone;
@@ -32,7 +31,7 @@ fn print_text(rt: &impl Print, id: Option<InsId>) -> io::Result<()> {
 /// An id in a line.
 pub fn print_id(rt: &impl Print, id: Option<InsId>) -> io::Result<()> {
     print_text(rt, id)?;
-    println!(rt)
+    say(rt, "")
 }
 
 /// The pushes of an envelope, each in hex digits.
@@ -42,7 +41,7 @@ fn print_pushes(rt: &impl Print, envelope: &Envelope<'_>) -> io::Result<()> {
         print!(rt; " ")?;
         print_bytes(rt, *push)?;
     }
-    println!(rt)
+    say(rt, "")
 }
 
 /// The fields of an envelope, its body and its marks.
@@ -66,23 +65,39 @@ fn print_ids(rt: &impl Print, parents: &[InsId], delegate: Option<InsId>) -> io:
     print_id(rt, delegate)
 }
 
-/// What an envelope says.
-fn print_envelope(rt: &impl Print, alloc: Global, envelope: &Envelope<'_>) -> anyhow::Result<()> {
-    print_pushes(rt, envelope)?;
-    let says = parse(alloc, envelope).ok().context("no memory")?;
-    print_fields(rt, &says)?;
-    let parents = says.parents.copy(alloc).ok().context("no memory")?;
-    Ok(print_ids(rt, parents.as_slice(), says.delegate)?)
+/// The fields of an envelope, its body, its marks, and the ids that it names.
+fn print_inscribed(rt: &impl Print, alloc: Global, says: &Inscribed) -> io::Result<()> {
+    print_fields(rt, says)?;
+    match says.parents.copy(alloc) {
+        Ok(parents) => print_ids(rt, parents.as_slice(), says.delegate),
+        Err(_) => say(rt, NO_ROW),
+    }
 }
 
-/// The envelopes of a script, and what each says.
-pub fn print_script(rt: &impl Print, alloc: Global, script: &[u8]) -> anyhow::Result<()> {
-    let found = envelopes_of(alloc, script).ok().context("no memory")?;
+/// What an envelope says.
+fn print_envelope(rt: &impl Print, alloc: Global, envelope: &Envelope<'_>) -> io::Result<()> {
+    print_pushes(rt, envelope)?;
+    match parse(alloc, envelope) {
+        Ok(says) => print_inscribed(rt, alloc, &says),
+        Err(_) => say(rt, NO_ROW),
+    }
+}
+
+/// How many envelopes there are, and what each says.
+fn print_envelopes(rt: &impl Print, alloc: Global, found: &[Envelope<'_>]) -> io::Result<()> {
     println!(rt; "{} envelopes", found.len())?;
-    for envelope in found.as_slice() {
+    for envelope in found {
         print_envelope(rt, alloc, envelope)?;
     }
     Ok(())
+}
+
+/// The envelopes of a script, and what each says.
+pub fn print_script(rt: &impl Print, alloc: Global, script: &[u8]) -> io::Result<()> {
+    match envelopes_of(alloc, script) {
+        Ok(found) => print_envelopes(rt, alloc, found.as_slice()),
+        Err(_) => say(rt, NO_ROW),
+    }
 }
 
 /// The items of a script, whether it is cut short, and whether its end stays: it isn't known to be
@@ -94,18 +109,18 @@ pub fn print_listing(rt: &impl Print, script: &[u8]) -> io::Result<()> {
         print!(rt; "{item:?} ")?;
         stays = stays && !items.met_cut();
     }
-    print!(rt; "cut: {}, ", items.met_cut())?;
-    println!(rt; "stays: {}", stays && items.next().is_none())
+    let cut = items.met_cut();
+    println!(rt; "cut: {cut}, stays: {}", stays && items.next().is_none())
 }
 
 /// Which kinds of output a script is.
 pub fn print_kinds(rt: &impl Print, script: &[u8]) -> io::Result<()> {
-    print!(rt;
-        "return: {}, taproot: {}, ",
+    println!(rt;
+        "return: {}, taproot: {}, runestone: {}",
         is_return(script),
-        is_taproot(script)
-    )?;
-    println!(rt; "runestone: {}", is_stone(script))
+        is_taproot(script),
+        is_stone(script)
+    )
 }
 
 /// The place of the tapscript of a witness of so many items, which ends with this one.
@@ -131,31 +146,41 @@ pub fn print_items(rt: &impl Print, script: &[u8], times: u32) -> io::Result<()>
     println!(rt; "{items} items")
 }
 
+/// Whether an envelope has a body. `Memory` where there is none for what it says.
+fn has_body(alloc: Global, envelope: &Envelope<'_>) -> Result<bool, Memory> {
+    Ok(parse(alloc, envelope)?.body.is_some())
+}
+
+/// How many of some envelopes have a body. `Memory` where there is none for what they say.
+fn bodies_in(alloc: Global, found: &[Envelope<'_>]) -> Result<usize, Memory> {
+    let mut bodies: usize = 0;
+    for envelope in found {
+        bodies = bodies.saturating_add(usize::from(has_body(alloc, envelope)?));
+    }
+    Ok(bodies)
+}
+
 /// How many envelopes a script has, and how many of them have a body. `Memory` where there is none
 /// for them.
 fn envelopes_in(alloc: Global, script: &[u8]) -> Result<(usize, usize), Memory> {
     let found = envelopes_of(alloc, script)?;
-    let mut bodies: usize = 0;
-    for envelope in found.as_slice() {
-        if parse(alloc, envelope)?.body.is_some() {
-            bodies = bodies.saturating_add(1);
-        }
-    }
+    let bodies = bodies_in(alloc, found.as_slice())?;
     Ok((found.len(), bodies))
+}
+
+/// The same, searched and read so many times.
+fn envelopes_often(alloc: Global, script: &[u8], times: u32) -> Result<(usize, usize), Memory> {
+    for _ in 1..times {
+        envelopes_in(alloc, script)?;
+    }
+    envelopes_in(alloc, script)
 }
 
 /// How many envelopes a script has, and how many of them have a body, which are searched and read
 /// so many times.
-pub fn print_tally(
-    rt: &impl Print,
-    alloc: Global,
-    script: &[u8],
-    times: u32,
-) -> anyhow::Result<()> {
-    let mut found = envelopes_in(alloc, script);
-    for _ in 1..times {
-        found = envelopes_in(alloc, script);
+pub fn print_tally(rt: &impl Print, alloc: Global, script: &[u8], times: u32) -> io::Result<()> {
+    match envelopes_often(alloc, script, times) {
+        Ok((found, bodies)) => println!(rt; "{found} envelopes, {bodies} with a body"),
+        Err(_) => say(rt, NO_ROW),
     }
-    let (envelopes, bodies) = found.ok().context("no memory")?;
-    Ok(println!(rt; "{envelopes} envelopes, {bodies} with a body")?)
 }

@@ -1,35 +1,41 @@
 //! Bytes, as the words of a row spell them.
 
-use anyhow::{Context, bail};
 use std::alloc::Global;
 
-/// The bytes that a word's hex digits spell; `-` spells none.
-pub fn bytes_of(alloc: Global, word: &str) -> anyhow::Result<Vec<u8>> {
+/// Appends, so many times, the bytes that a word's hex digits spell; `-` spells none.
+fn append(alloc: Global, bytes: &mut Vec<u8>, times: u32, word: &str) -> Option<()> {
     if word == "-" {
-        return Ok(Vec::new(alloc));
+        return Some(());
     }
-    hex::decode(alloc, word).ok().context("no hex digits")
+    let part = hex::decode(alloc, word).ok()?;
+    for _ in 0..times {
+        bytes.extend_from_slice(&part).ok()?;
+    }
+    Some(())
 }
 
-/// Appends, so many times, the bytes that a word's hex digits spell.
-fn append(alloc: Global, bytes: &mut Vec<u8>, times: u32, word: &str) -> anyhow::Result<()> {
-    let part = bytes_of(alloc, word)?;
-    for _ in 0..times {
-        bytes.extend_from_slice(&part)?;
-    }
-    Ok(())
+/// Appends what a text spells: how often a part stands, a head, the part and a tail.
+fn append_parts(alloc: Global, bytes: &mut Vec<u8>, text: &str) -> Option<()> {
+    let (times, rest) = text.split_once(' ')?;
+    let (head, rest) = rest.split_once(' ')?;
+    let (part, tail) = rest.split_once(' ')?;
+    append(alloc, bytes, 1, head)?;
+    append(alloc, bytes, times.parse().unwrap_or(0), part)?;
+    append(alloc, bytes, 1, tail)
+}
+
+/// The bytes that a word's hex digits spell; `-` spells none. `None` also where there is no memory
+/// for them.
+pub fn bytes_of(alloc: Global, word: &str) -> Option<Vec<u8>> {
+    let mut bytes = Vec::new(alloc);
+    append(alloc, &mut bytes, 1, word)?;
+    Some(bytes)
 }
 
 /// How often a part stands, a head, the part and a tail: the head, so many times the part, and the
-/// tail.
-pub fn bytes_from(alloc: Global, text: &str) -> anyhow::Result<Vec<u8>> {
-    let words: Vec<&str> = text.split(' ').collect(alloc)?;
-    let [times, head, part, tail] = words.as_slice() else {
-        bail!("bytes have four words");
-    };
+/// tail. `None` also where there is no memory for them.
+pub fn bytes_from(alloc: Global, text: &str) -> Option<Vec<u8>> {
     let mut bytes = Vec::new(alloc);
-    append(alloc, &mut bytes, 1, *head)?;
-    append(alloc, &mut bytes, times.parse().unwrap_or(0), *part)?;
-    append(alloc, &mut bytes, 1, *tail)?;
-    Ok(bytes)
+    append_parts(alloc, &mut bytes, text)?;
+    Some(bytes)
 }

@@ -1,6 +1,6 @@
 //! What runestones read as, and how they are written again.
 
-use crate::print::print_line;
+use crate::print::{NO_ROW, print_line, say};
 use ox_bytes::Bytes;
 use ox_runestone::{Artifact, Edict, decipher, encipher, ids_rise, is_stone};
 use std::alloc::Global;
@@ -41,7 +41,7 @@ fn print_artifact(
         (Artifact::Stone(stone), Some(script)) => {
             print_written(rt, alloc, stone.edicts.as_slice(), script.as_slice())
         }
-        (Artifact::Stone(_), None) => println!(rt; "no memory"),
+        (Artifact::Stone(_), None) => say(rt, NO_ROW),
         (Artifact::Cenotaph { .. }, _) => Ok(()),
     }
 }
@@ -50,10 +50,10 @@ fn print_artifact(
 /// again.
 pub fn print_stone(rt: &impl Print, alloc: Global, outputs: u32, script: &[u8]) -> io::Result<()> {
     if !is_stone(script) {
-        return println!(rt; "no runestone");
+        return say(rt, "no runestone");
     }
     let Ok(artifact) = decipher(alloc, script, outputs) else {
-        return println!(rt; "no memory");
+        return say(rt, NO_ROW);
     };
     let again = match &artifact {
         Artifact::Stone(stone) => encipher(alloc, stone, outputs).ok(),
