@@ -1,13 +1,12 @@
 //! What blocks read as.
 
-use crate::print::{NO_ROW, print_line, say};
+use crate::print::{NO_ROW, Page, print_line, put, put_line};
 use ox_block::{
     Block, BlockFault, Header, Txid, hash, read_block, root, txid_of, witness_root, write_block,
     wtxid_of,
 };
 use std::alloc::Global;
 use std::cmp::Ordering;
-use std::io;
 
 /// The roots of a block's ids in both ways.
 #[derive(Clone, Copy)]
@@ -53,21 +52,20 @@ fn read_often(alloc: Global, bytes: &[u8], times: u32) -> Result<Read, BlockFaul
 }
 
 /// A name, and bytes in hex digits.
-fn print_named(rt: &impl Print, name: &str, bytes: &[u8]) -> io::Result<()> {
-    print!(rt; "  {name} ")?;
-    print_line(rt, bytes)
+fn print_named(page: &mut Page, name: &str, bytes: &[u8]) {
+    put!(page; "  {name} ");
+    print_line(page, bytes)
 }
 
 /// The ids of the block's transactions, where there are few.
-fn print_ids(rt: &impl Print, block: &Block) -> io::Result<()> {
+fn print_ids(page: &mut Page, block: &Block) {
     if block.txs.len() > 5 {
-        return Ok(());
+        return;
     }
     for tx in block.txs.as_slice() {
-        print_named(rt, "txid", &txid_of(tx).0)?;
-        print_named(rt, "wtxid", &wtxid_of(tx).0)?;
+        print_named(page, "txid", &txid_of(tx).0);
+        print_named(page, "wtxid", &wtxid_of(tx).0);
     }
-    Ok(())
 }
 
 /// Whether the block is written as these bytes.
@@ -79,36 +77,36 @@ fn is_written_so(alloc: Global, block: &Block, bytes: &[u8]) -> bool {
 }
 
 /// The numbers of a header, and how many transactions the block has.
-fn print_header(rt: &impl Print, header: &Header, txs: usize) -> io::Result<()> {
-    println!(rt;
+fn print_header(page: &mut Page, header: &Header, txs: usize) {
+    put_line!(page;
         "version {}, time {}, bits {}, nonce {}, {txs} transactions",
         header.version, header.time, header.bits, header.nonce
     )
 }
 
 /// The roots of a block's ids.
-fn print_roots(rt: &impl Print, header: &Header, roots: &Roots) -> io::Result<()> {
-    print_named(rt, "root", &roots.over_ids)?;
-    println!(rt; "  root is the header's: {}", roots.over_ids == header.root)?;
-    print_named(rt, "witness root", &roots.over_wtxids)
+fn print_roots(page: &mut Page, header: &Header, roots: &Roots) {
+    print_named(page, "root", &roots.over_ids);
+    put_line!(page; "  root is the header's: {}", roots.over_ids == header.root);
+    print_named(page, "witness root", &roots.over_wtxids)
 }
 
 /// The hash of a block, its ids and its roots.
-fn print_block(rt: &impl Print, alloc: Global, read: &Read, bytes: &[u8]) -> io::Result<()> {
+fn print_block(page: &mut Page, alloc: Global, read: &Read, bytes: &[u8]) {
     let block = &read.block;
-    print_header(rt, &block.header, block.txs.len())?;
-    print_named(rt, "hash", &hash(&block.header))?;
-    print_ids(rt, block)?;
-    print_roots(rt, &block.header, &read.roots)?;
-    println!(rt; "  written so: {}", is_written_so(alloc, block, bytes))
+    print_header(page, &block.header, block.txs.len());
+    print_named(page, "hash", &hash(&block.header));
+    print_ids(page, block);
+    print_roots(page, &block.header, &read.roots);
+    put_line!(page; "  written so: {}", is_written_so(alloc, block, bytes))
 }
 
 /// What the bytes read as, which are read so many times.
-pub fn print_read(rt: &impl Print, alloc: Global, bytes: &[u8], times: u32) -> io::Result<()> {
+pub fn print_read(page: &mut Page, alloc: Global, bytes: &[u8], times: u32) {
     match read_often(alloc, bytes, times) {
-        Ok(read) => print_block(rt, alloc, &read, bytes),
-        Err(BlockFault::Malformed { at }) => println!(rt; "fault at {at}"),
-        Err(BlockFault::Memory) => say(rt, NO_ROW),
+        Ok(read) => print_block(page, alloc, &read, bytes),
+        Err(BlockFault::Malformed { at }) => put_line!(page; "fault at {at}"),
+        Err(BlockFault::Memory) => page.say(NO_ROW),
     }
 }
 
@@ -121,15 +119,15 @@ fn fault_in(alloc: Global, bytes: &[u8]) -> Option<usize> {
 }
 
 /// The place of the fault of each front of the bytes, shorter than they are.
-pub fn print_fronts(rt: &impl Print, alloc: Global, bytes: &[u8]) -> io::Result<()> {
+pub fn print_fronts(page: &mut Page, alloc: Global, bytes: &[u8]) {
     for len in 0..bytes.len() {
         let (front, _) = bytes.split_at(len);
         match fault_in(alloc, front) {
-            Some(at) => print!(rt; " {at}")?,
-            None => print!(rt; " none")?,
+            Some(at) => put!(page; " {at}"),
+            None => page.put(" none"),
         }
     }
-    say(rt, "")
+    page.say("")
 }
 
 /// The id that a word's hex digits spell.
@@ -150,6 +148,6 @@ fn order_of(words: &str) -> Option<&'static str> {
 }
 
 /// How the ids that two words spell are ordered.
-pub fn print_order(rt: &impl Print, words: &str) -> io::Result<()> {
-    say(rt, order_of(words).unwrap_or(NO_ROW))
+pub fn print_order(page: &mut Page, words: &str) {
+    page.say(order_of(words).unwrap_or(NO_ROW))
 }

@@ -1,10 +1,9 @@
 //! Numbers as bytes, alone and one behind the other, and bytes in room.
 
-use crate::print::{FILLED, NO_ROW, print_bytes_in, print_line, say};
+use crate::print::{FILLED, NO_ROW, Page, print_bytes_in, print_line, put, put_line};
 use ox_bytes::{Bytes, Cursor, Memory, Room, put_compact, put_u32le, put_u64le};
 use ox_varint::write;
 use std::alloc::Global;
-use std::io;
 
 /// The number that a word is, 0 where it isn't read.
 fn number_of(word: &str) -> u128 {
@@ -30,22 +29,22 @@ pub fn short(number: u128) -> u32 {
 }
 
 /// A number as LEB128.
-pub fn print_varint(rt: &impl Print, number: u128) -> io::Result<()> {
+pub fn print_varint(page: &mut Page, number: u128) {
     let mut room = [FILLED; 19];
     let len = write(number, &mut room);
-    print_bytes_in(rt, &room, len)
+    print_bytes_in(page, &room, len)
 }
 
 /// A number of 4 bytes, one of 8 and a compact size, as they stand one behind the other, what
 /// follows them, and where that begins.
-pub fn print_fields(rt: &impl Print, bytes: &[u8]) -> io::Result<()> {
+pub fn print_fields(page: &mut Page, bytes: &[u8]) {
     let mut cursor = Cursor::new(bytes);
     let four = cursor.u32le();
     let eight = cursor.u64le();
     let size = cursor.compact();
     let place = cursor.place();
     let behind = cursor.take(1);
-    println!(rt; "{four:?} {eight:?} {size:?} {behind:?} at {place}")
+    put_line!(page; "{four:?} {eight:?} {size:?} {behind:?} at {place}")
 }
 
 /// These bytes, and behind them a number of 4 bytes, one of 8 and a compact size. `Memory` where
@@ -60,10 +59,10 @@ fn written(alloc: Global, front: &[u8], numbers: [u128; 3]) -> Result<Vec<u8>, M
 }
 
 /// These bytes, and behind them the numbers of a text.
-pub fn print_put(rt: &impl Print, alloc: Global, front: &[u8], text: &str) -> io::Result<()> {
+pub fn print_put(page: &mut Page, alloc: Global, front: &[u8], text: &str) {
     match written(alloc, front, numbers_of(text)) {
-        Ok(bytes) => print_line(rt, &bytes),
-        Err(Memory) => say(rt, NO_ROW),
+        Ok(bytes) => print_line(page, &bytes),
+        Err(Memory) => page.say(NO_ROW),
     }
 }
 
@@ -95,15 +94,15 @@ fn fill_room(alloc: Global, bytes: &[u8], place: usize) -> Result<Filled, Memory
 }
 
 /// How much was spare of room, and its bytes.
-fn print_filled(rt: &impl Print, filled: &Filled) -> io::Result<()> {
-    print!(rt; "{} {} {} ", filled.before, filled.between, filled.behind)?;
-    print_line(rt, filled.bytes.as_slice())
+fn print_filled(page: &mut Page, filled: &Filled) {
+    put!(page; "{} {} {} ", filled.before, filled.between, filled.behind);
+    print_line(page, filled.bytes.as_slice())
 }
 
 /// Bytes that are put into room for them by two parts, and how much was spare.
-pub fn print_room(rt: &impl Print, alloc: Global, bytes: &[u8], place: usize) -> io::Result<()> {
+pub fn print_room(page: &mut Page, alloc: Global, bytes: &[u8], place: usize) {
     match fill_room(alloc, bytes, place) {
-        Ok(filled) => print_filled(rt, &filled),
-        Err(Memory) => say(rt, NO_ROW),
+        Ok(filled) => print_filled(page, &filled),
+        Err(Memory) => page.say(NO_ROW),
     }
 }

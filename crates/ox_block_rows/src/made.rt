@@ -1,12 +1,11 @@
 //! The blocks that are made.
 
-use crate::print::{NO_ROW, print_line, say};
+use crate::print::{NO_ROW, Page, print_line};
 use crate::spell::bytes_of;
 use ox_block::{Txid, write_block};
 use ox_bytes::Bytes;
 use ox_gen::block;
 use std::alloc::Global;
-use std::io;
 
 /// The hash that a word's hex digits spell, in serialized order.
 fn hash_of(alloc: Global, word: &str) -> Option<[u8; 32]> {
@@ -24,9 +23,9 @@ fn bytes_made(alloc: Global, text: &str) -> Option<Bytes> {
 }
 
 /// Prints the bytes of the block that is made by a text.
-pub fn print_made(rt: &impl Print, alloc: Global, text: &str) -> io::Result<()> {
+pub fn print_made(page: &mut Page, alloc: Global, text: &str) {
     match bytes_made(alloc, text) {
-        Some(bytes) => print_line(rt, bytes.as_slice()),
-        None => say(rt, NO_ROW),
+        Some(bytes) => print_line(page, bytes.as_slice()),
+        None => page.say(NO_ROW),
     }
 }

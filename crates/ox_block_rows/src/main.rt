@@ -71,7 +71,7 @@ use crate::blocks::{print_fronts, print_order, print_read};
 use crate::fields::{numbers_of, print_fields, print_put, print_room, short};
 use crate::made::print_made;
 use crate::names::print_numbers;
-use crate::print::{NO_ROW, say};
+use crate::print::{NO_ROW, Page, put_line};
 use crate::ranges::print_steps;
 use crate::routes::print_route;
 use crate::sats::{print_minted, print_profile};
@@ -87,125 +87,110 @@ use std::alloc::Global;
 use std::{env, io};
 
 /// Prints what bytes read as.
-fn run_bytes(rt: &impl Print, alloc: Global, word: &str, bytes: &[u8]) -> io::Result<()> {
+fn run_bytes(page: &mut Page, alloc: Global, word: &str, bytes: &[u8]) {
     match word {
-        "fronts" => print_fronts(rt, alloc, bytes),
-        "value" => print_id(rt, read_id(bytes)),
-        "named" => println!(rt; "{:?}", read_name(bytes)),
-        "number" => println!(rt; "{:?}", read(bytes)),
-        "fields" => print_fields(rt, bytes),
-        _ => print_kinds(rt, bytes),
+        "fronts" => print_fronts(page, alloc, bytes),
+        "value" => print_id(page, read_id(bytes)),
+        "named" => put_line!(page; "{:?}", read_name(bytes)),
+        "number" => put_line!(page; "{:?}", read(bytes)),
+        "fields" => print_fields(page, bytes),
+        _ => print_kinds(page, bytes),
     }
 }
 
 /// The same of the bytes that hex digits spell.
-fn run_digits(rt: &impl Print, alloc: Global, word: &str, digits: &str) -> io::Result<()> {
+fn run_digits(page: &mut Page, alloc: Global, word: &str, digits: &str) {
     match bytes_of(alloc, digits) {
-        Some(bytes) => run_bytes(rt, alloc, word, &bytes),
-        None => say(rt, NO_ROW),
+        Some(bytes) => run_bytes(page, alloc, word, &bytes),
+        None => page.say(NO_ROW),
     }
 }
 
 /// Prints what bytes read as that may be long. What is timed is done so many times.
-fn run_long(
-    rt: &impl Print,
-    alloc: Global,
-    word: &str,
-    bytes: &[u8],
-    times: u32,
-) -> io::Result<()> {
+fn run_long(page: &mut Page, alloc: Global, word: &str, bytes: &[u8], times: u32) {
     match word {
-        "block" => print_read(rt, alloc, bytes, times),
-        "items" => print_items(rt, bytes, times),
-        "envelopes" => print_tally(rt, alloc, bytes, times),
-        "script" => print_script(rt, alloc, bytes),
-        "route" => print_route(rt, alloc, bytes),
-        _ => print_listing(rt, bytes),
+        "block" => print_read(page, alloc, bytes, times),
+        "items" => print_items(page, bytes, times),
+        "envelopes" => print_tally(page, alloc, bytes, times),
+        "script" => print_script(page, alloc, bytes),
+        "route" => print_route(page, alloc, bytes),
+        _ => print_listing(page, bytes),
     }
 }
 
 /// The same of the bytes that four words spell.
-fn run_parts(
-    rt: &impl Print,
-    alloc: Global,
-    word: &str,
-    parts: &str,
-    times: u32,
-) -> io::Result<()> {
+fn run_parts(page: &mut Page, alloc: Global, word: &str, parts: &str, times: u32) {
     match bytes_from(alloc, parts) {
-        Some(bytes) => run_long(rt, alloc, word, &bytes, times),
-        None => say(rt, NO_ROW),
+        Some(bytes) => run_long(page, alloc, word, &bytes, times),
+        None => page.say(NO_ROW),
     }
 }
 
 /// Prints what a number and bytes say: the outputs of a transaction and a script, the items of a
 /// witness and the last of them, or a place in bytes that are put into room.
-fn run_counted(
-    rt: &impl Print,
-    alloc: Global,
-    word: &str,
-    count: usize,
-    bytes: &[u8],
-) -> io::Result<()> {
+fn run_counted(page: &mut Page, alloc: Global, word: &str, count: usize, bytes: &[u8]) {
     match word {
-        "stone" => print_stone(rt, alloc, short(count as u128), bytes),
-        "tapscript" => print_tapscript(rt, count, bytes),
-        _ => print_room(rt, alloc, bytes, count),
+        "stone" => print_stone(page, alloc, short(count as u128), bytes),
+        "tapscript" => print_tapscript(page, count, bytes),
+        _ => print_room(page, alloc, bytes, count),
     }
 }
 
 /// The same of a number and of the bytes that hex digits spell.
-fn run_count(rt: &impl Print, alloc: Global, word: &str, rest: &str) -> io::Result<()> {
+fn run_count(page: &mut Page, alloc: Global, word: &str, rest: &str) {
     let (count, digits) = rest.split_once(' ').unwrap_or((rest, ""));
     match bytes_of(alloc, digits) {
-        Some(bytes) => run_counted(rt, alloc, word, count.parse().unwrap_or(0), &bytes),
-        None => say(rt, NO_ROW),
+        Some(bytes) => run_counted(page, alloc, word, count.parse().unwrap_or(0), &bytes),
+        None => page.say(NO_ROW),
     }
 }
 
 /// Prints numbers behind the bytes that hex digits spell.
-fn run_put(rt: &impl Print, alloc: Global, rest: &str) -> io::Result<()> {
+fn run_put(page: &mut Page, alloc: Global, rest: &str) {
     let (digits, numbers) = rest.split_once(' ').unwrap_or((rest, ""));
     match bytes_of(alloc, digits) {
-        Some(front) => print_put(rt, alloc, &front, numbers),
-        None => say(rt, NO_ROW),
+        Some(front) => print_put(page, alloc, &front, numbers),
+        None => page.say(NO_ROW),
     }
 }
 
 /// Prints what texts and numbers say.
-fn run_text(rt: &impl Print, alloc: Global, word: &str, rest: &str) -> io::Result<()> {
+fn run_text(page: &mut Page, alloc: Global, word: &str, rest: &str) {
     match word {
-        "text" => print_id(rt, read_id_text(rest.as_bytes())),
-        "profile" => print_profile(rt, rest),
-        "height" | "sat" => print_minted(rt, word, rest),
-        "ranges" => print_steps(rt, alloc, rest),
-        "order" => print_order(rt, rest),
-        "made" => print_made(rt, alloc, rest),
-        _ => print_numbers(rt, word, numbers_of(rest)),
+        "text" => print_id(page, read_id_text(rest.as_bytes())),
+        "profile" => print_profile(page, rest),
+        "height" | "sat" => print_minted(page, word, rest),
+        "ranges" => print_steps(page, alloc, rest),
+        "order" => print_order(page, rest),
+        "made" => print_made(page, alloc, rest),
+        _ => print_numbers(page, word, numbers_of(rest)),
     }
 }
 
 /// Prints what a row says. What is timed is done so many times.
-fn run(rt: &impl Print, alloc: Global, row: &str, times: u32) -> io::Result<()> {
+fn run(page: &mut Page, alloc: Global, row: &str, times: u32) {
     let (word, rest) = row.split_once(' ').unwrap_or((row, ""));
     match word {
         "block" | "items" | "envelopes" | "script" | "route" | "listing" => {
-            run_parts(rt, alloc, word, rest, times)
+            run_parts(page, alloc, word, rest, times)
         }
         "fronts" | "value" | "named" | "number" | "fields" | "kinds" => {
-            run_digits(rt, alloc, word, rest)
+            run_digits(page, alloc, word, rest)
         }
-        "stone" | "tapscript" | "room" => run_count(rt, alloc, word, rest),
-        "put" => run_put(rt, alloc, rest),
-        _ => run_text(rt, alloc, word, rest),
+        "stone" | "tapscript" | "room" => run_count(page, alloc, word, rest),
+        "put" => run_put(page, alloc, rest),
+        _ => run_text(page, alloc, word, rest),
     }
 }
 
 /// Prints what each row of a text says. What is timed is done so many times.
 fn run_all(rt: &impl Print, alloc: Global, text: &str, times: u32) -> io::Result<()> {
+    let mut page = Page::new(alloc);
     for row in text.split('\n') {
         if !row.is_empty() {
-            run(rt, alloc, row, times)?;
+            page.clear();
+            run(&mut page, alloc, row, times);
+            print!(rt; "{}", page.as_str())?;
         }
     }
     Ok(())

@@ -1,6 +1,6 @@
 //! Bytes in hex digits and as text, and what is written into room.
 
-use std::io;
+use std::alloc::{AllocError, Global};
 
 /// More bytes than these are shown by their number alone, and by how many of them are digits.
 const MOST_SHOWN: usize = 80;
@@ -11,17 +11,82 @@ pub const FILLED: u8 = 0xaa;
 /// What is said of a row that can't be read, or for which there is no memory.
 pub const NO_ROW: &str = "no row, or no memory";
 
-/// A text, in a line.
-pub fn say(rt: &impl Print, text: &str) -> io::Result<()> {
-    println!(rt; "{text}")
+/// What a row prints.
+#[derive(Drop)]
+pub struct Page {
+    /// What is printed so far.
+    pub text: String,
+    /// Whether there was memory for all of it.
+    is_whole: bool,
 }
 
-/// Bytes in hex digits.
-pub fn print_hex(rt: &impl Print, bytes: &[u8]) -> io::Result<()> {
-    for byte in bytes {
-        print!(rt; "{byte:02x}")?;
+impl Page {
+    /// A page on which nothing is printed.
+    pub fn new(alloc: Global) -> Page {
+        Page {
+            text: String::new(alloc),
+            is_whole: true,
+        }
     }
-    Ok(())
+
+    /// What is printed, or that there was no memory for it.
+    pub fn as_str(&self) -> &str {
+        if self.is_whole {
+            return self.text.as_str();
+        }
+        "no memory\n"
+    }
+
+    /// Clears the page.
+    pub fn clear(&mut self) {
+        self.text.clear();
+        self.is_whole = true;
+    }
+
+    /// Keeps in mind whether something could be put on the page.
+    pub fn keep(&mut self, put: Result<(), AllocError>) {
+        if put.is_err() {
+            self.is_whole = false;
+        }
+    }
+
+    /// Puts a text.
+    pub fn put(&mut self, text: &str) {
+        let put = self.text.push_str(text);
+        self.keep(put);
+    }
+
+    /// Puts a text, in a line.
+    pub fn say(&mut self, text: &str) {
+        self.put(text);
+        self.put("\n");
+    }
+}
+
+/// Puts what `write!` writes on a page.
+macro_rules! put {
+    ($page:ident; $($written:tt)*) => {{
+        let put = write!($page.text, $($written)*);
+        $page.keep(put)
+    }};
+}
+
+/// The same, in a line.
+macro_rules! put_line {
+    ($page:ident; $($written:tt)*) => {{
+        let put = writeln!($page.text, $($written)*);
+        $page.keep(put)
+    }};
+}
+
+pub(crate) use put;
+pub(crate) use put_line;
+
+/// Bytes in hex digits.
+pub fn print_hex(page: &mut Page, bytes: &[u8]) {
+    for byte in bytes {
+        put!(page; "{byte:02x}");
+    }
 }
 
 /// How many of some bytes are digits.
@@ -34,17 +99,17 @@ fn digits_in(bytes: &[u8]) -> usize {
 }
 
 /// Bytes in hex digits, or how many they are.
-pub fn print_bytes(rt: &impl Print, bytes: &[u8]) -> io::Result<()> {
+pub fn print_bytes(page: &mut Page, bytes: &[u8]) {
     if bytes.len() > MOST_SHOWN {
-        return print!(rt; "{} bytes, {} digits", bytes.len(), digits_in(bytes));
+        return put!(page; "{} bytes, {} digits", bytes.len(), digits_in(bytes));
     }
-    print_hex(rt, bytes)
+    print_hex(page, bytes)
 }
 
 /// Bytes in hex digits, in a line.
-pub fn print_line(rt: &impl Print, bytes: &[u8]) -> io::Result<()> {
-    print_hex(rt, bytes)?;
-    say(rt, "")
+pub fn print_line(page: &mut Page, bytes: &[u8]) {
+    print_hex(page, bytes);
+    page.say("")
 }
 
 /// Whether nothing was written into these.
@@ -58,15 +123,15 @@ fn is_untouched(behind: &[u8]) -> bool {
 }
 
 /// So many bytes in front of room in hex digits, and whether nothing was written behind them.
-pub fn print_bytes_in(rt: &impl Print, room: &[u8], len: usize) -> io::Result<()> {
+pub fn print_bytes_in(page: &mut Page, room: &[u8], len: usize) {
     let (front, behind) = room.split_at(len.min(room.len()));
-    print_hex(rt, front)?;
-    println!(rt; ", untouched: {}", is_untouched(behind))
+    print_hex(page, front);
+    put_line!(page; ", untouched: {}", is_untouched(behind))
 }
 
 /// The same of a text.
-pub fn print_text_in(rt: &impl Print, room: &[u8], len: usize) -> io::Result<()> {
+pub fn print_text_in(page: &mut Page, room: &[u8], len: usize) {
     let (front, behind) = room.split_at(len.min(room.len()));
     let text = str::from_utf8(front).unwrap_or("no text");
-    println!(rt; "{text}, untouched: {}", is_untouched(behind))
+    put_line!(page; "{text}, untouched: {}", is_untouched(behind))
 }

@@ -1,9 +1,9 @@
 //! Lists of satoshis, by steps.
 
-use crate::print::say;
+use crate::print::{Page, put, put_line};
 use ox_range::Ranges;
 use std::alloc::Global;
-use std::{io, mem};
+use std::mem;
 
 /// A list, and one that is kept beside it.
 #[derive(Drop)]
@@ -85,47 +85,46 @@ fn change(alloc: Global, lists: &mut Lists, word: &str, number: u64) -> bool {
 }
 
 /// How many numbers a list has, whether it is empty, and its runs.
-fn print_list(rt: &impl Print, list: &Ranges) -> io::Result<()> {
-    print!(rt; "{} empty: {}", list.len(), list.is_empty())?;
+fn print_list(page: &mut Page, list: &Ranges) {
+    put!(page; "{} empty: {}", list.len(), list.is_empty());
     for run in list.runs() {
-        print!(rt; " {}+{}", run.first, run.count)?;
+        put!(page; " {}+{}", run.first, run.count);
     }
-    say(rt, "")
+    page.say("")
 }
 
 /// The number at a place.
-fn print_at(rt: &impl Print, list: &Ranges, place: u64) -> io::Result<()> {
+fn print_at(page: &mut Page, list: &Ranges, place: u64) {
     if place >= list.len() {
-        return say(rt, "no place");
+        return page.say("no place");
     }
-    println!(rt; "{}", list.at(place))
+    put_line!(page; "{}", list.at(place))
 }
 
 /// Does what a step says.
-fn step(rt: &impl Print, alloc: Global, lists: &mut Lists, text: &str) -> io::Result<()> {
+fn step(page: &mut Page, alloc: Global, lists: &mut Lists, text: &str) {
     let (word, number) = text.split_once(':').unwrap_or((text, ""));
     let number = number.parse().unwrap_or(0);
     match word {
-        "show" => print_list(rt, &lists.list),
-        "at" => print_at(rt, &lists.list, number),
-        "of" => println!(rt; "{:?}", lists.list.place_of(number)),
+        "show" => print_list(page, &lists.list),
+        "at" => print_at(page, &lists.list, number),
+        "of" => put_line!(page; "{:?}", lists.list.place_of(number)),
         _ => {
             if change(alloc, lists, word, number) {
-                return Ok(());
+                return;
             }
-            say(rt, "no memory, or no step")
+            page.say("no memory, or no step")
         }
     }
 }
 
 /// Does what the steps of a row say, from two lists of no number on.
-pub fn print_steps(rt: &impl Print, alloc: Global, steps: &str) -> io::Result<()> {
+pub fn print_steps(page: &mut Page, alloc: Global, steps: &str) {
     let mut lists = Lists {
         list: Ranges::empty(alloc),
         beside: Ranges::empty(alloc),
     };
     for text in steps.split(' ') {
-        step(rt, alloc, &mut lists, text)?;
+        step(page, alloc, &mut lists, text);
     }
-    Ok(())
 }

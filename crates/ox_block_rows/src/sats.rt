@@ -2,20 +2,19 @@
 
 ghost use Rattle.ox_sat.specs.Profiles.{IsProfile};
 
-use crate::print::{FILLED, print_text_in, say};
+use crate::print::{FILLED, Page, print_text_in, put, put_line};
 use ox_sat::{
     Profile, ProfileName, degree_of, first, height_of, profile_of, rarity_of, read_sat, subsidy,
     write_name,
 };
-use std::io;
 
 /// The profile that a word names: by its word and its byte, by the byte, and by its numbers.
-pub fn print_profile(rt: &impl Print, word: &str) -> io::Result<()> {
+pub fn print_profile(page: &mut Page, word: &str) {
     let Some(name) = ProfileName::of_word(word.as_bytes()) else {
-        return say(rt, "no profile");
+        return page.say("no profile");
     };
     let byte = name.byte();
-    println!(rt;
+    put_line!(page;
         "{} {byte} {:?} {:?}",
         name.word(),
         ProfileName::of_byte(byte),
@@ -24,36 +23,36 @@ pub fn print_profile(rt: &impl Print, word: &str) -> io::Result<()> {
 }
 
 /// How many satoshis a height mints, and the first of them.
-fn print_height(rt: &impl Print, p: &Profile, height: u64) -> io::Result<()>
+fn print_height(page: &mut Page, p: &Profile, height: u64)
     requires { IsProfile p.now }
 {
-    println!(rt; "{} from {}", subsidy(p, height), first(p, height))
+    put_line!(page; "{} from {}", subsidy(p, height), first(p, height))
 }
 
 /// The satoshi that a text spells: its number, its height, its degree, its rarity and its name.
-fn print_sat(rt: &impl Print, p: &Profile, text: &str) -> io::Result<()>
+fn print_sat(page: &mut Page, p: &Profile, text: &str)
     requires { IsProfile p.now }
 {
     let Ok(sat) = read_sat(p, text) else {
-        return say(rt, "no satoshi");
+        return page.say("no satoshi");
     };
     let degree = degree_of(p, sat);
     let rarity = rarity_of(&degree);
-    print!(rt; "{sat} of {}, {degree:?}, {rarity:?}, ", height_of(p, sat))?;
+    put!(page; "{sat} of {}, {degree:?}, {rarity:?}, ", height_of(p, sat));
     let mut room = [FILLED; 11];
     let len = write_name(p, sat, &mut room);
-    print_text_in(rt, &room, len)
+    print_text_in(page, &room, len)
 }
 
 /// Prints what a profile's word and a text behind it say of a height, or of a satoshi.
-pub fn print_minted(rt: &impl Print, word: &str, text: &str) -> io::Result<()> {
+pub fn print_minted(page: &mut Page, word: &str, text: &str) {
     let (name, text) = text.split_once(' ').unwrap_or((text, ""));
     let Some(name) = ProfileName::of_word(name.as_bytes()) else {
-        return say(rt, "no profile");
+        return page.say("no profile");
     };
     let p = profile_of(name);
     if word == "sat" {
-        return print_sat(rt, &p, text);
+        return print_sat(page, &p, text);
     }
-    print_height(rt, &p, text.parse().unwrap_or(0))
+    print_height(page, &p, text.parse().unwrap_or(0))
 }

@@ -1,121 +1,118 @@
 //! What scripts read as.
 
-use crate::print::{NO_ROW, print_bytes, say};
+use crate::print::{NO_ROW, Page, print_bytes, put, put_line};
 use ox_bytes::{Bytes, Memory};
 use ox_envelope::{Envelope, InsId, Inscribed, envelopes_of, parse, write_id};
 use ox_runestone::is_stone;
 use ox_script::{instructions_of, is_return, is_taproot, tapscript_place};
 use std::alloc::Global;
-use std::io;
 
 /// A field's name, and its value if there is one.
-fn print_field(rt: &impl Print, name: &str, value: &Option<Bytes>) -> io::Result<()> {
+fn print_field(page: &mut Page, name: &str, value: &Option<Bytes>) {
     if let Some(bytes) = value {
-        print!(rt; " {name}=")?;
-        print_bytes(rt, bytes.as_slice())?;
+        put!(page; " {name}=");
+        print_bytes(page, bytes.as_slice());
     }
-    Ok(())
 }
 
 /// An id by its text, or `none`, with a space in front.
-fn print_text(rt: &impl Print, id: Option<InsId>) -> io::Result<()> {
+fn print_text(page: &mut Page, id: Option<InsId>) {
     let Some(id) = id else {
-        return print!(rt; " none");
+        return page.put(" none");
     };
     let mut into = [0; 75];
     let len = write_id(&id, &mut into);
     let (text, _) = into.split_at(len);
-    print!(rt; " {}", std::str::from_utf8(text).unwrap_or("no text"))
+    put!(page; " {}", std::str::from_utf8(text).unwrap_or("no text"))
 }
 
 /// An id in a line.
-pub fn print_id(rt: &impl Print, id: Option<InsId>) -> io::Result<()> {
-    print_text(rt, id)?;
-    say(rt, "")
+pub fn print_id(page: &mut Page, id: Option<InsId>) {
+    print_text(page, id);
+    page.say("")
 }
 
 /// The pushes of an envelope, each in hex digits.
-fn print_pushes(rt: &impl Print, envelope: &Envelope<'_>) -> io::Result<()> {
-    print!(rt; "  pushes")?;
+fn print_pushes(page: &mut Page, envelope: &Envelope<'_>) {
+    page.put("  pushes");
     for push in envelope.pushes() {
-        print!(rt; " ")?;
-        print_bytes(rt, *push)?;
+        page.put(" ");
+        print_bytes(page, *push);
     }
-    say(rt, "")
+    page.say("")
 }
 
 /// The fields of an envelope, its body and its marks.
-fn print_fields(rt: &impl Print, says: &Inscribed) -> io::Result<()> {
-    print!(rt; "  marks={}", says.marks)?;
-    print_field(rt, "type", &says.content_type)?;
-    print_field(rt, "pointer", &says.pointer)?;
-    print_field(rt, "metadata", &says.metadata)?;
-    print_field(rt, "protocol", &says.metaprotocol)?;
-    print_field(rt, "encoding", &says.encoding)?;
-    print_field(rt, "body", &says.body)
+fn print_fields(page: &mut Page, says: &Inscribed) {
+    put!(page; "  marks={}", says.marks);
+    print_field(page, "type", &says.content_type);
+    print_field(page, "pointer", &says.pointer);
+    print_field(page, "metadata", &says.metadata);
+    print_field(page, "protocol", &says.metaprotocol);
+    print_field(page, "encoding", &says.encoding);
+    print_field(page, "body", &says.body)
 }
 
 /// The ids that an envelope names.
-fn print_ids(rt: &impl Print, parents: &[InsId], delegate: Option<InsId>) -> io::Result<()> {
-    print!(rt; " parents")?;
+fn print_ids(page: &mut Page, parents: &[InsId], delegate: Option<InsId>) {
+    page.put(" parents");
     for id in parents {
-        print_text(rt, Some(*id))?;
+        print_text(page, Some(*id));
     }
-    print!(rt; " delegate")?;
-    print_id(rt, delegate)
+    page.put(" delegate");
+    print_id(page, delegate)
 }
 
 /// The fields of an envelope, its body, its marks, and the ids that it names.
-fn print_inscribed(rt: &impl Print, alloc: Global, says: &Inscribed) -> io::Result<()> {
-    print_fields(rt, says)?;
+fn print_inscribed(page: &mut Page, alloc: Global, says: &Inscribed) {
+    print_fields(page, says);
     match says.parents.copy(alloc) {
-        Ok(parents) => print_ids(rt, parents.as_slice(), says.delegate),
-        Err(_) => say(rt, NO_ROW),
+        Ok(parents) => print_ids(page, parents.as_slice(), says.delegate),
+        Err(_) => page.say(NO_ROW),
     }
 }
 
 /// What an envelope says.
-fn print_envelope(rt: &impl Print, alloc: Global, envelope: &Envelope<'_>) -> io::Result<()> {
-    print_pushes(rt, envelope)?;
+fn print_envelope(page: &mut Page, alloc: Global, envelope: &Envelope<'_>) {
+    print_pushes(page, envelope);
     match parse(alloc, envelope) {
-        Ok(says) => print_inscribed(rt, alloc, &says),
-        Err(_) => say(rt, NO_ROW),
+        Ok(says) => print_inscribed(page, alloc, &says),
+        Err(_) => page.say(NO_ROW),
     }
 }
 
 /// How many envelopes there are, and what each says.
-fn print_envelopes(rt: &impl Print, alloc: Global, found: &[Envelope<'_>]) -> io::Result<()> {
-    println!(rt; "{} envelopes", found.len())?;
+fn print_envelopes(page: &mut Page, alloc: Global, found: &[Envelope<'_>]) {
+    put_line!(page; "{} envelopes", found.len());
     for envelope in found {
-        print_envelope(rt, alloc, envelope)?;
+        print_envelope(page, alloc, envelope);
     }
-    Ok(())
 }
 
 /// The envelopes of a script, and what each says.
-pub fn print_script(rt: &impl Print, alloc: Global, script: &[u8]) -> io::Result<()> {
+pub fn print_script(page: &mut Page, alloc: Global, script: &[u8]) {
     match envelopes_of(alloc, script) {
-        Ok(found) => print_envelopes(rt, alloc, found.as_slice()),
-        Err(_) => say(rt, NO_ROW),
+        Ok(found) => print_envelopes(page, alloc, found.as_slice()),
+        Err(_) => page.say(NO_ROW),
     }
 }
 
 /// The items of a script, whether it is cut short, and whether its end stays: it isn't known to be
 /// cut before the last item, and no item comes behind that.
-pub fn print_listing(rt: &impl Print, script: &[u8]) -> io::Result<()> {
+pub fn print_listing(page: &mut Page, script: &[u8]) {
     let mut items = instructions_of(script);
     let mut stays = true;
     while let Some(item) = items.next() {
-        print!(rt; "{item:?} ")?;
+        put!(page; "{item:?} ");
         stays = stays && !items.met_cut();
     }
     let cut = items.met_cut();
-    println!(rt; "cut: {cut}, stays: {}", stays && items.next().is_none())
+    put_line!(page; "cut: {cut}, stays: {}", stays && items.next().is_none())
 }
 
 /// Which kinds of output a script is.
-pub fn print_kinds(rt: &impl Print, script: &[u8]) -> io::Result<()> {
-    println!(rt;
+pub fn print_kinds(page: &mut Page, script: &[u8]) {
+    put_line!(page;
         "return: {}, taproot: {}, runestone: {}",
         is_return(script),
         is_taproot(script),
@@ -124,8 +121,8 @@ pub fn print_kinds(rt: &impl Print, script: &[u8]) -> io::Result<()> {
 }
 
 /// The place of the tapscript of a witness of so many items, which ends with this one.
-pub fn print_tapscript(rt: &impl Print, items: usize, last: &[u8]) -> io::Result<()> {
-    println!(rt; "{:?}", tapscript_place(items, last))
+pub fn print_tapscript(page: &mut Page, items: usize, last: &[u8]) {
+    put_line!(page; "{:?}", tapscript_place(items, last))
 }
 
 /// How many items a script has.
@@ -138,12 +135,12 @@ fn items_in(script: &[u8]) -> usize {
 }
 
 /// How many items a script has, which are counted so many times.
-pub fn print_items(rt: &impl Print, script: &[u8], times: u32) -> io::Result<()> {
+pub fn print_items(page: &mut Page, script: &[u8], times: u32) {
     let mut items = items_in(script);
     for _ in 1..times {
         items = items_in(script);
     }
-    println!(rt; "{items} items")
+    put_line!(page; "{items} items")
 }
 
 /// Whether an envelope has a body. `Memory` where there is none for what it says.
@@ -178,9 +175,9 @@ fn envelopes_often(alloc: Global, script: &[u8], times: u32) -> Result<(usize, u
 
 /// How many envelopes a script has, and how many of them have a body, which are searched and read
 /// so many times.
-pub fn print_tally(rt: &impl Print, alloc: Global, script: &[u8], times: u32) -> io::Result<()> {
+pub fn print_tally(page: &mut Page, alloc: Global, script: &[u8], times: u32) {
     match envelopes_often(alloc, script, times) {
-        Ok((found, bodies)) => println!(rt; "{found} envelopes, {bodies} with a body"),
-        Err(_) => say(rt, NO_ROW),
+        Ok((found, bodies)) => put_line!(page; "{found} envelopes, {bodies} with a body"),
+        Err(_) => page.say(NO_ROW),
     }
 }

@@ -1,10 +1,9 @@
 //! What runestones read as, and how they are written again.
 
-use crate::print::{NO_ROW, print_line, say};
+use crate::print::{NO_ROW, Page, print_line, put_line};
 use ox_bytes::Bytes;
 use ox_runestone::{Artifact, Edict, decipher, encipher, ids_rise, is_stone};
 use std::alloc::Global;
-use std::io;
 
 /// Whether the ids of edicts rise once they are turned round. `None` where there is no memory for
 /// them.
@@ -15,49 +14,39 @@ fn rise_turned(alloc: Global, edicts: &[Edict]) -> Option<bool> {
 }
 
 /// A runestone's edicts, and its script.
-fn print_written(
-    rt: &impl Print,
-    alloc: Global,
-    edicts: &[Edict],
-    script: &[u8],
-) -> io::Result<()> {
+fn print_written(page: &mut Page, alloc: Global, edicts: &[Edict], script: &[u8]) {
     let turned = rise_turned(alloc, edicts);
-    println!(rt;
+    put_line!(page;
         "  ids rise: {}, turned round: {turned:?}",
         ids_rise(edicts)
-    )?;
-    print_line(rt, script)
+    );
+    print_line(page, script)
 }
 
 /// An artifact, and the script of a runestone.
-fn print_artifact(
-    rt: &impl Print,
-    alloc: Global,
-    artifact: &Artifact,
-    script: &Option<Bytes>,
-) -> io::Result<()> {
-    println!(rt; "{artifact:?}")?;
+fn print_artifact(page: &mut Page, alloc: Global, artifact: &Artifact, script: &Option<Bytes>) {
+    put_line!(page; "{artifact:?}");
     match (artifact, script) {
         (Artifact::Stone(stone), Some(script)) => {
-            print_written(rt, alloc, stone.edicts.as_slice(), script.as_slice())
+            print_written(page, alloc, stone.edicts.as_slice(), script.as_slice())
         }
-        (Artifact::Stone(_), None) => say(rt, NO_ROW),
-        (Artifact::Cenotaph { .. }, _) => Ok(()),
+        (Artifact::Stone(_), None) => page.say(NO_ROW),
+        (Artifact::Cenotaph { .. }, _) => {}
     }
 }
 
 /// What a script reads as in a transaction of so many outputs, and how a runestone is written
 /// again.
-pub fn print_stone(rt: &impl Print, alloc: Global, outputs: u32, script: &[u8]) -> io::Result<()> {
+pub fn print_stone(page: &mut Page, alloc: Global, outputs: u32, script: &[u8]) {
     if !is_stone(script) {
-        return say(rt, "no runestone");
+        return page.say("no runestone");
     }
     let Ok(artifact) = decipher(alloc, script, outputs) else {
-        return say(rt, NO_ROW);
+        return page.say(NO_ROW);
     };
     let again = match &artifact {
         Artifact::Stone(stone) => encipher(alloc, stone, outputs).ok(),
         Artifact::Cenotaph { .. } => None,
     };
-    print_artifact(rt, alloc, &artifact, &again)
+    print_artifact(page, alloc, &artifact, &again)
 }
