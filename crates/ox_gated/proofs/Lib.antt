@@ -5,6 +5,7 @@ mod CurrentByFront
 mod NewFiles
 pub mod OldReading
 mod OneFile
+mod OneWrite
 mod OpenedHolds
 mod OtherGate
 mod Pieces

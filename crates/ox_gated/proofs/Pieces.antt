@@ -65,7 +65,7 @@ both_torn file at m n old mid new first then_ = record {
   others = then_.others ∙ first.others;
 }
 
-not_torn : (file : Which) (at n : ℕ) (old new : Files) → new ≡ old → TornFile file at n old new
+pub not_torn : (file : Which) (at n : ℕ) (old new : Files) → new ≡ old → TornFile file at n old new
 not_torn file at n old new same = subst (λ (f : Files). TornFile file at n old f) (sym same) (record { torn = torn_none at n (file_of old file); others = refl })
 
 module _ {S : Type 0} (means : Meanings S) (only_now : (site : S) (r : Remains) → means.left_since site (means.clock site) r → means.may_leave site r)

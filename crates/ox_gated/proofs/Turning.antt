@@ -150,7 +150,7 @@ module _ {S : Type 0} (means : Meanings S) (tail : Kept) (old : S) (holds : Hold
   -- ---- filling
 
   module _ (shut : tail.other_closed ≡ true) where
-    shut_now : (rest : List ℕ) × (file_of files beside ≡ 0 ∷ rest)
+    pub shut_now : (rest : List ℕ) × (file_of files beside ≡ 0 ∷ rest)
     shut_now = shut_parts (file_of files beside) some_beside (sym holds.closed ∙ shut)
 
     pub fill_within : 1 ≤ length (file_of files beside)

@@ -1,8 +1,12 @@
-use Rattle.std.proofs.Common.{◌≡◌, ◌∙◌, ◌+◌, ℕ, sym, subst}
+use Rattle.std.proofs.Common.{◌≡◌, ◌∙◌, ◌+◌, ℕ, sym, ap, subst}
 use Rattle.ox_outside.specs.Runs.{LeavesOnly}
 use Rattle.ox_gated.specs.Reading.{reading, with_payload}
 use Rattle.ox_gated.specs.Tail.{Kept, Holds, IsBeforeOrAfter}
 use Rattle.ox_gated.proofs.AppendKeepsTail.{first_within, moments_first, moments_both, staged_within, staged_settled, reads_after, holds_after}
+use Rattle.std.proofs.lemmas.Result.{err_from_is_err_and}
+use Rattle.ox_outside.proofs.Counts.{no_fault_then, stops_after, stops_at_none, then_rose}
+use Rattle.ox_gated.proofs.OneWrite.{if_none, on_failed}
+use Rattle.ox_gated.proofs.Writing.{all_worked, ends_failed, writes_then}
 use Rattle.ox_gated.proofs.tail.Tail.append.Goals as goal
 
 pub write_synced-requires : goal.write_synced-requires
@@ -12,37 +16,6 @@ write_synced-requires g c told =
     let tail : Kept = record { file = i.file; head = i.head; records = i.records; gate = i.gate; other_closed = i.other_closed } in
     let h : Holds g.S.Site tail c.args.site.now = subst (λ (t : Kept). Holds g.S.Site t c.args.site.now) (sym c.self.view_is) (c.requires.holds told) in
     first_within tail.head.version c.args.framed.now b.small (g.S.Site.seen c.args.site.now) tail h.keeps
-
-pub returns-in_err-write_synced-clause-any_moment : goal.returns-in_err-write_synced-clause-any_moment
-returns-in_err-write_synced-clause-any_moment g c told =
-    let b = c.as_slice-bytes.ensures in
-    let i = c.self.inside in
-    let tail : Kept = record { file = i.file; head = i.head; records = i.records; gate = i.gate; other_closed = i.other_closed } in
-    let h : Holds g.S.Site tail c.args.site.now = subst (λ (t : Kept). Holds g.S.Site t c.args.site.now) (sym c.self.view_is) (c.requires.holds told) in
-    subst (λ (t : Kept). LeavesOnly g.S.Site c.args.site.now c.write_synced.new.site (λ r. IsBeforeOrAfter t.head.version c.args.framed.now (g.S.Site.seen c.args.site.now) r.files)) c.self.view_is
-    (moments_first g.S.Site c.args.framed.now b.small tail c.as_slice-bytes.result.now b.bytes c.args.site.now c.write_synced.new.site h (c.write_synced.ensures.moments h.settled))
-
-pub returns-in_err-write_synced-2-clause-any_moment : goal.returns-in_err-write_synced-2-clause-any_moment
-returns-in_err-write_synced-2-clause-any_moment g c told =
-    let b = c.as_slice-bytes.ensures in
-    let i = c.self.inside in
-    let first = c.in_ok-write_synced.ensures in
-    let tail : Kept = record { file = i.file; head = i.head; records = i.records; gate = i.gate; other_closed = i.other_closed } in
-    let h : Holds g.S.Site tail c.args.site.now = subst (λ (t : Kept). Holds g.S.Site t c.args.site.now) (sym c.self.view_is) (c.requires.holds told) in
-    let settled = staged_settled g.S.Site c.args.framed.now b.small tail c.as_slice-bytes.result.now b.bytes c.args.site.now c.write_synced.new.site h (first.written told) first.durable first.others in
-    subst (λ (t : Kept). LeavesOnly g.S.Site c.args.site.now c.write_synced-2.new.site (λ r. IsBeforeOrAfter t.head.version c.args.framed.now (g.S.Site.seen c.args.site.now) r.files)) c.self.view_is
-    (moments_both g.S.Site c.args.framed.now b.small tail c.as_slice-bytes.result.now b.bytes c.args.site.now c.write_synced.new.site h c.write_synced-2.new.site (first.moments h.settled) (first.written told) (c.write_synced-2.ensures.moments settled))
-
-pub returns-clause-any_moment : goal.returns-clause-any_moment
-returns-clause-any_moment g c told =
-    let b = c.as_slice-bytes.ensures in
-    let i = c.self.inside in
-    let first = c.in_ok-write_synced.ensures in
-    let tail : Kept = record { file = i.file; head = i.head; records = i.records; gate = i.gate; other_closed = i.other_closed } in
-    let h : Holds g.S.Site tail c.args.site.now = subst (λ (t : Kept). Holds g.S.Site t c.args.site.now) (sym c.self.view_is) (c.requires.holds told) in
-    let settled = staged_settled g.S.Site c.args.framed.now b.small tail c.as_slice-bytes.result.now b.bytes c.args.site.now c.write_synced.new.site h (first.written told) first.durable first.others in
-    subst (λ (t : Kept). LeavesOnly g.S.Site c.args.site.now c.write_synced-2.new.site (λ r. IsBeforeOrAfter t.head.version c.args.framed.now (g.S.Site.seen c.args.site.now) r.files)) c.self.view_is
-    (moments_both g.S.Site c.args.framed.now b.small tail c.as_slice-bytes.result.now b.bytes c.args.site.now c.write_synced.new.site h c.write_synced-2.new.site (first.moments h.settled) (first.written told) (c.in_ok-write_synced-2.ensures.moments settled))
 
 pub write_synced-requires-2 : goal.write_synced-requires-2
 write_synced-requires-2 g c told_mid =
@@ -54,26 +27,79 @@ write_synced-requires-2 g c told_mid =
     let h : Holds g.S.Site tail c.args.site.now = subst (λ (t : Kept). Holds g.S.Site t c.args.site.now) (sym c.self.view_is) (c.requires.holds told) in
     staged_within g.S.Site c.args.framed.now b.small tail c.as_slice-bytes.result.now b.bytes c.args.site.now c.write_synced.new.site h (first.written told)
 
-pub returns-clause-appended : goal.returns-clause-appended
-returns-clause-appended g c told =
-    let b = c.as_slice-bytes.ensures in
-    let i = c.self.inside in
-    let first = c.in_ok-write_synced.ensures in
-    let told_mid = first.writes.calls.as_told ∙ told in
-    let tail : Kept = record { file = i.file; head = i.head; records = i.records; gate = i.gate; other_closed = i.other_closed } in
-    let h : Holds g.S.Site tail c.args.site.now = subst (λ (t : Kept). Holds g.S.Site t c.args.site.now) (sym c.self.view_is) (c.requires.holds told) in
-    subst (λ (t : Kept). reading t.head.version (g.S.Site.seen c.write_synced-2.new.site) ≡ with_payload c.args.framed.now (reading t.head.version (g.S.Site.seen c.args.site.now))) c.self.view_is
-    (reads_after g.S.Site c.args.framed.now b.small tail c.as_slice-bytes.result.now b.bytes c.args.site.now c.write_synced.new.site h c.write_synced-2.new.site (first.written told) (c.in_ok-write_synced-2.ensures.written told_mid))
+pub returns-in_err-write_synced : goal.returns-in_err-write_synced
+returns-in_err-write_synced g c =
+    let result = c.from_residual.result in
+    let p = err_from_is_err_and result c.from_residual.ensures.1 in record {
+      holds = λ told. if_none result p.0 p.1 _;
+      appended = λ told. if_none result p.0 p.1 _;
+      kept = if_none result p.0 p.1 _;
+      any_moment = λ told.
+          let b = c.as_slice-bytes.ensures in
+          let i = c.self.inside in
+          let tail : Kept = record { file = i.file; head = i.head; records = i.records; gate = i.gate; other_closed = i.other_closed } in
+          let h : Holds g.S.Site tail c.args.site.now = subst (λ (t : Kept). Holds g.S.Site t c.args.site.now) (sym c.self.view_is) (c.requires.holds told) in
+          subst (λ (t : Kept). LeavesOnly g.S.Site c.args.site.now c.write_synced.new.site (λ r. IsBeforeOrAfter t.head.version c.args.framed.now (g.S.Site.seen c.args.site.now) r.files)) c.self.view_is
+          (moments_first g.S.Site c.args.framed.now b.small tail c.as_slice-bytes.result.now b.bytes c.args.site.now c.write_synced.new.site h (c.write_synced.ensures.moments h.settled));
+      failed = on_failed result p.0 p.1 _ c.in_err-write_synced.ensures.failed;
+      counted = ends_failed _ result p.0 _ _ p.1 c.write_synced.ensures.counted;
+      writes = c.write_synced.ensures.writes;
+    }
 
-pub returns-clause-holds : goal.returns-clause-holds
-returns-clause-holds g c told =
-    let b = c.as_slice-bytes.ensures in
-    let i = c.self.inside in
-    let first = c.in_ok-write_synced.ensures in
-    let second = c.in_ok-write_synced-2.ensures in
-    let told_mid = first.writes.calls.as_told ∙ told in
-    let tail : Kept = record { file = i.file; head = i.head; records = i.records; gate = i.gate; other_closed = i.other_closed } in
-    let h : Holds g.S.Site tail c.args.site.now = subst (λ (t : Kept). Holds g.S.Site t c.args.site.now) (sym c.self.view_is) (c.requires.holds told) in
-    let settled = staged_settled g.S.Site c.args.framed.now b.small tail c.as_slice-bytes.result.now b.bytes c.args.site.now c.write_synced.new.site h (first.written told) first.durable first.others in
-    subst (λ (n : ℕ). Holds g.S.Site (record tail { records = i.records + 1; gate = i.gate + n }) c.write_synced-2.new.site) (sym b.size)
-    (holds_after g.S.Site c.args.framed.now b.small tail c.as_slice-bytes.result.now b.bytes c.args.site.now c.write_synced.new.site h c.write_synced-2.new.site (first.written told) (second.written told_mid) settled second.durable second.others)
+pub returns-in_err-write_synced-2 : goal.returns-in_err-write_synced-2
+returns-in_err-write_synced-2 g c =
+    let result = c.from_residual-in_err-write_synced-2.result in
+    let p = err_from_is_err_and result c.from_residual-in_err-write_synced-2.ensures.1 in record {
+      holds = λ told. if_none result p.0 p.1 _;
+      appended = λ told. if_none result p.0 p.1 _;
+      kept = if_none result p.0 p.1 _;
+      any_moment = λ told.
+          let b = c.as_slice-bytes.ensures in
+          let i = c.self.inside in
+          let first = c.in_ok-write_synced.ensures in
+          let tail : Kept = record { file = i.file; head = i.head; records = i.records; gate = i.gate; other_closed = i.other_closed } in
+          let h : Holds g.S.Site tail c.args.site.now = subst (λ (t : Kept). Holds g.S.Site t c.args.site.now) (sym c.self.view_is) (c.requires.holds told) in
+          let settled = staged_settled g.S.Site c.args.framed.now b.small tail c.as_slice-bytes.result.now b.bytes c.args.site.now c.write_synced.new.site h (first.written told) first.durable first.others in
+          subst (λ (t : Kept). LeavesOnly g.S.Site c.args.site.now c.write_synced-2.new.site (λ r. IsBeforeOrAfter t.head.version c.args.framed.now (g.S.Site.seen c.args.site.now) r.files)) c.self.view_is
+          (moments_both g.S.Site c.args.framed.now b.small tail c.as_slice-bytes.result.now b.bytes c.args.site.now c.write_synced.new.site h c.write_synced-2.new.site (first.moments h.settled) (first.written told) (c.write_synced-2.ensures.moments settled));
+      failed = on_failed result p.0 p.1 _ (then_rose _ _ _ c.in_ok-write_synced.ensures.writes.calls.none_fell.disk c.in_err-write_synced-2.ensures.failed);
+      counted = ends_failed _ result p.0 _ _ p.1 (stops_after _ _ _ _ _ _ (all_worked _ _ c.in_ok-write_synced.ensures.counted) c.write_synced-2.ensures.counted);
+      writes = writes_then g.S.Site g.met.S.Site.logs_now c.args.site.now c.write_synced.new.site c.write_synced-2.new.site c.in_ok-write_synced.ensures.writes c.write_synced-2.ensures.writes;
+    }
+
+pub returns : goal.returns
+returns g c = record {
+  holds = λ told.
+          let b = c.as_slice-bytes.ensures in
+          let i = c.self.inside in
+          let first = c.in_ok-write_synced.ensures in
+          let second = c.in_ok-write_synced-2.ensures in
+          let told_mid = first.writes.calls.as_told ∙ told in
+          let tail : Kept = record { file = i.file; head = i.head; records = i.records; gate = i.gate; other_closed = i.other_closed } in
+          let h : Holds g.S.Site tail c.args.site.now = subst (λ (t : Kept). Holds g.S.Site t c.args.site.now) (sym c.self.view_is) (c.requires.holds told) in
+          let settled = staged_settled g.S.Site c.args.framed.now b.small tail c.as_slice-bytes.result.now b.bytes c.args.site.now c.write_synced.new.site h (first.written told) first.durable first.others in
+          subst (λ (n : ℕ). Holds g.S.Site (record tail { records = i.records + 1; gate = i.gate + n }) c.write_synced-2.new.site) (sym b.size)
+          (holds_after g.S.Site c.args.framed.now b.small tail c.as_slice-bytes.result.now b.bytes c.args.site.now c.write_synced.new.site h c.write_synced-2.new.site (first.written told) (second.written told_mid) settled second.durable second.others);
+  appended = λ told.
+          let b = c.as_slice-bytes.ensures in
+          let i = c.self.inside in
+          let first = c.in_ok-write_synced.ensures in
+          let told_mid = first.writes.calls.as_told ∙ told in
+          let tail : Kept = record { file = i.file; head = i.head; records = i.records; gate = i.gate; other_closed = i.other_closed } in
+          let h : Holds g.S.Site tail c.args.site.now = subst (λ (t : Kept). Holds g.S.Site t c.args.site.now) (sym c.self.view_is) (c.requires.holds told) in
+          subst (λ (t : Kept). reading t.head.version (g.S.Site.seen c.write_synced-2.new.site) ≡ with_payload c.args.framed.now (reading t.head.version (g.S.Site.seen c.args.site.now))) c.self.view_is
+          (reads_after g.S.Site c.args.framed.now b.small tail c.as_slice-bytes.result.now b.bytes c.args.site.now c.write_synced.new.site h c.write_synced-2.new.site (first.written told) (c.in_ok-write_synced-2.ensures.written told_mid));
+  kept = (ap (λ (t : Kept). t.file) c.self.view_is, ap (λ (t : Kept). t.head) c.self.view_is, ap (λ (t : Kept). t.records + 1) c.self.view_is);
+  any_moment = λ told.
+          let b = c.as_slice-bytes.ensures in
+          let i = c.self.inside in
+          let first = c.in_ok-write_synced.ensures in
+          let tail : Kept = record { file = i.file; head = i.head; records = i.records; gate = i.gate; other_closed = i.other_closed } in
+          let h : Holds g.S.Site tail c.args.site.now = subst (λ (t : Kept). Holds g.S.Site t c.args.site.now) (sym c.self.view_is) (c.requires.holds told) in
+          let settled = staged_settled g.S.Site c.args.framed.now b.small tail c.as_slice-bytes.result.now b.bytes c.args.site.now c.write_synced.new.site h (first.written told) first.durable first.others in
+          subst (λ (t : Kept). LeavesOnly g.S.Site c.args.site.now c.write_synced-2.new.site (λ r. IsBeforeOrAfter t.head.version c.args.framed.now (g.S.Site.seen c.args.site.now) r.files)) c.self.view_is
+          (moments_both g.S.Site c.args.framed.now b.small tail c.as_slice-bytes.result.now b.bytes c.args.site.now c.write_synced.new.site h c.write_synced-2.new.site (first.moments h.settled) (first.written told) (c.in_ok-write_synced-2.ensures.moments settled));
+  failed = tt;
+  counted = stops_at_none _ _ _ _ _ (no_fault_then _ _ _ (all_worked _ _ c.in_ok-write_synced.ensures.counted) (all_worked _ _ c.in_ok-write_synced-2.ensures.counted));
+  writes = writes_then g.S.Site g.met.S.Site.logs_now c.args.site.now c.write_synced.new.site c.write_synced-2.new.site c.in_ok-write_synced.ensures.writes c.in_ok-write_synced-2.ensures.writes;
+}

@@ -1,0 +1,87 @@
+-- One write and its sync, and what is answered where a call failed.
+use Rattle.std.proofs.Common.{◌≡◌, ◌∙◌, ℕ, refl, sym, subst}
+use Rattle.std.specs.Prelude.{Result, Ok, Err, IfOk, OnOk, OnErr, Some}
+use Rattle.std.proofs.lemmas.Result.{on_err_weaker}
+use Rattle.ox_outside.specs.Counts.{Counts, CountsFile, IsFailure, Rose, StopsAtFault, NoFault, NoneFell}
+use Rattle.ox_outside.specs.Crash.{Remains, Tears, Follows, Only, OneCall}
+use Rattle.ox_outside.specs.Files.{Files, file_of, other, TornFile}
+use Rattle.ox_outside.specs.Runs.{LeavesOnly}
+use Rattle.ox_outside.specs.declared.site.Site.{Ghosts as Meanings}
+use Rattle.ox_outside.specs.declared.site.Which.{Which}
+use Rattle.ox_outside.proofs.Calls.{no_call, one_call, leaves_at_first, leaves_on}
+use Rattle.ox_outside.proofs.Counts.{file_call, then_rose}
+use Rattle.ox_gated.specs.Tail.{IsSettled}
+use Rattle.ox_gated.specs.Writes.{OnlyWrites}
+use Rattle.ox_gated.proofs.Pieces.{not_torn}
+use Rattle.ox_gated.proofs.Writing.{all_worked}
+
+-- ---- the answer of a `?` that returns
+
+module _ {T E : Type 0} (result : Result T E) (e : E) (is : result ≡ Err e) where
+  pub if_none : (P : T → Type 0) → IfOk result P
+  if_none P = subst (λ (r : Result T E). IfOk r P) (sym is) tt
+
+  pub on_none : (P : Type 0) → OnOk result P
+  on_none P = subst (λ (r : Result T E). OnOk r P) (sym is) tt
+
+  pub on_failed : (P : Type 0) → P → OnErr result P
+  on_failed P p = subst (λ (r : Result T E). OnErr r P) (sym is) p
+
+-- ---- counts
+
+-- a call on a file that did its work
+pub file_worked : {T E : Type 0} (x : T) (old new : Counts) → CountsFile {E = E} (Ok x) old new → NoFault old new
+file_worked x old new counted = all_worked old new (file_call (Ok x) old new counted)
+
+-- after calls of which no count fell
+pub rose_after : {T E : Type 0} (result : Result T E) (old mid new : Counts) → NoneFell old mid → OnErr result (Rose mid.disk new.disk) → OnErr result (Rose old.disk new.disk)
+rose_after result old mid new fell rose = on_err_weaker result (then_rose old.disk mid.disk new.disk fell.disk) rose
+
+-- ---- what a crash leaves
+
+-- a write into one file leaves the other one
+pub others_left : (file : Which) (at n : ℕ) (old new : Remains → Type 0) → Follows (Tears file at n) old new → (r : Remains) → new r → (q : Remains) × old q × (file_of r.files (other file) ≡ file_of q.files (other file))
+others_left file at n old new follows r left = let q = follows r left in (q.0, q.1, q.2.files.others)
+
+-- and so do two
+pub others_then : (file : Which) (at1 n1 at2 n2 : ℕ) (old mid new : Remains → Type 0) → Follows (Tears file at1 n1) old mid → Follows (Tears file at2 n2) mid new → (r : Remains) → new r → (q : Remains) × old q × (file_of r.files (other file) ≡ file_of q.files (other file))
+others_then file at1 n1 at2 n2 old mid new first then_ r left =
+    let m = others_left file at2 n2 mid new then_ r left in
+    let q = others_left file at1 n1 old mid first m.0 m.1 in
+    (q.0, q.1, m.2 ∙ q.2)
+
+-- a synced file is what it was read as before the sync
+pub durable_then : {T E : Type 0} (result : Result T E) (file : Which) (may_leave : Remains → Type 0) (mid new : Files) → new ≡ mid → OnOk result (Only file (file_of mid file) may_leave) → OnOk result (Only file (file_of new file) may_leave)
+durable_then result file may_leave mid new same durable = subst (λ (f : Files). OnOk result (Only file (file_of f file) may_leave)) (sym same) durable
+
+module _ {S : Type 0} (means : Meanings S) (only_now : (site : S) (r : Remains) → means.left_since site (means.clock site) r → means.may_leave site r) where
+  -- before the first call of a run that only writes
+  pub writes_none : (logs_now : (site : S) (r : Remains) → means.may_leave site r → means.log site ≡ Some r.log) (site : S) → OnlyWrites means site site
+  writes_none logs_now site = record {
+    calls = no_call means site;
+    as_logged = refl;
+    moments = leaves_at_first means site _ (λ r left. logs_now site r (only_now site r left));
+  }
+
+  -- and after it
+  pub writes_one : (logs_now : (site : S) (r : Remains) → means.may_leave site r → means.log site ≡ Some r.log) (old new : S) → means.log new ≡ means.log old → OneCall means.told means.counts means.clock means.may_leave means.left_since old new → OnlyWrites means old new
+  writes_one logs_now old new same call = record {
+    calls = one_call means old new call;
+    as_logged = same;
+    moments = leaves_on means old old new _ (leaves_at_first means old _ (λ r left. logs_now old r (only_now old r left))) call (λ r left. sym same ∙ logs_now new r left);
+  }
+
+  module _ (old mid : S) (file : Which) (at n : ℕ) (first : Follows (Tears file at n) (means.may_leave old) (means.may_leave mid)) (settled : IsSettled means old) where
+    torn_now : (r : Remains) → means.may_leave mid r → TornFile file at n (means.seen old) r.files
+    torn_now r left =
+        let q = first r left in
+        subst (λ (f : Files). TornFile file at n f r.files) (settled q.0 q.1) q.2.files
+
+    pub moments_one : OneCall means.told means.counts means.clock means.may_leave means.left_since old mid → LeavesOnly means old mid (λ r. TornFile file at n (means.seen old) r.files)
+    moments_one call = leaves_on means old old mid _
+        (leaves_at_first means old _ (λ r left. not_torn file at n (means.seen old) r.files (settled r (only_now old r left))))
+        call torn_now
+
+    pub moments_synced : (new : S) → OneCall means.told means.counts means.clock means.may_leave means.left_since old mid → OneCall means.told means.counts means.clock means.may_leave means.left_since mid new → ((r : Remains) → means.may_leave new r → means.may_leave mid r)
+        → LeavesOnly means old new (λ r. TornFile file at n (means.seen old) r.files)
+    moments_synced new call1 call2 crash = leaves_on means old mid new _ (moments_one call1) call2 (λ r left. torn_now r (crash r left))
