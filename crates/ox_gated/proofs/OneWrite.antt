@@ -1,15 +1,18 @@
 -- One write and its sync, and what is answered where a call failed.
-use Rattle.std.proofs.Common.{◌≡◌, ◌∙◌, ℕ, refl, sym, subst}
-use Rattle.std.specs.Prelude.{Result, Ok, Err, IfOk, OnOk, OnErr, Some}
-use Rattle.std.proofs.lemmas.Result.{on_err_weaker}
+use Rattle.std.proofs.Common.{◌≡◌, ◌∙◌, ℕ, refl, sym, ap, subst}
+use Rattle.std.specs.Prelude.{Result, Ok, Err, IfOk, OnOk, OnErr, IsErrOf, Some}
+use Rattle.std.proofs.lemmas.Result.{on_err_weaker, on_ok_weaker}
 use Rattle.ox_outside.specs.Counts.{Counts, CountsFile, IsFailure, Rose, StopsAtFault, NoFault, NoneFell}
-use Rattle.ox_outside.specs.Crash.{Remains, Tears, Follows, Only, OneCall}
+use Rattle.ox_outside.specs.Crash.{Remains, Tears, Follows, Only, AddsNothing, OneCall}
 use Rattle.ox_outside.specs.Files.{Files, file_of, other, TornFile}
-use Rattle.ox_outside.specs.Runs.{LeavesOnly}
+use Rattle.ox_outside.specs.Runs.{LeavesOnly, OnlyLooks}
 use Rattle.ox_outside.specs.declared.site.Site.{Ghosts as Meanings}
 use Rattle.ox_outside.specs.declared.site.Which.{Which}
-use Rattle.ox_outside.proofs.Calls.{no_call, one_call, leaves_at_first, leaves_on}
-use Rattle.ox_outside.proofs.Counts.{file_call, then_rose}
+use Rattle.ox_outside.specs.declared.site.Which.TheVariants.{A, B}
+use Rattle.ox_outside.proofs.Calls.{no_call, one_call, leaves_at_first, leaves_on, looks_call, looks_none}
+use Rattle.ox_outside.proofs.Counts.{file_call, stops_as, then_rose, went_on}
+use Rattle.ox_gated.specs.declared.fault.ReadFault.{ReadFault}
+use Rattle.ox_gated.specs.declared.fault.ReadFault.TheVariants as reads
 use Rattle.ox_gated.specs.Tail.{IsSettled}
 use Rattle.ox_gated.specs.Writes.{OnlyWrites}
 use Rattle.ox_gated.proofs.Pieces.{not_torn}
@@ -85,3 +88,29 @@ module _ {S : Type 0} (means : Meanings S) (only_now : (site : S) (r : Remains) 
     pub moments_synced : (new : S) → OneCall means.told means.counts means.clock means.may_leave means.left_since old mid → OneCall means.told means.counts means.clock means.may_leave means.left_since mid new → ((r : Remains) → means.may_leave new r → means.may_leave mid r)
         → LeavesOnly means old new (λ r. TornFile file at n (means.seen old) r.files)
     moments_synced new call1 call2 crash = leaves_on means old mid new _ (moments_one call1) call2 (λ r left. torn_now r (crash r left))
+
+  -- a run of one call that only looks
+  pub looks_one : (old new : S) → AddsNothing means.seen means.log means.may_leave old new → OneCall means.told means.counts means.clock means.may_leave means.left_since old new → OnlyLooks means old new
+  looks_one old new nothing call = looks_call means old old new (looks_none means only_now old) nothing call
+
+-- two syncs, one of each file
+pub both_settled : {T E : Type 0} (result : Result T E) (mid_leaves new_leaves : Remains → Type 0) (old mid new : Files) → mid ≡ old → new ≡ mid → ((r : Remains) → new_leaves r → mid_leaves r) → Only A old.a mid_leaves → OnOk result (Only B mid.b new_leaves) → OnOk result ((r : Remains) → new_leaves r → r.files ≡ new)
+both_settled result mid_leaves new_leaves old mid new same1 same2 crash only_a durable = on_ok_weaker result
+    (λ only_b r left.
+    let a = only_a r (crash r left) in
+    let b = only_b r left ∙ ap (λ (f : Files). f.b) same1 in
+    (λ i. record { a = a i; b = b i }) ∙ sym (same2 ∙ same1))
+    durable
+
+-- ---- a read that failed
+
+-- for want of memory
+pub no_disk : {T : Type 0} (result : Result T ReadFault) (e : ReadFault) → result ≡ Err e → e ≡ reads.Memory → result ≡ Err reads.Disk → ⊥
+no_disk result e is memory disk = cc
+
+-- at a call
+pub read_failed : {T U E : Type 0} (call : Result U E) (result : Result T ReadFault) (e : ReadFault) (old new : Counts) → result ≡ Err e → e ≡ reads.Disk → StopsAtFault (IsFailure call) ⊥ ⊥ old new → StopsAtFault (IsErrOf result reads.Disk) ⊥ ⊥ old new
+read_failed call result e old new is disk stops = stops_as (IsFailure call) ⊥ ⊥ (result ≡ Err reads.Disk) ⊥ ⊥ old new (λ failed. is ∙ ap Err disk) (λ no. no) (λ no. no) stops
+
+pub read_worked : {T : Type 0} (x : T) (old new : Counts) → StopsAtFault (IsErrOf {T = T} {E = ReadFault} (Ok x) reads.Disk) ⊥ ⊥ old new → NoFault old new
+read_worked x old new stops = went_on _ ⊥ ⊥ old new (λ is. absurd (cc is)) (λ no. no) (λ no. no) stops

@@ -70,35 +70,35 @@ returns-in_err-write_synced-2 g c =
 pub returns : goal.returns
 returns g c = record {
   holds = λ told.
-          let b = c.as_slice-bytes.ensures in
-          let i = c.self.inside in
-          let first = c.in_ok-write_synced.ensures in
-          let second = c.in_ok-write_synced-2.ensures in
-          let told_mid = first.writes.calls.as_told ∙ told in
-          let tail : Kept = record { file = i.file; head = i.head; records = i.records; gate = i.gate; other_closed = i.other_closed } in
-          let h : Holds g.S.Site tail c.args.site.now = subst (λ (t : Kept). Holds g.S.Site t c.args.site.now) (sym c.self.view_is) (c.requires.holds told) in
-          let settled = staged_settled g.S.Site c.args.framed.now b.small tail c.as_slice-bytes.result.now b.bytes c.args.site.now c.write_synced.new.site h (first.written told) first.durable first.others in
-          subst (λ (n : ℕ). Holds g.S.Site (record tail { records = i.records + 1; gate = i.gate + n }) c.write_synced-2.new.site) (sym b.size)
-          (holds_after g.S.Site c.args.framed.now b.small tail c.as_slice-bytes.result.now b.bytes c.args.site.now c.write_synced.new.site h c.write_synced-2.new.site (first.written told) (second.written told_mid) settled second.durable second.others);
+      let b = c.as_slice-bytes.ensures in
+      let i = c.self.inside in
+      let first = c.in_ok-write_synced.ensures in
+      let second = c.in_ok-write_synced-2.ensures in
+      let told_mid = first.writes.calls.as_told ∙ told in
+      let tail : Kept = record { file = i.file; head = i.head; records = i.records; gate = i.gate; other_closed = i.other_closed } in
+      let h : Holds g.S.Site tail c.args.site.now = subst (λ (t : Kept). Holds g.S.Site t c.args.site.now) (sym c.self.view_is) (c.requires.holds told) in
+      let settled = staged_settled g.S.Site c.args.framed.now b.small tail c.as_slice-bytes.result.now b.bytes c.args.site.now c.write_synced.new.site h (first.written told) first.durable first.others in
+      subst (λ (n : ℕ). Holds g.S.Site (record tail { records = i.records + 1; gate = i.gate + n }) c.write_synced-2.new.site) (sym b.size)
+      (holds_after g.S.Site c.args.framed.now b.small tail c.as_slice-bytes.result.now b.bytes c.args.site.now c.write_synced.new.site h c.write_synced-2.new.site (first.written told) (second.written told_mid) settled second.durable second.others);
   appended = λ told.
-          let b = c.as_slice-bytes.ensures in
-          let i = c.self.inside in
-          let first = c.in_ok-write_synced.ensures in
-          let told_mid = first.writes.calls.as_told ∙ told in
-          let tail : Kept = record { file = i.file; head = i.head; records = i.records; gate = i.gate; other_closed = i.other_closed } in
-          let h : Holds g.S.Site tail c.args.site.now = subst (λ (t : Kept). Holds g.S.Site t c.args.site.now) (sym c.self.view_is) (c.requires.holds told) in
-          subst (λ (t : Kept). reading t.head.version (g.S.Site.seen c.write_synced-2.new.site) ≡ with_payload c.args.framed.now (reading t.head.version (g.S.Site.seen c.args.site.now))) c.self.view_is
-          (reads_after g.S.Site c.args.framed.now b.small tail c.as_slice-bytes.result.now b.bytes c.args.site.now c.write_synced.new.site h c.write_synced-2.new.site (first.written told) (c.in_ok-write_synced-2.ensures.written told_mid));
+      let b = c.as_slice-bytes.ensures in
+      let i = c.self.inside in
+      let first = c.in_ok-write_synced.ensures in
+      let told_mid = first.writes.calls.as_told ∙ told in
+      let tail : Kept = record { file = i.file; head = i.head; records = i.records; gate = i.gate; other_closed = i.other_closed } in
+      let h : Holds g.S.Site tail c.args.site.now = subst (λ (t : Kept). Holds g.S.Site t c.args.site.now) (sym c.self.view_is) (c.requires.holds told) in
+      subst (λ (t : Kept). reading t.head.version (g.S.Site.seen c.write_synced-2.new.site) ≡ with_payload c.args.framed.now (reading t.head.version (g.S.Site.seen c.args.site.now))) c.self.view_is
+      (reads_after g.S.Site c.args.framed.now b.small tail c.as_slice-bytes.result.now b.bytes c.args.site.now c.write_synced.new.site h c.write_synced-2.new.site (first.written told) (c.in_ok-write_synced-2.ensures.written told_mid));
   kept = (ap (λ (t : Kept). t.file) c.self.view_is, ap (λ (t : Kept). t.head) c.self.view_is, ap (λ (t : Kept). t.records + 1) c.self.view_is);
   any_moment = λ told.
-          let b = c.as_slice-bytes.ensures in
-          let i = c.self.inside in
-          let first = c.in_ok-write_synced.ensures in
-          let tail : Kept = record { file = i.file; head = i.head; records = i.records; gate = i.gate; other_closed = i.other_closed } in
-          let h : Holds g.S.Site tail c.args.site.now = subst (λ (t : Kept). Holds g.S.Site t c.args.site.now) (sym c.self.view_is) (c.requires.holds told) in
-          let settled = staged_settled g.S.Site c.args.framed.now b.small tail c.as_slice-bytes.result.now b.bytes c.args.site.now c.write_synced.new.site h (first.written told) first.durable first.others in
-          subst (λ (t : Kept). LeavesOnly g.S.Site c.args.site.now c.write_synced-2.new.site (λ r. IsBeforeOrAfter t.head.version c.args.framed.now (g.S.Site.seen c.args.site.now) r.files)) c.self.view_is
-          (moments_both g.S.Site c.args.framed.now b.small tail c.as_slice-bytes.result.now b.bytes c.args.site.now c.write_synced.new.site h c.write_synced-2.new.site (first.moments h.settled) (first.written told) (c.in_ok-write_synced-2.ensures.moments settled));
+      let b = c.as_slice-bytes.ensures in
+      let i = c.self.inside in
+      let first = c.in_ok-write_synced.ensures in
+      let tail : Kept = record { file = i.file; head = i.head; records = i.records; gate = i.gate; other_closed = i.other_closed } in
+      let h : Holds g.S.Site tail c.args.site.now = subst (λ (t : Kept). Holds g.S.Site t c.args.site.now) (sym c.self.view_is) (c.requires.holds told) in
+      let settled = staged_settled g.S.Site c.args.framed.now b.small tail c.as_slice-bytes.result.now b.bytes c.args.site.now c.write_synced.new.site h (first.written told) first.durable first.others in
+      subst (λ (t : Kept). LeavesOnly g.S.Site c.args.site.now c.write_synced-2.new.site (λ r. IsBeforeOrAfter t.head.version c.args.framed.now (g.S.Site.seen c.args.site.now) r.files)) c.self.view_is
+      (moments_both g.S.Site c.args.framed.now b.small tail c.as_slice-bytes.result.now b.bytes c.args.site.now c.write_synced.new.site h c.write_synced-2.new.site (first.moments h.settled) (first.written told) (c.in_ok-write_synced-2.ensures.moments settled));
   failed = tt;
   counted = stops_at_none _ _ _ _ _ (no_fault_then _ _ _ (all_worked _ _ c.in_ok-write_synced.ensures.counted) (all_worked _ _ c.in_ok-write_synced-2.ensures.counted));
   writes = writes_then g.S.Site g.met.S.Site.logs_now c.args.site.now c.write_synced.new.site c.write_synced-2.new.site c.in_ok-write_synced.ensures.writes c.in_ok-write_synced-2.ensures.writes;

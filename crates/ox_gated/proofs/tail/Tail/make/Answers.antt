@@ -74,56 +74,56 @@ returns-in_err-write_synced-2 g c =
 pub returns : goal.returns
 returns g c = record {
   made = λ told.
-          let b = c.behind-behind.ensures in
-          let pieces = c.front-front.result.now ++ c.behind-behind.result.now in
-          let w = c.args.checkpoint.now in
-          let bytes_are : pieces ≡ checkpoint_bytes w.head w.body = (λ i. c.front-front.ensures.bytes i ++ b.bytes i) ∙ sym (append_assoc (head_bytes w.head (length w.body)) w.body (0 ∷ [])) in
-          let told1 = c.in_ok-write_synced.ensures.writes.calls.as_told ∙ told in
-          let told2 = c.in_ok-write.ensures.call.as_told ∙ told1 in
-          let told3 = c.in_ok-write_pieces_synced.ensures.writes.calls.as_told ∙ told2 in
-          let last = made_is pieces _ _ _ _ (g.S.Site.seen c.write_synced-2.new.site) (c.requires.empty told) (c.in_ok-write_synced.ensures.written told) (c.in_ok-write.ensures.written told1) (c.in_ok-write_pieces_synced.ensures.written told2) (c.in_ok-write_synced-2.ensures.written told3) in
-          let is : g.S.Site.seen c.write_synced-2.new.site ≡ new_files w = last ∙ ap (λ (l : List ℕ). record { a = 1 ∷ l; b = 0 ∷ [] }) bytes_are in
-          is;
+      let b = c.behind-behind.ensures in
+      let pieces = c.front-front.result.now ++ c.behind-behind.result.now in
+      let w = c.args.checkpoint.now in
+      let bytes_are : pieces ≡ checkpoint_bytes w.head w.body = (λ i. c.front-front.ensures.bytes i ++ b.bytes i) ∙ sym (append_assoc (head_bytes w.head (length w.body)) w.body (0 ∷ [])) in
+      let told1 = c.in_ok-write_synced.ensures.writes.calls.as_told ∙ told in
+      let told2 = c.in_ok-write.ensures.call.as_told ∙ told1 in
+      let told3 = c.in_ok-write_pieces_synced.ensures.writes.calls.as_told ∙ told2 in
+      let last = made_is pieces _ _ _ _ (g.S.Site.seen c.write_synced-2.new.site) (c.requires.empty told) (c.in_ok-write_synced.ensures.written told) (c.in_ok-write.ensures.written told1) (c.in_ok-write_pieces_synced.ensures.written told2) (c.in_ok-write_synced-2.ensures.written told3) in
+      let is : g.S.Site.seen c.write_synced-2.new.site ≡ new_files w = last ∙ ap (λ (l : List ℕ). record { a = 1 ∷ l; b = 0 ∷ [] }) bytes_are in
+      is;
   holds = λ told.
-          let b = c.behind-behind.ensures in
-          let pieces = c.front-front.result.now ++ c.behind-behind.result.now in
-          let w = c.args.checkpoint.now in
-          let bytes_are : pieces ≡ checkpoint_bytes w.head w.body = (λ i. c.front-front.ensures.bytes i ++ b.bytes i) ∙ sym (append_assoc (head_bytes w.head (length w.body)) w.body (0 ∷ [])) in
-          let told1 = c.in_ok-write_synced.ensures.writes.calls.as_told ∙ told in
-          let told2 = c.in_ok-write.ensures.call.as_told ∙ told1 in
-          let told3 = c.in_ok-write_pieces_synced.ensures.writes.calls.as_told ∙ told2 in
-          let last = made_is pieces _ _ _ _ (g.S.Site.seen c.write_synced-2.new.site) (c.requires.empty told) (c.in_ok-write_synced.ensures.written told) (c.in_ok-write.ensures.written told1) (c.in_ok-write_pieces_synced.ensures.written told2) (c.in_ok-write_synced-2.ensures.written told3) in
-          let is : g.S.Site.seen c.write_synced-2.new.site ≡ new_files w = last ∙ ap (λ (l : List ℕ). record { a = 1 ∷ l; b = 0 ∷ [] }) bytes_are in
-          let b_same = first_b _ _ (c.requires.empty told) (c.in_ok-write_synced.ensures.written told) ∙ sym (ap (λ (f : Files). f.b) last) in
-          let tail : Kept = record { file = A; head = w.head; records = 0; gate = length c.front-front.result.now + length c.behind-behind.result.now; other_closed = true } in
-          let keeps : Keeps tail (reading w.head.version (g.S.Site.seen c.write_synced-2.new.site)) =
-          subst (Keeps tail) (sym (ap (reading w.head.version) is ∙ stands_made w.head w.body b.lawful b.depth b.generation b.small)) (made_keeps w.head w.body _ (omega (arith, c.front-front.ensures.size, b.size))) in
-          subst (λ (h : Head). Holds g.S.Site (record tail { head = h }) c.write_synced-2.new.site) (sym c.head.ensures) (
-          record {
-            settled = made_settled (g.S.Site.may_leave c.write_synced.new.site) (g.S.Site.may_leave c.write.new.self) (g.S.Site.may_leave c.write_pieces_synced.new.site) (g.S.Site.may_leave c.write_synced-2.new.site)
-                (g.S.Site.seen c.write_synced.new.site) (g.S.Site.seen c.write_synced-2.new.site) c.in_ok-write_synced.ensures.durable c.in_ok-write.ensures.crash c.in_ok-write_pieces_synced.ensures.others c.in_ok-write_synced-2.ensures.others c.in_ok-write_synced-2.ensures.durable b_same;
-            some_a = subst (λ (f : Files). 1 ≤ length f.a) (sym is) (omega arith);
-            some_b = subst (λ (f : Files). 1 ≤ length f.b) (sym is) (omega arith);
-            keeps = keeps;
-            closed = sym (ap (λ (f : Files). is_closed f.b) is);
-          }
-          );
+      let b = c.behind-behind.ensures in
+      let pieces = c.front-front.result.now ++ c.behind-behind.result.now in
+      let w = c.args.checkpoint.now in
+      let bytes_are : pieces ≡ checkpoint_bytes w.head w.body = (λ i. c.front-front.ensures.bytes i ++ b.bytes i) ∙ sym (append_assoc (head_bytes w.head (length w.body)) w.body (0 ∷ [])) in
+      let told1 = c.in_ok-write_synced.ensures.writes.calls.as_told ∙ told in
+      let told2 = c.in_ok-write.ensures.call.as_told ∙ told1 in
+      let told3 = c.in_ok-write_pieces_synced.ensures.writes.calls.as_told ∙ told2 in
+      let last = made_is pieces _ _ _ _ (g.S.Site.seen c.write_synced-2.new.site) (c.requires.empty told) (c.in_ok-write_synced.ensures.written told) (c.in_ok-write.ensures.written told1) (c.in_ok-write_pieces_synced.ensures.written told2) (c.in_ok-write_synced-2.ensures.written told3) in
+      let is : g.S.Site.seen c.write_synced-2.new.site ≡ new_files w = last ∙ ap (λ (l : List ℕ). record { a = 1 ∷ l; b = 0 ∷ [] }) bytes_are in
+      let b_same = first_b _ _ (c.requires.empty told) (c.in_ok-write_synced.ensures.written told) ∙ sym (ap (λ (f : Files). f.b) last) in
+      let tail : Kept = record { file = A; head = w.head; records = 0; gate = length c.front-front.result.now + length c.behind-behind.result.now; other_closed = true } in
+      let keeps : Keeps tail (reading w.head.version (g.S.Site.seen c.write_synced-2.new.site)) =
+      subst (Keeps tail) (sym (ap (reading w.head.version) is ∙ stands_made w.head w.body b.lawful b.depth b.generation b.small)) (made_keeps w.head w.body _ (omega (arith, c.front-front.ensures.size, b.size))) in
+      subst (λ (h : Head). Holds g.S.Site (record tail { head = h }) c.write_synced-2.new.site) (sym c.head.ensures) (
+      record {
+        settled = made_settled (g.S.Site.may_leave c.write_synced.new.site) (g.S.Site.may_leave c.write.new.self) (g.S.Site.may_leave c.write_pieces_synced.new.site) (g.S.Site.may_leave c.write_synced-2.new.site)
+            (g.S.Site.seen c.write_synced.new.site) (g.S.Site.seen c.write_synced-2.new.site) c.in_ok-write_synced.ensures.durable c.in_ok-write.ensures.crash c.in_ok-write_pieces_synced.ensures.others c.in_ok-write_synced-2.ensures.others c.in_ok-write_synced-2.ensures.durable b_same;
+        some_a = subst (λ (f : Files). 1 ≤ length f.a) (sym is) (omega arith);
+        some_b = subst (λ (f : Files). 1 ≤ length f.b) (sym is) (omega arith);
+        keeps = keeps;
+        closed = sym (ap (λ (f : Files). is_closed f.b) is);
+      }
+      );
   stands = λ told.
-          let b = c.behind-behind.ensures in
-          let pieces = c.front-front.result.now ++ c.behind-behind.result.now in
-          let w = c.args.checkpoint.now in
-          let bytes_are : pieces ≡ checkpoint_bytes w.head w.body = (λ i. c.front-front.ensures.bytes i ++ b.bytes i) ∙ sym (append_assoc (head_bytes w.head (length w.body)) w.body (0 ∷ [])) in
-          let told1 = c.in_ok-write_synced.ensures.writes.calls.as_told ∙ told in
-          let told2 = c.in_ok-write.ensures.call.as_told ∙ told1 in
-          let told3 = c.in_ok-write_pieces_synced.ensures.writes.calls.as_told ∙ told2 in
-          let last = made_is pieces _ _ _ _ (g.S.Site.seen c.write_synced-2.new.site) (c.requires.empty told) (c.in_ok-write_synced.ensures.written told) (c.in_ok-write.ensures.written told1) (c.in_ok-write_pieces_synced.ensures.written told2) (c.in_ok-write_synced-2.ensures.written told3) in
-          let is : g.S.Site.seen c.write_synced-2.new.site ≡ new_files w = last ∙ ap (λ (l : List ℕ). record { a = 1 ∷ l; b = 0 ∷ [] }) bytes_are in
-          ap (reading w.head.version) is ∙ stands_made w.head w.body b.lawful b.depth b.generation b.small;
+      let b = c.behind-behind.ensures in
+      let pieces = c.front-front.result.now ++ c.behind-behind.result.now in
+      let w = c.args.checkpoint.now in
+      let bytes_are : pieces ≡ checkpoint_bytes w.head w.body = (λ i. c.front-front.ensures.bytes i ++ b.bytes i) ∙ sym (append_assoc (head_bytes w.head (length w.body)) w.body (0 ∷ [])) in
+      let told1 = c.in_ok-write_synced.ensures.writes.calls.as_told ∙ told in
+      let told2 = c.in_ok-write.ensures.call.as_told ∙ told1 in
+      let told3 = c.in_ok-write_pieces_synced.ensures.writes.calls.as_told ∙ told2 in
+      let last = made_is pieces _ _ _ _ (g.S.Site.seen c.write_synced-2.new.site) (c.requires.empty told) (c.in_ok-write_synced.ensures.written told) (c.in_ok-write.ensures.written told1) (c.in_ok-write_pieces_synced.ensures.written told2) (c.in_ok-write_synced-2.ensures.written told3) in
+      let is : g.S.Site.seen c.write_synced-2.new.site ≡ new_files w = last ∙ ap (λ (l : List ℕ). record { a = 1 ∷ l; b = 0 ∷ [] }) bytes_are in
+      ap (reading w.head.version) is ∙ stands_made w.head w.body b.lawful b.depth b.generation b.small;
   kept = (refl, c.head.ensures, refl);
   failed = tt;
   counted = stops_at_none _ _ _ _ _ (no_fault_then _ _ _ (no_fault_then _ _ _ (no_fault_then _ _ _ (all_worked _ _ c.in_ok-write_synced.ensures.counted) (file_worked _ _ _ c.in_ok-write.ensures.counted)) (all_worked _ _ c.in_ok-write_pieces_synced.ensures.counted)) (all_worked _ _ c.in_ok-write_synced-2.ensures.counted));
   writes =
-          let closed = writes_call g.S.Site g.met.S.Site.logs_now c.args.site.now c.write_synced.new.site c.write.new.self c.in_ok-write_synced.ensures.writes c.in_ok-write.ensures.logged c.in_ok-write.ensures.call in
-          let whole = writes_then g.S.Site g.met.S.Site.logs_now c.args.site.now c.write.new.self c.write_pieces_synced.new.site closed c.in_ok-write_pieces_synced.ensures.writes in
-          writes_then g.S.Site g.met.S.Site.logs_now c.args.site.now c.write_pieces_synced.new.site c.write_synced-2.new.site whole c.write_synced-2.ensures.writes;
+      let closed = writes_call g.S.Site g.met.S.Site.logs_now c.args.site.now c.write_synced.new.site c.write.new.self c.in_ok-write_synced.ensures.writes c.in_ok-write.ensures.logged c.in_ok-write.ensures.call in
+      let whole = writes_then g.S.Site g.met.S.Site.logs_now c.args.site.now c.write.new.self c.write_pieces_synced.new.site closed c.in_ok-write_pieces_synced.ensures.writes in
+      writes_then g.S.Site g.met.S.Site.logs_now c.args.site.now c.write_pieces_synced.new.site c.write_synced-2.new.site whole c.write_synced-2.ensures.writes;
 }
