@@ -14,6 +14,7 @@ use Rattle.ox_memsite.proofs.RoomLemmas.{owed_most, owed_broke, owed_gave_up, ow
 use Rattle.ox_memsite.specs.Room.{channels_in, room_owed}
 use Rattle.ox_memsite.specs.Heard.{steps_with}
 use Rattle.ox_memsite.specs.Kept.{IsKept}
+use Rattle.ox_memsite.specs.Plain.{IsPlain}
 use Rattle.ox_memsite.specs.World.{is_same, disk_step, disk_after, disk_of, event_of, events_of}
 use Rattle.ox_memsite.specs.declared.said.Said.{Said}
 use Rattle.ox_memsite.specs.declared.said.Said.TheVariants.{Bytes, NotYet, End}
@@ -218,13 +219,10 @@ module _ (first : Files) (a b : List ℕ) (past done : List Step) (broken : List
       (is_b ∙ ap (λ (l : List ℕ). if is_same B file then with_bytes at bytes l else l) kept.file_b ∙ sym (seen_write B file (disk_of first done B) at bytes))
       (λ channel. refl) one_counted room kept.within
 
-  pub kept_torn : (file : Which) (at n : ℕ) (done' : List Step) (spare' : ℕ) → done' ≡ done ++ steps.Tore file at n ∷ [] → 3 * count ≤ spare' → IsKept first a b past done' broken count spare' heard size
-  kept_torn file at n done' spare' is room = kept_step (steps.Tore file at n) done' a b spare' heard size is
-      (kept.file_a ∙ sym (seen_torn A file (disk_of first done A) at n)) (kept.file_b ∙ sym (seen_torn B file (disk_of first done B) at n)) (λ channel. refl) one_counted room kept.within
-
-  pub kept_synced : (file : Which) (done' : List Step) (spare' : ℕ) → done' ≡ done ++ steps.Synced file ∷ [] → 3 * count ≤ spare' → IsKept first a b past done' broken count spare' heard size
-  kept_synced file done' spare' is room = kept_step (steps.Synced file) done' a b spare' heard size is
-      (kept.file_a ∙ sym (seen_synced A file (disk_of first done A))) (kept.file_b ∙ sym (seen_synced B file (disk_of first done B))) (λ channel. refl) one_counted room kept.within
+  -- a step that leaves what is read as it is and breaks no channel, after which there is ample room
+  pub kept_plain : (step : Step) (done' : List Step) (spare' : ℕ) → IsPlain count step → done' ≡ done ++ step ∷ [] → 3 * count ≤ spare' → IsKept first a b past done' broken count spare' heard size
+  kept_plain step done' spare' plain is room = kept_step step done' a b spare' heard size is
+      (kept.file_a ∙ sym (plain.seen A (disk_of first done A))) (kept.file_b ∙ sym (plain.seen B (disk_of first done B))) plain.whole (omega (arith, plain.named, one_counted)) room kept.within
 
   -- an event of a channel that is counted
   pub kept_noted : (step : Step) (channel : ℕ) (done' : List Step) (spare' heard' : ℕ) → done' ≡ done ++ step ∷ [] → IsOf channel step → channel < count → 3 * count ≤ spare' → heard' ≤ size

@@ -3,6 +3,7 @@ mod Crashes
 mod Disks
 mod Filled
 mod Kept
+mod Lent
 mod Moves
 mod Replayed
 mod RoomLemmas

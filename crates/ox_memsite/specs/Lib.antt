@@ -6,6 +6,7 @@ pub mod Kept
 pub mod Laws
 pub mod Left
 pub mod Opened
+pub mod Plain
 pub mod Room
 pub mod Script
 pub mod Story

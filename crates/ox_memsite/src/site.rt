@@ -1,11 +1,12 @@
 //! The site in memory: what each call does, exactly.
 
 ghost use Rattle.std.specs.Prelude.{◌≡◌, ◌+◌, ◌*◌, ◌<◌, ◌≤◌, [], ◌∷◌, ◌++◌, length, drop};
-ghost use Rattle.std.specs.Prelude.{slice_range};
+ghost use Rattle.std.specs.Prelude.{slice_range, vec_len, vec_capacity};
 ghost use Rattle.std.specs.Prelude.{false, nat_lt, slice_index_or, IsTrue};
 ghost use Rattle.std.specs.Prelude.{MatchOption, IfSome, IfOk, OnOk, OnErr};
 ghost use Rattle.ox_outside.specs.Event.{is_there, was_opened};
 ghost use Rattle.ox_outside.specs.Files.{file_of};
+ghost use Rattle.ox_memsite.specs.Channels.{new_channel};
 ghost use Rattle.ox_memsite.specs.Heard.{said_by, said_input, input_after, channels_after};
 ghost use Rattle.ox_memsite.specs.Heard.{bytes_of, answer_of, steps_with, channels_with};
 ghost use Rattle.ox_memsite.specs.World.{is_in, events_of, first_site};
@@ -460,6 +461,7 @@ impl MemSite {
 impl MemSite {
     ghost use Rattle.ox_memsite.specs.Heard.{Hears};
     ghost use Rattle.ox_outside.specs.Event.{has_broken};
+    ghost use Rattle.ox_memsite.specs.Plain.{IsPlain};
     ghost use Rattle.ox_memsite.specs.World.{log_of, after_step, after_opening, after_break};
     ghost use Rattle.ox_memsite.specs.World.{waiting_at};
     ghost use Rattle.ox_memsite.specs.declared.step.Step.TheVariants.{Wrote, Tore, Synced, Showed};
@@ -470,7 +472,7 @@ impl MemSite {
         ensures err { OnErr result (self.new ≡ self.old) }
     {
         let copy = Bytes::copy(self.alloc, bytes)?;
-        self.steps.make_room(most_owed(self.channels.len()) + 1)?;
+        make_room(&mut self.steps, self.channels.len())?;
         write_one(&mut self.a, &mut self.b, file, at, bytes)?;
         self.steps.put(Step::Wrote {
             file,
@@ -484,18 +486,14 @@ impl MemSite {
         ensures ok { OnOk result (self.new ≡ after_step (Tore file at length) self.old) }
         ensures err { OnErr result (self.new ≡ self.old) }
     {
-        self.steps.make_room(most_owed(self.channels.len()) + 1)?;
-        self.steps.put(Step::Tore { file, at, length });
-        Ok(())
+        self.note(Step::Tore { file, at, length })
     }
 
     fn note_sync(&mut self, file: Which) -> Result<(), Memory>
         ensures ok { OnOk result (self.new ≡ after_step (Synced file) self.old) }
         ensures err { OnErr result (self.new ≡ self.old) }
     {
-        self.steps.make_room(most_owed(self.channels.len()) + 1)?;
-        self.steps.put(Step::Synced { file });
-        Ok(())
+        self.note(Step::Synced { file })
     }
 
     fn note_show(&mut self, channel: u32, bytes: &[u8]) -> Result<(), Memory>
@@ -503,12 +501,19 @@ impl MemSite {
         ensures ok { OnOk result (self.new ≡ after_step (Showed channel bytes.now) self.old) }
         ensures err { OnErr result (self.new ≡ self.old) }
     {
-        let copy = Bytes::copy(self.alloc, bytes)?;
-        self.steps.make_room(most_owed(self.channels.len()) + 1)?;
-        self.steps.put(Step::Showed {
-            channel,
-            bytes: copy,
-        });
+        let bytes = Bytes::copy(self.alloc, bytes)?;
+        self.note(Step::Showed { channel, bytes })
+    }
+
+    /// Notes a step that leaves what is read as it is, breaks no channel, and names none that isn't
+    /// there.
+    fn note(&mut self, step: Step) -> Result<(), Memory>
+        requires { IsPlain (length self.old.channels) step }
+        ensures ok { OnOk result (self.new ≡ after_step step self.old) }
+        ensures err { OnErr result (self.new ≡ self.old) }
+    {
+        make_room(&mut self.steps, self.channels.len())?;
+        self.steps.put(step);
         Ok(())
     }
 
@@ -518,13 +523,9 @@ impl MemSite {
         ensures ok { OnOk result (self.new ≡ after_opening door self.old) }
         ensures err { OnErr result (self.new ≡ self.old) }
     {
-        self.channels.reserve(1)?;
-        self.broken.reserve(1)?;
-        self.steps
-            .make_room(most_owed(self.channels.len() + 1) + 1)?;
+        make_place(&mut self.channels, &mut self.broken, &mut self.steps)?;
         let script = take_first(&mut self.at_public, &mut self.at_operator, door);
-        let _ = self.channels.push(new_channel(script));
-        let _ = self.broken.push(false);
+        put_channel(&mut self.channels, &mut self.broken, script);
         self.steps.put(Step::Opened {
             channel: number,
             door,
@@ -540,7 +541,7 @@ impl MemSite {
             Hears channel into.old into.new heard self.old self.new) }
         ensures err { OnErr result ((self.new ≡ self.old) × (into.new ≡ into.old)) }
     {
-        self.steps.make_room(most_owed(self.channels.len()) + 1)?;
+        make_room(&mut self.steps, self.channels.len())?;
         let said = say_next(
             self.alloc,
             &self.input,
@@ -704,6 +705,49 @@ fn say_input(alloc: Global, input: &[u8], heard: &mut usize, room: usize) -> Res
     let bytes = Bytes::copy(alloc, front)?;
     *heard += count;
     Ok(Said::Bytes(bytes))
+}
+
+/// Makes room for one more channel and its flag, and for the steps that may come of all of them.
+/// `Memory` where there is none: nothing has changed then.
+fn make_place(
+    channels: &mut Vec<Channel>,
+    broken: &mut Vec<bool>,
+    steps: &mut Steps,
+) -> Result<(), Memory>
+    requires { length channels.old.items ≤ 4294967296 }
+    ensures channels { channels.new.items ≡ channels.old.items }
+    ensures broken { broken.new.items ≡ broken.old.items }
+    ensures steps { steps.new.steps ≡ steps.old.steps }
+    ensures room { OnOk result (vec_len channels.new < vec_capacity channels.new) }
+    ensures room_flag { OnOk result (vec_len broken.new < vec_capacity broken.new) }
+    ensures ok { OnOk result (steps.new.spare ≡ 3 * (length channels.old.items + 1) + 1) }
+    ensures err { OnErr result (steps.new.spare ≡ steps.old.spare) }
+{
+    channels.reserve(1)?;
+    broken.reserve(1)?;
+    make_room(steps, channels.len() + 1)
+}
+
+/// Puts a channel with this script and its flag behind the others, where there is room for both.
+fn put_channel(channels: &mut Vec<Channel>, broken: &mut Vec<bool>, script: Script)
+    requires room { vec_len channels.old < vec_capacity channels.old }
+    requires room_flag { vec_len broken.old < vec_capacity broken.old }
+    ensures channels { channels.new.items ≡ channels.old.items ++ new_channel script ∷ [] }
+    ensures broken { broken.new.items ≡ broken.old.items ++ false ∷ [] }
+{
+    channels.push_reserved(new_channel(script));
+    broken.push_reserved(false);
+}
+
+/// Makes room for a step, and for those that may come of so many channels and can't be refused.
+/// `Memory` where there is none: nothing has changed then.
+fn make_room(steps: &mut Steps, count: usize) -> Result<(), Memory>
+    requires { count ≤ 4294967297 }
+    ensures steps { steps.new.steps ≡ steps.old.steps }
+    ensures ok { OnOk result (steps.new.spare ≡ 3 * count + 1) }
+    ensures err { OnErr result (steps.new.spare ≡ steps.old.spare) }
+{
+    steps.make_room(most_owed(count) + 1)
 }
 
 /// So much room the channels below this number need at most.

@@ -1,10 +1,11 @@
-use Rattle.std.proofs.Common.{arith, rules, refl, ap, sym, subst, ◌≡◌, ◌∙◌, ◌++◌, ◌<◌, length, drop, take, List, ℕ}
-use Rattle.ox_memsite.specs.Heard.{said_by, input_after, channels_after, channels_with, steps_with}
+use Rattle.std.proofs.Common.{arith, rules, refl, ap, sym, subst, ◌≡◌, ◌∙◌, ◌<◌, length, drop, List, ℕ}
+use Rattle.ox_memsite.specs.Heard.{said_by, input_after, steps_with}
 use Rattle.ox_memsite.specs.World.{World}
 use Rattle.ox_memsite.specs.declared.channel.Channel.{Channel}
 use Rattle.ox_memsite.specs.declared.step.Step.{Step}
+use Rattle.ox_memsite.proofs.Lent.{heard_many, noted_back, noted_as_many}
 use Rattle.ox_memsite.proofs.Kept.{kept_same, kept_said, kept_count}
-use Rattle.ox_memsite.proofs.Starts.{back_same, length-channels_after, length-channels_with, said_fits, always_err, same_world, hears}
+use Rattle.ox_memsite.proofs.Starts.{back_same, said_fits, always_err, same_world, hears}
 use Rattle.ox_memsite.proofs.site.MemSite.hear_into.Goals as goal
 
 pub say_next-requires-clause-known : goal.say_next-requires-clause-known
@@ -18,13 +19,8 @@ note_said-requires-clause-spare c = omega (arith, c.in_ok-make_room.ensures.ok)
 pub note_said-requires-clause-known : goal.note_said-requires-clause-known
 note_said-requires-clause-known c =
     let below = subst (λ (w : World). c.args.channel < length w.channels) (sym c.self.view_is) c.requires in
-    let items = c.self.inside.channels.items in
-    let new = c.say_next.new.channels in
-    let size : length items ≡ c.self.inside.channels.len = search rules in
-    let same : length new ≡ length items =
-    ap length (c.in_ok-said.ensures.channels) ∙ length-channels_after c.args.channel (length c.args.into.now) c.deref_mut.result.now ∙ ap length c.deref_mut.ensures.value in
-    let back : length c.deref_mut-2.result.now ≡ length new = ap length (c.deref_mut-2.ensures.value ∙ back_same c.self.inside.channels.len new items size same) in
-    omega (arith, below, back, same)
+    let size : length c.self.inside.channels.items ≡ c.self.inside.channels.len = search rules in
+    omega (arith, below, heard_many c.args.channel (length c.args.into.now) _ _ _ _ _ size c.deref_mut.ensures.value c.in_ok-said.ensures.channels c.deref_mut-2.ensures.value)
 
 pub note_said-requires-clause-fits : goal.note_said-requires-clause-fits
 note_said-requires-clause-fits c =
@@ -33,23 +29,13 @@ note_said-requires-clause-fits c =
 pub invariant_of-self-2 : goal.invariant_of-self-2
 invariant_of-self-2 c =
     let below = subst (λ (w : World). c.args.channel < length w.channels) (sym c.self.view_is) c.requires in
-    let items = c.self.inside.channels.items in
-    let new = c.say_next.new.channels in
-    let size : length items ≡ c.self.inside.channels.len = search rules in
-    let same : length new ≡ length items =
-    ap length (c.in_ok-said.ensures.channels) ∙ length-channels_after c.args.channel (length c.args.into.now) c.deref_mut.result.now ∙ ap length c.deref_mut.ensures.value in
-    let lent = take c.self.inside.channels.len (new ++ drop (length new) items) in
-    let back : lent ≡ new = back_same c.self.inside.channels.len new items size same in
-    let back_size : length lent ≡ c.self.inside.channels.len = omega (arith, ap length back, same, size) in
-    let noted : length c.note_said.new.channels ≡ length lent =
-    ap length c.note_said.ensures.channels ∙ length-channels_with c.args.channel c.in_ok-said.said c.deref_mut-2.result.now ∙ ap length c.deref_mut-2.ensures.value in
-    let both = back_same c.self.inside.channels.len c.note_said.new.channels lent back_size noted in
+    let size : length c.self.inside.channels.items ≡ c.self.inside.channels.len = search rules in
     kept_count _ _ _ _ _ _ _ _ _ _
     (kept_said _ _ _ _ _ _ _ _ _ _ c.self.invariant c.in_ok-said.said c.args.channel _ _ _
     (c.note_said.ensures.steps ∙ ap (λ (l : List Step). steps_with c.args.channel c.in_ok-said.said l) c.in_ok-make_room.ensures.steps)
-    below (omega (arith, c.note_said.ensures.spare, c.in_ok-make_room.ensures.ok, c.most_owed.ensures))
+    below (omega (arith, c.note_said.ensures.spare, c.in_ok-make_room.ensures.ok))
     (let within = c.in_ok-said.ensures.within in omega (arith, within, c.deref.ensures.len)))
-    _ (ap length both ∙ noted ∙ ap length back ∙ same)
+    _ (noted_as_many c.args.channel (length c.args.into.now) _ _ _ _ _ size c.deref_mut.ensures.value c.in_ok-said.ensures.channels c.deref_mut-2.ensures.value c.in_ok-said.said _ c.note_said.ensures.channels)
 
 pub invariant_of-self-in_err-said : goal.invariant_of-self-in_err-said
 invariant_of-self-in_err-said c =
@@ -59,7 +45,7 @@ invariant_of-self-in_err-said c =
     let same : new ≡ items = c.in_err-said.ensures.err.1 ∙ c.deref_mut.ensures.value in
     let back = back_same c.self.inside.channels.len new items size (ap length same) in
     kept_count _ _ _ _ _ _ _ _ _ _
-    (kept_same _ _ _ _ _ _ _ _ _ _ c.self.invariant _ _ _ _ _ refl refl c.in_ok-make_room.ensures.steps (omega (arith, c.in_ok-make_room.ensures.ok, c.most_owed.ensures))
+    (kept_same _ _ _ _ _ _ _ _ _ _ c.self.invariant _ _ _ _ _ refl refl c.in_ok-make_room.ensures.steps (omega (arith, c.in_ok-make_room.ensures.ok))
     (omega (arith, c.in_err-said.ensures.err.0, c.self.invariant.within)))
     _ (ap length back ∙ ap length same)
 
@@ -74,23 +60,13 @@ returns-in_err-said-clause-err c =
 
 pub returns-clause-ok : goal.returns-clause-ok
 returns-clause-ok c =
-    let items = c.self.inside.channels.items in
-    let new = c.say_next.new.channels in
     let room = length c.args.into.now in
-    let said = c.in_ok-said.said in
-    let size : length items ≡ c.self.inside.channels.len = search rules in
-    let said_of : new ≡ channels_after c.args.channel room items = c.in_ok-said.ensures.channels ∙ ap (λ (l : List Channel). channels_after c.args.channel room l) c.deref_mut.ensures.value in
-    let same : length new ≡ length items = ap length said_of ∙ length-channels_after c.args.channel room items in
-    let lent = take c.self.inside.channels.len (new ++ drop (length new) items) in
-    let back : lent ≡ new = back_same c.self.inside.channels.len new items size same in
-    let back_size : length lent ≡ c.self.inside.channels.len = omega (arith, ap length back, same, size) in
-    let noted : length c.note_said.new.channels ≡ length lent =
-    ap length c.note_said.ensures.channels ∙ length-channels_with c.args.channel said c.deref_mut-2.result.now ∙ ap length c.deref_mut-2.ensures.value in
-    let both = back_same c.self.inside.channels.len c.note_said.new.channels lent back_size noted in
-    let channels = both ∙ c.note_said.ensures.channels ∙ ap (λ (l : List Channel). channels_with c.args.channel said l) (c.deref_mut-2.ensures.value ∙ back ∙ said_of) in
-    let steps = c.note_said.ensures.steps ∙ ap (λ (l : List Step). steps_with c.args.channel said l) c.in_ok-make_room.ensures.steps in
+    let size : length c.self.inside.channels.items ≡ c.self.inside.channels.len = search rules in
     let input = subst (λ (l : List ℕ). drop c.say_next.new.heard l ≡ input_after c.args.channel room (drop c.self.inside.heard l)) c.deref.ensures.value c.in_ok-said.ensures.input in
     let is_next = c.in_ok-said.ensures.ok
     ∙ ap (λ (l : List ℕ). said_by c.args.channel room (drop c.self.inside.heard l) c.deref_mut.result.now) c.deref.ensures.value
     ∙ ap (λ (l : List Channel). said_by c.args.channel room (drop c.self.inside.heard c.self.inside.input.items) l) c.deref_mut.ensures.value in
-    hears c.args.channel c.args.into.now _ _ _ _ said _ _ _ c.self.view_is is_next c.note_said.ensures.answer c.note_said.ensures.front steps input channels
+    hears c.args.channel c.args.into.now _ _ _ _ c.in_ok-said.said _ _ _ c.self.view_is is_next c.note_said.ensures.answer c.note_said.ensures.front
+    (c.note_said.ensures.steps ∙ ap (λ (l : List Step). steps_with c.args.channel c.in_ok-said.said l) c.in_ok-make_room.ensures.steps)
+    input
+    (noted_back c.args.channel room _ _ _ _ _ size c.deref_mut.ensures.value c.in_ok-said.ensures.channels c.deref_mut-2.ensures.value c.in_ok-said.said _ c.note_said.ensures.channels)
