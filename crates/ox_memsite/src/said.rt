@@ -1,8 +1,9 @@
 //! What a link will say, one hearing after another.
 
-ghost use Rattle.std.specs.Prelude.{◌≡◌, [], ◌++◌, drop, IfOk, OnOk, OnErr};
+ghost use Rattle.std.specs.Prelude.{◌≡◌, [], ◌∷◌, ◌++◌, drop, MatchOption, IfOk, OnOk, OnErr};
 ghost use Rattle.ox_memsite.specs.Script.{said_next, said_bytes, left_after, without_empty};
 ghost use Rattle.ox_memsite.specs.Script.{kept_said};
+ghost use Rattle.ox_memsite.specs.declared.said.Said.TheVariants as entries;
 
 use ox_bytes::{Bytes, Memory};
 use std::alloc::Global;
@@ -18,7 +19,7 @@ pub enum Said {
 }
 
 /// What a link will still say.
-#[derive(Debug, Drop)]
+#[derive(Drop)]
 pub struct Script {
     said: Vec<Said>,
     next: usize,
@@ -120,14 +121,31 @@ fn copies(alloc: Global, script: &[Said]) -> Result<Vec<Said>, Memory>
 fn append_copy(alloc: Global, said: &mut Vec<Said>, entry: &Said) -> Result<(), Memory>
     ensures { OnOk result (said.new.items ≡ said.old.items ++ kept_said entry.now) }
 {
-    match entry {
-        Said::Bytes(bytes) => {
-            if !bytes.is_empty() {
-                said.push(Said::Bytes(Bytes::copy(alloc, bytes.as_slice())?))?;
-            }
-        }
-        Said::NotYet => said.push(Said::NotYet)?,
-        Said::End => said.push(Said::End)?,
+    if let Some(copy) = copy_said(alloc, entry)? {
+        said.push(copy)?;
     }
     Ok(())
+}
+
+/// A copy of an entry, unless it has no bytes.
+fn copy_said(alloc: Global, entry: &Said) -> Result<Option<Said>, Memory>
+    ensures { IfOk result (λ copy.
+        MatchOption copy (kept_said entry.now ≡ []) (λ c. kept_said entry.now ≡ c ∷ [])) }
+{
+    match entry {
+        Said::Bytes(bytes) => copy_bytes(alloc, bytes.as_slice()),
+        Said::NotYet => Ok(Some(Said::NotYet)),
+        Said::End => Ok(Some(Said::End)),
+    }
+}
+
+/// A copy of an entry of these bytes, unless there are none.
+fn copy_bytes(alloc: Global, bytes: &[u8]) -> Result<Option<Said>, Memory>
+    ensures { IfOk result (λ copy.
+        MatchOption copy (bytes.now ≡ []) (λ c. kept_said (entries.Bytes bytes.now) ≡ c ∷ [])) }
+{
+    if bytes.is_empty() {
+        return Ok(None);
+    }
+    Ok(Some(Said::Bytes(Bytes::copy(alloc, bytes)?)))
 }
