@@ -11,7 +11,7 @@ use std::alloc::Global;
 
 /// A channel: what it will still say, how often hearing and showing failed, and how often it had
 /// nothing to give. What channel 0 says is the site's input instead.
-#[derive(Debug, Drop)]
+#[derive(Drop)]
 pub struct Channel {
     pub script: Script,
     pub hear_faults: u64,

@@ -9,7 +9,7 @@ use std::marker::Model;
 
 /// Steps in order, and a number of spare places, in which steps can be put where want of memory
 /// must not come up.
-#[derive(Debug, Drop)]
+#[derive(Drop)]
 pub struct Steps {
     items: Vec<Step>,
     free: usize,
@@ -63,7 +63,7 @@ impl Steps {
         ensures steps { self.new.steps ≡ self.old.steps ++ step ∷ [] }
         ensures spare { self.new.spare + 1 ≡ self.old.spare }
     {
-        let _ = self.items.push(step);
+        self.items.push_reserved(step);
         self.free -= 1;
     }
 }
