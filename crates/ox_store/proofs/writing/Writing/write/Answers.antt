@@ -14,68 +14,49 @@ append-requires-clause-fits g c =
     let due = rw c.in-Append.is at c.requires.due in
     due.1
 
-pub returns-in-Append-clause-appended : goal.returns-in-Append-clause-appended
-returns-in-Append-clause-appended g c stays =
-    IfOk-weaker c.append.result _ _ (λ new kept. record { file = kept.0; head = kept.1; records = kept.2 }) c.append.ensures.kept
-
-pub returns-in-Append-clause-turned : goal.returns-in-Append-clause-turned
-returns-in-Append-clause-turned g c must =
-    let due = rw c.in-Append.is at c.requires.due in
-    absurd (due.0 must)
-
-pub returns-in-Append-clause-names : goal.returns-in-Append-clause-names
-returns-in-Append-clause-names g c stack names =
-    IfOk-weaker c.append.result _ _ (λ new kept. subst (λ (h : Head). Names h stack) (sym kept.1) names) c.append.ensures.kept
-
-pub returns-in-Append-clause-stands : goal.returns-in-Append-clause-stands
-returns-in-Append-clause-stands g c told before after is led =
-    let leads = rw c.in-Append.is at led in
-    let old = g.S.Site.seen c.args.site.now in
-    let new = g.S.Site.seen c.append.new.site in
-    on_ok_weaker c.append.result (λ reads. after_record c.args.tail.head.version c.in-Append.framed old new before after c.requires.version is leads reads) (c.append.ensures.appended told)
-
-pub returns-in-Append-clause-any_moment : goal.returns-in-Append-clause-any_moment
-returns-in-Append-clause-any_moment g c told before after is led =
-    let leads = rw c.in-Append.is at led in
-    let old = g.S.Site.seen c.args.site.now in
-    leaves_weaker g.S.Site c.args.site.now c.append.new.site _ _
-    (λ r either. before_or_after c.args.tail.head.version c.in-Append.framed old r.files before after c.requires.version is leads either)
-    (c.append.ensures.any_moment told)
+pub returns-in-Append : goal.returns-in-Append
+returns-in-Append g c = record {
+  appended = λ stays. IfOk-weaker c.append.result _ _ (λ new kept. record { file = kept.0; head = kept.1; records = kept.2 }) c.append.ensures.kept;
+  turned = λ must. let due = rw c.in-Append.is at c.requires.due in absurd (due.0 must);
+  names = λ stack names. IfOk-weaker c.append.result _ _ (λ new kept. subst (λ (h : Head). Names h stack) (sym kept.1) names) c.append.ensures.kept;
+  holds = c.append.ensures.holds;
+  stands = λ told before after is led. let leads = rw c.in-Append.is at led in
+      on_ok_weaker c.append.result
+      (λ reads. after_record c.args.tail.head.version c.in-Append.framed (g.S.Site.seen c.args.site.now) (g.S.Site.seen c.append.new.site) before after c.requires.version is leads reads)
+      (c.append.ensures.appended told);
+  any_moment = λ told before after is led. let leads = rw c.in-Append.is at led in
+      leaves_weaker g.S.Site c.args.site.now c.append.new.site _ _
+      (λ r either. before_or_after c.args.tail.head.version c.in-Append.framed (g.S.Site.seen c.args.site.now) r.files before after c.requires.version is leads either)
+      (c.append.ensures.any_moment told);
+  failed = c.append.ensures.failed;
+  counted = c.append.ensures.counted;
+  writes = c.append.ensures.writes;
+}
 
 pub turn_to-requires-clause-generation : goal.turn_to-requires-clause-generation
 turn_to-requires-clause-generation g c =
     let due = rw c.in-Turn.is at c.requires.due in
     omega (arith, ap (λ (h : Head). h.generation) due.1)
 
-pub returns-in-Turn-clause-appended : goal.returns-in-Turn-clause-appended
-returns-in-Turn-clause-appended g c stays =
-    let due = rw c.in-Turn.is at c.requires.due in
-    absurd (stays due.0)
-
-pub returns-in-Turn-clause-turned : goal.returns-in-Turn-clause-turned
-returns-in-Turn-clause-turned g c must =
-    let due = rw c.in-Turn.is at c.requires.due in
-    IfOk-weaker c.turn_to.result _ _ (λ new kept. record { file = ap (λ (t : Kept). t.file) kept; head = ap (λ (t : Kept). t.head) kept ∙ due.1; records = ap (λ (t : Kept). t.records) kept }) c.turn_to.ensures.kept
-
-pub returns-in-Turn-clause-names : goal.returns-in-Turn-clause-names
-returns-in-Turn-clause-names g c stack names =
-    let due = rw c.in-Turn.is at c.requires.due in
-    IfOk-weaker c.turn_to.result _ _ (λ new kept. subst (λ (h : Head). Names h stack) (sym (ap (λ (t : Kept). t.head) kept ∙ due.1)) (names_next c.args.tail.head stack names)) c.turn_to.ensures.kept
-
-pub returns-in-Turn-clause-stands : goal.returns-in-Turn-clause-stands
-returns-in-Turn-clause-stands g c told before after is led =
-    let due = rw c.in-Turn.is at c.requires.due in
-    let leads = rw c.in-Turn.is at led in
-    let new = g.S.Site.seen c.turn_to.new.site in
-    let whole = c.in-Turn.checkpoint in
-    on_ok_weaker c.turn_to.result (λ reads. after_turn (other c.args.tail.file) whole new after (ap (λ (h : Head). h.version) due.1 ∙ c.requires.version) leads reads) (c.turn_to.ensures.turned told)
-
-pub returns-in-Turn-clause-any_moment : goal.returns-in-Turn-clause-any_moment
-returns-in-Turn-clause-any_moment g c told before after is led =
-    let due = rw c.in-Turn.is at c.requires.due in
-    let leads = rw c.in-Turn.is at led in
-    let old = g.S.Site.seen c.args.site.now in
-    let whole = c.in-Turn.checkpoint in
-    leaves_weaker g.S.Site c.args.site.now c.turn_to.new.site _ _
-    (λ r either. old_or_new (other c.args.tail.file) whole old r.files before after (ap (λ (h : Head). h.version) due.1 ∙ c.requires.version) is leads either)
-    (c.turn_to.ensures.any_moment told)
+pub returns-in-Turn : goal.returns-in-Turn
+returns-in-Turn g c = record {
+  appended = λ stays. let due = rw c.in-Turn.is at c.requires.due in absurd (stays due.0);
+  turned = λ must. let due = rw c.in-Turn.is at c.requires.due in
+      IfOk-weaker c.turn_to.result _ _
+      (λ new kept. record { file = ap (λ (t : Kept). t.file) kept; head = ap (λ (t : Kept). t.head) kept ∙ due.1; records = ap (λ (t : Kept). t.records) kept }) c.turn_to.ensures.kept;
+  names = λ stack names. let due = rw c.in-Turn.is at c.requires.due in
+      IfOk-weaker c.turn_to.result _ _
+      (λ new kept. subst (λ (h : Head). Names h stack) (sym (ap (λ (t : Kept). t.head) kept ∙ due.1)) (names_next c.args.tail.head stack names)) c.turn_to.ensures.kept;
+  holds = c.turn_to.ensures.holds;
+  stands = λ told before after is led. let due = rw c.in-Turn.is at c.requires.due in let leads = rw c.in-Turn.is at led in
+      on_ok_weaker c.turn_to.result
+      (λ reads. after_turn (other c.args.tail.file) c.in-Turn.checkpoint (g.S.Site.seen c.turn_to.new.site) after (ap (λ (h : Head). h.version) due.1 ∙ c.requires.version) leads reads)
+      (c.turn_to.ensures.turned told);
+  any_moment = λ told before after is led. let due = rw c.in-Turn.is at c.requires.due in let leads = rw c.in-Turn.is at led in
+      leaves_weaker g.S.Site c.args.site.now c.turn_to.new.site _ _
+      (λ r either. old_or_new (other c.args.tail.file) c.in-Turn.checkpoint (g.S.Site.seen c.args.site.now) r.files before after (ap (λ (h : Head). h.version) due.1 ∙ c.requires.version) is leads either)
+      (c.turn_to.ensures.any_moment told);
+  failed = c.turn_to.ensures.failed;
+  counted = c.turn_to.ensures.counted;
+  writes = c.turn_to.ensures.writes;
+}

@@ -1,0 +1,17 @@
+-- What holds where a call has a value, where it has a fault, and where a `?` returns.
+use Rattle.std.proofs.Common.{◌≡◌, ◌∙◌, sym}
+use Rattle.std.specs.Prelude.{Result, Ok, Err}
+use Rattle.std.specs.Result.{IfOk}
+
+pub no_value : {T E : Type 0} (r : Result T E) (e : E) (P : T → Type 0) → r ≡ Err e → IfOk r P
+no_value (Ok x) e P is = absurd (cc is)
+no_value (Err f) e P is = tt
+
+pub no_fault : {T E : Type 0} (x : T) (e : E) → ◌≡◌ {A = Result T E} (Ok x) (Err e) → ⊥
+no_fault x e is = absurd (cc is)
+
+pub same_fault : {T E : Type 0} (e f : E) → ◌≡◌ {A = Result T E} (Err e) (Err f) → e ≡ f
+same_fault e f is = cc is
+
+pub not_both : {T E : Type 0} (r : Result T E) (x : T) (e : E) → r ≡ Ok x → r ≡ Err e → ⊥
+not_both r x e ok err = no_fault x e (sym ok ∙ err)
