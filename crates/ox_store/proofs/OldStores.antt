@@ -5,7 +5,7 @@ use Rattle.std.proofs.lemmas.Bool.{false≢true}
 use Rattle.ox_bytes.specs.Reading.{◌>>=◌}
 use Rattle.std.specs.Result.{OnOk}
 use Rattle.ox_outside.specs.Counts.{Counts, NoFault, StopsAtFault}
-use Rattle.ox_outside.specs.Files.{Files, other}
+use Rattle.ox_outside.specs.Files.{Files, file_of, other}
 use Rattle.ox_outside.specs.Runs.{LeavesOnly, OnlyLooks}
 use Rattle.ox_outside.specs.declared.site.Site.{Ghosts as Meanings}
 use Rattle.ox_outside.specs.declared.site.Which.{Which}
@@ -14,7 +14,7 @@ use Rattle.ox_outside.proofs.Calls.{leaves_then, leaves_weaker}
 use Rattle.ox_outside.proofs.Counts.{went_on}
 use Rattle.ox_gated.specs.Layout.{Whole, is_lawful}
 use Rattle.ox_gated.specs.OldReading.{old_reading}
-use Rattle.ox_gated.specs.OtherFile.{IsOldOrNew, ReadsAlike, last_generation, tail_of_other}
+use Rattle.ox_gated.specs.OtherFile.{IsOldOrNew, IsSpared, ReadsAlike, last_generation, tail_of_other}
 use Rattle.ox_gated.specs.Reading.{Fault, Found, IntactPart, reading}
 use Rattle.ox_gated.specs.Tail.{Keeps, Kept}
 use Rattle.ox_gated.proofs.OldReading.{old_is_reading}
@@ -109,6 +109,13 @@ has_migrated tail made head gate found turned next at = record {
 pub other_other : (file : Which) → other (other file) ≡ file
 other_other A = refl
 other_other B = refl
+
+-- the file that was current stays as it is
+pub spared_other : (tail made : Kept) (head : Head) (gate : ℕ) (old mid new : Files) → made ≡ tail_of_other tail.file head gate → mid ≡ old → IsSpared tail.file mid new
+    → file_of new (other made.file) ≡ file_of old (other made.file)
+spared_other tail made head gate old mid new turned same spared =
+    let at : other made.file ≡ tail.file = ap (λ (t : Kept). other t.file) turned ∙ other_other tail.file in
+    subst (λ (w : Which). file_of new w ≡ file_of old w) (sym at) (spared ∙ ap (λ (f : Files). file_of f tail.file) same)
 
 -- what a crash leaves while the other file takes the place of the current one
 pub old_or_migrated : (file : Which) (whole : Whole) (old files image : Files) (made : Stack × ℕ) → files ≡ old → StaysOld old → old_stands old ≡ Ok made → whole.head.version ≡ 2

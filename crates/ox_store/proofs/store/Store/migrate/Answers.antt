@@ -1,40 +1,100 @@
-use Rattle.std.proofs.Common.{◌∙◌, ap}
+use Rattle.std.proofs.Common.{◌∙◌, inl, refl, ap}
 use Rattle.std.proofs.lemmas.Result.{err_from_is_err_and}
-use Rattle.std.specs.Prelude.{◌+◌, length, Err, IsErrOf}
+use Rattle.std.specs.Prelude.{◌+◌, ◌⊎◌, length, Err, IsErrOf}
 use Rattle.ox_outside.specs.Counts.{IsFailure}
 use Rattle.ox_outside.specs.Files.{other}
-use Rattle.ox_outside.proofs.Counts.{stops_after, stops_as}
+use Rattle.ox_outside.proofs.Calls.{leaves_weaker}
+use Rattle.ox_outside.proofs.Counts.{no_fault_then, stops_after, stops_as, stops_at_none, then_rose}
 use Rattle.ox_gated.specs.Layout.{body_at}
 use Rattle.ox_gated.specs.declared.head.Head.{Head}
+use Rattle.ox_gated.proofs.Writing.{all_worked, writes_looking, writes_then}
 use Rattle.ox_index.specs.Chain.{stack_in}
-use Rattle.ox_store.proofs.OldStores.{any_moment, has_migrated, none_failed}
+use Rattle.ox_store.specs.Migrate.{IsOldOrMigrated}
+use Rattle.ox_store.proofs.Exits.{no_fault, no_value, not_both}
+use Rattle.ox_store.proofs.FilesOfStores.{after_turn}
+use Rattle.ox_store.proofs.MigrateFaults.{passed_on, passed_so}
+use Rattle.ox_store.proofs.OldStores.{any_moment, has_migrated, none_failed, spared_other}
 use Rattle.ox_store.specs.declared.fault.MigrateFault.TheVariants.{DiskFault}
 use Rattle.ox_store.proofs.store.Store.migrate.Goals as goal
 
-pub returns-in_err-tail-clause-any_moment : goal.returns-in_err-tail-clause-any_moment
-returns-in_err-tail-clause-any_moment g c told =
+-- ---- where no store was opened
+
+pub returns-in_err-chain : goal.returns-in_err-chain
+returns-in_err-chain g c =
+    let left = c.from_residual.result in
+    let fault = c.in_err-chain.field-0.0 in
+    let p = err_from_is_err_and left c.from_residual.ensures.1 in
+    let looks = c.open_old.ensures.looks in record {
+      commands = λ told. no_value left p.0 _ p.1;
+      stands = λ told. no_value left p.0 _ p.1;
+      turned = λ told found is. no_value left p.0 _ p.1;
+      spared = λ told. no_value left p.0 _ p.1;
+      fresh = no_value left p.0 _ p.1;
+      holds = λ told. no_value left p.0 _ p.1;
+      fault = λ told. rw (p.1, p.2) (c.in_err-chain.ensures.fault told);
+      wrote_nothing = rw p.1 (λ other. looks);
+      untouched = λ told fault is. looks;
+      any_moment = λ told. leaves_weaker g.S.Site c.args.site.now c.open_old.new.site (g.S.Site.may_leave c.args.site.now)
+          (λ r. g.S.Site.may_leave c.args.site.now r ⊎ IsOldOrMigrated (g.S.Site.seen c.args.site.now) r.files) (λ r may. inl may) looks.moments;
+      failed = λ is. c.in_err-chain.ensures.failed (passed_on left p.0 fault DiskFault p.1 p.2 is);
+      counted = stops_as _ ⊥ ⊥ (IsErrOf left DiskFault) ⊥ ⊥ _ _ (λ is. passed_so left p.0 fault DiskFault p.1 p.2 is) (λ no. no) (λ no. no) c.in_err-chain.ensures.counted;
+      writes = writes_looking g.S.Site g.met.S.Site.logs_now c.args.site.now c.open_old.new.site looks;
+    }
+
+-- ---- where the other file doesn't take the place
+
+pub returns-in_err-tail : goal.returns-in_err-tail
+returns-in_err-tail g c =
     let parts = c.in_ok-chain in
     let old = parts.field-0 in
-    any_moment g.S.Site (other old.tail.file) old.file (stack_in old.chain, old.commands) c.args.site.now c.open_old.new.site c.turn_to.new.site parts.ensures.looks (parts.ensures.stays told)
-    (parts.ensures.commands told) (ap (λ (h : Head). h.version) parts.ensures.head) parts.ensures.file
-    (c.turn_to.ensures.any_moment (parts.ensures.looks.calls.as_told ∙ told))
+    let looks = parts.ensures.looks in
+    let left = c.from_residual-in_err-tail.result in
+    let p = err_from_is_err_and left c.from_residual-in_err-tail.ensures.1 in record {
+      commands = λ told. no_value left p.0 _ p.1;
+      stands = λ told. no_value left p.0 _ p.1;
+      turned = λ told found is. no_value left p.0 _ p.1;
+      spared = λ told. no_value left p.0 _ p.1;
+      fresh = no_value left p.0 _ p.1;
+      holds = λ told. no_value left p.0 _ p.1;
+      fault = λ told. rw (p.1, p.2) tt;
+      wrote_nothing = rw p.1 (λ other. absurd (other p.2));
+      untouched = λ told fault is. absurd (not_both _ _ fault (parts.ensures.commands told) is);
+      any_moment = λ told. any_moment g.S.Site (other old.tail.file) old.file (stack_in old.chain, old.commands) c.args.site.now c.open_old.new.site c.turn_to.new.site looks (parts.ensures.stays told)
+          (parts.ensures.commands told) (ap (λ (h : Head). h.version) parts.ensures.head) parts.ensures.file
+          (c.turn_to.ensures.any_moment (looks.calls.as_told ∙ told));
+      failed = λ is. then_rose _ _ _ looks.calls.none_fell.disk c.in_err-tail.ensures.failed;
+      counted = stops_after _ _ _ _ _ _ (none_failed _ _ _ _ parts.ensures.counted)
+          (stops_as (IsFailure c.turn_to.result) ⊥ ⊥ (IsErrOf left DiskFault) ⊥ ⊥ _ _ (λ failed. p.1 ∙ ap Err p.2) (λ no. no) (λ no. no) c.turn_to.ensures.counted);
+      writes = writes_then g.S.Site g.met.S.Site.logs_now c.args.site.now c.open_old.new.site c.turn_to.new.site
+          (writes_looking g.S.Site g.met.S.Site.logs_now c.args.site.now c.open_old.new.site looks) c.turn_to.ensures.writes;
+    }
 
-pub returns-in_err-tail-clause-counted : goal.returns-in_err-tail-clause-counted
-returns-in_err-tail-clause-counted g c =
-    let p = err_from_is_err_and c.from_residual-in_err-tail.result c.from_residual-in_err-tail.ensures.1 in
-    stops_after _ _ _ _ _ _ (none_failed _ _ _ _ c.in_ok-chain.ensures.counted)
-    (stops_as (IsFailure c.turn_to.result) ⊥ ⊥ (IsErrOf c.from_residual-in_err-tail.result DiskFault) ⊥ ⊥ _ _ (λ failed. p.1 ∙ ap Err p.2) (λ no. no) (λ no. no) c.turn_to.ensures.counted)
+-- ---- where it does
 
-pub returns-clause-any_moment : goal.returns-clause-any_moment
-returns-clause-any_moment g c told =
+pub returns : goal.returns
+returns g c =
     let parts = c.in_ok-chain in
     let old = parts.field-0 in
-    any_moment g.S.Site (other old.tail.file) old.file (stack_in old.chain, old.commands) c.args.site.now c.open_old.new.site c.turn_to.new.site parts.ensures.looks (parts.ensures.stays told)
-    (parts.ensures.commands told) (ap (λ (h : Head). h.version) parts.ensures.head) parts.ensures.file
-    (c.turn_to.ensures.any_moment (parts.ensures.looks.calls.as_told ∙ told))
-
-pub returns-clause-turned : goal.returns-clause-turned
-returns-clause-turned g c told found is =
-    let parts = c.in_ok-chain in
-    let old = parts.field-0 in
-    has_migrated old.tail c.in_ok-tail.tail old.file.head (body_at + length old.file.body) found c.in_ok-tail.ensures.kept parts.ensures.head (parts.ensures.tail told found is)
+    let looks = parts.ensures.looks in
+    let files = g.S.Site.seen c.args.site.now in
+    let new = g.S.Site.seen c.turn_to.new.site in
+    let whole = old.file in record {
+      commands = parts.ensures.commands;
+      stands = λ told. after_turn (other old.tail.file) whole new (stack_in old.chain) (ap (λ (h : Head). h.version) parts.ensures.head) parts.ensures.file
+          (c.in_ok-tail.ensures.turned (looks.calls.as_told ∙ told));
+      turned = λ told found is. has_migrated old.tail c.in_ok-tail.tail whole.head (body_at + length whole.body) found c.in_ok-tail.ensures.kept parts.ensures.head (parts.ensures.tail told found is);
+      spared = λ told. spared_other old.tail c.in_ok-tail.tail whole.head (body_at + length whole.body) files (g.S.Site.seen c.open_old.new.site) new c.in_ok-tail.ensures.kept looks.nothing.files
+          (c.in_ok-tail.ensures.spared (looks.calls.as_told ∙ told));
+      fresh = refl;
+      holds = λ told. c.in_ok-tail.ensures.holds (looks.calls.as_told ∙ told);
+      fault = λ told. tt;
+      wrote_nothing = tt;
+      untouched = λ told fault is. absurd (not_both _ _ fault (parts.ensures.commands told) is);
+      any_moment = λ told. any_moment g.S.Site (other old.tail.file) whole (stack_in old.chain, old.commands) c.args.site.now c.open_old.new.site c.turn_to.new.site looks (parts.ensures.stays told)
+          (parts.ensures.commands told) (ap (λ (h : Head). h.version) parts.ensures.head) parts.ensures.file
+          (c.turn_to.ensures.any_moment (looks.calls.as_told ∙ told));
+      failed = λ is. absurd (no_fault _ _ is);
+      counted = stops_at_none _ _ _ _ _ (no_fault_then _ _ _ (none_failed _ _ _ _ parts.ensures.counted) (all_worked _ _ c.in_ok-tail.ensures.counted));
+      writes = writes_then g.S.Site g.met.S.Site.logs_now c.args.site.now c.open_old.new.site c.turn_to.new.site
+          (writes_looking g.S.Site g.met.S.Site.logs_now c.args.site.now c.open_old.new.site looks) c.turn_to.ensures.writes;
+    }
