@@ -1,4 +1,5 @@
 pub mod CommandsInMemory
+pub mod EmptyFiles
 pub mod Exits
 pub mod FilesOfStores
 pub mod HeadLemmas
