@@ -1,5 +1,3 @@
-use Rattle.std.proofs.Common.{◌∙◌}
-use Rattle.std.proofs.lemmas.Option.{same_Some}
 use Rattle.std.proofs.lemmas.Result.{err_from_is_err_and}
 use Rattle.ox_index.specs.Chain.{stack_in}
 use Rattle.ox_store.proofs.Exits.{no_value}
@@ -32,15 +30,3 @@ returns-in-Ok c =
       refused = tt;
       err = tt;
     }
-
-pub returns-in-Err : goal.returns-in-Err
-returns-in-Err c = record {
-  ok = tt;
-  due = tt;
-  leads = tt;
-  names = tt;
-  change = tt;
-  left = tt;
-  refused = tt;
-  err = same_Some (stack_in c.cancel.new.self) (stack_in c.args.chain.now) (c.cancel.ensures.stack ∙ c.in_ok-obey.ensures.mark);
-}
