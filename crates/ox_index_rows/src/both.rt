@@ -5,6 +5,7 @@ ghost use Rattle.ox_index.specs.Live.{index_in, profile_in};
 
 use crate::end::print_end;
 use crate::look::dump;
+use crate::print::say;
 use ox_index::Live;
 use ox_model::Change;
 use std::alloc::Global;
@@ -44,6 +45,6 @@ fn go_back_and_on(rt: &impl Print, live: &mut Live, change: &Change, words: &str
 
 /// What was done, and the whole index then.
 fn dump_step(rt: &impl Print, step: &str, live: &Live, words: &str) -> io::Result<()> {
-    println!(rt; "{step}")?;
+    say(rt, step)?;
     dump(rt, live, words)
 }

@@ -4,6 +4,7 @@ ghost use Rattle.std.specs.Prelude.{IsSome};
 ghost use Rattle.ox_index.specs.Chain.{earlier_in};
 
 use crate::end::print_end;
+use crate::print::say;
 use crate::words::bytes_of;
 use ox_index::Chain;
 use std::alloc::Global;
@@ -20,7 +21,7 @@ pub fn carry_out_and_cancel(
     match words.split_once(' ') {
         Some(("block", words)) => match bytes_of(alloc, words) {
             Some(block) => connect_and_cancel(rt, alloc, chain, &block),
-            None => println!(rt; "no memory"),
+            None => say(rt, "no memory"),
         },
         _ => disconnect_and_cancel(rt, alloc, chain),
     }

@@ -1,5 +1,6 @@
 //! How a command ends, in a line.
 
+use crate::print::say;
 use crate::show::print_tip;
 use ox_index::{Live, Why};
 use ox_model::Refusal;
@@ -10,7 +11,7 @@ use std::io;
 fn print_refusal(rt: &impl Print, alloc: Global, refusal: &Refusal) -> io::Result<()> {
     match refusal.line(alloc) {
         Ok(line) => print!(rt; "{}", str::from_utf8(line.as_slice()).unwrap_or("no text")),
-        Err(_) => println!(rt; "refused, and no memory to say why"),
+        Err(_) => say(rt, "refused, and no memory to say why"),
     }
 }
 
@@ -24,6 +25,6 @@ pub fn print_end(
     match fault {
         None => print_tip(rt, live),
         Some(Why::Refused(refusal)) => print_refusal(rt, alloc, &refusal),
-        Some(Why::Memory) => println!(rt; "no memory"),
+        Some(Why::Memory) => say(rt, "no memory"),
     }
 }

@@ -1,6 +1,6 @@
 //! Where a change leads.
 
-use crate::print::print_hex;
+use crate::print::{print_hex, say};
 use crate::whole::rows_of;
 use crate::words::{NO_ROW, index_and_change_of};
 use ox_bytes::Bytes;
@@ -23,12 +23,12 @@ fn rows_at_end(alloc: Global, words: &str, back: bool) -> Result<Bytes, &'static
 pub fn print_lead(rt: &impl Print, alloc: Global, words: &str, back: bool) -> io::Result<()> {
     match rows_at_end(alloc, words, back) {
         Ok(rows) => print_rows(rt, rows.as_slice()),
-        Err(why) => println!(rt; "{why}"),
+        Err(why) => say(rt, why),
     }
 }
 
 /// Rows, in a line.
 fn print_rows(rt: &impl Print, rows: &[u8]) -> io::Result<()> {
     print_hex(rt, rows)?;
-    println!(rt)
+    say(rt, "")
 }

@@ -2,6 +2,7 @@
 
 ghost use Rattle.ox_sat.specs.Profiles.{IsProfile};
 
+use crate::print::say;
 use crate::words::{NO_ROW, bytes_of, profile_in};
 use ox_index::Live;
 use ox_model::View;
@@ -39,13 +40,16 @@ fn live_often(alloc: Global, words: &str, times: u32) -> Result<Live, &'static s
 pub fn print_load(rt: &impl Print, alloc: Global, words: &str, times: u32) -> io::Result<()> {
     match live_often(alloc, words, times) {
         Ok(live) => print_size(rt, &live),
-        Err(why) => println!(rt; "{why}"),
+        Err(why) => say(rt, why),
     }
 }
 
 /// Prints how much an index in memory has.
 fn print_size(rt: &impl Print, live: &Live) -> io::Result<()> {
-    print!(rt; "{} blocks, ", live.blocks())?;
-    print!(rt; "{} inscriptions, ", live.inscriptions())?;
-    println!(rt; "{} runes", live.runes())
+    println!(rt;
+        "{} blocks, {} inscriptions, {} runes",
+        live.blocks(),
+        live.inscriptions(),
+        live.runes()
+    )
 }

@@ -6,6 +6,7 @@
 //! - `name=N` and `rune=BLOCK:TX`: the number of the rune with a name or an id;
 //! - `height=N`: the hash of the block at a height.
 
+use crate::print::say;
 use crate::show::{
     print_audit, print_balance, print_block, print_found, print_index, print_numbers,
     print_outpoint, print_output,
@@ -79,13 +80,13 @@ fn number_of(live: &Live, name: &str, value: &str) -> Option<u32> {
 fn print_number_of(rt: &impl Print, word: &str, number: Option<u32>) -> io::Result<()> {
     print!(rt; "{word}")?;
     print_found(rt, number)?;
-    println!(rt)
+    say(rt, "")
 }
 
 /// The output at an outpoint, and its runes.
 fn look_at(rt: &impl Print, live: &Live, at: Option<OutPoint>) -> io::Result<()> {
     let Some(at) = at else {
-        return println!(rt; "no outpoint");
+        return say(rt, "no outpoint");
     };
     print!(rt; "at ")?;
     print_outpoint(rt, &at)?;
@@ -94,18 +95,17 @@ fn look_at(rt: &impl Print, live: &Live, at: Option<OutPoint>) -> io::Result<()>
         None => print!(rt; " none")?,
     }
     print_balance(rt, live.balance(&at))?;
-    println!(rt)
+    say(rt, "")
 }
 
 /// Where a satoshi is, and which inscriptions it and the next one up bear.
 fn look_for(rt: &impl Print, live: &Live, sat: Option<u64>) -> io::Result<()> {
     let Some(sat) = sat else {
-        return println!(rt; "no satoshi");
+        return say(rt, "no satoshi");
     };
     print!(rt; "satoshi {sat} ")?;
     print_place(rt, live.locate(sat))?;
-    print!(rt; ":")?;
-    print_numbers(rt, live.on(sat))?;
+    print_numbers(rt, ":", live.on(sat))?;
     print_next(rt, live, sat)
 }
 
@@ -124,9 +124,9 @@ fn print_place(rt: &impl Print, place: Option<Place>) -> io::Result<()> {
 /// The least satoshi from a number up that bears an inscription, and those on it.
 fn print_next(rt: &impl Print, live: &Live, sat: u64) -> io::Result<()> {
     let Some((next, numbers)) = live.next_on(sat) else {
-        return println!(rt; ", next none");
+        return say(rt, ", next none");
     };
-    print!(rt; ", next {next}:")?;
-    print_numbers(rt, numbers)?;
-    println!(rt)
+    print!(rt; ", next {next}")?;
+    print_numbers(rt, ":", numbers)?;
+    say(rt, "")
 }

@@ -81,14 +81,15 @@ use crate::lead::print_lead;
 use crate::load::print_load;
 use crate::look::{dump, print_looks};
 use crate::plain::dump_plain;
+use crate::print::say;
 use crate::read::{print_change_again, print_fronts, print_index_again};
 use crate::requests::{print_answer, reply_often};
 use crate::sound::{print_keeps, print_sound};
 use crate::words::{bytes_of, profile_in};
-use anyhow::Context;
 use ox_index::{Chain, Live, Why};
 use ox_routes::Routes;
 use std::alloc::Global;
+use std::io::ErrorKind;
 use std::{env, io};
 
 /// An index by itself, or one whose newest blocks can be taken back.
@@ -130,7 +131,7 @@ fn begin(rt: &impl Print, index: &mut Index, new: Option<Index>) -> io::Result<(
             *index = new;
             Ok(())
         }
-        None => println!(rt; "no memory"),
+        None => say(rt, "no memory"),
     }
 }
 
@@ -145,7 +146,7 @@ fn connect(index: &mut Index, block: &[u8]) -> Option<Why> {
 /// Connects the block that is spelled so, and says how that ended.
 fn connect_row(rt: &impl Print, alloc: Global, index: &mut Index, words: &str) -> io::Result<()> {
     let Some(block) = bytes_of(alloc, words) else {
-        return println!(rt; "no memory");
+        return say(rt, "no memory");
     };
     let fault = connect(index, &block);
     print_end(rt, alloc, live_in(index), fault)
@@ -154,7 +155,7 @@ fn connect_row(rt: &impl Print, alloc: Global, index: &mut Index, words: &str) -
 /// Takes a chain's newest block back, and says how that ended.
 fn disconnect_row(rt: &impl Print, alloc: Global, index: &mut Index) -> io::Result<()> {
     let Index::Chain(chain) = index else {
-        return println!(rt; "no chain");
+        return say(rt, "no chain");
     };
     let fault = chain.disconnect().err();
     print_end(rt, alloc, chain.live(), fault)
@@ -164,18 +165,18 @@ fn disconnect_row(rt: &impl Print, alloc: Global, index: &mut Index) -> io::Resu
 fn cancel_row(rt: &impl Print, alloc: Global, index: &mut Index, words: &str) -> io::Result<()> {
     match index {
         Index::Chain(chain) => carry_out_and_cancel(rt, alloc, chain, words),
-        Index::Live(_) => println!(rt; "no chain"),
+        Index::Live(_) => say(rt, "no chain"),
     }
 }
 
 /// Leads a live index both ways by the block that is spelled first.
 fn both_row(rt: &impl Print, alloc: Global, index: &mut Index, rest: &str) -> io::Result<()> {
     let Index::Live(live) = index else {
-        return println!(rt; "no live index");
+        return say(rt, "no live index");
     };
     let (digits, words) = rest.split_once(' ').unwrap_or((rest, ""));
     let Some(block) = bytes_of(alloc, digits) else {
-        return println!(rt; "no memory");
+        return say(rt, "no memory");
     };
     lead_both_ways(rt, alloc, live, &block, words)
 }
@@ -186,8 +187,12 @@ fn print_kept(rt: &impl Print, index: &Index) -> io::Result<()> {
         return Ok(());
     };
     let about = chain.about();
-    print!(rt; "kept {} of {}, ", about.kept, about.depth)?;
-    println!(rt; "{} changes", chain.changes().len())
+    println!(rt;
+        "kept {} of {}, {} changes",
+        about.kept,
+        about.depth,
+        chain.changes().len()
+    )
 }
 
 /// Dumps an index.
@@ -206,7 +211,7 @@ fn request_row(
 ) -> io::Result<()> {
     match index {
         Index::Chain(chain) => print_answer(rt, alloc, routes, chain, row),
-        Index::Live(_) => println!(rt; "no row, or no chain"),
+        Index::Live(_) => say(rt, "no row, or no chain"),
     }
 }
 
@@ -245,7 +250,7 @@ fn run(
 ) -> io::Result<()> {
     let (word, rest) = row.split_once(' ').unwrap_or((row, ""));
     match word {
-        "#" => println!(rt; "{row}"),
+        "#" => say(rt, row),
         "live" => begin(rt, index, new_live(alloc, rest)),
         "chain" => begin(rt, index, new_chain(alloc, rest)),
         "block" => connect_row(rt, alloc, index, rest),
@@ -288,32 +293,48 @@ fn repeat(
     let Index::Chain(chain) = index else {
         return Ok(());
     };
+    if times == 0 {
+        return Ok(());
+    }
     match reply_often(alloc, routes, chain, text, times) {
         Some(tally) => println!(rt; "{} replies of {} bytes", tally.replies, tally.bytes),
-        None => println!(rt; "no memory"),
+        None => say(rt, "no memory"),
     }
 }
 
 /// How often work is done: as the argument says, or once.
-fn times_of(rt: &HostRuntime) -> anyhow::Result<u32> {
+fn times_of(rt: &HostRuntime) -> io::Result<u32> {
     match env::args(rt)?.nth(1) {
-        Some(word) => Ok(word.as_str().parse::<u32>()?),
+        Some(word) => Ok(word.as_str().parse().unwrap_or(1)),
         None => Ok(1),
     }
 }
 
-/// Does what each row of a text says. What is timed is done so many times.
-fn run_times(rt: &impl Print, alloc: Global, text: &str, times: u32) -> anyhow::Result<()> {
-    let routes = Routes::new(alloc).ok().context("no memory")?;
-    let mut index = new_live(alloc, "lab").context("no memory")?;
-    run_all(rt, alloc, &routes, &mut index, text, times)?;
-    if times > 1 {
-        repeat(rt, alloc, &routes, &index, text, times - 1)?;
-    }
-    Ok(())
+/// Does what each row of a text says, from an index of no block on. What is timed is done so many
+/// times.
+fn run_by(
+    rt: &impl Print,
+    alloc: Global,
+    routes: &Routes,
+    text: &str,
+    times: u32,
+) -> io::Result<()> {
+    let Some(mut index) = new_live(alloc, "lab") else {
+        return Err(ErrorKind::OutOfMemory.into());
+    };
+    run_all(rt, alloc, routes, &mut index, text, times)?;
+    repeat(rt, alloc, routes, &index, text, times.saturating_sub(1))
 }
 
-fn main(rt: HostRuntime) -> anyhow::Result<()> {
+/// The same with the routes of all requests.
+fn run_times(rt: &impl Print, alloc: Global, text: &str, times: u32) -> io::Result<()> {
+    match Routes::new(alloc) {
+        Ok(routes) => run_by(rt, alloc, &routes, text, times),
+        Err(_) => Err(ErrorKind::OutOfMemory.into()),
+    }
+}
+
+fn main(rt: HostRuntime) -> io::Result<()> {
     let times = times_of(&rt)?;
     let text = io::read_to_string(rt.alloc(), rt.stdin())?;
     run_times(&rt, rt.alloc(), text.as_str(), times)

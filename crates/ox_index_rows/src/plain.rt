@@ -6,6 +6,7 @@ ghost use Rattle.ox_plain.specs.Plain.{index_in as stands};
 ghost use Rattle.ox_rows.specs.RowFits.{KeepsIndex};
 
 use crate::look::dump;
+use crate::print::say;
 use ox_bytes::Memory;
 use ox_checkpoint::sound_data_can_be_put;
 use ox_index::Live;
@@ -19,7 +20,7 @@ use std::io;
 pub fn dump_plain(rt: &impl Print, alloc: Global, live: &Live, words: &str) -> io::Result<()> {
     match made_again(alloc, live) {
         Ok(again) => dump(rt, &again, words),
-        Err(_) => println!(rt; "no memory"),
+        Err(_) => say(rt, "no memory"),
     }
 }
 

@@ -1,6 +1,11 @@
-//! Bytes, in hex digits.
+//! Texts, and bytes in hex digits.
 
 use std::io;
+
+/// A text, in a line.
+pub fn say(rt: &impl Print, text: &str) -> io::Result<()> {
+    println!(rt; "{text}")
+}
 
 /// Bytes as they stand.
 pub fn print_hex(rt: &impl Print, bytes: &[u8]) -> io::Result<()> {

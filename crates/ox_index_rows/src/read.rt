@@ -1,7 +1,7 @@
 //! What rows read as, in a line.
 
 use crate::again::{Again, Times, change_again, index_again};
-use crate::print::print_hex;
+use crate::print::{print_hex, say};
 use crate::words::{NO_ROW, bytes_of};
 use ox_rows::{RowsFault, read_change, read_index};
 use std::alloc::Global;
@@ -13,20 +13,24 @@ const MOST_SHOWN: usize = 1_000_000;
 /// How many bytes were read, and how that is spelled.
 fn print_spelled(rt: &impl Print, bytes: &[u8], again: &Again) -> io::Result<()> {
     let spelled = again.spelled.as_slice();
-    print!(rt; "{} bytes ", again.taken)?;
     if spelled.len() > MOST_SHOWN {
-        let is_so = bytes.starts_with(spelled);
-        return println!(rt; "spelled by {}, as they are: {is_so}", spelled.len());
+        return println!(rt;
+            "{} bytes spelled by {}, as they are: {}",
+            again.taken,
+            spelled.len(),
+            bytes.starts_with(spelled)
+        );
     }
+    print!(rt; "{} bytes ", again.taken)?;
     print_hex(rt, spelled)?;
-    println!(rt)
+    say(rt, "")
 }
 
 /// What was read and spelled, or why not.
 fn print_again(rt: &impl Print, bytes: &[u8], again: Result<Again, RowsFault>) -> io::Result<()> {
     match again {
         Ok(again) => print_spelled(rt, bytes, &again),
-        Err(RowsFault::Memory) => println!(rt; "no memory"),
+        Err(RowsFault::Memory) => say(rt, "no memory"),
         Err(RowsFault::NotRows { at }) => println!(rt; "not rows {at}"),
     }
 }
@@ -39,7 +43,7 @@ pub fn print_index_again(
     times: Times,
 ) -> io::Result<()> {
     let Some(bytes) = bytes_of(alloc, word) else {
-        return println!(rt; "{}", NO_ROW);
+        return say(rt, NO_ROW);
     };
     print_again(rt, &bytes, index_again(alloc, &bytes, times))
 }
@@ -47,13 +51,13 @@ pub fn print_index_again(
 /// Reads a change and spells it, and prints what came of it.
 pub fn print_change_again(rt: &impl Print, alloc: Global, word: &str) -> io::Result<()> {
     let Some(bytes) = bytes_of(alloc, word) else {
-        return println!(rt; "{}", NO_ROW);
+        return say(rt, NO_ROW);
     };
     print_again(rt, &bytes, change_again(alloc, &bytes))
 }
 
 /// What rows are of.
-#[derive(Clone, Copy, PartialEq, Eq)]
+#[derive(Clone, Copy)]
 enum Kind {
     Index,
     Change,
@@ -97,13 +101,13 @@ fn print_places(rt: &impl Print, alloc: Global, kind: Kind, bytes: &[u8]) -> io:
         let (front, _) = bytes.split_at(len);
         print_place(rt, fault_in(alloc, kind, front))?;
     }
-    println!(rt)
+    say(rt, "")
 }
 
 /// Prints the place of the fault of each front of the bytes that are spelled behind their kind.
 pub fn print_fronts(rt: &impl Print, alloc: Global, words: &str) -> io::Result<()> {
     match kind_and_bytes_of(alloc, words) {
         Some((kind, bytes)) => print_places(rt, alloc, kind, &bytes),
-        None => println!(rt; "{}", NO_ROW),
+        None => say(rt, NO_ROW),
     }
 }

@@ -1,16 +1,11 @@
 //! Replies, in lines.
 
-use crate::print::print_hex;
+use crate::print::{print_hex, say};
 use ox_http::Reply;
 use std::io;
 
 /// A body of more bytes is shown by its length and a checksum.
 const MOST_SHOWN: usize = 20_000;
-
-/// Bytes that are text.
-fn print_text(rt: &impl Print, bytes: &[u8]) -> io::Result<()> {
-    print!(rt; "{}", str::from_utf8(bytes).unwrap_or("no text"))
-}
 
 /// A sum in which each byte's place counts.
 fn checksum_of(bytes: &[u8]) -> u64 {
@@ -41,9 +36,7 @@ fn print_digits(rt: &impl Print, body: &[u8]) -> io::Result<()> {
 
 /// A part of a reply's head.
 fn print_part(rt: &impl Print, bytes: &[u8]) -> io::Result<()> {
-    print!(rt; " <")?;
-    print_text(rt, bytes)?;
-    print!(rt; ">")
+    print!(rt; " <{}>", str::from_utf8(bytes).unwrap_or("no text"))
 }
 
 /// A reply's head.
@@ -64,5 +57,5 @@ fn print_head(rt: &impl Print, reply: &Reply) -> io::Result<()> {
 pub fn print_reply(rt: &impl Print, reply: &Reply) -> io::Result<()> {
     print_head(rt, reply)?;
     print_body(rt, reply.body.as_slice())?;
-    println!(rt)
+    say(rt, "")
 }

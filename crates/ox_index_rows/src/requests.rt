@@ -1,5 +1,6 @@
 //! Requests of a chain, as rows say them, and their replies.
 
+use crate::print::say;
 use crate::replies::print_reply;
 use crate::words::NO_ROW;
 use ox_bytes::Bytes;
@@ -55,12 +56,32 @@ fn request_in(alloc: Global, row: &str) -> Option<Request> {
     }
 }
 
+/// The reply to a request by routes that are lent. `None` where there is no memory for it.
+fn reply_by(alloc: Global, routes: &Routes, chain: &Chain, request: &Request) -> Option<Reply> {
+    answer_by(alloc, routes, chain.live(), &chain.about(), request).ok()
+}
+
+/// Whether the reply to a request is this one by routes that are lent.
+fn is_reply_by(
+    alloc: Global,
+    routes: &Routes,
+    chain: &Chain,
+    request: &Request,
+    reply: &Reply,
+) -> bool {
+    match reply_by(alloc, routes, chain, request) {
+        Some(lent) => lent == *reply,
+        None => false,
+    }
+}
+
 /// The reply to a request, which is the same by routes that are lent.
 fn reply_to(alloc: Global, routes: &Routes, chain: &Chain, request: &Request) -> Option<Reply> {
-    let about = chain.about();
-    let reply = answer(alloc, chain.live(), &about, request).ok()?;
-    let lent = answer_by(alloc, routes, chain.live(), &about, request).ok()?;
-    if lent == reply { Some(reply) } else { None }
+    let reply = answer(alloc, chain.live(), &chain.about(), request).ok()?;
+    if is_reply_by(alloc, routes, chain, request, &reply) {
+        return Some(reply);
+    }
+    None
 }
 
 /// Prints the reply to a row's request.
@@ -72,11 +93,11 @@ pub fn print_answer(
     row: &str,
 ) -> io::Result<()> {
     let Some(request) = request_in(alloc, row) else {
-        return println!(rt; "{}", NO_ROW);
+        return say(rt, NO_ROW);
     };
     match reply_to(alloc, routes, chain, &request) {
         Some(reply) => print_reply(rt, &reply),
-        None => println!(rt; "another reply by routes that are lent, or no memory"),
+        None => say(rt, "another reply by routes that are lent, or no memory"),
     }
 }
 
@@ -103,13 +124,22 @@ fn reply_once(
     rows: &[&str],
     tally: &mut Tally,
 ) -> Option<()> {
-    let about = chain.about();
     for row in rows {
         let request = request_in(alloc, *row)?;
-        let reply = answer_by(alloc, routes, chain.live(), &about, &request).ok()?;
-        tally.count(&reply);
+        tally.count(&reply_by(alloc, routes, chain, &request)?);
     }
     Some(())
+}
+
+/// The rows of a text that are GETs.
+fn gets_in(alloc: Global, text: &str) -> Option<Vec<&str>> {
+    let mut gets = Vec::new(alloc);
+    for row in text.split('\n') {
+        if row.starts_with("GET ") {
+            gets.push(row).ok()?;
+        }
+    }
+    Some(gets)
 }
 
 /// Replies to each GET among the rows, so many times, by the chain as it stands. `None` where
@@ -121,8 +151,7 @@ pub fn reply_often(
     text: &str,
     times: u32,
 ) -> Option<Tally> {
-    let rows = text.split('\n').filter(|row| row.starts_with("GET "));
-    let rows: Vec<&str> = rows.collect(alloc).ok()?;
+    let rows = gets_in(alloc, text)?;
     let mut tally = Tally {
         replies: 0,
         bytes: 0,

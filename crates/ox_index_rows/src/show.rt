@@ -1,10 +1,10 @@
 //! What an index holds, in lines. Hashes and ids are printed in reversed order.
 
-use crate::print::{print_hash, print_hex};
+use crate::print::{print_hash, print_hex, say};
 use ox_block::OutPoint;
 use ox_bytes::Bytes;
 use ox_index::Live;
-use ox_model::{Audit, InsId, InsRow, OutRow, RuneId, RuneRow, View};
+use ox_model::{Audit, InsId, InsRow, OutRow, RuneAudit, RuneId, RuneRow, View};
 use ox_runestone::Terms;
 use std::io;
 
@@ -20,8 +20,9 @@ pub fn print_id(rt: &impl Print, id: &InsId) -> io::Result<()> {
     print!(rt; "i{}", id.index)
 }
 
-/// Numbers, each with a space in front.
-pub fn print_numbers(rt: &impl Print, numbers: &[u32]) -> io::Result<()> {
+/// A name, and numbers, each with a space in front.
+pub fn print_numbers(rt: &impl Print, name: &str, numbers: &[u32]) -> io::Result<()> {
+    print!(rt; "{name}")?;
     for number in numbers {
         print!(rt; " {number}")?;
     }
@@ -48,11 +49,11 @@ fn print_amount(rt: &impl Print, name: &str, amount: Option<u128>) -> io::Result
 pub fn print_tip(rt: &impl Print, live: &Live) -> io::Result<()> {
     let height = live.blocks().wrapping_sub(1);
     let Some(hash) = live.hash_of(height) else {
-        return println!(rt; "ok empty");
+        return say(rt, "ok empty");
     };
     print!(rt; "ok {height} ")?;
     print_hash(rt, hash)?;
-    println!(rt)
+    say(rt, "")
 }
 
 /// Everything that an index can be asked for without a part.
@@ -67,7 +68,7 @@ pub fn print_index(rt: &impl Print, live: &Live) -> io::Result<()> {
 fn print_line(rt: &impl Print, live: &Live) -> io::Result<()> {
     match live.line() {
         Ok(line) => print!(rt; "{}", str::from_utf8(line.as_slice()).unwrap_or("no text")),
-        Err(_) => println!(rt; "no memory"),
+        Err(_) => say(rt, "no memory"),
     }
 }
 
@@ -91,7 +92,7 @@ pub fn print_block(rt: &impl Print, live: &Live, height: u32) -> io::Result<()> 
         Some(hash) => print_hash(rt, hash)?,
         None => print!(rt; "none")?,
     }
-    println!(rt)
+    say(rt, "")
 }
 
 /// All inscriptions, and the satoshis that bear them.
@@ -110,9 +111,9 @@ fn print_borne(rt: &impl Print, live: &Live) -> io::Result<()> {
         let Some((sat, numbers)) = live.next_on(from) else {
             return Ok(());
         };
-        print!(rt; "  satoshi {sat}:")?;
-        print_numbers(rt, numbers)?;
-        println!(rt)?;
+        print!(rt; "  satoshi {sat}")?;
+        print_numbers(rt, ":", numbers)?;
+        say(rt, "")?;
         from = sat.saturating_add(1);
     }
     Ok(())
@@ -121,7 +122,7 @@ fn print_borne(rt: &impl Print, live: &Live) -> io::Result<()> {
 /// The inscription with a number.
 fn print_inscription(rt: &impl Print, live: &Live, number: u32) -> io::Result<()> {
     if number >= live.inscriptions() {
-        return println!(rt; "  none");
+        return say(rt, "  none");
     }
     let row = live.inscription(number);
     print!(rt; "  {number}: ")?;
@@ -129,8 +130,7 @@ fn print_inscription(rt: &impl Print, live: &Live, number: u32) -> io::Result<()
     print!(rt; " height {} marks {}", row.height, row.marks)?;
     print_number(rt, "sat", row.sat)?;
     print_found(rt, live.find(&row.id))?;
-    print!(rt; " children")?;
-    print_numbers(rt, live.children(number))?;
+    print_numbers(rt, " children", live.children(number))?;
     print_fields(rt, row)?;
     print_relatives(rt, row)
 }
@@ -172,7 +172,7 @@ fn print_relatives(rt: &impl Print, row: &InsRow) -> io::Result<()> {
         print!(rt; " delegate=")?;
         print_id(rt, delegate)?;
     }
-    println!(rt)
+    say(rt, "")
 }
 
 /// All runes.
@@ -187,7 +187,7 @@ fn print_runes(rt: &impl Print, live: &Live) -> io::Result<()> {
 /// The rune with a number.
 fn print_rune(rt: &impl Print, live: &Live, number: u32) -> io::Result<()> {
     if number >= live.runes() {
-        return println!(rt; "  none");
+        return say(rt, "  none");
     }
     let row = live.rune(number);
     print!(rt;
@@ -208,8 +208,10 @@ fn print_rune(rt: &impl Print, live: &Live, number: u32) -> io::Result<()> {
 
 /// What an etching gave a rune.
 fn print_etching(rt: &impl Print, row: &RuneRow) -> io::Result<()> {
-    print!(rt; " premine {} spacers {}", row.premine, row.spacers)?;
-    print!(rt; " divisibility {}", row.divisibility)?;
+    print!(rt;
+        " premine {} spacers {} divisibility {}",
+        row.premine, row.spacers, row.divisibility
+    )?;
     if let Some(symbol) = row.symbol {
         print!(rt; " symbol {symbol}")?;
     }
@@ -228,28 +230,33 @@ fn print_terms(rt: &impl Print, terms: &Option<Terms>) -> io::Result<()> {
         print_number(rt, "after", terms.offset_start)?;
         print_number(rt, "until", terms.offset_end)?;
     }
-    println!(rt)
+    say(rt, "")
 }
 
 /// Where all satoshis and runes are.
 pub fn print_audit(rt: &impl Print, live: &Live) -> io::Result<()> {
     match live.audit() {
         Ok(audit) => print_sums(rt, &audit),
-        Err(_) => println!(rt; "no memory"),
+        Err(_) => say(rt, "no memory"),
     }
+}
+
+/// What an audit says of a rune.
+fn print_rune_sums(rt: &impl Print, rune: &RuneAudit) -> io::Result<()> {
+    println!(rt;
+        "  {}:{} premine {} minted {} held {} burned {}",
+        rune.id.block, rune.id.tx, rune.premine, rune.minted, rune.held, rune.burned
+    )
 }
 
 /// What an audit says.
 fn print_sums(rt: &impl Print, audit: &Audit) -> io::Result<()> {
-    print!(rt; "audit claimable {} lost {}", audit.claimable, audit.lost)?;
-    println!(rt; " outputs {}", audit.outputs)?;
+    println!(rt;
+        "audit claimable {} lost {} outputs {}",
+        audit.claimable, audit.lost, audit.outputs
+    )?;
     for rune in audit.runes.as_slice() {
-        print!(rt;
-            "  {}:{} premine {}",
-            rune.id.block, rune.id.tx, rune.premine
-        )?;
-        print!(rt; " minted {} held {}", rune.minted, rune.held)?;
-        println!(rt; " burned {}", rune.burned)?;
+        print_rune_sums(rt, rune)?;
     }
     Ok(())
 }

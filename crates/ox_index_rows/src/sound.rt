@@ -2,6 +2,7 @@
 
 ghost use Rattle.ox_sat.specs.Profiles.{IsProfile};
 
+use crate::print::say;
 use crate::words::{NO_ROW, index_and_change_of, index_of, profile_in};
 use ox_bytes::Memory;
 use ox_model::Change;
@@ -37,8 +38,8 @@ fn test_spelled(alloc: Global, words: &str, times: u32) -> Option<bool> {
 /// are spelled.
 pub fn print_sound(rt: &impl Print, alloc: Global, words: &str, times: u32) -> io::Result<()> {
     match test_spelled(alloc, words, times) {
-        Some(sound) => println!(rt; "{}", word_of(sound)),
-        None => println!(rt; "{}", NO_ROW),
+        Some(sound) => say(rt, word_of(sound)),
+        None => say(rt, NO_ROW),
     }
 }
 
@@ -53,15 +54,20 @@ struct Said {
 
 /// What is said of a change that begins in a sound index. `Memory` where there is none for the
 /// index after it, or for the answers.
-fn say(alloc: Global, p: &Profile, before: &Index, change: &Change) -> Result<Option<Said>, Memory>
+fn judge(
+    alloc: Global,
+    p: &Profile,
+    before: &Index,
+    change: &Change,
+) -> Result<Option<Said>, Memory>
     requires { IsProfile p.now }
 {
-    let Some(after) = other_end(alloc, before, change, false)? else {
-        return Ok(None);
-    };
     if !is_sound(alloc, p, before)? {
         return Ok(None);
     }
+    let Some(after) = other_end(alloc, before, change, false)? else {
+        return Ok(None);
+    };
     let kept = keeps_sound(alloc, p, before, change)?;
     let sound = is_sound(alloc, p, &after)?;
     Ok(Some(Said { kept, sound }))
@@ -69,11 +75,11 @@ fn say(alloc: Global, p: &Profile, before: &Index, change: &Change) -> Result<Op
 
 /// The same of an index and a change that are spelled behind a profile's word, or why nothing is
 /// said of them.
-fn say_of_spelled(alloc: Global, words: &str) -> Result<Said, &'static str> {
+fn judge_spelled(alloc: Global, words: &str) -> Result<Said, &'static str> {
     let (profile, rest) = words.split_once(' ').ok_or(NO_ROW)?;
     let p = profile_in(profile).ok_or(NO_ROW)?;
     let (index, change) = index_and_change_of(alloc, rest).ok_or(NO_ROW)?;
-    match say(alloc, &p, &index, &change) {
+    match judge(alloc, &p, &index, &change) {
         Ok(Some(said)) => Ok(said),
         Ok(None) => Err("no end"),
         Err(_) => Err("no memory"),
@@ -83,9 +89,9 @@ fn say_of_spelled(alloc: Global, words: &str) -> Result<Said, &'static str> {
 /// Prints what is said of a change; a profile's word, the index before it and the change are
 /// spelled.
 pub fn print_keeps(rt: &impl Print, alloc: Global, words: &str) -> io::Result<()> {
-    match say_of_spelled(alloc, words) {
+    match judge_spelled(alloc, words) {
         Ok(said) => print_said(rt, said),
-        Err(why) => println!(rt; "{why}"),
+        Err(why) => say(rt, why),
     }
 }
 
