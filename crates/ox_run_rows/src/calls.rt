@@ -1,36 +1,33 @@
 //! Single calls on a site.
 
-ghost use Rattle.std.specs.Prelude.{◌≤◌, length, IfOk};
+ghost use Rattle.std.specs.Prelude.{◌≤◌, length, IfSome};
 ghost use Rattle.ox_run_rows.specs.Live.{IsLive};
 
-use crate::say::{print_heard, print_line, print_shown, print_took};
-use crate::words::{bytes_of, file_of, number_of};
-use anyhow::{Context, bail};
+use crate::say::{print_heard, print_line, print_shown, print_took, say};
+use crate::words::{NO_ROW, bytes_of, file_of, number_of};
 use ox_feed::Lines;
 use ox_memsite::MemSite;
 use ox_outside::{Doorway, Failed, Heard, Site, Which};
 use std::alloc::Global;
+use std::io;
 
 /// A room of so many bytes, each 0.
-fn room_of(alloc: Global, word: &str) -> anyhow::Result<Vec<u8>>
-    ensures { IfOk result (λ room. 1 ≤ length room.items) }
+fn room_of(alloc: Global, word: &str) -> Option<Vec<u8>>
+    ensures { IfSome result (λ room. 1 ≤ length room.items) }
 {
-    let size: u16 = word.parse().ok().context("no size")?;
+    let size: u16 = word.parse().ok()?;
     if size == 0 {
-        bail!("no room");
+        return None;
     }
-    Ok(Vec::from_elem(alloc, 0, size as usize)?)
+    Vec::from_elem(alloc, 0, size as usize).ok()
 }
 
 /// Hears channel 0 with rooms of these sizes.
-pub fn hear(
-    rt: &impl Print,
-    alloc: Global,
-    site: &mut MemSite,
-    rooms: &[&str],
-) -> anyhow::Result<()> {
+pub fn hear(rt: &impl Print, alloc: Global, site: &mut MemSite, rooms: &[&str]) -> io::Result<()> {
     for size in rooms {
-        let mut room = room_of(alloc, *size)?;
+        let Some(mut room) = room_of(alloc, *size) else {
+            return say(rt, NO_ROW);
+        };
         let heard = site.hear(0, &mut room);
         print_heard(rt, heard, &room)?;
     }
@@ -53,12 +50,14 @@ fn hear_all(
     site: &mut MemSite,
     link: u32,
     rooms: &[&str],
-) -> anyhow::Result<()>
+) -> io::Result<()>
     requires live { IsLive link site.old }
     ensures live { IsLive link site.new }
 {
     for size in rooms {
-        let mut room = room_of(alloc, *size)?;
+        let Some(mut room) = room_of(alloc, *size) else {
+            return say(rt, NO_ROW);
+        };
         let heard = hear_link(site, link, &mut room);
         print_heard(rt, heard, &room)?;
     }
@@ -81,47 +80,42 @@ pub fn visit(
     site: &mut MemSite,
     door: Doorway,
     rooms: &[&str],
-) -> anyhow::Result<()> {
+) -> io::Result<()> {
     match Site::door(site, door) {
         Ok(Some(link)) => {
             let heard = hear_all(rt, alloc, site, link, rooms);
             end_link(site, link);
             heard?;
-            Ok(println!(rt; "link {link}")?)
+            println!(rt; "link {link}")
         }
-        Ok(None) => Ok(println!(rt; "nobody")?),
-        Err(Failed) => Ok(println!(rt; "failed")?),
+        Ok(None) => say(rt, "nobody"),
+        Err(Failed) => say(rt, "failed"),
     }
 }
 
 /// Shows bytes on channel 0, and prints the answer and what was shown there so far.
-pub fn show(rt: &impl Print, site: &mut MemSite, bytes: &[u8]) -> anyhow::Result<()> {
+pub fn show(rt: &impl Print, site: &mut MemSite, bytes: &[u8]) -> io::Result<()> {
     if bytes.is_empty() {
-        bail!("nothing to show");
+        return say(rt, "nothing to show");
     }
     let took = site.show(0, bytes);
     print_took(rt, took)?;
     print_shown(rt, site, 0)
 }
 
-/// Writes bytes into a file at a place that it has.
-fn write_at(site: &mut MemSite, file: Which, at: u64, bytes: &[u8]) -> anyhow::Result<()> {
+/// Writes bytes into a file at a place that it has. `None` where it has none, or the call fails.
+fn write_at(site: &mut MemSite, file: Which, at: u64, bytes: &[u8]) -> Option<()> {
     if at > site.file(file).len() as u64 {
-        bail!("no such place");
+        return None;
     }
-    site.write(file, at, bytes).ok().context("a call failed")
+    site.write(file, at, bytes).ok()
 }
 
 /// The same for the words of a row.
-pub fn overwrite(
-    alloc: Global,
-    site: &mut MemSite,
-    file: &str,
-    at: &str,
-    hex: &str,
-) -> anyhow::Result<()> {
-    let bytes = bytes_of(alloc, hex)?;
-    write_at(site, file_of(file)?, number_of(at)?, &bytes)
+pub fn overwrite(alloc: Global, site: &mut MemSite, file: &str, at: &str, hex: &str) -> Option<()> {
+    let file = file_of(file)?;
+    let at = number_of(at)?;
+    write_at(site, file, at, &bytes_of(alloc, hex)?)
 }
 
 /// Reads so many lines of channel 0, and at its end no more.
@@ -130,9 +124,12 @@ pub fn read_lines(
     alloc: Global,
     site: &mut MemSite,
     count: &str,
-) -> anyhow::Result<()> {
+) -> io::Result<()> {
+    let Some(count) = number_of(count) else {
+        return say(rt, NO_ROW);
+    };
     let mut lines = Lines::new(alloc);
-    for _ in 0..number_of(count)? {
+    for _ in 0..count {
         let line = lines.next(site);
         print_line(rt, alloc, line)?;
     }

@@ -55,26 +55,19 @@ mod words;
 use crate::calls::{hear, overwrite, read_lines, show, visit};
 use crate::often::often;
 use crate::runs::{crash, run_aloud, run_short, site_after_crash};
-use crate::say::{print_file, print_frame, print_links};
+use crate::say::{print_file, print_frame, print_links, say};
 use crate::stores::tell_store;
-use crate::words::{door_of, number_of, parts_of, portion_of, script_of};
-use anyhow::Context;
+use crate::words::{NO_ROW, door_of, number_of, parts_of, script_of};
 use ox_memsite::MemSite;
 use ox_outside::Site;
 use std::alloc::Global;
-use std::io::Read;
-use std::mem;
+use std::io;
 
 /// A site, and what channel 0 said last.
 #[derive(Drop)]
 struct Desktop {
     site: MemSite,
     feed: Vec<u8>,
-}
-
-/// Two empty files, no links, and nothing to hear.
-fn fresh(alloc: Global) -> anyhow::Result<MemSite> {
-    MemSite::new(alloc).ok().context("no memory")
 }
 
 /// With this site, and nothing that was said.
@@ -85,69 +78,71 @@ fn desktop_of(alloc: Global, site: MemSite) -> Desktop {
     }
 }
 
+/// Two empty files, no links, and nothing to hear.
+fn fresh(alloc: Global) -> Option<Desktop> {
+    Some(desktop_of(alloc, MemSite::new(alloc).ok()?))
+}
+
 /// Lets links wait at a door.
-fn link(alloc: Global, site: &mut MemSite, door: &str, said: &[&str]) -> anyhow::Result<()> {
-    let script = script_of(alloc, said)?;
-    site.link(door_of(door)?, &script).ok().context("no memory")
+fn link(alloc: Global, site: &mut MemSite, door: &str, said: &[&str]) -> Option<()> {
+    let door = door_of(door)?;
+    site.link(door, &script_of(alloc, said)?).ok()
 }
 
 /// Lets channel 0 say bytes.
-fn feed(alloc: Global, on: &mut Desktop, words: &[&str]) -> anyhow::Result<()> {
+fn feed(alloc: Global, on: &mut Desktop, words: &[&str]) -> Option<()> {
     on.feed = parts_of(alloc, words)?;
-    on.site.input(&on.feed).ok().context("no memory")
+    on.site.input(&on.feed).ok()
 }
 
 /// Begins with two empty files.
-fn begin(alloc: Global, on: &mut Desktop) -> anyhow::Result<()> {
-    *on = desktop_of(alloc, fresh(alloc)?);
-    Ok(())
+fn begin(alloc: Global, on: &mut Desktop) -> Option<()> {
+    *on = fresh(alloc)?;
+    Some(())
 }
 
 /// Goes on with what a crash leaves.
-fn restart(alloc: Global, on: &mut Desktop, choice: [&str; 3]) -> anyhow::Result<()> {
+fn restart(alloc: Global, on: &mut Desktop, choice: [&str; 3]) -> Option<()> {
     *on = desktop_of(alloc, site_after_crash(&on.site, choice)?);
-    Ok(())
+    Some(())
 }
 
 /// Lets a call fail.
-fn fail(site: &mut MemSite, call: &str) -> anyhow::Result<()> {
-    site.fail(number_of(call)?).ok().context("no memory")
+fn fail(site: &mut MemSite, call: &str) -> Option<()> {
+    site.fail(number_of(call)?).ok()
 }
 
-/// Runs the program over a site of short calls.
-fn short(
-    rt: &impl Print,
-    alloc: Global,
-    on: &mut Desktop,
-    portion: &str,
-    writes: &str,
-    row: &[&str],
-) -> anyhow::Result<()> {
-    let portion = portion_of(portion)?;
-    let inner = mem::replace(&mut on.site, fresh(alloc)?);
-    on.site = run_short(rt, alloc, inner, portion, writes, row)?;
-    Ok(())
+/// Says if a row wasn't carried out.
+fn carried(rt: &impl Print, done: Option<()>) -> io::Result<()> {
+    match done {
+        Some(()) => Ok(()),
+        None => say(rt, NO_ROW),
+    }
 }
 
 /// Carries out a row that changes the site alone, or another one.
-fn set(rt: &impl Print, alloc: Global, on: &mut Desktop, row: &[&str]) -> anyhow::Result<()> {
+fn set(rt: &impl Print, alloc: Global, on: &mut Desktop, row: &[&str]) -> io::Result<()> {
     match row {
-        ["fresh"] => begin(alloc, on),
-        ["link", door, said @ ..] => link(alloc, &mut on.site, door, said),
-        ["feed", words @ ..] => feed(alloc, on, words),
-        ["fail", call] => fail(&mut on.site, call),
-        ["restart", moment, fill, keep] => restart(alloc, on, [moment, fill, keep]),
-        ["overwrite", file, at, hex] => overwrite(alloc, &mut on.site, file, at, hex),
+        ["fresh"] => carried(rt, begin(alloc, on)),
+        ["link", door, said @ ..] => carried(rt, link(alloc, &mut on.site, door, said)),
+        ["feed", words @ ..] => carried(rt, feed(alloc, on, words)),
+        ["fail", call] => carried(rt, fail(&mut on.site, call)),
+        ["restart", moment, fill, keep] => carried(rt, restart(alloc, on, [moment, fill, keep])),
+        ["overwrite", file, at, hex] => {
+            carried(rt, overwrite(alloc, &mut on.site, file, at, hex))
+        }
         _ => run_by(rt, alloc, on, row),
     }
 }
 
 /// Carries out a row that runs the program or a desk or prints what links were shown, or another
 /// one.
-fn run_by(rt: &impl Print, alloc: Global, on: &mut Desktop, row: &[&str]) -> anyhow::Result<()> {
+fn run_by(rt: &impl Print, alloc: Global, on: &mut Desktop, row: &[&str]) -> io::Result<()> {
     match row {
         ["run", words @ ..] => run_aloud(rt, alloc, &mut on.site, words),
-        ["short", portion, writes, words @ ..] => short(rt, alloc, on, portion, writes, words),
+        ["short", portion, writes, words @ ..] => {
+            run_short(rt, alloc, &mut on.site, portion, writes, words)
+        }
         ["crash", moment, fill, keep, runs @ ..] => {
             crash(rt, alloc, &on.site, &on.feed, [moment, fill, keep], runs)
         }
@@ -157,32 +152,70 @@ fn run_by(rt: &impl Print, alloc: Global, on: &mut Desktop, row: &[&str]) -> any
     }
 }
 
+/// Takes the link that waits at the door that a word names.
+fn visit_by(
+    rt: &impl Print,
+    alloc: Global,
+    site: &mut MemSite,
+    door: &str,
+    rooms: &[&str],
+) -> io::Result<()> {
+    match door_of(door) {
+        Some(door) => visit(rt, alloc, site, door, rooms),
+        None => say(rt, NO_ROW),
+    }
+}
+
+/// Shows the bytes of parts on channel 0, or prints the record of this payload.
+fn tell_parts(
+    rt: &impl Print,
+    alloc: Global,
+    site: &mut MemSite,
+    shows: bool,
+    words: &[&str],
+) -> io::Result<()> {
+    match parts_of(alloc, words) {
+        Some(bytes) if shows => show(rt, site, &bytes),
+        Some(bytes) => print_frame(rt, alloc, &bytes),
+        None => say(rt, NO_ROW),
+    }
+}
+
 /// Carries out a row that prints what calls on a site answer, or another one.
-fn tell(rt: &impl Print, alloc: Global, site: &mut MemSite, row: &[&str]) -> anyhow::Result<()> {
+fn tell(rt: &impl Print, alloc: Global, site: &mut MemSite, row: &[&str]) -> io::Result<()> {
     match row {
         ["lines", count] => read_lines(rt, alloc, site, count),
         ["hear", rooms @ ..] => hear(rt, alloc, site, rooms),
-        ["visit", door, rooms @ ..] => visit(rt, alloc, site, door_of(door)?, rooms),
-        ["show", words @ ..] => show(rt, site, &parts_of(alloc, words)?),
-        ["frame", words @ ..] => print_frame(rt, alloc, &parts_of(alloc, words)?),
+        ["visit", door, rooms @ ..] => visit_by(rt, alloc, site, door, rooms),
+        ["show", words @ ..] => tell_parts(rt, alloc, site, true, words),
+        ["frame", words @ ..] => tell_parts(rt, alloc, site, false, words),
         ["file", file, from] => print_file(rt, site, file, from),
-        ["now"] => Ok(println!(rt; "moment {}", site.now())?),
+        ["now"] => println!(rt; "moment {}", site.now()),
         _ => tell_store(rt, alloc, site, row),
     }
 }
 
+/// The words of a row.
+fn words_in(alloc: Global, row: &str) -> Option<Vec<&str>> {
+    row.split(' ').collect(alloc).ok()
+}
+
 /// Carries out a row.
-fn carry_out(rt: &impl Print, alloc: Global, on: &mut Desktop, row: &str) -> anyhow::Result<()> {
+fn carry_out(rt: &impl Print, alloc: Global, on: &mut Desktop, row: &str) -> io::Result<()> {
     if row.starts_with('#') {
-        return Ok(println!(rt; "{row}")?);
+        return say(rt, row);
     }
-    let words: Vec<&str> = row.split(' ').collect(alloc)?;
-    set(rt, alloc, on, words.as_slice())
+    match words_in(alloc, row) {
+        Some(words) => set(rt, alloc, on, words.as_slice()),
+        None => say(rt, NO_ROW),
+    }
 }
 
 /// Carries the rows of a text out, from two empty files on.
-fn carry_out_all(rt: &impl Print, alloc: Global, text: &str) -> anyhow::Result<()> {
-    let mut on = desktop_of(alloc, fresh(alloc)?);
+fn carry_out_all(rt: &impl Print, alloc: Global, text: &str) -> io::Result<()> {
+    let Some(mut on) = fresh(alloc) else {
+        return say(rt, NO_ROW);
+    };
     for row in text.split('\n') {
         if !row.is_empty() {
             carry_out(rt, alloc, &mut on, row)?;
@@ -191,10 +224,7 @@ fn carry_out_all(rt: &impl Print, alloc: Global, text: &str) -> anyhow::Result<(
     Ok(())
 }
 
-fn main(rt: HostRuntime) -> anyhow::Result<()> {
-    let alloc = rt.alloc();
-    let mut rows = Vec::new(alloc);
-    rt.stdin().read_to_end(&mut rows)?;
-    let text = std::str::from_utf8(&rows).ok().context("no text")?;
-    carry_out_all(&rt, alloc, text)
+fn main(rt: HostRuntime) -> io::Result<()> {
+    let text = io::read_to_string(rt.alloc(), rt.stdin())?;
+    carry_out_all(&rt, rt.alloc(), text.as_str())
 }

@@ -3,8 +3,8 @@
 ghost use Rattle.std.specs.Prelude.{IfSome};
 ghost use Rattle.ox_desk.specs.Desk.{Rests};
 
-use crate::words::number_of;
-use anyhow::{Context, bail};
+use crate::say::say;
+use crate::words::{NO_ROW, number_of};
 use ox_bytes::Bytes;
 use ox_desk::StoreDesk;
 use ox_http::{Method, Request};
@@ -12,26 +12,25 @@ use ox_outside::Site;
 use ox_store::Store;
 use ox_turns::Desk;
 use std::alloc::Global;
+use std::io;
 
 /// A GET of a path, with which the link goes on.
-fn get(alloc: Global, path: &str) -> anyhow::Result<Request> {
-    Ok(Request {
+fn get(alloc: Global, path: &str) -> Option<Request> {
+    Some(Request {
         method: Method::Get,
-        path: Bytes::copy(alloc, path.as_bytes())
-            .ok()
-            .context("no memory")?,
+        path: Bytes::copy(alloc, path.as_bytes()).ok()?,
         body: Bytes::empty(alloc),
         close: false,
     })
 }
 
 /// A GET of each path.
-fn gets(alloc: Global, paths: &[&str]) -> anyhow::Result<Vec<Request>> {
+fn gets(alloc: Global, paths: &[&str]) -> Option<Vec<Request>> {
     let mut requests = Vec::new(alloc);
     for path in paths {
-        requests.push(get(alloc, path)?)?;
+        requests.push(get(alloc, path)?).ok()?;
     }
-    Ok(requests)
+    Some(requests)
 }
 
 /// Answers a request. How many bytes the reply has; `None` where there is none.
@@ -74,26 +73,41 @@ fn answer_often<S: Site>(
     Some(bytes)
 }
 
-/// Opens the store, and has one desk answer a GET of each path, so many times over. Prints how many
+/// Opens the store, and has one desk answer some requests, so many times over. Prints how many
 /// requests and hits it counts, and how many bytes the replies have.
+fn ask_often<S: Site>(
+    rt: &impl Print,
+    alloc: Global,
+    site: &mut S,
+    times: u64,
+    requests: &[Request],
+) -> io::Result<()> {
+    let Ok(store) = Store::open(alloc, site) else {
+        return say(rt, "no store");
+    };
+    let Ok(mut desk) = StoreDesk::new(alloc, store) else {
+        return say(rt, "no memory");
+    };
+    let Some(bytes) = answer_often(&mut desk, site, requests, times) else {
+        return say(rt, "no reply");
+    };
+    let (asked, hits) = (desk.requests(), desk.hits());
+    println!(rt; "{asked} requests {hits} hits {bytes} bytes")
+}
+
+/// The same with a GET of each path.
 pub fn often<S: Site>(
     rt: &impl Print,
     alloc: Global,
     site: &mut S,
     times: &str,
     paths: &[&str],
-) -> anyhow::Result<()> {
-    let times = number_of(times)?;
-    let requests = gets(alloc, paths)?;
-    let Ok(store) = Store::open(alloc, site) else {
-        bail!("no store");
+) -> io::Result<()> {
+    let Some(times) = number_of(times) else {
+        return say(rt, NO_ROW);
     };
-    let Ok(mut desk) = StoreDesk::new(alloc, store) else {
-        bail!("no memory");
-    };
-    let Some(bytes) = answer_often(&mut desk, site, requests.as_slice(), times) else {
-        bail!("no reply");
-    };
-    let (asked, hits) = (desk.requests(), desk.hits());
-    Ok(println!(rt; "{asked} requests {hits} hits {bytes} bytes")?)
+    match gets(alloc, paths) {
+        Some(requests) => ask_often(rt, alloc, site, times, requests.as_slice()),
+        None => say(rt, NO_ROW),
+    }
 }

@@ -1,7 +1,6 @@
 //! What is printed.
 
-use crate::words::{file_of, number_of};
-use anyhow::{Context, bail};
+use crate::words::{NO_ROW, file_of, number_of};
 use ox_feed::{Command, FeedFault, Line, SyntaxFault, command_of};
 use ox_gated::frame;
 use ox_memsite::MemSite;
@@ -15,12 +14,23 @@ const WHOLE: usize = 1024;
 /// How many are printed of more than these.
 const FRONT: usize = 200;
 
+/// A text, in a line.
+pub fn say(rt: &impl Print, text: &str) -> io::Result<()> {
+    println!(rt; "{text}")
+}
+
 /// Bytes in hex digits.
 pub fn print_hex(rt: &impl Print, bytes: &[u8]) -> io::Result<()> {
     for byte in bytes {
         print!(rt; "{byte:02x}")?;
     }
     Ok(())
+}
+
+/// Bytes in hex digits, in a line.
+pub fn print_hex_line(rt: &impl Print, bytes: &[u8]) -> io::Result<()> {
+    print_hex(rt, bytes)?;
+    say(rt, "")
 }
 
 /// Bytes as text.
@@ -55,65 +65,81 @@ fn print_bytes(rt: &impl Print, bytes: &[u8]) -> io::Result<()> {
 }
 
 /// What was shown on a channel.
-pub fn print_shown(rt: &impl Print, site: &MemSite, channel: u32) -> anyhow::Result<()> {
-    let shown = site.shown(channel).ok().context("no memory")?;
-    print_bytes(rt, shown.as_slice())?;
-    Ok(println!(rt)?)
+pub fn print_shown(rt: &impl Print, site: &MemSite, channel: u32) -> io::Result<()> {
+    match site.shown(channel) {
+        Ok(shown) => print_bytes(rt, shown.as_slice())?,
+        Err(_) => return say(rt, NO_ROW),
+    }
+    say(rt, "")
 }
 
 /// What the links of these numbers were shown.
-pub fn print_links(rt: &impl Print, site: &MemSite, links: &[&str]) -> anyhow::Result<()> {
+pub fn print_links(rt: &impl Print, site: &MemSite, links: &[&str]) -> io::Result<()> {
     for link in links {
-        let link: u32 = link.parse().ok().context("no link")?;
+        let Ok(link) = link.parse() else {
+            return say(rt, NO_ROW);
+        };
         print_shown(rt, site, link)?;
     }
     Ok(())
 }
 
 /// A file's length, and its bytes from a place on.
-pub fn print_file(rt: &impl Print, site: &MemSite, file: &str, from: &str) -> anyhow::Result<()> {
+fn file_from<'a>(site: &'a MemSite, file: &str, from: &str) -> Option<(usize, &'a [u8])> {
     let bytes = site.file(file_of(file)?);
-    let from = number_of(from)?;
-    let rest = bytes.get(from as usize..).context("no such place")?;
-    print!(rt; "{} bytes: ", bytes.len())?;
-    print_hex(rt, rest)?;
-    Ok(println!(rt)?)
+    Some((bytes.len(), bytes.get(number_of(from)? as usize..)?))
+}
+
+/// Prints a file's length, and its bytes from a place on.
+pub fn print_file(rt: &impl Print, site: &MemSite, file: &str, from: &str) -> io::Result<()> {
+    let Some((len, rest)) = file_from(site, file, from) else {
+        return say(rt, NO_ROW);
+    };
+    print!(rt; "{len} bytes: ")?;
+    print_hex_line(rt, rest)
+}
+
+/// How many bytes were heard, and the room as it is then.
+fn print_count(rt: &impl Print, count: usize, room: &[u8]) -> io::Result<()> {
+    print!(rt; "{count}: ")?;
+    print_hex_line(rt, room)
 }
 
 /// The answer of a hearing, and the room as it is then.
 pub fn print_heard(rt: &impl Print, heard: Result<Heard, Failed>, room: &[u8]) -> io::Result<()> {
-    match heard {
-        Ok(Heard::Bytes(count)) => print!(rt; "{count}: ")?,
-        Ok(Heard::NotYet) => print!(rt; "nothing yet: ")?,
-        Ok(Heard::End) => print!(rt; "end: ")?,
-        Err(Failed) => print!(rt; "failed: ")?,
-    }
-    print_hex(rt, room)?;
-    println!(rt)
+    let told = match heard {
+        Ok(Heard::Bytes(count)) => return print_count(rt, count, room),
+        Ok(Heard::NotYet) => "nothing yet",
+        Ok(Heard::End) => "end",
+        Err(Failed) => "failed",
+    };
+    print!(rt; "{told}: ")?;
+    print_hex_line(rt, room)
 }
 
 /// The answer of a showing.
 pub fn print_took(rt: &impl Print, took: Result<Shown, Failed>) -> io::Result<()> {
     match took {
         Ok(Shown::Took(count)) => println!(rt; "took {count}"),
-        Ok(Shown::NotYet) => println!(rt; "nothing yet"),
-        Err(Failed) => println!(rt; "failed"),
+        Ok(Shown::NotYet) => say(rt, "nothing yet"),
+        Err(Failed) => say(rt, "failed"),
     }
+}
+
+/// A block that is connected, behind its line.
+fn print_connect(rt: &impl Print, block: &[u8]) -> io::Result<()> {
+    print!(rt; ": connect ")?;
+    print_hex_line(rt, block)
 }
 
 /// A line's bytes, and the command that they are.
 fn print_command(rt: &impl Print, alloc: Global, text: &[u8]) -> io::Result<()> {
     print_bytes(rt, text)?;
-    print!(rt; ": ")?;
     match command_of(alloc, text) {
-        Ok(Command::Connect(block)) => {
-            print!(rt; "connect ")?;
-            print_hex(rt, block.as_slice())?;
-            println!(rt)
-        }
-        Ok(Command::Disconnect) => println!(rt; "disconnect"),
-        Err(SyntaxFault::Syntax) => println!(rt; "no command"),
-        Err(SyntaxFault::Memory) => println!(rt; "no memory"),
+        Ok(Command::Connect(block)) => print_connect(rt, block.as_slice()),
+        Ok(Command::Disconnect) => say(rt, ": disconnect"),
+        Err(SyntaxFault::Syntax) => say(rt, ": no command"),
+        Err(SyntaxFault::Memory) => say(rt, ": no memory"),
     }
 }
 
@@ -121,18 +147,19 @@ fn print_command(rt: &impl Print, alloc: Global, text: &[u8]) -> io::Result<()> 
 pub fn print_line(rt: &impl Print, alloc: Global, line: Result<Line, FeedFault>) -> io::Result<()> {
     match line {
         Ok(Line::Text(text)) => print_command(rt, alloc, text.as_slice()),
-        Ok(Line::Long) => println!(rt; "too long"),
-        Ok(Line::End) => println!(rt; "end"),
-        Err(_) => println!(rt; "a fault"),
+        Ok(Line::Long) => say(rt, "too long"),
+        Ok(Line::End) => say(rt, "end"),
+        Err(_) => say(rt, "a fault"),
     }
 }
 
 /// The record of a payload, but for its first gate.
-pub fn print_frame(rt: &impl Print, alloc: Global, payload: &[u8]) -> anyhow::Result<()> {
+pub fn print_frame(rt: &impl Print, alloc: Global, payload: &[u8]) -> io::Result<()> {
     if payload.len() > 0xffff_ffff {
-        bail!("too long");
+        return say(rt, "too long");
     }
-    let framed = frame(alloc, payload).ok().context("no memory")?;
-    print_hex(rt, framed.as_slice())?;
-    Ok(println!(rt)?)
+    match frame(alloc, payload) {
+        Ok(framed) => print_hex_line(rt, framed.as_slice()),
+        Err(_) => say(rt, NO_ROW),
+    }
 }

@@ -1,7 +1,7 @@
 //! What is printed of a store.
 
 use crate::carry::{Moved, Outcome};
-use crate::say::print_hex;
+use crate::say::{print_hex, print_hex_line, say};
 use ox_model::{Place, Refusal, View};
 use ox_outside::Which;
 use ox_store::{MakeFault, MigrateFault, OpenFault, Store};
@@ -13,10 +13,9 @@ fn print_tip(rt: &impl Print, tip: Option<(u32, [u8; 32])>) -> io::Result<()> {
     match tip {
         Some(newest) => {
             print!(rt; "tip {} ", newest.0)?;
-            print_hex(rt, &newest.1)?;
-            println!(rt)
+            print_hex_line(rt, &newest.1)
         }
-        None => println!(rt; "no tip"),
+        None => say(rt, "no tip"),
     }
 }
 
@@ -35,7 +34,7 @@ fn print_refusal(rt: &impl Print, alloc: Global, refusal: &Refusal) -> io::Resul
             "{}",
             std::str::from_utf8(line.as_slice()).unwrap_or("no text\n")
         ),
-        Err(_) => println!(rt; "no memory"),
+        Err(_) => say(rt, "no memory"),
     }
 }
 
@@ -45,10 +44,10 @@ pub fn print_outcome(rt: &impl Print, alloc: Global, outcome: &Outcome) -> io::R
         Outcome::Done(moved) => print_moved(rt, moved),
         Outcome::Failed(moved) => {
             print_moved(rt, moved)?;
-            println!(rt; "a call failed")
+            say(rt, "a call failed")
         }
         Outcome::Refused(refusal) => print_refusal(rt, alloc, refusal),
-        Outcome::Memory => println!(rt; "no memory"),
+        Outcome::Memory => say(rt, "no memory"),
     }
 }
 
@@ -63,10 +62,12 @@ fn tip_of(store: &Store) -> Option<(u32, [u8; 32])> {
 /// What a store says of itself.
 pub fn print_store(rt: &impl Print, store: &Store) -> io::Result<()> {
     let about = store.about();
-    print!(rt; "{} blocks, {} of ", store.live().blocks(), about.kept)?;
-    print!(rt; "{} kept, {} changes, ", about.depth, store.changes().len())?;
     print!(rt;
-        "{} lost, {} commands, ",
+        "{} blocks, {} of {} kept, {} changes, {} lost, {} commands, ",
+        store.live().blocks(),
+        about.kept,
+        about.depth,
+        store.changes().len(),
         store.live().lost(),
         store.commands()
     )?;
@@ -76,19 +77,27 @@ pub fn print_store(rt: &impl Print, store: &Store) -> io::Result<()> {
 /// Why files aren't made a store.
 pub fn print_unmade(rt: &impl Print, fault: MakeFault) -> io::Result<()> {
     match fault {
-        MakeFault::NotEmpty => println!(rt; "not empty"),
-        MakeFault::DiskFault => println!(rt; "a call failed"),
-        MakeFault::Memory => println!(rt; "no memory"),
+        MakeFault::NotEmpty => say(rt, "not empty"),
+        MakeFault::DiskFault => say(rt, "a call failed"),
+        MakeFault::Memory => say(rt, "no memory"),
     }
+}
+
+/// Where a file is none of a store.
+fn print_not_store(rt: &impl Print, file: Which, at: u64) -> io::Result<()> {
+    let name = match file {
+        Which::A => "A",
+        Which::B => "B",
+    };
+    println!(rt; "not a store: {name} at {at}")
 }
 
 /// Why files aren't opened.
 pub fn print_unopened(rt: &impl Print, fault: OpenFault) -> io::Result<()> {
     match fault {
-        OpenFault::NotStore { file: Which::A, at } => println!(rt; "not a store: A at {at}"),
-        OpenFault::NotStore { file: Which::B, at } => println!(rt; "not a store: B at {at}"),
-        OpenFault::DiskFault => println!(rt; "a call failed"),
-        OpenFault::Memory => println!(rt; "no memory"),
+        OpenFault::NotStore { file, at } => print_not_store(rt, file, at),
+        OpenFault::DiskFault => say(rt, "a call failed"),
+        OpenFault::Memory => say(rt, "no memory"),
     }
 }
 
@@ -101,14 +110,13 @@ pub fn print_migrated(rt: &impl Print, commands: u64, store: &Store) -> io::Resu
 /// Why a store of version 1 isn't migrated.
 pub fn print_unmigrated(rt: &impl Print, alloc: Global, fault: &MigrateFault) -> io::Result<()> {
     match fault {
-        MigrateFault::NotStore { file: Which::A, at } => println!(rt; "not a store: A at {at}"),
-        MigrateFault::NotStore { file: Which::B, at } => println!(rt; "not a store: B at {at}"),
+        MigrateFault::NotStore { file, at } => print_not_store(rt, *file, *at),
         MigrateFault::Old { command, refusal } => {
             print!(rt; "old {command} ")?;
             print_refusal(rt, alloc, refusal)
         }
-        MigrateFault::DiskFault => println!(rt; "a call failed"),
-        MigrateFault::Memory => println!(rt; "no memory"),
+        MigrateFault::DiskFault => say(rt, "a call failed"),
+        MigrateFault::Memory => say(rt, "no memory"),
     }
 }
 
@@ -120,6 +128,6 @@ pub fn print_place(rt: &impl Print, place: Option<Place>) -> io::Result<()> {
             println!(rt; ":{} at {offset}", outpoint.index)
         }
         Some(Place::Lost { offset }) => println!(rt; "lost at {offset}"),
-        None => println!(rt; "nowhere"),
+        None => say(rt, "nowhere"),
     }
 }

@@ -14,11 +14,11 @@ ghost use Rattle.std.specs.Prelude.{◌≤◌};
 
 use crate::carry::carry_out_all;
 use crate::runs::site_after_crash;
+use crate::say::say;
 use crate::say_store::{
     print_migrated, print_place, print_unmade, print_unmigrated, print_unopened,
 };
-use crate::words::{commands_of, depth_of, number_of, profile_of};
-use anyhow::bail;
+use crate::words::{NO_ROW, commands_of, depth_of, number_of, profile_of};
 use ox_feed::Command;
 use ox_memsite::MemSite;
 use ox_model::View;
@@ -52,11 +52,17 @@ fn make_by(
     profile: &str,
     depth: &str,
     words: &[&str],
-) -> anyhow::Result<()> {
-    let name = profile_of(profile)?;
-    let depth = depth_of(depth)?;
-    let commands = commands_of(alloc, words)?;
-    Ok(make(rt, alloc, site, name, depth, &commands)?)
+) -> io::Result<()> {
+    let Some(name) = profile_of(profile) else {
+        return say(rt, NO_ROW);
+    };
+    let Some(depth) = depth_of(depth) else {
+        return say(rt, NO_ROW);
+    };
+    match commands_of(alloc, words) {
+        Some(commands) => make(rt, alloc, site, name, depth, &commands),
+        None => say(rt, NO_ROW),
+    }
 }
 
 /// Opens the store, and carries commands out on it.
@@ -73,20 +79,19 @@ fn open(
 }
 
 /// The same for the words of a row.
-fn open_by(
-    rt: &impl Print,
-    alloc: Global,
-    site: &mut MemSite,
-    words: &[&str],
-) -> anyhow::Result<()> {
-    let commands = commands_of(alloc, words)?;
-    Ok(open(rt, alloc, site, &commands)?)
+fn open_by(rt: &impl Print, alloc: Global, site: &mut MemSite, words: &[&str]) -> io::Result<()> {
+    match commands_of(alloc, words) {
+        Some(commands) => open(rt, alloc, site, &commands),
+        None => say(rt, NO_ROW),
+    }
 }
 
 /// Opens what a crash leaves.
-fn reopen(rt: &impl Print, alloc: Global, site: &MemSite, choice: [&str; 3]) -> anyhow::Result<()> {
-    let mut after = site_after_crash(site, choice)?;
-    Ok(open(rt, alloc, &mut after, &[])?)
+fn reopen(rt: &impl Print, alloc: Global, site: &MemSite, choice: [&str; 3]) -> io::Result<()> {
+    match site_after_crash(site, choice) {
+        Some(mut after) => open(rt, alloc, &mut after, &[]),
+        None => say(rt, NO_ROW),
+    }
 }
 
 /// Makes a store of version 1 one of version 2.
@@ -98,23 +103,21 @@ fn migrate(rt: &impl Print, alloc: Global, site: &mut MemSite) -> io::Result<()>
 }
 
 /// Where each of these satoshis is.
-fn print_places(rt: &impl Print, store: &Store, words: &[&str]) -> anyhow::Result<()> {
+fn print_places(rt: &impl Print, store: &Store, words: &[&str]) -> io::Result<()> {
     for word in words {
-        print_place(rt, store.live().locate(number_of(word)?))?;
+        let Some(sat) = number_of(word) else {
+            return say(rt, NO_ROW);
+        };
+        print_place(rt, store.live().locate(sat))?;
     }
     Ok(())
 }
 
 /// Where satoshis are in the store.
-fn locate(
-    rt: &impl Print,
-    alloc: Global,
-    site: &mut MemSite,
-    words: &[&str],
-) -> anyhow::Result<()> {
+fn locate(rt: &impl Print, alloc: Global, site: &mut MemSite, words: &[&str]) -> io::Result<()> {
     match Store::open(alloc, site) {
         Ok(store) => print_places(rt, &store, words),
-        Err(fault) => Ok(print_unopened(rt, fault)?),
+        Err(fault) => print_unopened(rt, fault),
     }
 }
 
@@ -124,13 +127,13 @@ pub fn tell_store(
     alloc: Global,
     site: &mut MemSite,
     row: &[&str],
-) -> anyhow::Result<()> {
+) -> io::Result<()> {
     match row {
         ["make", profile, depth, words @ ..] => make_by(rt, alloc, site, profile, depth, words),
         ["open", words @ ..] => open_by(rt, alloc, site, words),
         ["reopen", moment, fill, keep] => reopen(rt, alloc, site, [moment, fill, keep]),
-        ["migrate"] => Ok(migrate(rt, alloc, site)?),
+        ["migrate"] => migrate(rt, alloc, site),
         ["locate", words @ ..] => locate(rt, alloc, site, words),
-        _ => bail!("no row"),
+        _ => say(rt, NO_ROW),
     }
 }

@@ -1,8 +1,8 @@
-//! The words of a row.
+//! The words of a row. Where one can't be read, or there is no memory for what it says, nothing is
+//! made of it.
 
-ghost use Rattle.std.specs.Prelude.{◌≤◌, IfOk};
+ghost use Rattle.std.specs.Prelude.{◌≤◌, IfSome};
 
-use anyhow::{Context, bail};
 use ox_bytes::Bytes;
 use ox_feed::Command;
 use ox_memsite::Said;
@@ -11,152 +11,152 @@ use ox_sat::ProfileName;
 use ox_short_site::Portion;
 use std::alloc::Global;
 
+/// What is said of a row that can't be read, or for which there is no memory.
+pub const NO_ROW: &str = "no row, or no memory";
+
 /// The number that a word is.
-pub fn number_of(word: &str) -> anyhow::Result<u64> {
-    word.parse().ok().context("no number")
+pub fn number_of(word: &str) -> Option<u64> {
+    word.parse().ok()
 }
 
 /// The byte that a word's number is.
-pub fn byte_of(word: &str) -> anyhow::Result<u8> {
-    word.parse().ok().context("no byte")
+pub fn byte_of(word: &str) -> Option<u8> {
+    word.parse().ok()
 }
 
 /// The depth that a word's number is.
-pub fn depth_of(word: &str) -> anyhow::Result<u16>
-    ensures { IfOk result (λ depth. (1 ≤ depth) × (depth ≤ 1000)) }
+pub fn depth_of(word: &str) -> Option<u16>
+    ensures { IfSome result (λ depth. (1 ≤ depth) × (depth ≤ 1000)) }
 {
-    let depth: u16 = word.parse().ok().context("no depth")?;
+    let depth: u16 = word.parse().ok()?;
     if depth == 0 || depth > 1000 {
-        bail!("a depth is from 1 to 1000");
+        return None;
     }
-    Ok(depth)
+    Some(depth)
 }
 
 /// The profile that a word names.
-pub fn profile_of(word: &str) -> anyhow::Result<ProfileName> {
-    ProfileName::of_word(word.as_bytes()).context("no profile")
+pub fn profile_of(word: &str) -> Option<ProfileName> {
+    ProfileName::of_word(word.as_bytes())
 }
 
 /// The door that a word names.
-pub fn door_of(word: &str) -> anyhow::Result<Doorway> {
+pub fn door_of(word: &str) -> Option<Doorway> {
     match word {
-        "public" => Ok(Doorway::Public),
-        "operator" => Ok(Doorway::Operator),
-        _ => bail!("no door"),
+        "public" => Some(Doorway::Public),
+        "operator" => Some(Doorway::Operator),
+        _ => None,
     }
 }
 
 /// The file that a word names.
-pub fn file_of(word: &str) -> anyhow::Result<Which> {
+pub fn file_of(word: &str) -> Option<Which> {
     match word {
-        "A" => Ok(Which::A),
-        "B" => Ok(Which::B),
-        _ => bail!("no file"),
+        "A" => Some(Which::A),
+        "B" => Some(Which::B),
+        _ => None,
     }
 }
 
 /// The portion that a word names.
-pub fn portion_of(word: &str) -> anyhow::Result<Portion> {
+pub fn portion_of(word: &str) -> Option<Portion> {
     match word {
-        "byte" => Ok(Portion::OneByte),
-        "half" => Ok(Portion::Half),
-        _ => bail!("no portion"),
+        "byte" => Some(Portion::OneByte),
+        "half" => Some(Portion::Half),
+        _ => None,
     }
 }
 
 /// The bytes that a word's hex digits spell.
-pub fn bytes_of(alloc: Global, word: &str) -> anyhow::Result<Vec<u8>> {
-    hex::decode(alloc, word).ok().context("no hex digits")
+pub fn bytes_of(alloc: Global, word: &str) -> Option<Vec<u8>> {
+    hex::decode(alloc, word).ok()
 }
 
 /// Appends a part: what hex digits spell, as often as the number before `*` says, or once.
-fn append_part(alloc: Global, bytes: &mut Vec<u8>, word: &str) -> anyhow::Result<()> {
+fn append_part(alloc: Global, bytes: &mut Vec<u8>, word: &str) -> Option<()> {
     let (times, digits) = word.split_once('*').unwrap_or(("1", word));
     let part = bytes_of(alloc, digits)?;
     for _ in 0..number_of(times)? {
-        bytes.extend_from_slice(&part)?;
+        bytes.extend_from_slice(&part).ok()?;
     }
-    Ok(())
+    Some(())
 }
 
 /// The bytes of parts.
-pub fn parts_of(alloc: Global, words: &[&str]) -> anyhow::Result<Vec<u8>> {
+pub fn parts_of(alloc: Global, words: &[&str]) -> Option<Vec<u8>> {
     let mut bytes = Vec::new(alloc);
     for word in words {
         append_part(alloc, &mut bytes, *word)?;
     }
-    Ok(bytes)
+    Some(bytes)
 }
 
 /// The bytes of a run's word: what hex digits behind `=` spell, or its own.
-fn run_word_of(alloc: Global, word: &str) -> anyhow::Result<Bytes> {
+fn run_word_of(alloc: Global, word: &str) -> Option<Bytes> {
     match word.strip_prefix('=') {
-        Some(digits) => Ok(Bytes::from_vec(bytes_of(alloc, digits)?)),
-        None => Bytes::copy(alloc, word.as_bytes())
-            .ok()
-            .context("no memory"),
+        Some(digits) => Some(Bytes::from_vec(bytes_of(alloc, digits)?)),
+        None => Bytes::copy(alloc, word.as_bytes()).ok(),
     }
 }
 
 /// The words of a run.
-pub fn run_words_of(alloc: Global, row: &[&str]) -> anyhow::Result<Vec<Bytes>> {
+pub fn run_words_of(alloc: Global, row: &[&str]) -> Option<Vec<Bytes>> {
     let mut words = Vec::new(alloc);
     for word in row {
-        words.push(run_word_of(alloc, *word)?)?;
+        words.push(run_word_of(alloc, *word)?).ok()?;
     }
-    Ok(words)
+    Some(words)
 }
 
 /// The bytes of parts between `+`.
-fn joined(alloc: Global, word: &str) -> anyhow::Result<Bytes> {
-    let parts: Vec<&str> = word.split('+').collect(alloc)?;
-    Ok(Bytes::from_vec(parts_of(alloc, parts.as_slice())?))
+fn joined(alloc: Global, word: &str) -> Option<Bytes> {
+    let parts: Vec<&str> = word.split('+').collect(alloc).ok()?;
+    Some(Bytes::from_vec(parts_of(alloc, parts.as_slice())?))
 }
 
 /// The command that a word is.
-fn command_of(alloc: Global, word: &str) -> anyhow::Result<Command> {
+fn command_of(alloc: Global, word: &str) -> Option<Command> {
     match word.strip_prefix("+") {
-        Some(block) => Ok(Command::Connect(joined(alloc, block)?)),
-        None => Ok(Command::Disconnect),
+        Some(block) => Some(Command::Connect(joined(alloc, block)?)),
+        None => Some(Command::Disconnect),
     }
 }
 
 /// The commands that words are.
-pub fn commands_of(alloc: Global, words: &[&str]) -> anyhow::Result<Vec<Command>> {
+pub fn commands_of(alloc: Global, words: &[&str]) -> Option<Vec<Command>> {
     let mut commands = Vec::new(alloc);
     for word in words {
-        commands.push(command_of(alloc, *word)?)?;
+        commands.push(command_of(alloc, *word)?).ok()?;
     }
-    Ok(commands)
+    Some(commands)
 }
 
 /// Appends bytes of which each is heard alone.
-fn append_alone(alloc: Global, said: &mut Vec<Said>, bytes: &[u8]) -> anyhow::Result<()> {
+fn append_alone(alloc: Global, said: &mut Vec<Said>, bytes: &[u8]) -> Option<()> {
     for byte in bytes {
-        let alone = Bytes::copy(alloc, &[*byte]).ok().context("no memory")?;
-        said.push(Said::Bytes(alone))?;
+        said.push(Said::Bytes(Bytes::copy(alloc, &[*byte]).ok()?))
+            .ok()?;
     }
-    Ok(())
+    Some(())
 }
 
 /// Appends what a word says.
-fn append(alloc: Global, said: &mut Vec<Said>, word: &str) -> anyhow::Result<()> {
+fn append(alloc: Global, said: &mut Vec<Said>, word: &str) -> Option<()> {
     match word {
-        "." => said.push(Said::NotYet)?,
-        "$" => said.push(Said::End)?,
+        "." => said.push(Said::NotYet).ok(),
+        "$" => said.push(Said::End).ok(),
         _ => match word.strip_prefix(',') {
-            Some(digits) => append_alone(alloc, said, &bytes_of(alloc, digits)?)?,
-            None => said.push(Said::Bytes(joined(alloc, word)?))?,
+            Some(digits) => append_alone(alloc, said, &bytes_of(alloc, digits)?),
+            None => said.push(Said::Bytes(joined(alloc, word)?)).ok(),
         },
     }
-    Ok(())
 }
 
 /// What a link says by these words.
-pub fn script_of(alloc: Global, words: &[&str]) -> anyhow::Result<Vec<Said>> {
+pub fn script_of(alloc: Global, words: &[&str]) -> Option<Vec<Said>> {
     let mut said = Vec::new(alloc);
     for word in words {
         append(alloc, &mut said, word)?;
     }
-    Ok(said)
+    Some(said)
 }
