@@ -16,7 +16,7 @@ use std::rt::Files;
 
 /// The files `a.ox` and `b.ox`.
 #[derive(Drop)]
-pub struct FilePair {
+pub(crate) struct FilePair {
     a: File,
     b: File,
 }
@@ -28,7 +28,11 @@ impl FilePair {
     /// isn't UTF-8, one of them can't be opened or made, a standard stream is closed, so that a
     /// file would get its number, another program has them, or the system can't say that the disk
     /// has the list. They are locked until the program ends, so that no second one opens them.
-    pub fn open<R: Files<File = File>>(rt: &R, alloc: Global, folder: &[u8]) -> io::Result<FilePair>
+    pub(crate) fn open<R: Files<File = File>>(
+        rt: &R,
+        alloc: Global,
+        folder: &[u8],
+    ) -> io::Result<FilePair>
         ensures text { OnOk result (IsUtf8 folder.now) }
         ensures apart { IfOk result (λ pair. IsApart pair.a × IsApart pair.b) }
     {
@@ -71,24 +75,24 @@ impl FilePair {
     }
 
     /// How many bytes the file has. An error where the system can't tell.
-    pub fn len(&self, file: Which) -> io::Result<u64> {
+    pub(crate) fn len(&self, file: Which) -> io::Result<u64> {
         Ok(self.file(file).metadata()?.len())
     }
 
     /// Fills the room with the file's bytes from this place on. An error where there are fewer, or
     /// reading fails.
-    pub fn read(&self, file: Which, at: u64, into: &mut [u8]) -> io::Result<()> {
+    pub(crate) fn read(&self, file: Which, at: u64, into: &mut [u8]) -> io::Result<()> {
         self.file(file).read_exact_at(into, at)
     }
 
     /// Writes all of the bytes from this place on. After an error some of them may have been
     /// written.
-    pub fn write(&self, file: Which, at: u64, bytes: &[u8]) -> io::Result<()> {
+    pub(crate) fn write(&self, file: Which, at: u64, bytes: &[u8]) -> io::Result<()> {
         self.file(file).write_all_at(bytes, at)
     }
 
     /// Waits until the disk has all that was written. An error where the system can't say so.
-    pub fn sync(&self, file: Which) -> io::Result<()> {
+    pub(crate) fn sync(&self, file: Which) -> io::Result<()> {
         self.file(file).sync_all()
     }
 }
