@@ -38,8 +38,9 @@ fn block_or_place(alloc: Global, bytes: &[u8]) -> Result<Block, BlockFault>
 /// that is cut, not in its shortest form or against a rule, or 4,000,000 where there are more bytes
 /// than that. `Memory` where there is none for the block.
 ///
-/// Each script and each witness stack is copied once, and a count takes room for at most four
-/// values before those that it announces are read.
+/// Each script and each witness stack is copied once. Before the values that a count announces are
+/// read it takes room for at most four of them, and of transactions for at most as much memory as
+/// there are bytes left.
 pub fn read_block(alloc: Global, bytes: &[u8]) -> Result<Block, BlockFault>
     // What is read is lawful, and is spelled so.
     ensures found { IfOk result (λ block. Spells bytes.now block) }

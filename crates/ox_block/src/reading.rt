@@ -342,15 +342,15 @@ fn tx_of(alloc: Global, bytes: &[u8]) -> Result<(Tx, &[u8]), ReadError>
     Ok((tx, rest))
 }
 
-/// The bytes of the shortest transaction, with one input and one output and no scripts.
-const LEAST_TX: usize = 60;
+/// No fewer bytes than a place for a transaction takes in memory.
+const TX_PLACE: usize = 256;
 
 /// How many transactions room is taken for before any is read: as many as the count says, and no
-/// more than that many bytes can hold, whatever the count says.
+/// more than fit into as much memory as there are bytes left, whatever the count says.
 fn room_for_txs(count: u64, len: usize) -> usize
-    ensures { result * 60 ≤ len }
+    ensures { result * 256 ≤ len }
 {
-    count.min((len / LEAST_TX) as u64) as usize
+    count.min((len / TX_PLACE) as u64) as usize
 }
 
 /// That many transactions.
