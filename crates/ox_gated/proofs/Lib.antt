@@ -2,6 +2,7 @@ mod AppendKeepsTail
 mod Chain
 mod ChoiceByFronts
 mod CurrentByFront
+mod CutRecords
 mod NewFiles
 pub mod OldReading
 mod OneFile

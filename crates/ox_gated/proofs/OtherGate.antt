@@ -1,5 +1,5 @@
 -- Which of two files is current where the first gate of the other one changes.
-use Rattle.std.proofs.Common.{◌≡◌, ◌≢◌, ◌∙◌, ◌≤◌, ◌<◌, inl, inr, ◌⊎◌, ℕ, Bool, true, false, List, [], ◌∷◌, ◌++◌, length, ◌==◌, if◌then◌else◌, Option, Some, None, refl, sym, ap, subst, arith}
+use Rattle.std.proofs.Common.{◌≡◌, ◌≢◌, ◌∙◌, ◌≤◌, ◌<◌, inl, inr, ℕ, Bool, true, false, List, [], ◌∷◌, ◌++◌, length, ◌==◌, if◌then◌else◌, Option, Some, None, refl, sym, ap, subst, arith}
 use Rattle.std.specs.Prelude.{Result, Ok, Err, nat_lt}
 use Rattle.std.proofs.lemmas.Bool.{ltb-true, ltb-false, eqb-false, cases_eq, lt-ltb, ne_eqb, le-ltb}
 use Rattle.ox_bytes.proofs.Laws.{ok_is}
@@ -8,30 +8,11 @@ use Rattle.ox_outside.specs.declared.site.Which.{Which}
 use Rattle.ox_outside.specs.declared.site.Which.TheVariants.{A, B}
 use Rattle.ox_gated.specs.Layout.{is_closed, head_of}
 use Rattle.ox_gated.specs.OtherFile.{ReadsAlike}
-use Rattle.ox_gated.specs.Pick.{Choice, lone_choice, greater_of, choice_by, choice_of}
+use Rattle.ox_gated.specs.Pick.{Choice, lone_choice, greater_of, choice_by, choice_of, Shut, Beside, Picked}
 use Rattle.ox_gated.specs.Reading.{Found, Fault, current_reading, reading_by, reading}
 use Rattle.ox_gated.specs.Tail.{Kept, Keeps}
 use Rattle.ox_gated.specs.declared.head.Opening.{Opening}
 use Rattle.ox_gated.proofs.Stands.{current_file, current_head}
-
--- ---- why a file is current
-
--- the other file is closed, and there
-abbrev pub Shut : List ℕ → Type 0
-Shut bytes = (is_closed bytes ≡ true) × (1 ≤ length bytes)
-
--- it is open, with a lesser generation
-abbrev pub Lesser : Opening → List ℕ → Type 0
-Lesser opening bytes = (is_closed bytes ≡ false) × ((o : Opening) × (head_of bytes ≡ Some o) × (o.head.generation < opening.head.generation))
-
-abbrev pub Beside : Opening → List ℕ → Type 0
-Beside opening bytes = Shut bytes ⊎ Lesser opening bytes
-
--- the current file is open and has this head, and the other one is beside it
-pub record Picked (files : Files) (file : Which) (opening : Opening) : Type 0 where
-  pub opened : is_closed (file_of files file) ≡ false
-  pub head : head_of (file_of files file) ≡ Some opening
-  pub beside : Beside opening (file_of files (other file))
 
 abbrev same_generation : Choice
 same_generation = Err (B, 10)

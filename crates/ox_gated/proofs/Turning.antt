@@ -16,7 +16,8 @@ use Rattle.ox_gated.specs.Tail.{Kept, Keeps, Holds, IsSettled}
 use Rattle.ox_gated.specs.declared.head.Head.{Head}
 use Rattle.ox_gated.proofs.AppendKeepsTail.{settled_after}
 use Rattle.ox_gated.proofs.OneFile.{file_of-with_file, file_of-with_other}
-use Rattle.ox_gated.proofs.OtherGate.{Beside, Picked, Chosen, chosen, picks, beside_alike, torn_gate, torn_behind, shut_gate, any_gate, open_gate}
+use Rattle.ox_gated.specs.Pick.{Beside, Picked}
+use Rattle.ox_gated.proofs.OtherGate.{Chosen, chosen, picks, beside_alike, torn_gate, torn_behind, shut_gate, any_gate, open_gate}
 use Rattle.ox_gated.proofs.WholeFile.{opening, head_there, current_whole}
 
 -- ---- the two files

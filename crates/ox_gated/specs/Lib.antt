@@ -5,5 +5,7 @@ pub mod Opened
 pub mod OtherFile
 pub mod Pick
 pub mod Reading
+pub mod Spelled
 pub mod Tail
 pub mod Writes
+pub mod Written

@@ -1,6 +1,7 @@
 -- Which of two files is current, or the first of the tests on their gates and heads that fails.
-use Rattle.std.specs.Prelude.{ℕ, Bool, true, false, List, length, nat_lt, ◌==◌, if◌then◌else◌}
-use Rattle.std.specs.Prelude.{Option, Some, None, Result, Ok, Err}
+use Rattle.std.specs.Prelude.{◌≡◌, ◌⊎◌, ℕ, ◌<◌, ◌≤◌, Bool, true, false, List, length, nat_lt}
+use Rattle.std.specs.Prelude.{◌==◌, if◌then◌else◌, Option, Some, None, Result, Ok, Err}
+use Rattle.ox_outside.specs.Files.{Files, file_of, other}
 use Rattle.ox_outside.specs.declared.site.Which.{Which}
 use Rattle.ox_outside.specs.declared.site.Which.TheVariants.{A, B}
 use Rattle.ox_gated.specs.Layout.{is_closed, head_of, magic_at, generation_at}
@@ -38,3 +39,25 @@ choice_of a b = choice_by (is_closed a) (is_closed b) a b
 abbrev pub of_file : Which → ℕ → ℕ → ℕ
 of_file A a b = a
 of_file B a b = b
+
+-- ---- why a file is current
+
+-- the other file is closed, and there
+abbrev pub Shut : List ℕ → Type 0
+Shut bytes = (is_closed bytes ≡ true) × (1 ≤ length bytes)
+
+-- it is open, with a lesser generation
+abbrev pub Lesser : Opening → List ℕ → Type 0
+Lesser opening bytes =
+    (is_closed bytes ≡ false)
+    × ((o : Opening) × (head_of bytes ≡ Some o)
+    × (o.head.generation < opening.head.generation))
+
+abbrev pub Beside : Opening → List ℕ → Type 0
+Beside opening bytes = Shut bytes ⊎ Lesser opening bytes
+
+-- the current file is open and has this head, and the other one is beside it
+pub record Picked (files : Files) (file : Which) (opening : Opening) : Type 0 where
+  pub opened : is_closed (file_of files file) ≡ false
+  pub head : head_of (file_of files file) ≡ Some opening
+  pub beside : Beside opening (file_of files (other file))

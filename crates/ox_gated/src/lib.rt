@@ -5,6 +5,7 @@
 mod fault;
 mod framed;
 mod head;
+mod laws;
 mod layout;
 mod open;
 mod other_file;
@@ -17,6 +18,7 @@ mod writes;
 pub use fault::{Before, GateFault};
 pub use framed::{Checkpoint, Framed, checkpoint_of, frame, frame_parts};
 pub use head::Head;
+pub use laws::{current_files_are_chosen, cut_records_end_at_their_gate};
 pub use layout::BODY_AT;
 pub use open::Opened;
 pub use other_file::{Closed, Filled};

@@ -10,6 +10,7 @@ ghost use Rattle.ox_gated.specs.OtherFile.{ReadsAlike, BeginsShut, HoldsBoth, Is
 ghost use Rattle.ox_gated.specs.OtherFile.{ReadsNew, MustTurn, filled_with, tail_of_other};
 ghost use Rattle.ox_gated.specs.Tail.{Holds};
 ghost use Rattle.ox_gated.specs.Writes.{OnlyWrites};
+ghost use Rattle.ox_gated.specs.Written.{with_open_gate};
 
 use crate::framed::Checkpoint;
 use crate::head::Head;
@@ -201,6 +202,10 @@ impl Filled {
             → (body : List ℕ) → HoldsBoth S.Site self body site.old
             → OnOk result (
             ReadsNew (other self.tail.file) (filled_with self body) (S.seen site.new)) }
+        // Its first byte is 1 then, and nothing else of the two files changes.
+        ensures files { IsTrue (S.told site.old)
+            → OnOk result (
+            S.seen site.new ≡ with_open_gate (other self.tail.file) 0 (S.seen site.old)) }
         ensures spared { IsTrue (S.told site.old)
             → OnOk result (IsSpared self.tail.file (S.seen site.old) (S.seen site.new)) }
         ensures kept { IfOk result (λ tail.

@@ -1,9 +1,10 @@
 //! The tail of two files: where the next record comes.
 
-ghost use Rattle.std.specs.Prelude.{◌≡◌, ◌↔◌, ◌+◌, ◌<◌, ◌^◌, [], true, IsTrue, IfOk, OnErr};
+ghost use Rattle.std.specs.Prelude.{◌≡◌, ◌↔◌, ◌+◌, ◌<◌, ◌^◌, [], true, IsTrue, IfOk, OnOk, OnErr};
 ghost use Rattle.ox_outside.specs.Counts.{IsFailure, Rose, StopsAtFault};
 ghost use Rattle.ox_outside.specs.Runs.{LeavesOnly};
 ghost use Rattle.ox_gated.specs.Writes.{OnlyWrites};
+ghost use Rattle.ox_gated.specs.Written.{with_record_behind};
 
 use crate::framed::{Checkpoint, Framed};
 use crate::head::Head;
@@ -127,6 +128,9 @@ impl Tail {
     /// any moment of the call a crash leaves files that stand for what they stood for before, with
     /// the record behind it or without. No event of a channel is logged. `DiskFault` comes only
     /// where a call on a file failed.
+    ///
+    /// The record is written behind the closed gate, and the gate is then the byte 1; nothing else
+    /// of the two files changes.
     pub fn append<S: Site>(self, site: &mut S, framed: &Framed) -> Result<Tail, DiskFault>
         requires fits { Fits self (length framed.now) }
         requires holds { IsTrue (S.told site.old) → Holds S.Site self site.old }
@@ -136,6 +140,9 @@ impl Tail {
             IsTrue (S.told site.old)
             → IfOk result (λ tail.
             reading v (S.seen site.new) ≡ with_payload framed.now (reading v (S.seen site.old))) }
+        ensures files { IsTrue (S.told site.old)
+            → OnOk result (S.seen site.new
+            ≡ with_record_behind self.file self.gate framed.now (S.seen site.old)) }
         ensures kept { IfOk result (λ tail.
             (tail.file ≡ self.file) × (tail.head ≡ self.head)
             × (tail.records ≡ self.records + 1)) }

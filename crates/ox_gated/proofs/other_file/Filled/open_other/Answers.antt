@@ -1,8 +1,10 @@
 use Rattle.std.proofs.Common.{◌≡◌, ◌∙◌, ℕ, List, sym, ap, subst}
 use Rattle.ox_outside.specs.Files.{file_of, other}
 use Rattle.ox_outside.specs.Runs.{LeavesOnly}
+use Rattle.ox_outside.specs.declared.site.Which.{Which}
 use Rattle.ox_gated.specs.OtherFile.{KeptBoth, HoldsBoth, IsOldOrNew, ReadsNew, filled_with}
 use Rattle.ox_gated.specs.Tail.{Kept, Holds}
+use Rattle.ox_gated.specs.Written.{with_open_gate}
 use Rattle.ox_gated.proofs.OneFile.{spared}
 use Rattle.ox_gated.proofs.Turning.{open_moments, open_reads, open_holds}
 use Rattle.ox_gated.proofs.other_file.Filled.open_other.Goals as goal
@@ -55,3 +57,11 @@ returns-clause-spared g c told =
     let new = g.S.Site.seen c.write_synced.new.site in
     subst (λ (b : KeptBoth). file_of new b.tail.file ≡ file_of old b.tail.file) c.self.view_is
     (spared c.self.inside.tail.file c.other_file-file.result old new _ (c.other_file-file.ensures ∙ ap other c.file.ensures) (c.in_ok-write_synced.ensures.written told))
+
+pub returns-clause-files : goal.returns-clause-files
+returns-clause-files g c told =
+    let old = g.S.Site.seen c.args.site.now in
+    let new = g.S.Site.seen c.write_synced.new.site in
+    let file_is = c.other_file-file.ensures ∙ ap other c.file.ensures in
+    let written = c.in_ok-write_synced.ensures.written told ∙ ap (λ (w : Which). with_open_gate w 0 old) file_is in
+    subst (λ (b : KeptBoth). new ≡ with_open_gate (other b.tail.file) 0 old) c.self.view_is written

@@ -1,11 +1,12 @@
-use Rattle.std.proofs.Common.{◌≡◌, ◌∙◌, ◌+◌, ℕ, sym, ap, subst}
+use Rattle.std.proofs.Common.{◌≡◌, ◌∙◌, ◌+◌, ℕ, List, sym, ap, subst}
 use Rattle.ox_outside.specs.Runs.{LeavesOnly}
 use Rattle.ox_gated.specs.Reading.{reading, with_payload}
 use Rattle.ox_gated.specs.Tail.{Kept, Holds, IsBeforeOrAfter}
+use Rattle.ox_gated.specs.Written.{with_write, with_open_gate, with_record_behind}
 use Rattle.ox_gated.proofs.AppendKeepsTail.{first_within, moments_first, moments_both, staged_within, staged_settled, reads_after, holds_after}
 use Rattle.std.proofs.lemmas.Result.{err_from_is_err_and}
 use Rattle.ox_outside.proofs.Counts.{no_fault_then, stops_after, stops_at_none, then_rose}
-use Rattle.ox_gated.proofs.OneWrite.{if_none, on_failed}
+use Rattle.ox_gated.proofs.OneWrite.{if_none, on_failed, on_none}
 use Rattle.ox_gated.proofs.Writing.{all_worked, ends_failed, writes_then}
 use Rattle.ox_gated.proofs.tail.Tail.append.Goals as goal
 
@@ -33,6 +34,7 @@ returns-in_err-write_synced g c =
     let p = err_from_is_err_and result c.from_residual.ensures.1 in record {
       holds = λ told. if_none result p.0 p.1 _;
       appended = λ told. if_none result p.0 p.1 _;
+      files = λ told. on_none result p.0 p.1 _;
       kept = if_none result p.0 p.1 _;
       any_moment = λ told.
           let b = c.as_slice-bytes.ensures in
@@ -52,6 +54,7 @@ returns-in_err-write_synced-2 g c =
     let p = err_from_is_err_and result c.from_residual-in_err-write_synced-2.ensures.1 in record {
       holds = λ told. if_none result p.0 p.1 _;
       appended = λ told. if_none result p.0 p.1 _;
+      files = λ told. on_none result p.0 p.1 _;
       kept = if_none result p.0 p.1 _;
       any_moment = λ told.
           let b = c.as_slice-bytes.ensures in
@@ -89,6 +92,14 @@ returns g c = record {
       let h : Holds g.S.Site tail c.args.site.now = subst (λ (t : Kept). Holds g.S.Site t c.args.site.now) (sym c.self.view_is) (c.requires.holds told) in
       subst (λ (t : Kept). reading t.head.version (g.S.Site.seen c.write_synced-2.new.site) ≡ with_payload c.args.framed.now (reading t.head.version (g.S.Site.seen c.args.site.now))) c.self.view_is
       (reads_after g.S.Site c.args.framed.now b.small tail c.as_slice-bytes.result.now b.bytes c.args.site.now c.write_synced.new.site h c.write_synced-2.new.site (first.written told) (c.in_ok-write_synced-2.ensures.written told_mid));
+  files = λ told.
+      let b = c.as_slice-bytes.ensures in
+      let i = c.self.inside in
+      let old = g.S.Site.seen c.args.site.now in
+      let first = c.in_ok-write_synced.ensures in
+      let told_mid = first.writes.calls.as_told ∙ told in
+      let written = c.in_ok-write_synced-2.ensures.written told_mid ∙ ap (with_open_gate i.file i.gate) (first.written told ∙ ap (λ (l : List ℕ). with_write i.file (i.gate + 1) l old) b.bytes) in
+      subst (λ (t : Kept). g.S.Site.seen c.write_synced-2.new.site ≡ with_record_behind t.file t.gate c.args.framed.now old) c.self.view_is written;
   kept = (ap (λ (t : Kept). t.file) c.self.view_is, ap (λ (t : Kept). t.head) c.self.view_is, ap (λ (t : Kept). t.records + 1) c.self.view_is);
   any_moment = λ told.
       let b = c.as_slice-bytes.ensures in
