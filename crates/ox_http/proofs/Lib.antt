@@ -2,6 +2,7 @@ pub mod Computed
 pub mod Cutting
 pub mod Digits
 pub mod Ends
+pub mod Faulty
 pub mod Fields
 pub mod Fronts
 pub mod Heads

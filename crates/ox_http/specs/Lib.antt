@@ -1,3 +1,4 @@
+pub mod Faults
 pub mod First
 pub mod Head
 pub mod Lines

@@ -1,6 +1,7 @@
 //! What a request asks and what a reply says, as values.
 #![tactic(auto)]
 
+mod faults;
 mod laws;
 mod pieces;
 mod reader;
@@ -8,6 +9,7 @@ mod response;
 mod rows;
 mod writer;
 
+pub use faults::faults_are_the_first;
 pub use laws::{heads_are_the_grammars, talks_go_on, what_is_said_stays};
 use ox_bytes::Bytes;
 pub use pieces::streams_are_their_requests;
