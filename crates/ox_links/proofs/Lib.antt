@@ -9,6 +9,8 @@ pub mod Quiet
 pub mod Turns
 pub mod Like
 pub mod Replay
+pub mod Tallied
+pub mod Round
 mod Toy
 mod Rows
 mod TurnRows

@@ -3,9 +3,8 @@ use Rattle.std.proofs.Common.{if◌then◌else◌, length, sym, ◌≡◌, ◌�
 use Rattle.std.specs.List.{AllByRecursion, count_by, filter}
 use Rattle.std.proofs.Math.Bool.{and-false}
 use Rattle.std.proofs.lemmas.List.Sums.{length-filter}
-use Rattle.std.proofs.lemmas.List.Elements.{All-nil, All-cons}
 use Rattle.ox_outside.specs.Counts.{Counts}
-use Rattle.ox_outside.specs.Event.{Event, Opened, Heard, Showed, Broke, GaveUp, Shut, channel_of}
+use Rattle.ox_outside.specs.Event.{Event, Opened, Heard, Showed, Broke, GaveUp, Shut}
 use Rattle.ox_outside.specs.declared.site.Doorway.{Doorway}
 use Rattle.ox_outside.specs.declared.site.Doorway.TheVariants.{Public, Operator}
 use Rattle.ox_links.specs.Rotation.{Who, door_of, link_of, next_turn, slots_in}
@@ -115,8 +114,8 @@ nine_links channel =
     count_none (λ (t : Turn). is_same (link_of channel) t.who && is_idle t) nine
     (refl, (refl, (heard, (refl, (refl, (heard, (refl, (refl, (heard, tt)))))))))
 
--- with the line that is shown behind them they make a run
-nine_turned : Turned toy 0 9 no_counts idled (logged_by nine ++ Showed 0 (10 ∷ []) ∷ [])
+-- they make a run
+nine_turned : Turned toy 0 9 no_counts idled (logged_by nine)
 unfolding nine no_counts idled idles
 nine_turned = record {
   turns = nine;
@@ -124,8 +123,6 @@ nine_turned = record {
   end = 3;
   made = nine_made;
   idles = record { doors = doors; links = λ channel. inl (let none = nine_links channel in omega (arith, none)) };
-  own = Showed 0 (10 ∷ []) ∷ [];
-  only_own = All-cons (λ (e : Event). channel_of e ≡ 0) (Showed 0 (10 ∷ [])) [] refl (All-nil (λ (e : Event). channel_of e ≡ 0));
   logged = refl;
 }
   where

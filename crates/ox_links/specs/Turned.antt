@@ -1,10 +1,10 @@
 -- The turns of a server: what one of them logs, and what so many come to.
 use Rattle.std.specs.Prelude.{◌≡◌, ◌⊎◌, ◌≤◌, ◌<◌, ℕ, suc, ◌+◌, ◌==◌, Bool, true, false, ◌&&◌, not}
 use Rattle.std.specs.Prelude.{IsTrue, if◌then◌else◌}
-use Rattle.std.specs.Prelude.{List, [], ◌∷◌, ◌++◌, length, flat_map, count_by, All, Some}
+use Rattle.std.specs.Prelude.{List, [], ◌∷◌, ◌++◌, length, flat_map, count_by, Some}
 use Rattle.ox_outside.specs.Counts.{Counts, greatest}
 use Rattle.ox_outside.specs.Event.{Event, Opened, Heard, Ended, Showed, Broke, GaveUp, Shut}
-use Rattle.ox_outside.specs.Event.{channel_of, was_opened}
+use Rattle.ox_outside.specs.Event.{was_opened}
 use Rattle.ox_outside.specs.declared.site.Doorway.{Doorway}
 use Rattle.ox_outside.specs.declared.site.Doorway.TheVariants.{Public, Operator}
 use Rattle.ox_links.specs.Link.{all_shown, is_over}
@@ -102,8 +102,7 @@ pub record CountsIdles (turns : List Turn) (old new : Counts) : Type 0 where
 
 -- ---- a run
 
--- so many turns were made, with these counts before and after them, and behind them there is only
--- what the program itself hears and shows
+-- so many turns were made, with these counts before and after them, and nothing else is logged
 pub record Turned {X C : Type 0} (server : Server X C) (first : X) (n : ℕ) (old new : Counts)
     (log : List Event) : Type 0 where
   pub turns : List Turn
@@ -111,9 +110,7 @@ pub record Turned {X C : Type 0} (server : Server X C) (first : X) (n : ℕ) (ol
   pub end : ℕ
   pub made : AreTurns server first [] 0 turns end
   pub idles : CountsIdles turns old new
-  pub own : List Event
-  pub only_own : All (λ event. channel_of event ≡ 0) own
-  pub logged : log ≡ logged_by turns ++ own
+  pub logged : log ≡ logged_by turns
 
 -- what a turn from this place had logged when it was cut short: nothing, or its first event
 abbrev pub IsCut : {X C : Type 0} → Server X C → X → List Event → ℕ → List Event → Type 0
@@ -133,3 +130,12 @@ pub record CutShort {X C : Type 0} (server : Server X C) (first : X) (n : ℕ) (
   pub cut : List Event
   pub is_cut : IsCut server first (logged_by turns) end cut
   pub logged : log ≡ logged_by turns ++ cut
+
+-- a run of so many turns ended between two of them: fewer were made, and nothing else is logged
+pub record IsFewer {X C : Type 0} (server : Server X C) (first : X) (n : ℕ) (log : List Event)
+    : Type 0 where
+  pub turns : List Turn
+  pub fewer : length turns < n
+  pub end : ℕ
+  pub made : AreTurns server first [] 0 turns end
+  pub logged : log ≡ logged_by turns
