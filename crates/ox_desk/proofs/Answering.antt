@@ -11,7 +11,7 @@ use Rattle.ox_http.specs.Written.{written}
 use Rattle.ox_links.specs.Counted.{Key, Tally, with_get}
 use Rattle.ox_links.specs.Serving.{next_state, one_if}
 use Rattle.ox_turns.specs.Desk.{state_behind}
-use Rattle.ox_turns.specs.declared.desk.Made.{Made}
+use Rattle.ox_turns.specs.declared.handler.Made.{Made}
 use Rattle.ox_rules.specs.declared.refusal.Refusal.{Refusal}
 use Rattle.ox_model.specs.Stack.{Stack, stack_after}
 use Rattle.ox_replies.specs.Ask.{reply_of}

@@ -6,8 +6,8 @@ use Rattle.ox_feed.specs.declared.command.Command.{Command}
 use Rattle.ox_http.specs.Written.{written}
 use Rattle.ox_http.specs.declared.Request.{Request}
 use Rattle.ox_turns.specs.Desk.{state_behind}
-use Rattle.ox_turns.specs.declared.desk.DeskFault.{DeskFault}
-use Rattle.ox_turns.specs.declared.desk.Made.{Made}
+use Rattle.ox_turns.specs.declared.handler.DeskFault.{DeskFault}
+use Rattle.ox_turns.specs.declared.handler.Made.{Made}
 use Rattle.ox_gated.specs.Tail.{Holds, Kept as Tail}
 use Rattle.ox_model.specs.Stack.{Stack}
 use Rattle.ox_files.specs.Stands.{stands}

@@ -5,9 +5,9 @@ use Rattle.ox_outside.specs.Counts.{Counts, IsFailure, StopsAtFault}
 use Rattle.ox_outside.specs.declared.site.Site.{Ghosts as Meanings}
 use Rattle.ox_outside.proofs.Counts.{stops_as}
 use Rattle.ox_feed.specs.declared.command.Command.{Command}
-use Rattle.ox_turns.specs.declared.desk.DeskFault.{DeskFault}
-use Rattle.ox_turns.specs.declared.desk.DeskFault.TheVariants.{DiskFault, Memory}
-use Rattle.ox_turns.specs.declared.desk.Made.{Made}
+use Rattle.ox_turns.specs.declared.handler.DeskFault.{DeskFault}
+use Rattle.ox_turns.specs.declared.handler.DeskFault.TheVariants.{DiskFault, Memory}
+use Rattle.ox_turns.specs.declared.handler.Made.{Made}
 use Rattle.ox_gated.specs.Tail.{Holds}
 use Rattle.ox_files.specs.Stands.{stands}
 use Rattle.ox_store.specs.Store.{StoreContents}

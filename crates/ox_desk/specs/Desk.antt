@@ -10,7 +10,7 @@ use Rattle.ox_http.specs.Written.{written}
 use Rattle.ox_http.specs.declared.Method.{Method}
 use Rattle.ox_http.specs.declared.Method.TheVariants.{Get}
 use Rattle.ox_http.specs.declared.Request.{Request}
-use Rattle.ox_turns.specs.declared.desk.Made.{Made}
+use Rattle.ox_turns.specs.declared.handler.Made.{Made}
 use Rattle.ox_links.specs.Counted.{Key, Tally, with_get}
 use Rattle.ox_links.specs.Serving.{next_state, one_if}
 use Rattle.ox_gated.specs.Tail.{Holds, Kept as Tail}

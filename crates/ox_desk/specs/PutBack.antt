@@ -1,8 +1,8 @@
 -- What a desk makes of a command that its store has carried out, and of one that met a fault.
 use Rattle.std.specs.Prelude.{ℕ, ◌+◌, Bool, List, Option, Some, None, Result, Ok, Err}
-use Rattle.ox_turns.specs.declared.desk.DeskFault.{DeskFault}
-use Rattle.ox_turns.specs.declared.desk.DeskFault.TheVariants.{DiskFault, Memory}
-use Rattle.ox_turns.specs.declared.desk.Made.{Made}
+use Rattle.ox_turns.specs.declared.handler.DeskFault.{DeskFault}
+use Rattle.ox_turns.specs.declared.handler.DeskFault.TheVariants.{DiskFault, Memory}
+use Rattle.ox_turns.specs.declared.handler.Made.{Made}
 use Rattle.ox_desk.specs.Desk.{DeskContents, contents_in}
 use Rattle.ox_desk.specs.declared.carry.Carried.{Carried}
 

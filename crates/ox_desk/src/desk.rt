@@ -5,7 +5,7 @@ ghost use Rattle.std.specs.Prelude.{IfOk, OnOk, OnErr, IsErrOf};
 ghost use Rattle.ox_outside.specs.Counts.{Rose, StopsAtFault, greatest};
 ghost use Rattle.ox_outside.specs.Runs.{LeavesOnly};
 ghost use Rattle.ox_http.specs.declared.Method.TheVariants as methods;
-ghost use Rattle.ox_turns.specs.declared.desk.DeskFault.TheVariants as faults;
+ghost use Rattle.ox_turns.specs.declared.handler.DeskFault.TheVariants as faults;
 ghost use Rattle.ox_links.specs.Counted.{no_tally};
 ghost use Rattle.ox_gated.specs.Writes.{OnlyWrites};
 ghost use Rattle.ox_desk.specs.Desk.{tally_of};

@@ -223,7 +223,7 @@ fn give_up<S: Site>(slot: &mut Slot, site: &mut S)
 }
 
 /// A link's turn. Whether the link is over, and was shut. `Failed` where a call on a file failed.
-pub(crate) fn turn<S: Site, D: Desk<S>>(
+pub(crate) fn step_link<S: Site, D: Desk<S>>(
     slot: &mut Slot,
     room: &mut [u8],
     site: &mut S,

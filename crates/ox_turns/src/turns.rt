@@ -268,7 +268,7 @@ impl Turns {
         ensures calls { Calls S.Site site.old site.new }
     {
         match &mut self.slots[at] {
-            Some(slot) => match link::turn(slot, self.room.as_mut_slice(), site, desk) {
+            Some(slot) => match link::step_link(slot, self.room.as_mut_slice(), site, desk) {
                 Ok(false) => Ok(()),
                 Ok(true) => {
                     put(&mut self.slots, at, None);
@@ -320,6 +320,7 @@ impl Turns {
             → Rose (S.counts site.old).disk (S.counts site.new).disk }
         ensures door_fault { IsErrOf result TurnFault.DoorFault
             → Rose (S.counts site.old).door (S.counts site.new).door }
+        ensures door_logs { IsErrOf result TurnFault.DoorFault → S.log site.new ≡ S.log site.old }
         ensures counted { StopsAtFault (result ≡ Err TurnFault.DiskFault) ⊥ ⊥ (S.counts site.old)
             (S.counts site.new) }
         ensures calls { Calls S.Site site.old site.new }
@@ -334,7 +335,8 @@ impl Turns {
     /// Makes one turn: that of a door or of a link, the first from the place in the rotation on and
     /// round. It is one call of `door`, `hear` or `show`; what a link then asks is answered, and
     /// one that is over is shut. `DiskFault` and `DoorFault` come only where that count rose in the
-    /// call. Want of memory ends no turn: the link gives up, and the reply 503 is due.
+    /// call; at `DoorFault` nothing is logged. Want of memory ends no turn: the link gives up, and
+    /// the reply 503 is due.
     ///
     /// Where the log is told, there has to be a start from which slots and desk follow it: as after
     /// `new` its present length, and the desk's state. Each start from which they follow it is one
@@ -366,6 +368,7 @@ impl Turns {
             → Rose (S.counts site.old).disk (S.counts site.new).disk }
         ensures door_fault { IsErrOf result TurnFault.DoorFault
             → Rose (S.counts site.old).door (S.counts site.new).door }
+        ensures door_logs { IsErrOf result TurnFault.DoorFault → S.log site.new ≡ S.log site.old }
         ensures counted { StopsAtFault (result ≡ Err TurnFault.DiskFault) ⊥ ⊥ (S.counts site.old)
             (S.counts site.new) }
         ensures calls { Calls S.Site site.old site.new }

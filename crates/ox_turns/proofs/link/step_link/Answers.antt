@@ -15,7 +15,7 @@ use Rattle.ox_turns.specs.declared.link.Next.{Next}
 use Rattle.ox_turns.specs.declared.link.Next.TheVariants.{Rests, NoMemory as NoneLeft, Over as Ends}
 use Rattle.ox_turns.proofs.LinkCrashes.{ready_rests, going_on_still, came_left, more_left, finish_left}
 use Rattle.ox_turns.proofs.LinkTurns.{made_part, made_rests, made_up, made_over, made_no_memory, made_end, cut_short}
-use Rattle.ox_turns.proofs.link.turn.Goals as goal
+use Rattle.ox_turns.proofs.link.step_link.Goals as goal
 
 pub give_up-requires-clause-open : goal.give_up-requires-clause-open
 give_up-requires-clause-open g c x is =

@@ -6,7 +6,7 @@ use Rattle.ox_outside.proofs.Calls.{no_call}
 use Rattle.ox_outside.proofs.Counts.{no_fault_yet, stops_at_none}
 use Rattle.ox_http.specs.Written.{written}
 use Rattle.ox_turns.specs.Desk.{state_behind}
-use Rattle.ox_turns.specs.declared.desk.DeskFault.TheVariants.{Memory}
+use Rattle.ox_turns.specs.declared.handler.DeskFault.TheVariants.{Memory}
 use Rattle.ox_model.specs.Stack.{Stack}
 use Rattle.ox_store.specs.Ready.{StandsForEither}
 use Rattle.ox_desk.specs.Desk.{CarriesOut, DeskContents, Rests, Steps, stack_behind}

@@ -9,14 +9,14 @@ use Rattle.ox_turns.proofs.Rotating.{held_here, ready_set, set_again, within_som
 use Rattle.ox_turns.proofs.Turned.{going_of, fronts_since, slot_turned}
 use Rattle.ox_turns.proofs.turns.Turns.turn_of_slot.Goals as goal
 
-pub turn-requires-clause-ready : goal.turn-requires-clause-ready
-turn-requires-clause-ready g c =
+pub step_link-requires-clause-ready : goal.step_link-requires-clause-ready
+step_link-requires-clause-ready g c =
     let inside : c.args.at < length c.self.inside.slots.items = subst (λ (p : Places). c.args.at < length p.slots) (sym c.self.view_is) (within_some c.args.self.now.slots c.args.at c.requires.held) in
     let held : Holds c.self.inside.slots.items c.args.at c.in-Some.slot = held_here c.self.inside.slots.items c.args.at c.index_mut.result.now c.in-Some.slot inside c.index_mut.ensures.value c.in-Some.is in
     c.self.invariant.3 c.args.at c.in-Some.slot held
 
-pub turn-requires-clause-goes_on : goal.turn-requires-clause-goes_on
-turn-requires-clause-goes_on g c x is =
+pub step_link-requires-clause-goes_on : goal.step_link-requires-clause-goes_on
+step_link-requires-clause-goes_on g c x is =
     let inside : c.args.at < length c.self.inside.slots.items = subst (λ (p : Places). c.args.at < length p.slots) (sym c.self.view_is) (within_some c.args.self.now.slots c.args.at c.requires.held) in
     let held : Holds c.self.inside.slots.items c.args.at c.in-Some.slot = held_here c.self.inside.slots.items c.args.at c.index_mut.result.now c.in-Some.slot inside c.index_mut.ensures.value c.in-Some.is in
     let seen : Holds c.args.self.now.slots c.args.at c.in-Some.slot = subst (λ (p : Places). Holds p.slots c.args.at c.in-Some.slot) c.self.view_is held in
@@ -27,21 +27,21 @@ pub invariant_of-self : goal.invariant_of-self
 invariant_of-self g c =
     let inside : c.args.at < length c.self.inside.slots.items = subst (λ (p : Places). c.args.at < length p.slots) (sym c.self.view_is) (within_some c.args.self.now.slots c.args.at c.requires.held) in
     let all = ready_set c.self.inside.slots.items c.args.at None inside c.self.invariant.3 (λ (a : Slot) e. absurd (let f : None ≡ Some a = e in let no : ⊥ = cc f in no)) in
-    let is = c.put.ensures.items ∙ set_again c.self.inside.slots.items c.args.at (Some c.turn.new.slot) None in
+    let is = c.put.ensures.items ∙ set_again c.self.inside.slots.items c.args.at (Some c.step_link.new.slot) None in
     (c.put.ensures.len ∙ c.self.invariant.0, c.self.invariant.1, c.self.invariant.2, λ i a h. all i a (subst (λ (l : List (Option Slot)). Holds l i a) is h))
 
 pub invariant_of-self-in-Err : goal.invariant_of-self-in-Err
 invariant_of-self-in-Err g c =
     let inside : c.args.at < length c.self.inside.slots.items = subst (λ (p : Places). c.args.at < length p.slots) (sym c.self.view_is) (within_some c.args.self.now.slots c.args.at c.requires.held) in
     let all = ready_set c.self.inside.slots.items c.args.at None inside c.self.invariant.3 (λ (a : Slot) e. absurd (let f : None ≡ Some a = e in let no : ⊥ = cc f in no)) in
-    let is = c.put-in-Err.ensures.items ∙ set_again c.self.inside.slots.items c.args.at (Some c.turn.new.slot) None in
+    let is = c.put-in-Err.ensures.items ∙ set_again c.self.inside.slots.items c.args.at (Some c.step_link.new.slot) None in
     (c.put-in-Err.ensures.len ∙ c.self.invariant.0, c.self.invariant.1, c.self.invariant.2, λ i a h. all i a (subst (λ (l : List (Option Slot)). Holds l i a) is h))
 
 pub invariant_of-self-in-Ok-false : goal.invariant_of-self-in-Ok-false
 invariant_of-self-in-Ok-false g c =
     let inside : c.args.at < length c.self.inside.slots.items = subst (λ (p : Places). c.args.at < length p.slots) (sym c.self.view_is) (within_some c.args.self.now.slots c.args.at c.requires.held) in
-    let ready = subst (λ (b : Bool). b ≡ false → IsReady c.turn.new.slot.session) c.in-Ok-false.field-0-test c.in-Ok-false.ensures.ready refl in
-    let all = ready_set c.self.inside.slots.items c.args.at (Some c.turn.new.slot) inside c.self.invariant.3 (λ (a : Slot) e. let f : c.turn.new.slot ≡ a = cc e in subst (λ (s : Slot). IsReady s.session) f ready) in
+    let ready = subst (λ (b : Bool). b ≡ false → IsReady c.step_link.new.slot.session) c.in-Ok-false.field-0-test c.in-Ok-false.ensures.ready refl in
+    let all = ready_set c.self.inside.slots.items c.args.at (Some c.step_link.new.slot) inside c.self.invariant.3 (λ (a : Slot) e. let f : c.step_link.new.slot ≡ a = cc e in subst (λ (s : Slot). IsReady s.session) f ready) in
     (c.self.invariant.0, c.self.invariant.1, c.self.invariant.2, all)
 
 pub returns-in-Ok-true-clause-turn : goal.returns-in-Ok-true-clause-turn
@@ -50,11 +50,11 @@ returns-in-Ok-true-clause-turn g c start since slot is follows at_slot =
     let held : Holds c.self.inside.slots.items c.args.at c.in-Some.slot = held_here c.self.inside.slots.items c.args.at c.index_mut.result.now c.in-Some.slot inside c.index_mut.ensures.value c.in-Some.is in
     let seen : Holds c.args.self.now.slots c.args.at c.in-Some.slot = subst (λ (p : Places). Holds p.slots c.args.at c.in-Some.slot) c.self.view_is held in
     let made = c.in-Ok-true.ensures.turn (start.log ++ since) (served_by g.D.Desk.server start.state since) is (follows.links c.args.at c.in-Some.slot seen) (fronts_since g.D.Desk.server g.met.D.Desk.http start since c.args.self.now.slots (g.D.Desk.state c.args.desk.now) follows) follows.state in
-    let made = subst (λ (b : Bool). LinkTurns g.S.Site g.D.Desk.server g.D.Desk.moved g.D.Desk.same (served_by g.D.Desk.server start.state since) (start.log ++ since) c.in-Some.slot.channel c.in-Some.slot.door b c.args.site.now c.turn.new.site c.turn.new.slot.session (g.D.Desk.state c.turn.new.desk) c.args.desk.now c.turn.new.desk) c.in-Ok-true.field-0-test made in
+    let made = subst (λ (b : Bool). LinkTurns g.S.Site g.D.Desk.server g.D.Desk.moved g.D.Desk.same (served_by g.D.Desk.server start.state since) (start.log ++ since) c.in-Some.slot.channel c.in-Some.slot.door b c.args.site.now c.step_link.new.site c.step_link.new.slot.session (g.D.Desk.state c.step_link.new.desk) c.args.desk.now c.step_link.new.desk) c.in-Ok-true.field-0-test made in
     let whose : c.in-Some.slot ≡ slot = (let e : Some c.in-Some.slot ≡ Some slot = sym seen ∙ at_slot in cc e) in
-    subst (λ (s : Slot). TurnOf g.S.Site g.D.Desk.server g.D.Desk.moved g.D.Desk.same start since (link_of s.channel) c.put.new.slots.items c.args.site.now c.turn.new.site (g.D.Desk.state c.turn.new.desk) c.args.desk.now c.turn.new.desk) whose
-    (slot_turned g.D.Desk.server g.met.D.Desk.http start since c.args.self.now.slots (g.D.Desk.state c.args.desk.now) follows g.S.Site g.D.Desk.moved g.D.Desk.same c.args.at c.in-Some.slot seen true c.turn.new.slot c.in-Ok-true.ensures.channel c.in-Ok-true.ensures.door c.put.new.slots.items
-    (c.put.ensures.items ∙ set_again c.self.inside.slots.items c.args.at (Some c.turn.new.slot) None ∙ ap (λ (p : Places). set p.slots c.args.at None) c.self.view_is) c.args.site.now c.turn.new.site (g.D.Desk.state c.turn.new.desk) c.args.desk.now c.turn.new.desk made)
+    subst (λ (s : Slot). TurnOf g.S.Site g.D.Desk.server g.D.Desk.moved g.D.Desk.same start since (link_of s.channel) c.put.new.slots.items c.args.site.now c.step_link.new.site (g.D.Desk.state c.step_link.new.desk) c.args.desk.now c.step_link.new.desk) whose
+    (slot_turned g.D.Desk.server g.met.D.Desk.http start since c.args.self.now.slots (g.D.Desk.state c.args.desk.now) follows g.S.Site g.D.Desk.moved g.D.Desk.same c.args.at c.in-Some.slot seen true c.step_link.new.slot c.in-Ok-true.ensures.channel c.in-Ok-true.ensures.door c.put.new.slots.items
+    (c.put.ensures.items ∙ set_again c.self.inside.slots.items c.args.at (Some c.step_link.new.slot) None ∙ ap (λ (p : Places). set p.slots c.args.at None) c.self.view_is) c.args.site.now c.step_link.new.site (g.D.Desk.state c.step_link.new.desk) c.args.desk.now c.step_link.new.desk made)
 
 pub returns-in-Ok-false-clause-turn : goal.returns-in-Ok-false-clause-turn
 returns-in-Ok-false-clause-turn g c start since slot is follows at_slot =
@@ -62,11 +62,11 @@ returns-in-Ok-false-clause-turn g c start since slot is follows at_slot =
     let held : Holds c.self.inside.slots.items c.args.at c.in-Some.slot = held_here c.self.inside.slots.items c.args.at c.index_mut.result.now c.in-Some.slot inside c.index_mut.ensures.value c.in-Some.is in
     let seen : Holds c.args.self.now.slots c.args.at c.in-Some.slot = subst (λ (p : Places). Holds p.slots c.args.at c.in-Some.slot) c.self.view_is held in
     let made = c.in-Ok-false.ensures.turn (start.log ++ since) (served_by g.D.Desk.server start.state since) is (follows.links c.args.at c.in-Some.slot seen) (fronts_since g.D.Desk.server g.met.D.Desk.http start since c.args.self.now.slots (g.D.Desk.state c.args.desk.now) follows) follows.state in
-    let made = subst (λ (b : Bool). LinkTurns g.S.Site g.D.Desk.server g.D.Desk.moved g.D.Desk.same (served_by g.D.Desk.server start.state since) (start.log ++ since) c.in-Some.slot.channel c.in-Some.slot.door b c.args.site.now c.turn.new.site c.turn.new.slot.session (g.D.Desk.state c.turn.new.desk) c.args.desk.now c.turn.new.desk) c.in-Ok-false.field-0-test made in
+    let made = subst (λ (b : Bool). LinkTurns g.S.Site g.D.Desk.server g.D.Desk.moved g.D.Desk.same (served_by g.D.Desk.server start.state since) (start.log ++ since) c.in-Some.slot.channel c.in-Some.slot.door b c.args.site.now c.step_link.new.site c.step_link.new.slot.session (g.D.Desk.state c.step_link.new.desk) c.args.desk.now c.step_link.new.desk) c.in-Ok-false.field-0-test made in
     let whose : c.in-Some.slot ≡ slot = (let e : Some c.in-Some.slot ≡ Some slot = sym seen ∙ at_slot in cc e) in
-    subst (λ (s : Slot). TurnOf g.S.Site g.D.Desk.server g.D.Desk.moved g.D.Desk.same start since (link_of s.channel) (set c.self.inside.slots.items c.args.at (Some c.turn.new.slot)) c.args.site.now c.turn.new.site (g.D.Desk.state c.turn.new.desk) c.args.desk.now c.turn.new.desk) whose
-    (slot_turned g.D.Desk.server g.met.D.Desk.http start since c.args.self.now.slots (g.D.Desk.state c.args.desk.now) follows g.S.Site g.D.Desk.moved g.D.Desk.same c.args.at c.in-Some.slot seen false c.turn.new.slot c.in-Ok-false.ensures.channel c.in-Ok-false.ensures.door (set c.self.inside.slots.items c.args.at (Some c.turn.new.slot))
-    (ap (λ (p : Places). set p.slots c.args.at (Some c.turn.new.slot)) c.self.view_is) c.args.site.now c.turn.new.site (g.D.Desk.state c.turn.new.desk) c.args.desk.now c.turn.new.desk made)
+    subst (λ (s : Slot). TurnOf g.S.Site g.D.Desk.server g.D.Desk.moved g.D.Desk.same start since (link_of s.channel) (set c.self.inside.slots.items c.args.at (Some c.step_link.new.slot)) c.args.site.now c.step_link.new.site (g.D.Desk.state c.step_link.new.desk) c.args.desk.now c.step_link.new.desk) whose
+    (slot_turned g.D.Desk.server g.met.D.Desk.http start since c.args.self.now.slots (g.D.Desk.state c.args.desk.now) follows g.S.Site g.D.Desk.moved g.D.Desk.same c.args.at c.in-Some.slot seen false c.step_link.new.slot c.in-Ok-false.ensures.channel c.in-Ok-false.ensures.door (set c.self.inside.slots.items c.args.at (Some c.step_link.new.slot))
+    (ap (λ (p : Places). set p.slots c.args.at (Some c.step_link.new.slot)) c.self.view_is) c.args.site.now c.step_link.new.site (g.D.Desk.state c.step_link.new.desk) c.args.desk.now c.step_link.new.desk made)
 
 pub returns-in-Ok-true-clause-survives : goal.returns-in-Ok-true-clause-survives
 returns-in-Ok-true-clause-survives g c start since is follows told =
@@ -96,4 +96,4 @@ returns-in-Err-clause-cut g c start since slot is follows at_slot =
     let seen : Holds c.args.self.now.slots c.args.at c.in-Some.slot = subst (λ (p : Places). Holds p.slots c.args.at c.in-Some.slot) c.self.view_is held in
     let cut = c.in-Err.ensures.cut (start.log ++ since) (served_by g.D.Desk.server start.state since) is (follows.links c.args.at c.in-Some.slot seen) (fronts_since g.D.Desk.server g.met.D.Desk.http start since c.args.self.now.slots (g.D.Desk.state c.args.desk.now) follows) in
     let whose : c.in-Some.slot ≡ slot = (let e : Some c.in-Some.slot ≡ Some slot = sym seen ∙ at_slot in cc e) in
-    subst (λ (s : Slot). LinkCut g.D.Desk.server (served_by g.D.Desk.server start.state since) (start.log ++ since) s.channel (g.S.Site.log c.turn.new.site)) whose cut
+    subst (λ (s : Slot). LinkCut g.D.Desk.server (served_by g.D.Desk.server start.state since) (start.log ++ since) s.channel (g.S.Site.log c.step_link.new.site)) whose cut
