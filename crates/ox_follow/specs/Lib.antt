@@ -1,0 +1,5 @@
+pub mod Position
+pub mod Frame
+pub mod Front
+pub mod World
+pub mod Talk
