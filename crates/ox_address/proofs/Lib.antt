@@ -13,3 +13,4 @@ pub mod Whole
 pub mod Cases
 pub mod AddressLaws
 pub mod Texts
+pub mod SpelledLaws

@@ -2,3 +2,4 @@ pub mod Digits
 pub mod Checksum
 pub mod Address
 pub mod Passes
+pub mod Spelled

@@ -11,6 +11,7 @@ mod writing;
 
 pub use laws::{
     address_has_one_case, address_has_one_script, address_is_short, checksum_is_the_only_one,
+    spelled_script_has_the_address,
 };
 pub use reading::{NotAddress, is_hrp, read};
 pub use writing::write;
