@@ -41,12 +41,12 @@ RECORDS = "crates/ox_app/specs/Promises.antt"
 
 # how many bytes a document may have
 SIZES = {
-    "README.md": 8_000,
-    "docs/PROMISES.md": 4_000,
-    "docs/DECISIONS.md": 20_000,
-    "bench/README.md": 4_000,
+    "README.md": 9_000,
+    "docs/PROMISES.md": 6_000,
+    "docs/DECISIONS.md": 24_000,
+    "bench/README.md": 5_000,
 }
-PAGE_SIZE = 4_096
+PAGE_SIZE = 6_000
 
 # files that are somebody else's, or that a store or a build makes
 OTHERS = {"src/script/script.cpp", "chainparams.cpp", "crates/ox_main/out/ox_main"}
