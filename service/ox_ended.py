@@ -2,71 +2,110 @@
 """Tells what the end of a run of the program means and what to do, since the program says nothing
 but its status.
 
-    ox_ended.py
-
-is run by systemd (`ExecStopPost=` of ox.service), which names the end in the environment:
+systemd runs this (`ExecStopPost=` of ox.service), and names the end in the environment:
 SERVICE_RESULT, EXIT_CODE (`exited`, `killed` or `dumped`) and EXIT_STATUS (the status, or the
 signal's name). One line goes to standard output. docs/OPERATING.md, 'Statuses', says more.
 """
 
+import argparse
 import os
+from typing import NamedTuple
 
-# by status: what it means, and what to do
+
+class Meaning(NamedTuple):
+    """What a status means, what to do, and what the service does."""
+
+    what: str
+    then: str
+    service: str
+
+    def line(self) -> str:
+        return f"{self.what}: {self.then}"
+
+
+STOPS, GOES_ON = "it isn't started again", "it is started again"
+
+# by status
 MEANINGS = {
-    0: ("it has ended as it was asked to", "nothing is to be done"),
-    1: ("its words are no subcommand", "mend ExecStart; it isn't started again"),
-    2: ("the store's files aren't empty", "`init` was asked for; `serve` doesn't end so"),
-    3: (
+    0: Meaning("it has ended as it was asked to", "nothing is to be done", ""),
+    1: Meaning(
+        "its words are no subcommand", "mend them (`--help` has them all)", f"ExecStart; {STOPS}"
+    ),
+    2: Meaning(
+        "the store's files aren't empty",
+        "the store is there already, or the files are something else's; take another folder",
+        "`serve` doesn't end so",
+    ),
+    3: Meaning(
         "its files are no store",
-        "take the newest copy of both files, or make a store and feed it anew; it isn't started"
-        " again",
+        "take the newest copy of both files, or make a store and feed it anew",
+        STOPS,
     ),
-    4: (
+    4: Meaning(
         "a file couldn't be opened, read, written or synced, or another program has the store",
-        "start nothing on these files: find the cause, mend it, and have the disk forget what it"
-        " couldn't write (OPERATING, 'A failed sync'); it isn't started again",
+        "where none has, start nothing on these files: find the cause, mend it, and have the disk"
+        " forget what it couldn't write (OPERATING, 'A failed sync')",
+        STOPS,
     ),
-    5: ("its standard input couldn't be read", "`serve` doesn't read it; look at ExecStart"),
-    6: ("its last line couldn't be shown", "nothing is lost; look at the journal's disk"),
-    7: (
+    5: Meaning(
+        "its standard input couldn't be read",
+        "mend what gives it, and feed on behind the newest block that `query /status` tells",
+        "`serve` doesn't read it; look at ExecStart",
+    ),
+    6: Meaning(
+        "its last line couldn't be shown", "nothing is lost; mend what takes it", "the journal"
+    ),
+    7: Meaning(
         "it couldn't listen, or a door failed",
-        "look whether the two addresses are this machine's and free; it is started again",
+        "look whether the two addresses are this machine's and free",
+        GOES_ON,
     ),
-    8: (
+    8: Meaning(
         "it ran out of memory",
-        "nothing is lost but the command under way; give it more, or let others have less; it is"
-        " started again",
+        "nothing is lost but the command under way; give it more, or let others have less",
+        GOES_ON,
     ),
-    9: ("it has heard all that a run can hear", "it is started again"),
-    10: (
+    9: Meaning("it has heard all that a run can hear", "begin a new run", GOES_ON),
+    10: Meaning(
         "the rules refuse a command of an old store",
-        "`migrate` was asked for; `serve` doesn't end so",
+        "make a new store, and feed it the blocks again",
+        "`serve` doesn't end so",
     ),
-    75: (
-        "another program has the store",
-        "end that one, or leave it alone; it isn't started again",
-    ),
+    75: Meaning("another program has the store", "end that one, or leave it alone", STOPS),
 }
 
 
-def meaning(result: str, code: str, status: str) -> str:
+def of_status(status: int) -> str:
+    """What a status means and what to do."""
+    known = MEANINGS.get(status)
+    return known.line() if known else "no run ends so"
+
+
+def of_signal(name: str, asked: bool = False) -> str:
+    """What it means that a signal ended a run."""
+    how = ", as it was asked to" if asked else ""
+    return f"signal {name} has ended it{how}: every command that was answered is kept"
+
+
+def of_service(result: str, code: str, status: str) -> str:
     """The line about an end that systemd tells so."""
     if result == "oom-kill":
         return "the system ended it for want of memory: nothing is lost; give it more"
     if code in ("killed", "dumped"):
-        asked = ", as it was asked to" if result == "success" else ""
-        return f"signal {status} has ended it{asked}: every command that was answered is kept"
+        return of_signal(status, result == "success")
     if code == "exited" and status.isdigit() and int(status) in MEANINGS:
-        what, then = MEANINGS[int(status)]
-        return f"status {status}: {what}: {then}"
+        known = MEANINGS[int(status)]
+        service = f" ({known.service})" if known.service else ""
+        return f"status {status}: {known.line()}{service}"
     return f"it has ended in a way that isn't known here: {result}, {code}, {status}"
 
 
 def main() -> None:
-    result, code, status = (
-        os.environ.get(name, "") for name in ("SERVICE_RESULT", "EXIT_CODE", "EXIT_STATUS")
-    )
-    print(f"ox: {meaning(result, code, status)}", flush=True)
+    form = argparse.RawDescriptionHelpFormatter
+    argparse.ArgumentParser(description=__doc__, formatter_class=form).parse_args()
+    names = "SERVICE_RESULT", "EXIT_CODE", "EXIT_STATUS"
+    result, code, status = (os.environ.get(name, "") for name in names)
+    print(f"ox: {of_service(result, code, status)}", flush=True)
 
 
 if __name__ == "__main__":

@@ -4,6 +4,16 @@ checks/block_rows.py reads blocks by itself, and shares nothing with this.
 """
 
 import hashlib
+from collections.abc import Iterable, Sequence
+
+# an output that is spent: the transaction's id, and its place there
+Origin = tuple[bytes, int]
+# an output that is made: its value and its script
+Output = tuple[int, bytes]
+# an input's witness
+Stack = Sequence[bytes]
+# a transaction's bytes without witnesses and with them
+Forms = tuple[bytes, bytes]
 
 # what a coinbase spends
 NO_OUTPUT = bytes(32), 0xFFFFFFFF
@@ -14,12 +24,12 @@ COMMITS = bytes.fromhex("6a24aa21a9ed")
 SUBSIDY = 5_000_000_000
 
 
-def twice(message):
+def twice(message: bytes) -> bytes:
     """SHA-256 of SHA-256."""
     return hashlib.sha256(hashlib.sha256(message).digest()).digest()
 
 
-def compact_size(number):
+def compact_size(number: int) -> bytes:
     """A length below 2**32 as a transaction has it."""
     if number < 253:
         return bytes([number])
@@ -28,12 +38,12 @@ def compact_size(number):
     return b"\xfe" + number.to_bytes(4, "little")
 
 
-def string(data):
+def string(data: bytes) -> bytes:
     """Bytes behind their length."""
     return compact_size(len(data)) + data
 
 
-def varint(number):
+def varint(number: int) -> bytes:
     """A number as a runestone has it."""
     out = b""
     while number > 127:
@@ -42,7 +52,14 @@ def varint(number):
     return out + bytes([number])
 
 
-def transaction(origins, outputs, script=b"", stacks=None, sequence=0, version=2):
+def transaction(
+    origins: Iterable[Origin],
+    outputs: Iterable[Output],
+    script: bytes = b"",
+    stacks: Iterable[Stack] | None = None,
+    sequence: int = 0,
+    version: int = 2,
+) -> Forms:
     """A transaction that spends outputs, each a transaction's id and an index, by this script into
     values and scripts: its bytes without witnesses and with them. Each input has a stack of items,
     where there are stacks."""
@@ -58,19 +75,25 @@ def transaction(origins, outputs, script=b"", stacks=None, sequence=0, version=2
     return bare, head + b"\0\1" + body + b"".join(items) + lock
 
 
-def coinbase(outputs, script, items=(), sequence=0, version=2):
+def coinbase(
+    outputs: Iterable[Output],
+    script: bytes,
+    items: Stack = (),
+    sequence: int = 0,
+    version: int = 2,
+) -> Forms:
     """A coinbase of these outputs, with this script and this witness, if there is one."""
     stacks = [items] if items else None
     return transaction([NO_OUTPUT], outputs, script, stacks, sequence, version)
 
 
-def commitment(wholes, value=RESERVED):
+def commitment(wholes: Iterable[bytes], value: bytes = RESERVED) -> bytes:
     """The script that commits to the witnesses of a coinbase and the transactions behind it, which
     have these bytes, by a reserved value."""
     return COMMITS + twice(root([bytes(32), *map(twice, wholes)]) + value)
 
 
-def root(ids):
+def root(ids: list[bytes]) -> bytes:
     """The root over these ids."""
     while len(ids) > 1:
         ids = ids + ids[-1:] if len(ids) % 2 else ids
@@ -78,7 +101,9 @@ def root(ids):
     return ids[0]
 
 
-def block(previous, root_, wholes, time=0):
+def block(
+    previous: bytes, root_: bytes, wholes: Sequence[bytes], time: int = 0
+) -> tuple[bytes, bytes]:
     """The bytes of a block of these transactions on another one, and its hash."""
     header = (1).to_bytes(4, "little") + previous + root_ + time.to_bytes(4, "little") + bytes(8)
     return header + compact_size(len(wholes)) + b"".join(wholes), twice(header)
