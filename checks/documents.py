@@ -3,7 +3,7 @@
 
     python3 checks/documents.py [--selftest]
 
-reads the documents (README.md, CONTRIBUTING.md, docs/, bench/README.md and each crate's page) and
+reads the documents (README.md, CONTRIBUTING.md, docs/, bench/, service/ and each crate's page) and
 tells each line
 
 1. whose path in backquotes isn't there: from the top, below crates/, on a page below its crate, or
@@ -16,13 +16,14 @@ tells each line
 4. with a command whose folder, script, verb of rt, subcommand or profile isn't there, or with a
    route or a status that isn't;
 5. with a link that leads nowhere, or a quoted section that isn't in the document;
-6. with a number that restates a constant and differs, and each document that is over its size;
+6. with a number that restates a constant and differs, of docs/FORMATS.md, 'Limits', too, and each
+   document that is over its size;
 7. with a sum of the kit's logic that isn't that of `rt version` (another name of the kit is noted);
 8. of Python that passes 100 columns;
 9. of docs/REVIEW.md that checks/review.py tells: a definition below the headline is missing.
 
 The last line says how many lines were told. The status is 1 where there are any. With --selftest it
-puts one wrong line for each of the nine into a copy in memory, and says whether each is told.
+puts one wrong line for each of these rules into a copy in memory, and says whether each is told.
 It reads files alone, but for `rt help` and `rt version`, and takes seconds.
 """
 
@@ -50,8 +51,9 @@ PAGE_SIZE = 6_000
 
 # files that are somebody else's, or that a store or a build makes
 OTHERS = {"src/script/script.cpp", "chainparams.cpp", "crates/ox_main/out/ox_main"}
-FOLDERS = ("crates", "docs", "checks", "bench", "feeds", ".ci", "tools")
-KINDS = (".rt", ".antt", ".py", ".md", ".c", ".edit", ".feed", ".txt", ".cpp")
+FOLDERS = ("crates", "docs", "checks", "bench", "feeds", ".ci", "tools", "service")
+KINDS = (".rt", ".antt", ".py", ".md", ".c", ".edit", ".feed", ".txt", ".cpp", ".tsv")
+KINDS += (".sh", ".service", ".cfg", ".yml", ".json")
 
 # Numbers that restate a constant: where it stands in the code, and how documents say it.
 CONSTANTS = [
@@ -66,6 +68,12 @@ CONSTANTS = [
     ("ox_http/src/reader.rt", "HEAD_LIMIT: usize =", r"first ([\d,]+) bytes hold no whole"),
     ("ox_http/src/reader.rt", "BODY_LIMIT: usize =", r"where the length is above ([\d,]+)"),
 ]
+
+# folders of a system, which no route is
+OF_SYSTEM = ("/dev/", "/etc/", "/usr/", "/var/")
+
+# commands of `./ox`; every other first word of it is a folder
+COMMANDS = {"demo", "test", "build", "prove", "COMMAND"}
 
 # verbs of rt, where there is no kit to ask
 VERBS = {"ci", "check", "doc", "fmt", "help", "must-fail", "plant", "run", "test", "tidy", "try"}
@@ -107,7 +115,8 @@ class Repository:
 
     def documents(self):
         docs = sorted(f"docs/{path.name}" for path in (TOP / "docs").glob("*.md"))
-        return ["README.md", "CONTRIBUTING.md", *docs, "bench/README.md", *self.pages()]
+        pages = ["bench/README.md", "service/README.md", *self.pages()]
+        return ["README.md", "CONTRIBUTING.md", *docs, *pages]
 
     def sources(self, crate, *folders):
         kept = ("sources", crate, folders)
@@ -182,7 +191,7 @@ def paths(repository):
         for number, line in repository.lines(name):
             plain = re.findall(r"\b(?:docs|checks|bench|tools|crates)(?:/\w+)+\.\w+\b", line)
             for word in filter(is_path, [*quoted(line), *plain]):
-                places = [word, f"crates/{word}"]
+                places = [word, f"crates/{word}", str(pathlib.PurePath(name).parent / word)]
                 places += [f"crates/{crate}/{word}"] if crate else []
                 places += [f"{beside}/{word}"] if beside and "/" not in word else []
                 place = next((place for place in places if any(TOP.glob(place.strip("/")))), None)
@@ -208,10 +217,11 @@ def root_sentence(repository, crate):
 def crates(repository):
     """Rule 2."""
     known = repository.crates()
+    scripts = {path.stem for path in (TOP / "service").glob("ox_*.py")}
     for name in repository.documents():
         for number, line in repository.lines(name):
             for word in re.findall(r"\box_[a-z]\w*", line):
-                if word not in known:
+                if word not in known and word not in scripts:
                     yield name, number, f"crates.txt has no {word}"
     for crate in known:
         page = f"crates/{crate}/README.md"
@@ -310,7 +320,7 @@ def commands_in(repository, name):
         found = quoted(line) + ([line.strip()] if line.startswith("    ") else [])
         for command in found:
             for part in re.split(r"&&|[()]|;", command):
-                if re.match(r"(?:rt|cd|python3|ox_main) ", part.strip()):
+                if re.match(r"(?:rt|cd|python3|ox_main|\./ox) ", part.strip()):
                     yield number, part.strip()
 
 
@@ -329,7 +339,7 @@ def commands(repository):
             for word in quoted(line):
                 route = re.match(r"/[a-z]+(?:/(?=.)|$)", word)
                 if route and route[0] not in routes and route[0] + "/" not in routes:
-                    if not (TOP / word.strip("/")).exists() and not word.startswith("/dev/"):
+                    if not (TOP / word.strip("/")).exists() and not word.startswith(OF_SYSTEM):
                         yield name, number, f"there is no route {route[0]}"
             for code in re.findall(r"\bstatus (\d{1,2})\b", line):
                 if code not in codes:
@@ -348,7 +358,11 @@ def wrong_words(repository, words, known, subcommands, profiles):
             yield f"there is no script {words[1]}"
     if words[0] == "rt" and re.fullmatch(r"[a-z-]+", words[1]) and words[1] not in known:
         yield f"rt has no {words[1]}"
-    runs = re.search(r"(?:-- |ox_main )(?:\.|out|FOLDER) (\w+)(?: (\w+))?", " ".join(words))
+    if words[0] == "./ox" and (words[1] in COMMANDS or words[1].startswith("-")):
+        return
+    runs = re.search(
+        r"(?:-- |ox_main |\./ox )(?:\.|[a-z]+|FOLDER) (\w+)(?: (\w+))?", " ".join(words)
+    )
     if runs and runs[1] not in subcommands:
         yield f"there is no subcommand {runs[1]}"
     if runs and runs[1] in ("fold", "init") and runs[2] not in profiles | {"PROFILE"}:
@@ -419,6 +433,34 @@ def sizes(repository):
                         yield name, number, f"{text} is {value} in {source}"
 
 
+def section(repository, name, title):
+    """The lines of a section of a document, with their numbers."""
+    inside = False
+    for number, line in repository.lines(name):
+        if line.startswith("#"):
+            inside = line.lstrip("#").strip() == title
+        elif inside:
+            yield number, line
+
+
+def limits(repository):
+    """Rule 6: the table of limits, with the constants that it names."""
+    name = "docs/FORMATS.md"
+    for number, line in section(repository, name, "Limits"):
+        cells = line.split("|")
+        if len(cells) != 5 or not cells[2].strip()[:1].isdigit():
+            continue
+        said = int(cells[2].replace(",", ""))
+        for constant, source in re.findall(r"`([^`]+)` of `([^`]+)`", cells[3]):
+            there = repository.text(f"crates/{source}")
+            value = r"(?:: \w+ =)? (0x[\da-f_]+|\d[\d_]*)"
+            found = re.search(r"(?<!\w)" + re.escape(constant) + value, there)
+            if found is None:
+                yield name, number, f"{source} has no `{constant}`"
+            elif int(found[1], 0) != said:
+                yield name, number, f"{said} is {int(found[1], 0)} in {source}"
+
+
 def logic(repository):
     """Rule 7."""
     if shutil.which("rt") is None:
@@ -436,12 +478,9 @@ def logic(repository):
 
 def columns(repository):
     """Rule 8."""
-    names = [
-        str(path.relative_to(TOP))
-        for folder in ("bench", "checks", "tools")
-        for path in (TOP / folder).glob("*.py")
-    ]
-    for name in sorted(names):
+    folders = "bench", "checks", "service", "tools"
+    paths_ = (path for folder in folders for path in (TOP / folder).rglob("*.py"))
+    for name in ["ox", *sorted(str(path.relative_to(TOP)) for path in paths_)]:
         for number, line in repository.lines(name):
             if len(line) > 100:
                 yield name, number, "the line passes 100 columns"
@@ -453,7 +492,7 @@ def definitions(repository):
         yield review.REVIEW, number, cause
 
 
-RULES = [paths, crates, clauses, commands, links, sizes, logic, columns, definitions]
+RULES = [paths, crates, clauses, commands, links, sizes, limits, logic, columns, definitions]
 
 # for each rule a document and a wrong line
 WRONG = {
@@ -465,6 +504,10 @@ WRONG = {
     ),
     commands: ("docs/OPERATING.md", "Try `rt run -- out follow regtest`."),
     links: ("docs/OPERATING.md", "See docs/FORMATS.md, 'Nothing of the kind'."),
+    limits: (
+        "docs/FORMATS.md",
+        "## Limits\n\n| a | 31 | `SLOTS` of `ox_turns/src/turns.rt` |",
+    ),
     sizes: ("docs/RULES.md", "A block has at most 4,000,001 bytes in all."),
     logic: ("README.md", "It is logic `0123456789abcdef`."),
     columns: ("checks/documents.py", "#" * 101),
