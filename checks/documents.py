@@ -20,7 +20,8 @@ tells each line
    document that is over its size;
 7. with a sum of the kit's logic that isn't that of `rt version` (another name of the kit is noted);
 8. of Python that passes 100 columns;
-9. of docs/REVIEW.md that checks/review.py tells: a definition below the headline is missing.
+9. of docs/REVIEW.md that checks/review.py tells: a definition below the headline is missing;
+10. of docs/ARCHITECTURE.md that has a crate under another heading than crates.txt, or lacks one.
 
 The last line says how many lines were told. The status is 1 where there are any. With --selftest it
 puts one wrong line for each of these rules into a copy in memory, and says whether each is told.
@@ -461,6 +462,27 @@ def limits(repository):
                 yield name, number, f"{said} is {int(found[1], 0)} in {source}"
 
 
+def groups(repository):
+    """Rule 10: the headings of crates.txt, and those of docs/ARCHITECTURE.md, with their crates."""
+    name, heading, listed = "docs/ARCHITECTURE.md", "", {}
+    for number, line in repository.lines("crates.txt"):
+        if line.startswith("# "):
+            heading = line[2:]
+        elif line.strip():
+            listed[line.split(":")[0].split()[0]] = heading, number
+    told, heading = {}, ""
+    for number, line in repository.lines(name):
+        if line.startswith("#"):
+            heading = line.lstrip("# ")
+        for crate in re.findall(r"^\| `(ox_\w+)` \|", line):
+            told.setdefault(crate, (heading, number))
+    for crate, (heading, number) in listed.items():
+        if crate not in told:
+            yield name, 1, f"no heading has {crate}, which stands under '{heading}' in crates.txt"
+        elif told[crate][0] != heading:
+            yield name, told[crate][1], f"{crate} stands under '{heading}' in crates.txt"
+
+
 def logic(repository):
     """Rule 7."""
     if shutil.which("rt") is None:
@@ -492,7 +514,19 @@ def definitions(repository):
         yield review.REVIEW, number, cause
 
 
-RULES = [paths, crates, clauses, commands, links, sizes, limits, logic, columns, definitions]
+RULES = [
+    paths,
+    crates,
+    clauses,
+    commands,
+    links,
+    sizes,
+    limits,
+    logic,
+    columns,
+    groups,
+    definitions,
+]
 
 # for each rule a document and a wrong line
 WRONG = {
@@ -511,6 +545,7 @@ WRONG = {
     sizes: ("docs/RULES.md", "A block has at most 4,000,001 bytes in all."),
     logic: ("README.md", "It is logic `0123456789abcdef`."),
     columns: ("checks/documents.py", "#" * 101),
+    groups: ("crates.txt", "# Nowhere\nox_varint:"),
     definitions: ("docs/REVIEW.md", "| 16 | `nothing` | `ox_sat/src/profiles.rt` | nothing |"),
 }
 
