@@ -2,6 +2,7 @@
 of the block before and the id of its coinbase; and the rows of crates/ox_block_rows about them.
 """
 
+from chain import DISCONNECT, payload_of
 from tools.bitcoin import RESERVED, SUBSIDY, block, coinbase, commitment, root, transaction, twice
 
 OPEN = b"\x51"
@@ -59,6 +60,13 @@ def chain(count):
         data, tip, paid = block_of(height, tip, txs)
         blocks.append((data, tip, txs))
     return blocks
+
+
+def drill_commands(count):
+    """The commands of a drill of so many blocks."""
+    blocks = [payload_of(block) for block, _, _ in chain(count)]
+    newest = min(count, 10)
+    return blocks + newest * [DISCONNECT] + blocks[count - newest :]
 
 
 def rows():

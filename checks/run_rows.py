@@ -3,40 +3,28 @@
 
     checks/run_rows.py
 
-Its own are runs of each subcommand but `serve` and `drill`, whole, with failing calls, stopped, and
-over a site of short calls; and lines, hearings, showings and links of a site by themselves. Those
-that serve links are those of checks/serve_rows.py, those that ask one desk those of
-checks/desk_rows.py, and those that make and open a store those of checks/store_rows.py. Lines,
-answers, statuses and files are told by docs/FORMATS.md and docs/OPERATING.md, on their own: blocks
-are read as block_rows does, indexes are plain_index's, and files store_files'. What these don't say
-and the rows go by: a run hears at most 65,536 bytes at a time, and only where it holds no whole
-line; each line is shown by a call of its own; and of the calls of an opening, a making and a record
-store_rows tells.
+Its own are runs of each subcommand but `serve`, whole, with failing calls, stopped, and over a site
+of short calls; and lines, hearings, showings and links of a site by themselves. Those that serve
+links are those of checks/serve_rows.py, those that ask one desk those of checks/desk_rows.py, and
+those that make and open a store those of checks/store_rows.py. What a run does is told by
+checks/worlds.py, which shares nothing with the library.
 """
-
-import re
 
 import desk_rows
 import old_files
 import serve_rows
 import store_files
 import store_rows
-from block_rows import Fault, Reader
-from chain import DISCONNECT, GENESIS, SHORT, line, payload_of, record_of
+from chain import DISCONNECT, GENESIS, SHORT, line, payload_of
 from desk_rows import compact, printed
-from plain_index import Refused
-from serve_rows import Desk
-from store_files import BYTES, CLOSED, NoStore, stands
-from store_rows import ALL, CallFailed, Site
+from store_files import BYTES, CLOSED
+from store_rows import ALL
 from tools import bitcoin
 from tools.bitcoin import SUBSIDY, twice
 from tools.programs import write_rows
+from worlds import CUTS_NOTHING, NONE, PORTIONS, SATOSHI, Runs, bytes_of
 
-ROOM = 65_536
-LONGEST = 8_000_008
-KEPT_BY_FOLD = 1000
 FILLS = 0, 1, 255
-CUTS_NOTHING = (1 << 64) - 1
 
 GENESIS_OK = b"ok 0 000000000019d6689c085ae165831e934ff763ae46a2a6c172b3f1b60a8ce26f\n"
 # three small blocks, by their hashes
@@ -46,7 +34,6 @@ HASHES = [
     "7054e587fec28cf6b25c1f9597629789b86bae696e32960fd80b6521aa1c8a2a",
 ]
 OKS = [f"ok {height} {hash_}\n".encode() for height, hash_ in enumerate(HASHES)]
-NONE = b"ok empty\n"
 
 # file A of empty stores: of depth 100, of lab at depth 1 and of mainnet at depth 1,000, whose index
 # has a rune from the start: its id 1:0, its name, spacers and symbol, what a mint gives, how many
@@ -58,8 +45,7 @@ EMPTY_MAINNET = bytes.fromhex(
     "000000000000000000000000000000000000000001000000"
     "0100000000000000000000005e4521bcc606881c0000000000000000800000000001c9290000"
     "00000000000000000000000000000000010101000000000000000000000000000000"
-    "01ffffffffffffffffffffffffffffffff0140d10c00000000000190051000000000000000"
-    + 69 * "00"
+    "01ffffffffffffffffffffffffffffffff0140d10c00000000000190051000000000000000" + 69 * "00"
 )
 # what Bitcoin's first block changes: its hash, no output gone, the one that came, and six times
 # nothing
@@ -70,16 +56,6 @@ GENESIS_CHANGE = bytes.fromhex(
     "38c4f35504e51ec112de5c384df7ba0b8d578a4c702b6bf11d5fac"
     "0000000001000000000000000000000000f2052a01000000" + 24 * "00"
 )
-# `/sat/satoshi` of an empty store
-SATOSHI = {
-    "decimal": "3891094.16797",
-    "degree": "3°111094′214″16797‴",
-    "inscriptions": [],
-    "name": "satoshi",
-    "number": 2099994106992659,
-    "place": None,
-    "rarity": "common",
-}
 
 
 def small_chain():
@@ -99,438 +75,15 @@ THREE_THEN_BACK = THREE + b"disconnect\n"
 THREE_THEN_TWO = b"".join(OKS) + OKS[1]
 
 
-# ---- lines and what they are answered by
-
-
-def command_in(said):
-    """The command that a line is, or none."""
-    if said == b"disconnect":
-        return DISCONNECT
-    found = re.fullmatch(rb"connect ((?:[0-9A-Fa-f]{2})*)", said)
-    return payload_of(bytes.fromhex(found[1].decode())) if found else None
-
-
-def obey(stack, command):
-    """The stack after a command, and the payload of its record."""
-    if command != DISCONNECT:
-        try:
-            Reader(command[1:]).block()
-        except Fault as fault:
-            raise Refused(f"refused 3 {fault.args[0]}")
-    return stack.obey(command)
-
-
-def turned_by(stack, said):
-    """The stack after a line and the payload of its record, where it is accepted; and its
-    answer."""
-    command = command_in(said) if len(said) <= LONGEST else None
-    if command is None:
-        return stack, None, b"refused 1\n" if len(said) <= LONGEST else b"refused 2\n"
-    try:
-        after, payload = obey(stack, command)
-    except Refused as refused:
-        return stack, None, f"{refused}\n".encode()
-    hashes = after.hashes()
-    told = f"ok {len(hashes) - 1} {hashes[-1][::-1].hex()}\n" if hashes else "ok empty\n"
-    return after, payload, told.encode()
-
-
-# ---- a site, and runs over it
-
-
-class HearFailed(Exception):
-    pass
-
-
-class ShowFailed(Exception):
-    pass
-
-
-def whole(size):
-    return size
-
-
-# how much of a room, of a piece and of a write that fails is taken
-PORTIONS = {"byte": lambda size: min(size, 1), "half": lambda size: size - size // 2}
-
-
-class Disk:
-    """The files as a run sees them: of writes behind so many whole ones a portion is written, and
-    they fail."""
-
-    def __init__(self, site, portion=whole, whole_writes=ALL):
-        self.site, self.portion, self.left, self.cut = site, portion, whole_writes, 0
-
-    def write(self, file, at, data):
-        if self.left:
-            self.left -= 1
-            self.site.write(file, at, data)
-            return
-        self.site.write(file, at, data[: self.portion(len(data))])
-        self.cut += 1
-        raise CallFailed()
-
-    def sync(self, file):
-        self.site.sync(file)
-
-
-def is_depth(word):
-    return word.isdigit() and str(int(word)) == word and 1 <= int(word) <= 1000
-
-
-class World:
-    """A site with what channel 0 says, what it was told, and the links at its doors."""
-
-    def __init__(self, site=None, told=b"", numbers=0):
-        self.site, self.told, self.numbers = site or Site(), told, numbers
-        self.tellings = [(0, told)]
-        self.said, self.heard = b"", 0
-        self.doors = {"public": [], "operator": []}
-        self.portion, self.disk = whole, Disk(self.site)
-
-    def event(self):
-        self.site.steps.append((None, None, None))
-
-    def hear(self, room):
-        """What channel 0 says next; none at its end."""
-        passes = self.site.call()
-        self.event()
-        if not passes:
-            raise HearFailed()
-        piece = self.said[self.heard : self.heard + self.portion(room)]
-        self.heard += len(piece)
-        return piece or None
-
-    def show(self, data):
-        while data:
-            passes = self.site.call()
-            self.event()
-            if not passes:
-                raise ShowFailed()
-            size = self.portion(len(data))
-            self.told += data[:size]
-            self.tellings.append((len(self.site.steps), data[:size]))
-            data = data[size:]
-
-    def say(self, data):
-        """A last line, which may fail to be shown."""
-        try:
-            self.show(data)
-        except ShowFailed:
-            pass
-
-    def told_at(self, moment):
-        return b"".join(told for at, told in self.tellings if at <= moment)
-
-    def crash(self, moment, fill, keep):
-        assert moment == len(self.site.steps) or not self.numbers
-        return World(self.site.crash(moment, fill, keep), self.told_at(moment), self.numbers)
-
-    def lines(self):
-        """The lines that channel 0 says from now on."""
-        held, ended = b"", False
-        while True:
-            at = held.find(b"\n")
-            if at >= 0:
-                yield held[:at]
-                held = held[at + 1 :]
-            elif ended:
-                yield from [held] if held else []
-                return
-            else:
-                piece = self.hear(ROOM)
-                held, ended = held + (piece or b""), piece is None
-
-    def run(self, words):
-        """Runs the program: its status."""
-        try:
-            return self.carry_out(*words)
-        except CallFailed:
-            return 4
-        except HearFailed:
-            return 5
-        except ShowFailed:
-            return 6
-        except NoStore as place:
-            # the calls behind the fronts aren't counted: then none of them may fail
-            assert all(call < self.site.calls for call in self.site.failing)
-            self.site.calls = ALL
-            self.say(f"not a store {str(place).lower().replace(' at', '')}\n".encode())
-            return 3
-
-    def carry_out(self, *words):
-        if len(words) == 2 and words[0] == "fold" and words[1] in BYTES:
-            self.answer_all(store_files.empty(words[1], KEPT_BY_FOLD))
-        elif len(words) == 3 and words[0] == "init" and words[1] in BYTES and is_depth(words[2]):
-            return self.init(words[1], int(words[2]))
-        elif words == ("apply",):
-            store = self.opened()
-            self.answer_all(store.stack, store)
-        elif len(words) == 2 and words[0] == "query":
-            self.opened()
-            self.show(self.reply(words[1]))
-        elif words == ("migrate",):
-            return self.migrate()
-        else:
-            self.say(b"usage\n")
-            return 1
-        return 0
-
-    def look_at_fronts(self):
-        self.site.sync("A")
-        self.site.sync("B")
-        for _ in range(4):
-            self.site.look()
-
-    def opened(self):
-        self.look_at_fronts()
-        found = stands(self.site.files)
-        self.site.look()
-        self.site.look()
-        return store_files.Store(self.disk, *found)
-
-    def answer_all(self, stack, store=None):
-        for said in self.lines():
-            stack, payload, told = turned_by(stack, said)
-            if store and payload is not None:
-                store.commit(stack, payload)
-            self.show(told)
-
-    def init(self, profile, depth):
-        self.site.look()
-        self.site.look()
-        if self.site.files["A"] or self.site.files["B"]:
-            self.say(b"not empty\n")
-            return 2
-        store_files.make(self.disk, profile, depth)
-        self.show(NONE)
-        return 0
-
-    def reply(self, path):
-        if path == "/sat/satoshi":
-            assert not stands(self.site.files)[0].hashes()
-            return compact(SATOSHI)
-        if isinstance(path, bytes):
-            # it isn't UTF-8, and takes no route
-            return compact({"error": 404})
-        return Desk(self.site).reply("GET", path, b"", False)[1]
-
-    def migrate(self):
-        self.look_at_fronts()
-        try:
-            stack, count, tail = old_files.old_stands(self.site.files)
-        except old_files.Old as old:
-            self.site.look()
-            self.site.look()
-            self.say(f"old {old}\n".encode())
-            return 10
-        self.site.look()
-        self.site.look()
-        store_files.Store(self.disk, stack, tail).turn_to(stack)
-        self.show(f"ok {count}\n".encode())
-        return 0
-
-    def visit(self, door, rooms):
-        """Takes the link that waits at a door, hears it, gives it up and shuts it."""
-        if not self.site.call():
-            yield "failed"
-            return
-        if not self.doors[door]:
-            yield "nobody"
-            return
-        script = [said for said in self.doors[door].pop(0) if said != b""]
-        self.numbers += 1
-        self.event()
-        for room in rooms:
-            passes = self.site.call()
-            assert passes
-            said = script.pop(0) if script else "."
-            if isinstance(said, bytes):
-                if len(said) > room:
-                    script.insert(0, said[room:])
-                yield heard_line(said[:room], room)
-            else:
-                yield f"{'nothing yet' if said == '.' else 'end'}: {bytes(room).hex()}"
-            if said != ".":
-                self.event()
-        self.event()
-        self.event()
-        yield f"link {self.numbers}"
-
-
-def heard_line(piece, room):
-    return f"{len(piece)}: {piece.hex()}{bytes(room - len(piece)).hex()}"
-
-
-def said_line(said):
-    """How a line and the command that it is are printed."""
-    command = command_in(said)
-    if command is None:
-        told = "no command"
-    else:
-        told = "disconnect" if command == DISCONNECT else f"connect {command[1:].hex()}"
-    return f"{printed(said)}: {told}"
-
-
 # ---- rows
 
 
-def part_of(part):
-    """A part: bytes, or how often and which."""
-    return part.hex() if isinstance(part, bytes) else f"{part[0]}*{part[1].hex()}"
-
-
-def bytes_of(part):
-    return part if isinstance(part, bytes) else part[0] * part[1]
-
-
-def run_word(word):
-    is_plain = isinstance(word, str) and re.fullmatch(r"[^=, ][^, ]*", word)
-    return word if is_plain else "=" + (word if isinstance(word, bytes) else word.encode()).hex()
-
-
-class Runs:
-    """The rows so far, and what is printed for them."""
-
-    def __init__(self):
-        self.stdin, self.stdout, self.world, self.said = [], [], World(), b""
-
-    def row(self, *words):
-        self.stdin.append(" ".join(map(str, words)))
-
-    def heading(self, what):
-        self.row("#", what)
-        self.stdout.append(f"# {what}")
-        self.fresh()
-
-    def fresh(self):
-        self.row("fresh")
-        self.world, self.said = World(), b""
-
-    def store(self, *parts):
-        """An empty regtest store of depth 100, and what channel 0 says; whose calls and moments are
-        counted from now on."""
-        self.fresh()
-        assert self.run("init", "regtest", "100") == (0, NONE)
-        self.restart(len(self.world.site.steps), 0, CUTS_NOTHING)
-        self.feed(*parts)
-
-    def feed(self, *parts):
-        self.row("feed", *map(part_of, parts))
-        self.said = b"".join(map(bytes_of, parts))
-        self.world.said += self.said
-
-    def link(self, door, *said):
-        self.row("link", door, *(word if word in (".", "$") else part_of(word) for word in said))
-        self.world.doors[door].append([w if w in (".", "$") else bytes_of(w) for w in said])
-
-    def fail(self, call):
-        assert call >= self.world.site.calls
-        self.row("fail", call)
-        self.world.site.failing.add(call)
-
-    def ran(self, words):
-        """The status of a run, and what it showed."""
-        before = len(self.world.told)
-        status = self.world.run(words)
-        return status, self.world.told[before:]
-
-    def run(self, *words):
-        self.row("run", *map(run_word, words))
-        ended = self.ran(words)
-        self.stdout += [f"status {ended[0]}", printed(self.world.told)]
-        return ended
-
-    def ends(self, words, status, told):
-        """A run that has to end so."""
-        assert self.run(*words) == (status, told), (words, status, told)
-
-    def short(self, portion, whole_writes, *words):
-        """A run over a site of short calls; and how many writes were cut short."""
-        self.row("short", portion, whole_writes, *words)
-        world = self.world
-        world.portion = PORTIONS[portion]
-        world.disk = disk = Disk(world.site, world.portion, whole_writes)
-        ended = self.ran(words)
-        world.portion, world.disk = whole, Disk(world.site)
-        self.stdout += [f"status {ended[0]}, {disk.cut} cut short", printed(world.told)]
-        return *ended, disk.cut
-
-    def crash(self, moment, fill, keep, *runs):
-        """Runs over what a crash leaves: the status and the bytes shown of each."""
-        self.row("crash", moment, fill, keep, *(",".join(map(run_word, words)) for words in runs))
-        after = self.world.crash(moment, fill, keep)
-        after.said, ended = self.said, []
-        for words in runs:
-            before = len(after.told)
-            status = after.run(words)
-            self.stdout.append(f"status {status}")
-            ended.append((status, after.told[before:]))
-        self.stdout.append(printed(after.told))
-        return ended
-
-    def restart(self, moment, fill, keep):
-        self.row("restart", moment, fill, keep)
-        self.world, self.said = self.world.crash(moment, fill, keep), b""
-
-    def overwrite(self, file, at, data):
-        self.row("overwrite", file, at, data.hex())
-        self.world.site.write(file, at, data)
-
-    def file(self, file):
-        self.row("file", file, 0)
-        data = self.world.site.files[file]
-        self.stdout.append(f"{len(data)} bytes: {data.hex()}")
-
-    def files(self, a, b=CLOSED):
-        """Both files, which have to be these."""
-        assert self.world.site.files == {"A": a, "B": b}
-        self.file("A")
-        self.file("B")
-
-    def frame(self, *parts):
-        self.row("frame", *map(part_of, parts))
-        self.stdout.append(record_of(b"".join(map(bytes_of, parts))).hex())
-
-    def now(self):
-        self.row("now")
-        self.stdout.append(f"moment {len(self.world.site.steps)}")
+class Rows(Runs):
+    """The rows so far, of stores with some of the three blocks."""
 
     def blocks(self, count):
-        """A query of the status has to tell so many of the three blocks."""
+        """A query of the status has to tell so many of them."""
         self.ends(("query", "/status"), 0, status_text(count))
-
-    def lines(self, count):
-        """So many lines of channel 0, and at its end no more."""
-        self.row("lines", count)
-        told = [*map(said_line, self.world.lines())]
-        self.stdout += (told + count * ["end"])[:count]
-
-    def hear(self, *rooms):
-        self.row("hear", *rooms)
-        for room in rooms:
-            try:
-                piece = self.world.hear(room)
-            except HearFailed:
-                self.stdout.append(f"failed: {bytes(room).hex()}")
-            else:
-                told = f"end: {bytes(room).hex()}" if piece is None else heard_line(piece, room)
-                self.stdout.append(told)
-
-    def show(self, *parts):
-        self.row("show", *map(part_of, parts))
-        data = b"".join(map(bytes_of, parts))
-        try:
-            self.world.show(data)
-        except ShowFailed:
-            self.stdout.append("failed")
-        else:
-            self.stdout.append(f"took {len(data)}")
-        self.stdout.append(printed(self.world.told))
-
-    def visit(self, door, *rooms):
-        self.row("visit", door, *rooms)
-        self.stdout += self.world.visit(door, rooms)
 
 
 def status_text(count):
@@ -712,7 +265,7 @@ def stops(rows):
         for fill in FILLS:
             for keep in (0, 30, 200, CUTS_NOTHING):
                 kept, led, last = rows.crash(moment, fill, keep, status, ("apply",), status)
-                lines = rows.world.told_at(moment).count(b"\n") - 1
+                lines = rows.world.shown(0, moment).count(b"\n") - 1
                 allowed = [status_text(blocks_after(lines + more)) for more in (0, 1)]
                 assert kept[0] == 0 and kept[1] in allowed
                 assert led[0] == 0 and last == (0, status_text(2))
@@ -948,7 +501,7 @@ def links(rows):
 
 
 def main():
-    rows = Runs()
+    rows = Rows()
     for part in (folds, usage, inits, applies, queries):
         part(rows)
     for part in (stops, faults, migrates, short_calls):

@@ -170,6 +170,38 @@ def word_of(payload):
     return f"+{block[:1000].hex()}+{times}*{part.hex()}+{block[1000 + 1000 * times:].hex()}"
 
 
+def until_a_call_fails(lines):
+    """These lines, and that a call failed where one did."""
+    try:
+        yield from lines
+    except CallFailed:
+        yield "a call failed"
+
+
+def lines_of_opening(site, payloads=()):
+    """Where the files are no store, the calls behind the fronts aren't counted: then none of
+    them may fail, nor of a later one."""
+    try:
+        site.sync("A")
+        site.sync("B")
+        for _ in range(LOOKS - 4):
+            site.look()
+        found = stands(site.files)
+    except NoStore as place:
+        assert all(call < site.calls for call in site.failing)
+        site.calls = ALL
+        yield f"not a store: {place}"
+        return
+    site.look()
+    site.look()
+    yield from Store(site, *found).lines(payloads)
+
+
+def opened_lines(site):
+    """What is printed of files that are opened."""
+    return until_a_call_fails(lines_of_opening(site))
+
+
 class Stores:
     """The rows so far, and what is printed for them."""
 
@@ -198,11 +230,7 @@ class Stores:
 
     def run(self, lines):
         """Prints lines until a call fails."""
-        try:
-            for line in lines:
-                self.stdout.append(line)
-        except CallFailed:
-            self.stdout.append("a call failed")
+        self.stdout += until_a_call_fails(lines)
 
     def make(self, profile="regtest", depth=100, payloads=()):
         self.command_row(("make", profile, depth), payloads)
@@ -219,25 +247,7 @@ class Stores:
 
     def open(self, payloads=()):
         self.command_row(("open",), payloads)
-        self.run(self.lines_of_opening(self.site, payloads))
-
-    def lines_of_opening(self, site, payloads):
-        """Where the files are no store, the calls behind the fronts aren't counted: then none of
-        them may fail, nor of a later one."""
-        try:
-            site.sync("A")
-            site.sync("B")
-            for _ in range(LOOKS - 4):
-                site.look()
-            found = stands(site.files)
-        except NoStore as place:
-            assert all(call < site.calls for call in site.failing)
-            site.calls = ALL
-            yield f"not a store: {place}"
-            return
-        site.look()
-        site.look()
-        yield from Store(site, *found).lines(payloads)
+        self.run(lines_of_opening(self.site, payloads))
 
     def migrate(self, refusals=()):
         self.row("migrate")
@@ -270,7 +280,7 @@ class Stores:
     def reopen(self, moment, fill, keep):
         self.row("reopen", moment, fill, keep)
         after = self.site.crash(moment, fill, keep)
-        self.run(self.lines_of_opening(after, ()))
+        self.stdout += opened_lines(after)
         return after
 
     def restart(self, moment, fill, keep):
@@ -350,9 +360,7 @@ def makes(rows):
 
 
 def commits(rows):
-    rows.heading(
-        "a block is connected, and then a disconnect takes it back: 256 bytes and 6 more"
-    )
+    rows.heading("a block is connected, and then a disconnect takes it back: 256 bytes and 6 more")
     rows.make("regtest", 100, [payload_of(GENESIS)])
     rows.file("A")
     data = rows.site.files["A"]
@@ -560,7 +568,7 @@ def prefixes(rows):
                 after = rows.reopen(moment, fill, keep)
                 acknowledged = sum(end <= moment for end in ends)
                 if acknowledged or rows.stdout[-1].endswith("tip"):
-                    allowed = states[max(acknowledged - 1, 0):acknowledged + 1]
+                    allowed = states[max(acknowledged - 1, 0) : acknowledged + 1]
                     assert state(stands(after.files)[0]) in allowed, (moment, fill, keep)
     rows.heading("after a stop in the last of them the store goes on")
     for moment in range(MADE + 3 * APPENDED, MADE + 4 * APPENDED + 1):
@@ -723,7 +731,7 @@ def large(rows):
 
 def with_inscriptions(rows):
     rows.heading("made blocks over a turn: inscriptions, runes and what is held of them")
-    commands = drill(12)
+    commands = made_blocks.drill_commands(12)
     commands += 17 * [DISCONNECT, commands[-1]]
     rows.make("regtest", 100, commands[:64])
     each_moment(rows, commands[64], TURNED)
@@ -808,16 +816,9 @@ def keeps(rows):
     rows.open()
 
 
-def drill(count):
-    """The commands of a drill of so many blocks."""
-    blocks = [payload_of(block) for block, _, _ in made_blocks.chain(count)]
-    newest = min(count, 10)
-    return blocks + newest * [DISCONNECT] + blocks[count - newest :]
-
-
 def drills(rows):
     rows.heading("a drill of twelve blocks, and a stop at each moment of its last three commands")
-    commands = drill(12)
+    commands = made_blocks.drill_commands(12)
     rows.make("regtest", 100, commands)
     assert rows.stdout[-1].startswith("12 blocks, 12 of 100 kept, 12 changes, 12 lost, 32 commands")
     rows.now()
@@ -832,7 +833,7 @@ def drills(rows):
                 blocks = int(rows.stdout[-1].split()[0])
                 assert done - 20 <= blocks <= begun - 20, (moment, fill, keep)
     rows.heading("each call of a drill of two blocks fails, and a stop afterwards")
-    commands = drill(2)
+    commands = made_blocks.drill_commands(2)
     # 10 calls of the making, and 4 of each command
     for call in range(10 + 4 * len(commands) + 1):
         rows.fresh()
