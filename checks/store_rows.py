@@ -9,6 +9,8 @@ lengths, writes B, syncs it, writes A's first byte and the others, syncs A, writ
 syncs it.
 """
 
+import functools
+
 import made_blocks
 import old_files
 import store_faults
@@ -16,6 +18,7 @@ import store_files
 from chain import DISCONNECT, GENESIS, SHORT, payload_of, record_of
 from plain_index import MOST_BYTES as MOST
 from plain_index import NO_BLOCK, Refused
+from query_rows import checksum
 from row_ends import count_of
 from store_files import CLOSED, GREATEST, OPEN, NoStore, stands
 from table import offset_in
@@ -130,6 +133,9 @@ class Site:
 
 # ---- rows
 
+# what a body comes to, of which most are opened again and again
+body_sum = functools.cache(checksum)
+
 
 class Store(store_files.Store):
     """A store on a site, and the lines that commands are answered by."""
@@ -153,7 +159,8 @@ class Store(store_files.Store):
     def line(self):
         stack = self.stack
         kept = f"{len(stack.kept)} of {stack.depth} kept, {len(stack.kept)} changes, "
-        told = f"{count_of(stack.index.lost)} lost, {self.commands} commands, {tip_line(stack)}"
+        told = f"{count_of(stack.index.lost)} lost, {self.commands} commands, "
+        told += f"body {body_sum(stack.body())}, {tip_line(stack)}"
         return f"{len(stack.hashes())} blocks, {kept}{told}"
 
 

@@ -151,5 +151,5 @@ pub fn carry_out_all<S: Site>(
             None => return Ok(()),
         }
     }
-    print_store(rt, &store)
+    print_store(rt, alloc, &store)
 }

@@ -39,6 +39,9 @@
 //! and two hex digits; of more than 1,024 bytes the first 200, how many there are, and the number
 //! that all of them come to.
 //!
+//! Of a store its counts are printed, the number that the body of a file comes to that has its
+//! index and its kept changes, and its newest block.
+//!
 //! The rows and what has to be printed are made by checks/run_rows.py, which has its own lines,
 //! rotation, store and disk, and shares nothing with the library.
 #![tactic(auto)]

@@ -46,7 +46,7 @@ fn print_text(rt: &impl Print, bytes: &[u8]) -> io::Result<()> {
 }
 
 /// The number that bytes come to.
-fn sum_of(bytes: &[u8]) -> u64 {
+pub fn sum_of(bytes: &[u8]) -> u64 {
     let mut sum = 0u64;
     for &byte in bytes {
         sum = sum.wrapping_mul(1_000_003).wrapping_add(u64::from(byte));

@@ -1,7 +1,10 @@
 //! What is printed of a store.
 
 use crate::carry::{Moved, Outcome};
-use crate::say::{print_hex, print_hex_line, say};
+use crate::say::{print_hex, print_hex_line, say, sum_of};
+use crate::words::NO_ROW;
+use ox_bytes::Bytes;
+use ox_checkpoint::put_body;
 use ox_model::{Place, Refusal, View};
 use ox_outside::Which;
 use ox_store::{MakeFault, MigrateFault, OpenFault, Store};
@@ -59,18 +62,34 @@ fn tip_of(store: &Store) -> Option<(u32, [u8; 32])> {
     Some((height, *hash))
 }
 
-/// What a store says of itself.
-pub fn print_store(rt: &impl Print, store: &Store) -> io::Result<()> {
+/// What the body of a file that stands for a store comes to: its whole index and its kept changes.
+/// `None` where there is no memory for it.
+fn body_sum(alloc: Global, store: &Store) -> Option<u64> {
+    let mut body = Bytes::empty(alloc);
+    put_body(&mut body, store.live(), store.changes()).ok()?;
+    Some(sum_of(body.as_slice()))
+}
+
+/// The counts of a store, and what its body comes to.
+fn print_counts(rt: &impl Print, store: &Store, body: u64) -> io::Result<()> {
     let about = store.about();
     print!(rt;
-        "{} blocks, {} of {} kept, {} changes, {} lost, {} commands, ",
+        "{} blocks, {} of {} kept, {} changes, {} lost, {} commands, body {body}, ",
         store.live().blocks(),
         about.kept,
         about.depth,
         store.changes().len(),
         store.live().lost(),
         store.commands()
-    )?;
+    )
+}
+
+/// What a store says of itself.
+pub fn print_store(rt: &impl Print, alloc: Global, store: &Store) -> io::Result<()> {
+    let Some(body) = body_sum(alloc, store) else {
+        return say(rt, NO_ROW);
+    };
+    print_counts(rt, store, body)?;
     print_tip(rt, tip_of(store))
 }
 
@@ -102,9 +121,14 @@ pub fn print_unopened(rt: &impl Print, fault: OpenFault) -> io::Result<()> {
 }
 
 /// How many commands of a store of version 1 were carried out, and what the store says of itself.
-pub fn print_migrated(rt: &impl Print, commands: u64, store: &Store) -> io::Result<()> {
+pub fn print_migrated(
+    rt: &impl Print,
+    alloc: Global,
+    commands: u64,
+    store: &Store,
+) -> io::Result<()> {
     println!(rt; "ok {commands}")?;
-    print_store(rt, store)
+    print_store(rt, alloc, store)
 }
 
 /// Why a store of version 1 isn't migrated.

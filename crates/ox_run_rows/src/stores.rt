@@ -97,7 +97,7 @@ fn reopen(rt: &impl Print, alloc: Global, site: &MemSite, choice: [&str; 3]) -> 
 /// Makes a store of version 1 one of version 2.
 fn migrate(rt: &impl Print, alloc: Global, site: &mut MemSite) -> io::Result<()> {
     match Store::migrate(alloc, site) {
-        Ok((store, commands)) => print_migrated(rt, commands, &store),
+        Ok((store, commands)) => print_migrated(rt, alloc, commands, &store),
         Err(fault) => print_unmigrated(rt, alloc, &fault),
     }
 }
