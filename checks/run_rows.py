@@ -24,7 +24,7 @@ from tools.bitcoin import SUBSIDY, twice
 from tools.programs import write_rows
 from worlds import CUTS_NOTHING, NONE, PORTIONS, SATOSHI, Runs, bytes_of
 
-FILLS = 0, 1, 255
+FILLS = 0x00, 0x07, 0xFF
 
 GENESIS_OK = b"ok 0 000000000019d6689c085ae165831e934ff763ae46a2a6c172b3f1b60a8ce26f\n"
 # three small blocks, by their hashes
@@ -134,6 +134,10 @@ def folds(rows):
         (changed(80, 2), b"refused 3 285\n"),
         (changed(85, 0), b"refused 3 86\n"),
         (line(GENESIS[:200]), b"refused 3 200\n"),
+        # the header with a count that lies, with one that is too long, and alone
+        (line(GENESIS[:80] + b"\xfe" + 4 * b"\xff"), b"refused 3 85\n"),
+        (line(GENESIS[:80] + b"\xfd\1\0"), b"refused 3 80\n"),
+        (line(GENESIS[:80]), b"refused 3 80\n"),
         (b"connect \n", b"refused 3 0\n"),
         (b"connect 0\n", b"refused 1\n"),
     ):
@@ -269,6 +273,7 @@ def stops(rows):
                 allowed = [status_text(blocks_after(lines + more)) for more in (0, 1)]
                 assert kept[0] == 0 and kept[1] in allowed
                 assert led[0] == 0 and last == (0, status_text(2))
+                rows.reopen(moment, fill, keep)
 
 
 def ended_by(call):
@@ -298,6 +303,54 @@ def faults(rows):
             now = len(rows.world.site.steps)
             (left,) = rows.crash(now, fill, CUTS_NOTHING, ("query", "/status"))
             assert left == (0, status_text(blocks_left(call, fill)))
+
+
+# the calls of an opening and of a making behind which a run goes on
+OPENED, MADE = 8, 10
+
+
+def query_faults(rows):
+    rows.heading("each call of a query fails")
+    for call in range(OPENED + 2):
+        rows.store(line(BLOCKS[0]))
+        rows.ends(("apply",), 0, OKS[0])
+        rows.restart(rows.world.now(), 0, CUTS_NOTHING)
+        rows.fail(call)
+        status, told = rows.run("query", "/status")
+        assert status == (4 if call < OPENED else 6 if call == OPENED else 0)
+        assert told == (b"" if status else status_text(1))
+        for fill in FILLS:
+            rows.reopen(rows.world.now(), fill, CUTS_NOTHING)
+
+
+def left(rows, moment, fill, keep):
+    """What a stop leaves of files that are made a store: what a query shows, and what is opened."""
+    ((status, told),) = rows.crash(moment, fill, keep, ("query", "/status"))
+    assert status == 0 or (status, told[:11]) == (3, b"not a store")
+    rows.reopen(moment, fill, keep)
+    return status
+
+
+def makings(rows):
+    for words, calls in ((("init", "regtest", "100"), 0), (("drill", "2"), 24)):
+        rows.heading(f"each call of {' '.join(words)} fails, and a stop afterwards")
+        for call in range(MADE + calls + 2):
+            rows.fresh()
+            rows.fail(call)
+            status, told = rows.run(*words)
+            assert status == (4 if call < MADE + calls else 6 if call == MADE + calls else 0)
+            assert (told == b"") == (status != 0)
+            for fill in FILLS:
+                # from the gate's sync on the files are a store
+                stands = left(rows, rows.world.now(), fill, CUTS_NOTHING) == 0
+                assert stands or call < MADE
+        rows.heading(f"a stop at each moment of {' '.join(words)}")
+        rows.run(*words)
+        for moment in range(rows.world.now() + 1):
+            for fill in FILLS:
+                for keep in (0, CUTS_NOTHING):
+                    # the making's calls but for the two lengths are moments
+                    assert left(rows, moment, fill, keep) == 0 or moment < MADE - 2
 
 
 # ---- old stores
@@ -504,7 +557,7 @@ def main():
     rows = Rows()
     for part in (folds, usage, inits, applies, queries):
         part(rows)
-    for part in (stops, faults, migrates, short_calls):
+    for part in (stops, faults, query_faults, makings, migrates, short_calls):
         part(rows)
     for part in (feeds, hearings, links):
         part(rows)

@@ -5,12 +5,14 @@ What a server does is told by checks/serving.py, over a site of checks/worlds.py
 nothing with the library.
 """
 
-from chain import chain
+from chain import DISCONNECT, GENESIS, chain, line, line_of
 from desk_rows import printed
-from worlds import NONE, Runs
+from store_rows import ALL
+from worlds import CUTS_NOTHING, NONE, PORTIONS, Runs
 
 # the calls of an opening
 LOOKS = 8
+FILLS = 0x00, 0x07, 0xFF
 
 
 class Rows(Runs):
@@ -83,8 +85,8 @@ BLOCKS = chain(3)[0]
 
 def single_bytes(rows):
     rows.heading("every byte is heard alone: a public link, and a block that the operator posts")
-    rows.link([*STATUS], *["."] * 500, [*STATUS], [*post("/connect", BLOCKS[1])])
-    rows.link([*post("/connect", BLOCKS[0])], operator=True)
+    rows.link([*STATUS], *["."] * 500, [*STATUS], [*post("/connect", GENESIS)])
+    rows.link([*post("/connect", GENESIS)], operator=True)
     rows.serve(10_000)
     rows.heading("the turns end before a request is whole")
     rows.link([*STATUS])
@@ -189,30 +191,36 @@ def short(rows):
     rows.link(post("/connect", BLOCKS[0]) + STATUS, operator=True)
 
 
+def last_calls(rows, run):
+    """The numbers of the calls that a run takes, which is made for it."""
+    first = rows.world.site.calls
+    run()
+    return range(first, rows.world.site.calls)
+
+
 def fails(rows):
     rows.heading("each call of a short run fails, and what is opened afterwards")
     short(rows)
-    first = rows.world.site.calls + LOOKS
-    rows.serve(24)
-    last = rows.world.site.calls
-    for call in range(first, last):
+    calls = last_calls(rows, lambda: rows.serve(24))
+    for call in calls:
         rows.fresh()
         short(rows)
         rows.fail(call)
-        rows.serve(24)
-        for fill in (0, 7, 255):
-            rows.crash(len(rows.world.site.steps), fill, 10**9, ("query", "/status"))
+        status = rows.serve(24)
+        assert call - calls[0] >= LOOKS or status == 4
+        for fill in FILLS:
+            rows.stop(rows.world.now(), fill, CUTS_NOTHING)
 
 
 def stops(rows):
     rows.heading("a stop at each moment of a short run")
     short(rows)
-    first = len(rows.world.site.steps)
+    first = rows.world.now()
     rows.serve(24)
-    for moment in range(first, len(rows.world.site.steps) + 1):
-        for fill in (0, 7, 255):
-            for keep in (0, 10**9):
-                rows.crash(moment, fill, keep, ("query", "/status"))
+    for moment in range(first, rows.world.now() + 1):
+        for fill in FILLS:
+            for keep in (0, CUTS_NOTHING):
+                rows.stop(moment, fill, keep)
 
 
 def turns(rows):
@@ -221,11 +229,133 @@ def turns(rows):
     rows.link(*posts, get("/status", CLOSE), operator=True)
     rows.serve(500)
     assert b'"blocks":66' in rows.world.shown(1) and rows.world.site.files["B"][:1] == b"\1"
-    last = len(rows.world.site.steps)
+    last, begun = rows.world.now(), len(rows.stdout)
     for moment in range(last - 24, last + 1):
-        for fill in (0, 255):
-            rows.crash(moment, fill, 10**9, ("query", "/status"))
-    assert any('"blocks":64' in line for line in rows.stdout[-97::2])
+        for fill in FILLS:
+            for keep in (0, CUTS_NOTHING):
+                rows.stop(moment, fill, keep)
+    assert any('"blocks":64' in line for line in rows.stdout[begun:])
+
+
+# ---- runs that follow one another
+
+
+def begin_apply(rows):
+    """A store over which two lines are applied, from the first call and the first moment on."""
+    rows.fresh()
+    rows.restart(rows.world.now(), 0, CUTS_NOTHING)
+    assert rows.apply(line(BLOCKS[0]), line_of(DISCONNECT))[0] == 0
+
+
+def go_on(rows):
+    """The operator connects a block, which is refused where the one before isn't there, and the
+    first one otherwise; a public link asks for the status."""
+    rows.feed(line(BLOCKS[0]), line(BLOCKS[1]))
+    rows.link(STATUS, "$")
+    rows.link(post("/connect", BLOCKS[1]), post("/connect", BLOCKS[0]), "$", operator=True)
+    assert rows.serve(24) == 0
+
+
+def runs_in_turn(rows):
+    rows.heading("an apply, a serve, a drill and an apply, each over what a stop before left")
+    begin_apply(rows)
+    for first in range(rows.world.now() + 1):
+        for fill in FILLS:
+            begin_apply(rows)
+            rows.restart(first, fill, CUTS_NOTHING)
+            go_on(rows)
+            for second in range(rows.world.now() + 1):
+                follow(rows, second, fill)
+
+
+def follow(rows, moment, fill):
+    """What a stop of the server leaves is drilled, which is refused, applied and looked at."""
+    runs = ("drill", "2"), ("apply",), ("query", "/status")
+    drilled, applied, looked = rows.crash(moment, fill, CUTS_NOTHING, *runs)
+    assert drilled == (2, b"not empty\n") and applied[0] == 0
+    assert looked[0] == 0 and b'"blocks":2' in looked[1]
+
+
+# ---- links that are no one's friend
+
+
+def honest(operator):
+    """What a link says that asks for what it may."""
+    if operator:
+        said = [
+            post("/connect", BLOCKS[0]),
+            post("/connect", BLOCKS[1]),
+            STATUS,
+            post("/disconnect"),
+        ]
+    else:
+        said = [STATUS, get("/audit"), get("/blockhash/0")]
+    return [*said, get("/status", CLOSE)]
+
+
+def beside(rows, hostile, fails=False):
+    """A hostile link beside an honest one at the other door, whose replies and whose files are as
+    without it. Where it `fails` it breaks as it is shown something."""
+    for operator in (False, True):
+        rows.fresh()
+        rows.link(*honest(operator), operator=operator)
+        rows.serve(200)
+        alone, files = rows.world.shown(1), rows.world.site.files
+        both(rows, hostile, operator)
+        if fails:
+            # the public door is asked first
+            number = 1 if operator else 2
+            call = next(call for call, link in rows.world.showings if link == number)
+            both(rows, hostile, operator, call)
+            assert rows.world.shown(number) == b""
+        assert rows.world.shown(2 if operator else 1) == alone
+        assert rows.world.site.files == files
+
+
+def both(rows, hostile, operator, failing=None):
+    rows.fresh()
+    rows.link(*honest(operator), operator=operator)
+    rows.link(*hostile, operator=not operator)
+    if failing is not None:
+        rows.fail(failing)
+    assert rows.serve(200) == 0
+
+
+def hostile_links(rows):
+    block = post("/connect", BLOCKS[0])
+    for what, said, fails in (
+        ("ends in a head", [STATUS[:-4], "$"], False),
+        ("ends in a body", [block[:-7], "$"], False),
+        ("sends 8,192 bytes without a blank line", [8192 * b"a", STATUS], False),
+        ("breaks as it is shown a reply", [STATUS, STATUS], True),
+    ):
+        rows.heading(f"a link that {what}, beside an honest one")
+        beside(rows, said, fails)
+
+
+def short_calls(rows):
+    rows.heading("over short calls links are shown what they are over whole ones")
+    shown = []
+    for portion in (None, *PORTIONS):
+        rows.fresh()
+        rows.link(*honest(False))
+        rows.link(*honest(True), operator=True)
+        rows.link(8192 * b"a")
+        rows.link(post("/connect", BLOCKS[0])[:-7], "$", operator=True)
+        status = rows.serve_shortly(portion, ALL, 30_000) if portion else rows.serve(200)
+        shown.append([rows.world.shown(number) for number in range(1, 5)])
+        assert status == 0 and shown[-1][1:] == shown[0][1:]
+    rows.heading("a write that fails halfway ends the run, and what is opened afterwards")
+    # each block is two writes: its record, and its gate
+    for portion in PORTIONS:
+        for writes in range(4):
+            rows.fresh()
+            rows.link(*honest(True), operator=True)
+            rows.link(STATUS)
+            assert rows.serve_shortly(portion, writes, 30_000) == 4
+            rows.run("query", "/status")
+            for fill in FILLS:
+                rows.stop(rows.world.now(), fill, CUTS_NOTHING)
 
 
 def served():
@@ -242,6 +372,9 @@ def served():
         fails,
         stops,
         turns,
+        runs_in_turn,
+        hostile_links,
+        short_calls,
     ):
         part(rows)
     return rows
