@@ -6,9 +6,10 @@
 It reads and hashes blocks by Bitcoin's serialization and BIP 141 and 144 on its own, with Python's
 standard library alone, and knows blocks that others made: the genesis block of the main chain, and
 two whose bytes, ids and roots were made with Debian's python3-bitcoinlib 0.11.2, which it asserts
-first. The rows about envelopes and ids are those of checks/envelope_rows.py, those about items and
-runestones those of checks/stone_rows.py, those about names, numbers and satoshis those of
-checks/number_rows.py, and those about blocks that are made those of checks/made_blocks.py.
+first. Whether a block commits to its witnesses goes by BIP 141 alone. The rows about envelopes and
+ids are those of checks/envelope_rows.py, those about items and runestones those of
+checks/stone_rows.py, those about names, numbers and satoshis those of checks/number_rows.py, and
+those about blocks that are made those of checks/made_blocks.py.
 """
 
 import hashlib
@@ -18,9 +19,10 @@ import envelope_rows
 import made_blocks
 import number_rows
 import stone_rows
+from chain import block_of, commitment, committing, transaction
 from tools.programs import write_rows
 
-COINS = 21_000_000 * 10 ** 8
+COINS = 21_000_000 * 10**8
 MOST = 4_000_000
 
 
@@ -269,6 +271,97 @@ def rows():
     yield MOST // 1000, b"\0", bytes(1000), b""
 
 
+# ---- blocks that commit to their witnesses
+
+FRONT = bytes.fromhex("6a24aa21a9ed")
+
+
+def outputs_and_stacks(tx):
+    """The scripts of a transaction's outputs and the stacks of its inputs, by its whole form."""
+    reader = Reader(tx)
+    reader.take(4)
+    is_marked = reader.data[4] == 0
+    reader.take(2 if is_marked else 0)
+    inputs = reader.compact()
+    for _ in range(inputs):
+        reader.take(36)
+        reader.take(reader.compact())
+        reader.take(4)
+    scripts, stacks = [], []
+    for _ in range(reader.compact()):
+        reader.take(8)
+        scripts.append(reader.take(reader.compact()))
+    for _ in range(inputs if is_marked else 0):
+        stacks.append([reader.take(reader.compact()) for _ in range(reader.compact())])
+    return scripts, stacks
+
+
+def is_committed(txs):
+    """Whether these transactions, each by its whole form and its stripped one, are committed to."""
+    scripts, stacks = outputs_and_stacks(txs[0][0])
+    told = [script for script in scripts if len(script) >= 38 and script[:6] == FRONT]
+    if not told:
+        return all(whole == bare for whole, bare in txs)
+    if len(stacks) != 1 or [len(item) for item in stacks[0]] != [32]:
+        return False
+    root = root_of([bytes(32)] + [twice(whole) for whole, _ in txs[1:]])
+    return told[-1][6:38] == twice(root + stacks[0][0])
+
+
+def committed_line(data):
+    try:
+        _, txs = Reader(data).block()
+    except Fault:
+        return "no row, or no memory"
+    return "committed" if is_committed(txs) else "not committed"
+
+
+def commitment_rows():
+    """Blocks, and whether each commits to its witnesses."""
+    marked = transaction([(32 * b"\7", 0, b"\x51")], [(5, b"\x51")])
+    bare = transaction([(32 * b"\7", 1, b"")], [(6, b"\x51")])
+    right, wrong = commitment(marked), commitment(marked, value=32 * b"\1")
+    other = 32 * b"\1"
+    lies = transaction([(32 * b"\7", 2, b"")], [(0, commitment(marked))])
+    for txs, holds in (
+        # with the right commitment, another one, and none
+        ([committing(0, right), marked], True),
+        ([committing(0, wrong), marked], False),
+        ([committing(0), marked], False),
+        # the reserved value is another one
+        ([committing(0, wrong, items=[other]), marked], True),
+        ([committing(0, right, items=[other]), marked], False),
+        # it has 31 bytes, or stands beside another item, or isn't there
+        ([committing(0, right, items=[bytes(31)]), marked], False),
+        ([committing(0, right, items=[bytes(32), b""]), marked], False),
+        ([committing(0, right, items=()), marked], False),
+        # the last commitment counts, and what is too short or begins otherwise is none
+        ([committing(0, wrong, right), marked], True),
+        ([committing(0, right, wrong), marked], False),
+        ([committing(0, right, wrong[:37]), marked], True),
+        ([committing(0, right, b"\x6b" + wrong[1:]), marked], True),
+        ([committing(0, right + b"more"), marked], True),
+        # that of another transaction doesn't count
+        ([committing(0, items=()), lies], True),
+        ([committing(0), lies], False),
+        # nothing is marked: no commitment is needed, and one isn't met
+        ([committing(0, items=()), bare], True),
+        ([committing(0, commitment(bare), items=()), bare], False),
+        # a marked transaction behind one that isn't, and an odd number of them
+        ([committing(0, commitment(bare, marked)), bare, marked], True),
+        ([committing(0, commitment(marked, bare)), bare, marked], False),
+        ([committing(0, commitment())], True),
+    ):
+        block = block_of(bytes(32), txs)[0]
+        assert committed_line(block) == ("committed" if holds else "not committed")
+        yield block
+    genesis, two, three = known_blocks()
+    assert committed_line(genesis) == "committed" and committed_line(two) == "not committed"
+    yield from (genesis, two, three, genesis[:200])
+    txs = [committing(0, commitment(*1000 * [marked])), *1000 * [marked]]
+    yield block_of(bytes(32), txs)[0]
+
+
 def main():
     word = lambda data: data.hex() or "-"
     stdin, stdout = [], []
@@ -286,6 +379,9 @@ def main():
             " " + answer(two[:length])[0].removeprefix("fault at ") for length in range(len(two))
         )
     )
+    for data in commitment_rows():
+        stdin.append(f"committed 0 {data.hex()} - -")
+        stdout.append(committed_line(data))
     for row in envelope_rows.rows():
         stdin.append(row)
         stdout += envelope_rows.answer(row)

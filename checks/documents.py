@@ -21,7 +21,8 @@ tells each line
 7. with a sum of the kit's logic that isn't that of `rt version` (another name of the kit is noted);
 8. of Python that passes 100 columns;
 9. of docs/REVIEW.md that checks/review.py tells: a definition below the headline is missing;
-10. of docs/ARCHITECTURE.md that has a crate under another heading than crates.txt, or lacks one.
+10. of docs/ARCHITECTURE.md that has a crate under another heading than crates.txt, or lacks one;
+11. of a library that checks/surface.py tells: nothing calls a public function.
 
 The last line says how many lines were told. The status is 1 where there are any. With --selftest it
 puts one wrong line for each of these rules into a copy in memory, and says whether each is told.
@@ -35,6 +36,7 @@ import subprocess
 import sys
 
 import review
+import surface
 
 TOP = pathlib.Path(__file__).resolve().parents[1]
 
@@ -514,6 +516,11 @@ def definitions(repository):
         yield review.REVIEW, number, cause
 
 
+def calls(repository):
+    """Rule 11."""
+    yield from surface.told(repository.text)
+
+
 RULES = [
     paths,
     crates,
@@ -526,6 +533,7 @@ RULES = [
     columns,
     groups,
     definitions,
+    calls,
 ]
 
 # for each rule a document and a wrong line
@@ -546,6 +554,7 @@ WRONG = {
     logic: ("README.md", "It is logic `0123456789abcdef`."),
     columns: ("checks/documents.py", "#" * 101),
     groups: ("crates.txt", "# Nowhere\nox_varint:"),
+    calls: ("crates/ox_varint/src/lib.rt", "pub fn nobody_calls() -> Result<(), NotNumber> {"),
     definitions: ("docs/REVIEW.md", "| 16 | `nothing` | `ox_sat/src/profiles.rt` | nothing |"),
 }
 

@@ -427,6 +427,11 @@ def sat_rows():
     second = "Degree { hour: 0, minute: 1, second: 1, third: 0 }, Uncommon, "
     assert second in sat_line("regtest", "5000000000")
     yield "sat regtest 5000000000", sat_line("regtest", "5000000000")
+    assert sat_of("regtest", "1.0") == 5_000_000_000
+    yield "sat regtest 1.0", sat_line("regtest", "1.0")
+    for text in ("1.5000000000", "01", "", "nvtdijuwxlq"):
+        assert sat_of("regtest", text) is None
+        yield f"sat regtest {text}", "no satoshi"
 
 
 # ---- lists of satoshis

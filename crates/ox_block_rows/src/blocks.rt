@@ -2,8 +2,8 @@
 
 use crate::print::{NO_ROW, Page, print_line, put, put_line};
 use ox_block::{
-    Block, BlockFault, Header, Txid, hash, read_block, root, txid_of, witness_root, write_block,
-    wtxid_of,
+    Block, BlockFault, Header, Txid, committed, hash, read_block, root, txid_of, witness_root,
+    write_block, wtxid_of,
 };
 use std::alloc::Global;
 use std::cmp::Ordering;
@@ -108,6 +108,25 @@ pub fn print_read(page: &mut Page, alloc: Global, bytes: &[u8], times: u32) {
         Err(BlockFault::Malformed { at }) => put_line!(page; "fault at {at}"),
         Err(BlockFault::Memory) => page.say(NO_ROW),
     }
+}
+
+/// Whether the block that bytes spell commits to its witnesses. `None` where they spell none, and
+/// where there is no memory for it.
+fn commits(alloc: Global, bytes: &[u8]) -> Option<bool> {
+    let block = read_block(alloc, bytes).ok()?;
+    if block.txs.is_empty() {
+        return None;
+    }
+    committed(alloc, &block).ok()
+}
+
+/// Whether a block commits to its witnesses.
+pub fn print_committed(page: &mut Page, alloc: Global, bytes: &[u8]) {
+    page.say(match commits(alloc, bytes) {
+        Some(true) => "committed",
+        Some(false) => "not committed",
+        None => NO_ROW,
+    })
 }
 
 /// The place of the fault of bytes, if they have one.

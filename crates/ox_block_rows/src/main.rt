@@ -3,6 +3,7 @@
 //! Of blocks:
 //!
 //! - `block BYTES`: a block's hashes and roots, or the place of the fault;
+//! - `committed BYTES`: whether a block commits to its witnesses;
 //! - `order HEX HEX`: which of two transactions' ids comes first;
 //! - `fronts HEX`: the place of the fault of each front of these bytes, from none of them to all
 //!   but one;
@@ -67,7 +68,7 @@ mod scripts;
 mod spell;
 mod stones;
 
-use crate::blocks::{print_fronts, print_order, print_read};
+use crate::blocks::{print_committed, print_fronts, print_order, print_read};
 use crate::fields::{numbers_of, print_fields, print_put, print_room, short};
 use crate::made::print_made;
 use crate::names::print_numbers;
@@ -110,6 +111,7 @@ fn run_digits(page: &mut Page, alloc: Global, word: &str, digits: &str) {
 fn run_long(page: &mut Page, alloc: Global, word: &str, bytes: &[u8], times: u32) {
     match word {
         "block" => print_read(page, alloc, bytes, times),
+        "committed" => print_committed(page, alloc, bytes),
         "items" => print_items(page, bytes, times),
         "envelopes" => print_tally(page, alloc, bytes, times),
         "script" => print_script(page, alloc, bytes),
@@ -171,7 +173,7 @@ fn run_text(page: &mut Page, alloc: Global, word: &str, rest: &str) {
 fn run(page: &mut Page, alloc: Global, row: &str, times: u32) {
     let (word, rest) = row.split_once(' ').unwrap_or((row, ""));
     match word {
-        "block" | "items" | "envelopes" | "script" | "route" | "listing" => {
+        "block" | "committed" | "items" | "envelopes" | "script" | "route" | "listing" => {
             run_parts(page, alloc, word, rest, times)
         }
         "fronts" | "value" | "named" | "number" | "fields" | "kinds" => {
