@@ -5,11 +5,17 @@
 
 follows the words of the definitions in crates/*/specs from those that the clause `survives` of
 `run` names, into every definition and every type of the Rust code that they stand on, and tells
-how many there are: below the clause alone, which ends at the rules (which lines a feed has, which
-command a line is, what a block does), and with the rules. docs/REVIEW.md has those below the clause
-between two markers, a line a file; the script tells each line that is missing there or says
-something else, and each definition that the table above it names and that isn't in the file named
-beside it. The status is 1 where it told something. With --write it writes the lines anew.
+how many there are. What two files stand for (`stands`) is left closed, and so are the texts of
+answers and the parts of an index: `made`, `migrated`, `survives` and `queries` speak of one
+function `stands`, so that what a query shows after a crash is the reply of the kept lines' machine
+whatever that function is. Of the trait `Site` only what `apply` calls counts, without the clauses
+on counts.
+
+docs/REVIEW.md has two parts between markers: the core, which is the clause and these definitions
+but for fresh indexing (`index_of`), as code in reading order, with the text of `Site` behind it;
+and the names of all of them, a line a file. The script tells each line that is missing there or
+says something else, and each definition that the table above them names and that isn't in the file
+named beside it. The status is 1 where it told something. With --write it writes both parts anew.
 
 It reads words and no types: a definition whose name another one uses for something of its own is
 followed too, so that the list may be too long, but not too short.
@@ -21,33 +27,66 @@ import sys
 
 TOP = pathlib.Path(__file__).resolve().parents[1]
 REVIEW = "docs/REVIEW.md"
-BEGIN = "<!-- checks/review.py writes from here -->"
-END = "<!-- to here -->"
+BEGIN, END = "<!-- checks/review.py writes from here -->", "<!-- to here -->"
+CORE_BEGIN, CORE_END = "<!-- checks/review.py writes the core from here -->", "<!-- to there -->"
 
 HEADLINE = "Rattle.ox_app.specs.Headline"
 STARTS = [
-    (HEADLINE, "SurvivesCrash"),
-    (HEADLINE, "StandsFor"),
     ("Rattle.ox_app.specs.Subcommands", "apply_words"),
+    (HEADLINE, "StandsFor"),
+    (HEADLINE, "SurvivesCrash"),
     ("Rattle.ox_model.specs.Machine", "stack_of"),
 ]
 # where the rules begin
-RULES = {
+RULES = [
     ("Rattle.ox_feed.specs.Feed", "lines_of"),
     ("Rattle.ox_feed.specs.Command", "command_of"),
     ("Rattle.ox_model.specs.Step", "step"),
-}
+]
+# what is left closed besides
+STANDS = [("Rattle.ox_files.specs.Stands", "stands")]
+PARTS = [
+    ("Rattle.ox_model.specs.Index", "Index"),
+    ("Rattle.ox_model.specs.Index", "no_blocks"),
+    ("Rattle.ox_rules.specs.Text", "ok_text"),
+    ("Rattle.ox_rules.specs.Text", "refusal_line"),
+]
+CLOSED = [*RULES, *STANDS, *PARTS]
+RUN = "ox_app/src/program.rt"
+SITE = "ox_outside/src/site.rt"
+TRAIT = ("Rattle.ox_outside.specs.declared.site.Site", "Ghosts")
+# what the core leaves closed too
+CORE = [
+    *CLOSED,
+    ("Rattle.ox_model.specs.Chain", "index_of"),
+    ("Rattle.ox_rules.specs.declared.refusal.Refusal", "Refusal"),
+    TRAIT,
+]
+# what `apply` calls of the trait
+CALLED = {"len", "read", "write", "sync", "hear", "show"}
 
 BEGINS = re.compile(r"(?:abbrev |unfoldable |pub |record |data |mutual )+([^\s:({]+)")
 NAME = re.compile(r"[^\s(){}\[\],;.:λ→]+")
 
 
 class Definition:
-    """A definition or a type: its file below crates/, its name, its lines, and its module."""
+    """A definition or a type: its file below crates/, its name, its lines, its module, and the
+    comment before it."""
 
-    def __init__(self, file, name, module):
+    def __init__(self, file, name, module, comment=()):
         self.file, self.name, self.module = file, name, module
-        self.lines = []
+        self.lines, self.comment = [], list(comment)
+
+
+def called_part(trait):
+    """What `apply` calls of the trait `Site`, without the clauses on counts."""
+    parts = re.split(r"(?m)^(?=    (?:fn|ghost) )", trait)
+    called = [
+        part for part in parts if (re.match(r"    fn (\w+)", part) or [0, "len"])[1] in CALLED
+    ]
+    clauses = (re.split(r"(?m)^(?=        (?:requires|ensures) )", part) for part in called)
+    kept = (part for parts in clauses for part in parts if "counts self." not in part)
+    return "".join(kept)
 
 
 class Definitions:
@@ -74,12 +113,12 @@ class Definitions:
     def add_definitions(self, path):
         crate, _, rest = str(path.relative_to(TOP / "crates")).partition("/specs/")
         module = f"Rattle.{crate}.specs.{rest.removesuffix('.antt').replace('/', '.')}"
-        text, now = path.read_text(), None
+        text, now, comment = path.read_text(), None, []
         self.add_uses(module, text)
         for line in text.split("\n"):
             begins = BEGINS.match(line)
             if begins:
-                now = Definition(f"{crate}/specs/{rest}", begins[1], module)
+                now = Definition(f"{crate}/specs/{rest}", begins[1], module, comment)
                 self.found.setdefault((module, begins[1]), now)
             elif line.startswith(("--", "use ", "pub use ")):
                 now = None
@@ -91,6 +130,8 @@ class Definitions:
             constructor = re.match(r"  (?:pub )?([A-Z]\w*) :", line)
             if constructor and now and "data" in now.lines[0].split():
                 self.found.setdefault((module, constructor[1]), now)
+            is_comment = line.startswith("-- ") and not line.startswith("-- ----")
+            comment = [*comment, line] if is_comment else []
 
     def add_types(self, path):
         """The types and traits of a file of Rust code, which is a module of its own here."""
@@ -101,6 +142,8 @@ class Definitions:
             rest = text[begins.start() :]
             end = r"^\}" if "{" in rest.split("\n")[0] else r";$"
             item = rest[: re.search(end, rest, re.M).end()]
+            if file == SITE and begins[1] == "Site":
+                item = called_part(item)
             found = Definition(file, begins[1], file)
             found.lines = [line for line in item.split("\n") if line.strip()]
             self.types.setdefault(begins[1], []).append(found)
@@ -132,16 +175,17 @@ class Definitions:
                 if alias in renamed:
                     yield self.one(renamed[alias], word)
 
-    def below(self, starts, but=()):
-        """These definitions, and all that they stand on but some."""
-        seen, rest = set(), [self.one(*start) for start in starts]
-        but = {self.one(*rule) for rule in but}
+    def below(self, but=()):
+        """The definitions of the clause and all that they stand on but some, each behind the first
+        that names it."""
+        seen, rest = {}, [self.one(*start) for start in reversed(STARTS)]
+        but = {self.one(*closed) for closed in but}
         while rest:
             definition = rest.pop()
-            if definition is not None and definition not in seen | but:
-                seen.add(definition)
-                rest += self.named_by(definition)
-        return seen
+            if definition is not None and definition not in seen and definition not in but:
+                seen[definition] = True
+                rest += reversed(list(self.named_by(definition)))
+        return list(seen)
 
 
 def by_file(definitions):
@@ -152,34 +196,67 @@ def by_file(definitions):
     return files
 
 
-def lines_of(definitions):
-    """The lines between the markers."""
+def list_of(definitions):
+    """The lines of the list."""
     lines = ["| File | Definitions |", "|---|---|"]
     for file, names in by_file(definitions).items():
         lines.append(f"| `{file}` | {', '.join(f'`{name}`' for name in names)} |")
     return lines
 
 
-def between(text):
+def code_of(definitions):
+    """The lines of definitions as code, each behind the comment before it and, where the one before
+    stands in another one, its file."""
+    lines, file = ["```"], None
+    for one in definitions:
+        lines += [] if file is None else [""]
+        lines += [] if file == one.file else [f"-- ---- {one.file}"]
+        lines += [*one.comment, *one.lines]
+        file = one.file
+    return [*lines, "```"]
+
+
+def clause():
+    """The lines of the clause itself."""
+    text = (TOP / "crates" / RUN).read_text()
+    return re.search(r"^    ensures survives .*?(?=\n *\n|\n    \S)", text, re.M | re.S)[0].split(
+        "\n"
+    )
+
+
+def core_of(every):
+    """The lines of the clause, of the core, and of what `apply` calls of a site."""
+    core, site = code_of(every.below(CORE)), code_of([every.one(*TRAIT)])
+    return ["```", f"-- ---- {RUN}", *clause(), "", *core[1:], "", "And of `Site`:", "", *site]
+
+
+def parts_of(every):
+    """The two parts that are written: the markers around each, and its lines."""
+    yield CORE_BEGIN, CORE_END, core_of(every)
+    yield BEGIN, END, list_of(every.below(CLOSED))
+
+
+def between(lines, begin, end):
     """The numbers of the lines of both markers, counted from 0."""
-    lines = text.split("\n")
-    return lines.index(BEGIN), lines.index(END)
+    return lines.index(begin), lines.index(end)
 
 
-def lacking(text, definitions):
-    """What docs/REVIEW.md lacks, each with the number of a line."""
+def lacking(text, begin, end, wanted):
+    """What a part of docs/REVIEW.md lacks, each with the number of a line."""
     lines = text.split("\n")
-    if BEGIN not in lines or END not in lines:
-        yield 1, "the markers of checks/review.py aren't there"
+    if begin not in lines or end not in lines:
+        yield 1, f"the markers of checks/review.py aren't there: {begin}"
         return
-    begin, end = between(text)
-    there, wanted = lines[begin + 1 : end], lines_of(definitions)
+    first, last = between(lines, begin, end)
+    there = lines[first + 1 : last]
     for line in wanted:
         if line not in there:
-            yield begin + 1, f"this is missing: {line}"
-    for at, line in enumerate(there, begin + 2):
+            yield first + 1, f"this is missing: {line}"
+    for at, line in enumerate(there, first + 2):
         if line not in wanted:
             yield at, "checks/review.py finds no such line"
+    if sorted(there) == sorted(wanted) and there != wanted:
+        yield first + 1, "checks/review.py writes these lines in another order"
 
 
 def misplaced(text):
@@ -202,7 +279,8 @@ def misplaced(text):
 def told(text, every=None):
     """All that the script tells of docs/REVIEW.md."""
     every = every or Definitions()
-    yield from lacking(text, every.below(STARTS, RULES))
+    for part in parts_of(every):
+        yield from lacking(text, *part)
     yield from misplaced(text)
 
 
@@ -212,17 +290,31 @@ def tell(what, definitions):
     print(f"{what}: {len(definitions)} definitions, {count:,} lines, {files} files")
 
 
+def tell_all(every):
+    tell("the core, but for `Site`", every.below(CORE))
+    tell("`Site`, what `apply` calls of it", [every.one(*TRAIT)])
+    tell("below the clause, but for the rules, `stands` and the texts", every.below(CLOSED))
+    tell("with `stands` and the texts", every.below(RULES))
+    tell("with the rules", every.below())
+
+
+def written(text, every):
+    """The text with both parts written anew."""
+    for begin, end, part in parts_of(every):
+        lines = text.split("\n")
+        first, last = between(lines, begin, end)
+        text = "\n".join([*lines[: first + 1], *part, *lines[last:]])
+    return text
+
+
 def main():
     if sys.argv[1:] not in ([], ["--write"]):
         sys.exit(__doc__)
     every, review = Definitions(), TOP / REVIEW
-    short = every.below(STARTS, RULES)
-    tell("below the clause, but for the rules", short)
-    tell("with the rules", every.below(STARTS))
+    tell_all(every)
     text = review.read_text()
     if sys.argv[1:]:
-        lines, (begin, end) = text.split("\n"), between(text)
-        text = "\n".join([*lines[: begin + 1], *lines_of(short), *lines[end:]])
+        text = written(text, every)
         review.write_text(text)
     wrong = list(told(text, every))
     for at, cause in wrong:
