@@ -4,11 +4,12 @@
     checks/http_rows.py
 
 It reads streams by RFC 9112 and docs/FORMATS.md ("HTTP"), on its own: by regular expressions over
-the whole head.
+the whole head. The rows of frames are those of checks/frame_rows.py.
 """
 
 import re
 
+from frame_rows import frame_rows
 from tools.programs import write_rows
 
 MOST_SHOWN = 200
@@ -394,6 +395,7 @@ def rows():
         made.fault(code)
     made.add("unavailable", [shown(UNAVAILABLE)])
     links(made)
+    frame_rows(made)
     return made
 
 

@@ -11,6 +11,10 @@
 //!   bytes at a time, or all at once for 0), `end` (it says nothing more), `close` (from here on
 //!   replies say close), `busy` (requests are answered 503), `none` (503 is due, whatever is
 //!   asked);
+//! - `frames PART..`: the frames that stand one after another, what each takes and its front written
+//!   anew, and what stands behind them; `pieces N PART..`: the same bytes, N more at a time: at
+//!   which length something stands at the front for the first time, and what; it is checked that
+//!   this stays so;
 //! - `often TIMES PART..`: what a stream begins with, read so often; `hold LINKS N PART..`: so many
 //!   sessions that hear a stream, N bytes at a time, and are kept (both are timed by
 //!   bench/http.py);
@@ -20,14 +24,16 @@
 //! printed in hex digits, and by their number where there are many.
 //!
 //! The rows and what has to be printed are made by checks/http_rows.py, which reads streams by the
-//! public rules and shares nothing with the library.
+//! public rules and shares nothing with the library; those of frames by checks/frame_rows.py.
 #![tactic(auto)]
 
+mod frames;
 mod link;
 mod often;
 mod parts;
 mod show;
 
+use crate::frames::{print_frames, print_pieces};
 use crate::link::drive;
 use crate::often::{hold, read_often};
 use crate::parts::{bytes_of, stream_of};
@@ -174,6 +180,8 @@ fn run(rt: &impl Print, alloc: Global, row: &str) -> anyhow::Result<()> {
         ["talk", parts @ ..] => print_talk(rt, alloc, &stream_of(alloc, parts)?),
         ["grow", parts @ ..] => print_growth(rt, alloc, &stream_of(alloc, parts)?),
         ["link", steps @ ..] => drive(rt, alloc, steps),
+        ["frames", parts @ ..] => print_frames(rt, alloc, parts),
+        ["pieces", each, parts @ ..] => print_pieces(rt, alloc, each.parse().unwrap_or(0), parts),
         ["often", times, parts @ ..] => read_often(rt, alloc, times.parse().unwrap_or(0), parts),
         ["hold", links, each, parts @ ..] => {
             let (links, each) = (links.parse().unwrap_or(0), each.parse().unwrap_or(1));
