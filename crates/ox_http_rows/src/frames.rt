@@ -1,7 +1,5 @@
 //! The frames that stand in some bytes, printed.
 
-ghost use Rattle.std.specs.Prelude.{◌<◌};
-
 use crate::parts::stream_of;
 use crate::show::print_bytes;
 use anyhow::{Context, bail};
@@ -109,7 +107,8 @@ pub fn print_pieces(
             bail!("what stood there is gone");
         }
     }
-    Ok(if found.is_none() {
+    if found.is_none() {
         println!(rt; "more")?;
-    })
+    }
+    Ok(())
 }
