@@ -69,8 +69,6 @@ module _ {X C : Type 0} (server : Server X C) (first : X) (turns : ℕ) where
         doors = λ door. rose_later _ _ _ _ (fell.door_idles door) (served.turned.idles.doors door);
         links = λ channel. rose_later _ _ _ _ (fell.not_yets channel) (served.turned.idles.links channel);
       };
-      own = served.turned.own;
-      only_own = served.turned.only_own;
       logged = served.turned.logged;
     };
     requests_counted = served.requests_counted;
@@ -88,8 +86,6 @@ module _ {X C : Type 0} (server : Server X C) (first : X) (turns : ℕ) where
         doors = λ door. rose_sooner _ _ _ _ (fell.door_idles door) (served.turned.idles.doors door);
         links = λ channel. rose_sooner _ _ _ _ (fell.not_yets channel) (served.turned.idles.links channel);
       };
-      own = served.turned.own;
-      only_own = served.turned.only_own;
       logged = served.turned.logged;
     };
     requests_counted = served.requests_counted;

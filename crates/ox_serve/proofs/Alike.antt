@@ -74,8 +74,6 @@ module _ {X Y C : Type 0} (stands_for : X → Y → Type 0) (one : Server X C) (
       end = turned.end;
       made = turns_alike [] 0 turned.turns turned.end turned.made;
       idles = turned.idles;
-      own = turned.own;
-      only_own = turned.only_own;
       logged = turned.logged;
     }
 

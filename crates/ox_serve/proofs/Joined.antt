@@ -103,9 +103,7 @@ turned_so server first old new turns end made idles = record {
   end = end;
   made = made;
   idles = idles;
-  own = [];
-  only_own = λ i d lt. omega (arith, lt);
-  logged = sym (append-nil (logged_by turns));
+  logged = refl;
 }
 
 pub cut_so : {X C : Type 0} (server : Server X C) (first : X) (n : ℕ) (turns : List Turn) (end : ℕ) (cut : List Event) → length turns < n → AreTurns server first [] 0 turns end

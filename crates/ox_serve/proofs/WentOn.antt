@@ -20,7 +20,7 @@ use Rattle.ox_links.specs.Quiet.{Speaks}
 use Rattle.ox_links.specs.Rotation.{Who, door_of, link_of}
 use Rattle.ox_links.specs.Serving.{Server, served_by}
 use Rattle.ox_links.specs.Survives.{Survives}
-use Rattle.ox_links.specs.Turned.{AreTurns, CountsIdles, CutShort, IsTurn, Turn, Turned, logged_by}
+use Rattle.ox_links.specs.Turned.{AreTurns, CountsIdles, CutShort, IsFewer, IsTurn, Turn, Turned, logged_by}
 use Rattle.ox_turns.specs.Follows.{Follows, ShowsFrontsIn, Start}
 use Rattle.ox_turns.specs.Places.{Places}
 use Rattle.ox_turns.specs.declared.slot.Slot.{Slot}
@@ -130,6 +130,15 @@ module _ {X C D : Type 0} (server : Server X C) (speaks : Speaks server) (state 
     logged_by went.turns ++ cut.events,
     cut.logged ∙ ap (λ (l : List Event). Some l) (append_assoc past (logged_by went.turns) cut.events),
     cut_so server (state desk) times went.turns places.place cut.events (let e = went.many in omega (arith, e, fewer)) went.made cut.cut,
+  )
+
+  -- a turn that logged nothing, and ended the run
+  pub went_fewer : (n times : ℕ) (places : Places) (log now : Option (List Event)) (new : Counts) (next : D) → n < times → Went n places log new next → now ≡ log
+      → (added : List Event) × (now ≡ Some (past ++ added)) × IsFewer server (state desk) times added
+  went_fewer n times places log now new next fewer went same = (
+    logged_by went.turns,
+    same ∙ went.logged,
+    record { turns = went.turns; fewer = let e = went.many in omega (arith, e, fewer); end = places.place; made = went.made; logged = refl },
   )
 
   -- what was shown behind them, and where one was cut short

@@ -5,7 +5,7 @@ ghost use Rattle.ox_outside.specs.Counts.{Rose, StopsAtFault, greatest};
 ghost use Rattle.ox_outside.specs.Log.{Grows};
 ghost use Rattle.ox_outside.specs.Runs.{Calls, LeavesOnly};
 ghost use Rattle.ox_links.specs.Survives.{Survives};
-ghost use Rattle.ox_links.specs.Turned.{CutShort};
+ghost use Rattle.ox_links.specs.Turned.{CutShort, IsFewer};
 ghost use Rattle.ox_turns.specs.Follows.{ShowsFrontsIn};
 ghost use Rattle.ox_serve.specs.Runs.{MadeTurns};
 ghost use Rattle.ox_serve.specs.declared.fault.ServeFault.TheVariants as faults;
@@ -18,7 +18,8 @@ use std::alloc::Global;
 
 /// Makes so many turns of a server that no link has come to yet. `Memory` where there is none for
 /// its slots and for the room of a hearing: then neither desk nor site was called. `DiskFault` and
-/// `DoorFault` only where that count rose in the call.
+/// `DoorFault` only where that count rose in the call; at `DoorFault` fewer turns were made, and
+/// no other was begun.
 pub fn serve_from<S: Site, D: Desk<S>>(
     alloc: Global,
     times: u64,
@@ -33,6 +34,8 @@ pub fn serve_from<S: Site, D: Desk<S>>(
     ensures cut { OnErr result (result ≢ Err faults.Memory
         → Grows (CutShort D.server (D.state desk.old) times) (S.log site.old) (S.log site.new)) }
     ensures memory { IsErrOf result ServeFault.Memory → site.new ≡ site.old }
+    ensures fewer { IsErrOf result ServeFault.DoorFault
+        → Grows (IsFewer D.server (D.state desk.old) times) (S.log site.old) (S.log site.new) }
     ensures fronts { Grows (ShowsFrontsIn D.server (D.state desk.old)) (S.log site.old)
         (S.log site.new) }
     ensures survives { IsTrue (S.told site.old) → LeavesOnly S.Site site.old site.new (λ r.

@@ -6,7 +6,7 @@ ghost use Rattle.ox_outside.specs.Counts.{Rose, StopsAtFault, greatest};
 ghost use Rattle.ox_outside.specs.Log.{Grows};
 ghost use Rattle.ox_outside.specs.Runs.{Calls, LeavesOnly};
 ghost use Rattle.ox_links.specs.Survives.{Survives};
-ghost use Rattle.ox_links.specs.Turned.{CutShort};
+ghost use Rattle.ox_links.specs.Turned.{CutShort, IsFewer};
 ghost use Rattle.ox_turns.specs.Follows.{Follows, ShowsFrontsIn};
 ghost use Rattle.ox_turns.specs.declared.turns.TurnFault.TheVariants as faults;
 ghost use Rattle.ox_serve.specs.Runs.{MadeTurns};
@@ -32,6 +32,8 @@ pub(crate) fn go_round<S: Site, D: Desk<S>>(
         (S.log site.old) (S.log site.new)) }
     ensures cut { OnErr result (Grows (CutShort D.server (D.state desk.old) times)
         (S.log site.old) (S.log site.new)) }
+    ensures fewer { IsErrOf result TurnFault.DoorFault
+        → Grows (IsFewer D.server (D.state desk.old) times) (S.log site.old) (S.log site.new) }
     ensures fronts { Grows (ShowsFrontsIn D.server (D.state desk.old)) (S.log site.old)
         (S.log site.new) }
     ensures survives { IsTrue (S.told site.old) → LeavesOnly S.Site site.old site.new (λ r.

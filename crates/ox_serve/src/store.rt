@@ -6,7 +6,7 @@ ghost use Rattle.ox_outside.specs.Log.{Grows};
 ghost use Rattle.ox_outside.specs.Runs.{Calls, LeavesOnly};
 ghost use Rattle.ox_gated.specs.Tail.{Holds};
 ghost use Rattle.ox_links.specs.Survives.{Survives};
-ghost use Rattle.ox_links.specs.Turned.{CutShort};
+ghost use Rattle.ox_links.specs.Turned.{CutShort, IsFewer};
 ghost use Rattle.ox_turns.specs.Follows.{ShowsFrontsIn};
 ghost use Rattle.ox_files.specs.Stands.{stands};
 ghost use Rattle.ox_desk.specs.Servers.{server_on};
@@ -34,7 +34,8 @@ pub struct Totals {
 /// Serves links by a store that was just opened, for so many turns: it answers requests, and
 /// carries out the commands of the operator's links. All memory of its own is taken before the
 /// first turn, so that `Memory` comes with nothing done. `DiskFault` and `DoorFault` only where
-/// that count rose in the call, which ends with it; a link's faults end that link alone.
+/// that count rose in the call, which ends with it; at `DoorFault` fewer turns were made, and no
+/// other was begun. A link's faults end that link alone.
 pub fn serve<S: Site>(
     alloc: Global,
     store: Store,
@@ -50,6 +51,8 @@ pub fn serve<S: Site>(
         (S.log site.old) (S.log site.new)) }
     ensures cut { OnErr result (result ≢ Err faults.Memory
         → Grows (CutShort server_on store.stack turns) (S.log site.old) (S.log site.new)) }
+    ensures fewer { IsErrOf result ServeFault.DoorFault
+        → Grows (IsFewer server_on store.stack turns) (S.log site.old) (S.log site.new) }
     ensures memory { IsErrOf result ServeFault.Memory → site.new ≡ site.old }
     // However it ended: on each link a front of its answers is shown, and at each moment files and
     // log survive a crash.

@@ -2,9 +2,11 @@ use Rattle.std.proofs.Common.{◌≡◌, ◌∙◌, arith}
 use Rattle.std.proofs.lemmas.Result.{err_from_is_err_and}
 use Rattle.ox_outside.proofs.Calls.{calls_then}
 use Rattle.ox_outside.proofs.Counts.{no_fault_then, went_on}
+use Rattle.std.specs.Prelude.{Err}
 use Rattle.ox_links.specs.Turned.{logged_by}
+use Rattle.ox_turns.specs.declared.turns.TurnFault.TheVariants.{DoorFault}
 use Rattle.ox_serve.proofs.Asking.{http_speaks}
-use Rattle.ox_serve.proofs.WentOn.{can_follow, cut_shown, grows_by, lasts_more, went_all, went_cut, went_more, went_shown}
+use Rattle.ox_serve.proofs.WentOn.{can_follow, cut_shown, grows_by, lasts_more, went_all, went_cut, went_fewer, went_more, went_shown}
 use Rattle.ox_serve.proofs.round.go_round.Goals as goal
 
 pub turn-requires-clause-follows : goal.turn-requires-clause-follows
@@ -25,6 +27,17 @@ returns-in_err-turn-clause-cut g c =
     let went = kept.3 past is in
     went_cut desk.server (http_speaks desk.server g.met.D.Desk.http) desk.state desk.moved desk.same past _ c.args.desk.now c.loop.counter c.args.times c.loop.turns _ _ _ c.loop.desk
     c.loop-test.true went (turn.cut (record { log = past; state = desk.state c.args.desk.now }) (logged_by went.turns) went.logged went.follows)))
+
+pub returns-in_err-turn-clause-fewer : goal.returns-in_err-turn-clause-fewer
+returns-in_err-turn-clause-fewer g c is =
+    let p = err_from_is_err_and c.from_residual.result c.from_residual.ensures.1 in
+    let desk = g.D.Desk in
+    let kept = c.loop.invariant in
+    let turn = c.in_err-turn.ensures in
+    let fails : c.turn.result ≡ Err DoorFault = cc (is, p.1, p.2) in
+    grows_by _ (g.S.Site.log c.args.site.now) (g.S.Site.log c.turn.new.site) (λ none. turn.untold (kept.2 none)) (λ past at.
+    went_fewer desk.server (http_speaks desk.server g.met.D.Desk.http) desk.state desk.moved desk.same past _ c.args.desk.now c.loop.counter c.args.times c.loop.turns _ _ _ c.loop.desk
+    c.loop-test.true (kept.3 past at) (c.turn.ensures.door_logs fails))
 
 pub returns-in_err-turn-clause-fronts : goal.returns-in_err-turn-clause-fronts
 returns-in_err-turn-clause-fronts g c =
