@@ -391,4 +391,5 @@ def main():
     write_rows("ox_block_rows", stdin, stdout)
 
 
-main()
+if __name__ == "__main__":
+    main()

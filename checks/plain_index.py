@@ -7,6 +7,7 @@ satoshis, and that it has no byte or too many. Whether it is well formed else, h
 front and commits to its witnesses isn't looked at.
 """
 
+import re
 from typing import NamedTuple
 
 from row_ends import cut, first_of, joined
@@ -19,6 +20,7 @@ IF, ENDIF, NEGATE, ONE, SIXTEEN = 0x63, 0x68, 0x4F, 0x51, 0x60
 U32, U64, U128 = (1 << 32) - 1, (1 << 64) - 1, (1 << 128) - 1
 NO_BLOCK = bytes(32)
 MOST_BYTES = 4_000_000
+ZEROS = re.compile(rb"\0*")
 # the tags of an envelope's fields
 KNOWN = (1, 2, 3, 5, 7, 9, 11)
 
@@ -128,6 +130,11 @@ def items_of(script):
     """A script's items, pushes as bytes and opcodes as numbers, and whether it is cut."""
     items, at = [], 0
     while at < len(script):
+        if script[at] == 0:
+            # empty pushes, all that follow one another
+            first, at = at, ZEROS.match(script, at).end()
+            items += (at - first) * [b""]
+            continue
         opcode, at = script[at], at + 1
         if opcode >= NEGATE:
             items.append(opcode)
@@ -161,19 +168,18 @@ def pushed(item):
 def envelopes(script):
     """Each envelope's pushes, and whether one of them is a number."""
     items, is_cut = items_of(script)
-    at = 0
-    while not is_cut and at < len(items):
-        if items[at : at + 3] != [b"", IF, b"ord"]:
-            at += 1
+    end = -1
+    for at in [] if is_cut else [at for at, item in enumerate(items) if item == IF]:
+        # the one before is behind the last envelope
+        if at - 1 <= end or items[at - 1 : at + 2] != [b"", IF, b"ord"]:
             continue
-        end = at + 3
+        end = at + 2
         while end < len(items) and pushed(items[end]) is not None:
             end += 1
-        inside = items[at + 3 : end]
+        inside = items[at + 2 : end]
         if items[end : end + 1] == [ENDIF]:
             numbers = any(not isinstance(item, bytes) for item in inside)
             yield [pushed(item) for item in inside], numbers
-        at = end + 1
 
 
 def id_of(value):

@@ -6,12 +6,13 @@ at the files' bytes.
 
 No proof says which bytes a real file gives or takes, so this tries it: each subcommand, each status
 but 9, which would take 4,611,686,018,427,387,904 bytes, the bytes of both files after each line
-(checks/store_files.py), a content of 3,900,000 bytes, satoshis among 500,000 outputs
+(checks/store_files.py), a content of 3,900,000 bytes, blocks that ask for as much work as they can
+and blocks whose counts lie (checks/hostile_blocks.py), satoshis among 500,000 outputs
 (checks/table.py), and fifty kills of a running `apply` (checks/kills.py). Each check has a new
 folder, below out/ beside this script, that is gone where it passed. A check that fails is told with
 its cause, and its folder stays. The last line says how many passed and how many failed, and the
 status is 1 where one failed. PROGRAM is crates/ox_main/out/ox_main without a word, which `rt ci`
-and `rt run` leave there. It takes half a minute to a minute and a half.
+and `rt run` leave there. It takes one to two minutes.
 """
 
 import collections
@@ -28,6 +29,7 @@ import tempfile
 import time
 import traceback
 
+import hostile_blocks
 import made_blocks
 import old_files
 import store_faults
@@ -585,6 +587,42 @@ def first_replies(ox):
     ox.says("/sat/0", told | {"place": place, "rarity": "mythic"})
 
 
+# Blocks that mean no good.
+
+
+def takes_in(make):
+    """A check that the blocks which are made so are taken in by lab."""
+
+    def function(ox):
+        blocks = make()
+        ox.wants((0, b"ok empty\n"), "init", "lab", "100")
+        tips = [twice(block[:80])[::-1].hex() for block in blocks]
+        wanted = b"".join(answer(height, tips) for height in range(len(blocks)))
+        ox.wants((0, wanted), "apply", feed=b"".join(map(line, blocks)))
+        ox.has(*files_of(map(payload_of, blocks), "lab", 100))
+
+    return function
+
+
+for what, make in hostile_blocks.HOSTILE.items():
+    check(f"{what} are taken in within {SECONDS} seconds")(takes_in(make))
+
+
+def little():
+    resource.setrlimit(resource.RLIMIT_AS, (LITTLE, LITTLE))
+
+
+@check("a block whose count or length lies is refused at its place, in little memory, and not by 8")
+def lying_counts(ox):
+    ox.init()
+    for what, block, place in hostile_blocks.lying_blocks():
+        told = f"refused 3 {place}\n".encode()
+        for words in (("fold", "regtest"), ("apply",)):
+            got = ox.run(*words, feed=line(block), preexec_fn=little)
+            demand(got == (0, told), f"{what}: {words} ended with {value_text(got)}, not {told}")
+    ox.has(EMPTY_A, EMPTY_B)
+
+
 def asked_satoshis(table):
     """Satoshis at both ends of runs of one output, one that is lost, and one that isn't mined."""
     runs = max((row[1] for row in table.rows.values()), key=len)
@@ -877,14 +915,28 @@ def not_store(ox):
         ox.has(a, b)
 
 
-@check("status 3, and not 8: a body whose lists tell four billion items, under a limit of memory")
-def lying_bodies(ox):
-    def limit():
-        resource.setrlimit(resource.RLIMIT_AS, (LITTLE, LITTLE))
-
+def lying_files():
+    """Files A whose counts and lengths lie, and the place that is told."""
+    (block,), _ = chain(1)
+    whole = file_a([block])
     for a in store_faults.lying_bodies():
+        yield a, 26
+    for length in (8 * b"\xff", 7 * b"\xff" + b"\x7f", 4 * b"\xff" + 4 * b"\0"):
+        yield EMPTY_A[:18] + length + EMPTY_A[26:], 26
+    for length in (4 * b"\xff", 3 * b"\xff" + b"\x7f"):
+        yield whole[:55] + length + whole[59:], 54
+
+
+@check("status 3, and not 8: files whose counts and lengths tell four billion, in little memory")
+def lying_in_files(ox):
+    for a, place in lying_files():
         ox.write(a, EMPTY_B)
-        ox.wants((3, b"not a store a 26\n"), "query", "/status", preexec_fn=limit)
+        for words in (("query", "/status"), ("apply",), ("migrate",)):
+            if words == ("migrate",):
+                wanted = (3, b"not a store a 6\n")
+            else:
+                wanted = (3, f"not a store a {place}\n".encode())
+            ox.wants(wanted, *words, preexec_fn=little)
 
 
 @check("status 4: a folder or a file that can't be opened")

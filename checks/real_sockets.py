@@ -1,17 +1,17 @@
 #!/usr/bin/env python3
 """Runs the built program as a server on loopback, and looks at what real clients get.
 
-    python3 checks/real_sockets.py [PROGRAM]
+    python3 checks/real_sockets.py [PROGRAM [KILLS]]
 
 No proof says which bytes a socket gives or takes, so this tries it: curl and Python's client,
 requests in single bytes and a thousand at once, clients that close half of a link, reset it or
-never read, more links than there are slots, bodies that are too long, a block of four million
-bytes, addresses that can't be had, a folder that another program has, kills during posts, and the
-processor that an idle server takes. Each check has a new folder below out/ beside this script,
-that is gone where it passed. A check that fails is told with its cause, and its folder stays. The
-last line says how many passed and how many failed, and the status is 1 where one failed. PROGRAM is
-crates/ox_main/out/ox_main without a word, which `rt ci` and `rt run` leave there. It takes about a
-minute.
+never read, more links than there are slots, bodies that are too long or never come, a block of four
+million bytes, addresses that can't be had, a folder that another program has, kills during posts,
+and the processor that an idle server takes. Each check has a new folder below out/ beside this
+script, that is gone where it passed. A check that fails is told with its cause, and its folder
+stays. The last line says how many passed and how many failed, and the status is 1 where one failed.
+PROGRAM is crates/ox_main/out/ox_main without a word, which `rt ci` and `rt run` leave there. It
+takes about a minute. KILLS says how often a server is killed, 20 without a word.
 """
 
 import contextlib
@@ -19,6 +19,7 @@ import http.client
 import json
 import pathlib
 import random
+import resource
 import shutil
 import signal
 import socket
@@ -42,6 +43,7 @@ SLOTS = 32
 KILLS = 20
 SEED = 1
 IDLE_NANOSECONDS = 20_000_000
+LITTLE = 64_000_000
 PHRASES = {
     200: "OK",
     400: "Bad Request",
@@ -127,8 +129,8 @@ STATUS = get("/status")
 class Server:
     """The program over a folder of its own, at two ports."""
 
-    def __init__(self, program, folder):
-        self.program, self.folder = program, folder
+    def __init__(self, program, folder, kills=KILLS):
+        self.program, self.folder, self.kills = program, folder, kills
         self.public, self.operator = free_ports()
         self.child = None
 
@@ -152,12 +154,11 @@ class Server:
         return f"127.0.0.1:{self.public}", f"127.0.0.1:{self.operator}"
 
     @contextlib.contextmanager
-    def serving(self, turns=TURNS):
+    def serving(self, turns=TURNS, **how):
         """Serves, and is stopped in the end, where it hasn't ended by itself."""
         words = [self.program, self.folder, "serve", turns, *self.addresses()]
-        self.child = subprocess.Popen(
-            words, stdin=subprocess.DEVNULL, stdout=subprocess.PIPE, stderr=subprocess.DEVNULL
-        )
+        how = {"stdout": subprocess.PIPE, "stderr": subprocess.DEVNULL, **how}
+        self.child = subprocess.Popen(words, stdin=subprocess.DEVNULL, **how)
         try:
             self.wait()
             yield self
@@ -362,6 +363,29 @@ def more_than_slots(server):
         wants(exactly(late, len(wanted)), wanted)
 
 
+def little():
+    resource.setrlimit(resource.RLIMIT_AS, (LITTLE, LITTLE))
+
+
+@check("beside 31 links that tell of 4,000,000 bytes and send none another one is served")
+def bodies_that_never_come(server):
+    blocks, tips = chain(1)
+    server.init()
+    head = b"POST /connect HTTP/1.1\r\nContent-Length: 4000000\r\n\r\n"
+    with server.serving(preexec_fn=little), contextlib.ExitStack() as links:
+        for number in range(SLOTS - 1):
+            port = server.operator if number % 2 else server.public
+            links.enter_context(server.link(port)).sendall(head)
+        with server.link(server.operator) as link:
+            for request, wanted in [
+                (STATUS, status_of(0, None)),
+                (post("/connect", blocks[0]), newest(tips, 0)),
+                (STATUS, status_of(1, tips[0])),
+            ]:
+                link.sendall(request)
+                wants(exactly(link, len(wanted)), wanted)
+
+
 # Commands.
 
 
@@ -507,15 +531,22 @@ def no_address(server):
             demand(got == (7, b""), f"at {one} and {two} it ended with {got}")
 
 
+def begin_anew(server):
+    """An empty store in place of the one that is there, if there is one."""
+    for name in ("a.ox", "b.ox"):
+        (server.folder / name).unlink(missing_ok=True)
+    server.init()
+
+
 @check("whatever is posted when the program is killed, the store has what was answered")
 def killed(server):
     chance = random.Random(SEED)
     blocks, tips = chain(400)
-    server.init()
-    have = 0
-    for _ in range(KILLS):
+    have = len(blocks)
+    for _ in range(server.kills):
         if have == len(blocks):
-            break
+            begin_anew(server)
+            have = 0
         with server.serving(), server.link(server.operator) as operator:
             ends = time.monotonic() + chance.uniform(0, 0.2)
             with contextlib.suppress(ConnectionResetError, BrokenPipeError):
@@ -562,13 +593,14 @@ def processor_time(pid):
 
 def main():
     program = pathlib.Path(sys.argv[1] if len(sys.argv) > 1 else PROGRAM).resolve()
+    kills = int(sys.argv[2]) if len(sys.argv) > 2 else KILLS
     out = pathlib.Path(__file__).resolve().parent / "out"
     out.mkdir(exist_ok=True)
     failed = 0
     for what, function in checks:
         folder = pathlib.Path(tempfile.mkdtemp(dir=out))
         try:
-            function(Server(program, folder))
+            function(Server(program, folder, kills))
         except Exception as fault:
             failed += 1
             told = fault if isinstance(fault, Failed) else traceback.format_exc()
