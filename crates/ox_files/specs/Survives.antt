@@ -1,5 +1,5 @@
 -- What a crash leaves of a run over a feed and a store.
-use Rattle.std.specs.Prelude.{◌≡◌, ◌⊎◌, ℕ, suc, ◌≤◌, List, ◌++◌, take, Ok}
+use Rattle.std.specs.Prelude.{◌≡◌, ◌⊎◌, ℕ, suc, ◌≤◌, List, take, Ok}
 use Rattle.std.specs.List.{concat}
 use Rattle.ox_outside.specs.Event.{Event, shown_bytes}
 use Rattle.ox_outside.specs.Files.{Files}

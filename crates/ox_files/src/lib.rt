@@ -16,9 +16,11 @@ ghost use Rattle.ox_files.specs.Runs.{LastOf, Run, RunInTurn};
 ghost use Rattle.ox_files.specs.Stands.{stands};
 
 mod head;
+mod laws;
 mod payload;
 
 pub use head::profile_of_head;
+pub use laws::{moments_come_in_turn, old_stores_follow_chains};
 pub use payload::{CONNECT, DISCONNECT};
 
 /// Of a stack that files stand for each index is sound: the newest, and each of the older ones.
