@@ -1,4 +1,5 @@
--- What restoring a chain answers where it gives none. Want of memory is free, and nothing else.
+-- What restoring a chain answers where it gives none. Out of memory may be answered at any time,
+-- and nothing else.
 use Rattle.std.specs.Prelude.{◌≡◌, ℕ, Result, Err}
 use Rattle.ox_model.specs.Stack.{Stack}
 use Rattle.ox_files.specs.Stands.{or_place}
