@@ -1,4 +1,4 @@
--- What the replay of a file answers. Want of memory is free, and nothing else.
+-- What the replay of a file answers. Out of memory may be answered at any time, and nothing else.
 use Rattle.std.specs.Prelude.{◌≡◌, ℕ, Result, Err}
 use Rattle.ox_feed.specs.declared.command.Command.{Command}
 use Rattle.ox_feed.specs.declared.command.Command.TheVariants.{Connect, Disconnect}
