@@ -121,7 +121,7 @@ spared_other tail made head gate old mid new turned same spared =
 pub old_or_migrated : (file : Which) (whole : Whole) (old files image : Files) (made : Stack × ℕ) → files ≡ old → StaysOld old → old_stands old ≡ Ok made → whole.head.version ≡ 2
     → stack_in_file whole.head whole.body [] ≡ Ok made.0 → IsOldOrNew file whole files image → IsOldOrMigrated old image
 old_or_migrated file whole old files image made same stays is two leads = ⊎_elim
-    (λ alike. inl (stays image (subst (λ (f : Files). ReadsAlike f image) same alike)))
+    (λ alike. let as_old = subst (λ (f : Files). ReadsAlike f image) same alike in inl (as_old, stays image as_old))
     (λ new. inr (made, is, after_turn file whole image made.0 two leads new))
 
 -- and from the opening of the files on

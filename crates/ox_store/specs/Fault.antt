@@ -1,4 +1,5 @@
--- What the answers of a store say of the definitions. Want of memory is free, and nothing else.
+-- What the answers of a store say of the definitions. Out of memory may be answered at
+-- any time, and nothing else.
 use Rattle.std.specs.Prelude.{◌≡◌, Result, Err}
 use Rattle.ox_outside.specs.declared.site.Which.{Which}
 use Rattle.ox_model.specs.Stack.{Stack}

@@ -1,5 +1,5 @@
--- What the migration of a store of version 1 answers and leaves. Want of memory is free, and
--- nothing else.
+-- What the migration of a store of version 1 answers and leaves. Out of memory may be answered at
+-- any time, and nothing else.
 use Rattle.std.specs.Prelude.{◌≡◌, ◌⊎◌, ℕ, Result, Ok, Err}
 use Rattle.ox_outside.specs.Files.{Files, other}
 use Rattle.ox_outside.specs.declared.site.Which.{Which}
@@ -45,8 +45,9 @@ pub record HasMigrated (found : Found) (tail : Kept) : Type 0 where
 abbrev pub StaysOld : Files → Type 0
 StaysOld files = (image : Files) → ReadsAlike files image → old_stands image ≡ old_stands files
 
--- files that stand for what these stand for at version 1, or for that stack at version 2
+-- Files that are read as these, whichever version is read, and so have the same commands, which
+-- lead to the same stack; or files that stand for that stack at version 2.
 abbrev pub IsOldOrMigrated : Files → Files → Type 0
 IsOldOrMigrated files image =
-    (old_stands image ≡ old_stands files)
+    (ReadsAlike files image × (old_stands image ≡ old_stands files))
     ⊎ ((made : Stack × ℕ) × (old_stands files ≡ Ok made) × (stands image ≡ Ok made.0))

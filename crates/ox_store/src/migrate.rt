@@ -49,10 +49,10 @@ impl Store {
     /// generation, which takes the place of the current one. That stays as it is. At `Ok` it is on
     /// the disk: each crash then leaves files that stand for the stack that the commands lead to.
     ///
-    /// It begins with a sync of both files. At any moment of the call a crash leaves what it might
-    /// have left before it; or files that stand for what they stood for at version 1, or for that
-    /// stack at version 2. So after a crash one of the two stores is there, whole. No event of a
-    /// channel is logged.
+    /// It begins with a sync (`fsync`) of both files. At any moment of the call a crash leaves what
+    /// it might have left before it; or files that are read as before, with the same commands, or
+    /// that stand for that stack at version 2. So after a crash one of the two stores is there,
+    /// whole. No event of a channel is logged.
     ///
     /// Where the files stand for no such stack the first test that fails decides: `NotStore`, with
     /// the file and the place of that test, where it is one of their form, or where the generation
