@@ -3,12 +3,14 @@ use Rattle.std.proofs.Common.{◌≡◌, ◌∙◌, ◌≤◌, ℕ, zero, suc, L
 use Rattle.std.specs.Prelude.{Option, Some, None, Result, Ok, Err, slice_get}
 use Rattle.std.proofs.lemmas.Option.{same_Some}
 use Rattle.std.specs.Result.{OnOk}
-use Rattle.ox_model.specs.Change.{IsChange}
-use Rattle.ox_model.specs.Ends.{LeadDown}
+use Rattle.ox_sat.specs.declared.profiles.Profile.{Profile}
+use Rattle.ox_model.specs.Change.{IsChange, redone, undone}
+use Rattle.ox_model.specs.Ends.{AllEnd, LeadDown}
 use Rattle.ox_model.specs.Index.{Index}
-use Rattle.ox_model.specs.Stack.{Stack, with_index}
+use Rattle.ox_model.specs.Sound.{IsSound}
+use Rattle.ox_model.specs.Stack.{Stack, back_to, with_index}
 use Rattle.ox_model.specs.declared.change.Change.{Change}
-use Rattle.ox_model.proofs.Changes.{goes_redone}
+use Rattle.ox_model.proofs.Changes.{goes_redone, goes_undone}
 use Rattle.ox_rules.specs.declared.refusal.Refusal.{Refusal}
 use Rattle.ox_index.specs.Earlier.{LeadsBy}
 use Rattle.ox_store.specs.Ready.{HasChange, left_by}
@@ -19,6 +21,10 @@ no_change = None
 pub on_ok : {A E P Q : Type 0} (r : Result A E) → (P → Q) → OnOk r P → OnOk r Q
 on_ok (Ok a) f p = f p
 on_ok (Err e) f p = p
+
+pub on_both : {A E P Q R : Type 0} (r : Result A E) → (P → Q → R) → OnOk r P → OnOk r Q → OnOk r R
+on_both (Ok a) f p q = f p q
+on_both (Err e) f p q = q
 
 first_kept : (depth : ℕ) (stack : Stack) (index : Index) (older : List Index) → 1 ≤ depth → left_by stack (take depth (index ∷ older)) no_change ≡ index
 first_kept zero stack index older some = absurd (omega (arith, some))
@@ -54,10 +60,18 @@ pub left_back : (stack : Stack) (left : Index) (taken : Option Change) → Leads
 left_back stack left (Some change) leads = goes_redone stack.index left change leads
 left_back stack left None leads = absurd leads
 
-pub change_back : (stack : Stack) (left : Index) (taken : Option Change) → LeadsBy stack.index left taken → HasChange stack taken
-change_back stack left (Some change) leads =
-    subst (λ (index : Index). IsChange stack.index index change) (sym (goes_redone stack.index left change leads)) leads
-change_back stack left None leads = absurd leads
+gone_back : (stack new : Stack) (older : List Index) → back_to stack older ≡ Ok new → new.profile ≡ stack.profile
+gone_back stack new [] is = absurd (cc is)
+gone_back stack new (index ∷ older) is = cc is
+
+pub change_back : (stack new : Stack) (taken : Option Change) → IsSound stack.profile stack.index → back_to stack stack.older ≡ Ok new → LeadsBy new.index stack.index taken → HasChange new taken
+change_back stack new (Some change) sound is leads =
+    let there = sym (goes_redone new.index stack.index change leads) in
+    let same = sym (gone_back stack new stack.older is) in record {
+      leads = subst (λ (index : Index). IsChange new.index index change) there leads;
+      sound = subst (λ (p : Profile). IsSound p (redone new.index change)) same (subst (IsSound stack.profile) there sound);
+    }
+change_back stack new None sound is leads = absurd leads
 
 -- the newest change that is kept leads on from it, where no block was taken back
 pub moves_on : (stack : Stack) (older : List Index) (taken : Option Change) (changes : List Change) (change : Change) → None ≡ taken → LeadDown stack.index older changes
@@ -68,3 +82,23 @@ moves_on stack (left ∷ older) taken [] change none lead first = absurd lead
 moves_on stack (left ∷ older) taken (newest ∷ changes) change none lead first =
     subst (λ (t : Option Change). IsChange (left_by stack (left ∷ older) t) stack.index change) none
     (subst (λ (d : Change). IsChange left stack.index d) (sym (same_Some change newest first)) lead.0)
+
+-- and the index from which it leads is sound
+pub sound_on : (stack : Stack) (older : List Index) (taken : Option Change) (changes : List Change) (change : Change) → None ≡ taken → LeadDown stack.index older changes
+    → AllEnd stack.profile stack.index changes → Some change ≡ slice_get changes 0 → IsSound stack.profile (left_by stack older taken)
+sound_on stack [] taken [] change none lead end first = absurd (cc first)
+sound_on stack [] taken (newest ∷ changes) change none lead end first = absurd lead
+sound_on stack (left ∷ older) taken [] change none lead end first = absurd lead
+sound_on stack (left ∷ older) taken (newest ∷ changes) change none lead end first =
+    subst (λ (t : Option Change). IsSound stack.profile (left_by stack (left ∷ older) t)) none
+    (subst (IsSound stack.profile) (goes_undone left stack.index newest lead.0) end.0.sound)
+
+-- of a block that was taken back
+pub moves_back : (stack : Stack) (older : List Index) (taken : Option Change) (change : Change) → Some change ≡ taken → HasChange stack taken → IsChange stack.index (left_by stack older taken) change
+moves_back stack older (Some back) change is has =
+    subst (λ (d : Change). IsChange stack.index (redone stack.index back) d) (sym (same_Some change back is)) has.leads
+moves_back stack older None change is has = absurd (cc is)
+
+pub sound_back : (stack : Stack) (older : List Index) (taken : Option Change) (change : Change) → Some change ≡ taken → HasChange stack taken → IsSound stack.profile (left_by stack older taken)
+sound_back stack older (Some back) change is has = has.sound
+sound_back stack older None change is has = absurd (cc is)

@@ -4,6 +4,7 @@ use Rattle.ox_outside.specs.Files.{Files}
 use Rattle.ox_feed.specs.declared.command.Command.{Command}
 use Rattle.ox_gated.specs.Tail.{Kept}
 use Rattle.ox_model.specs.Change.{IsChange, redone}
+use Rattle.ox_model.specs.Ends.{BeginsIn}
 use Rattle.ox_model.specs.Index.{Index}
 use Rattle.ox_model.specs.Stack.{Stack, stack_after}
 use Rattle.ox_files.specs.Stands.{stands}
@@ -56,7 +57,8 @@ left_by stack older (Some change) = redone stack.index change
 left_by stack (left ∷ older) None = left
 left_by stack [] None = stack.index
 
--- the change of the command is there: the one that was taken back, or the newest that is kept
+-- The change of the command is there: the one that was taken back, which led to a sound index, or
+-- the newest that is kept.
 abbrev pub HasChange : Stack → Option Change → Type 0
-HasChange stack (Some change) = IsChange stack.index (redone stack.index change) change
+HasChange stack (Some change) = BeginsIn stack.profile stack.index change
 HasChange stack None = 1 ≤ length stack.older

@@ -65,6 +65,7 @@ impl Model for Ready {
 }
 
 impl Ready {
+    ghost use Rattle.ox_model.specs.Sound.{IsSound};
     ghost use Rattle.ox_model.specs.Stack.{Stack};
     ghost use Rattle.ox_files.specs.Stands.{stands};
     ghost use Rattle.ox_store.specs.Ready.{Leads, Moves, StandsForEither};
@@ -79,9 +80,12 @@ impl Ready {
         self.chain.live().tip()
     }
 
-    /// The command's own change: that of the block that it connects, or takes back.
+    /// The command's own change: that of the block that it connects, or takes back. The index
+    /// before the command and the one after it are sound.
     pub fn moving(&self) -> Moving<'_>
-        ensures { Moves self.now.left self.now.stack.index result }
+        ensures moves { Moves self.now.left self.now.stack.index result }
+        ensures before { IsSound self.now.stack.profile self.now.left }
+        ensures after { IsSound self.now.stack.profile self.now.stack.index }
     {
         match self.chain.taken_back() {
             Some(change) => Moving::Back(change),
