@@ -43,7 +43,7 @@ module _ {S : Type 0} (means : Meanings S) where
 
     either_store : (old : S) (r : Remains) → old_stands (means.seen old) ≡ Ok (stack, commands) → (means.may_leave old r ⊎ IsOldOrMigrated (means.seen old) r.files) → LeavesMigrating means.may_leave old stack commands r.files []
     either_store old r stood (inl left) = inl (r, left, refl)
-    either_store old r stood (inr (inl same)) = inr (inl (same ∙ stood))
+    either_store old r stood (inr (inl same)) = inr (inl (same.1 ∙ stood))
     either_store old r stood (inr (inr (made, is, migrated))) =
         inr (inr (migrated ∙ ap (λ (m : Stack × ℕ). Ok m.0) (same_made (old_stands (means.seen old)) made (stack, commands) is stood)))
 
