@@ -4,22 +4,28 @@
     python3 checks/real_sockets.py [PROGRAM [KILLS]]
 
 No proof says which bytes a socket gives or takes, so this tries it: curl and Python's client,
-requests in single bytes and a thousand at once, clients that close half of a link, reset it or
-never read, more links than there are slots, bodies that are too long or never come, a block of four
-million bytes, addresses that can't be had, a folder that another program has, kills during posts,
-and the processor that an idle server takes. Each check has a new folder below out/ beside this
-script, that is gone where it passed. A check that fails is told with its cause, and its folder
-stays. The last line says how many passed and how many failed, and the status is 1 where one failed.
-PROGRAM is crates/ox_main/out/ox_main without a word, which `rt ci` and `rt run` leave there. It
-takes about a minute. KILLS says how often a server is killed, 20 without a word.
+requests in single bytes and a thousand at once, clients that close half of a link, reset it, never
+read, read late, send a byte now and then or an urgent one, more links than there are slots, bodies
+that are too long or never come, a block of four million bytes, addresses that can't be had, a
+listener that ends, a folder that another program has, kills during posts, and the processor that an
+idle server takes.
+Each check has a new folder below out/ beside this script, that is gone where it passed. A check
+that fails is told with its cause, and its folder stays. The last line says how many passed and how
+many failed, and the status is 1 where one failed. PROGRAM is crates/ox_main/out/ox_main without a
+word, which `rt ci` and `rt run` leave there. It takes a minute and a quarter, for which the longest
+check waits beside the others. KILLS says how often a server is killed, 20 without a word.
 """
 
 import contextlib
+import ctypes
 import http.client
+import itertools
 import json
+import os
 import pathlib
 import random
 import resource
+import select
 import shutil
 import signal
 import socket
@@ -27,6 +33,7 @@ import struct
 import subprocess
 import sys
 import tempfile
+import threading
 import time
 import traceback
 
@@ -44,6 +51,8 @@ KILLS = 20
 SEED = 1
 IDLE_NANOSECONDS = 20_000_000
 LITTLE = 64_000_000
+# the number of the system's call that takes a descriptor of another process
+PIDFD_GETFD = 438
 PHRASES = {
     200: "OK",
     400: "Bad Request",
@@ -59,11 +68,12 @@ PHRASES = {
 checks = []
 
 
-def check(what):
-    """Has the function below looked at, and tells it as `what` where it fails."""
+def check(what, beside=False):
+    """Has the function below looked at, and tells it as `what` where it fails. A long one may run
+    beside the others."""
 
     def keep(function):
-        checks.append((what, function))
+        checks.append((what, function, beside))
         return function
 
     return keep
@@ -179,8 +189,13 @@ class Server:
                 demand(time.monotonic() < until, "nobody listens")
                 time.sleep(0.01)
 
-    def link(self, port=None):
-        link = socket.create_connection(("127.0.0.1", port or self.public), SECONDS)
+    def link(self, port=None, room=None):
+        """A new link, which may have a small room for what comes."""
+        link = socket.socket()
+        if room:
+            link.setsockopt(socket.SOL_SOCKET, socket.SO_RCVBUF, room)
+        link.settimeout(SECONDS)
+        link.connect(("127.0.0.1", port or self.public))
         link.setsockopt(socket.IPPROTO_TCP, socket.TCP_NODELAY, 1)
         return link
 
@@ -189,6 +204,17 @@ class Server:
         with self.link(port) as link:
             link.sendall(request)
             return everything(link)
+
+    def descriptors(self):
+        """How many descriptors the program has."""
+        return len(os.listdir(f"/proc/{self.child.pid}/fd"))
+
+    def has_descriptors(self, most, seconds):
+        """Within so many seconds it has at most so many descriptors."""
+        until = time.monotonic() + seconds
+        while (count := self.descriptors()) > most:
+            demand(time.monotonic() < until, f"it has {count} descriptors, and had {most}")
+            time.sleep(0.1)
 
     def is_served(self):
         """A new link is answered."""
@@ -384,6 +410,212 @@ def bodies_that_never_come(server):
             ]:
                 link.sendall(request)
                 wants(exactly(link, len(wanted)), wanted)
+
+
+# Hostile and slow clients.
+
+
+@check("a reply is whole to a client that sent more, closed its half and reads late")
+def reads_late(server):
+    server.init()
+    with server.serving(), server.link(room=4096) as link:
+        last = get("/status", "Connection: close")
+        link.sendall(STATUS * 2000 + last + bytes(100_000))
+        link.shutdown(socket.SHUT_WR)
+        time.sleep(1)
+        wants(everything(link), status_of(0, None) * 2000 + status_of(0, None, True))
+
+
+@check("what stands behind an urgent mark is heard")
+def urgent(server):
+    server.init()
+    with server.serving(), server.link() as link:
+        wanted = status_of(0, None)
+        for _ in range(5):
+            link.sendall(STATUS)
+            wants(exactly(link, len(wanted)), wanted)
+            # so that the system tells of all of it at once
+            server.child.send_signal(signal.SIGSTOP)
+            link.sendall(STATUS[:9])
+            link.send(b"!", socket.MSG_OOB)
+            link.sendall(STATUS[9:])
+            time.sleep(0.05)
+            server.child.send_signal(signal.SIGCONT)
+            link.settimeout(5)
+            wants(exactly(link, len(wanted)), wanted)
+
+
+@check("a hundred links that are reset leave nothing behind")
+def hundred_resets(server):
+    server.init()
+    with server.serving():
+        server.is_served()
+        before = server.descriptors()
+        for number in range(100):
+            link = server.link()
+            link.sendall(STATUS * (number % 3))
+            link.setsockopt(socket.SOL_SOCKET, socket.SO_LINGER, struct.pack("ii", 1, 0))
+            link.close()
+        server.is_served()
+        server.has_descriptors(before, 5)
+
+
+@check("beside links of a byte now and then the operator posts, and who asks stays")
+def drips(server):
+    blocks, tips = chain(1)
+    server.init()
+    with server.serving(), server.link() as asks, dripping(server, SLOTS + 8):
+        with server.link(server.operator) as operator:
+            operator.settimeout(0.1)
+            operator.sendall(post("/connect", blocks[0]))
+            until, got = time.monotonic() + 15, b""
+            for turn in itertools.count():
+                with contextlib.suppress(TimeoutError):
+                    got = operator.recv(1 << 16)
+                if got:
+                    break
+                demand(time.monotonic() < until, "the operator isn't answered in 15 seconds")
+                if turn % 30 == 0:
+                    asks.sendall(get("/none"))
+                    wants(exactly(asks, len(refusal(404))), refusal(404))
+            wants(got, newest(tips, 0))
+
+
+@contextlib.contextmanager
+def dripping(server, count):
+    """Has so many public links send a byte each three seconds, and come again when they are
+    ended."""
+    ends = threading.Event()
+    drips = threading.Thread(target=drip, args=(server, count, ends))
+    drips.start()
+    try:
+        time.sleep(1)
+        yield
+    finally:
+        ends.set()
+        drips.join()
+
+
+def drip(server, count, ends):
+    links = []
+    while not ends.is_set():
+        still = []
+        for link in links:
+            try:
+                link.send(b"G")
+                if link.recv(1) == b"":
+                    raise ConnectionResetError
+            except BlockingIOError:
+                still.append(link)
+            except OSError:
+                link.close()
+        links = still
+        while len(links) < count:
+            link = server.link()
+            link.setblocking(False)
+            links.append(link)
+        ends.wait(3)
+    for link in links:
+        link.close()
+
+
+@check("a head has a minute in all, and a body more", beside=True)
+def a_minute(server):
+    server.init()
+    with server.serving(), server.link() as head, server.link() as body, server.link() as silent:
+        began = time.monotonic()
+        body.sendall(b"POST /connect HTTP/1.1\r\nContent-Length: 1000\r\n\r\n")
+        ended = {}
+        while (now := time.monotonic() - began) < 70 and len(ended) < 2:
+            for name, link in ("head", head), ("silent", silent):
+                if name not in ended and has_ended(link):
+                    ended[name] = now
+            if int(now) % 2 == 0:
+                with contextlib.suppress(OSError):
+                    head.send(b"G")
+                body.send(b"B")
+            time.sleep(1)
+        for name in ("head", "silent"):
+            demand(55 < ended.get(name, 0) < 66, f"the link ended so: {ended}")
+        time.sleep(5)
+        body.sendall(bytes(1000))
+        got = exactly(body, 12)
+        demand(got == b"HTTP/1.1 403", f"{got} was shown to the body of a minute")
+
+
+def has_ended(link):
+    """Whether the other side has ended the link, without waiting for it."""
+    if not select.select([link], [], [], 0)[0]:
+        return False
+    try:
+        return link.recv(1) == b""
+    except OSError:
+        return True
+
+
+@check("a link that was shut stays for ten seconds, and one that still sends isn't pushed out")
+def lingers(server):
+    server.init()
+    with server.serving(), contextlib.ExitStack() as links:
+        server.is_served()
+        before = server.descriptors()
+        sends = links.enter_context(server.link(server.operator))
+        sends.sendall(b"POST /connect HTTP/1.1\r\nContent-Length: 6000000\r\n\r\n")
+        sends.recv(1, socket.MSG_PEEK)
+        began = time.monotonic()
+        sends.sendall(bytes(1000))
+        for number in range(80):
+            link = links.enter_context(server.link())
+            link.sendall(get("/status", "Connection: close"))
+            everything(link)
+            if number % 8 == 0 and time.monotonic() - began < 0.8:
+                sends.sendall(bytes(1000))
+        if time.monotonic() - began < 0.8:
+            for _ in range(3):
+                time.sleep(0.02)
+                sends.sendall(bytes(1000))
+        got = exactly(sends, 12)
+        demand(got == b"HTTP/1.1 413", f"{got} was shown")
+        server.has_descriptors(before, 15)
+        demand(time.monotonic() > began + 9, "the links were closed at once")
+
+
+@check("status 7: a listener that listens no more")
+def dead_listener(server):
+    for door in ("public", "operator"):
+        with contextlib.suppress(FileNotFoundError):
+            (server.folder / "a.ox").unlink()
+            (server.folder / "b.ox").unlink()
+        server.public, server.operator = free_ports()
+        server.init()
+        with server.serving():
+            server.is_served()
+            if not close_listener(server.child.pid, getattr(server, door)):
+                print("skipped: no leave to close a listener of the program", flush=True)
+                return
+            server.child.wait(5)
+            demand(server.child.returncode == 7, f"it ended with {server.child.returncode}")
+
+
+def close_listener(pid, port):
+    """Has the program's listener at this port listen no more: false where that isn't allowed."""
+    process = os.pidfd_open(pid)
+    getfd = ctypes.CDLL(None, use_errno=True).syscall
+    try:
+        for name in os.listdir(f"/proc/{pid}/fd"):
+            if "socket" not in os.readlink(f"/proc/{pid}/fd/{name}"):
+                continue
+            number = getfd(PIDFD_GETFD, process, int(name), 0)
+            if number < 0:
+                return False
+            with socket.socket(fileno=number) as ours:
+                listens = ours.getsockopt(socket.SOL_SOCKET, socket.SO_ACCEPTCONN)
+                if listens and ours.getsockname()[1] == port:
+                    ours.shutdown(socket.SHUT_RDWR)
+                    return True
+    finally:
+        os.close(process)
+    raise Failed(f"nobody listens at {port}")
 
 
 # Commands.
@@ -596,19 +828,29 @@ def main():
     kills = int(sys.argv[2]) if len(sys.argv) > 2 else KILLS
     out = pathlib.Path(__file__).resolve().parent / "out"
     out.mkdir(exist_ok=True)
-    failed = 0
-    for what, function in checks:
+    faults = []
+
+    def look(what, function):
         folder = pathlib.Path(tempfile.mkdtemp(dir=out))
         try:
             function(Server(program, folder, kills))
         except Exception as fault:
-            failed += 1
+            faults.append(what)
             told = fault if isinstance(fault, Failed) else traceback.format_exc()
             print(f"FAILED: {what}\n  {told}\n  {folder}", flush=True)
         else:
             shutil.rmtree(folder)
-    print(f"real sockets: {len(checks) - failed} passed, {failed} failed")
-    return 1 if failed else 0
+
+    besides = [threading.Thread(target=look, args=one[:2]) for one in checks if one[2]]
+    for thread in besides:
+        thread.start()
+    for what, function, beside in checks:
+        if not beside:
+            look(what, function)
+    for thread in besides:
+        thread.join()
+    print(f"real sockets: {len(checks) - len(faults)} passed, {len(faults)} failed")
+    return 1 if faults else 0
 
 
 if __name__ == "__main__":

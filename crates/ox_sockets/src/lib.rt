@@ -3,11 +3,12 @@
 #![tactic(auto)]
 
 mod door;
+mod life;
 mod lingering;
 mod link;
-mod silence;
 mod sockets;
 mod tally;
+mod watch;
 mod wires;
 
 pub use sockets::Sockets;

@@ -2,12 +2,20 @@
 //! connection is closed with bytes unread, the system resets it, and the other side may lose the
 //! reply that it hasn't read yet (RFC 9112, section 9.6).
 
+use crate::life::has_passed;
 use mio::net::TcpStream;
 use std::alloc::{AllocError, Global};
 use std::io::{ErrorKind, Read};
+use std::time::Duration;
 
-/// How many connections may linger. Where one more comes, the oldest is dropped.
+/// How many connections may linger.
 const SOCKETS: usize = 64;
+
+/// How many seconds one may linger.
+const LONG: u64 = 10;
+
+/// How many it has at least, where it still sends.
+const SHORT: u64 = 1;
 
 /// How many bytes are read away of each before it is dropped.
 const BYTES: usize = 8_000_000;
@@ -18,11 +26,13 @@ const ROOM: usize = 65_536;
 /// How often a connection is read in a row.
 const READS: u32 = 8;
 
-/// A connection, its link's number, whether it may be readable, and how much it may still send.
+/// A connection, its link's number, when it was shut, whether it may be readable, and how much it
+/// may still send.
 #[derive(Drop)]
 struct Leaving {
     number: u32,
     stream: TcpStream,
+    since: Duration,
     readable: bool,
     left: usize,
 }
@@ -91,17 +101,31 @@ impl Lingering {
         })
     }
 
-    /// One more, which may be readable. The oldest is dropped where there are too many.
-    pub(crate) fn add(&mut self, number: u32, stream: TcpStream) {
+    /// One more, which may be readable. Where there are too many, another one is dropped for it, or
+    /// else it is itself.
+    pub(crate) fn add(&mut self, number: u32, stream: TcpStream, now: Duration) {
         if self.all.len() >= SOCKETS {
-            self.all.remove(0);
+            match self.least(now) {
+                Some(place) if place < self.all.len() => {
+                    self.all.remove(place);
+                }
+                _ => return,
+            }
         }
         let _ = self.all.push(Leaving {
             number,
             stream,
+            since: now,
             readable: true,
             left: BYTES,
         });
+    }
+
+    /// Which one is dropped first: the oldest, once it had its time, or else the oldest of those
+    /// that have sent nothing.
+    fn least(&self, now: Duration) -> Option<usize> {
+        self.all.iter().position(|leaving| has_passed(leaving.since, SHORT, now)
+            || leaving.left == BYTES)
     }
 
     /// The system told something of this connection.
@@ -113,11 +137,12 @@ impl Lingering {
         }
     }
 
-    /// Reads away what came, drops whose other side has closed, and answers whether some may have
-    /// more.
-    pub(crate) fn read_away(&mut self) -> bool {
+    /// Reads away what came, drops whose other side has closed or whose time is over, and answers
+    /// whether some may have more.
+    pub(crate) fn read_away(&mut self, now: Duration) -> bool {
         let room = &mut self.room;
-        self.all.retain_mut(|leaving| !leaving.is_over(room));
+        self.all.retain_mut(|leaving| !has_passed(leaving.since, LONG, now)
+            && !leaving.is_over(room));
         self.all.iter().any(|leaving| leaving.readable)
     }
 }

@@ -3,24 +3,25 @@
 ghost use Rattle.std.specs.Prelude.{◌≡◌, ◌≤◌, length};
 ghost use Rattle.ox_outside.specs.Answers.{HeardWithin, ShownWithin};
 
+use crate::life::Life;
 use mio::event::Event;
 use mio::net::TcpStream;
 use ox_outside::{Failed, Heard, Shown};
 use std::io::{ErrorKind, Read, Write};
 use std::time::Duration;
 
-/// A connection, what is known of it, and the moment at which bytes last went through it.
+/// A connection, and what is known of it.
 #[derive(Drop)]
 pub(crate) struct Link {
     /// Its number, at least 1.
     pub(crate) number: u32,
     pub(crate) stream: TcpStream,
-    /// Whether the other side is known to send no more, or the link to have failed.
-    pub(crate) ended: bool,
     readable: bool,
     writable: bool,
-    /// When it was opened, heard or shown last.
-    pub(crate) stirred: Duration,
+    /// Whether something may stand behind a short reading: the system told of an urgent mark, at
+    /// which a reading ends, or of the other side's end, and doesn't tell of it again.
+    behind: bool,
+    pub(crate) life: Life,
 }
 
 impl Link {
@@ -29,10 +30,10 @@ impl Link {
         Link {
             number,
             stream,
-            ended: false,
             readable: true,
             writable: true,
-            stirred: now,
+            behind: false,
+            life: Life::new(now),
         }
     }
 
@@ -40,7 +41,7 @@ impl Link {
     /// find it.
     pub(crate) fn note(&mut self, event: &Event) {
         let over = event.is_error() || event.is_read_closed();
-        self.ended = self.ended || over;
+        self.behind = self.behind || over || event.is_priority();
         self.readable = self.readable || over || event.is_readable();
         self.writable = self.writable || event.is_error() || event.is_writable();
     }
@@ -55,27 +56,22 @@ impl Link {
             return Ok(Heard::NotYet);
         }
         match (&self.stream).read(into) {
-            Ok(0) => {
-                self.ended = true;
-                Ok(Heard::End)
-            }
+            Ok(0) => Ok(Heard::End),
             Ok(n) => {
-                // Fewer bytes than there was room for: it is empty, and the system tells when more
-                // come. But it doesn't tell again that the other side has closed.
-                self.readable = self.ended || n == into.len();
-                self.stirred = now;
+                // Fewer bytes than there was room for, and nothing behind them: it is empty, and
+                // the system tells when more come, with an urgent mark or without.
+                self.readable = self.behind || n == into.len();
+                self.life.heard(into.split_at(n).0, now);
                 Ok(Heard::Bytes(n))
             }
             Err(e) => match e.kind() {
                 ErrorKind::Interrupted => Ok(Heard::NotYet),
                 ErrorKind::WouldBlock => {
                     self.readable = false;
+                    self.behind = false;
                     Ok(Heard::NotYet)
                 }
-                _ => {
-                    self.ended = true;
-                    Err(Failed)
-                }
+                _ => Err(Failed),
             },
         }
     }
@@ -85,13 +81,14 @@ impl Link {
         requires piece { 1 ≤ length bytes.now }
         ensures within { ShownWithin (length bytes.now) result }
     {
+        self.life.replies(now);
         if !self.writable {
             return Ok(Shown::NotYet);
         }
         match (&self.stream).write(bytes) {
             Ok(0) => Err(Failed),
             Ok(n) => {
-                self.stirred = now;
+                self.life.takes(n, n == bytes.len(), now);
                 Ok(Shown::Took(n))
             }
             Err(e) => match e.kind() {
@@ -100,10 +97,7 @@ impl Link {
                     self.writable = false;
                     Ok(Shown::NotYet)
                 }
-                _ => {
-                    self.ended = true;
-                    Err(Failed)
-                }
+                _ => Err(Failed),
             },
         }
     }

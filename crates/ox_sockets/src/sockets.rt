@@ -14,8 +14,8 @@ use std::io;
 use std::net::{Net, TcpListener};
 use std::rt::Clock;
 
-/// Two listeners, up to 32 links, and a clock for their silence. No call waits for a link: where
-/// several rotations over all links and doors would bring nothing, the system is asked what is
+/// Two listeners, up to 32 links, and a clock for the time that they take. No call waits for a
+/// link: where a rotation over all links and doors brought nothing, the system is asked what is
 /// ready, and waits at most 10 milliseconds.
 #[derive(Drop)]
 pub struct Sockets<C> {
@@ -45,8 +45,9 @@ impl<C: Clock + Drop> Sockets<C> {
     }
 
     /// Takes a link that waits at the door, and answers its number: one above the last, whatever
-    /// the door. `None` where nobody waits there, 32 links are open, or the system has no
-    /// descriptor left. `Failed` where a link waits and the numbers are used up.
+    /// the door. `None` where nobody waits there, 32 links are open, or 31 are and one waits at the
+    /// operator's door, or the system has no descriptor left. `Failed` where a link waits and the
+    /// numbers are used up, or nothing listens there any more.
     pub fn door(&mut self, door: Doorway) -> Result<Option<u32>, Failed>
         ensures number { IsLinkNumber result }
         ensures counts_up { CountsUp (last_number self.old) (last_number self.new) result }
@@ -55,7 +56,11 @@ impl<C: Clock + Drop> Sockets<C> {
             → Rose ((counts self.old).door_idles door) ((counts self.new).door_idles door) }
         ensures none_fell { NoneFell (counts self.old) (counts self.new) }
     {
-        let Some(stream) = self.wires.take(door) else {
+        let Ok(taken) = self.wires.take(door) else {
+            self.tally.door_failed();
+            return Err(Failed);
+        };
+        let Some(stream) = taken else {
             self.tally.nobody(door);
             return Ok(None);
         };
@@ -72,8 +77,9 @@ impl<C: Clock + Drop> Sockets<C> {
     }
 
     /// Takes bytes from a link into the front of the room, at least one. `Failed` where there is no
-    /// such link, it was reset, or it was silent for 60 seconds, or for 10 while 32 links are open
-    /// and somebody waits at a door.
+    /// such link, it was reset, or it gave nothing and took too long: it was silent for 60 seconds,
+    /// a head took 60 or a body 240, or while 32 links are open and somebody waits at a door, it
+    /// ended no request, took no whole reply and moved fewer than 1,000 bytes for 10.
     pub fn hear(&mut self, channel: u32, into: &mut [u8]) -> Result<Heard, Failed>
         requires room { 1 ≤ length into.old }
         ensures within { HeardWithin (length into.old) result }
@@ -121,7 +127,7 @@ impl<C: Clock + Drop> Sockets<C> {
     {}
 
     /// Ends a link. Where there is no such link, nothing changes. What the other side still sends
-    /// is read away, up to 8 MB, so that it gets the reply whole.
+    /// is read away for 10 seconds, up to 8 MB, so that it gets the reply whole.
     pub fn shut(&mut self, channel: u32)
         ensures same_counts { counts self.new ≡ counts self.old }
         ensures numbers { last_number self.new ≡ last_number self.old }

@@ -6,7 +6,7 @@ ghost use Rattle.ox_outside.specs.Answers.{HeardWithin, ShownWithin};
 use crate::door::Door;
 use crate::lingering::Lingering;
 use crate::link::Link;
-use crate::silence::Silence;
+use crate::watch::Watch;
 use mio::event::Event;
 use mio::net::TcpStream;
 use mio::{Events, Interest, Poll, Token};
@@ -43,13 +43,15 @@ pub(crate) struct Wires<C> {
     operator: Door,
     links: Vec<Link>,
     lingering: Lingering,
-    silence: Silence<C>,
+    watch: Watch<C>,
     /// How many calls in a row brought nothing.
     quiet: usize,
     /// How many calls there were since the system was asked.
     calls: usize,
     /// Whether one that lingers may have more to read away.
     busy: bool,
+    /// Whether somebody waited at a door when the system was asked, and there was no place.
+    waiting: bool,
 }
 
 impl<C: Clock + Drop> Wires<C> {
@@ -70,27 +72,31 @@ impl<C: Clock + Drop> Wires<C> {
             events: Events::with_capacity(alloc, EVENTS)?,
             links: Vec::with_capacity(alloc, LINKS)?,
             lingering: Lingering::new(alloc)?,
-            silence: Silence::new(clock)?,
+            watch: Watch::new(clock)?,
             quiet: 0,
             calls: 0,
             busy: false,
+            waiting: false,
         })
     }
 
-    /// Takes who waits at a door, where there is a place.
-    pub(crate) fn take(&mut self, door: Doorway) -> Option<TcpStream> {
+    /// Takes who waits at a door, where there is a place. The last one is the operator's, where one
+    /// waits. `Failed` where nobody can come there any more.
+    pub(crate) fn take(&mut self, door: Doorway) -> Result<Option<TcpStream>, Failed> {
         self.begin();
-        if self.links.len() >= LINKS {
-            return None;
+        let places = LINKS.saturating_sub(self.links.len());
+        if places == 0 {
+            return Ok(None);
         }
         let taken = match door {
-            Doorway::Public => self.public.take(),
-            Doorway::Operator => self.operator.take(),
+            Doorway::Public if places == 1 && self.operator.somebody_waits() => None,
+            Doorway::Public => self.public.take()?,
+            Doorway::Operator => self.operator.take()?,
         };
         if taken.is_some() {
             self.quiet = 0;
         }
-        taken
+        Ok(taken)
     }
 
     /// Has a connection be the link of this number. False where the system can't tell of it: then
@@ -98,35 +104,36 @@ impl<C: Clock + Drop> Wires<C> {
     pub(crate) fn add(&mut self, number: u32, mut stream: TcpStream) -> bool {
         // Where this fails, replies come later, and are the same.
         let _ = stream.set_nodelay(true);
-        let both = Interest::READABLE | Interest::WRITABLE;
+        let all = Interest::READABLE | Interest::WRITABLE | Interest::PRIORITY;
         let token = Token(number as usize);
         if self
             .poll
             .registry()
-            .register(&mut stream, token, both)
+            .register(&mut stream, token, all)
             .is_err()
         {
             return false;
         }
-        let link = Link::new(number, stream, self.silence.now());
+        let link = Link::new(number, stream, self.watch.now());
         self.links.push(link).is_ok()
     }
 
-    /// What the link of this number gives. `Failed` where there is none, and where it was silent
-    /// for too long.
+    /// What the link of this number gives. `Failed` where there is none, and where it took too
+    /// long.
     pub(crate) fn hear(&mut self, number: u32, into: &mut [u8]) -> Result<Heard, Failed>
         requires room { 1 ≤ length into.old }
         ensures within { HeardWithin (length into.old) result }
         ensures same_room { length into.new ≡ length into.old }
     {
         self.begin();
-        let now = self.silence.now();
+        let now = self.watch.now();
+        let crowded = self.is_crowded();
         let place = self.place_of(number).ok_or(Failed)?;
         let link = self.links.get_mut(place).ok_or(Failed)?;
         let heard = link.hear(into, now);
         if heard != Ok(Heard::NotYet) {
             self.quiet = 0;
-        } else if self.silence.is_over(link.stirred) {
+        } else if link.life.is_over(now, crowded) {
             return Err(Failed);
         }
         heard
@@ -138,28 +145,30 @@ impl<C: Clock + Drop> Wires<C> {
         ensures within { ShownWithin (length bytes.now) result }
     {
         self.begin();
-        let now = self.silence.now();
+        let now = self.watch.now();
+        let crowded = self.is_crowded();
         let place = self.place_of(number).ok_or(Failed)?;
         let link = self.links.get_mut(place).ok_or(Failed)?;
         let shown = link.show(bytes, now);
         if shown != Ok(Shown::NotYet) {
             self.quiet = 0;
-        } else if self.silence.is_over(link.stirred) {
+        } else if link.life.is_over(now, crowded) {
             return Err(Failed);
         }
         shown
     }
 
-    /// Ends the link of this number. Where the other side may still send, the writing side is
-    /// closed first, and the rest lingers.
+    /// Ends the link of this number. The writing side is closed, and what may still come lingers;
+    /// where the link was reset, that fails, and nothing is left.
     pub(crate) fn shut(&mut self, number: u32) {
         let Some(place) = self.place_of(number) else {
             return;
         };
         if place < self.links.len() {
             let link = self.links.swap_remove(place);
-            if !link.ended && link.stream.shutdown(Shutdown::Write).is_ok() {
-                self.lingering.add(number, link.stream);
+            if link.stream.shutdown(Shutdown::Write).is_ok() {
+                let now = self.watch.now();
+                self.lingering.add(number, link.stream, now);
                 self.busy = true;
             }
         }
@@ -170,13 +179,22 @@ impl<C: Clock + Drop> Wires<C> {
         self.links.iter().position(|link| link.number == number)
     }
 
-    /// Counts a call, and first asks the system where that is due. Each call has brought nothing
-    /// until it says that it did.
+    /// Whether all places are taken and somebody waits.
+    fn is_crowded(&self) -> bool {
+        self.waiting && self.links.len() >= LINKS
+    }
+
+    /// Counts a call, and first asks the system where that is due: after many calls, after a
+    /// rotation that brought nothing, and where the call before brought something that made work.
+    /// Each call has brought nothing until it says that it did.
     fn begin(&mut self) {
         let rotation = self.links.len().saturating_add(3);
         if self.quiet >= rotation && !self.busy {
             self.ask(Duration::from_millis(PAUSE));
-        } else if self.quiet >= rotation || self.calls >= CALLS {
+        } else if self.quiet >= rotation
+            || self.calls >= CALLS
+            || self.quiet == 0 && self.watch.has_worked()
+        {
             self.ask(Duration::ZERO);
         }
         self.quiet = self.quiet.saturating_add(1);
@@ -198,10 +216,10 @@ impl<C: Clock + Drop> Wires<C> {
                 }
             }
         }
-        self.busy = self.lingering.read_away();
-        let crowded = self.links.len() >= LINKS
+        self.watch.tick();
+        self.busy = self.lingering.read_away(self.watch.now());
+        self.waiting = self.links.len() >= LINKS
             && (self.operator.somebody_waits() || self.public.somebody_waits());
-        self.silence.tick(crowded);
     }
 }
 
