@@ -3,10 +3,9 @@
 
 mod words;
 
-use crate::words::{addresses_in, lacks_words, words_of};
+use crate::words::{lacks_words, words_of};
 use ox_app::{Status, run};
-use ox_bytes::Bytes;
-use ox_real_site::{RealSite, listen};
+use ox_real_site::{Addresses, RealSite, addresses_in, listen};
 use std::alloc::Global;
 use std::env::Env;
 use std::fs::File;
@@ -53,16 +52,16 @@ where
 fn opens<'a, R>(
     rt: &'a R,
     alloc: Global,
-    addresses: Option<(Bytes, Bytes)>,
+    addresses: Option<Addresses>,
     site: &mut RealSite<&'a R>,
 ) -> bool
 where
     R: Net<Listener = TcpListener, Stream = TcpStream> + Clock,
 {
-    let Some((public, operator)) = addresses else {
+    let Some(addresses) = addresses else {
         return true;
     };
-    match listen(rt, alloc, public.as_slice(), operator.as_slice()) {
+    match listen(rt, alloc, &addresses) {
         Ok(links) => {
             site.open_doors(links);
             true

@@ -29,17 +29,6 @@ pub fn lacks_words(env: &impl Env) -> bool {
     !has_word(env, 1) || serves(env) && !has_word(env, 5)
 }
 
-/// Takes the two addresses out of the words of `serve`: the public door's and the operator's, which
-/// stand behind folder, `serve` and turns. `None` of other words.
-pub fn addresses_in(words: &mut Vec<Bytes>) -> Option<(Bytes, Bytes)> {
-    if words.len() < 5 || words[1].as_slice() != b"serve".as_slice() {
-        return None;
-    }
-    let operator = words.remove(4);
-    let public = words.remove(3);
-    Some((public, operator))
-}
-
 /// The words behind the program's name, copied byte for byte: they need not be text. `Memory` where
 /// there is none for the copies.
 pub fn words_of(env: &impl Env, alloc: Global) -> Result<Vec<Bytes>, Memory> {

@@ -1,5 +1,6 @@
 //! The two doors of a server, at the addresses of the command line.
 
+use crate::words::Addresses;
 use ox_sockets::Sockets;
 use std::alloc::Global;
 use std::io;
@@ -22,15 +23,14 @@ fn listener<R: Net<Listener = TcpListener, Stream = TcpStream>>(
     }
 }
 
-/// Listens at the public door's address and at the operator's. An error where one of them can't be
-/// read or is in use, or there is no memory for the links.
+/// Listens at both addresses. An error where one of them can't be read or is in use, or there is no
+/// memory for the links.
 pub fn listen<'a, R: Net<Listener = TcpListener, Stream = TcpStream> + Clock>(
     rt: &'a R,
     alloc: Global,
-    public: &[u8],
-    operator: &[u8],
+    addresses: &Addresses,
 ) -> io::Result<Sockets<&'a R>> {
-    let public = listener(rt, public)?;
-    let operator = listener(rt, operator)?;
+    let public = listener(rt, addresses.public.as_slice())?;
+    let operator = listener(rt, addresses.operator.as_slice())?;
     Sockets::new(rt, rt, alloc, public, operator)
 }

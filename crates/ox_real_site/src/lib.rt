@@ -5,6 +5,8 @@
 mod doors;
 mod files;
 mod real;
+mod words;
 
 pub use crate::doors::listen;
 pub use crate::real::RealSite;
+pub use crate::words::{Addresses, addresses_in};
