@@ -1,4 +1,4 @@
-/* Lets the allocation fail whose number FAIL_AT says, and tells at the end on descriptor 3 how many there were. */
+/* Lets the allocation fail whose number FAIL_AT says; tells on descriptor 3 that it came, and at the end how many there were. */
 #include <stdio.h>
 #include <stdlib.h>
 #include <unistd.h>
@@ -18,10 +18,17 @@ __attribute__((destructor)) static void end(void) {
     dprintf(3, "%ld\n", calls);
 }
 
+static int refuses(void) {
+    static const char told[] = "refused\n";
+    if (++calls != fails)
+        return 0;
+    return write(3, told, sizeof told - 1) != 0;
+}
+
 void *malloc(size_t size) {
-    return ++calls == fails ? NULL : __libc_malloc(size);
+    return refuses() ? NULL : __libc_malloc(size);
 }
 
 void *realloc(void *old, size_t size) {
-    return ++calls == fails ? NULL : __libc_realloc(old, size);
+    return refuses() ? NULL : __libc_realloc(old, size);
 }

@@ -15,6 +15,12 @@ crates/ox_main, and `rt run < stdin` in crates/ox_index_rows.
   nothing was shown, and to have shown whole lines in front of those of an undisturbed run. The
   lines behind them are then applied with all memory, and have to be answered by the others and to
   leave the files as they should be.
+- `init`, `query`, `drill 2` and `migrate` of the same program: each has to end so too, and to show
+  its line whole or nothing. After 8 the files are as before, but of a drill, which leaves those of
+  some of its first commands; and with all memory each is carried out then.
+- `serve` of two links, of which the operator's posts a block: the run has to end with 8 before
+  anybody is served, or each link gets its replies, but for one, which is 503 and shuts its link.
+  The files are as before where that is the block's, and those that the block leaves elsewhere.
 - crates/ox_index_rows/out/ox_index_rows over rows that connect blocks, take them back and lead both
   ways, each followed by a dump of the whole index: one run for each allocation, which fails. Where
   a row finds no memory it has to say so, and the index has to be as before; the same row then has
@@ -25,6 +31,7 @@ The last line says how many runs there were. The status is 1 at the first that i
 be.
 """
 
+import collections
 import functools
 import os
 import pathlib
@@ -33,12 +40,16 @@ import subprocess
 import sys
 import tempfile
 
+import made_blocks
+import old_files
 from chain import SHORT, block_of, block_with, chain, coinbase, commitment, committing, envelope
-from chain import line, reveal_into
+from chain import line, payload_of, reveal_into
 from index_rows import Full, Held, Indexes, runes_of_mainnet
 from kills import Failed, demand
+from real_sockets import SECONDS, Server, exactly, get, newest, post, reply, status_of
 from rows import hash_text, plain, reveal
 from scenarios import ETCHES, MINTS_AND_BURNS
+from store_files import CLOSED, files_after_each, files_of
 from tools.bitcoin import SUBSIDY, twice
 from tools.programs import TOP, proved_program
 
@@ -46,6 +57,7 @@ PROGRAM, INDEXES = proved_program("ox_main"), proved_program("ox_index_rows")
 SHIM = TOP / "checks" / "failing_allocation.c"
 NONE = ["no memory"]
 COUNT_TO = 3
+UNAVAILABLE = b"HTTP/1.1 503 Service Unavailable\r\nContent-Length: 0\r\nConnection: close\r\n\r\n"
 
 
 def shim(folder):
@@ -60,6 +72,7 @@ class Memory:
 
     def __init__(self, library, folder):
         self.library, self.count, self.runs = library, folder / "count", 0
+        self.counting = None
 
     def run(self, words, fails, feed=b""):
         """The status, what was shown and told, and how many allocations there were."""
@@ -75,7 +88,20 @@ class Memory:
                 pass_fds=(COUNT_TO,),
                 env={**os.environ, "LD_PRELOAD": str(self.library), "FAIL_AT": str(fails)},
             )
-        return ran, int(self.count.read_bytes() or 0)
+        return ran, int(self.count.read_bytes().split(b"\n")[-2] or 0)
+
+    def how(self, fails):
+        """How a program is started that lacks one allocation, and whose end isn't waited for."""
+        self.runs += 1
+        # it stays open until the next one
+        self.counting = open(self.count, "wb")
+        os.dup2(self.counting.fileno(), COUNT_TO)
+        env = {**os.environ, "LD_PRELOAD": str(self.library), "FAIL_AT": str(fails)}
+        return {"pass_fds": (COUNT_TO,), "env": env}
+
+    def has_refused(self):
+        """Whether the allocation came that fails."""
+        return self.count.read_bytes().startswith(b"refused")
 
 
 def lab_chain():
@@ -148,6 +174,136 @@ def apply_in_turn(program, memory, top, heard, lines):
     shutil.rmtree(first)
     shutil.rmtree(whole)
     print(f"apply of {len(lines)} lines behind {len(heard)}: {count} allocations")
+
+
+# ---- other subcommands
+
+
+def copy(first, folder):
+    return pathlib.Path(shutil.copytree(first, folder))
+
+
+def others_in_turn(program, memory, top):
+    """Each allocation of the other subcommands fails in turn."""
+    empty, old = top / "empty", top / "old"
+    empty.mkdir()
+    old.mkdir()
+    (old / "a.ox").write_bytes(old_files.old_file_of(map(payload_of, chain(3)[0])))
+    (old / "b.ox").write_bytes(CLOSED)
+    filled = made(program, top / "filled", lab_chain())
+    drill = list(files_after_each(made_blocks.drill_commands(2)))
+    for words, first, may_leave in (
+        (["init", "lab", "100"], empty, []),
+        (["query", "/audit"], filled, []),
+        (["drill", "2"], empty, drill),
+        (["migrate"], old, []),
+    ):
+        in_turn(program, memory, top, words, first, may_leave)
+    for folder in (empty, old, filled):
+        shutil.rmtree(folder)
+
+
+def files_if_any(folder):
+    """The bytes of both files, none of one that isn't there."""
+    paths = (folder / name for name in ("a.ox", "b.ox"))
+    return tuple(path.read_bytes() if path.exists() else b"" for path in paths)
+
+
+def in_turn(program, memory, top, words, first, may_leave):
+    """Each allocation of a subcommand fails in turn, over a copy of a folder. With 8 it leaves the
+    files as they were, or such ones."""
+    whole = copy(first, top / "whole")
+    ran, count = memory.run([program, whole, *words], 0)
+    told = ran.stdout
+    demand(ran.returncode == 0, f"{words} ended with {ran.returncode}")
+    before = files_if_any(first)
+    for fails in range(1, count + 1):
+        folder, what = copy(first, top / str(fails)), f"{words}, allocation {fails}"
+        ran, _ = memory.run([program, folder, *words], fails)
+        ended = ran.returncode, ran.stdout
+        demand(ended in ((0, told), (8, b""), (4, b"")), f"{what}: {ended}")
+        left = files_if_any(folder)
+        if ran.returncode == 0:
+            demand(left == files(whole), f"{what}: the files are others")
+        elif left != before:
+            demand(ran.returncode == 8 and left in may_leave, f"{what}: the files are others")
+        elif words[0] != "query":
+            ran = subprocess.run([program, folder, *words], stdout=subprocess.PIPE)
+            demand((ran.returncode, ran.stdout) == (0, told), f"after {what}: {ran}")
+            demand(files(folder) == files(whole), f"after {what}: the files are others")
+        shutil.rmtree(folder)
+    shutil.rmtree(whole)
+    print(f"{' '.join(words)}: {count} allocations")
+
+
+# ---- a server
+
+
+def serve_in_turn(program, memory, top):
+    """Each allocation of a server of two links and a command fails in turn, until none is left."""
+    blocks, tips = chain(2)
+    first = top / "first"
+    first.mkdir()
+    for words in (["init", "regtest", "100"], ["apply"]):
+        subprocess.run([program, first, *words], input=line(blocks[0]), stdout=subprocess.DEVNULL)
+    before, after = (files_of(map(payload_of, blocks[:count])) for count in (1, 2))
+    met = collections.Counter()
+    fails = 0
+    while fails == 0 or memory.has_refused():
+        fails += 1
+        folder = copy(first, top / str(fails))
+        was = serve_once(program, memory, folder, fails, blocks[1], tips)
+        met[was] += 1
+        demand(
+            files(folder) == (before if was in ("the start", "the block") else after),
+            f"serve, allocation {fails}: {was} lacked memory, and the files are others",
+        )
+        shutil.rmtree(folder)
+    shutil.rmtree(first)
+    print(f"serve: {fails - 1} allocations; of these lacked memory: {dict(met)}")
+
+
+def serve_once(program, memory, folder, fails, block, tips):
+    """Serves two links: who lacked memory."""
+    server = Server(program, folder)
+    try:
+        with server.serving(**memory.how(fails)):
+            try:
+                return talk(server, block, tips)
+            except OSError:
+                server.child.wait(SECONDS)
+                raise
+    except (Failed, OSError) as fault:
+        # it has ended before it served anybody, though the doors may have been open
+        demand(
+            server.child.returncode in (4, 7, 8),
+            f"serve, allocation {fails}: {server.child.returncode}, {fault}",
+        )
+        return "the start"
+
+
+def talk(server, block, tips):
+    """Two links, side by side, of which each asks twice: who lacked memory."""
+    last = get("/blockhash/0", "Connection: close")
+    asked = (get("/status"), last), (post("/connect", block), last)
+    told = reply(200, {"hash": tips[0], "height": 0}, True)
+    wanted = (status_of(1, tips[0]), told), (newest(tips, 1), told)
+    with server.link() as public, server.link(server.operator) as operator:
+        links, got = (public, operator), ([], [])
+        for turn in (0, 1):
+            for n in (0, 1):
+                if got[n] == list(wanted[n][:turn]):
+                    links[n].sendall(asked[n][turn])
+                    got[n].append(exactly(links[n], len(wanted[n][turn])))
+    lacking = [n for n in (0, 1) if got[n] != list(wanted[n])]
+    demand(len(lacking) < 2, f"both links were shown something else: {got}")
+    for n in lacking:
+        demand(got[n].pop() == UNAVAILABLE, f"a link was shown {got[n]}")
+    if not lacking:
+        return "nothing"
+    if lacking == [0]:
+        return "the public link"
+    return "the operator's second request" if got[1] else "the block"
 
 
 class Scarce(Indexes):
@@ -320,6 +476,8 @@ def main():
         apply_in_turn(program, memory, top, [], lab_chain())
         long = long_chain()
         apply_in_turn(program, memory, top, long[:62], long[62:])
+        others_in_turn(program, memory, top)
+        serve_in_turn(program, memory, top)
         rows_in_turn(memory)
     except Failed as failed:
         print(f"FAILED: {failed}; the files are in {top}")
