@@ -101,7 +101,8 @@ def many_holders(count, runes=2_000):
     return chain.blocks
 
 
-# the work, the hostile block and the honest one by their size, and the greatest size
+# the work, the hostile block and the honest one by their size, and the greatest size; a tenth of it
+# is timed too
 WORKS = [
     ("empty pushes of an output", hostile_blocks.empty_pushes, plain_script, 3_990_000),
     (
@@ -112,9 +113,9 @@ WORKS = [
     ),
     ("one opening, then empty pushes", hostile_blocks.one_opening, plain_tapscript, 3_990_000),
     ("openings that are broken", hostile_blocks.broken_openings, pushes_of_three, 3_990_000),
-    ("cenotaphs", hostile_blocks.cenotaphs, plain_stones, 2_000),
-    ("edicts of one runestone", hostile_blocks.edicts, many_stones, 10_000),
-    ("inputs of one transaction", hostile_blocks.inputs, many_spends, 40_000),
+    ("cenotaphs", hostile_blocks.cenotaphs, plain_stones, 20_000),
+    ("edicts of one runestone", hostile_blocks.edicts, many_stones, 100_000),
+    ("inputs of one transaction", hostile_blocks.inputs, many_spends, 90_000),
     ("moves of 2,000 runes", hostile_blocks.moves, many_holders, 500),
 ]
 

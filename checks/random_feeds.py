@@ -31,7 +31,8 @@ from worlds import turned_by
 
 PROGRAM = proved_program("ox_main")
 LINES = 200
-PROFILE, DEPTH = "regtest", 5
+# as many blocks as `fold` keeps
+PROFILE, DEPTH = "regtest", 1000
 HOUR = 3_600
 
 
