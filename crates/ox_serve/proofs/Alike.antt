@@ -11,7 +11,7 @@ use Rattle.ox_links.specs.Link.{Answer, all_shown, answers_to, is_over, reply_by
 use Rattle.ox_links.specs.Rotation.{Who, door_of, link_of}
 use Rattle.ox_links.specs.Serving.{Server, commands_in, served_by, state_after}
 use Rattle.ox_links.specs.Survives.{Survives, acknowledged_to}
-use Rattle.ox_links.specs.Turned.{AreTurns, CutShort, IsCut, IsFirst, IsRest, IsTurn, Turn, Turned, is_first, logged_by}
+use Rattle.ox_links.specs.Turned.{AreTurns, CutShort, IsCut, IsFewer, IsFirst, IsRest, IsTurn, Turn, Turned, is_first, logged_by}
 use Rattle.ox_links.proofs.Like.{serve_alike}
 use Rattle.ox_turns.specs.Follows.{ShowsFrontsIn}
 use Rattle.ox_serve.specs.Runs.{Served}
@@ -91,6 +91,15 @@ module _ {X Y C : Type 0} (stands_for : X → Y → Type 0) (one : Server X C) (
       cut = short.cut;
       is_cut = cut_alike (logged_by short.turns) short.end short.cut short.is_cut;
       logged = short.logged;
+    }
+
+    pub fewer_alike : (n : ℕ) (log : List Event) → IsFewer two y n log → IsFewer one x n log
+    fewer_alike n log fewer = record {
+      turns = fewer.turns;
+      fewer = fewer.fewer;
+      end = fewer.end;
+      made = turns_alike [] 0 fewer.turns fewer.end fewer.made;
+      logged = fewer.logged;
     }
 
     pub counted_alike : (n : ℕ) (old new : Counts) (requests hits : ℕ) (log : List Event) → Served two y n old new requests hits log → Served one x n old new requests hits log
