@@ -8,4 +8,5 @@ pub mod Escapes
 pub mod Machines
 pub mod PutBack
 pub mod Refusals
+pub mod SameReplies
 pub mod Whole

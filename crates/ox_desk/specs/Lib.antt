@@ -2,6 +2,7 @@ pub mod Asked
 pub mod Commands
 pub mod Desk
 pub mod DeskLaws
+pub mod Hits
 pub mod Plain
 pub mod PutBack
 pub mod Replies

@@ -5,6 +5,7 @@
 mod carry;
 mod command;
 mod desk;
+mod hits;
 mod laws;
 mod newest;
 mod plain;
@@ -13,6 +14,7 @@ mod told;
 
 pub use command::command_of;
 pub use desk::StoreDesk;
+pub use hits::hits_are_the_same_reply;
 pub use laws::{
     doors_answer_alike, machines_serve_as_their_stacks, nothing_is_left_unsaid,
     refusals_are_told_alike, replies_are_whole,
