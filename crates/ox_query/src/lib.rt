@@ -23,4 +23,5 @@ mod texts;
 mod values;
 
 pub use ox_bytes::Memory;
-pub use replies::{answer, answer_by};
+pub use parts::hash;
+pub use replies::{answer, answer_by, error_reply};
