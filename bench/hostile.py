@@ -1,5 +1,5 @@
 #!/usr/bin/env python3
-"""Times `fold lab` over blocks that ask for as much work as they can, each beside an honest one of
+"""Times `fold regtest` over blocks that ask for as much work as they can, each beside an honest one of
 as many bytes and items.
 
     python3 bench/hostile.py
@@ -127,7 +127,7 @@ def seconds(blocks, folder):
         feed = f"{folder}/feed"
         with open(feed, "wb") as lines:
             lines.write(b"".join(map(line, blocks[:count])))
-        rows = least({"ox": [OX, folder, "fold", "lab"]}, feed, RUNS, count)
+        rows = least({"ox": [OX, folder, "fold", "regtest"]}, feed, RUNS, count)
         took.append(rows["ox"][0])
     return max(took[1] - took[0], 0.001)
 

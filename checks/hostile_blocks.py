@@ -1,11 +1,11 @@
 """Lawful blocks that ask for as much work as they can, and blocks whose counts lie.
 
-Those that ask for work are of lab below height 30, where no block has to commit to its witnesses.
+Those that ask for work are of lab below height 10, and of regtest, which has the same subsidy there.
 Each comes by the blocks that it stands on and itself, and by a size, so that it can be made larger:
 checks/real_files.py has each taken in, and bench/hostile.py times it beside an honest one.
 """
 
-from chain import GENESIS, SHORT, block_of, coinbase_to, transaction
+from chain import GENESIS, SHORT, block_of, coinbase_to, commitment, committing, transaction
 from tools.bitcoin import NO_OUTPUT, SUBSIDY, compact_size, string, twice, varint
 
 # the bytes of a script that nearly fills a block
@@ -23,9 +23,12 @@ class Chain:
 
     def add(self, txs=(), outputs=((SUBSIDY, SHORT),)):
         """A block of a coinbase of these outputs and such transactions behind it: the coinbase's
-        id."""
+        id. It commits to their witnesses where there are any, as it has to on other chains."""
         assert len(self.blocks) < 10
-        coinbase = coinbase_to(len(self.blocks), outputs)
+        if any(bare != whole for bare, whole in txs):
+            coinbase = committing(len(self.blocks), commitment(*txs))
+        else:
+            coinbase = coinbase_to(len(self.blocks), outputs)
         block, self.tip = block_of(self.tip, [coinbase, *txs])
         self.blocks.append(block)
         return id_of(coinbase)
