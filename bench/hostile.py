@@ -1,6 +1,6 @@
 #!/usr/bin/env python3
-"""Times `fold regtest` over blocks that ask for as much work as they can, each beside an honest one of
-as many bytes and items.
+"""Times `fold regtest` over blocks that ask for as much work as they can, each beside an honest one
+of as many bytes and items.
 
     python3 bench/hostile.py
 

@@ -1,6 +1,6 @@
 """Lawful blocks that ask for as much work as they can, and blocks whose counts lie.
 
-Those that ask for work are of lab below height 10, and of regtest, which has the same subsidy there.
+Those that ask for work are of lab below height 10, and of regtest, whose subsidy is the same there.
 Each comes by the blocks that it stands on and itself, and by a size, so that it can be made larger:
 checks/real_files.py has each taken in, and bench/hostile.py times it beside an honest one.
 """
