@@ -1,9 +1,7 @@
 #!/usr/bin/env python3
 """Kills a running `apply` again and again, and looks at what the store has then.
 
-    python3 checks/kills.py [KILLS [SEED [PROGRAM]]]
-
-applies a feed of 300 regtest blocks, most of them small and some of up to two million bytes, and of
+It applies a feed of 300 regtest blocks, most of them small and some of up to two million bytes, and of
 disconnects, one to about six blocks, to a store of depth 5 below out/ beside this script, and kills
 the program (SIGKILL, by the number of its own process): while it starts and opens the store, a
 random time after a random number of lines was shown, in the command that turns the files, or as
@@ -16,13 +14,13 @@ soon as a file grows by a large block or by a whole index. Then it tests that
 - the two files have the bytes that docs/FORMATS.md says: those that the store's lines leave, with
   none, a part or all of what the next line writes before its last gate.
 
-The next `apply` goes on with the line behind. At the feed's end a new store is begun. With KILLS
-(300 without a word) done it tells what the kills met and ends with `passed` and status 0. At the
-first test that fails it tells which, keeps the store, and ends with status 1. SEED is 1 and PROGRAM
-is crates/ox_main/out/ox_main without a word. What was written outlives a killed program even where
-the disk hasn't got it, so this tries no loss of power.
+The next `apply` goes on with the line behind. At the feed's end a new store is begun. With all
+kills done it tells what they met and ends with `passed` and status 0. At the first test that fails
+it tells which, keeps the store, and ends with status 1. What was written outlives a killed program
+even where the disk hasn't got it, so this tries no loss of power.
 """
 
+import argparse
 import collections
 import json
 import pathlib
@@ -35,20 +33,12 @@ import time
 
 from chain import DISCONNECT, SHORT, block_on, line_of, payload_of
 from store_files import MOST_RECORDS, Disk, Store, make
+from tools.checks import Failed, demand
 from tools.programs import TOP, proved_program
 
 PROGRAM = proved_program("ox_main")
 LINES = 300
 DEPTH = 5
-
-
-class Failed(Exception):
-    pass
-
-
-def demand(holds, what):
-    if not holds:
-        raise Failed(what)
 
 
 # What a store tells of itself: how many blocks it has and keeps, and the newest one's hash as it is
@@ -284,9 +274,15 @@ def kill_often(program, top, kills, chance, met):
 
 
 def main():
-    words = sys.argv[1:]
-    kills, seed = [int(word) for word in words[:2]] + [300, 1][len(words[:2]) :]
-    program = pathlib.Path(words[2]).resolve() if len(words) > 2 else PROGRAM
+    form = argparse.RawDescriptionHelpFormatter
+    words = argparse.ArgumentParser(description=__doc__, formatter_class=form)
+    words.add_argument("kills", nargs="?", type=int, default=300, help="how many (300)")
+    words.add_argument("seed", nargs="?", type=int, default=1, help="of all chances (1)")
+    words.add_argument(
+        "program", nargs="?", type=pathlib.Path, default=PROGRAM, help="the built program"
+    )
+    said = words.parse_args()
+    program = said.program.resolve()
     if not program.exists():
         sys.exit(f"{program} isn't built")
     met = collections.Counter()
@@ -294,14 +290,14 @@ def main():
     out.mkdir(exist_ok=True)
     top = pathlib.Path(tempfile.mkdtemp(dir=out))
     try:
-        kill_often(program, top, kills, random.Random(seed), met)
+        kill_often(program, top, said.kills, random.Random(said.seed), met)
     except Failed as failed:
         print(f"FAILED: {failed}; the store is in {top}")
         sys.exit(1)
     shutil.rmtree(top)
     for what, times in sorted(met.items()):
         print(f"{times:7,} {what}")
-    print(f"passed: after {kills} kills no command was lost whose line was shown")
+    print(f"passed: after {said.kills} kills no command was lost whose line was shown")
 
 
 if __name__ == "__main__":

@@ -2,8 +2,6 @@
 """Runs the built program over real files and streams, and looks at its status, at what it shows and
 at the files' bytes.
 
-    python3 checks/real_files.py [PROGRAM]
-
 No proof says which bytes a real file gives or takes, so this tries it: each subcommand, each status
 but 9, which would take 4,611,686,018,427,387,904 bytes, the bytes of both files after each line
 (checks/store_files.py), a content of 3,900,000 bytes, blocks that ask for as much work as they can
@@ -11,8 +9,7 @@ and blocks whose counts lie (checks/hostile_blocks.py), satoshis among 500,000 o
 (checks/table.py), and fifty kills of a running `apply` (checks/kills.py). Each check has a new
 folder, below out/ beside this script, that is gone where it passed. A check that fails is told with
 its cause, and its folder stays. The last line says how many passed and how many failed, and the
-status is 1 where one failed. PROGRAM is crates/ox_main/out/ox_main without a word, which `rt ci`
-and `rt run` leave there. It takes one to two minutes.
+status is 1 where one failed. It takes one to two minutes.
 """
 
 import collections
@@ -24,10 +21,8 @@ import resource
 import shutil
 import signal
 import subprocess
-import sys
 import tempfile
 import time
-import traceback
 
 import hostile_blocks
 import made_blocks
@@ -36,20 +31,21 @@ import store_faults
 import store_files
 from chain import DISCONNECT, SHORT, block_of, block_with, chain, coinbase, commitment, committing
 from chain import envelope, id_value, line, line_of, payload_of, reveal_into
-from kills import Failed, demand, kill_often
+from kills import kill_often
 from old_files import old_file_of
 from store_files import MOST_RECORDS, file_a, files_of, payload_on, store_of
 from table import BLOCKS, Table, outpoint, satoshi
 from tools.bitcoin import SUBSIDY, twice
-from tools.programs import TOP, proved_program
+from tools.checks import Checks, demand
+from tools.programs import TOP
 from tools.runes import kept_name, name_of
 
-PROGRAM = proved_program("ox_main")
 GENESIS = (TOP / "feeds" / "genesis.feed").read_bytes()
 GENESIS_ANSWER = b"ok 0 000000000019d6689c085ae165831e934ff763ae46a2a6c172b3f1b60a8ce26f\n"
 KILLS = 50
 SEED = 1
-SECONDS = 60
+# how long a run may take, and a check
+SECONDS, CHECK_SECONDS = 60, 300
 NOBODY = 65534
 MEMORY = 24_000_000
 LITTLE = 64_000_000
@@ -57,18 +53,6 @@ LITTLE = 64_000_000
 # the bytes of a regtest store of depth 100 without a block, written out
 EMPTY_A = bytes.fromhex("016f786964780201640001000000000000001c00000000000000" + 29 * "00")
 EMPTY_B = bytes.fromhex("00")
-
-checks = []
-
-
-def check(what):
-    """Has the function below looked at, and tells it as `what` where it fails."""
-
-    def keep(function):
-        checks.append((what, function))
-        return function
-
-    return keep
 
 
 class Ox:
@@ -140,6 +124,9 @@ class Ox:
         self.wants((0, body.encode()), "query", "/status")
 
 
+every = Checks(Ox, seconds=CHECK_SECONDS)
+
+
 def value_text(value):
     """A value as it is told, cut where it is long."""
     text = value.hex() if isinstance(value, bytes) and len(value) > 80 else repr(value)
@@ -158,21 +145,21 @@ def full():
 # What the subcommands show and write.
 
 
-@check("a store that is made has the bytes of the format")
+@every.check("a store that is made has the bytes of the format")
 def empty_store(ox):
     ox.init()
     ox.has(EMPTY_A, EMPTY_B)
     ox.status_is(0, None)
 
 
-@check("a store is made of empty files that are there already")
+@every.check("a store is made of empty files that are there already")
 def empty_files(ox):
     ox.write(b"", b"")
     ox.init()
     ox.has(EMPTY_A, EMPTY_B)
 
 
-@check("a profile and a depth stand in the head")
+@every.check("a profile and a depth stand in the head")
 def heads(ox):
     for code, profile in enumerate(["mainnet", "regtest", "lab"]):
         ox.write(b"", b"")
@@ -182,7 +169,7 @@ def heads(ox):
         ox.has(a, b)
 
 
-@check("Bitcoin's first block is answered, and what it changes is kept as one record")
+@every.check("Bitcoin's first block is answered, and what it changes is kept as one record")
 def first_block(ox):
     ox.init()
     ox.wants((0, GENESIS_ANSWER), "apply", feed=GENESIS)
@@ -195,7 +182,7 @@ def first_block(ox):
     ox.status_is(1, GENESIS_ANSWER.split()[2].decode())
 
 
-@check("a later run goes on where the files stand")
+@every.check("a later run goes on where the files stand")
 def runs(ox):
     blocks, tips = chain(20)
     ox.init()
@@ -206,7 +193,7 @@ def runs(ox):
         ox.status_is(last, tips[last - 1])
 
 
-@check("an answer is shown once its record is in the file, and before the next line is heard")
+@every.check("an answer is shown once its record is in the file, and before the next line is heard")
 def line_by_line(ox):
     blocks, tips = chain(12)
     ox.init()
@@ -240,7 +227,9 @@ def walk(chance, depth, count=200):
             height, kept = height + 1, min(kept + 1, depth)
 
 
-@check("both files have the bytes of the format after each of 200 lines, of which three turn them")
+@every.check(
+    "both files have the bytes of the format after each of 200 lines, of which three turn them"
+)
 def bytes_after_each(ox):
     for depth in (3, 100):
         commands = list(walk(random.Random(SEED), depth))
@@ -261,7 +250,9 @@ def bytes_after_each(ox):
             demand(child.wait(SECONDS) == 0, "the end of the feed doesn't end the program")
 
 
-@check("the 65th block makes file B current, and without its first byte the 64th is the newest")
+@every.check(
+    "the 65th block makes file B current, and without its first byte the 64th is the newest"
+)
 def turned(ox):
     blocks, tips = chain(MOST_RECORDS + 1)
     ox.init()
@@ -277,7 +268,7 @@ def turned(ox):
     ox.status_is(64, tips[63])
 
 
-@check("a block of nearly four million bytes is kept")
+@every.check("a block of nearly four million bytes is kept")
 def large_block(ox):
     blocks, tips = chain(3, lambda height: bytes(3_999_800))
     ox.init()
@@ -287,7 +278,7 @@ def large_block(ox):
     ox.status_is(3, tips[2])
 
 
-@check("refused lines are told with their values, and change no byte of the files")
+@every.check("refused lines are told with their values, and change no byte of the files")
 def refused_lines(ox):
     blocks, tips = chain(4)
     ox.init()
@@ -312,7 +303,9 @@ def refused_lines(ox):
     ox.has_blocks(blocks[:2])
 
 
-@check("a block that isn't committed to its witnesses is refused, and changes no byte of the files")
+@every.check(
+    "a block that isn't committed to its witnesses is refused, and changes no byte of the files"
+)
 def witness_commitments(ox):
     right, wrong = commitment(), commitment()[:-1] + bytes([commitment()[-1] ^ 1])
     block, tip = block_of(bytes(32), [committing(0, right)])
@@ -323,7 +316,7 @@ def witness_commitments(ox):
     ox.has_blocks([block])
 
 
-@check("a disconnect where no block is kept is refused, and changes no byte of the files")
+@every.check("a disconnect where no block is kept is refused, and changes no byte of the files")
 def nothing_kept(ox):
     ox.init()
     ox.wants((0, b"refused 11\n"), "fold", "regtest", feed=b"disconnect\n")
@@ -331,7 +324,7 @@ def nothing_kept(ox):
     ox.has(EMPTY_A, EMPTY_B)
 
 
-@check("the newest blocks are taken back, as many as are kept, by a later run too")
+@every.check("the newest blocks are taken back, as many as are kept, by a later run too")
 def blocks_taken_back(ox):
     blocks, tips = chain(3)
     for depth in (1, 2):
@@ -345,7 +338,7 @@ def blocks_taken_back(ox):
         ox.has(*files_of(commands, "regtest", depth))
 
 
-@check("blocks are replaced by others, and a fold of the new chain shows the same")
+@every.check("blocks are replaced by others, and a fold of the new chain shows the same")
 def replaced_blocks(ox):
     old, _ = chain(3)
     new, tips = chain(4, lambda height: b"\x52")
@@ -363,7 +356,7 @@ def replaced_blocks(ox):
 
 
 # The least reserved name, by the Runes specification.
-@check(
+@every.check(
     "inscriptions and runes are told of a store that is opened again, and taken back with their"
     " block"
 )
@@ -483,7 +476,7 @@ def inscriptions_and_runes(ox):
         ox.says(path, {"error": 404})
 
 
-@check("a content of nearly four million bytes is given whole")
+@every.check("a content of nearly four million bytes is given whole")
 def long_content(ox):
     blocks, tips = chain(3)
     # each four bytes of it tell where they stand
@@ -505,7 +498,7 @@ def long_content(ox):
     )
 
 
-@check("what a cenotaph minted and burned is taken back with its block, by a later run too")
+@every.check("what a cenotaph minted and burned is taken back with its block, by a later run too")
 def burns_taken_back(ox):
     blocks, _ = chain(3)
     etches = reveal_into(
@@ -556,7 +549,9 @@ def burns_taken_back(ox):
         ox.run("apply", feed=b"disconnect\n")
 
 
-@check("empty stores and one of Bitcoin's first block tell of a rune, a page and the first satoshi")
+@every.check(
+    "empty stores and one of Bitcoin's first block tell of a rune, a page and the first satoshi"
+)
 def first_replies(ox):
     ox.init()
     ox.says("/inscriptions/7", b'{"ids":[],"more":false,"page":7}')
@@ -605,14 +600,18 @@ def takes_in(make):
 
 
 for what, make in hostile_blocks.HOSTILE.items():
-    check(f"{what} are taken in within {SECONDS} seconds")(takes_in(make))
+    taken_in = takes_in(make)
+    taken_in.__name__ = f"takes_{make.__name__}"
+    every.check(f"{what} are taken in within {SECONDS} seconds")(taken_in)
 
 
 def little():
     resource.setrlimit(resource.RLIMIT_AS, (LITTLE, LITTLE))
 
 
-@check("a block whose count or length lies is refused at its place, in little memory, and not by 8")
+@every.check(
+    "a block whose count or length lies is refused at its place, in little memory, and not by 8"
+)
 def lying_counts(ox):
     ox.init()
     for what, block, place in hostile_blocks.lying_blocks():
@@ -629,7 +628,7 @@ def asked_satoshis(table):
     return [runs[0][0], sum(runs[-1]) - 1, sum(table.lost[-1]) - 1, BLOCKS * SUBSIDY]
 
 
-@check(
+@every.check(
     "among 500,000 outputs satoshis are found where they have to be, or nowhere, within"
     f" {SECONDS} seconds"
 )
@@ -655,7 +654,7 @@ def many_outputs(ox):
     ox.says(f"/output/{outpoint(*table.spent)}", {"error": 404})
 
 
-@check("`fold` and `query` change no byte of the files")
+@every.check("`fold` and `query` change no byte of the files")
 def only_apply_writes(ox):
     blocks, tips = chain(3)
     ox.init()
@@ -670,7 +669,7 @@ def only_apply_writes(ox):
     ox.has_blocks(blocks[:1])
 
 
-@check("the open file of the greater generation is read, and gets the next record")
+@every.check("the open file of the greater generation is read, and gets the next record")
 def greater_generation(ox):
     blocks, tips = chain(3)
     newer = lambda file: file[:10] + (2).to_bytes(8, "little") + file[18:]
@@ -681,7 +680,9 @@ def greater_generation(ox):
     ox.status_is(2, tips[1])
 
 
-@check("a record whose gate is closed doesn't count, and one whose gate is any other byte does")
+@every.check(
+    "a record whose gate is closed doesn't count, and one whose gate is any other byte does"
+)
 def gates(ox):
     blocks, tips = chain(2)
     one, two = file_a(blocks[:1]), file_a(blocks)
@@ -711,7 +712,7 @@ def has_drilled(ox, count):
     ox.status_is(count, blocks[-1][1][::-1].hex())
 
 
-@check("drills of 1, 12 and 100 blocks tell what they count, and leave a store that goes on")
+@every.check("drills of 1, 12 and 100 blocks tell what they count, and leave a store that goes on")
 def drills(ox):
     for count in (1, 12, 100):
         ox.write(b"", b"")
@@ -720,14 +721,14 @@ def drills(ox):
     ox.wants((0, f"ok 98 {tip}\n".encode()), "apply", feed=b"disconnect\n")
 
 
-@check("a drill of 1,000 blocks in two folders shows the same line and leaves the same bytes")
+@every.check("a drill of 1,000 blocks in two folders shows the same line and leaves the same bytes")
 def same_drills(ox):
     for name in ("one", "other"):
         (ox.folder / name).mkdir()
         has_drilled(Ox(ox.program, ox.folder / name), 1000)
 
 
-@check("a drill where there is a store is refused, and changes no byte of the files")
+@every.check("a drill where there is a store is refused, and changes no byte of the files")
 def second_drill(ox):
     ox.run("drill", "2")
     a, b = ox.files()
@@ -764,7 +765,9 @@ def asked_paths(ox):
     yield from (f"/sat/{SUBSIDY * height}" for height in range(0, status["blocks"] + 1, 20))
 
 
-@check(f"an old store of {MIGRATED} lines becomes one that replies as a new one of the same lines")
+@every.check(
+    f"an old store of {MIGRATED} lines becomes one that replies as a new one of the same lines"
+)
 def migrated(ox):
     commands, a, b = old_store()
     ox.write(a, EMPTY_B)
@@ -782,7 +785,7 @@ def migrated(ox):
     ox.wants(new.run("apply", feed=back), "apply", feed=back)
 
 
-@check("kills of a `migrate` leave the old store or the new one")
+@every.check("kills of a `migrate` leave the old store or the new one")
 def killed_migrations(ox):
     commands, a, b = old_store()
     chance, took = random.Random(SEED), 1.0
@@ -804,7 +807,7 @@ def killed_migrations(ox):
         ox.has(a, b)
 
 
-@check("a `migrate` for which there is no memory changes no byte of the files")
+@every.check("a `migrate` for which there is no memory changes no byte of the files")
 def no_memory_to_migrate(ox):
     blocks, _ = chain(3, lambda height: bytes(3_999_800))
     a = old_file_of(map(payload_of, blocks))
@@ -818,7 +821,9 @@ def no_memory_to_migrate(ox):
     ox.wants((0, b"ok 3\n"), "migrate")
 
 
-@check("status 10: a command of an old store that the rules refuse, and the files are as they were")
+@every.check(
+    "status 10: a command of an old store that the rules refuse, and the files are as they were"
+)
 def old_commands(ox):
     right, wrong = commitment(), commitment()[:-1] + bytes([commitment()[-1] ^ 1])
     block, tip = block_of(bytes(32), [committing(0, right)])
@@ -837,7 +842,7 @@ def old_commands(ox):
 # The statuses, by what brings each about.
 
 
-@check("status 1: words that aren't a subcommand")
+@every.check("status 1: words that aren't a subcommand")
 def usage(ox):
     rows = [
         (),
@@ -858,7 +863,7 @@ def usage(ox):
     demand((ran.returncode, ran.stdout) == (1, b""), "without a word the program ends otherwise")
 
 
-@check("status 2: a store isn't made of files that aren't empty")
+@every.check("status 2: a store isn't made of files that aren't empty")
 def not_empty(ox):
     for a, b in ((EMPTY_A, EMPTY_B), (b"", b"\0"), (b"\0", b""), (b"other", b"")):
         for words in (("init", "regtest", "100"), ("drill", "1")):
@@ -905,7 +910,7 @@ def not_stores():
         yield a, EMPTY_B, "a 26"
 
 
-@check("status 3: files that are no store are told by the first test that fails")
+@every.check("status 3: files that are no store are told by the first test that fails")
 def not_store(ox):
     for a, b, told in not_stores():
         ox.write(a, b)
@@ -927,7 +932,9 @@ def lying_files():
         yield whole[:55] + length + whole[59:], 54
 
 
-@check("status 3, and not 8: files whose counts and lengths tell four billion, in little memory")
+@every.check(
+    "status 3, and not 8: files whose counts and lengths tell four billion, in little memory"
+)
 def lying_in_files(ox):
     for a, place in lying_files():
         ox.write(a, EMPTY_B)
@@ -939,7 +946,7 @@ def lying_in_files(ox):
             ox.wants(wanted, *words, preexec_fn=little)
 
 
-@check("status 4: a folder or a file that can't be opened")
+@every.check("status 4: a folder or a file that can't be opened")
 def cannot_open(ox):
     (ox.folder / "a.ox").mkdir()
     ox.wants((4, b""), "init", "regtest", "100")
@@ -950,7 +957,7 @@ def cannot_open(ox):
         Ox(ox.program, folder).wants((4, b""), "init", "regtest", "100")
 
 
-@check("status 4: a folder that can't be synced, since it can't be read")
+@every.check("status 4: a folder that can't be synced, since it can't be read")
 def cannot_sync_folder(ox):
     # in a place that another user may enter
     top = pathlib.Path(tempfile.mkdtemp())
@@ -969,7 +976,7 @@ def cannot_sync_folder(ox):
         shutil.rmtree(top)
 
 
-@check("status 4: a sync that fails, and nothing is shown")
+@every.check("status 4: a sync that fails, and nothing is shown")
 def cannot_sync_file(ox):
     for name in ("a.ox", "b.ox"):
         (ox.folder / name).symlink_to("/dev/null")
@@ -978,7 +985,7 @@ def cannot_sync_file(ox):
             (ox.folder / made).unlink()
 
 
-@check("status 4: a write that fails, and the store has the blocks that were shown")
+@every.check("status 4: a write that fails, and the store has the blocks that were shown")
 def cannot_write(ox):
     blocks, tips = chain(6)
     ox.init()
@@ -995,7 +1002,7 @@ def cannot_write(ox):
     ox.has_blocks(blocks[:4])
 
 
-@check("status 4: a standard stream that is closed, and no file takes its place")
+@every.check("status 4: a standard stream that is closed, and no file takes its place")
 def closed_streams(ox):
     ox.init()
     for stream in range(3):
@@ -1013,7 +1020,7 @@ def closed_streams(ox):
         ox.has(EMPTY_A, EMPTY_B)
 
 
-@check("status 5: a feed that can't be read")
+@every.check("status 5: a feed that can't be read")
 def cannot_hear(ox):
     ox.init()
     feed = os.open(ox.folder, os.O_RDONLY)
@@ -1025,7 +1032,7 @@ def cannot_hear(ox):
     ox.has(EMPTY_A, EMPTY_B)
 
 
-@check("status 6: an answer that can't be shown is of a block that is kept")
+@every.check("status 6: an answer that can't be shown is of a block that is kept")
 def cannot_show(ox):
     with full() as stdout:
         ox.wants((6, None), "init", "regtest", "100", stdout=stdout)
@@ -1036,7 +1043,7 @@ def cannot_show(ox):
     ox.status_is(1, GENESIS_ANSWER.split()[2].decode())
 
 
-@check("status 6: nobody reads any more what is shown")
+@every.check("status 6: nobody reads any more what is shown")
 def cut_pipe(ox):
     ox.init()
     ours, theirs = os.pipe()
@@ -1048,7 +1055,7 @@ def cut_pipe(ox):
     ox.status_is(1, GENESIS_ANSWER.split()[2].decode())
 
 
-@check("statuses 1, 2 and 3 stay where their line can't be shown")
+@every.check("statuses 1, 2 and 3 stay where their line can't be shown")
 def statuses_stay(ox):
     with full() as stdout:
         ox.wants((1, None), "served", stdout=stdout)
@@ -1057,7 +1064,7 @@ def statuses_stay(ox):
         ox.wants((2, None), "init", "regtest", "100", stdout=stdout)
 
 
-@check(
+@every.check(
     "status 8: a block for which there is no memory, and the store has the blocks that were shown"
 )
 def no_memory(ox):
@@ -1073,46 +1080,10 @@ def no_memory(ox):
     ox.wants((0, answer(2, tips)), "apply", feed=line(blocks[2]))
 
 
-@check(f"{KILLS} kills of a running `apply` lose no command whose line was shown")
+@every.check(f"{KILLS} kills of a running `apply` lose no command whose line was shown")
 def killed_runs(ox):
     kill_often(ox.program, ox.folder, KILLS, random.Random(SEED), collections.Counter())
 
 
-def too_long(number, frame):
-    raise Failed(f"it took over {SECONDS} seconds")
-
-
-def passes(what, function, program, out):
-    """Whether the check passes, in a folder of its own."""
-    folder = pathlib.Path(tempfile.mkdtemp(dir=out))
-    signal.alarm(SECONDS)
-    try:
-        function(Ox(program, folder))
-    except Failed as failed:
-        print(f"FAILED: {what}: {failed}; the files are in {folder}")
-        return False
-    except Exception:
-        print(f"FAILED: {what}; the files are in {folder}\n{traceback.format_exc()}")
-        return False
-    finally:
-        signal.alarm(0)
-    shutil.rmtree(folder)
-    return True
-
-
-def main():
-    program = pathlib.Path(sys.argv[1]).resolve() if len(sys.argv) > 1 else PROGRAM
-    if not program.exists():
-        print(f"{program} isn't built")
-        print("0 passed, 1 failed")
-        sys.exit(1)
-    out = TOP / "checks" / "out"
-    out.mkdir(exist_ok=True)
-    signal.signal(signal.SIGALRM, too_long)
-    results = [passes(what, function, program, out) for what, function in checks]
-    print(f"{results.count(True)} passed, {results.count(False)} failed")
-    sys.exit(0 if all(results) else 1)
-
-
 if __name__ == "__main__":
-    main()
+    every.main(__doc__, TOP / "checks" / "out")

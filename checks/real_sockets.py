@@ -1,8 +1,6 @@
 #!/usr/bin/env python3
 """Runs the built program as a server on loopback, and looks at what real clients get.
 
-    python3 checks/real_sockets.py [PROGRAM [KILLS]]
-
 No proof says which bytes a socket gives or takes, so this tries it: curl and Python's client,
 requests in single bytes and a thousand at once, clients that close half of a link, reset it, never
 read, read late, send a byte now and then or an urgent one, more links than there are slots, bodies
@@ -11,9 +9,8 @@ listener that ends, a folder that another program has, kills during posts, and t
 idle server takes.
 Each check has a new folder below out/ beside this script, that is gone where it passed. A check
 that fails is told with its cause, and its folder stays. The last line says how many passed and how
-many failed, and the status is 1 where one failed. PROGRAM is crates/ox_main/out/ox_main without a
-word, which `rt ci` and `rt run` leave there. It takes a minute and a quarter, for which the longest
-check waits beside the others. KILLS says how often a server is killed, 20 without a word.
+many failed, and the status is 1 where one failed. It takes a minute and a quarter, for which the
+longest check waits beside the others.
 """
 
 import contextlib
@@ -26,23 +23,18 @@ import pathlib
 import random
 import resource
 import select
-import shutil
 import signal
 import socket
 import struct
 import subprocess
 import sys
-import tempfile
 import threading
 import time
-import traceback
 
 from chain import chain
-from kills import Failed, demand
 from store_files import file_a
-from tools.programs import proved_program
+from tools.checks import Checks, Failed, demand
 
-PROGRAM = proved_program("ox_main")
 SECONDS = 60
 # more turns than any check takes
 TURNS = "18446744073709551615"
@@ -64,20 +56,6 @@ PHRASES = {
     413: "Content Too Large",
     431: "Request Header Fields Too Large",
 }
-
-checks = []
-
-
-def check(what, beside=False):
-    """Has the function below looked at, and tells it as `what` where it fails. A long one may run
-    beside the others."""
-
-    def keep(function):
-        checks.append((what, function, beside))
-        return function
-
-    return keep
-
 
 # What is to be shown, by docs/FORMATS.md.
 
@@ -222,6 +200,9 @@ class Server:
         demand(got.startswith(b"HTTP/1.1 200 OK\r\n"), f"another link was shown {got[:100]}")
 
 
+every = Checks(Server)
+
+
 def free_ports():
     """Two ports that nobody listens at."""
     with socket.socket() as one, socket.socket() as two:
@@ -255,7 +236,7 @@ def wants(got, wanted):
 # Clients.
 
 
-@check("curl is answered, and posts a block")
+@every.check("curl is answered, and posts a block")
 def by_curl(server):
     blocks, tips = chain(1)
     server.init()
@@ -278,7 +259,7 @@ def by_curl(server):
     body.unlink()
 
 
-@check("Python's client asks a hundred times on one link")
+@every.check("Python's client asks a hundred times on one link")
 def by_client(server):
     server.init()
     with server.serving():
@@ -294,7 +275,7 @@ def by_client(server):
         client.close()
 
 
-@check("a body above 4,000,000 bytes is refused, and Python's client reads the reply")
+@every.check("a body above 4,000,000 bytes is refused, and Python's client reads the reply")
 def too_long(server):
     server.init()
     with server.serving():
@@ -308,7 +289,7 @@ def too_long(server):
             client.close()
 
 
-@check("a thousand requests that are sent at once are answered in order")
+@every.check("a thousand requests that are sent at once are answered in order")
 def pipelined(server):
     server.init()
     with server.serving(), server.link() as link:
@@ -319,7 +300,7 @@ def pipelined(server):
         wants(exactly(link, len(wanted)), wanted)
 
 
-@check("a request may come in single bytes")
+@every.check("a request may come in single bytes")
 def single_bytes(server):
     blocks, tips = chain(1)
     server.init()
@@ -332,7 +313,7 @@ def single_bytes(server):
         wants(server.asks(get("/status", "Connection: close")), status_of(1, tips[0], True))
 
 
-@check("a client that closes its half of a link gets its replies, and the link ends")
+@every.check("a client that closes its half of a link gets its replies, and the link ends")
 def half_closed(server):
     server.init()
     with server.serving(), server.link() as link:
@@ -341,7 +322,7 @@ def half_closed(server):
         wants(everything(link), status_of(0, None) * 3)
 
 
-@check("a client that resets a link ends it alone")
+@every.check("a client that resets a link ends it alone")
 def reset(server):
     server.init()
     with server.serving():
@@ -353,7 +334,7 @@ def reset(server):
             server.is_served()
 
 
-@check("beside a client that never reads another one is served")
+@every.check("beside a client that never reads another one is served")
 def never_reads(server):
     server.init()
     with server.serving(), server.link() as idle:
@@ -367,7 +348,7 @@ def never_reads(server):
                 wants(exactly(link, len(status_of(0, None))), status_of(0, None))
 
 
-@check("a 33rd link waits until another one ends")
+@every.check("a 33rd link waits until another one ends")
 def more_than_slots(server):
     server.init()
     with server.serving(), contextlib.ExitStack() as links:
@@ -393,7 +374,7 @@ def little():
     resource.setrlimit(resource.RLIMIT_AS, (LITTLE, LITTLE))
 
 
-@check("beside 31 links that tell of 4,000,000 bytes and send none another one is served")
+@every.check("beside 31 links that tell of 4,000,000 bytes and send none another one is served")
 def bodies_that_never_come(server):
     blocks, tips = chain(1)
     server.init()
@@ -415,7 +396,7 @@ def bodies_that_never_come(server):
 # Hostile and slow clients.
 
 
-@check("a reply is whole to a client that sent more, closed its half and reads late")
+@every.check("a reply is whole to a client that sent more, closed its half and reads late")
 def reads_late(server):
     server.init()
     with server.serving(), server.link(room=4096) as link:
@@ -426,7 +407,7 @@ def reads_late(server):
         wants(everything(link), status_of(0, None) * 2000 + status_of(0, None, True))
 
 
-@check("what stands behind an urgent mark is heard")
+@every.check("what stands behind an urgent mark is heard")
 def urgent(server):
     server.init()
     with server.serving(), server.link() as link:
@@ -445,7 +426,7 @@ def urgent(server):
             wants(exactly(link, len(wanted)), wanted)
 
 
-@check("a hundred links that are reset leave nothing behind")
+@every.check("a hundred links that are reset leave nothing behind")
 def hundred_resets(server):
     server.init()
     with server.serving():
@@ -460,7 +441,7 @@ def hundred_resets(server):
         server.has_descriptors(before, 5)
 
 
-@check("beside links of a byte now and then the operator posts, and who asks stays")
+@every.check("beside links of a byte now and then the operator posts, and who asks stays")
 def drips(server):
     blocks, tips = chain(1)
     server.init()
@@ -519,7 +500,7 @@ def drip(server, count, ends):
         link.close()
 
 
-@check("a head has a minute in all, and a body more", beside=True)
+@every.check("a head has a minute in all, and a body more", beside=True)
 def a_minute(server):
     server.init()
     with server.serving(), server.link() as head, server.link() as body, server.link() as silent:
@@ -553,7 +534,9 @@ def has_ended(link):
         return True
 
 
-@check("a link that was shut stays for ten seconds, and one that still sends isn't pushed out")
+@every.check(
+    "a link that was shut stays for ten seconds, and one that still sends isn't pushed out"
+)
 def lingers(server):
     server.init()
     with server.serving(), contextlib.ExitStack() as links:
@@ -580,7 +563,7 @@ def lingers(server):
         demand(time.monotonic() > began + 9, "the links were closed at once")
 
 
-@check("status 7: a listener that listens no more")
+@every.check("status 7: a listener that listens no more")
 def dead_listener(server):
     for door in ("public", "operator"):
         with contextlib.suppress(FileNotFoundError):
@@ -621,7 +604,7 @@ def close_listener(pid, port):
 # Commands.
 
 
-@check("an operator's link posts commands, and a public one may not")
+@every.check("an operator's link posts commands, and a public one may not")
 def commands(server):
     blocks, tips = chain(3)
     server.init()
@@ -649,7 +632,7 @@ def commands(server):
                 wants(got, wanted)
 
 
-@check("a block of nearly four million bytes is posted and kept")
+@every.check("a block of nearly four million bytes is posted and kept")
 def large_block(server):
     blocks, tips = chain(3, lambda height: bytes(3_999_800))
     server.init()
@@ -669,7 +652,7 @@ def large_block(server):
 # Ends.
 
 
-@check("so many turns are made, and the requests and hits of them are told")
+@every.check("so many turns are made, and the requests and hits of them are told")
 def counted(server):
     blocks, tips = chain(1)
     server.init()
@@ -691,7 +674,7 @@ def counted(server):
         demand(server.child.returncode == 0, f"it ended with {server.child.returncode}")
 
 
-@check("words that are missing, wrong or too many")
+@every.check("words that are missing, wrong or too many")
 def words(server):
     server.init()
     public, operator = server.addresses()
@@ -709,7 +692,7 @@ def words(server):
         demand(got == wanted, f"{given} ended with {got}, not with {wanted}")
 
 
-@check("status 3: files that are no store")
+@every.check("status 3: files that are no store")
 def no_store(server):
     for name in ("a.ox", "b.ox"):
         (server.folder / name).write_bytes(b"\0")
@@ -717,7 +700,7 @@ def no_store(server):
     demand(got == (3, b"not a store a 0\n"), f"it ended with {got}")
 
 
-@check("status 4: a second program over one folder, whatever it is asked for")
+@every.check("status 4: a second program over one folder, whatever it is asked for")
 def second_program(server):
     server.init()
     files = [(server.folder / name).read_bytes() for name in ("a.ox", "b.ox")]
@@ -741,7 +724,7 @@ def second_program(server):
     demand(got == (0, text(status_tree(0, None))), f"{got} was told then")
 
 
-@check("status 7: an address that is in use or can't be read")
+@every.check("status 7: an address that is in use or can't be read")
 def no_address(server):
     server.init()
     public, operator = server.addresses()
@@ -770,7 +753,7 @@ def begin_anew(server):
     server.init()
 
 
-@check("whatever is posted when the program is killed, the store has what was answered")
+@every.check("whatever is posted when the program is killed, the store has what was answered")
 def killed(server):
     chance = random.Random(SEED)
     blocks, tips = chain(400)
@@ -799,7 +782,7 @@ def killed(server):
         have = now
 
 
-@check("an idle server takes next to no processor, with and without links")
+@every.check("an idle server takes next to no processor, with and without links")
 def idle(server):
     server.init()
     with server.serving(), contextlib.ExitStack() as links:
@@ -824,33 +807,13 @@ def processor_time(pid):
 
 
 def main():
-    program = pathlib.Path(sys.argv[1] if len(sys.argv) > 1 else PROGRAM).resolve()
-    kills = int(sys.argv[2]) if len(sys.argv) > 2 else KILLS
-    out = pathlib.Path(__file__).resolve().parent / "out"
-    out.mkdir(exist_ok=True)
-    faults = []
-
-    def look(what, function):
-        folder = pathlib.Path(tempfile.mkdtemp(dir=out))
-        try:
-            function(Server(program, folder, kills))
-        except Exception as fault:
-            faults.append(what)
-            told = fault if isinstance(fault, Failed) else traceback.format_exc()
-            print(f"FAILED: {what}\n  {told}\n  {folder}", flush=True)
-        else:
-            shutil.rmtree(folder)
-
-    besides = [threading.Thread(target=look, args=one[:2]) for one in checks if one[2]]
-    for thread in besides:
-        thread.start()
-    for what, function, beside in checks:
-        if not beside:
-            look(what, function)
-    for thread in besides:
-        thread.join()
-    print(f"real sockets: {len(checks) - len(faults)} passed, {len(faults)} failed")
-    return 1 if faults else 0
+    words = every.parser(__doc__)
+    words.add_argument(
+        "--kills", type=int, default=KILLS, metavar="N", help="how often a server is killed (20)"
+    )
+    said = words.parse_args()
+    every.make = lambda program, folder: Server(program, folder, said.kills)
+    return every.run(said, pathlib.Path(__file__).resolve().parent / "out")
 
 
 if __name__ == "__main__":

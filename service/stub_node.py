@@ -12,18 +12,22 @@ import secrets
 import socket
 import sys
 import threading
+from collections.abc import Callable
+from typing import Any
 
-sys.path.insert(0, str(pathlib.Path(__file__).resolve().parents[1] / "checks"))
+from made_blocks import OPEN, claim, spend
+from tools.bitcoin import RESERVED, block, coinbase, commitment, root, twice
 
-from made_blocks import OPEN, claim, spend  # noqa: E402
-from tools.bitcoin import RESERVED, block, coinbase, commitment, root, twice  # noqa: E402
+
+# a block's bytes, its hash and its transactions' ids
+Made = tuple[bytes, bytes, list[bytes]]
 
 
 class Fault(Exception):
     """An error of a call: its number and its message."""
 
 
-def lawful(height, tip, paid, mark):
+def lawful(height: int, tip: bytes, paid: bytes, mark: int) -> Made:
     """A made block (docs/RULES.md, 'Made blocks') whose coinbase this number makes another: its
     bytes, its hash and its transactions' ids."""
     others = [spend(height, paid)] if height else []
@@ -35,7 +39,7 @@ def lawful(height, tip, paid, mark):
     return data, tip, ids
 
 
-def shown(hash_):
+def shown(hash_: bytes) -> str:
     """A hash as it is shown."""
     return hash_[::-1].hex()
 
@@ -45,19 +49,23 @@ class Doors(http.server.ThreadingHTTPServer):
 
     request_queue_size = 64
 
-    def __init__(self, *words):
-        self.links = set()
-        super().__init__(*words)
+    def __init__(
+        self,
+        place: tuple[str, int],
+        replies: Callable[..., http.server.BaseHTTPRequestHandler],
+    ) -> None:
+        self.links: set[Any] = set()
+        super().__init__(place, replies)
 
-    def process_request(self, request, client_address):
+    def process_request(self, request: Any, client_address: Any) -> None:
         self.links.add(request)
         super().process_request(request, client_address)
 
-    def shutdown_request(self, request):
+    def shutdown_request(self, request: Any) -> None:
         self.links.discard(request)
         super().shutdown_request(request)
 
-    def end(self):
+    def end(self) -> None:
         """Closes the door and all links."""
         self.shutdown()
         self.server_close()
@@ -65,7 +73,7 @@ class Doors(http.server.ThreadingHTTPServer):
             with contextlib.suppress(OSError):
                 link.shutdown(socket.SHUT_RDWR)
 
-    def handle_error(self, request, client_address):
+    def handle_error(self, request: Any, client_address: Any) -> None:
         if not isinstance(sys.exc_info()[1], OSError):
             super().handle_error(request, client_address)
 
@@ -73,24 +81,27 @@ class Doors(http.server.ThreadingHTTPServer):
 class StubNode:
     """A node at an address of its own. What it is like may be changed while it runs."""
 
-    def __init__(self, folder, rest=True, chain="regtest"):
-        self.cookie_file = pathlib.Path(folder) / "cookie"
+    def __init__(self, folder: pathlib.Path, rest: bool = True, chain: str = "regtest") -> None:
+        self.cookie_file = folder / "cookie"
         self.rest, self.chain = rest, chain
         # how many of the next calls find it busy, whether it is starting, and whether it is silent
         self.busy, self.warming, self.silent = 0, False, threading.Event()
         self.silent.set()
         # blocks that it has thrown away, and blocks in whose place it gives other bytes
-        self.pruned, self.wrong = set(), {}
+        self.pruned: set[str] = set()
+        self.wrong: dict[str, bytes] = {}
         # bytes and transactions' ids by hash, and the chain
-        self.blocks, self.ids, self.active = {}, {}, []
-        self.asked, self.posts, self.marks = [], 0, 0
+        self.blocks: dict[str, bytes] = {}
+        self.ids: dict[str, list[bytes]] = {}
+        self.active: list[str] = []
+        self.asked: list[str] = []
+        self.posts, self.marks = 0, 0
         self.lock = threading.RLock()
         self.new_cookie()
-        self.door = None
         self.port = 0
         self.start()
 
-    def start(self):
+    def start(self) -> None:
         """Opens its door, at the same address as before."""
         stub = self
 
@@ -101,19 +112,19 @@ class StubNode:
         self.port = self.door.server_address[1]
         threading.Thread(target=self.door.serve_forever, args=(0.05,), daemon=True).start()
 
-    def stop(self):
+    def stop(self) -> None:
         self.door.end()
 
     @property
-    def address(self):
+    def address(self) -> str:
         return f"127.0.0.1:{self.port}"
 
-    def new_cookie(self):
+    def new_cookie(self) -> None:
         with self.lock:
             self.cookie = b"__cookie__:" + secrets.token_hex(16).encode()
             self.cookie_file.write_bytes(self.cookie)
 
-    def extend(self, count):
+    def extend(self, count: int) -> None:
         """So many new blocks on the chain."""
         with self.lock:
             for _ in range(count):
@@ -123,7 +134,7 @@ class StubNode:
                 self.marks += 1
                 self.take(lawful(height, tip, paid, self.marks))
 
-    def take(self, made):
+    def take(self, made: Made) -> None:
         """A block on the chain."""
         data, tip, ids = made
         with self.lock:
@@ -131,7 +142,7 @@ class StubNode:
             self.blocks[name], self.ids[name] = data, ids
             self.active.append(name)
 
-    def turn(self, back, on):
+    def turn(self, back: int, on: int) -> None:
         """Another chain, in which so many blocks are gone and so many stand in their place."""
         with self.lock:
             del self.active[len(self.active) - back :]
@@ -139,9 +150,9 @@ class StubNode:
 
     # the calls
 
-    def answer(self, call):
+    def answer(self, call: Any) -> dict[str, Any]:
         """The reply to one call."""
-        reply = {"result": None, "error": None, "id": call["id"]}
+        reply: dict[str, Any] = {"result": None, "error": None, "id": call["id"]}
         self.asked.append(call["method"])
         try:
             if self.warming:
@@ -151,24 +162,24 @@ class StubNode:
             reply["error"] = {"code": fault.args[0], "message": fault.args[1]}
         return reply
 
-    def getblockchaininfo(self):
+    def getblockchaininfo(self) -> dict[str, Any]:
         height = len(self.active) - 1
         return {"chain": self.chain, "blocks": height, "bestblockhash": self.active[-1]}
 
-    def getblockhash(self, height):
+    def getblockhash(self, height: int) -> str:
         if not 0 <= height < len(self.active):
             raise Fault(-8, "Block height out of range")
         return self.active[height]
 
-    def getblock(self, name, verbosity):
+    def getblock(self, name: str, verbosity: int) -> str:
         if name in self.pruned:
             raise Fault(-1, "Block not available (pruned data)")
         return self.bytes_of(name).hex()
 
-    def getblockheader(self, name, verbose):
+    def getblockheader(self, name: str, verbose: bool) -> str:
         return self.bytes_of(name)[:80].hex()
 
-    def bytes_of(self, name):
+    def bytes_of(self, name: str) -> bytes:
         if name not in self.blocks:
             raise Fault(-5, "Block not found")
         return self.wrong.get(name, self.blocks[name])
@@ -178,13 +189,13 @@ class Replies(http.server.BaseHTTPRequestHandler):
     """What a link is answered."""
 
     protocol_version = "HTTP/1.1"
-    node = None
+    node: StubNode
 
-    def setup(self):
+    def setup(self) -> None:
         super().setup()
         self.connection.setsockopt(socket.IPPROTO_TCP, socket.TCP_NODELAY, 1)
 
-    def reply(self, status, kind, body):
+    def reply(self, status: int, kind: str, body: bytes) -> None:
         self.node.silent.wait()
         self.send_response(status)
         self.send_header("Content-Type", kind)
@@ -192,7 +203,7 @@ class Replies(http.server.BaseHTTPRequestHandler):
         self.end_headers()
         self.wfile.write(body)
 
-    def do_GET(self):
+    def do_GET(self) -> None:
         node = self.node
         name = self.path.removeprefix("/rest/block/").removesuffix(".bin")
         with node.lock:
@@ -207,7 +218,7 @@ class Replies(http.server.BaseHTTPRequestHandler):
         kind = "application/octet-stream" if status == 200 else "text/plain"
         self.reply(status, kind, body)
 
-    def do_POST(self):
+    def do_POST(self) -> None:
         node = self.node
         body = self.rfile.read(int(self.headers["Content-Length"]))
         wanted = "Basic " + base64.b64encode(node.cookie).decode()
@@ -231,5 +242,5 @@ class Replies(http.server.BaseHTTPRequestHandler):
                 body = json.dumps(tree).encode()
         self.reply(status, kind, body)
 
-    def log_message(self, *_):
+    def log_message(self, *_: object) -> None:
         pass

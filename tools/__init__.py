@@ -1,0 +1,1 @@
+"""What `./ox` and the scripts stand on."""
