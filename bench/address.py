@@ -9,6 +9,7 @@ each and read its address again, and prints calls a second. bench/all.py builds 
 
 from runs import processor_time, report
 from tools.programs import plain_program, proved_program
+from tools.words import no_words
 
 PROVED, PLAIN = proved_program("ox_address_rows"), plain_program("address")
 TIMES = 1_000_000
@@ -33,6 +34,7 @@ def seconds(program, work, script):
 
 
 def main():
+    no_words(__doc__)
     for name, script in SCRIPTS.items():
         times = {}
         for program in (PROVED, PLAIN):
@@ -49,4 +51,5 @@ def main():
             report(f"an address {work}", name, "a second", proved, plain)
 
 
-main()
+if __name__ == "__main__":
+    main()

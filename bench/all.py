@@ -29,6 +29,7 @@ import tempfile
 
 from runs import RESULTS
 from tools.programs import CRATES, TOP, plain_program
+from tools.words import words_of
 
 BENCH = TOP / "bench"
 ROWS, PAGE_FILE = BENCH / "results.tsv", BENCH / "README.md"
@@ -196,15 +197,19 @@ def write_page():
 
 
 def main():
-    options = [word for word in sys.argv[1:] if word.startswith("--")]
-    names = [word for word in sys.argv[1:] if word not in options] or list(NEEDS)
-    if not set(options) <= {"--debian", "--table"} or not set(names) <= set(NEEDS):
-        sys.exit(__doc__)
-    if "--table" not in options:
+    words = words_of(__doc__)
+    words.add_argument("--debian", action="store_true", help="build plain programs of its packages")
+    words.add_argument("--table", action="store_true", help="write the table alone")
+    words.add_argument("names", nargs="*", metavar="NAME", help="scripts, without .py (all)")
+    said = words.parse_args()
+    names = said.names or list(NEEDS)
+    if not set(names) <= set(NEEDS):
+        words.error(f"there are {', '.join(NEEDS)}")
+    if not said.table:
         for program in sorted({one for name in names for one in NEEDS[name][0]}):
             build_proved(program)
         for program in sorted({one for name in names for one in NEEDS[name][1]}):
-            build_plain(program, "--debian" in options)
+            build_plain(program, said.debian)
         for name in names:
             print(f"== {name}", flush=True)
             measure(name)

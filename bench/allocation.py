@@ -11,6 +11,7 @@ plain program has a map for each output too. bench/all.py builds both.
 
 from runs import processor_time, report
 from tools.programs import plain_program, proved_program
+from tools.words import no_words
 
 PROVED, PLAIN = proved_program("ox_speed"), plain_program("allocation")
 TIMES = 20
@@ -32,6 +33,7 @@ def milliseconds(program, kind, count):
 
 
 def main():
+    no_words(__doc__)
     for kind, (work, counts) in LOADS.items():
         for count in counts:
             proved, answer = milliseconds(PROVED, kind, count)
@@ -44,4 +46,5 @@ def main():
             report(work, f"{count:,}", "ms", proved, plain)
 
 
-main()
+if __name__ == "__main__":
+    main()

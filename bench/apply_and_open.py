@@ -44,6 +44,7 @@ from chain import SHORT, chain, line, payload_of  # noqa: E402
 from row_forms import Change, Index, Output  # noqa: E402
 from store_files import Disk, body_of, bytes_in, file_of, make, payload_on  # noqa: E402
 from tools.bitcoin import SUBSIDY, twice  # noqa: E402
+from tools.words import words_of
 
 PROGRAM = proved_program("ox_main")
 RUNS = 5
@@ -337,9 +338,12 @@ def open_all_large(program, top):
 
 
 def main():
-    words = sys.argv[1:]
-    applied, opened = [int(word) for word in words[:2]] + [2000, 10_000][len(words[:2]) :]
-    program = pathlib.Path(words[2]).resolve() if len(words) > 2 else PROGRAM
+    words = words_of(__doc__)
+    words.add_argument("applied", nargs="?", type=int, default=2000, help="commands (2,000)")
+    words.add_argument("opened", nargs="?", type=int, default=10_000, help="blocks (10,000)")
+    words.add_argument("program", nargs="?", type=pathlib.Path, default=PROGRAM)
+    said = words.parse_args()
+    applied, opened, program = said.applied, said.opened, said.program.resolve()
     if not program.exists():
         sys.exit(f"{program} isn't built")
     out = TOP / "bench" / "out"

@@ -25,6 +25,7 @@ from blocks import SUBSIDY
 from runs import RUNS, report
 from tools.bitcoin import twice
 from tools.programs import TOP, plain_program, proved_program
+from tools.words import numbers
 
 sys.path.append(str(TOP / "checks"))
 
@@ -172,9 +173,9 @@ def compare(outputs, top):
 
 
 def main():
+    sizes = numbers(__doc__, "OUTPUTS", SIZES, "outputs of a feed")
     out = TOP / "bench" / "out"
     out.mkdir(exist_ok=True)
-    sizes = [int(word) for word in sys.argv[1:]] or SIZES
     with tempfile.TemporaryDirectory(dir=out) as top:
         taken = [compare(outputs, top) for outputs in sizes]
     for fewer, more, short, long in zip(sizes, sizes[1:], taken, taken[1:]):

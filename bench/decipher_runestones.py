@@ -14,6 +14,7 @@ import time
 from runs import report
 from tools.bitcoin import varint
 from tools.programs import proved_program
+from tools.words import no_words
 
 PROGRAM = proved_program("ox_speed")
 
@@ -42,6 +43,7 @@ def seconds(data, times):
 
 
 def main():
+    no_words(__doc__)
     for name, make, counts in (
         ("edicts", edicts, (10_000, 100_000)),
         ("tags", tags, (50_000, 500_000)),
@@ -58,4 +60,5 @@ def main():
             report(f"a runestone of {name}", f"{count:,}", "million integers a second", rate)
 
 
-main()
+if __name__ == "__main__":
+    main()

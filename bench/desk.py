@@ -27,6 +27,7 @@ from query import CONTENT, CONTROL, write_blocks
 from runs import RUNS, in_another_process, least, report, run
 from tools.bitcoin import twice
 from tools.programs import plain_program, proved_program
+from tools.words import no_words
 
 OX, MAIN = proved_program("ox_run_rows"), proved_program("ox_main")
 PROGRAMS = {"ox": [OX], "plain": [plain_program("desk")]}
@@ -165,6 +166,7 @@ def time_connects(folder, feed):
 
 
 def main():
+    no_words(__doc__)
     with tempfile.TemporaryDirectory() as folder:
         folder = pathlib.Path(folder)
         rows, feed = folder / "rows", folder / "feed"

@@ -22,6 +22,7 @@ import time
 
 from runs import RUNS, report, run
 from tools.programs import TOP, plain_program, proved_program
+from tools.words import words_of
 
 MEMORY = pathlib.Path("/dev/shm")
 COUNTS = 1_000, 10_000, 100_000
@@ -74,12 +75,15 @@ def tell(kind, place, count):
 
 
 def main():
-    words, disk = sys.argv[1:], TOP / "bench" / "out"
-    if words[:1] == ["--disk"]:
-        disk, words = pathlib.Path(words[1]), words[2:]
-    disk.mkdir(exist_ok=True)
-    for count in map(int, words) if words else COUNTS:
-        for kind, place in (("memory", MEMORY), ("disk", disk)):
+    words = words_of(__doc__)
+    words.add_argument(
+        "--disk", type=pathlib.Path, default=TOP / "bench" / "out", help="a folder on a disk"
+    )
+    words.add_argument("blocks", nargs="*", type=int, default=COUNTS, help="made blocks")
+    said = words.parse_args()
+    said.disk.mkdir(exist_ok=True)
+    for count in said.blocks:
+        for kind, place in (("memory", MEMORY), ("disk", said.disk)):
             tell(kind, place, count)
 
 

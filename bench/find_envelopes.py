@@ -12,6 +12,7 @@ import time
 
 from runs import report
 from tools.programs import proved_program
+from tools.words import no_words
 
 PROGRAM = proved_program("ox_block_rows")
 TIMES = 10
@@ -29,6 +30,7 @@ def seconds(word, script):
 
 
 def main():
+    no_words(__doc__)
     opening = b"\0\x63\x03ord"
     for name, head, part in (
         ("empty pushes", b"", b"\0"),
@@ -50,4 +52,5 @@ def main():
             report(f"a search: {name}", f"{size:,} bytes", "ms", search * 1e3, scan * 1e3)
 
 
-main()
+if __name__ == "__main__":
+    main()

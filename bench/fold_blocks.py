@@ -18,12 +18,12 @@ blocks changed; it tests commitments too. Nothing here is proved. bench/all.py b
 
 import pathlib
 import random
-import sys
 import tempfile
 
 from blocks import SUBSIDY, block, coinbase, connect, key, tx
 from runs import in_another_process, least, report, write_part
 from tools.programs import plain_program, proved_program
+from tools.words import numbers
 
 OX, PLAIN = proved_program("ox_main"), plain_program("fold_blocks")
 PLAIN_WORDS = {"plain": [], "same": ["locator", "1000"]}
@@ -118,7 +118,8 @@ def time_chain(counts, folder, marked, goals):
 
 
 def main():
-    counts, goals = sorted(int(word) for word in sys.argv[1:]) or [600, 2000, 6000], {}
+    given = numbers(__doc__, "BLOCKS", [600, 2000, 6000], "how many blocks a chain has")
+    counts, goals = sorted(given), {}
     with tempfile.TemporaryDirectory() as folder:
         for marked in (False, True):
             print("with witnesses:" if marked else "without witnesses:")

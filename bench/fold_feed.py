@@ -23,6 +23,7 @@ from runs import report, run
 from tools import bitcoin
 from tools.bitcoin import string, twice
 from tools.programs import TOP, proved_program
+from tools.words import numbers
 
 PROGRAM = proved_program("ox_main")
 SOURCE = TOP / "bench" / "plain" / "fold_feed.c"
@@ -85,13 +86,14 @@ def compare(plain, folder, megabytes):
 
 
 def main():
+    sizes = numbers(__doc__, "MEGABYTES", [50, 500], "of a feed")
     compilers = filter(None, map(shutil.which, ("cc", "gcc", "clang")))
     compiler = next(compilers, "/opt/rattle/toolchain/bin/clang")
     with tempfile.TemporaryDirectory() as folder:
         folder = pathlib.Path(folder)
         plain = folder / "plain"
         subprocess.run([compiler, "-O2", "-o", plain, SOURCE], check=True)
-        for megabytes in [int(word) for word in sys.argv[1:]] or [50, 500]:
+        for megabytes in sizes:
             compare(plain, folder, megabytes)
 
 

@@ -18,12 +18,12 @@ is proved. bench/all.py builds both programs.
 
 import pathlib
 import random
-import sys
 import tempfile
 
 from blocks import SUBSIDY, block, coinbase, connect, key, push, runestone, tx
 from runs import RUNS, in_another_process, least, report, write_part
 from tools.programs import plain_program, proved_program
+from tools.words import words_of
 from undo import Child, lines_of
 
 PROGRAMS = {"ox": proved_program("ox_main"), "plain": plain_program("index")}
@@ -146,7 +146,9 @@ def tell_memory(folder, count):
 
 
 def main():
-    most = int(sys.argv[1]) if len(sys.argv) > 1 else 4000
+    words = words_of(__doc__)
+    words.add_argument("blocks", nargs="?", type=int, default=4000, help="of the chain (4,000)")
+    most = words.parse_args().blocks
     tenth = most // 10
     with tempfile.TemporaryDirectory() as folder:
         folder = pathlib.Path(folder)

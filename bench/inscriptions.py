@@ -21,6 +21,7 @@ from blocks import SUBSIDY, coinbase, compact_size, put, tx
 from runs import in_another_process, least, report
 from tools.bitcoin import string
 from tools.programs import plain_program, proved_program
+from tools.words import no_words
 
 PROGRAMS = {"proved": proved_program("ox_speed"), "plain": plain_program("inscriptions")}
 LOOKS = 1
@@ -143,6 +144,7 @@ def tell_rows(count):
 
 
 def main():
+    no_words(__doc__)
     for count in (100_000, 1_000_000):
         tell_rows(count)
     reveals("pointers", "pointers", 9)

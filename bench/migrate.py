@@ -16,6 +16,7 @@ import tempfile
 
 from runs import RUNS, report, run
 from tools.programs import TOP, proved_program
+from tools.words import numbers
 
 sys.path.append(str(TOP / "checks"))
 
@@ -56,8 +57,9 @@ def compare(folder, count):
 
 
 def main():
+    counts = numbers(__doc__, "BLOCKS", [10_000], "blocks of an old store")
     with tempfile.TemporaryDirectory() as folder:
-        for count in [int(word) for word in sys.argv[1:]] or [10_000]:
+        for count in counts:
             compare(pathlib.Path(folder), count)
 
 

@@ -26,6 +26,7 @@ from blocks import SUBSIDY, block, coinbase, key, push, pushes, runestone, tx
 from runs import in_another_process, least, report, run
 from tools.programs import plain_program, proved_program
 from tools.runes import kept_name, name_of
+from tools.words import numbers
 
 OX, PLAIN = proved_program("ox_index_rows"), plain_program("query")
 PROGRAMS = {"ox": [OX], "structs": [PLAIN, "structs"], "tree": [PLAIN, "tree"]}
@@ -185,11 +186,11 @@ def tell(route, outputs, replies, base, often):
 
 
 def main():
-    words = sys.argv[1:]
+    counts = numbers(__doc__, "OUTPUTS", [20_000, 200_000, 2_000_000], "unspent outputs")
     with tempfile.TemporaryDirectory() as folder:
         folder = pathlib.Path(folder)
         blocks, feed = folder / "blocks", folder / "feed"
-        for outputs in [int(word) for word in words] or [20_000, 200_000, 2_000_000]:
+        for outputs in counts:
             ids, contents = in_another_process(write_blocks, blocks, outputs // EACH)
             compare_replies(blocks, ids, contents, folder)
             for route, replies in REPLIES.items():

@@ -11,12 +11,12 @@ bench/all.py builds both.
 
 import random
 import subprocess
-import sys
 import time
 
 from runs import report
 from tools.bitcoin import block, transaction
 from tools.programs import plain_program, proved_program
+from tools.words import words_of
 
 
 def make(count):
@@ -64,9 +64,12 @@ def compare(count, times):
 
 
 def main():
-    times = int(sys.argv[1]) if len(sys.argv) > 1 else 20
+    words = words_of(__doc__)
+    words.add_argument("times", nargs="?", type=int, default=20, help="how often (20)")
+    times = words.parse_args().times
     compare(200, 10 * times)
     compare(2000, times)
 
 
-main()
+if __name__ == "__main__":
+    main()

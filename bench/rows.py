@@ -18,11 +18,11 @@ that rises, at once. bench/all.py builds both programs.
 import pathlib
 import random
 import struct
-import sys
 import tempfile
 
 from runs import in_another_process, least, report
 from tools.programs import plain_program, proved_program
+from tools.words import numbers
 
 PROGRAMS = {"ox": [proved_program("ox_index_rows")], "plain": [plain_program("rows")]}
 TENTH = 10
@@ -136,8 +136,8 @@ def tell(outputs, size, took):
 
 
 def main():
-    words, before = sys.argv[1:], None
-    for outputs in [int(word) for word in words] or [100_000, 1_000_000]:
+    before = None
+    for outputs in numbers(__doc__, "OUTPUTS", [100_000, 1_000_000], "unspent outputs"):
         with tempfile.TemporaryDirectory() as folder:
             folder = pathlib.Path(folder)
             size = in_another_process(write_rows, folder, outputs)

@@ -15,12 +15,12 @@ an output with runes takes. Nothing here is proved. bench/all.py builds both pro
 
 import pathlib
 import random
-import sys
 import tempfile
 
 from blocks import coinbase, compact_size, key, put, runestone, tx
 from runs import in_another_process, least, report
 from tools.programs import plain_program, proved_program
+from tools.words import numbers
 
 PROGRAMS = {"ox": [proved_program("ox_speed"), "runes"], "plain": [plain_program("runes")]}
 EACH = 10_000
@@ -121,7 +121,7 @@ def tell(what, outputs, unit, values):
 
 
 def main():
-    for outputs in [int(word) for word in sys.argv[1:]] or [100_000, 1_000_000]:
+    for outputs in numbers(__doc__, "OUTPUTS", [100_000, 1_000_000], "outputs with runes"):
         with tempfile.TemporaryDirectory() as folder:
             folder = pathlib.Path(folder)
             filled = in_another_process(write_feeds, folder, outputs)

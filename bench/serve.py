@@ -26,6 +26,7 @@ from runs import RUNS, report
 from tools import bitcoin
 from tools.bitcoin import SUBSIDY, twice
 from tools.programs import plain_program, proved_program
+from tools.words import no_words
 
 OX, PLAIN = proved_program("ox_main"), plain_program("serve")
 SECONDS = 3
@@ -137,6 +138,7 @@ def tell(path, blocks, size, ours, plain):
 
 
 def main():
+    no_words(__doc__)
     for links, silent in (1, 0), (32, 0), (1, 31):
         size = f"{links} at work" + (f", {silent} silent" if silent else "")
         by = {mode: answered(plain(mode), links, silent, "/status") for mode in ("epoll", "all")}

@@ -16,6 +16,7 @@ import tempfile
 
 from runs import RUNS, report, run
 from tools.programs import plain_program, proved_program
+from tools.words import no_words
 
 OX, PLAIN = proved_program("ox_http_rows"), plain_program("http")
 PIECE, ALL = 65_536, 1_000_000_000
@@ -62,6 +63,7 @@ def tell(what, size, row, times, units, name, copies=None):
 
 
 def main():
+    no_words(__doc__)
     for head in SHORT, LONG:
         row = f"often {{}} {head.hex()}"
         tell("a head read", f"{len(head)} bytes", row, 1_000_000, 1_000_000, "heads")

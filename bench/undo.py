@@ -22,6 +22,7 @@ import threading
 
 from fold_blocks import OX, PLAIN, SPENDS, write_chain
 from runs import RUNS, in_another_process, report, run, write_part
+from tools.words import numbers
 
 TURNS = 10
 OF_A_TURN = 10
@@ -143,7 +144,7 @@ def tell_memory(feed, folder):
 
 
 def main():
-    counts = sorted(int(word) for word in sys.argv[1:]) or [40, 400, 3992]
+    counts = sorted(numbers(__doc__, "BLOCKS", [40, 400, 3992], "how many blocks a chain has"))
     with tempfile.TemporaryDirectory() as folder:
         folder = pathlib.Path(folder)
         chain, part = folder / "chain", folder / "part"

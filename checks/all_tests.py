@@ -1,13 +1,11 @@
 #!/usr/bin/env python3
 """Runs the tests of every crate at once, unproved.
 
-    python3 checks/all_tests.py [CRATE..]
-
-runs `rt try --test` in each crate that has tests, or in those that are named, in as many at once as
-there are processors, and tells of each whether its tests passed and how long that took. Of a crate
-whose tests failed it shows what `rt try` said. The last line says how many crates passed and how
-many failed, and the status is 1 where one failed. Nothing is proved, no program is run, and a call
-that breaks a `requires` isn't seen.
+It runs `rt try --test` in each crate that has tests, or in those that are named, in as many at once
+as there are processors, and tells of each whether its tests passed and how long that took. Of a
+crate whose tests failed it shows what `rt try` said. The last line says how many crates passed and
+how many failed, and the status is 1 where one failed. Nothing is proved, no program is run, and a
+call that breaks a `requires` isn't seen.
 """
 
 import concurrent.futures
@@ -16,6 +14,7 @@ import pathlib
 import subprocess
 import sys
 import time
+from tools.words import words_of
 
 TOP = pathlib.Path(__file__).resolve().parent.parent
 # how long the tests of one crate may run: they are built without optimization
@@ -56,8 +55,11 @@ def passes(name):
 
 
 def main():
+    words = words_of(__doc__)
+    words.add_argument("crates", nargs="*", metavar="CRATE", help="all that have tests without")
+    chosen = words.parse_args().crates or names()
     with concurrent.futures.ThreadPoolExecutor(os.cpu_count()) as at_once:
-        results = list(at_once.map(passes, sys.argv[1:] or names()))
+        results = list(at_once.map(passes, chosen))
     print(f"{results.count(True)} passed, {results.count(False)} failed")
     sys.exit(0 if all(results) else 1)
 

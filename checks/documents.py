@@ -1,10 +1,8 @@
 #!/usr/bin/env python3
 """Looks whether what the documents say is there.
 
-    python3 checks/documents.py [--selftest]
-
-reads the documents (README.md, CONTRIBUTING.md, docs/, bench/, service/ and each crate's page) and
-tells each line
+It reads the documents (README.md, CONTRIBUTING.md, docs/, bench/, service/ and each crate's page)
+and tells each line
 
 1. whose path in backquotes isn't there: from the top, below crates/, on a page below its crate, or
    beside the path before it;
@@ -26,17 +24,26 @@ tells each line
 
 The last line says how many lines were told. The status is 1 where there are any. With --selftest it
 puts one wrong line for each of these rules into a copy in memory, and says whether each is told.
-It reads files alone, but for `rt help` and `rt version`, and takes seconds.
+It reads files alone, but for `rt help` and `rt version`, and takes seconds. With --commands it runs
+the indented commands of README, OPERATING and service/README, as they are written, but for those
+that NOT_RUN names, each with its reason.
 """
 
+import contextlib
 import pathlib
 import re
 import shutil
+import socket
 import subprocess
 import sys
+import tempfile
+import time
 
+import chain
 import review
+from old_files import old_file_of
 import surface
+from tools.words import words_of
 
 TOP = pathlib.Path(__file__).resolve().parents[1]
 
@@ -572,11 +579,114 @@ def selftest():
     return failed
 
 
+# Commands of the pages, run as they are written.
+
+PAGES = ["README.md", "docs/OPERATING.md", "service/README.md"]
+# the first words of lines that aren't run, and why
+NOT_RUN = [
+    ("git clone ", "it wants an address"),
+    ("./ox demo", "the gate runs it"),
+    ("./ox test", "it runs this"),
+    ("python3 service/ox_feed.py ", "it wants a node"),
+    ("service/install.sh", "it changes the system: service/check.py runs it below a folder"),
+    ("adduser |install |ln |runuser |systemctl |journalctl |apt-get ", "it changes the system"),
+    ("bitcoin-cli ", "it wants a node"),
+    (r"curl -H|curl --data", "it wants a block of a node"),
+    (r"\w+=|scrape_configs:|rule_files:", "it is a line of a file"),
+    (r"blocks of|connect 01|disconnect|\(a feed|a\.ox", "it is a picture's"),
+]
+
+
+def page_commands():
+    """The indented lines of the pages that are commands, in their order."""
+    repository = Repository()
+    for name in PAGES:
+        for number, line in repository.lines(name):
+            if re.match(r" {4}\S", line):
+                reason = next(
+                    (why for words, why in NOT_RUN if re.match(words, line.strip())), None
+                )
+                if reason is None:
+                    yield name, number, line.strip()
+
+
+def old_store(folder):
+    """A store of version 1, for `migrate`."""
+    blocks, _ = chain.chain(3)
+    (folder / "a.ox").write_bytes(old_file_of(map(chain.payload_of, blocks)))
+    (folder / "b.ox").write_bytes(b"\0")
+
+
+def run_command(command, program, room):
+    """The status of a command in this folder; `serve` is left running, and is given back."""
+    words = command.replace("ox_main FOLDER", f"{program} FOLDER")
+    if "FOLDER" in words:
+        folder = room / re.sub(r"\W", "", command)
+        folder.mkdir()
+        words = words.replace("FOLDER", str(folder))
+        if "migrate" in words:
+            old_store(folder)
+    if command == "service/package.py":
+        words += f" --program {program} --into ."
+    if " serve " in words:
+        subprocess.run([program, folder, "init", "mainnet", "100"], check=True, stdout=QUIET)
+        return 0, subprocess.Popen(words.split(), stdout=QUIET)
+    ran = subprocess.run(["bash", "-c", words], cwd=room, stdout=QUIET, stdin=QUIET, timeout=120)
+    return ran.returncode, None
+
+
+QUIET = subprocess.DEVNULL
+
+
+def listens(port):
+    """Whether somebody listens there; waits a little for that."""
+    for _ in range(100):
+        with contextlib.suppress(OSError), socket.create_connection(("127.0.0.1", port), 1):
+            return True
+        time.sleep(0.1)
+    return False
+
+
+def run_commands(program):
+    """Runs the commands of the pages; how many failed."""
+    passed = failed = 0
+    server = None
+    with tempfile.TemporaryDirectory() as folder:
+        room = pathlib.Path(folder)
+        for path in TOP.iterdir():
+            (room / path.name).symlink_to(path)
+        try:
+            for name, number, command in page_commands():
+                if command.startswith("curl ") and server and not listens(8080):
+                    status = "no reply, since `serve` doesn't listen"
+                else:
+                    status, started = run_command(command, program, room)
+                    server = started or server
+                passed, failed = passed + (status == 0), failed + (status != 0)
+                if status:
+                    print(f"{name}:{number}: `{command}` ended with {status}")
+        finally:
+            if server:
+                server.terminate()
+                server.wait()
+    print(f"{passed} passed, {failed} failed")
+    return failed
+
+
 def main():
-    if sys.argv[1:] == ["--selftest"]:
+    words = words_of(__doc__)
+    words.add_argument("--selftest", action="store_true", help="try the rules themselves")
+    words.add_argument(
+        "--commands",
+        type=pathlib.Path,
+        metavar="PROGRAM",
+        help="run the commands of three pages by this program, in a copy of what they name",
+    )
+    said = words.parse_args()
+    if said.selftest:
         sys.exit(selftest() != 0)
-    if sys.argv[1:]:
-        sys.exit(__doc__)
+    if said.commands:
+        sys.exit(run_commands(said.commands.resolve()) != 0)
     repository, told = Repository(), 0
     for rule in RULES:
         for name, number, cause in rule(repository):

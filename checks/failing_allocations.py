@@ -52,6 +52,7 @@ from scenarios import ETCHES, MINTS_AND_BURNS
 from store_files import CLOSED, files_after_each, files_of
 from tools.bitcoin import SUBSIDY, twice
 from tools.programs import TOP, proved_program
+from tools.words import words_of
 
 PROGRAM, INDEXES = proved_program("ox_main"), proved_program("ox_index_rows")
 SHIM = TOP / "checks" / "failing_allocation.c"
@@ -469,7 +470,9 @@ def rows_in_turn(memory):
 
 
 def main():
-    program = pathlib.Path(sys.argv[1]).resolve() if len(sys.argv) > 1 else PROGRAM
+    words = words_of(__doc__)
+    words.add_argument("program", nargs="?", type=pathlib.Path, default=PROGRAM)
+    program = words.parse_args().program.resolve()
     top = pathlib.Path(tempfile.mkdtemp())
     memory = Memory(shim(top), top)
     try:

@@ -1,10 +1,10 @@
 #!/usr/bin/env python3
 """Kills a running `apply` again and again, and looks at what the store has then.
 
-It applies a feed of 300 regtest blocks, most of them small and some of up to two million bytes, and of
-disconnects, one to about six blocks, to a store of depth 5 below out/ beside this script, and kills
-the program (SIGKILL, by the number of its own process): while it starts and opens the store, a
-random time after a random number of lines was shown, in the command that turns the files, or as
+It applies a feed of 300 regtest blocks, most of them small and some of up to two million bytes, and
+of disconnects, one to about six blocks, to a store of depth 5 below out/ beside this script, and
+kills the program (SIGKILL, by the number of its own process): while it starts and opens the store,
+a random time after a random number of lines was shown, in the command that turns the files, or as
 soon as a file grows by a large block or by a whole index. Then it tests that
 
 - `query /status` opens the store, which is as the lines shown left it, or as one line more did: its
@@ -20,7 +20,6 @@ it tells which, keeps the store, and ends with status 1. What was written outliv
 even where the disk hasn't got it, so this tries no loss of power.
 """
 
-import argparse
 import collections
 import json
 import pathlib
@@ -35,6 +34,7 @@ from chain import DISCONNECT, SHORT, block_on, line_of, payload_of
 from store_files import MOST_RECORDS, Disk, Store, make
 from tools.checks import Failed, demand
 from tools.programs import TOP, proved_program
+from tools.words import words_of
 
 PROGRAM = proved_program("ox_main")
 LINES = 300
@@ -274,8 +274,7 @@ def kill_often(program, top, kills, chance, met):
 
 
 def main():
-    form = argparse.RawDescriptionHelpFormatter
-    words = argparse.ArgumentParser(description=__doc__, formatter_class=form)
+    words = words_of(__doc__)
     words.add_argument("kills", nargs="?", type=int, default=300, help="how many (300)")
     words.add_argument("seed", nargs="?", type=int, default=1, help="of all chances (1)")
     words.add_argument(

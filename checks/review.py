@@ -24,6 +24,7 @@ followed too, so that the list may be too long, but not too short.
 import pathlib
 import re
 import sys
+from tools.words import words_of
 
 TOP = pathlib.Path(__file__).resolve().parents[1]
 REVIEW = "docs/REVIEW.md"
@@ -308,12 +309,13 @@ def written(text, every):
 
 
 def main():
-    if sys.argv[1:] not in ([], ["--write"]):
-        sys.exit(__doc__)
+    words = words_of(__doc__)
+    words.add_argument("--write", action="store_true", help="write the list anew")
+    said = words.parse_args()
     every, review = Definitions(), TOP / REVIEW
     tell_all(every)
     text = review.read_text()
-    if sys.argv[1:]:
+    if said.write:
         text = written(text, every)
         review.write_text(text)
     wrong = list(told(text, every))

@@ -132,6 +132,7 @@ def run(program: pathlib.Path) -> int:
     with Steps() as steps:
         counts = [
             script(steps, "documents", "checks/documents.py"),
+            script(steps, "their commands", "checks/documents.py", "--commands", str(program)),
             types(steps),
             rows(program, steps),
             script(steps, "tests, unproved", "checks/all_tests.py"),
