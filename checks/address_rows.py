@@ -9,6 +9,7 @@ vectors of both BIPs.
 """
 
 from tools.programs import write_rows
+from tools.words import no_words
 
 LETTERS = "qpzry9x8gf2tvdw0s3jn54khce6mua7l"
 BECH32M = 0x2BC830A3
@@ -228,6 +229,7 @@ class Addresses:
 
 
 def main():
+    no_words(__doc__)
     rows = Addresses()
     for text, script in VALID:
         hrp, script = text[:2].lower(), bytes.fromhex(script)
@@ -304,4 +306,5 @@ def main():
     write_rows("ox_address_rows", rows.rows, rows.lines)
 
 
-main()
+if __name__ == "__main__":
+    main()

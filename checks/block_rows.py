@@ -21,6 +21,7 @@ import number_rows
 import stone_rows
 from chain import block_of, commitment, committing, transaction
 from tools.programs import write_rows
+from tools.words import no_words
 
 COINS = 21_000_000 * 10**8
 MOST = 4_000_000
@@ -363,6 +364,7 @@ def commitment_rows():
 
 
 def main():
+    no_words(__doc__)
     word = lambda data: data.hex() or "-"
     stdin, stdout = [], []
     for times, head, part, tail in rows():

@@ -11,6 +11,7 @@ import re
 
 from frame_rows import frame_rows
 from tools.programs import write_rows
+from tools.words import no_words
 
 MOST_SHOWN = 200
 TOKEN = rb"[!#$%&'*+\-.^_`|~0-9A-Za-z]+"
@@ -430,6 +431,11 @@ def links(made):
     made.link("end", "none", "end")
 
 
-if __name__ == "__main__":
+def main():
+    no_words(__doc__)
     made = rows()
     write_rows("ox_http_rows", made.rows, made.lines)
+
+
+if __name__ == "__main__":
+    main()

@@ -24,6 +24,7 @@ from rows import Rows, carry, etch, hash_text, id_of, inscription, outpoint, pla
 from scenarios import ETCHES, MINTS_AND_BURNS, POINTERS, TEN
 from tools.bitcoin import COMMITS, RESERVED, SUBSIDY, root, twice
 from tools.runes import kept_name
+from tools.words import no_words
 
 HALVINGS = {"mainnet": 210_000, "regtest": 210_000, "lab": 10}
 
@@ -1572,6 +1573,7 @@ GROUPS += [lone_commitments, commitments_to_others, first_commitment]
 
 
 def main():
+    no_words(__doc__)
     rows, reckoned, asking = Indexes(), Reckoned(), query_rows.Queries()
     for group in GROUPS:
         group(rows)

@@ -22,6 +22,7 @@ from store_rows import ALL
 from tools import bitcoin
 from tools.bitcoin import SUBSIDY, twice
 from tools.programs import write_rows
+from tools.words import no_words
 from worlds import CUTS_NOTHING, NONE, PORTIONS, SATOSHI, Runs, bytes_of
 
 FILLS = 0x00, 0x07, 0xFF
@@ -554,6 +555,7 @@ def links(rows):
 
 
 def main():
+    no_words(__doc__)
     rows = Rows()
     for part in (folds, usage, inits, applies, queries):
         part(rows)

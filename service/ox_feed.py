@@ -2,16 +2,11 @@
 """Feeds a running `serve` from a Bitcoin Core node: it catches up, follows, and goes back where the
 node's chain turns out another.
 
-    ox_feed.py --ox ADDRESS --node ADDRESS --cookie FILE [--once] [--watch ADDRESS]
-               [--audit SECONDS]
+It keeps nothing: each round, a second after the last, asks both sides where they are. So it may be
+stopped at any moment. What it does stands on standard error.
 
---ox is the operator's door, --node the node's JSON-RPC, and FILE has the node's `user:password`. It
-keeps nothing: each round, a second after the last, asks both sides where they are. So it may be
-stopped at any moment. --once ends at the node's tip. --watch answers `/metrics` and `/ready`.
---audit is the least time between two audits, 600 without the word; 0 asks for none.
-
-Ends with 0 after SIGTERM or SIGINT, or at the tip with --once; with 1 for words that it doesn't
-know; with 2 where a person is needed, which it tells. While a side is away it waits.
+Ends with 0 after a signal, or at the tip with --once; with 1 for words that it doesn't know; with 2
+where a person is needed, which it tells. While a side is away it waits.
 """
 
 import argparse
@@ -22,6 +17,7 @@ import hashlib
 import http.client
 import http.server
 import json
+import logging
 import os
 import pathlib
 import signal
@@ -30,7 +26,7 @@ import sys
 import threading
 import time
 from collections.abc import Callable, Iterator
-from typing import NamedTuple, TypeVar
+from typing import Any, NamedTuple, TypeVar
 
 WAITS = [0.2, 0.5, 1, 2, 5, 10, 20, 30]
 # seconds between rounds and between lines of progress, for which a round is news, and for a reply
@@ -67,7 +63,7 @@ HELP = {
 T = TypeVar("T")
 Place = tuple[str, int]
 Numbers = dict[str, float]
-say = functools.partial(print, file=sys.stderr, flush=True)
+LOG = logging.getLogger("ox_feed")
 # what the index tells of itself, and the node of its chain
 State = NamedTuple("State", [("blocks", int), ("kept", int), ("tip", str | None)])
 Tip = NamedTuple("Tip", [("height", int), ("name", str)])
@@ -368,7 +364,7 @@ class Feeder:
         if self.audit_every and self.audited_tip != tip.name and passed >= self.audit_every:
             self.audit(tip.name)
         if not self.settled:
-            say(f"at the tip, {state.blocks} blocks")
+            LOG.info(f"at the tip, {state.blocks} blocks")
         self.settled, self.misses, self.told = True, 0, set()
 
     def follow(self, state: State, tip: Tip, fork: int) -> None:
@@ -380,7 +376,7 @@ class Feeder:
             raise Again("chain", "it has changed since")
         back, on = state.blocks - 1 - fork, tip.height - fork
         if back:
-            say(f"the chain is another above height {fork}: {back} back, {on} on")
+            LOG.info(f"the chain is another above height {fork}: {back} back, {on} on")
             self.numbers["ox_reorganisations_total"] += 1
         for height in reversed(range(fork, state.blocks - 1)):
             self.index.command("/disconnect", b"")
@@ -411,11 +407,13 @@ class Feeder:
         self.settled = self.settled and tip.height - height < NEAR
         passed = time.monotonic() - self.since
         if tip.height - height < NEAR:
-            say(f"{height} {name} {len(block)} bytes in {took:.3f} s")
+            LOG.info(f"{height} {name} {len(block)} bytes in {took:.3f} s")
         elif passed >= PROGRESS:
             rate = self.count / passed
             hours = (tip.height - height) / rate / 3600
-            say(f"{height} of {tip.height}, {rate:.1f} blocks a second, {hours:.1f} hours left")
+            LOG.info(
+                f"{height} of {tip.height}, {rate:.1f} blocks a second, {hours:.1f} hours left"
+            )
             self.count, self.since = 0, time.monotonic()
         self.beat(height + 1)
 
@@ -437,7 +435,7 @@ class Feeder:
         self.numbers.update({f"ox_audit_{part}": value for part, value in parts.items()})
         self.numbers["ox_audit_balanced"] = balanced
         if not balanced:
-            say("the audit doesn't balance")
+            LOG.error("the audit doesn't balance")
 
     def run(self, once: bool) -> None:
         """Makes rounds, up to the tip or without end."""
@@ -458,7 +456,7 @@ class Feeder:
             self.numbers[f"{name}_waits_total"] += 1
             self.numbers.update({f"{name}_up": 0, "ox_at_tip": 0})
         if cause not in self.told:
-            say(cause)
+            LOG.warning("%s", cause)
         notify(f"WATCHDOG=1\nSTATUS={cause}")
         self.node.forget()
         self.told.add(cause)
@@ -470,16 +468,20 @@ class Feeder:
 def main() -> int:
     form = argparse.RawDescriptionHelpFormatter
     words = argparse.ArgumentParser(description=__doc__, formatter_class=form)
-    words.add_argument("--ox", type=place_of, required=True, metavar="ADDRESS")
-    words.add_argument("--node", type=place_of, required=True, metavar="ADDRESS")
-    words.add_argument("--cookie", type=pathlib.Path, required=True, metavar="FILE")
-    words.add_argument("--once", action="store_true")
-    words.add_argument("--watch", type=place_of, metavar="ADDRESS")
-    words.add_argument("--audit", type=float, default=600, metavar="SECONDS")
+    address: dict[str, Any] = {"type": place_of, "metavar": "ADDRESS"}
+    file: dict[str, Any] = {"type": pathlib.Path, "metavar": "FILE", "required": True}
+    words.add_argument("--ox", required=True, help="the operator's door of `serve`", **address)
+    words.add_argument("--node", required=True, help="the node's JSON-RPC", **address)
+    words.add_argument("--cookie", help="it has the node's user:password", **file)
+    words.add_argument("--once", action="store_true", help="end at the node's tip")
+    words.add_argument("--watch", help="answer /metrics and /ready there", **address)
+    seconds: dict[str, Any] = {"type": float, "metavar": "SECONDS", "default": 600}
+    words.add_argument("--audit", help="between two audits at least; 0: none (600)", **seconds)
     try:
         given = words.parse_args()
     except SystemExit as end:
         return 1 if end.code else 0
+    logging.basicConfig(format="%(message)s", level=logging.INFO)
     feeder = Feeder(Index(given.ox), Node(given.node, given.cookie), given.audit)
     signal.signal(signal.SIGTERM, feeder.stop)
     signal.signal(signal.SIGINT, feeder.stop)
@@ -488,7 +490,7 @@ def main() -> int:
             watch(given.watch, feeder.numbers)
         feeder.run(given.once)
     except Stuck as why:
-        say(f"stuck: {why}")
+        LOG.error("stuck: %s", why)
         notify(f"STATUS={why}")
         return 2
     except OSError as why:
