@@ -52,8 +52,7 @@ def below(name: str) -> list[str]:
 
 
 def sources(name: str, *folders: str) -> Iterator[pathlib.Path]:
-    """The sources of a program: crates.txt, and what stands in these folders of its crates."""
-    yield TOP / "crates.txt"
+    """The sources of a program: what stands in these folders of its crates."""
     for crate in below(name):
         for folder in folders:
             for path in sorted((CRATES / crate / folder).rglob("*")):
@@ -63,7 +62,10 @@ def sources(name: str, *folders: str) -> Iterator[pathlib.Path]:
 
 def digest(name: str, recipe: str) -> str:
     """A sum over all that a program is built of: its sources, and how it is built."""
+    uses = stands_on()
     told = hashlib.sha256(recipe.encode())
+    for crate in below(name):
+        told.update(f"\n{crate}: {' '.join(uses[crate])}".encode())
     for path in sources(name, "src", "specs"):
         told.update(f"\n{path.relative_to(TOP)}\n".encode() + path.read_bytes())
     return told.hexdigest()
@@ -75,7 +77,7 @@ def is_proved(name: str) -> bool:
     if not program.exists():
         return False
     made = program.stat().st_mtime
-    every = sources(name, "src", "specs", "proofs")
+    every = [TOP / "crates.txt", *sources(name, "src", "specs", "proofs")]
     return all(path.stat().st_mtime < made for path in every)
 
 
