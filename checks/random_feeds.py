@@ -27,6 +27,7 @@ from kills import Failed, demand
 from store_files import Disk
 from tools.bitcoin import SUBSIDY
 from tools.programs import TOP, proved_program
+from tools.words import words_of
 from worlds import turned_by
 
 PROGRAM = proved_program("ox_main")
@@ -123,12 +124,15 @@ def try_feed(program, folder, chance):
 
 
 def main():
-    words = sys.argv[1:]
-    seconds, seed = [int(word) for word in words[:2]] + [HOUR, 1][len(words[:2]) :]
-    program = pathlib.Path(words[2]).resolve() if len(words) > 2 else PROGRAM
+    words = words_of(__doc__)
+    words.add_argument("seconds", nargs="?", type=int, default=HOUR, help="how long (an hour)")
+    words.add_argument("seed", nargs="?", type=int, default=1, help="of all chances (1)")
+    words.add_argument("program", nargs="?", type=pathlib.Path, default=PROGRAM)
+    said = words.parse_args()
+    seconds, program = said.seconds, said.program.resolve()
     if not program.exists():
         sys.exit(f"{program} isn't built")
-    out, chance, count = TOP / "checks" / "out", random.Random(seed), 0
+    out, chance, count = TOP / "checks" / "out", random.Random(said.seed), 0
     out.mkdir(exist_ok=True)
     ends = time.monotonic() + seconds
     while time.monotonic() < ends:

@@ -17,6 +17,8 @@ from plain_index import Refused, after_block
 from row_ends import change_between, is_sound, other_end
 from row_forms import SPELLED, Change, Fault, Index, Reader
 
+from tools.words import no_words
+
 BYTES = {"mainnet": 0, "regtest": 1, "lab": 2}
 VERSION = 2
 BODY_AT = 26
@@ -367,5 +369,6 @@ def test():
 
 
 if __name__ == "__main__":
+    no_words(__doc__)
     test()
     print("passed")

@@ -16,6 +16,8 @@ import pathlib
 import re
 import sys
 
+from tools.words import no_words
+
 TOP = pathlib.Path(__file__).resolve().parents[1]
 FUNCTION = re.compile(r"\b(pub )?(?:const )?fn (\w+)")
 
@@ -80,6 +82,7 @@ def told(text_of=file_text):
 
 
 def main():
+    no_words(__doc__)
     functions, lacking = surface()
     for one in lacking:
         print(f"{one.file}:{one.line}: nothing calls `{one.name}`")
