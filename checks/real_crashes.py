@@ -2,8 +2,6 @@
 """Records the calls that the built program makes on its two files, builds what a loss of power may
 leave of them at each moment, and has the program open it.
 
-    python3 checks/real_crashes.py [PROGRAM]
-
 The headline is proved of sites that keep a model of a disk. That the real site makes the calls that
 the model speaks of, in that order, on those files, no proof says. So this records, by strace, the
 calls of an `init`, an `apply`, also where the files turn, a `migrate`, a `drill` and a `serve`, and
@@ -20,8 +18,7 @@ isn't seen. strace is Debian's package, which is installed where it is missing; 
 done, or calls can't be recorded, a line says so, and nothing is tried. A check that fails is told
 with its cause, and a state that fails stays below out/ beside this script. The last line says how
 many states were opened and how many checks passed and failed, and the status is 1 where one failed.
-PROGRAM is crates/ox_main/out/ox_main without a word. It takes a quarter of a minute on four
-processors that do nothing else.
+It takes a quarter of a minute on four processors that do nothing else.
 """
 
 import concurrent.futures
@@ -53,6 +50,7 @@ from kills import Failed, demand
 from store_files import MOST_RECORDS, files_of
 from tools.bitcoin import SUBSIDY
 from tools.programs import proved_program
+from tools.words import words_of
 
 PROGRAM = proved_program("ox_main")
 OUT = pathlib.Path(__file__).resolve().parent / "out"
@@ -827,10 +825,13 @@ def can_record():
 
 
 def main():
+    words = words_of(__doc__)
+    words.add_argument("program", nargs="?", type=pathlib.Path, default=PROGRAM)
+    said = words.parse_args()
     if not can_record():
         print("real crashes: skipped, since strace can't be had or can't record calls")
         return 0
-    program = pathlib.Path(sys.argv[1] if len(sys.argv) > 1 else PROGRAM).resolve()
+    program = said.program.resolve()
     # memory where there is such a folder: each start syncs
     shared = pathlib.Path("/dev/shm")
     OUT.mkdir(exist_ok=True)

@@ -46,9 +46,8 @@ def at_once() -> int:
 def counted(told: str, status: int) -> Count:
     """What the last line of a script counts; one failure where it counts none."""
     lines = told.strip().splitlines()
-    found = re.fullmatch(
-        r"(\d+) passed, (\d+) failed(?:, \d+ skipped)?", lines[-1] if lines else ""
-    )
+    last = lines[-1] if lines else ""
+    found = re.search(r"(\d+) passed, (\d+) failed(?:, \d+ skipped)?$", last)
     if found and (status == 0) == (int(found[2]) == 0):
         return Count(int(found[1]), int(found[2]))
     return Count(1, 0) if status == 0 and not found else Count(0, 1)
