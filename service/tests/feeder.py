@@ -182,9 +182,10 @@ def signals(desk: Desk) -> None:
     sent = len(between.commands)
     demand(served.status()["blocks"] == sent < 200, "a command under way was cut off")
     node.silent.clear()
+    posts = node.posts
     try:
         feed = desk.feed(served, node)
-        time.sleep(1)
+        wait_for(lambda: node.posts > posts, "the feeder asks the node")
         feed.stops(signal.SIGINT)
     finally:
         node.silent.set()
