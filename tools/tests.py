@@ -93,7 +93,8 @@ def fault_of_rows(name: str, program: pathlib.Path) -> str:
     """Why a program's rows fail; nothing where they pass."""
     crate = CRATES / name
     args = (crate / "args").read_text().split() if (crate / "args").exists() else []
-    with tempfile.TemporaryDirectory() as folder, open(crate / "stdin", "rb") as given:
+    feed = str(crate / "stdin") if (crate / "stdin").exists() else os.devnull
+    with tempfile.TemporaryDirectory() as folder, open(feed, "rb") as given:
         try:
             ran = subprocess.run(
                 [program, *args], cwd=folder, stdin=given, stdout=subprocess.PIPE, timeout=SECONDS
