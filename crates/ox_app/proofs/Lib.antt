@@ -1,3 +1,4 @@
+pub mod AnyRuns
 pub mod AskedLines
 pub mod Carrying
 pub mod CommandAnswers
@@ -15,8 +16,10 @@ pub mod Pieces
 pub mod Prefixes
 pub mod Serving
 pub mod Settled
+pub mod Stacks
 pub mod Statuses
 pub mod Stops
 pub mod Subcommands
 pub mod TalksOn
 pub mod Unmigrated
+pub mod Versions

@@ -33,21 +33,21 @@ module _ {S : Type 0} (means : Meanings S) where
 
   module _ (stack : Stack) (commands : ℕ) where
     abbrev LeavesFrom : S → Remains → Type 0
-    LeavesFrom old r = Grows (LeavesMigrating means.may_leave old stack commands r.files) (means.log old) (Some r.log)
+    LeavesFrom old r = Grows (LeavesMigrating means old stack commands r.files) (means.log old) (Some r.log)
 
     -- nothing was logged yet
-    unlogged : (old : S) (r : Remains) → LeavesMigrating means.may_leave old stack commands r.files [] → means.log old ≡ Some r.log → LeavesFrom old r
+    unlogged : (old : S) (r : Remains) → LeavesMigrating means old stack commands r.files [] → means.log old ≡ Some r.log → LeavesFrom old r
     unlogged old r leaves is =
-        grows_same (LeavesMigrating means.may_leave old stack commands r.files) (means.log old) (means.log old) (Some r.log)
-        (grows_none (LeavesMigrating means.may_leave old stack commands r.files) (means.log old) leaves) (sym is)
+        grows_same (LeavesMigrating means old stack commands r.files) (means.log old) (means.log old) (Some r.log)
+        (grows_none (LeavesMigrating means old stack commands r.files) (means.log old) leaves) (sym is)
 
-    either_store : (old : S) (r : Remains) → old_stands (means.seen old) ≡ Ok (stack, commands) → (means.may_leave old r ⊎ IsOldOrMigrated (means.seen old) r.files) → LeavesMigrating means.may_leave old stack commands r.files []
+    either_store : (old : S) (r : Remains) → old_stands (means.seen old) ≡ Ok (stack, commands) → (means.may_leave old r ⊎ IsOldOrMigrated (means.seen old) r.files) → LeavesMigrating means old stack commands r.files []
     either_store old r stood (inl left) = inl (r, left, refl)
-    either_store old r stood (inr (inl same)) = inr (inl (same.1 ∙ stood))
+    either_store old r stood (inr (inl same)) = inr (inl (record { reads = same.0; stands_for = same.1 ∙ stood }))
     either_store old r stood (inr (inr (made, is, migrated))) =
         inr (inr (migrated ∙ ap (λ (m : Stack × ℕ). Ok m.0) (same_made (old_stands (means.seen old)) made (stack, commands) is stood)))
 
-    logged_any : (old : S) (files : Files) (events : List Event) → stands files ≡ Ok stack → LeavesMigrating means.may_leave old stack commands files events
+    logged_any : (old : S) (files : Files) (events : List Event) → stands files ≡ Ok stack → LeavesMigrating means old stack commands files events
     logged_any old files [] stood = inr (inr stood)
     logged_any old files (event ∷ events) stood = stood
 
@@ -70,6 +70,6 @@ module _ {S : Type 0} (means : Meanings S) where
         let stands_now : stands (means.seen mid) ≡ Ok stack = migrated ∙ ap (λ (m : Stack × ℕ). Ok m.0) (same_made (old_stands (means.seen old)) made (stack, commands) is stood) in
         leaves_then means old mid new (LeavesFrom old) (while_migrated old mid stood moments writes)
         (leaves_weaker means mid new _ _ (λ r talked.
-        grows_from (LeavesMigrating means.may_leave old stack commands r.files) (means.log old) (means.log mid) (Some r.log) writes.as_logged
-        (grows_weaker (ShowsFront line) (LeavesMigrating means.may_leave old stack commands r.files) (means.log mid) (Some r.log)
+        grows_from (LeavesMigrating means old stack commands r.files) (means.log old) (means.log mid) (Some r.log) writes.as_logged
+        (grows_weaker (ShowsFront line) (LeavesMigrating means old stack commands r.files) (means.log mid) (Some r.log)
         (λ events shows. logged_any old r.files events (ap stands (talked.files.2 ∙ settled talked.files.0 talked.files.1) ∙ stands_now)) talked.grown)) talks.moments)

@@ -16,7 +16,7 @@ use Rattle.ox_outside.proofs.Counts.{stops_after, stops_as, went_on}
 use Rattle.ox_outside.proofs.Log.{grows_none, grows_same, grows_then, grows_weaker}
 use Rattle.ox_links.specs.Serving.{Server, state_after}
 use Rattle.ox_links.specs.Survives.{Survives}
-use Rattle.ox_links.specs.Turned.{CutShort, RoseBy}
+use Rattle.ox_links.specs.Turned.{CutShort, IsFewer, RoseBy}
 use Rattle.ox_turns.specs.Follows.{ShowsFrontsIn}
 use Rattle.ox_model.specs.Machine.{Machine, stack_of}
 use Rattle.ox_model.specs.Stack.{Stack}
@@ -29,7 +29,7 @@ use Rattle.ox_desk.proofs.Machines.{served_alike}
 use Rattle.ox_serve.specs.Runs.{Served, StandFor}
 use Rattle.ox_serve.specs.declared.fault.ServeFault.{ServeFault}
 use Rattle.ox_serve.specs.declared.fault.ServeFault.TheVariants as serves
-use Rattle.ox_serve.proofs.Alike.{counted_alike, fronts_alike, short_alike, survives_alike}
+use Rattle.ox_serve.proofs.Alike.{counted_alike, fewer_alike, fronts_alike, short_alike, survives_alike}
 use Rattle.ox_app.specs.Serve.{LeavesServing, RunsServer, StandForMachine, SurvivesLinks, totals_line}
 use Rattle.ox_app.specs.Show.{EndsAtFault, ShowsFront, ShowsReply}
 use Rattle.ox_app.specs.Status.{IsRefusal, fault_status}
@@ -116,34 +116,52 @@ module _ {X C : Type 0} (server : Server X C) (first : X) (turns : ℕ) where
         logged = refl;
         fronts = made.1;
         all = λ _. record { requests = requests; hits = hits; served = served_later old mid new requests hits x fell made.0; tells = line };
-        cut = λ is. absurd (told_isnt_cut status told is);
+        cut = λ is. absurd (told_isnt_cut status told (inl is));
+        fewer = λ is. absurd (told_isnt_cut status told (inr is));
         nothing = λ is. absurd (told_has_memory status told is);
       })
       (grows_both (Served server first turns old mid requests hits) (ShowsFrontsIn server first) log then_ served fronts) shows
 
-  -- a fault ended a turn
-  runs_cut : (status : Status) (old new : Counts) (log now : Option (List Event)) → (status ≡ ends.DiskFault) ⊎ (status ≡ ends.DoorFault) → Grows (CutShort server first turns) log now → Grows (ShowsFrontsIn server first) log now
-      → Grows (RunsServer server first turns status old new) log now
-  runs_cut status old new log now failed cut fronts =
-      grows_weaker (λ events. CutShort server first turns events × ShowsFrontsIn server first events) (RunsServer server first turns status old new) log now
+  -- a fault of a file ended a turn
+  runs_cut : (old new : Counts) (log now : Option (List Event)) → Grows (CutShort server first turns) log now → Grows (ShowsFrontsIn server first) log now
+      → Grows (RunsServer server first turns ends.DiskFault old new) log now
+  runs_cut old new log now cut fronts =
+      grows_weaker (λ events. CutShort server first turns events × ShowsFrontsIn server first events) (RunsServer server first turns ends.DiskFault old new) log now
       (λ events both. record {
         links = events;
         own = [];
         logged = sym (append-nil events);
         fronts = both.1;
-        all = λ told. absurd (told_isnt_cut status told failed);
+        all = λ told. absurd (told_isnt_cut ends.DiskFault told (inl refl));
         cut = λ _. (both.0, refl);
-        nothing = λ is. absurd (no_memory failed is);
+        fewer = λ is. cc is;
+        nothing = λ is. cc is;
       })
       (grows_both (CutShort server first turns) (ShowsFrontsIn server first) log now cut fronts)
-    where
-      no_memory : (status ≡ ends.DiskFault) ⊎ (status ≡ ends.DoorFault) → status ≡ ends.Memory → ⊥
-      no_memory (inl a) b = let e : ends.DiskFault ≡ ends.Memory = sym a ∙ b in cc e
-      no_memory (inr a) b = let e : ends.DoorFault ≡ ends.Memory = sym a ∙ b in cc e
+
+  -- a fault of a door ended the run between two turns
+  runs_fewer : (old new : Counts) (log now : Option (List Event)) → Grows (IsFewer server first turns) log now → Grows (ShowsFrontsIn server first) log now
+      → Grows (RunsServer server first turns ends.DoorFault old new) log now
+  runs_fewer old new log now fewer fronts =
+      grows_weaker (λ events. IsFewer server first turns events × ShowsFrontsIn server first events) (RunsServer server first turns ends.DoorFault old new) log now
+      (λ events both. record {
+        links = events;
+        own = [];
+        logged = sym (append-nil events);
+        fronts = both.1;
+        all = λ told. absurd (told_isnt_cut ends.DoorFault told (inr refl));
+        cut = λ is. cc is;
+        fewer = λ _. (both.0, refl);
+        nothing = λ is. cc is;
+      })
+      (grows_both (IsFewer server first turns) (ShowsFrontsIn server first) log now fewer fronts)
 
   -- before the first turn nothing was logged, whatever ended the run
   none_cut : 1 ≤ turns → CutShort server first turns []
   none_cut some = record { turns = []; fewer = some; end = 0; made = refl; cut = []; is_cut = tt; logged = refl }
+
+  none_fewer : 1 ≤ turns → IsFewer server first turns []
+  none_fewer some = record { turns = []; fewer = some; end = 0; made = refl; logged = refl }
 
   pub runs_none : (status : Status) (old new : Counts) (log now : Option (List Event)) → 1 ≤ turns → ((status ≡ ends.Done) ⊎ (status ≡ ends.ShowFault) → ⊥) → now ≡ log → Grows (RunsServer server first turns status old new) log now
   runs_none status old new log now some untold same =
@@ -155,14 +173,15 @@ module _ {X C : Type 0} (server : Server X C) (first : X) (turns : ℕ) where
         fronts = λ channel one. ([], refl);
         all = λ told. absurd (untold told);
         cut = λ _. (none_cut some, refl);
+        fewer = λ _. (none_fewer some, refl);
         nothing = λ _. refl;
       })) same
 
   pub runs_by_fault : (fault : ServeFault) (old new : Counts) (log now : Option (List Event)) → (fault ≡ serves.Memory → now ≡ log) → (fault ≢ serves.Memory → Grows (CutShort server first turns) log now)
-      → Grows (ShowsFrontsIn server first) log now → 1 ≤ turns → Grows (RunsServer server first turns (fault_status fault) old new) log now
-  runs_by_fault serves.DiskFault old new log now memory cut fronts some = runs_cut ends.DiskFault old new log now (inl refl) (cut (λ e. cc e)) fronts
-  runs_by_fault serves.DoorFault old new log now memory cut fronts some = runs_cut ends.DoorFault old new log now (inr refl) (cut (λ e. cc e)) fronts
-  runs_by_fault serves.Memory old new log now memory cut fronts some = runs_none ends.Memory old new log now some untold (memory refl)
+      → (fault ≡ serves.DoorFault → Grows (IsFewer server first turns) log now) → Grows (ShowsFrontsIn server first) log now → 1 ≤ turns → Grows (RunsServer server first turns (fault_status fault) old new) log now
+  runs_by_fault serves.DiskFault old new log now memory cut fewer fronts some = runs_cut old new log now (cut (λ e. cc e)) fronts
+  runs_by_fault serves.DoorFault old new log now memory cut fewer fronts some = runs_fewer old new log now (fewer refl) fronts
+  runs_by_fault serves.Memory old new log now memory cut fewer fronts some = runs_none ends.Memory old new log now some untold (memory refl)
     where
       untold : (ends.Memory ≡ ends.Done) ⊎ (ends.Memory ≡ ends.ShowFault) → ⊥
       untold (inl e) = cc e
@@ -179,6 +198,7 @@ module _ {X C : Type 0} (server : Server X C) (first : X) (turns : ℕ) where
         let all = runs.all told in
         record { requests = all.requests; hits = all.hits; served = served_sooner old mid new all.requests all.hits runs.links fell all.served; tells = all.tells };
     cut = runs.cut;
+    fewer = runs.fewer;
     nothing = runs.nothing;
   }
 
@@ -348,6 +368,7 @@ module _ (machine : Machine) where
           tells = all.tells;
         };
     cut = λ failed. let cut = runs.cut failed in (short_alike HasStack server_of server_on served_alike machine (stack_of machine) refl turns runs.links cut.0, cut.1);
+    fewer = λ failed. let fewer = runs.fewer failed in (fewer_alike HasStack server_of server_on served_alike machine (stack_of machine) refl turns runs.links fewer.0, fewer.1);
     nothing = runs.nothing;
   }
 
@@ -356,7 +377,7 @@ module _ (machine : Machine) where
   grows_of_machine turns status old new log now =
       grows_weaker (RunsServer server_on (stack_of machine) turns status old new) (RunsServer server_of machine turns status old new) log now (runs_of_machine turns status old new)
 
-  links_of_machine : (files : Files) (events : List Event) → SurvivesLinks server_on (stack_of machine) StandFor files events → SurvivesLinks server_of machine StandForMachine files events
+  pub links_of_machine : (files : Files) (events : List Event) → SurvivesLinks server_on (stack_of machine) StandFor files events → SurvivesLinks server_of machine StandForMachine files events
   links_of_machine files events links = record {
     links = links.links;
     own = links.own;

@@ -2,12 +2,13 @@
 -- a crash leaves.
 use Rattle.std.specs.Prelude.{◌≡◌, ◌⊎◌, ℕ, IsTrue, List, [], ◌∷◌, ◌++◌, codes, decimal}
 use Rattle.std.specs.Prelude.{Some, Ok, Err}
-use Rattle.ox_outside.specs.Crash.{Remains, MayLeaveFiles}
+use Rattle.ox_outside.specs.Crash.{MayLeaveFiles}
 use Rattle.ox_outside.specs.Event.{Event}
 use Rattle.ox_outside.specs.Files.{Files}
 use Rattle.ox_outside.specs.Log.{Grows}
 use Rattle.ox_outside.specs.Runs.{LeavesOnly}
 use Rattle.ox_outside.specs.declared.site.Site.{Ghosts as Meanings}
+use Rattle.ox_gated.specs.OtherFile.{ReadsAlike}
 use Rattle.ox_gated.specs.Tail.{IsSettled}
 use Rattle.ox_rules.specs.Text.{refusal_line}
 use Rattle.ox_rules.specs.declared.refusal.Refusal.{Refusal}
@@ -78,19 +79,24 @@ IsUnmigrated (Refused command refusal) status =
 abbrev pub IsMigrated : {S : Type 0} → Meanings S → Stack → S → Type 0
 IsMigrated means stack site = (stands (means.seen site) ≡ Ok stack) × IsSettled means site
 
+-- files that hold the same commands of version 1, so many, and stand for the same stack by them
+pub record StandsStill (old : Files) (stack : Stack) (commands : ℕ) (files : Files) : Type 0 where
+  pub reads : ReadsAlike old files
+  pub stands_for : old_stands files ≡ Ok (stack, commands)
+
 -- What a crash leaves when these events are logged. Before the first of them: files that it might
--- have left before the run; or that stand for the stack, at version 1 by so many commands, or at
--- version 2. With an event: the last alone.
-abbrev pub LeavesMigrating : {S : Type 0} → (S → Remains → Type 0) → S → Stack → ℕ → Files
-    → List Event → Type 0
-LeavesMigrating may_leave site stack commands files [] =
-    MayLeaveFiles may_leave site files
-    ⊎ (old_stands files ≡ Ok (stack, commands)) ⊎ (stands files ≡ Ok stack)
-LeavesMigrating may_leave site stack commands files (event ∷ events) = stands files ≡ Ok stack
+-- have left before the run; or that hold the commands that were found; or that stand for their stack
+-- at version 2. With an event: the last alone.
+abbrev pub LeavesMigrating : {S : Type 0} → Meanings S → S → Stack → ℕ → Files → List Event
+    → Type 0
+LeavesMigrating means site stack commands files [] =
+    MayLeaveFiles means.may_leave site files
+    ⊎ StandsStill (means.seen site) stack commands files ⊎ (stands files ≡ Ok stack)
+LeavesMigrating means site stack commands files (event ∷ events) = stands files ≡ Ok stack
 
 -- so it is at each moment of a run
 abbrev pub MigratesFirst : {S : Type 0} → Meanings S → Stack → ℕ → S → S → Type 0
 MigratesFirst means stack commands old new =
     LeavesOnly means old new (λ r.
-    Grows (LeavesMigrating means.may_leave old stack commands r.files)
+    Grows (LeavesMigrating means old stack commands r.files)
     (means.log old) (Some r.log))

@@ -11,10 +11,14 @@ use Rattle.ox_store.specs.Make.{no_files}
 use Rattle.ox_app.specs.Fold.{fold_depth}
 use Rattle.ox_app.specs.Headline.{AddsNoImage, AnswersFeed, IsRunInTurn, StandsFor, StopsAtLine}
 use Rattle.ox_app.specs.Init.{IsMade, MakesFirst, made_line}
+use Rattle.ox_app.specs.AnyRuns.{IsServedInTurn}
 use Rattle.ox_app.specs.Query.{query_body}
+use Rattle.ox_app.specs.Serve.{AnswersLinks, DoorFails, SurvivesServing}
+use Rattle.ox_app.specs.Stacks.{FeedsOn, FeedsSome, ServesOn, ServesSome, StopsOn}
+use Rattle.ox_app.specs.Stacks.{SurvivesOn, SurvivesServingOn}
 use Rattle.ox_app.specs.Show.{DiskFails, EndsDone, HearFails, ShowFails, ShowsText}
 use Rattle.ox_app.specs.Status.{IsApplyStatus, IsDone, IsFoldStatus, IsInitStatus, IsQueryStatus}
-use Rattle.ox_app.specs.Status.{IsSparing, IsUnopened}
+use Rattle.ox_app.specs.Status.{IsServeStatus, IsSparing, IsUnopened}
 use Rattle.ox_app.specs.declared.status.Status.{Status}
 use Rattle.ox_app.specs.declared.status.Status.TheVariants.{Done, Memory, NotEmpty, NotStore}
 use Rattle.ox_app.specs.declared.status.Status.TheVariants.{ShowFault}
@@ -30,10 +34,11 @@ pub record Folds {S : Type 0} (means : Meanings S) (name : ProfileName) (status 
   pub fold_completes : ¬ HearFails means old new → ¬ ShowFails means old new
       → Grows (EndsDone status) (means.log old) (means.log new)
 
--- `apply`, on files that stand for a machine's stack
+-- `apply`, on files that stand for a stack
 pub record Applies {S : Type 0} (means : Meanings S) (status : Status) (old new : S)
     : Type 0 where
-  -- what was shown begins the answers to the lines heard, as of `fold`, from that machine on
+  -- on a machine's: what was shown begins the answers to the lines heard, as of `fold`, from that
+  -- machine on
   pub applies : (machine : Machine) → StandsFor means old (stack_of machine)
       → (status ≢ NotStore) × AnswersFeed means machine status old new
   -- what it leaves behind its first event is a run in turn, as `runs_follow_chains` counts them
@@ -43,8 +48,17 @@ pub record Applies {S : Type 0} (means : Meanings S) (status : Status) (old new 
   -- before it, and whatever a crash leaves stands for these
   pub out_of_memory : (machine : Machine) → StandsFor means old (stack_of machine)
       → status ≡ Memory → StopsAtLine means machine old new
+  -- on any: the same, with each line read on the stack, and `survives` likewise
+  pub stack_feeds : (stack : Stack) → StandsFor means old stack
+      → (status ≢ NotStore) × FeedsOn means stack status old new
+  pub stack_survives : (stack : Stack) → StandsFor means old stack
+      → SurvivesOn means stack old new
+  pub stack_out_of_memory : (stack : Stack) → StandsFor means old stack
+      → status ≡ Memory → StopsOn means stack old new
+  -- where the log alone is told: some stack answers the lines
+  pub applies_logged : status ≢ NotStore → FeedsSome means status old new
   pub apply_status : IsApplyStatus status
-  pub apply_completes : (machine : Machine) → StandsFor means old (stack_of machine)
+  pub apply_completes : (stack : Stack) → StandsFor means old stack
       → ¬ DiskFails means old new → ¬ HearFails means old new → ¬ ShowFails means old new
       → Grows (EndsDone status) (means.log old) (means.log new)
 
@@ -75,6 +89,35 @@ pub record Queries {S : Type 0} (means : Meanings S) (path : List ℕ) (status :
   pub query_status : IsQueryStatus status
   pub query_completes : (stack : Stack) → StandsFor means old stack
       → ¬ DiskFails means old new → ¬ ShowFails means old new → IsDone status
+
+-- `serve`, so many turns
+pub record Serves {S : Type 0} (means : Meanings S) (turns : ℕ) (status : Status)
+    (old new : S) : Type 0 where
+  -- on files that stand for a machine's stack: each link is shown a front of its answers, each by
+  -- fresh indexing of the blocks that the commands before it chose; all turns are made and counted,
+  -- unless a fault ends them
+  pub serves : (machine : Machine) → StandsFor means old (stack_of machine)
+      → (status ≢ NotStore) × AnswersLinks means machine turns status old new
+  -- whatever the links do and at whatever moment the run stops: the files stand for where the
+  -- commands led, all of them or all but one; no byte was shown of an answer behind more
+  pub serve_survives : (machine : Machine) → StandsFor means old (stack_of machine)
+      → SurvivesServing means machine old new
+  -- what it leaves behind its first event is a run in turn, as `all_runs_follow_chains` counts them
+  pub serve_in_turn : (machine : Machine) → StandsFor means old (stack_of machine)
+      → IsServedInTurn means old new
+  -- on files that stand for any stack: the same, with each request read on the stack
+  pub stack_serves : (stack : Stack) → StandsFor means old stack
+      → (status ≢ NotStore) × ServesOn means stack turns status old new
+  pub stack_serve_survives : (stack : Stack) → StandsFor means old stack
+      → SurvivesServingOn means stack old new
+  -- where the log alone is told: some stack answers the links
+  pub serves_logged : status ≢ NotStore → ServesSome means turns status old new
+  -- memory runs out before the first turn, or not at all
+  pub serve_memory : status ≡ Memory → means.log new ≡ means.log old
+  pub serve_status : IsServeStatus status
+  pub serve_completes : (stack : Stack) → StandsFor means old stack
+      → ¬ DiskFails means old new → ¬ DoorFails means old new → ¬ ShowFails means old new
+      → IsDone status
 
 -- `apply`, `query` and `serve` on files that stand for no stack: the first test that fails is
 -- shown, and nothing else; and the files are spared

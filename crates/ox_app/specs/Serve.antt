@@ -9,7 +9,7 @@ use Rattle.ox_outside.specs.Runs.{LeavesOnly}
 use Rattle.ox_outside.specs.declared.site.Site.{Ghosts as Meanings}
 use Rattle.ox_links.specs.Serving.{Server}
 use Rattle.ox_links.specs.Survives.{Survives}
-use Rattle.ox_links.specs.Turned.{CutShort}
+use Rattle.ox_links.specs.Turned.{CutShort, IsFewer}
 use Rattle.ox_turns.specs.Follows.{ShowsFrontsIn}
 use Rattle.ox_model.specs.Machine.{Machine, stack_of}
 use Rattle.ox_files.specs.Stands.{stands}
@@ -50,9 +50,10 @@ pub record RunsServer {X C : Type 0} (server : Server X C) (first : X) (turns : 
   pub fronts : ShowsFrontsIn server first links
   pub all : (status ≡ ends.Done) ⊎ (status ≡ ends.ShowFault)
       → ServesAll server first turns status old new links own
-  -- a fault of a file or of a door ended a turn
-  pub cut : (status ≡ ends.DiskFault) ⊎ (status ≡ ends.DoorFault)
-      → CutShort server first turns links × (own ≡ [])
+  -- a fault of a file ended a turn
+  pub cut : status ≡ ends.DiskFault → CutShort server first turns links × (own ≡ [])
+  -- a fault of a door, which logs nothing, ended the run between two turns
+  pub fewer : status ≡ ends.DoorFault → IsFewer server first turns links × (own ≡ [])
   -- memory ran out before the first turn, or not at all
   pub nothing : status ≡ ends.Memory → events ≡ []
 

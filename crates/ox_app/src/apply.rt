@@ -12,6 +12,7 @@ ghost use Rattle.ox_app.specs.Headline.{AddsNoImage, Leaves, RunsFeed, StopsBefo
 ghost use Rattle.ox_outside.specs.Runs.{Calls, LeavesOnly};
 ghost use Rattle.ox_gated.specs.Tail.{Holds, IsSettled};
 ghost use Rattle.ox_app.specs.Show.{DiskFails, EndsAtFault, EndsAtStop, HearFails, ShowFails};
+ghost use Rattle.ox_app.specs.Stacks.{FeedsSome};
 ghost use Rattle.ox_app.specs.Status.{IsApplyStatus, IsUnopened, status_of};
 ghost use Rattle.ox_app.specs.Unopened.{SaysNotStore};
 ghost use Rattle.ox_app.specs.declared.status.Status.TheVariants as ends;
@@ -114,6 +115,9 @@ pub fn apply<S: Site>(alloc: Global, site: &mut S) -> Status
         → result ≡ ends.Memory
         → Grows (StopsBefore (replies_on stack) (after_on stack) (S.seen site.new))
         (S.log site.old) (S.log site.new) }
+
+    // Where the log alone is told.
+    ensures logged { result ≢ ends.NotStore → FeedsSome S.Site result site.old site.new }
 
     // On files that stand for none.
     ensures unopened { IsTrue (S.told site.old) → (misfit : Misfit)

@@ -7,6 +7,7 @@ mod carry;
 mod drill;
 mod fold;
 mod init;
+mod laws;
 mod line;
 mod migrate;
 mod program;
@@ -18,5 +19,6 @@ mod stop;
 mod subcommand;
 mod unopened;
 
+pub use laws::{all_runs_follow_chains, stores_have_one_version};
 pub use program::run;
 pub use status::Status;

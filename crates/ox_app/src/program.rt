@@ -13,13 +13,12 @@ ghost use Rattle.ox_app.specs.Init.{not_empty_line};
 ghost use Rattle.ox_app.specs.Migrate.{IsMigrated, IsUnmigrated, MigratesFirst, SaysNoOldStore};
 ghost use Rattle.ox_app.specs.Migrate.{SaysOldCommand, StandsForNoOld, StandsForOld};
 ghost use Rattle.ox_app.specs.Migrate.{migrated_line};
-ghost use Rattle.ox_app.specs.Promises.{Applies, Folds, Inits, Queries, Unopened};
+ghost use Rattle.ox_app.specs.Promises.{Applies, Folds, Inits, Queries, Serves, Unopened};
 ghost use Rattle.ox_outside.specs.Runs.{Calls};
-ghost use Rattle.ox_app.specs.Serve.{AnswersLinks, DoorFails, SurvivesServing};
+ghost use Rattle.ox_app.specs.Serve.{DoorFails};
 ghost use Rattle.ox_app.specs.Show.{DiskFails, EndsAtFault, HearFails, Says};
 ghost use Rattle.ox_app.specs.Show.{ShowFails, ShowsText, usage_line};
 ghost use Rattle.ox_app.specs.Status.{IsDone, IsDrillStatus, IsMigrateStatus, IsRefusal};
-ghost use Rattle.ox_app.specs.Status.{IsServeStatus};
 ghost use Rattle.ox_app.specs.Subcommands.{IsDepth, IsDrillLength, IsOpening, IsReading};
 ghost use Rattle.ox_app.specs.Subcommands.{IsTurns, IsUnknown, apply_words, drill_words};
 ghost use Rattle.ox_app.specs.Subcommands.{fold_words, init_words, migrate_words, query_words};
@@ -99,7 +98,7 @@ pub fn run<S: Site>(alloc: Global, words: &[Bytes], site: &mut S) -> Status
 
     // ---- `apply`
 
-    // Likewise from the machine on for whose stack the files stand.
+    // Likewise from the machine on for whose stack the files stand, or from any stack.
     ensures applies { words.now ≡ apply_words → Applies S.Site result site.old site.new }
     // Whatever the feed and at whatever moment the run stops: the files give the index of the first
     // lines, which are all whose moment is in the log or all but one; each of whose answer a byte
@@ -182,26 +181,12 @@ pub fn run<S: Site>(alloc: Global, words: &[Bytes], site: &mut S) -> Status
     ensures queries { (path : List ℕ) → words.now ≡ query_words path
         → Queries S.Site path result site.old site.new }
 
-    // ---- `serve`, on files that stand for a machine's stack
+    // ---- `serve`
 
-    // Each link is shown a front of its answers, each by fresh indexing of the blocks that the
-    // commands before it chose; all turns are made and counted, unless a fault ends them.
+    // Each link is shown a front of its answers; all turns are made and counted, unless a fault ends
+    // them; and whenever the run stops, the files stand for where the commands led.
     ensures serves { (turns : ℕ) → IsTurns turns → words.now ≡ serve_words turns
-        → (machine : Machine) → StandsFor S.Site site.old (stack_of machine)
-        → (result ≢ ends.NotStore) × AnswersLinks S.Site machine turns result site.old site.new }
-    // Whatever the links do and at whatever moment the run stops: the files stand for where the
-    // commands led, all of them or all but one; no byte was shown of an answer behind more.
-    ensures serve_survives { (turns : ℕ) → IsTurns turns → words.now ≡ serve_words turns
-        → (machine : Machine) → StandsFor S.Site site.old (stack_of machine)
-        → SurvivesServing S.Site machine site.old site.new }
-    ensures serve_memory { (turns : ℕ) → IsTurns turns → words.now ≡ serve_words turns
-        → result ≡ ends.Memory → S.log site.new ≡ S.log site.old }
-    ensures serve_status { (turns : ℕ) → IsTurns turns → words.now ≡ serve_words turns
-        → IsServeStatus result }
-    ensures serve_completes { (turns : ℕ) → IsTurns turns → words.now ≡ serve_words turns
-        → (machine : Machine) → StandsFor S.Site site.old (stack_of machine)
-        → ¬ DiskFails S.Site site.old site.new → ¬ DoorFails S.Site site.old site.new
-        → ¬ ShowFails S.Site site.old site.new → IsDone result }
+        → Serves S.Site turns result site.old site.new }
     ensures door_fault { result ≡ ends.DoorFault → DoorFails S.Site site.old site.new }
 
     // ---- `apply`, `query` and `serve` on files that stand for no stack

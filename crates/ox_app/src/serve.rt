@@ -12,6 +12,7 @@ ghost use Rattle.ox_app.specs.Headline.{AddsNoImage};
 ghost use Rattle.ox_app.specs.Serve.{DoorFails, LeavesServing, RunsServer, SurvivesLinks};
 ghost use Rattle.ox_app.specs.Serve.{totals_line as totals_told};
 ghost use Rattle.ox_app.specs.Show.{DiskFails, EndsAtFault, ShowFails};
+ghost use Rattle.ox_app.specs.Stacks.{ServesSome};
 ghost use Rattle.ox_app.specs.Status.{IsServeStatus, IsUnopened, fault_status};
 ghost use Rattle.ox_app.specs.Subcommands.{IsTurns};
 ghost use Rattle.ox_app.specs.Unopened.{SaysNotStore};
@@ -105,6 +106,9 @@ pub fn serve<S: Site>(alloc: Global, site: &mut S, turns: u64) -> Status
         → LeavesOnly S.Site site.old site.new (λ r.
         Grows (LeavesServing S.may_leave site.old server_on stack StandFor r.files)
         (S.log site.old) (Some r.log)) }
+
+    // Where the log alone is told.
+    ensures logged { result ≢ ends.NotStore → ServesSome S.Site turns result site.old site.new }
 
     // On files that stand for none.
     ensures unopened { IsTrue (S.told site.old) → (misfit : Misfit)

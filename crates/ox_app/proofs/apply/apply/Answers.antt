@@ -7,6 +7,7 @@ use Rattle.ox_app.proofs.Images.{grows_from, looked_then_talked, memory_opens, o
 use Rattle.ox_app.specs.Headline.{Leaves, RunsFeed, StopsBefore}
 use Rattle.ox_outside.specs.Runs.{LeavesOnly}
 use Rattle.ox_app.proofs.Settled.{settled_talking}
+use Rattle.ox_app.proofs.Stacks.{any_stack}
 use Rattle.ox_app.proofs.Stops.{not_disk, opened_well, status_stops, unopened_stops}
 use Rattle.ox_outside.proofs.Calls.{calls_then}
 use Rattle.ox_outside.proofs.Counts.{then_rose}
@@ -43,6 +44,11 @@ returns-in-Ok g c = record {
       (grows_from (StopsBefore (replies_on c.in-Ok.store.stack) (after_on c.in-Ok.store.stack) (g.S.Site.seen c.follow.new.site))
       (g.S.Site.log c.args.site.now) (g.S.Site.log c.open.new.site) (g.S.Site.log c.follow.new.site) c.open.ensures.looks.nothing.as_logged
       (c.follow.ensures.out_of_memory mid stood_mid (stopped_by_memory c.follow.result (sym c.status.ensures ∙ is))));
+  logged = λ isnt. record {
+    stack = c.in-Ok.store.stack;
+    feeds = subst (λ (s : Status). Grows (RunsFeed (replies_on c.in-Ok.store.stack) s) (g.S.Site.log c.args.site.now) (g.S.Site.log c.follow.new.site)) (sym c.status.ensures)
+        (grows_from (RunsFeed (replies_on c.in-Ok.store.stack) (status_of c.follow.result)) (g.S.Site.log c.args.site.now) (g.S.Site.log c.open.new.site) (g.S.Site.log c.follow.new.site) c.open.ensures.looks.nothing.as_logged c.follow.ensures.told);
+  };
   unopened = λ told misfit stood. no_misfit_stands (stands (g.S.Site.seen c.args.site.now)) c.in-Ok.store.stack misfit (c.in-Ok.ensures.stands told) stood;
   unsaid = λ told misfit stood isnt. no_misfit_stands (stands (g.S.Site.seen c.args.site.now)) c.in-Ok.store.stack misfit (c.in-Ok.ensures.stands told) stood;
   looks = λ told misfit stood. no_misfit_stands (stands (g.S.Site.seen c.args.site.now)) c.in-Ok.store.stack misfit (c.in-Ok.ensures.stands told) stood;
@@ -77,6 +83,13 @@ returns-in-Err g c = record {
   out_of_memory = λ told stack stood is.
       stops_unopened g.S.Site stack c.in-Err.fault c.explain.result c.args.site.now c.open.new.site c.explain.new.site stood
       c.open.ensures.looks c.explain.ensures.says (λ e. memory_opens (sym is ∙ e)) c.explain.ensures.talks;
+  logged = λ isnt.
+      let only = only_unopened c.explain.result c.explain.ensures.status in
+      let log = g.S.Site.log in record {
+        stack = any_stack;
+        feeds = grows_same (RunsFeed (replies_on any_stack) c.explain.result) (log c.args.site.now) (log c.args.site.now) (log c.explain.new.site) (grows_quiet any_stack c.explain.result only.done only.much (log c.args.site.now))
+            (says_nothing g.S.Site c.in-Err.fault c.explain.result c.open.new.site c.explain.new.site c.explain.ensures.says isnt ∙ c.open.ensures.looks.nothing.as_logged);
+      };
   unopened = λ told misfit stood. c.explain.ensures.status;
   unsaid = λ told misfit stood isnt. says_nothing g.S.Site c.in-Err.fault c.explain.result c.open.new.site c.explain.new.site c.explain.ensures.says isnt ∙ c.open.ensures.looks.nothing.as_logged;
   looks = λ told misfit stood. looked_then_talked g.S.Site _ c.args.site.now c.open.new.site c.explain.new.site c.open.ensures.looks c.explain.ensures.talks;

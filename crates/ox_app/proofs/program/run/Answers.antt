@@ -3,20 +3,21 @@ use Rattle.std.specs.Prelude.{Ok}
 use Rattle.ox_outside.specs.Log.{Grows}
 use Rattle.ox_outside.proofs.Log.{grows_weaker}
 use Rattle.ox_model.specs.Machine.{empty_machine, stack_of}
-use Rattle.ox_model.specs.Replies.{replies, replies_on}
+use Rattle.ox_model.specs.Replies.{after_on, replies, replies_on}
 use Rattle.ox_sat.specs.Profiles.{profile_named}
 use Rattle.ox_sat.specs.declared.profiles.Profile.{Profile}
 use Rattle.ox_sat.specs.declared.profiles.ProfileName.{ProfileName}
-use Rattle.ox_desk.specs.Servers.{server_on}
 use Rattle.ox_app.specs.Drill.{RunsDrill, told_line}
 use Rattle.ox_app.specs.Fold.{fold_depth}
 use Rattle.ox_app.specs.Headline.{RunsFeed, StopsBefore, stack_after}
 use Rattle.ox_app.specs.Init.{MakesFirst}
 use Rattle.ox_app.specs.Query.{query_body}
-use Rattle.ox_app.specs.Serve.{DoorFails, RunsServer}
+use Rattle.ox_app.specs.Promises.{Serves}
+use Rattle.ox_app.specs.Serve.{DoorFails}
 use Rattle.ox_app.specs.Show.{DiskFails, EndsAtFault, EndsDone, HearFails, ShowFails, ShowsText}
 use Rattle.ox_app.specs.Status.{IsFoldStatus, status_of}
 use Rattle.ox_app.specs.declared.status.Status.{Status}
+use Rattle.ox_app.proofs.AnyRuns.{served_in_turn}
 use Rattle.ox_app.proofs.Done.{fold_done, fold_ends, not_folded, path_same, text_done}
 use Rattle.ox_app.proofs.Drilling.{lengths_same}
 use Rattle.ox_app.proofs.FreshIndexing.{ends_done, fold_same, grows_alike, grows_stops_alike, init_same, leaves_alike, made_same, runs_in_turn}
@@ -73,10 +74,6 @@ returns-in-Fold g c = record {
   migrate_completes = λ words. absurd (fold_isnt_migrate c.args.words.now c.in-Fold.name c.in-Fold.ensures words);
   queries = λ path words. absurd (fold_isnt_query c.args.words.now c.in-Fold.name path c.in-Fold.ensures words);
   serves = λ turns fits words. absurd (fold_isnt_serve c.args.words.now c.in-Fold.name turns c.in-Fold.ensures words);
-  serve_survives = λ turns fits words. absurd (fold_isnt_serve c.args.words.now c.in-Fold.name turns c.in-Fold.ensures words);
-  serve_memory = λ turns fits words. absurd (fold_isnt_serve c.args.words.now c.in-Fold.name turns c.in-Fold.ensures words);
-  serve_status = λ turns fits words. absurd (fold_isnt_serve c.args.words.now c.in-Fold.name turns c.in-Fold.ensures words);
-  serve_completes = λ turns fits words. absurd (fold_isnt_serve c.args.words.now c.in-Fold.name turns c.in-Fold.ensures words);
   door_fault = λ is. absurd ((not_folded c.fold.result c.status.result c.status.ensures c.fold.ensures.no_disk_fault).door is);
   unopened = λ opening. absurd (fold_opens c.args.words.now c.in-Fold.name c.in-Fold.ensures opening);
   not_store = λ others is. absurd ((not_folded c.fold.result c.status.result c.status.ensures c.fold.ensures.no_disk_fault).not_store is);
@@ -134,10 +131,6 @@ returns-in-Init g c = record {
   migrate_completes = λ words. absurd (init_isnt_migrate c.args.words.now c.in-Init.name c.in-Init.depth c.in-Init.ensures.1 words);
   queries = λ path words. absurd (init_isnt_query c.args.words.now c.in-Init.name c.in-Init.depth path c.in-Init.ensures.1 words);
   serves = λ turns fits words. absurd (init_isnt_serve c.args.words.now c.in-Init.name c.in-Init.depth turns c.in-Init.ensures.1 words);
-  serve_survives = λ turns fits words. absurd (init_isnt_serve c.args.words.now c.in-Init.name c.in-Init.depth turns c.in-Init.ensures.1 words);
-  serve_memory = λ turns fits words. absurd (init_isnt_serve c.args.words.now c.in-Init.name c.in-Init.depth turns c.in-Init.ensures.1 words);
-  serve_status = λ turns fits words. absurd (init_isnt_serve c.args.words.now c.in-Init.name c.in-Init.depth turns c.in-Init.ensures.1 words);
-  serve_completes = λ turns fits words. absurd (init_isnt_serve c.args.words.now c.in-Init.name c.in-Init.depth turns c.in-Init.ensures.1 words);
   door_fault = λ is. absurd ((not_init c.init.result c.init.ensures.status).door is);
   unopened = λ opening. absurd (init_opens c.args.words.now c.in-Init.name c.in-Init.depth c.in-Init.ensures.1 opening);
   not_store = λ others is. absurd ((not_init c.init.result c.init.ensures.status).not_store is);
@@ -167,11 +160,17 @@ returns-in-Apply g c = record {
         (c.apply.ensures.settled opened.told is)
         (grows_stops_alike machine (g.S.Site.seen c.apply.new.site) (g.S.Site.log c.args.site.now) (g.S.Site.log c.apply.new.site)
         (c.apply.ensures.out_of_memory opened.told (stack_of machine) opened.stands_for is));
+    stack_feeds = λ stack opened. c.apply.ensures.feeds opened.told stack opened.stands_for;
+    stack_survives = λ stack opened. c.apply.ensures.survives opened.told stack opened.stands_for;
+    stack_out_of_memory = λ stack opened is.
+        said_of_each g.S.Site g.met.S.Site.logs_now (StopsBefore (replies_on stack) (after_on stack)) (g.S.Site.log c.args.site.now) c.apply.new.site
+        (c.apply.ensures.settled opened.told is) (c.apply.ensures.out_of_memory opened.told stack opened.stands_for is);
+    applies_logged = c.apply.ensures.logged;
     apply_status = c.apply.ensures.status;
-    apply_completes = λ machine opened no_disk no_hear no_show.
-        let feeds = c.apply.ensures.feeds opened.told (stack_of machine) opened.stands_for in
-        grows_weaker (RunsFeed (replies_on (stack_of machine)) c.apply.result) (EndsDone c.apply.result) (g.S.Site.log c.args.site.now) (g.S.Site.log c.apply.new.site)
-        (λ events runs. ends_done (replies_on (stack_of machine)) c.apply.result
+    apply_completes = λ stack opened no_disk no_hear no_show.
+        let feeds = c.apply.ensures.feeds opened.told stack opened.stands_for in
+        grows_weaker (RunsFeed (replies_on stack) c.apply.result) (EndsDone c.apply.result) (g.S.Site.log c.args.site.now) (g.S.Site.log c.apply.new.site)
+        (λ events runs. ends_done (replies_on stack) c.apply.result
         (DiskFails g.S.Site c.args.site.now c.apply.new.site)
         (HearFails g.S.Site c.args.site.now c.apply.new.site)
         (ShowFails g.S.Site c.args.site.now c.apply.new.site)
@@ -198,10 +197,6 @@ returns-in-Apply g c = record {
   migrate_completes = λ words. absurd (apply_isnt_migrate c.args.words.now c.in-Apply.ensures words);
   queries = λ path words. absurd (apply_isnt_query c.args.words.now path c.in-Apply.ensures words);
   serves = λ turns fits words. absurd (apply_isnt_serve c.args.words.now turns c.in-Apply.ensures words);
-  serve_survives = λ turns fits words. absurd (apply_isnt_serve c.args.words.now turns c.in-Apply.ensures words);
-  serve_memory = λ turns fits words. absurd (apply_isnt_serve c.args.words.now turns c.in-Apply.ensures words);
-  serve_status = λ turns fits words. absurd (apply_isnt_serve c.args.words.now turns c.in-Apply.ensures words);
-  serve_completes = λ turns fits words. absurd (apply_isnt_serve c.args.words.now turns c.in-Apply.ensures words);
   door_fault = λ is. absurd ((not_apply c.apply.result c.apply.ensures.status).door is);
   unopened = λ opening misfit stood. record {
     unopened = c.apply.ensures.unopened stood.told misfit stood.fails;
@@ -255,10 +250,6 @@ returns-in-Query g c = record {
             c.query.ensures.status (c.query.ensures.shows opened.told stack opened.stands_for).0 c.query.ensures.disk_fault c.query.ensures.show_fault no_disk no_show;
       };
   serves = λ turns fits words. absurd (query_isnt_serve c.args.words.now c.in-Query.path.now turns c.in-Query.ensures words);
-  serve_survives = λ turns fits words. absurd (query_isnt_serve c.args.words.now c.in-Query.path.now turns c.in-Query.ensures words);
-  serve_memory = λ turns fits words. absurd (query_isnt_serve c.args.words.now c.in-Query.path.now turns c.in-Query.ensures words);
-  serve_status = λ turns fits words. absurd (query_isnt_serve c.args.words.now c.in-Query.path.now turns c.in-Query.ensures words);
-  serve_completes = λ turns fits words. absurd (query_isnt_serve c.args.words.now c.in-Query.path.now turns c.in-Query.ensures words);
   door_fault = λ is. absurd ((not_query c.query.result c.query.ensures.status).door is);
   unopened = λ opening misfit stood. record {
     unopened = c.query.ensures.unopened stood.told misfit stood.fails;
@@ -301,19 +292,26 @@ returns-in-Serve g c = record {
   migrate_status = λ words. absurd (migrate_isnt_serve c.args.words.now c.in-Serve.turns words c.in-Serve.ensures.1);
   migrate_completes = λ words. absurd (migrate_isnt_serve c.args.words.now c.in-Serve.turns words c.in-Serve.ensures.1);
   queries = λ path words. absurd (query_isnt_serve c.args.words.now path c.in-Serve.turns words c.in-Serve.ensures.1);
-  serves = λ turns fits words machine opened. let log = g.S.Site.log in
-      let counts = g.S.Site.counts in
+  serves = λ turns fits words.
+      let site = g.S.Site in
+      let old = c.args.site.now in
+      let new = c.serve.new.site in
       let same = turns_same c.in-Serve.turns turns c.in-Serve.ensures.0 fits (sym c.in-Serve.ensures.1 ∙ words) in
-      let serves = c.serve.ensures.serves opened.told (stack_of machine) opened.stands_for in (
-        serves.0,
-        grows_of_machine machine turns c.serve.result (counts c.args.site.now) (counts c.serve.new.site) (log c.args.site.now) (log c.serve.new.site)
-            (subst (λ (n : ℕ). Grows (RunsServer server_on (stack_of machine) n c.serve.result (counts c.args.site.now) (counts c.serve.new.site)) (log c.args.site.now) (log c.serve.new.site)) same serves.1),
-      );
-  serve_survives = λ turns fits words machine opened. serving_of_machine machine g.S.Site c.args.site.now c.serve.new.site (c.serve.ensures.survives opened.told (stack_of machine) opened.stands_for);
-  serve_memory = λ turns fits words is. c.serve.ensures.memory is;
-  serve_status = λ turns fits words. c.serve.ensures.status;
-  serve_completes = λ turns fits words machine opened no_disk no_door no_show. serve_done c.serve.result (DiskFails g.S.Site c.args.site.now c.serve.new.site) (DoorFails g.S.Site c.args.site.now c.serve.new.site) (ShowFails g.S.Site c.args.site.now c.serve.new.site) c.serve.ensures.status
-      (c.serve.ensures.serves opened.told (stack_of machine) opened.stands_for).0 c.serve.ensures.disk_fault c.serve.ensures.door_fault c.serve.ensures.show_fault no_disk no_door no_show;
+      subst (λ (n : ℕ). Serves site n c.serve.result old new) same (record {
+        serves = λ machine opened.
+            let serves = c.serve.ensures.serves opened.told (stack_of machine) opened.stands_for in
+            (serves.0, grows_of_machine machine c.in-Serve.turns c.serve.result (site.counts old) (site.counts new) (site.log old) (site.log new) serves.1);
+        serve_survives = λ machine opened. serving_of_machine machine site old new (c.serve.ensures.survives opened.told (stack_of machine) opened.stands_for);
+        serve_in_turn = λ machine opened. served_in_turn site (stack_of machine) old new opened.stands_for (c.serve.ensures.survives opened.told (stack_of machine) opened.stands_for);
+        stack_serves = λ stack opened. c.serve.ensures.serves opened.told stack opened.stands_for;
+        stack_serve_survives = λ stack opened. c.serve.ensures.survives opened.told stack opened.stands_for;
+        serves_logged = c.serve.ensures.logged;
+        serve_memory = c.serve.ensures.memory;
+        serve_status = c.serve.ensures.status;
+        serve_completes = λ stack opened no_disk no_door no_show.
+            serve_done c.serve.result (DiskFails site old new) (DoorFails site old new) (ShowFails site old new) c.serve.ensures.status
+            (c.serve.ensures.serves opened.told stack opened.stands_for).0 c.serve.ensures.disk_fault c.serve.ensures.door_fault c.serve.ensures.show_fault no_disk no_door no_show;
+      });
   door_fault = λ is. c.serve.ensures.door_fault is;
   unopened = λ opening misfit stood. record {
     unopened = c.serve.ensures.unopened stood.told misfit stood.fails;
@@ -360,10 +358,6 @@ returns-in-Drill g c = record {
   migrate_completes = λ words. absurd (drill_isnt_migrate c.args.words.now c.in-Drill.n c.in-Drill.ensures.1 words);
   queries = λ path words. absurd (drill_isnt_query c.args.words.now c.in-Drill.n path c.in-Drill.ensures.1 words);
   serves = λ turns fits words. absurd (drill_isnt_serve c.args.words.now c.in-Drill.n turns c.in-Drill.ensures.1 words);
-  serve_survives = λ turns fits words. absurd (drill_isnt_serve c.args.words.now c.in-Drill.n turns c.in-Drill.ensures.1 words);
-  serve_memory = λ turns fits words. absurd (drill_isnt_serve c.args.words.now c.in-Drill.n turns c.in-Drill.ensures.1 words);
-  serve_status = λ turns fits words. absurd (drill_isnt_serve c.args.words.now c.in-Drill.n turns c.in-Drill.ensures.1 words);
-  serve_completes = λ turns fits words. absurd (drill_isnt_serve c.args.words.now c.in-Drill.n turns c.in-Drill.ensures.1 words);
   door_fault = λ is. absurd ((not_init c.drill.result c.drill.ensures.status).door is);
   unopened = λ opening. absurd (drill_opens c.args.words.now c.in-Drill.n c.in-Drill.ensures.1 opening);
   not_store = λ others is. absurd ((not_init c.drill.result c.drill.ensures.status).not_store is);
@@ -405,10 +399,6 @@ returns-in-Migrate g c = record {
       migrate_done c.migrate.result (DiskFails g.S.Site c.args.site.now c.migrate.new.site) (ShowFails g.S.Site c.args.site.now c.migrate.new.site) c.migrate.ensures.status shows.0 shows.1 c.migrate.ensures.disk_fault c.migrate.ensures.show_fault no_disk no_show;
   queries = λ path words. absurd (migrate_isnt_query c.args.words.now path c.in-Migrate.ensures words);
   serves = λ turns fits words. absurd (migrate_isnt_serve c.args.words.now turns c.in-Migrate.ensures words);
-  serve_survives = λ turns fits words. absurd (migrate_isnt_serve c.args.words.now turns c.in-Migrate.ensures words);
-  serve_memory = λ turns fits words. absurd (migrate_isnt_serve c.args.words.now turns c.in-Migrate.ensures words);
-  serve_status = λ turns fits words. absurd (migrate_isnt_serve c.args.words.now turns c.in-Migrate.ensures words);
-  serve_completes = λ turns fits words. absurd (migrate_isnt_serve c.args.words.now turns c.in-Migrate.ensures words);
   door_fault = λ is. absurd ((not_migrate c.migrate.result c.migrate.ensures.status).door is);
   unopened = λ opening. absurd (migrate_opens c.args.words.now c.in-Migrate.ensures opening);
   not_store = λ others is. absurd (others c.in-Migrate.ensures);
@@ -449,10 +439,6 @@ returns-in-Unknown g c = record {
   migrate_completes = λ words. absurd (c.in-Unknown.ensures.no_migrate words);
   queries = λ path words. absurd (c.in-Unknown.ensures.no_query path words);
   serves = λ turns fits words. absurd (c.in-Unknown.ensures.no_serve turns fits words);
-  serve_survives = λ turns fits words. absurd (c.in-Unknown.ensures.no_serve turns fits words);
-  serve_memory = λ turns fits words. absurd (c.in-Unknown.ensures.no_serve turns fits words);
-  serve_status = λ turns fits words. absurd (c.in-Unknown.ensures.no_serve turns fits words);
-  serve_completes = λ turns fits words. absurd (c.in-Unknown.ensures.no_serve turns fits words);
   door_fault = λ is. absurd (ends_apart ends.Usage ends.DoorFault refl is);
   unopened = λ opening. absurd (unknown_opens c.args.words.now c.in-Unknown.ensures opening);
   not_store = λ others is. absurd (ends_apart ends.Usage ends.NotStore refl is);

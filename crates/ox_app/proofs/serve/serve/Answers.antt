@@ -1,4 +1,4 @@
-use Rattle.std.proofs.Common.{◌∙◌, Some, inr, refl, subst, sym}
+use Rattle.std.proofs.Common.{◌∙◌, ⊎_elim, Some, inr, refl, subst, sym}
 use Rattle.ox_outside.specs.Log.{Grows}
 use Rattle.ox_outside.specs.Runs.{LeavesOnly}
 use Rattle.ox_model.specs.Stack.{Stack}
@@ -12,6 +12,7 @@ use Rattle.ox_app.proofs.Serving.{memory_untold, opened_then_served, runs_from, 
 use Rattle.ox_outside.proofs.Calls.{calls_then, looks_none, no_call}
 use Rattle.ox_outside.proofs.Counts.{no_fault_yet, stops_after, stops_at_none, then_rose}
 use Rattle.ox_app.proofs.Opening.{no_misfit_stands, only_unopened, unopened_disk, unopened_says, unopened_serve}
+use Rattle.ox_app.proofs.Stacks.{any_stack}
 use Rattle.ox_app.proofs.Statuses.{ends_apart}
 use Rattle.ox_app.proofs.Stops.{opened_well, unopened_stops}
 use Rattle.ox_app.proofs.serve.serve.Goals as goal
@@ -20,6 +21,10 @@ pub returns-in_default : goal.returns-in_default
 returns-in_default g c = record {
   serves = λ told stack stood. (memory_opens, runs_none server_on stack c.args.turns ends.Memory _ _ (g.S.Site.log c.args.site.now) (g.S.Site.log c.args.site.now) c.requires.turns.some memory_untold refl);
   survives = λ told stack stood. unserved g.S.Site server_on stack StandFor g.met.S.Site.only_now g.met.S.Site.logs_now c.args.site.now;
+  logged = λ isnt. record {
+    stack = any_stack;
+    serves = runs_none server_on any_stack c.args.turns ends.Memory _ _ (g.S.Site.log c.args.site.now) (g.S.Site.log c.args.site.now) c.requires.turns.some memory_untold refl;
+  };
   unopened = λ told misfit stood. inr (inr refl);
   unsaid = λ told misfit stood isnt. refl;
   looks = λ told misfit stood. only_looked g.S.Site c.args.site.now c.args.site.now (looks_none g.S.Site g.met.S.Site.only_now c.args.site.now);
@@ -51,6 +56,14 @@ returns-in-Ok-open g c = record {
       let same = same_stack (stands (g.S.Site.seen c.args.site.now)) c.in-Ok-open.store.stack stack (c.in-Ok-open.ensures.stands told) stood in
       subst (λ (s : Stack). LeavesOnly g.S.Site c.args.site.now c.serve_by.new.site (λ r. Grows (LeavesServing g.S.Site.may_leave c.args.site.now server_on s StandFor r.files) (g.S.Site.log c.args.site.now) (Some r.log))) same
       (opened_then_served g.S.Site server_on c.in-Ok-open.store.stack StandFor g.met.S.Site.logs_now c.args.site.now c.open.new.site c.serve_by.new.site looks (c.serve_by.ensures.survives (looks.calls.as_told ∙ told)));
+  logged = λ isnt.
+      let log = g.S.Site.log in
+      let counts = g.S.Site.counts in
+      let looks = c.open.ensures.looks in record {
+        stack = c.in-Ok-open.store.stack;
+        serves = runs_from server_on c.in-Ok-open.store.stack c.args.turns c.serve_by.result (counts c.args.site.now) (counts c.open.new.site) (counts c.serve_by.new.site) (log c.args.site.now) (log c.open.new.site) (log c.serve_by.new.site)
+            looks.calls.none_fell looks.nothing.as_logged c.serve_by.ensures.serves;
+      };
   unopened = λ told misfit stood. no_misfit_stands (stands (g.S.Site.seen c.args.site.now)) c.in-Ok-open.store.stack misfit (c.in-Ok-open.ensures.stands told) stood;
   unsaid = λ told misfit stood isnt. no_misfit_stands (stands (g.S.Site.seen c.args.site.now)) c.in-Ok-open.store.stack misfit (c.in-Ok-open.ensures.stands told) stood;
   looks = λ told misfit stood. no_misfit_stands (stands (g.S.Site.seen c.args.site.now)) c.in-Ok-open.store.stack misfit (c.in-Ok-open.ensures.stands told) stood;
@@ -77,6 +90,12 @@ returns-in-Err g c = record {
       let how = unserved_as g.S.Site (stands (g.S.Site.seen c.args.site.now)) stack c.in-Err.fault c.explain.result c.open.new.site c.explain.new.site stood (c.in-Err.ensures.not_store told) c.explain.ensures.says in
       (how.opened, runs_none server_on stack c.args.turns c.explain.result _ _ (g.S.Site.log c.args.site.now) (g.S.Site.log c.explain.new.site) c.requires.turns.some how.untold (how.logged ∙ c.open.ensures.looks.nothing.as_logged));
   survives = λ told stack stood. unopened_unserved g.S.Site server_on stack StandFor g.met.S.Site.logs_now stack c.in-Err.fault c.args.site.now c.open.new.site c.explain.new.site stood (c.in-Err.ensures.not_store told) c.open.ensures.looks c.explain.ensures.talks;
+  logged = λ isnt.
+      let only = only_unopened c.explain.result c.explain.ensures.status in record {
+        stack = any_stack;
+        serves = runs_none server_on any_stack c.args.turns c.explain.result _ _ (g.S.Site.log c.args.site.now) (g.S.Site.log c.explain.new.site) c.requires.turns.some (⊎_elim only.done only.show)
+            (says_nothing g.S.Site c.in-Err.fault c.explain.result c.open.new.site c.explain.new.site c.explain.ensures.says isnt ∙ c.open.ensures.looks.nothing.as_logged);
+      };
   unopened = λ told misfit stood. c.explain.ensures.status;
   unsaid = λ told misfit stood isnt. says_nothing g.S.Site c.in-Err.fault c.explain.result c.open.new.site c.explain.new.site c.explain.ensures.says isnt ∙ c.open.ensures.looks.nothing.as_logged;
   looks = λ told misfit stood. looked_then_talked g.S.Site _ c.args.site.now c.open.new.site c.explain.new.site c.open.ensures.looks c.explain.ensures.talks;

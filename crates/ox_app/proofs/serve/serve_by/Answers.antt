@@ -114,6 +114,7 @@ returns g c = record {
       (runs_by_fault server_on c.args.store.stack c.args.turns c.in-Err.fault (counts c.args.site.now) (counts c.serve.new.site) (log c.args.site.now) (log c.serve.new.site)
       (λ is. ap log (c.in-Err.ensures.memory (ap Err is)))
       (λ isnt. c.in-Err.ensures.cut (λ e. let f : c.in-Err.fault ≡ serves.Memory = cc e in isnt f))
+      (λ is. c.in-Err.ensures.fewer (ap Err is))
       c.in-Err.ensures.fronts c.requires.some);
   survives = λ told. served_only g.S.Site server_on c.args.store.stack StandFor c.args.site.now c.serve.new.site (c.in-Err.ensures.survives told);
   memory = λ is. ap g.S.Site.log (c.in-Err.ensures.memory (ap Err ((ends_turns c.in-Err.fault).memory (sym c.fault_of.ensures ∙ is))));
