@@ -2,7 +2,7 @@
 """Builds, shows, tests and runs ox, an index server for ordinals, inscriptions and runes.
 
     ./ox demo        shows what it does: a store of made blocks, served over HTTP, and asked
-    ./ox test        tries documents, rows, tests, files and sockets; proves nothing
+    ./ox test        tries documents, rows, tests, files, sockets and crashes; proves nothing
     ./ox build       builds the program in some minutes: optimised, and unproved
     ./ox prove       the gate: proves everything, which takes hours
     ./ox --version   of which commit and kit the program is, and whether it is the proved one

@@ -18,6 +18,7 @@ import tempfile
 from runs import least, report
 from tools.bitcoin import SUBSIDY
 from tools.programs import TOP, proved_program
+from tools.words import no_words
 
 sys.path.append(str(TOP / "checks"))
 
@@ -133,6 +134,7 @@ def seconds(blocks, folder):
 
 
 def main():
+    no_words(__doc__)
     with tempfile.TemporaryDirectory() as folder:
         for work, hostile, honest, most in WORKS:
             took = {}
@@ -153,4 +155,5 @@ def main():
             )
 
 
-main()
+if __name__ == "__main__":
+    main()

@@ -17,8 +17,8 @@ No real disk is tried, no sectors and no cache of a controller: what a disk does
 isn't seen. strace is Debian's package, which is installed where it is missing; where that can't be
 done, or calls can't be recorded, a line says so, and nothing is tried. A check that fails is told
 with its cause, and a state that fails stays below out/ beside this script. The last line says how
-many states were opened and how many checks passed and failed, and the status is 1 where one failed.
-It takes a quarter of a minute on four processors that do nothing else.
+many checks passed and how many failed, and the status is 1 where one failed. It takes a quarter of
+a minute on four processors that do nothing else.
 """
 
 import concurrent.futures
@@ -38,7 +38,6 @@ import sys
 import tempfile
 import threading
 import time
-import traceback
 import zlib
 from typing import NamedTuple
 
@@ -46,13 +45,10 @@ import made_blocks
 import old_files
 import store_files
 from chain import DISCONNECT, line_of, payload_of
-from kills import Failed, demand
 from store_files import MOST_RECORDS, files_of
 from tools.bitcoin import SUBSIDY
-from tools.programs import proved_program
-from tools.words import words_of
+from tools.checks import Checks, Failed, Skipped, demand
 
-PROGRAM = proved_program("ox_main")
 OUT = pathlib.Path(__file__).resolve().parent / "out"
 DEPTH = 5
 SECONDS = 60
@@ -439,7 +435,12 @@ class Opener:
     def __init__(self, program, room):
         self.program, self.room = program, room
         self.own = threading.local()
+        self.numbers = itertools.count()
         self.count = 0
+
+    def new_folder(self):
+        """A folder that isn't there yet."""
+        return self.room / f"recorded{next(self.numbers)}"
 
     def run(self, folder, *words, feed=b""):
         ran = subprocess.run(
@@ -488,16 +489,12 @@ class Opener:
         return None
 
     def all(self, states, look):
-        """Each state has to pass. The files of one that doesn't are kept."""
+        """The first state that doesn't pass, with its fault; or none."""
         states = list(states)
         self.count += len(states)
         with concurrent.futures.ThreadPoolExecutor(os.cpu_count()) as pool:
-            for state, fault in zip(states, pool.map(lambda s: self.fault_of(s, look), states)):
-                if fault:
-                    folder = pathlib.Path(tempfile.mkdtemp(dir=OUT))
-                    (folder / "a.ox").write_bytes(state.a)
-                    (folder / "b.ox").write_bytes(state.b)
-                    raise Failed(f"{fault}\n  {folder}")
+            faults = pool.map(lambda state: self.fault_of(state, look), states)
+            return next((one for one in zip(states, faults) if one[1]), None)
 
     def first_fault(self, states, look):
         """What is wrong with the first state that doesn't pass, or none."""
@@ -522,30 +519,27 @@ class Stacks:
 
 # ---- checks
 
-checks = []
-
-
-def check(what):
-    """Has the function below looked at, and tells it as `what` where it fails."""
-
-    def keep(function):
-        checks.append((what, function))
-        return function
-
-    return keep
-
 
 class Trial:
-    """What a check works with."""
+    """What a check works with: an opener for all of them, and a folder of its own for what fails.
+    `whole` says whether all checks are run."""
 
-    def __init__(self, program, room):
-        self.program, self.room, self.opener = program, room, Opener(program, room)
+    def __init__(self, opener, folder, whole):
+        self.opener, self.folder, self.whole = opener, folder, whole
+        self.program = opener.program
         self.chance = random.Random(SEED)
-        self.numbers = itertools.count()
+
+    def wants(self, states, look):
+        """Each state has to pass. The files of one that doesn't are kept."""
+        if failed := self.opener.all(states, look):
+            state, fault = failed
+            (self.folder / "a.ox").write_bytes(state.a)
+            (self.folder / "b.ox").write_bytes(state.b)
+            raise fault
 
     def recorder(self, files=None):
         """The program over a new folder, which may have files."""
-        recorder = Recorder(self.program, self.room / f"recorded{next(self.numbers)}")
+        recorder = Recorder(self.program, self.opener.new_folder())
         for name, data in zip(NAMES, files or ()):
             (recorder.folder / name).write_bytes(data)
         return recorder
@@ -564,10 +558,6 @@ class Trial:
         demand(not faults, f"{faults[:3]}")
 
 
-def shown(calls):
-    return b"".join(call.data for call in calls if call.what == "show")
-
-
 def commands_on(blocks):
     """Commands that connect blocks and now and then take some back."""
     commands = []
@@ -579,7 +569,11 @@ def commands_on(blocks):
     return commands
 
 
-@check("an `init` keeps the order, and what its line told opens")
+# `main` has each check given its trial
+every = Checks(Trial)
+
+
+@every.check("an `init` keeps the order, and what its line told opens")
 def making(trial):
     recorder = trial.recorder()
     code, told, calls = recorder.run("init", "regtest", str(DEPTH))
@@ -588,10 +582,10 @@ def making(trial):
     behind = [state for state in states_of(calls, (b"", b""), trial.chance) if state.answered]
     demand(len(behind) == 1, f"a crash leaves {len(behind)} states behind the line")
     empty = Stacks([], [])
-    trial.opener.all([behind[0]._replace(answered=0)], lambda it: trial.opener.look(it, empty))
+    trial.wants([behind[0]._replace(answered=0)], lambda it: trial.opener.look(it, empty))
 
 
-@check("an `apply` keeps the order, also where the files turn, and each state opens")
+@every.check("an `apply` keeps the order, also where the files turn, and each state opens")
 def applying(trial):
     blocks = made_blocks.chain(110)
     commands = commands_on(blocks)
@@ -609,11 +603,11 @@ def applying(trial):
         demand((code, told) == (0, wanted), f"it ended with {code} and {told}")
         trial.wants_order(calls, before)
         turns += sum(call.what == "write" and call.at == 1 for call in calls)
-        trial.opener.all(states_of(calls, before, trial.chance), trial.looks(stacks.since(first)))
+        trial.wants(states_of(calls, before, trial.chance), trial.looks(stacks.since(first)))
     demand(turns == 2, f"the files turned {turns} times")
 
 
-@check("a `migrate` keeps the order, and each state is the old store or the new one")
+@every.check("a `migrate` keeps the order, and each state is the old store or the new one")
 def migrating(trial):
     blocks = made_blocks.chain(12)
     commands = [payload_of(block) for block, _, _ in blocks] + [DISCONNECT]
@@ -631,10 +625,10 @@ def migrating(trial):
         demand(done or got == (0, line) and not state.answered, f"`migrate` ended with {got}")
         demand(trial.opener.told(folder) == told_of(stacks.all[-1]), "it is another store")
 
-    trial.opener.all(states_of(calls, before, trial.chance, 40), look)
+    trial.wants(states_of(calls, before, trial.chance, 40), look)
 
 
-@check("a `drill` keeps the order, and each state opens from its first command on")
+@every.check("a `drill` keeps the order, and each state opens from its first command on")
 def drilling(trial):
     blocks = made_blocks.chain(3)
     commands = [payload_of(block) for block, _, _ in blocks]
@@ -659,10 +653,10 @@ def drilling(trial):
     made = (state for state in states_of(numbered, (b"", b""), trial.chance) if state.answered)
     # the first gate is that of `init`
     states = [state._replace(answered=state.answered - 1) for state in made]
-    trial.opener.all(states, trial.looks(stacks))
+    trial.wants(states, trial.looks(stacks))
 
 
-@check("a `serve` keeps the order, and each state opens")
+@every.check("a `serve` keeps the order, and each state opens")
 def serving(trial):
     blocks = made_blocks.chain(6)
     commands = [payload_of(block) for block, _, _ in blocks] + [DISCONNECT]
@@ -670,10 +664,10 @@ def serving(trial):
     calls = trial.recorder(before).serve([block for block, _, _ in blocks])
     trial.wants_order(calls, before)
     states = states_of(calls, before, trial.chance, 20)
-    trial.opener.all(states, trial.looks(Stacks(commands, blocks)))
+    trial.wants(states, trial.looks(Stacks(commands, blocks)))
 
 
-@check("a `query` writes nothing")
+@every.check("a `query` writes nothing")
 def asking(trial):
     commands = [payload_of(block) for block, _, _ in made_blocks.chain(3)]
     code, _, calls = trial.recorder(files_of(commands, "regtest", DEPTH)).run("query", "/audit")
@@ -698,7 +692,7 @@ class Short:
         return trial.looks(self.stacks.since(2))
 
 
-@check("each sync and each write that fails ends the run, and what it told is there")
+@every.check("each sync and each write that fails ends the run, and what it told is there")
 def failing(trial):
     short = Short()
     _, _, calls = trial.recorder(short.before).run("apply", feed=short.feed)
@@ -713,7 +707,7 @@ def failing(trial):
             fails(trial, short, what, inject=[f"{name}:error={error}:when={number}"])
 
 
-@check("a write that is cut short ends the run, and what it told is there")
+@every.check("a write that is cut short ends the run, and what it told is there")
 def cut_short(trial):
     short = Short()
     whole = len(files_of(short.commands, "regtest", DEPTH)[0])
@@ -789,7 +783,7 @@ def other_synced(calls, record):
     return [*calls[: record + 1], calls[record + 1]._replace(on="B"), *calls[record + 2 :]]
 
 
-@check("a record that is altered is found, by its order and by its states")
+@every.check("a record that is altered is found, by its order and by its states")
 def altered(trial):
     short = Short()
     _, _, calls = trial.recorder(short.before).run("apply", feed=short.feed)
@@ -824,33 +818,27 @@ def can_record():
         return ran.returncode == 0 and b"+++ exited with 0 +++" in told.read()
 
 
+@every.check(f"a run opens {STATES} states at least")
+def enough(trial):
+    if not trial.whole:
+        raise Skipped("not all checks are run")
+    print(f"{trial.opener.count} states were opened")
+    demand(trial.opener.count >= STATES, f"{trial.opener.count} states were opened")
+
+
 def main():
-    words = words_of(__doc__)
-    words.add_argument("program", nargs="?", type=pathlib.Path, default=PROGRAM)
-    said = words.parse_args()
-    if not can_record():
-        print("real crashes: skipped, since strace can't be had or can't record calls")
+    said = every.parser(__doc__).parse_args()
+    if not said.list and not can_record():
+        print("SKIPPED: strace can't be had or can't record calls")
+        print(f"0 passed, 0 failed, {len(every.every)} skipped")
         return 0
-    program = said.program.resolve()
     # memory where there is such a folder: each start syncs
     shared = pathlib.Path("/dev/shm")
     OUT.mkdir(exist_ok=True)
-    failed = 0
     with tempfile.TemporaryDirectory(dir=shared if os.access(shared, os.W_OK) else OUT) as room:
-        trial = Trial(program, pathlib.Path(room))
-        for what, function in checks:
-            try:
-                function(trial)
-            except Exception as fault:
-                failed += 1
-                told = fault if isinstance(fault, Failed) else traceback.format_exc()
-                print(f"FAILED: {what}\n  {told}", flush=True)
-        count = trial.opener.count
-    if count < STATES and not failed:
-        failed += 1
-        print(f"FAILED: {count} states were opened, and {STATES} are wanted")
-    print(f"real crashes: {count} states, {len(checks) - failed} passed, {failed} failed")
-    return 1 if failed else 0
+        opener = Opener(said.program.resolve(), pathlib.Path(room))
+        every.make = lambda program, folder: Trial(opener, folder, not said.only)
+        return every.run(said, OUT)
 
 
 if __name__ == "__main__":

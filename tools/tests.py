@@ -1,4 +1,4 @@
-"""Tries what stands: documents, types, rows, tests, files and sockets. Nothing is proved."""
+"""Tries what stands: documents, types, rows, tests, files, sockets, crashes. Nothing is proved."""
 
 import concurrent.futures
 import os
@@ -138,6 +138,7 @@ def run(program: pathlib.Path) -> int:
             script(steps, "tests, unproved", "checks/all_tests.py"),
             script(steps, "real files", "checks/real_files.py", str(program)),
             script(steps, "real sockets", "checks/real_sockets.py", str(program)),
+            script(steps, "real crashes", "checks/real_crashes.py", str(program)),
         ]
     count = total(counts)
     print(count)
