@@ -10,7 +10,7 @@ and tells each line
    with another sentence than its root;
 3. of a table with a column 'Carried by', that has a word which stands nowhere in the crate or in
    one below it, or a clause that isn't in the contract of the function that is named, and in
-   docs/PROMISES.md a clause that neither `run` has nor a record of crates/ox_app/specs/Promises;
+   docs/PROMISES.md a clause that neither `run` has nor a record of `ox_app`'s Promises or Headline;
 4. with a command whose folder, script, verb of rt, subcommand or profile isn't there, or with a
    route or a status that isn't;
 5. with a link that leads nowhere, or a quoted section that isn't in the document;
@@ -47,8 +47,8 @@ from tools.words import words_of
 
 TOP = pathlib.Path(__file__).resolve().parents[1]
 
-# the records that clauses of `run` give
-RECORDS = "crates/ox_app/specs/Promises.antt"
+# the records that clauses of `run` give, and those that these name
+RECORDS = "crates/ox_app/specs/Promises.antt", "crates/ox_app/specs/Headline.antt"
 
 # how many bytes a document may have
 SIZES = {
@@ -266,7 +266,8 @@ def named_clauses(part):
 
 def run_clauses(repository):
     """The words of PROMISES' column of clauses that `run` hasn't, nor a record that it gives."""
-    fields = re.findall(r"^  pub (\w+) :", repository.text(RECORDS), re.M)
+    records = "".join(map(repository.text, RECORDS))
+    fields = re.findall(r"^  pub (\w+) :", records, re.M)
     known = repository.contracts("ox_app")["run"] | set(fields)
     for number, line in repository.lines("docs/PROMISES.md"):
         if line.startswith("**Runs.**"):
