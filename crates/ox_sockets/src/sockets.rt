@@ -121,7 +121,7 @@ impl<C: Clock + Drop> Sockets<C> {
         shown
     }
 
-    /// A link met want of memory. Nothing is done: who made it so shuts it.
+    /// A link ran out of memory. Nothing is done: who made it so shuts it.
     pub fn give_up(&mut self, _channel: u32)
         ensures same { self.new ≡ self.old }
     {}
