@@ -814,8 +814,12 @@ def can_record():
         return False
     with tempfile.NamedTemporaryFile() as told:
         ran = subprocess.run(["strace", "-D", "-o", told.name, "true"], stderr=subprocess.DEVNULL)
-        time.sleep(0.1)
-        return ran.returncode == 0 and b"+++ exited with 0 +++" in told.read()
+        until = time.monotonic() + 10
+        while ran.returncode == 0 and time.monotonic() < until:
+            if b"+++ exited with 0 +++" in pathlib.Path(told.name).read_bytes():
+                return True
+            time.sleep(0.01)
+    return False
 
 
 @every.check(f"a run opens {STATES} states at least")
