@@ -1,0 +1,4 @@
+pub mod Ties
+pub mod Rows
+pub mod Steps
+pub mod Scripts
