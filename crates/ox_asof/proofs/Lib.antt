@@ -1,0 +1,17 @@
+pub mod Fronts
+pub mod Undoing
+pub mod Ending
+pub mod Numbering
+pub mod Whereabouts
+pub mod Asking
+pub mod Hashes
+pub mod Halving
+pub mod Saying
+pub mod Recounting
+pub mod Walking
+pub mod Amounting
+pub mod Replying
+pub mod Telling
+pub mod Standing
+pub mod Backing
+pub mod Pasts

@@ -1,0 +1,9 @@
+pub mod Amounts
+pub mod Undone
+pub mod AskedKept
+pub mod Paths
+pub mod Reply
+pub mod Back
+pub mod Said
+pub mod Places
+pub mod Past
