@@ -1,5 +1,5 @@
 -- The reply to a GET depends on its path and `close` alone, and on the latter as it is told.
-use Rattle.std.proofs.Common.{◌≡◌, ◌∙◌, Bool, true, false, cond, not, List, ℕ, Option, Some, None, refl, sym, ap, unwrap_or}
+use Rattle.std.proofs.Common.{◌≡◌, ◌∙◌, Bool, true, false, cond, not, List, [], ℕ, Option, Some, None, refl, sym, ap, unwrap_or}
 use Rattle.std.specs.Option.{option_and_then, option_map}
 use Rattle.ox_http.specs.declared.Method.{Method}
 use Rattle.ox_http.specs.declared.Method.TheVariants.{Get}
@@ -13,7 +13,9 @@ use Rattle.ox_replies.specs.Ask.{error_reply, named_reply, path_reply, reply_of,
 use Rattle.ox_replies.specs.Content.{body_reply, shown_reply}
 use Rattle.ox_replies.specs.Asked.{Asked}
 use Rattle.ox_cache.specs.Kept.{closing}
-use Rattle.ox_desk.specs.Desk.{get_of}
+use Rattle.ox_asof.specs.AskedKept.{AskedKept}
+use Rattle.ox_asof.specs.Paths.{path_and_hash}
+use Rattle.ox_asof.specs.Reply.{asked_as_of, get_of, is_query, reply_at, reply_by_cut, reply_from}
 
 -- ---- what is replied, with another `close`
 
@@ -62,12 +64,6 @@ get_closes : (asked : Asked) (path body : List ℕ) (a b : Bool) → closing b (
 unfolding reply_of
 get_closes asked path body a b = taken asked path body a b (route_and_part path)
 
--- of a request
-pub closes : (asked : Asked) (request : Request) (close : Bool) → request.method ≡ Get → closing close (reply_of asked request) ≡ reply_of asked (get_of request.path close)
-closes asked request close get =
-    ap (λ (m : Method). closing close (reply_of asked (record { method = m; path = request.path; body = request.body; close = request.close }))) get
-    ∙ get_closes asked request.path request.body request.close close
-
 -- a body changes nothing
 own_taken : (asked : Asked) (path body : List ℕ) (close : Bool) (at : Option (Route × List ℕ))
     → path_reply asked (get_of path close) at ≡ path_reply asked (record { method = Get; path = path; body = body; close = close }) at
@@ -78,8 +74,31 @@ own_get : (asked : Asked) (path body : List ℕ) (close : Bool) → reply_of ask
 unfolding reply_of
 own_get asked path body close = own_taken asked path body close (route_and_part path)
 
--- with its own `close`
-pub closes_own : (asked : Asked) (request : Request) → request.method ≡ Get → reply_of asked (get_of request.path request.close) ≡ reply_of asked request
-closes_own asked request get =
-    own_get asked request.path request.body request.close
-    ∙ ap (λ (m : Method). reply_of asked (record { method = m; path = request.path; body = request.body; close = request.close })) (sym get)
+-- ---- where the path may name a block
+
+or_none : (asked : Option Asked) (path : List ℕ) (a b : Bool) → closing b (reply_from asked path a) ≡ reply_from asked path b
+or_none None path a b = refl
+or_none (Some asked) path a b = get_closes asked path [] a b
+
+cut_closes : (kept : AskedKept) (path body : List ℕ) (a b : Bool) (cut : Option (List ℕ × List ℕ))
+    → closing b (reply_by_cut kept (record { method = Get; path = path; body = body; close = a }) cut) ≡ reply_by_cut kept (get_of path b) cut
+cut_closes kept path body a b None = get_closes kept.first path body a b
+cut_closes kept path body a b (Some cut) =
+    either (not (is_query cut.0)) b _ _ _ _ refl (or_none (asked_as_of kept cut.1) cut.0 a b)
+
+pub closes_at : (kept : AskedKept) (request : Request) (close : Bool) → request.method ≡ Get → closing close (reply_at kept request) ≡ reply_at kept (get_of request.path close)
+unfolding reply_at
+closes_at kept request close get =
+    ap (λ (m : Method). closing close (reply_by_cut kept (record { method = m; path = request.path; body = request.body; close = request.close }) (path_and_hash request.path))) get
+    ∙ cut_closes kept request.path request.body request.close close (path_and_hash request.path)
+
+own_cut : (kept : AskedKept) (path body : List ℕ) (close : Bool) (cut : Option (List ℕ × List ℕ))
+    → reply_by_cut kept (get_of path close) cut ≡ reply_by_cut kept (record { method = Get; path = path; body = body; close = close }) cut
+own_cut kept path body close None = own_get kept.first path body close
+own_cut kept path body close (Some cut) = refl
+
+pub closes_own_at : (kept : AskedKept) (request : Request) → request.method ≡ Get → reply_at kept (get_of request.path request.close) ≡ reply_at kept request
+unfolding reply_at
+closes_own_at kept request get =
+    own_cut kept request.path request.body request.close (path_and_hash request.path)
+    ∙ ap (λ (m : Method). reply_by_cut kept (record { method = m; path = request.path; body = request.body; close = request.close }) (path_and_hash request.path)) (sym get)

@@ -10,3 +10,4 @@ pub mod PutBack
 pub mod Refusals
 pub mod SameReplies
 pub mod Whole
+pub mod KeptBlocks

@@ -6,12 +6,12 @@ use Rattle.ox_feed.specs.declared.command.Command.{Command}
 use Rattle.ox_http.specs.declared.Request.{Request}
 use Rattle.ox_links.specs.Alike.{SameServer, SameTurn}
 use Rattle.ox_rules.specs.declared.refusal.Refusal.{Refusal}
-use Rattle.ox_model.specs.Machine.{Machine, chain_index, stack_of, turn_by_command}
+use Rattle.ox_model.specs.Machine.{Machine, older_of, stack_of, turn_by_command}
 use Rattle.ox_model.specs.Stack.{Stack, stack_after}
 use Rattle.ox_model.proofs.AnswersOfStacks.{length-older_of, obeys_alike, on_stack}
-use Rattle.ox_replies.specs.Ask.{reply_of}
-use Rattle.ox_replies.specs.Asked.{Asked}
-use Rattle.ox_desk.specs.Asked.{asked_in, asked_on}
+use Rattle.ox_asof.specs.AskedKept.{AskedKept}
+use Rattle.ox_asof.specs.Reply.{reply_at}
+use Rattle.ox_desk.specs.Asked.{asked_in, asked_on, now_in}
 use Rattle.ox_desk.specs.Commands.{command_of}
 use Rattle.ox_desk.specs.Replies.{command_reply, reply_or}
 use Rattle.ox_desk.specs.Servers.{HasStack, server_of, server_on, shown_as}
@@ -19,10 +19,8 @@ use Rattle.ox_desk.specs.Servers.{HasStack, server_of, server_on, shown_as}
 -- as much is kept
 asked_same : (machine : Machine) → asked_on (stack_of machine) ≡ asked_in machine
 asked_same machine = λ i. record {
-  profile = machine.profile;
-  index = chain_index machine;
-  depth = machine.depth;
-  kept = length-older_of machine.profile machine.kept machine.blocks i;
+  first = record (now_in machine) { kept = length-older_of machine.profile machine.kept machine.blocks i };
+  older = older_of machine.profile machine.kept machine.blocks;
 }
 
 turns_same : (machine : Machine) (stack : Stack) → HasStack machine stack → (command : Command)
@@ -39,7 +37,7 @@ reply_same machine stack has request (Some command) =
     ap (λ (r : Result Stack Refusal). command_reply asked_on r request.close) (sym (turns_same machine stack has command))
     ∙ came_same request.close (turn_by_command machine command)
 reply_same machine stack has request None =
-    ap (λ (asked : Asked). reply_of asked request) (ap asked_on (sym has) ∙ asked_same machine)
+    ap (λ (asked : AskedKept). reply_at asked request) (ap asked_on (sym has) ∙ asked_same machine)
 
 turned : (result : Result Machine Refusal) → SameTurn HasStack (result_ok result) (result_ok (on_stack result))
 turned (Ok machine) = refl

@@ -12,9 +12,9 @@ use Rattle.ox_http.proofs.Talking.{talks_join}
 use Rattle.ox_links.specs.Answered.{TalkGoesOn}
 use Rattle.ox_links.specs.Quiet.{Speaks}
 use Rattle.ox_rules.specs.declared.refusal.Refusal.{Refusal}
-use Rattle.ox_replies.specs.Ask.{reply_of}
-use Rattle.ox_replies.specs.Asked.{Asked}
-use Rattle.ox_replies.proofs.Told.{reply_told}
+use Rattle.ox_asof.specs.AskedKept.{AskedKept}
+use Rattle.ox_asof.specs.Reply.{reply_at}
+use Rattle.ox_asof.proofs.Telling.{told_at}
 use Rattle.ox_desk.specs.Commands.{command_of}
 use Rattle.ox_desk.specs.Replies.{command_reply, reply_by, reply_or}
 use Rattle.ox_desk.specs.Servers.{server_by, shown_as}
@@ -35,7 +35,7 @@ front_by false x y whole is = (y, sym is)
 pub talk_stays : TalkGoesOn talk
 talk_stays x y = front_by (has_ended (talk x)) (talk x) (talk (left x ++ y)) (talk (x ++ y)) (talks_join x y)
 
-module _ {X : Type 0} (turn : X → Command → Result X Refusal) (asked : X → Asked) where
+module _ {X : Type 0} (turn : X → Command → Result X Refusal) (asked : X → AskedKept) where
   came_whole : (close : Bool) (r : Result X Refusal) → IsOneReply close (shown_as (command_reply asked r close))
   came_whole close (Ok new) = record { said = _; bytes = refl; size = refl; fits = record { kind = refl; encoding = tt }; closes = (refl, refl) }
   came_whole close (Err refusal) = record { said = _; bytes = refl; size = refl; fits = record { kind = refl; encoding = tt }; closes = (refl, refl) }
@@ -43,8 +43,8 @@ module _ {X : Type 0} (turn : X → Command → Result X Refusal) (asked : X →
   reply_whole : (state : X) (request : Request) (o : Option Command) → IsOneReply request.close (shown_as (reply_or turn asked state request o))
   reply_whole state request (Some command) = came_whole request.close (turn state command)
   reply_whole state request None =
-      let told = reply_told (asked state) request in
-      record { said = reply_of (asked state) request; bytes = refl; size = refl; fits = told.1; closes = (told.0, told.0) }
+      let told = told_at (asked state) request in
+      record { said = reply_at (asked state) request; bytes = refl; size = refl; fits = told.1; closes = (told.0, told.0) }
 
   pub one_reply : (state : X) (operator : Bool) (request : Request) → IsOneReply request.close (shown_as (reply_by turn asked state operator request))
   one_reply state operator request = reply_whole state request (command_of operator request)

@@ -13,8 +13,9 @@ use Rattle.ox_rules.specs.declared.refusal.Refusal.TheVariants.{ChainEnd, Unlink
 use Rattle.ox_rules.specs.declared.refusal.Refusal.TheVariants.{Coinbase, BadWitness, UnknownOutput}
 use Rattle.ox_rules.specs.declared.refusal.Refusal.TheVariants.{Overspend, Overclaim, Depth}
 use Rattle.ox_index.specs.Tip.{tip_of}
-use Rattle.ox_replies.specs.Ask.{reply_of, tree_reply}
-use Rattle.ox_replies.specs.Asked.{Asked}
+use Rattle.ox_asof.specs.AskedKept.{AskedKept}
+use Rattle.ox_asof.specs.Reply.{reply_at}
+use Rattle.ox_replies.specs.Ask.{tree_reply}
 use Rattle.ox_replies.specs.Values.{count, or_null}
 use Rattle.ox_desk.specs.Commands.{command_of}
 
@@ -58,19 +59,19 @@ refused_reply refusal close = tree_reply 409 (refused_tree refusal) close
 -- ---- the reply to a request
 
 -- the reply to a command, by what came of it
-abbrev pub command_reply : {X : Type 0} → (X → Asked) → Result X Refusal → Bool → Reply
-command_reply asked (Ok new) close = accepted_reply (tip_of (asked new).index) close
+abbrev pub command_reply : {X : Type 0} → (X → AskedKept) → Result X Refusal → Bool → Reply
+command_reply asked (Ok new) close = accepted_reply (tip_of (asked new).first.index) close
 command_reply asked (Err refusal) close = refused_reply refusal close
 
 -- the reply to a request that may be a command
-abbrev pub reply_or : {X : Type 0} → (X → Command → Result X Refusal) → (X → Asked) → X → Request
-    → Option Command → Reply
+abbrev pub reply_or : {X : Type 0} → (X → Command → Result X Refusal) → (X → AskedKept) → X
+    → Request → Option Command → Reply
 reply_or turn asked state request (Some command) =
     command_reply asked (turn state command) request.close
-reply_or turn asked state request None = reply_of (asked state) request
+reply_or turn asked state request None = reply_at (asked state) request
 
 -- the reply to a request, by the state before it; whether its link is the operator's
-abbrev pub reply_by : {X : Type 0} → (X → Command → Result X Refusal) → (X → Asked) → X → Bool
-    → Request → Reply
+abbrev pub reply_by : {X : Type 0} → (X → Command → Result X Refusal) → (X → AskedKept) → X
+    → Bool → Request → Reply
 reply_by turn asked state operator request =
     reply_or turn asked state request (command_of operator request)

@@ -12,7 +12,7 @@ use Rattle.ox_links.specs.Serving.{Server}
 use Rattle.ox_rules.specs.declared.refusal.Refusal.{Refusal}
 use Rattle.ox_model.specs.Machine.{Machine, stack_of, turn_by_command}
 use Rattle.ox_model.specs.Stack.{Stack, stack_after}
-use Rattle.ox_replies.specs.Asked.{Asked}
+use Rattle.ox_asof.specs.AskedKept.{AskedKept}
 use Rattle.ox_desk.specs.Asked.{asked_in, asked_on}
 use Rattle.ox_desk.specs.Commands.{command_of}
 use Rattle.ox_desk.specs.Replies.{reply_by}
@@ -26,7 +26,7 @@ shown_as reply = record {
 }
 
 -- the server of states that turn by commands, of which this is asked
-abbrev pub server_by : {X : Type 0} → (X → Command → Result X Refusal) → (X → Asked)
+abbrev pub server_by : {X : Type 0} → (X → Command → Result X Refusal) → (X → AskedKept)
     → Server X Command
 server_by turn asked = record {
   talk = talk;

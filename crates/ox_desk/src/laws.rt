@@ -1,6 +1,7 @@
 //! Laws of what a server replies.
 
-ghost use Rattle.std.specs.Prelude.{◌≡◌, ◌++◌, Bool, List, ℕ, None, codes, false, true};
+ghost use Rattle.std.specs.Prelude.{◌≡◌, ◌+◌, ◌≤◌, ◌++◌, Bool, List, ℕ, None, Some, codes, false};
+ghost use Rattle.std.specs.Prelude.{length, slice_get, true};
 ghost use Rattle.ox_outside.specs.Event.{Event};
 ghost use Rattle.ox_http.specs.declared.Request.{Request};
 ghost use Rattle.ox_links.specs.Alike.{SameRun};
@@ -11,6 +12,8 @@ ghost use Rattle.ox_rules.specs.Text.{refusal_line};
 ghost use Rattle.ox_rules.specs.declared.refusal.Refusal.{Refusal};
 ghost use Rattle.ox_model.specs.Machine.{Machine, stack_of};
 ghost use Rattle.ox_model.specs.Stack.{Stack};
+ghost use Rattle.ox_asof.specs.AskedKept.{all_asked};
+ghost use Rattle.ox_desk.specs.Asked.{asked_in, now_in, without_last};
 ghost use Rattle.ox_desk.specs.Commands.{command_of};
 ghost use Rattle.ox_desk.specs.Replies.{refusal_text};
 ghost use Rattle.ox_desk.specs.Servers.{HasStack, server_of, server_on};
@@ -29,6 +32,14 @@ pub fn refusals_are_told_alike()
 pub fn replies_are_whole()
     ensures { (stack : Stack) (operator : Bool) (request : Request)
         → IsOneReply request.close (server_on.reply stack operator request) }
+{}
+
+/// What is asked as of a kept block, the newest first, is asked of the machine without its last
+/// blocks: so many of them, and as many fewer are kept.
+pub fn kept_blocks_are_asked_of()
+    ensures many { (machine : Machine) → length (all_asked (asked_in machine)) ≡ machine.kept + 1 }
+    ensures each { (machine : Machine) (j : ℕ) → j ≤ machine.kept
+        → slice_get (all_asked (asked_in machine)) j ≡ Some (now_in (without_last machine j)) }
 {}
 
 /// A reply that isn't a command's is the same on either door.

@@ -16,8 +16,9 @@ pub use command::command_of;
 pub use desk::StoreDesk;
 pub use hits::hits_are_the_same_reply;
 pub use laws::{
-    doors_answer_alike, machines_serve_as_their_stacks, nothing_is_left_unsaid,
-    refusals_are_told_alike, replies_are_whole,
+    doors_answer_alike, kept_blocks_are_asked_of, machines_serve_as_their_stacks,
+    nothing_is_left_unsaid, refusals_are_told_alike, replies_are_whole,
 };
 pub use newest::{Rooms, accepted_reply};
 pub use refused::refused_reply;
+pub use told::reply_to;

@@ -3,15 +3,15 @@
 ghost use Rattle.std.specs.Prelude.{◌≡◌, ◌-◌, ◌<◌, ◌^◌, IfOk, OnErr};
 ghost use Rattle.ox_http.specs.Written.{written};
 ghost use Rattle.ox_http.specs.declared.Method.TheVariants as methods;
-ghost use Rattle.ox_replies.specs.Ask.{reply_of};
+ghost use Rattle.ox_asof.specs.Reply.{reply_at};
 ghost use Rattle.ox_desk.specs.Asked.{asked_on};
 ghost use Rattle.ox_desk.specs.Desk.{KeepsTrue, LooksUp};
 
+use ox_asof::answer_at;
 use ox_bytes::{Bytes, Memory};
 use ox_cache::Cache;
 use ox_feed::Command;
 use ox_http::{Reply, Request, write_reply};
-use ox_query::answer_by;
 use ox_routes::Routes;
 use ox_store::Store;
 use std::alloc::Global;
@@ -25,16 +25,24 @@ pub(crate) enum Step {
     Carries(Command),
 }
 
-/// The reply of a store's stack.
-fn reply_to(
+/// The reply of a store's stack to a request that carries out nothing; where the path names a kept
+/// block, as of that block. `Memory` where there is none for it.
+pub fn reply_to(
     alloc: Global,
     routes: &Routes,
     store: &Store,
     request: &Request,
 ) -> Result<Reply, Memory>
-    ensures { IfOk result (λ reply. reply ≡ reply_of (asked_on store.now.stack) request.now) }
+    ensures { IfOk result (λ reply. reply ≡ reply_at (asked_on store.now.stack) request.now) }
 {
-    answer_by(alloc, routes, store.live(), &store.about(), request)
+    answer_at(
+        alloc,
+        routes,
+        store.live(),
+        store.changes(),
+        &store.about(),
+        request,
+    )
 }
 
 /// The bytes of a reply that isn't kept. `Memory` where there is none for it.
@@ -45,7 +53,7 @@ pub(crate) fn tell(
     request: &Request,
 ) -> Result<Bytes, Memory>
     ensures { IfOk result (λ bytes.
-        bytes ≡ written (reply_of (asked_on store.now.stack) request.now)) }
+        bytes ≡ written (reply_at (asked_on store.now.stack) request.now)) }
 {
     let reply = reply_to(alloc, routes, store, request)?;
     write_reply(alloc, &reply)
