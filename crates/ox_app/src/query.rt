@@ -1,11 +1,12 @@
 //! A query of a store.
 
-ghost use Rattle.std.specs.Prelude.{◌≡◌, ◌≢◌, Ok, Err, IsTrue, IfOk};
+ghost use Rattle.std.specs.Prelude.{◌≡◌, ◌≢◌, Ok, Err, IsTrue, IfOk, false};
 ghost use Rattle.ox_model.specs.Stack.{Stack};
 ghost use Rattle.ox_files.specs.Stands.{Misfit, stands};
 ghost use Rattle.ox_app.specs.Headline.{AddsNoImage};
 ghost use Rattle.ox_outside.specs.Runs.{Calls};
-ghost use Rattle.ox_app.specs.Query.{get_of, query_body};
+ghost use Rattle.ox_asof.specs.Reply.{get_of};
+ghost use Rattle.ox_app.specs.Query.{query_body};
 ghost use Rattle.ox_app.specs.Show.{DiskFails, EndsAtFault, ShowFails, ShowsText};
 ghost use Rattle.ox_app.specs.Status.{IsQueryStatus, IsUnopened};
 ghost use Rattle.ox_app.specs.Unopened.{SaysNotStore};
@@ -15,15 +16,16 @@ use crate::show::show_all;
 use crate::status::Status;
 use crate::unopened::explain;
 use ox_bytes::{Bytes, Memory};
+use ox_desk::reply_to;
 use ox_http::{Method, Request};
 use ox_outside::{Failed, Site};
-use ox_query::answer;
+use ox_routes::Routes;
 use ox_store::Store;
 use std::alloc::Global;
 
 /// A GET of a path.
 fn get_of(alloc: Global, path: &[u8]) -> Result<Request, Memory>
-    ensures { IfOk result (λ request. request ≡ get_of path.now) }
+    ensures { IfOk result (λ request. request ≡ get_of path.now false) }
 {
     Ok(Request {
         method: Method::Get,
@@ -39,7 +41,8 @@ fn body_of(alloc: Global, path: &[u8], store: &Store) -> Result<Bytes, Memory>
     ensures { IfOk result (λ body. body ≡ query_body path.now store.now.stack) }
 {
     let request = get_of(alloc, path)?;
-    Ok(answer(alloc, store.live(), &store.about(), &request)?.body)
+    let routes = Routes::new(alloc)?;
+    Ok(reply_to(alloc, &routes, store, &request)?.body)
 }
 
 /// Opens the store and shows the body of the reply to a query of this path.
