@@ -257,17 +257,74 @@ def reply_of(line):
     return (int(status), body, kind, encoding), close == ["close"]
 
 
-def command(desks, path, line, body=Body()):
+class Chain:
+    """A chain that is replayed, by its blocks' hashes, and what was asked of it."""
+
+    def __init__(self, depth):
+        self.depth, self.hashes, self.kept = depth, [], 0
+        self.new, self.asked = [], []
+
+    def turns(self, path, reply):
+        """An accepted command of this path is replied so."""
+        if path == "/disconnect":
+            self.hashes.pop()
+            self.kept -= 1
+        else:
+            self.hashes.append(json.loads(reply[1])["hash"])
+            self.kept = min(self.kept + 1, self.depth)
+
+    def says(self, path, reply):
+        """A GET of a path is replied so now. What has no block, or is no reply as of one, is left
+        out, and so is a path that is too long for a head with a hash behind it."""
+        if self.hashes and path not in ("/connect", "/disconnect") and len(path) < 8_000:
+            self.new.append((path, self.hashes[-1], reply))
+
+    def reply_as_of(self, block_hash, path, reply):
+        """What a GET of a path was replied while a block was the newest, as it is replied now as of
+        that block."""
+        newest_ones = self.hashes[::-1][: self.kept + 1]
+        if block_hash not in newest_ones:
+            return error(404)
+        if path != "/status":
+            return reply
+        kept = self.kept - newest_ones.index(block_hash)
+        return told(200, json.loads(reply[1]) | {"kept": kept})
+
+    def again(self, ask, asked):
+        """Asks these once more, as of their blocks."""
+        for path, block_hash, reply in asked:
+            ask("GET", as_of(path, block_hash), self.reply_as_of(block_hash, path, reply))
+
+    def go_on(self, desks):
+        """What was asked before the last command is asked again after it."""
+        self.again(desks.ask, self.new)
+        self.asked, self.new = self.asked + self.new, []
+
+    def end(self, desks):
+        """All that was asked is asked again."""
+        self.again(desks.ask_publicly, self.asked + self.new)
+        self.asked, self.new = [], []
+
+
+def as_of(path, block_hash):
+    """A path that names a block, by its hash as it is printed."""
+    return f"{path}?at={block_hash}"
+
+
+def command(desks, chain, path, line, body=Body()):
     if len(body) > BODY:
         # no link says so much
         return
     if line.startswith("refused"):
         desks.refuses(path, line, body=body)
     else:
-        desks.accepts(path, answer_of(line), body=body)
+        reply = answer_of(line)
+        desks.accepts(path, reply, body=body)
+        chain.turns(path, reply)
+    chain.go_on(desks)
 
 
-def asks(desks, row, line):
+def asks(desks, chain, row, line):
     """A request of the other program, from either door; a command of the public one alone. No head
     has an empty path."""
     method, path = row.removeprefix("close ").split(" ")
@@ -277,22 +334,31 @@ def asks(desks, row, line):
     desks.ask_publicly(method, path, reply, close=close)
     if reply[0] != 403:
         desks.ask(method, path, reply, close=close)
+    if method == "GET":
+        chain.says(path, reply)
 
 
 def replay(desks, rows):
-    """What the other program's rows do, through a desk. What looks into an index is left out."""
+    """What the other program's rows do, through a desk. What looks into an index is left out. Each
+    reply to a GET is asked again as of its block, after the next command and at the chain's end."""
+    chain = Chain(0)
     for row, lines in rows:
         word, *words = row.split(" ")
         if word == "#":
+            chain.end(desks)
             desks.heading(row.removeprefix("# "))
         elif word in ("chain", "live"):
-            desks.make(words[0], words[1] if words[1:] else 100)
+            chain.end(desks)
+            depth = int(words[1]) if words[1:] else 100
+            desks.make(words[0], depth)
+            chain = Chain(depth)
         elif word == "block":
-            command(desks, "/connect", lines[0], body_of(words))
+            command(desks, chain, "/connect", lines[0], body_of(words))
         elif word == "disconnect":
-            command(desks, "/disconnect", lines[0])
+            command(desks, chain, "/disconnect", lines[0])
         elif word in ("GET", "POST", "PUT", "close"):
-            asks(desks, row, lines[0])
+            asks(desks, chain, row, lines[0])
+    chain.end(desks)
 
 
 def routes(desks):
@@ -305,6 +371,15 @@ def routes(desks):
         query_rows.two_runes,
         query_rows.texts,
         query_rows.keep_blocks,
+        query_rows.audits,
+        query_rows.edicts,
+        query_rows.terms,
+        query_rows.names,
+        query_rows.parents,
+        query_rows.places,
+        query_rows.moves,
+        query_rows.burn_and_take_back,
+        query_rows.equal_coinbases,
     ):
         group(asking)
     replay(desks, asking.rows)
@@ -365,6 +440,96 @@ def commands(desks):
     again = f"refused 5 {64 * '0'} {tip[::-1].hex()}"
     desks.refuses("/connect", again, body=Body(first.hex()))
     desks.ask("GET", "/status", status(1, 1, tip[::-1].hex()))
+
+
+# ---- as of a block
+
+
+def tips_of(count):
+    """Blocks of a coinbase each, one on the other, and their hashes as they are printed."""
+    blocks, tips, tip = [], [], NO_BLOCK
+    for mark in range(count):
+        block, tip = block_on(tip, 1 + mark)
+        blocks.append(Body(block.hex()))
+        tips.append(tip[::-1].hex())
+    return blocks, tips
+
+
+def as_of_blocks(desks):
+    blocks, tips = tips_of(101)
+    zeros, found = 64 * "0", status(3, 2, tips[2], 2)
+    desks.heading("a path may name the newest block, or one that is left by taking kept ones back")
+    desks.make("regtest", 2)
+    desks.ask("GET", as_of("/status", zeros), error(404))
+    for height in range(3):
+        desks.accepts("/connect", newest(height, tips[height]), body=blocks[height])
+        desks.ask("GET", as_of("/status", zeros), error(404))
+    for height in range(3):
+        reply = status(height + 1, height, tips[height], 2)
+        desks.ask("GET", as_of("/status", tips[height]), reply)
+        desks.ask_publicly("GET", as_of("/status", tips[height]), reply, close=True)
+    desks.heading("what ends otherwise names no block: letters, digits, what stands behind")
+    letters = next(tip for tip in tips[:3] if tip.upper() != tip)
+    for path in (
+        f"/status?at={letters.upper()}",
+        f"/status?at={tips[2][1:]}",
+        f"/status?at={tips[2]}0",
+        f"/status?at=0{tips[2]}",
+        f"/status?at={tips[2]}&",
+        f"/status?at={tips[2]}/",
+        f"/status?At={tips[2]}",
+        f"/status&at={tips[2]}",
+        f"/status?at={tips[2]}?at=",
+        f"/status?at{tips[2]}",
+        f"/status{tips[2]}",
+        f"?at={tips[2]}",
+        f"/?at={tips[2]}",
+        f"/statu?at={tips[2]}",
+        f"/connect?at={tips[2]}",
+        f"/disconnect?at={tips[2]}",
+    ):
+        desks.ask("GET", path, error(404))
+        desks.ask_publicly("GET", path, error(404))
+    desks.heading("of two blocks the last one is named, and the other belongs to the path")
+    desks.ask("GET", as_of(as_of("/status", tips[1]), tips[2]), error(404))
+    desks.ask("GET", as_of(as_of("/blockhash/0", tips[1]), tips[2]), error(404))
+    desks.ask("GET", as_of("/status", tips[2]), found)
+    desks.heading("a command's path names no block, and no other method has one")
+    for path in ("/connect", "/disconnect"):
+        desks.ask("POST", as_of(path, tips[2]), error(404), body=blocks[2])
+        desks.ask_publicly("POST", as_of(path, tips[2]), error(404))
+        desks.ask("PUT", as_of(path, tips[2]), error(404))
+    for method in ("POST", "PUT", "HEAD"):
+        desks.ask(method, as_of("/status", tips[2]), error(405))
+        desks.ask_publicly(method, as_of("/status", zeros), error(405))
+        desks.ask(method, as_of("/statu", tips[2]), error(404))
+    desks.ask("GET", "/status", found)
+    desks.heading("a block that was taken back, or isn't kept any more, isn't found")
+    desks.accepts("/disconnect", newest(1, tips[1]))
+    desks.ask("GET", as_of("/status", tips[2]), error(404))
+    desks.ask("GET", as_of("/status", tips[1]), status(2, 1, tips[1], 2))
+    desks.accepts("/connect", newest(2, tips[2]), body=blocks[2])
+    desks.accepts("/connect", newest(3, tips[3]), body=blocks[3])
+    desks.ask("GET", as_of("/status", tips[0]), error(404))
+    for height in (1, 2, 3):
+        reply = status(height + 1, height - 1, tips[height], 2)
+        desks.ask("GET", as_of("/status", tips[height]), reply)
+    desks.heading("a hundred blocks back")
+    desks.make()
+    for height, (block, tip) in enumerate(zip(blocks, tips)):
+        desks.accepts("/connect", newest(height, tip), body=block)
+    for height, tip in enumerate(tips):
+        desks.ask("GET", as_of("/status", tip), status(height + 1, height, tip))
+        block = {"hash": tips[height // 2], "height": height // 2}
+        desks.ask("GET", as_of(f"/blockhash/{height // 2}", tip), told(200, block))
+        desks.ask("GET", as_of(f"/blockhash/{height + 1}", tip), error(404))
+    desks.heading("a reply as of a block is kept by its whole path")
+    desks.make()
+    desks.accepts("/connect", newest(0, tips[0]), body=blocks[0])
+    desks.serve()
+    looks = Asked("GET", "/status", status(1, 1, tips[0]))
+    then = Asked("GET", as_of("/status", tips[0]), status(1, 1, tips[0]))
+    assert desks.run(("public", [looks, then, then, looks])).hits == 2
 
 
 # ---- replies that are kept
@@ -440,7 +605,7 @@ def long_bodies(desks):
 def desks():
     """The rows, and what has to be printed for them."""
     made = Desks()
-    for part in (routes, commands, kept, long_bodies):
+    for part in (routes, commands, as_of_blocks, kept, long_bodies):
         part(made)
         made.serve()
     return made

@@ -250,6 +250,23 @@ def queries(rows):
     rows.ends(("apply",), 0, OKS[0])
     told = f'{{"hash":"{HASHES[0]}","height":0}}'.encode()
     rows.ends(("query", "/blockhash/0"), 0, told)
+    rows.heading("a query as of a kept block tells of the chain then")
+    rows.fresh()
+    rows.ends(("init", "regtest", "2"), 0, NONE)
+    rows.ends(("query", f"/status?at={64 * '0'}"), 0, b'{"error":404}')
+    rows.feed(THREE)
+    rows.ends(("apply",), 0, b"".join(OKS))
+    for height, block_hash in enumerate(HASHES):
+        told = {"blocks": height + 1, "depth": 2, "kept": height}
+        told |= {"profile": "regtest", "tip": block_hash}
+        rows.ends(("query", f"/status?at={block_hash}"), 0, compact(told))
+        told = {"hash": HASHES[0], "height": 0}
+        rows.ends(("query", f"/blockhash/0?at={block_hash}"), 0, compact(told))
+        lacking = f"/blockhash/{height + 1}?at={block_hash}"
+        rows.ends(("query", lacking), 0, b'{"error":404}')
+    for path in (f"/status?at={64 * '0'}", f"/status?at={HASHES[0].upper()}", "/status?at="):
+        rows.ends(("query", path), 0, b'{"error":404}')
+    rows.ends(("query", f"/connect?at={HASHES[2]}"), 0, b'{"error":404}')
 
 
 # ---- stops and faults

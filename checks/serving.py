@@ -4,6 +4,8 @@ docs/FORMATS.md and README.md, 'Serving', tell all of it, on their own, and it s
 the library. What these don't say: each event of a link is a moment of the site.
 """
 
+import re
+
 from chain import DISCONNECT, payload_of
 from desk_rows import ROOM, Counts, error, refused, told, written
 from plain_index import Refused
@@ -78,16 +80,29 @@ class Desk:
             if not operator:
                 return error(403)
             return self.carry_out(payload_of(body) if path == "/connect" else DISCONNECT)
-        found = self.looked_up(path)
+        path, stack = self.cut(path)
+        found = self.looked_up(path, stack or self.store.stack)
         if found is None:
             return error(404)
         if method != "GET":
             return error(405)
-        return told(200, found) if found else error(404)
+        return told(200, found) if found and stack else error(404)
 
-    def looked_up(self, path):
-        """The tree of a path, an empty one where it names nothing, none where it has no route."""
+    def cut(self, path):
+        """A path without the kept block that it names, and the stack whose newest block that is;
+        none where there isn't one."""
         stack = self.store.stack
+        front, _, named = path.rpartition("?at=")
+        if not re.fullmatch("[0-9a-f]{64}", named):
+            return path, stack
+        while stack.hashes() and stack.hashes()[-1][::-1].hex() != named:
+            if not stack.kept:
+                return front, None
+            stack = stack.back()
+        return front, stack if stack.hashes() else None
+
+    def looked_up(self, path, stack):
+        """The tree of a path, an empty one where it names nothing, none where it has no route."""
         hashes = stack.hashes()
         if path == "/status":
             return {
