@@ -83,6 +83,9 @@ def description(desk: Desk) -> None:
     asked = [(served, route, path, 200) for route, (found, _) in rows.items() for path in found]
     asked += [(served, route, path, 404) for route, (_, no) in rows.items() for path in no]
     asked += [(empty, route, route, 200) for route in ("/status", "/audit")]
+    tip = json.loads(get(served.public, "/blockhash/11")[2])["hash"]
+    for end, wanted in (f"?at={tip}", 200), (f"?at={'0' * 64}", 404):
+        asked += [(served, route, found[0] + end, wanted) for route, (found, _) in rows.items()]
     asked += [(empty, "/rune/{rune}", "/rune/UNCOMMON.GOODS", 200)]
     changed = 0
     for ox, route, path, wanted in asked:
