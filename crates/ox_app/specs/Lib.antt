@@ -2,9 +2,9 @@
 -- has what it promises of each subcommand, Subcommands the words of the command line, Status how a
 -- run ends, Show what is said of shown lines and of faults, Init and Unopened the lines of a making
 -- and of files that are no store, Query what a query shows, Serve what a server logs and a crash
--- leaves of it, Drill the same of a drill, and Migrate of a migration. Stacks says of any stack what
--- Headline and Serve say of a machine's, and AnyRuns joins runs one after the other. Fold and Apply
--- are of single lines, for the functions below `run`, and Carry of what a line asks for.
+-- leaves of it, Drill the same of a drill, and Migrate of a migration. Stacks says of any stack
+-- what Headline and Serve say of a machine's, and AnyRuns joins runs one after the other. Fold and
+-- Apply are of single lines, for the functions below `run`, and Carry of what a line asks for.
 pub mod Headline
 pub mod Promises
 pub mod Subcommands

@@ -85,8 +85,8 @@ pub record StandsStill (old : Files) (stack : Stack) (commands : ℕ) (files : F
   pub stands_for : old_stands files ≡ Ok (stack, commands)
 
 -- What a crash leaves when these events are logged. Before the first of them: files that it might
--- have left before the run; or that hold the commands that were found; or that stand for their stack
--- at version 2. With an event: the last alone.
+-- have left before the run; or that hold the commands that were found; or that stand for their
+-- stack at version 2. With an event: the last alone.
 abbrev pub LeavesMigrating : {S : Type 0} → Meanings S → S → Stack → ℕ → Files → List Event
     → Type 0
 LeavesMigrating means site stack commands files [] =

@@ -9,17 +9,17 @@ ghost use Rattle.ox_files.specs.Stands.{Misfit, stands};
 ghost use Rattle.ox_app.specs.AnyRuns.{AnyInTurn, AnyRun, LastOfAny};
 
 /// Any number of runs of any subcommands over the same files, each of which opens what the one
-/// before it left and stops at whatever moment: it was fed, it served links, or it spared the files.
-/// The last files stand for the machine to which the lines and commands lead that each run kept, one
-/// run after the other.
+/// before it left and stops at whatever moment: it was fed, it served links, or it spared the
+/// files. The last files stand for the machine to which the lines and commands lead that each run
+/// kept, one run after the other.
 pub fn all_runs_follow_chains()
     ensures { (machine : Machine) (files : Files) (runs : List AnyRun)
         → stands files ≡ Ok (stack_of machine) → AnyInTurn files runs
         → LastOfAny machine files runs }
 {}
 
-/// Files that stand for a stack stand for none at version 1. So `migrate` spares them, by what `run`
-/// promises of files that stand for no old store.
+/// Files that stand for a stack stand for none at version 1. So `migrate` spares them, by what
+/// `run` promises of files that stand for no old store.
 pub fn stores_have_one_version()
     ensures { (files : Files) (stack : Stack) → stands files ≡ Ok stack
         → (misfit : Misfit) × (old_stands files ≡ Err (IllFormed misfit)) }

@@ -183,8 +183,8 @@ pub fn run<S: Site>(alloc: Global, words: &[Bytes], site: &mut S) -> Status
 
     // ---- `serve`
 
-    // Each link is shown a front of its answers; all turns are made and counted, unless a fault ends
-    // them; and whenever the run stops, the files stand for where the commands led.
+    // Each link is shown a front of its answers; all turns are made and counted, unless a fault
+    // ends them; and whenever the run stops, the files stand for where the commands led.
     ensures serves { (turns : ℕ) → IsTurns turns → words.now ≡ serve_words turns
         → Serves S.Site turns result site.old site.new }
     ensures door_fault { result ≡ ends.DoorFault → DoorFails S.Site site.old site.new }

@@ -11,7 +11,7 @@
 //!   bytes at a time, or all at once for 0), `end` (it says nothing more), `close` (from here on
 //!   replies say close), `busy` (requests are answered 503), `none` (503 is due, whatever is
 //!   asked);
-//! - `frames PART..`: the frames that stand one after another, what each takes and its front written
+//! - `frames PART..`: the frames that stand one after another, what each takes, its front written
 //!   anew, and what stands behind them; `pieces N PART..`: the same bytes, N more at a time: at
 //!   which length something stands at the front for the first time, and what; it is checked that
 //!   this stays so;

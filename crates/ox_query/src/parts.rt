@@ -42,7 +42,7 @@ fn has_capitals(bytes: &[u8]) -> bool
     bytes.iter().any(|byte| byte.is_ascii_uppercase())
 }
 
-/// The hash that is printed as these digits, if any: 64 of them, its last byte first, in lower case.
+/// The hash that is printed as these digits, if any: 64 of them in lower case, its last byte first.
 /// Capital letters would be decoded too, but no hash is printed with them.
 pub fn hash(digits: &[u8]) -> Option<[u8; 32]>
     ensures read { IfSome result (λ hash. digits.now ≡ hash_text hash) }

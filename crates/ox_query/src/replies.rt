@@ -60,7 +60,7 @@ fn error_body(alloc: Global, status: u16) -> Result<Bytes, Memory>
     out.into_bytes()
 }
 
-/// The reply that says no more than its status, which isn't 200. `Memory` where there is none for it.
+/// The reply that says no more than its status, which isn't 200. `Memory` where there is none.
 pub fn error_reply(alloc: Global, status: u16, close: bool) -> Result<Reply, Memory>
     ensures { IfOk result (λ reply. reply ≡ error_reply status close) }
 {
