@@ -44,11 +44,11 @@ import made_blocks
 import old_files
 from chain import SHORT, block_of, block_with, chain, coinbase, commitment, committing, envelope
 from chain import line, payload_of, reveal_into
-from index_rows import Full, Held, Indexes, runes_of_mainnet
 from kills import Failed, demand
 from real_sockets import SECONDS, Server, exactly, get, newest, post, reply, status_of
 from rows import hash_text, plain, reveal
-from scenarios import ETCHES, MINTS_AND_BURNS
+from rows.index_rows import Full, Held, Indexes, runes_of_mainnet
+from rows.scenarios import ETCHES, MINTS_AND_BURNS
 from store_files import CLOSED, files_after_each, files_of
 from tools.bitcoin import SUBSIDY, twice
 from tools.programs import TOP, proved_program

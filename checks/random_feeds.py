@@ -5,11 +5,11 @@
 
 Each feed has some two hundred lines: blocks that come next, blocks with bytes that were changed,
 left out or put in, blocks that came before, disconnects, and bytes that are no command. `fold` and
-`apply` have to answer each line as checks/worlds.py does, which shares nothing with the library,
-and to end with status 0; and the files have to be those that the accepted lines leave. It goes on
-for SECONDS (an hour without a word), and ends with `passed` and status 0. At the first feed that is
-answered otherwise it tells which, keeps its folder, and ends with status 1. SEED is 1 and PROGRAM
-is crates/ox_main/out/ox_main without a word.
+`apply` have to answer each line as checks/rows/worlds.py does, which shares nothing with the
+library, and to end with status 0; and the files have to be those that the accepted lines leave. It
+goes on for SECONDS (an hour without a word), and ends with `passed` and status 0. At the first feed
+that is answered otherwise it tells which, keeps its folder, and ends with status 1. SEED is 1 and
+PROGRAM is crates/ox_main/out/ox_main without a word.
 """
 
 import itertools
@@ -24,11 +24,11 @@ import time
 import store_files
 from chain import SHORT, block_of, coinbase_to, line, transaction
 from kills import Failed, demand
+from rows.worlds import turned_by
 from store_files import Disk
 from tools.bitcoin import SUBSIDY
 from tools.programs import TOP, proved_program
 from tools.words import words_of
-from worlds import turned_by
 
 PROGRAM = proved_program("ox_main")
 LINES = 200

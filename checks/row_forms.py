@@ -88,6 +88,22 @@ class Change(NamedTuple):
     appended: list = []
 
 
+def other_value(row):
+    """A row that differs in one value."""
+    match row:
+        case (at, Output() as there):
+            return at, there._replace(height=there.height + 1)
+        case (at, [(rune, amount), *rest]) if isinstance(at, tuple):
+            return at, [(rune, amount + 1), *rest]
+        case Inscription():
+            return row._replace(marks=row.marks + 1)
+        case Rune():
+            return row._replace(spacers=row.spacers + 1)
+        case Count():
+            return row._replace(burned_before=row.burned_before + 1)
+    return row[0], row[1] + 1
+
+
 # ---- spelled
 
 

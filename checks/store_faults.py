@@ -4,8 +4,7 @@ is of the two docs/FORMATS.md says: `place_of` reads the file by store_files."""
 
 import made_blocks
 from chain import chain, payload_of
-from row_chains import other_value
-from row_forms import Reader
+from row_forms import Reader, other_value
 from store_files import CLOSED, NoStore, body_of, file_of, payload_on, stands, store_of
 from tools.bitcoin import SUBSIDY
 

@@ -1,6 +1,6 @@
 """Bitcoin's hashes, numbers, transactions and blocks, as bytes.
 
-checks/block_rows.py reads blocks by itself, and shares nothing with this.
+checks/rows/block_rows.py reads blocks by itself, and shares nothing with this.
 """
 
 import hashlib

@@ -1,10 +1,10 @@
-"""Where programs are, what they are made of, and the files of their rows."""
+"""Where programs are, and what they are made of."""
 
 import hashlib
 import json
 import pathlib
 import subprocess
-from collections.abc import Iterable, Iterator
+from collections.abc import Iterator
 from typing import NamedTuple
 
 TOP = pathlib.Path(__file__).resolve().parents[1]
@@ -104,9 +104,3 @@ def commit() -> str:
     words = ["git", "-C", str(TOP), "describe", "--always", "--dirty=, changed", "--abbrev=12"]
     ran = subprocess.run(words, stdout=subprocess.PIPE, stderr=subprocess.DEVNULL, text=True)
     return ran.stdout.strip() or "no commit"
-
-
-def write_rows(crate: str, rows: Iterable[str], lines: Iterable[str]) -> None:
-    """Writes the rows that a program reads and the lines that it has to print for them."""
-    (CRATES / crate / "stdin").write_text("".join(row + "\n" for row in rows))
-    (CRATES / crate / "stdout").write_text("".join(line + "\n" for line in lines))

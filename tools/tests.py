@@ -133,6 +133,7 @@ def run(program: pathlib.Path) -> int:
         counts = [
             script(steps, "documents", "checks/documents.py"),
             script(steps, "their commands", "checks/documents.py", "--commands", str(program)),
+            script(steps, "rows as they are made", "checks/make_rows.py", "--compare"),
             types(steps),
             rows(program, steps),
             script(steps, "tests, unproved", "checks/all_tests.py"),

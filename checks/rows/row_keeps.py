@@ -6,12 +6,12 @@ Where the rules are kept the index is sound; where they aren't it may be all the
 by each change of a chain.
 """
 
-from row_blocks import lab_changes, made_changes
-from row_chains import ALONE, BOUND, FIRST, KEPT, MINTED, MOST_AMOUNT, SECOND, SOUND, SUBSIDY
-from row_chains import THIRD, chain, txid
 from row_ends import PROFILES, after_of, first_of, is_bounded, is_sound, joined, made_of
 from row_ends import other_end
 from row_forms import SPELLED, Change, Count, Inscription, Output, Rune, Terms, read
+from rows.row_blocks import lab_changes, made_changes
+from rows.row_chains import ALONE, BOUND, FIRST, KEPT, MINTED, MOST_AMOUNT, SECOND, SOUND, SUBSIDY
+from rows.row_chains import THIRD, chain, txid
 from tools.runes import LEAST_KEPT, kept_name
 
 # ---- the rules

@@ -1,5 +1,4 @@
 """The rows of crates/ox_index_rows that ask a chain, and what has to be printed for them.
-checks/index_rows.py writes them.
 
 It makes blocks by docs/RULES.md and writes down what they have to be replied by docs/FORMATS.md,
 with Python's standard library alone. Where a reply names a satoshi, its notations are reckoned
@@ -9,10 +8,10 @@ which it writes down as they are.
 
 import json
 
-import scenarios
 from chain import GENESIS, SHORT, block_of, coinbase_to, envelope, id_value, transaction
 from rows import Rows, carry, etch, hash_text, id_of, inscription, outpoint, plain, reveal, spend
-from scenarios import ETCHES, MINTS_AND_BURNS, TEN, with_a_fee
+from rows import scenarios
+from rows.scenarios import ETCHES, MINTS_AND_BURNS, TEN, with_a_fee
 from tools.bitcoin import SUBSIDY
 from tools.runes import kept_name, name_of
 

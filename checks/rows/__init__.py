@@ -1,9 +1,8 @@
-"""Rows of a program that reads them on standard input, and the lines that it has to print for
-them."""
+"""Makes rows of programs that read them on standard input, and the lines that these have to print
+for them. checks/make_rows.py writes them."""
 
 from chain import SHORT, block_of, coinbase, transaction
 from tools.bitcoin import SUBSIDY, twice
-from tools.programs import write_rows
 
 
 def plain(mark):
@@ -115,7 +114,6 @@ class Rows:
         self.row("cancel disconnect", self.ok(), newest)
         self.tips.append(tip)
 
-    def write(self, crate):
-        """The program's files."""
-        lines = (line for _, lines in self.rows for line in lines)
-        write_rows(crate, (row for row, _ in self.rows), lines)
+    def made(self):
+        """Every row, and the lines for them."""
+        return [row for row, _ in self.rows], [line for _, lines in self.rows for line in lines]

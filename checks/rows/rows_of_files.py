@@ -1,5 +1,5 @@
 """The rows of crates/ox_index_rows about the rows of an index and of a change, and what has to be
-printed for them. checks/index_rows.py writes them.
+printed for them.
 
 Indexes and changes are spelled and read by docs/FORMATS.md (row_forms), with Python's standard
 library alone. Of each broken row the place is told beside it, and the reader has to find it there.
@@ -7,12 +7,11 @@ library alone. Of each broken row the place is told beside it, and the reader ha
 
 import re
 
-import row_chains
-import row_keeps
 from row_forms import MOST_SATS, SPELLED, Change, Count, Fault, Index, Inscription, Output
 from row_forms import Rune, Terms, inscription, inscription_id, listed, number, optional, output
 from row_forms import outpoint, read, rune, sats, terms, text
 from row_forms import count as spelled_count
+from rows import row_chains, row_keeps
 from tools.programs import TOP
 
 KINDS = ("index", "change")

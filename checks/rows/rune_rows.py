@@ -1,12 +1,11 @@
 """The rows of crates/ox_index_rows about how runes are dealt, minted and etched. What each case
-comes to is told beside it, and has to be what plain_index reckons. checks/index_rows.py writes
-them.
+comes to is told beside it, and has to be what plain_index reckons.
 """
 
 from chain import SHORT, coinbase_to, commitment, committing, transaction
 from plain_index import U64, U128, least_name
 from rows import carry, etch, id_of, outpoint, plain, spend
-from scenarios import TAPROOT
+from rows.scenarios import TAPROOT
 from tools import bitcoin
 from tools.bitcoin import SUBSIDY, varint
 from tools.runes import LEAST_KEPT, kept_name

@@ -1,5 +1,5 @@
 """Rows of ox_http_rows: the frames that a leader and a follower exchange, by docs/FORMATS.md
-("Frames"). It reads and writes frames on its own; checks/http_rows.py writes the rows.
+("Frames"). It reads and writes frames on its own.
 """
 
 import struct

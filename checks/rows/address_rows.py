@@ -1,15 +1,10 @@
-#!/usr/bin/env python3
-"""Makes the rows of crates/ox_address_rows and what has to be printed for them:
-
-    checks/address_rows.py
+"""The rows of crates/ox_address_rows, and what has to be printed for them.
 
 It reads and writes segwit addresses as the reference decoder of BIP 173 and BIP 350 does, bit by
 bit and with lists, and shares nothing with the library. It asserts first that it agrees with the
 vectors of both BIPs.
 """
 
-from tools.programs import write_rows
-from tools.words import no_words
 
 LETTERS = "qpzry9x8gf2tvdw0s3jn54khce6mua7l"
 BECH32M = 0x2BC830A3
@@ -228,8 +223,8 @@ class Addresses:
         self.lines.append(str(sum(lasts)))
 
 
-def main():
-    no_words(__doc__)
+def made():
+    """Every row, and the lines for them."""
     rows = Addresses()
     for text, script in VALID:
         hrp, script = text[:2].lower(), bytes.fromhex(script)
@@ -303,8 +298,4 @@ def main():
     for script in (b"\0\x14" + program, b"\x51\x20" + 2 * bytes(16)):
         for work in ("only", "both"):
             rows.repeat(work, "bc", script, 300)
-    write_rows("ox_address_rows", rows.rows, rows.lines)
-
-
-if __name__ == "__main__":
-    main()
+    return rows.rows, rows.lines

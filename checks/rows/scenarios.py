@@ -1,5 +1,5 @@
-"""Chains that both checks/index_rows.py and checks/query_rows.py build: the first has the whole
-index printed behind them, the second what requests are replied."""
+"""Chains that both index_rows and query_rows build: the first has the whole index printed behind
+them, the second what requests are replied."""
 
 from chain import SHORT, coinbase_to, envelope, transaction
 from rows import etch, id_of, plain, reveal, spend

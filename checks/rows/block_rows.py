@@ -1,27 +1,20 @@
-#!/usr/bin/env python3
-"""Makes the rows of crates/ox_block_rows and what has to be printed for them:
-
-    checks/block_rows.py
+"""The rows of crates/ox_block_rows, and what has to be printed for them.
 
 It reads and hashes blocks by Bitcoin's serialization and BIP 141 and 144 on its own, with Python's
 standard library alone, and knows blocks that others made: the genesis block of the main chain, and
 two whose bytes, ids and roots were made with Debian's python3-bitcoinlib 0.11.2, which it asserts
 first. Whether a block commits to its witnesses goes by BIP 141 alone. The rows about envelopes and
-ids are those of checks/envelope_rows.py, those about items and runestones those of
-checks/stone_rows.py, those about names, numbers and satoshis those of checks/number_rows.py, and
-those about blocks that are made those of checks/made_blocks.py.
+ids are those of envelope_rows, those about items and runestones those of stone_rows, those about
+names, numbers and satoshis those of number_rows, and those about blocks that are made those of
+made_blocks.
 """
 
 import hashlib
 import struct
 
-import envelope_rows
 import made_blocks
-import number_rows
-import stone_rows
 from chain import block_of, commitment, committing, transaction
-from tools.programs import write_rows
-from tools.words import no_words
+from rows import envelope_rows, number_rows, stone_rows
 
 COINS = 21_000_000 * 10**8
 MOST = 4_000_000
@@ -363,8 +356,8 @@ def commitment_rows():
     yield block_of(bytes(32), txs)[0]
 
 
-def main():
-    no_words(__doc__)
+def made():
+    """Every row, and the lines for them."""
     word = lambda data: data.hex() or "-"
     stdin, stdout = [], []
     for times, head, part, tail in rows():
@@ -390,8 +383,4 @@ def main():
     for row, *lines in (*made_blocks.rows(), *stone_rows.rows(), *number_rows.rows()):
         stdin.append(row)
         stdout += lines
-    write_rows("ox_block_rows", stdin, stdout)
-
-
-if __name__ == "__main__":
-    main()
+    return stdin, stdout

@@ -2,7 +2,7 @@
 them: by docs/RULES.md, over row_forms and row_ends. `rows` has all of them, for rows_of_files."""
 
 from row_ends import change_between, first_of, is_sound, other_end
-from row_forms import SPELLED, Change, Count, Index, Inscription, Output, Rune, Terms
+from row_forms import SPELLED, Change, Count, Index, Inscription, Output, Rune, Terms, other_value
 from tools.runes import LEAST_KEPT, kept_name
 
 SUBSIDY = 5_000_000_000
@@ -243,22 +243,6 @@ EXTRA = {
     "counts": Count(1, 0, 1, 0, 0),
     "appended": Rune((3, 9), 99),
 }
-
-
-def other_value(row):
-    """A row that differs in one value."""
-    match row:
-        case (at, Output() as there):
-            return at, there._replace(height=there.height + 1)
-        case (at, [(rune, amount), *rest]) if isinstance(at, tuple):
-            return at, [(rune, amount + 1), *rest]
-        case Inscription():
-            return row._replace(marks=row.marks + 1)
-        case Rune():
-            return row._replace(spacers=row.spacers + 1)
-        case Count():
-            return row._replace(burned_before=row.burned_before + 1)
-    return row[0], row[1] + 1
 
 
 def altered_lists(rows, extra):

@@ -1,9 +1,9 @@
 """What blocks change in an index, over the rows of row_forms: what their transactions do to
 satoshis, inscriptions and runes is carried out by docs/RULES.md."""
 
-import made_blocks
 from typing import NamedTuple
 
+import made_blocks
 from row_ends import change_between, count_of, cut, first_of, joined
 from row_forms import Index, Inscription, Output, Rune, Terms
 from tools.bitcoin import commitment, twice

@@ -7,8 +7,8 @@ the library. What these don't say: each event of a link is a moment of the site.
 import re
 
 from chain import DISCONNECT, payload_of
-from desk_rows import ROOM, Counts, error, refused, told, written
 from plain_index import Refused
+from rows.desk_rows import ROOM, Counts, error, refused, told, written
 from tools.bitcoin import SUBSIDY
 
 SLOTS = 32

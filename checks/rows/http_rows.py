@@ -1,17 +1,12 @@
-#!/usr/bin/env python3
-"""Makes the rows of crates/ox_http_rows and what has to be printed for them:
-
-    checks/http_rows.py
+"""The rows of crates/ox_http_rows, and what has to be printed for them.
 
 It reads streams by RFC 9112 and docs/FORMATS.md ("HTTP"), on its own: by regular expressions over
-the whole head. The rows of frames are those of checks/frame_rows.py.
+the whole head. The rows of frames are those of frame_rows.
 """
 
 import re
 
-from frame_rows import frame_rows
-from tools.programs import write_rows
-from tools.words import no_words
+from rows.frame_rows import frame_rows
 
 MOST_SHOWN = 200
 TOKEN = rb"[!#$%&'*+\-.^_`|~0-9A-Za-z]+"
@@ -431,11 +426,7 @@ def links(made):
     made.link("end", "none", "end")
 
 
-def main():
-    no_words(__doc__)
-    made = rows()
-    write_rows("ox_http_rows", made.rows, made.lines)
-
-
-if __name__ == "__main__":
-    main()
+def made():
+    """Every row, and the lines for them."""
+    every = rows()
+    return every.rows, every.lines

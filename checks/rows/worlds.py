@@ -13,14 +13,14 @@ import re
 import made_blocks
 import old_files
 import store_files
-import store_rows
-from block_rows import Fault, Reader
 from chain import DISCONNECT, payload_of, record_of
-from desk_rows import ROOM, compact, printed
 from plain_index import Refused, count_of, subsidy
-from serving import Desk, DoorFailed, Server
+from rows import store_rows
+from rows.block_rows import Fault, Reader
+from rows.desk_rows import ROOM, compact, printed
+from rows.serving import Desk, DoorFailed, Server
+from rows.store_rows import ALL, CallFailed, Site
 from store_files import BYTES, CLOSED, NoStore, stands
-from store_rows import ALL, CallFailed, Site
 
 LONGEST = 8_000_008
 KEPT_BY_FOLD = 1000

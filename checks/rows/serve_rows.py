@@ -1,14 +1,13 @@
 """The rows of crates/ox_run_rows that serve links, and what has to be printed for them.
-checks/run_rows.py writes them.
 
-What a server does is told by checks/serving.py, over a site of checks/worlds.py, and both share
-nothing with the library.
+What a server does is told by serving, over a site of worlds, and both share nothing with the
+library.
 """
 
 from chain import DISCONNECT, GENESIS, chain, line, line_of
-from desk_rows import printed
-from store_rows import ALL
-from worlds import CUTS_NOTHING, NONE, PORTIONS, Runs
+from rows.desk_rows import printed
+from rows.store_rows import ALL
+from rows.worlds import CUTS_NOTHING, NONE, PORTIONS, Runs
 
 # the calls of an opening
 LOOKS = 8

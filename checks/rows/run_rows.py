@@ -1,29 +1,22 @@
-#!/usr/bin/env python3
-"""Makes the rows of crates/ox_run_rows and what has to be printed for them:
-
-    checks/run_rows.py
+"""The rows of crates/ox_run_rows, and what has to be printed for them.
 
 Its own are runs of each subcommand but `serve`, whole, with failing calls, stopped, and over a site
 of short calls; and lines, hearings, showings and links of a site by themselves. Those that serve
-links are those of checks/serve_rows.py, those that ask one desk those of checks/desk_rows.py, and
-those that make and open a store those of checks/store_rows.py. What a run does is told by
-checks/worlds.py, which shares nothing with the library.
+links are those of serve_rows, those that ask one desk those of desk_rows, and those that make and
+open a store those of store_rows. What a run does is told by worlds, which shares nothing with the
+library.
 """
 
-import desk_rows
 import old_files
-import serve_rows
 import store_files
-import store_rows
 from chain import DISCONNECT, GENESIS, SHORT, line, payload_of
-from desk_rows import compact, printed
+from rows import desk_rows, serve_rows, store_rows
+from rows.desk_rows import compact, printed
+from rows.store_rows import ALL
+from rows.worlds import CUTS_NOTHING, NONE, PORTIONS, SATOSHI, Runs, bytes_of
 from store_files import BYTES, CLOSED
-from store_rows import ALL
 from tools import bitcoin
 from tools.bitcoin import SUBSIDY, twice
-from tools.programs import write_rows
-from tools.words import no_words
-from worlds import CUTS_NOTHING, NONE, PORTIONS, SATOSHI, Runs, bytes_of
 
 FILLS = 0x00, 0x07, 0xFF
 
@@ -571,8 +564,8 @@ def links(rows):
         assert rows.stdout[-1] == f"link {number}"
 
 
-def main():
-    no_words(__doc__)
+def made():
+    """Every row, and the lines for them."""
     rows = Rows()
     for part in (folds, usage, inits, applies, queries):
         part(rows)
@@ -583,8 +576,4 @@ def main():
     for others in (serve_rows.served(), desk_rows.desks(), store_rows.stores()):
         rows.stdin += others.stdin
         rows.stdout += others.stdout
-    write_rows("ox_run_rows", rows.stdin, rows.stdout)
-
-
-if __name__ == "__main__":
-    main()
+    return rows.stdin, rows.stdout

@@ -1,5 +1,4 @@
 """The rows of crates/ox_run_rows that make and open a store, and what has to be printed for them.
-checks/run_rows.py writes them.
 
 Blocks and what they leave of an index are told by docs/RULES.md, and the two files, what a crash
 leaves of them and what they stand for by docs/FORMATS.md, on their own: see plain_index and
@@ -18,8 +17,8 @@ import store_files
 from chain import DISCONNECT, GENESIS, SHORT, payload_of, record_of
 from plain_index import MOST_BYTES as MOST
 from plain_index import NO_BLOCK, Refused
-from query_rows import checksum
 from row_ends import count_of
+from rows.query_rows import checksum
 from store_files import CLOSED, GREATEST, OPEN, NoStore, stands
 from table import offset_in
 from tools import bitcoin

@@ -1,14 +1,14 @@
 """The rows of crates/ox_block_rows about the items of scripts, kinds of output and runestones, and
 what has to be printed for them.
 
-Scripts are read item by item as checks/envelope_rows.py does, and runestones by the Runes
-specification as checks/plain_index.py does. How a runestone is written again is reckoned here by
-docs/RULES.md ("Runestones"). It knows what scripts from outside say.
+Scripts are read item by item as envelope_rows does, and runestones by the Runes specification as
+plain_index does. How a runestone is written again is reckoned here by docs/RULES.md ("Runestones").
+It knows what scripts from outside say.
 """
 
-from envelope_rows import items
 from plain_index import Stone
 from row_forms import Terms
+from rows.envelope_rows import items
 from tools.bitcoin import varint
 
 U64, U128 = (1 << 64) - 1, (1 << 128) - 1

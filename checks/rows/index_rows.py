@@ -1,30 +1,21 @@
-#!/usr/bin/env python3
-"""Makes the rows of crates/ox_index_rows and what has to be printed for them:
-
-    checks/index_rows.py
+"""The rows of crates/ox_index_rows, and what has to be printed for them.
 
 It makes blocks by docs/RULES.md and writes down what indexes have to hold after them, with Python's
 standard library alone. What is looked up of inscriptions and runes, as the first with an id, it
 looks up in these lists by itself. The rows that ask a chain, as requests do, are those of
-checks/query_rows.py; those whose indexes plain_index reckons are those of checks/rune_rows.py and
-checks/shelf_rows.py; those that spell the rows of an index or of a change are those of
-checks/rows_of_files.py.
+query_rows; those whose indexes plain_index reckons are those of rune_rows and shelf_rows; those
+that spell the rows of an index or of a change are those of rows_of_files.
 """
 
 import made_blocks
-import query_rows
-import rows_of_files
-import rune_rows
-import scenarios
-import shelf_rows
 from chain import SHORT, block_of, coinbase_to, commitment, committing, envelope, id_value
 from chain import transaction
-from reckoned import Reckoned
 from rows import Rows, carry, etch, hash_text, id_of, inscription, outpoint, plain, reveal, spend
-from scenarios import ETCHES, MINTS_AND_BURNS, POINTERS, TEN
+from rows import query_rows, rows_of_files, rune_rows, scenarios, shelf_rows
+from rows.reckoned import Reckoned
+from rows.scenarios import ETCHES, MINTS_AND_BURNS, POINTERS, TEN
 from tools.bitcoin import COMMITS, RESERVED, SUBSIDY, root, twice
 from tools.runes import kept_name
-from tools.words import no_words
 
 HALVINGS = {"mainnet": 210_000, "regtest": 210_000, "lab": 10}
 
@@ -1572,8 +1563,8 @@ GROUPS += [
 GROUPS += [lone_commitments, commitments_to_others, first_commitment]
 
 
-def main():
-    no_words(__doc__)
+def made():
+    """Every row, and the lines for them."""
     rows, reckoned, asking = Indexes(), Reckoned(), query_rows.Queries()
     for group in GROUPS:
         group(rows)
@@ -1584,8 +1575,4 @@ def main():
     rows.rows += reckoned.rows + asking.rows
     for row, line in rows_of_files.rows():
         rows.row(row, line)
-    rows.write("ox_index_rows")
-
-
-if __name__ == "__main__":
-    main()
+    return rows.made()

@@ -1,23 +1,20 @@
 """The rows of crates/ox_run_rows that ask one desk, and what has to be printed for them.
-checks/run_rows.py writes them.
 
 Replies are told by docs/FORMATS.md. The chains and most of what they are asked are those of
-checks/index_rows.py and checks/query_rows.py. What is kept of replies is reckoned here: 64 of them,
-by the number of accepted commands and the path, the last used first, none with a body above 65,536
-bytes. A desk is asked by one link at a time, so that the order of its requests is plain: by the
-operator's, and over the same files by a public one.
+index_rows and query_rows. What is kept of replies is reckoned here: 64 of them, by the number of
+accepted commands and the path, the last used first, none with a body above 65,536 bytes. A desk is
+asked by one link at a time, so that the order of its requests is plain: by the operator's, and over
+the same files by a public one.
 """
 
 import json
 
-import index_rows
-import query_rows
-import store_rows
 from chain import GENESIS, envelope
 from plain_index import NO_BLOCK
-from query_rows import checksum
 from rows import inscription, plain, reveal
-from store_rows import block_on
+from rows import index_rows, query_rows, store_rows
+from rows.query_rows import checksum
+from rows.store_rows import block_on
 
 JSON = "application/json"
 PHRASES = {

@@ -1,5 +1,5 @@
 """The rows of crates/ox_index_rows about inscriptions that are hidden while a block is taken back,
-come again and give way to others. checks/index_rows.py writes them.
+come again and give way to others.
 """
 
 from chain import SHORT, envelope, id_value, transaction
