@@ -1,3 +1,4 @@
 pub mod Held
-pub mod Kept
+pub mod Standing
+pub mod Judgement
 pub mod Unjudged

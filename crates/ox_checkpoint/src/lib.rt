@@ -2,12 +2,14 @@
 //! blocks; and the chain that a file stands for.
 #![tactic(auto)]
 
-mod kept;
 mod laws;
+mod leads;
 mod put;
 mod read;
 mod restoring;
+mod standing;
 
 pub use laws::{sound_data_can_be_put, what_is_spelled_stands};
 pub use put::put_body;
-pub use restoring::{Unjudged, earliest, restore};
+pub use restoring::{Unjudged, earliest, restore, stand};
+pub use standing::{Judgement, Standing};
