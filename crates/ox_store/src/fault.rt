@@ -4,10 +4,12 @@ ghost use Rattle.std.specs.Prelude.{◌≡◌};
 
 use crate::store::Store;
 use ox_bytes::Memory;
-use ox_gated::DiskFault;
+use ox_checkpoint::{Unjudged, earliest};
+use ox_gated::{DiskFault, GateFault};
 use ox_model::Refusal;
 use ox_outside::{Failed, Which};
 use ox_rules::Why;
+use std::alloc::Global;
 
 /// Why no store was made.
 #[derive(Clone, Copy, Debug, PartialEq, Eq)]
@@ -64,6 +66,45 @@ pub enum OpenFault {
     DiskFault,
     /// There is no memory for what the files hold.
     Memory,
+}
+
+impl OpenFault {
+    ghost use Rattle.std.specs.Prelude.{Result};
+    ghost use Rattle.ox_gated.specs.Opened.{IsBehindLawful, IsFault};
+    ghost use Rattle.ox_gated.specs.Reading.{Found, Fault};
+    ghost use Rattle.ox_files.specs.Stands.{stack_in};
+    ghost use Rattle.ox_store.specs.Fault.{IsMisfit, fault_in};
+
+    /// Why two files are no store that `Tail::open` didn't read. Where a gate or a record is cut
+    /// the body and the records before it are tested first, so that the place is that of the first
+    /// test that fails. `DiskFault` exactly where the fault is one; `Memory` where it is that, and
+    /// where there is none for this test.
+    pub fn of(alloc: Global, fault: GateFault) -> OpenFault
+        requires { IsBehindLawful fault }
+        ensures misfit { (reading : Result Found Fault) → IsFault reading fault
+            → IsMisfit (stack_in reading) result }
+        ensures disk { result ≡ OpenFault.DiskFault → fault ≡ GateFault.DiskFault }
+        ensures disk_alone { fault ≡ GateFault.DiskFault → result ≡ OpenFault.DiskFault }
+    {
+        match fault {
+            GateFault::NotStore { file, at, before } => {
+                OpenFault::in_file(file, earliest(alloc, before, at))
+            }
+            GateFault::DiskFault => OpenFault::DiskFault,
+            GateFault::Memory => OpenFault::Memory,
+        }
+    }
+
+    /// Why two files are no store of which this one was read, and what stands in it gave nothing:
+    /// `NotStore` with the place of the first test that fails, or `Memory`.
+    pub fn in_file(file: Which, unjudged: Unjudged) -> OpenFault
+        ensures { result ≡ fault_in file unjudged }
+    {
+        match unjudged {
+            Unjudged::At(at) => OpenFault::NotStore { file, at },
+            Unjudged::Memory => OpenFault::Memory,
+        }
+    }
 }
 
 /// Why a store isn't migrated.

@@ -1,20 +1,19 @@
 //! The opening of two files.
 
-ghost use Rattle.std.specs.Prelude.{◌≡◌, Ok, Result, IsTrue, IfOk, IfErr, IsErrOf};
+ghost use Rattle.std.specs.Prelude.{◌≡◌, Ok, IsTrue, IfOk, IfErr, IsErrOf};
 ghost use Rattle.ox_outside.specs.Counts.{Rose, StopsAtFault};
 ghost use Rattle.ox_outside.specs.Runs.{OnlyLooks};
 ghost use Rattle.ox_gated.specs.Layout.{is_lawful};
-ghost use Rattle.ox_gated.specs.Opened.{IsBehindLawful, IsFault, found_of};
-ghost use Rattle.ox_gated.specs.Reading.{Found, Fault};
+ghost use Rattle.ox_gated.specs.Opened.{found_of};
 ghost use Rattle.ox_gated.specs.Tail.{Holds, IsSettled};
 ghost use Rattle.ox_files.specs.Stands.{stack_in};
-ghost use Rattle.ox_store.specs.Fault.{IsMisfit, fault_in};
+ghost use Rattle.ox_store.specs.Fault.{IsMisfit};
 
 use crate::fault::OpenFault;
 use crate::store::Store;
-use ox_checkpoint::{Unjudged, earliest, restore};
-use ox_gated::{GateFault, Opened, Tail};
-use ox_outside::{Site, Which};
+use ox_checkpoint::restore;
+use ox_gated::{Opened, Tail};
+use ox_outside::Site;
 use std::alloc::Global;
 
 impl Store {
@@ -45,7 +44,7 @@ impl Store {
     {
         match Tail::open(alloc, site) {
             Ok(opened) => store_of(alloc, opened),
-            Err(fault) => Err(fault_of(alloc, fault)),
+            Err(fault) => Err(OpenFault::of(alloc, fault)),
         }
     }
 }
@@ -67,31 +66,6 @@ fn store_of(alloc: Global, opened: Opened) -> Result<Store, OpenFault>
             tail: opened.tail,
             commands: 0,
         }),
-        Err(unjudged) => Err(in_file(opened.file, unjudged)),
-    }
-}
-
-/// What is wrong with files that weren't read.
-fn fault_of(alloc: Global, fault: GateFault) -> OpenFault
-    requires { IsBehindLawful fault }
-    ensures misfit { (reading : Result Found Fault) → IsFault reading fault
-        → IsMisfit (stack_in reading) result }
-    ensures disk { result ≡ OpenFault.DiskFault → fault ≡ GateFault.DiskFault }
-    ensures disk_alone { fault ≡ GateFault.DiskFault → result ≡ OpenFault.DiskFault }
-{
-    match fault {
-        GateFault::NotStore { file, at, before } => in_file(file, earliest(alloc, before, at)),
-        GateFault::DiskFault => OpenFault::DiskFault,
-        GateFault::Memory => OpenFault::Memory,
-    }
-}
-
-/// What it says of a file that a part of it gives no chain.
-fn in_file(file: Which, unjudged: Unjudged) -> OpenFault
-    ensures { result ≡ fault_in file unjudged }
-{
-    match unjudged {
-        Unjudged::At(at) => OpenFault::NotStore { file, at },
-        Unjudged::Memory => OpenFault::Memory,
+        Err(unjudged) => Err(OpenFault::in_file(opened.file, unjudged)),
     }
 }

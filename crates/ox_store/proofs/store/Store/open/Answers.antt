@@ -30,10 +30,10 @@ returns-in-Err g c = record {
   stands = λ told. tt;
   fresh = tt;
   holds = λ told. tt;
-  not_store = λ told. c.fault_of.ensures.misfit (reading 2 (g.S.Site.seen c.args.site.now)) (c.in-Err.ensures.not_store told);
-  failed = λ is. c.in-Err.ensures.failed (ap Err (c.fault_of.ensures.disk (same_fault _ _ is)));
-  counted = stops_as (IsErrOf (Err c.in-Err.fault) gates.DiskFault) ⊥ ⊥ (IsErrOf (Err c.fault_of.result) faults.DiskFault) ⊥ ⊥ _ _
-      (λ is. ap Err (c.fault_of.ensures.disk_alone (same_fault _ _ is))) (λ no. no) (λ no. no) c.in-Err.ensures.counted;
-  settled = λ other. c.in-Err.ensures.settled (λ is. other (ap Err (c.fault_of.ensures.disk_alone (same_fault _ _ is))));
+  not_store = λ told. c.of.ensures.misfit (reading 2 (g.S.Site.seen c.args.site.now)) (c.in-Err.ensures.not_store told);
+  failed = λ is. c.in-Err.ensures.failed (ap Err (c.of.ensures.disk (same_fault _ _ is)));
+  counted = stops_as (IsErrOf (Err c.in-Err.fault) gates.DiskFault) ⊥ ⊥ (IsErrOf (Err c.of.result) faults.DiskFault) ⊥ ⊥ _ _
+      (λ is. ap Err (c.of.ensures.disk_alone (same_fault _ _ is))) (λ no. no) (λ no. no) c.in-Err.ensures.counted;
+  settled = λ other. c.in-Err.ensures.settled (λ is. other (ap Err (c.of.ensures.disk_alone (same_fault _ _ is))));
   looks = c.open.ensures.looks;
 }
