@@ -38,6 +38,36 @@ begins_before index before change end is =
     ap (λ (i : Index). begins_in i change) is
     ∙ (begins (undone index change) change).1 (subst (λ (i : Index). IsChange (undone index change) i change) (sym on) leads)
 
+-- an index in which a change begins, and as it stands after that was tested
+pub record Begins (here begun : Index) (change : Change) : Type 0 where
+  pub begin : begins_in here change ≡ true
+  pub same : begun ≡ here
+
+pub begins_so : (here begun : Index) (change : Change) (is : Bool) → is ≡ begins_in here change → is ≡ true → begun ≡ here → Begins here begun change
+begins_so here begun change is told true_ same = record { begin = sym told ∙ true_; same = same }
+
+module _ {here begun : Index} {change : Change} (b : Begins here begun change) where
+  pub begins_there : begins_in begun change ≡ true
+  begins_there = ap (λ (i : Index). begins_in i change) b.same ∙ b.begin
+
+  pub sound_there : (p : Profile) → IsSound p here → IsSound p begun
+  sound_there p is_sound = subst (IsSound p) (sym b.same) is_sound
+
+  -- what is told of the index after the change
+  pub tells_there : (p : Profile) (is : Bool) → is ≡ sound p (redone begun change) → is ≡ begins_in here change && sound p (redone here change)
+  tells_there p is told =
+      told ∙ ap (λ (i : Index). sound p (redone i change)) b.same ∙ sym (ap (λ (t : Bool). t && sound p (redone here change)) b.begin)
+
+  pub leads_there : (after : Index) → after ≡ redone begun change → after ≡ redone here change
+  leads_there after is = is ∙ ap (λ (i : Index). redone i change) b.same
+
+  -- it ends in the index after it, and the index before that is the one where it begins
+  pub ends_there : (after : Index) → after ≡ redone begun change → ends_in after change ≡ true
+  ends_there after is = ends_after begun after change begins_there is
+
+  pub back_here : (after again : Index) → after ≡ redone begun change → again ≡ undone after change → again ≡ here
+  back_here after again is back = back_again begun after again change begins_there is back ∙ b.same
+
 -- ---- changes that lead down
 
 and_false : (a : Bool) → a && false ≡ false

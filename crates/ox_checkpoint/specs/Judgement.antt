@@ -1,5 +1,5 @@
--- What becomes of a stack by a payload that makes this of it: the stack after it; or the one before,
--- where it isn't accepted.
+-- What becomes of a stack by a payload that makes this of it: the stack after it; or the one
+-- before, where it isn't accepted.
 use Rattle.std.specs.Prelude.{◌≡◌, Option, Some, None}
 use Rattle.ox_model.specs.Stack.{Stack}
 use Rattle.ox_checkpoint.specs.declared.standing.Judgement.{Judgement}

@@ -12,11 +12,11 @@ put_changes-requires c =
     let live = c.args.live.now in
     each_keeps (profile_in live) (index_in live) c.args.changes.now.kept live.parts.known live.sound c.requires
 
-pub returns-clause-ok : goal.returns-clause-ok
+pub returns : goal.returns
 unfolding body_rows
-returns-clause-ok c =
+returns c =
     let index = index_in c.args.live.now in
-    on_ok_weaker c.put_changes.result (λ last. more c.args.bytes.now (index_rows index) (list change_rows c.args.changes.now.kept) c.in_ok-put_live.ensures.ok last) c.put_changes.ensures.ok
-
-pub returns-clause-fits : goal.returns-clause-fits
-returns-clause-fits c = on_ok_weaker c.put_changes.result (λ last. record { index = c.in_ok-put_live.ensures.fits; changes = last }) c.put_changes.ensures.fits
+    let last = c.put_changes.result in record {
+      ok = on_ok_weaker last (λ put. more c.args.bytes.now (index_rows index) (list change_rows c.args.changes.now.kept) c.in_ok-put_live.ensures.ok put) c.put_changes.ensures.ok;
+      fits = on_ok_weaker last (λ fit. record { index = c.in_ok-put_live.ensures.fits; changes = fit }) c.put_changes.ensures.fits;
+    }

@@ -37,14 +37,10 @@ loop-n-preserved c =
       | in_default w ↦ absurd (not_past order c.loop-n.n c.len-n-end.result c.len-n-end.ensures c.loop-n-test.true w.in_default.ensures)
     ]
 
-pub returns-clause-ok : goal.returns-clause-ok
-returns-clause-ok c =
+pub returns : goal.returns
+returns c =
     let bal = (index_in c.args.live.now).bal in
-    let whole = take_all c.loop-n.n c.args.order.now (omega (arith, c.loop-n-test.false, c.len-n-end.ensures)) in
-    subst (λ (rows : List (OutPoint × OutRow)). c.loop-n.bytes ≡ c.args.bytes.now ++ flat_map placement (held_by bal rows)) whole c.loop-n.invariant.put
-
-pub returns-clause-fits : goal.returns-clause-fits
-returns-clause-fits c =
-    let bal = (index_in c.args.live.now).bal in
-    let whole = take_all c.loop-n.n c.args.order.now (omega (arith, c.loop-n-test.false, c.len-n-end.ensures)) in
-    subst (λ (rows : List (OutPoint × OutRow)). All FitsPlacement (held_by bal rows)) whole c.loop-n.invariant.fit
+    let whole = take_all c.loop-n.n c.args.order.now (omega (arith, c.loop-n-test.false, c.len-n-end.ensures)) in record {
+      ok = subst (λ (rows : List (OutPoint × OutRow)). c.loop-n.bytes ≡ c.args.bytes.now ++ flat_map placement (held_by bal rows)) whole c.loop-n.invariant.put;
+      fits = subst (λ (rows : List (OutPoint × OutRow)). All FitsPlacement (held_by bal rows)) whole c.loop-n.invariant.fit;
+    }

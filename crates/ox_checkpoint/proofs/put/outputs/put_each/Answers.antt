@@ -24,10 +24,7 @@ loop-n-preserved c =
       | in_default w ↦ absurd (not_past order c.loop-n.n c.len-n-end.result c.len-n-end.ensures c.loop-n-test.true w.in_default.ensures)
     ]
 
-pub returns-clause-ok : goal.returns-clause-ok
-returns-clause-ok c =
-    (all_put output FitsOutput c.args.bytes.now c.loop-n.bytes c.args.order.now c.loop-n.n (omega (arith, c.loop-n-test.false, c.len-n-end.ensures)) c.loop-n.invariant).0
-
-pub returns-clause-fits : goal.returns-clause-fits
-returns-clause-fits c =
-    (all_put output FitsOutput c.args.bytes.now c.loop-n.bytes c.args.order.now c.loop-n.n (omega (arith, c.loop-n-test.false, c.len-n-end.ensures)) c.loop-n.invariant).1
+pub returns : goal.returns
+returns c =
+    let all = all_put output FitsOutput c.args.bytes.now c.loop-n.bytes c.args.order.now c.loop-n.n (omega (arith, c.loop-n-test.false, c.len-n-end.ensures)) c.loop-n.invariant in
+    record { ok = all.0; fits = all.1 }

@@ -13,10 +13,7 @@ loop-n-preserved c =
     let all = (index_in c.args.live.now).inscriptions in
     one_put inscription FitsInscription c.args.bytes.now c.loop-n.bytes c.put.new.bytes all c.loop-n.n c.inscription.result.now c.loop-n.invariant c.inscription.ensures c.in_ok-put.ensures.ok c.in_ok-put.ensures.fits
 
-pub returns-clause-ok : goal.returns-clause-ok
-returns-clause-ok c =
-    (all_put inscription FitsInscription c.args.bytes.now c.loop-n.bytes (index_in c.args.live.now).inscriptions c.loop-n.n (omega (arith, c.loop-n-test.false, c.inscriptions-n-end.ensures)) c.loop-n.invariant).0
-
-pub returns-clause-fits : goal.returns-clause-fits
-returns-clause-fits c =
-    (all_put inscription FitsInscription c.args.bytes.now c.loop-n.bytes (index_in c.args.live.now).inscriptions c.loop-n.n (omega (arith, c.loop-n-test.false, c.inscriptions-n-end.ensures)) c.loop-n.invariant).1
+pub returns : goal.returns
+returns c =
+    let all = all_put inscription FitsInscription c.args.bytes.now c.loop-n.bytes (index_in c.args.live.now).inscriptions c.loop-n.n (omega (arith, c.loop-n-test.false, c.inscriptions-n-end.ensures)) c.loop-n.invariant in
+    record { ok = all.0; fits = all.1 }
