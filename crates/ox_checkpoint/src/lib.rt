@@ -1,5 +1,5 @@
 //! The body of a file as bytes: a checkpoint, which is an index and the changes of its newest
-//! blocks; and the chain that a file stands for.
+//! blocks; and what a file stands for, as plain data (`Standing`) or as a chain.
 #![tactic(auto)]
 
 mod laws;

@@ -109,9 +109,9 @@ impl Standing {
     pub fn judge(self, alloc: Global, payload: &[u8]) -> Result<Judgement, Memory>
         ensures { IfOk result (IsJudgement self (payload_step self payload.now)) }
     {
-        match payload {
-            [CONNECT, rows @ ..] => self.by_rows(alloc, rows),
-            [DISCONNECT] => self.back(alloc),
+        match payload.split_first() {
+            Some((&CONNECT, rows)) => self.by_rows(alloc, rows),
+            Some((&DISCONNECT, [])) => self.back(alloc),
             _ => Ok(Judgement::NotAccepted(self)),
         }
     }

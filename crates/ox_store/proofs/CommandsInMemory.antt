@@ -4,7 +4,7 @@ use Rattle.std.specs.Prelude.{Option, Some, None, Result, Ok, Err, slice_get}
 use Rattle.std.proofs.lemmas.Option.{same_Some}
 use Rattle.std.specs.Result.{OnOk}
 use Rattle.ox_sat.specs.declared.profiles.Profile.{Profile}
-use Rattle.ox_model.specs.Change.{IsChange, redone, undone}
+use Rattle.ox_model.specs.Change.{IsChange, redone}
 use Rattle.ox_model.specs.Ends.{AllEnd, LeadDown}
 use Rattle.ox_model.specs.Index.{Index}
 use Rattle.ox_model.specs.Sound.{IsSound}
