@@ -41,7 +41,16 @@ impl Route {
     {
         match self {
             Route::Connect | Route::Disconnect => Method::Post,
-            _ => Method::Get,
+            Route::Audit
+            | Route::BlockHash
+            | Route::Content
+            | Route::Inscription
+            | Route::Inscriptions
+            | Route::Output
+            | Route::Rune
+            | Route::Runes
+            | Route::Sat
+            | Route::Status => Method::Get,
         }
     }
 
