@@ -1,6 +1,7 @@
 //! Replies to queries over any view of an index.
 #![tactic(auto)]
 
+mod address;
 mod audit;
 mod balances;
 mod block;
@@ -22,6 +23,7 @@ mod status;
 mod texts;
 mod values;
 
+pub use address::answer_address;
 pub use ox_bytes::Memory;
 pub use parts::hash;
 pub use replies::{answer, answer_by, error_reply};

@@ -1,0 +1,4 @@
+pub mod Held
+pub mod Paths
+pub mod Trees
+pub mod Replies
