@@ -1,6 +1,11 @@
-//! What an address holds, in definitions, and how a path names one.
+//! What an address holds: how a path names one, and what its outputs hold.
 #![tactic(auto)]
 
+mod held;
 mod paths;
+mod sequences;
 
+pub use held::{Held, held_at};
+pub use ox_bytes::Memory;
 pub use paths::{SegwitScript, address_part, hrp_of, script_in};
+pub use sequences::next_between;
