@@ -1,4 +1,5 @@
+pub mod Gathered
 pub mod Held
 pub mod Paths
-pub mod Trees
 pub mod Replies
+pub mod Trees

@@ -1,5 +1,5 @@
 -- Paths that name an address.
-use Rattle.std.specs.Prelude.{ℕ, ◌&&◌, List, length, drop, codes, Option, Some, None}
+use Rattle.std.specs.Prelude.{ℕ, List, length, drop, codes, Option, Some, None}
 use Rattle.std.specs.Prelude.{if◌then◌else◌}
 use Rattle.std.specs.Str.{is_utf8}
 use Rattle.ox_sat.specs.Profiles.{name_at}
@@ -23,8 +23,11 @@ hrp_in p = hrp_of (name_at p.byte)
 abbrev pub address_row : Row
 address_row = with_part (codes "/address/")
 
--- the part of a path that stands for an address
+-- the part of a path behind the row's text
+abbrev pub part_behind : List ℕ → Option (List ℕ)
+part_behind path =
+    if takes address_row path then Some (drop (length address_row.text) path) else None
+
+-- the part of a path that stands for an address; none where the path isn't UTF-8
 abbrev pub address_part : List ℕ → Option (List ℕ)
-address_part path =
-    if is_utf8 path && takes address_row path
-    then Some (drop (length address_row.text) path) else None
+address_part path = if is_utf8 path then part_behind path else None

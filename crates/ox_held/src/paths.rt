@@ -3,7 +3,8 @@
 ghost use Rattle.std.specs.Prelude.{◌≡◌, option_map};
 ghost use Rattle.ox_address.specs.Address.{IsHrp};
 ghost use Rattle.ox_address.specs.Spelled.{script_in};
-ghost use Rattle.ox_held.specs.Paths.{address_part, hrp_of};
+ghost use Rattle.ox_held.specs.Paths.{address_part, hrp_of, part_behind};
+ghost use Rattle.ox_routes.specs.Table.{is_part};
 
 use ox_address::read;
 use ox_sat::ProfileName;
@@ -13,7 +14,7 @@ use std::marker::Model;
 const FRONT: &[u8] = b"/address/";
 
 /// The script of a segwit address. It takes no memory. Contracts see its bytes.
-#[derive(Clone, Copy, Debug)]
+#[derive(Drop)]
 pub struct SegwitScript {
     bytes: [u8; 42],
     len: usize,
@@ -51,19 +52,30 @@ pub fn hrp_of(name: ProfileName) -> &'static [u8]
     }
 }
 
+/// Whether these bytes are one part of a path: one or more, without a slash.
+fn is_part(bytes: &[u8]) -> bool
+    ensures { result ≡ is_part bytes.now }
+{
+    !bytes.is_empty() && !bytes.contains(&b'/')
+}
+
+/// The part of a path that is behind `/address/`, if there is one.
+fn part_behind(path: &[u8]) -> Option<&[u8]>
+    ensures { option_map (λ part. part.now) result ≡ part_behind path.now }
+{
+    let part = path.strip_prefix(FRONT)?;
+    if is_part(part) { Some(part) } else { None }
+}
+
 /// The part of a path that stands for an address: what is behind `/address/`, where that is one or
 /// more bytes without a slash, and the path is UTF-8. It may be no address all the same.
 pub fn address_part(path: &[u8]) -> Option<&[u8]>
     ensures { option_map (λ part. part.now) result ≡ address_part path.now }
 {
-    let Ok(_) = str::from_utf8(path) else {
-        return None;
-    };
-    let part = path.strip_prefix(FRONT)?;
-    if part.is_empty() || part.contains(&b'/') {
-        return None;
+    match str::from_utf8(path) {
+        Ok(_) => part_behind(path),
+        Err(_) => None,
     }
-    Some(part)
 }
 
 /// The script whose address a text is, behind this human-readable part, lower-case or in capitals

@@ -1,9 +1,12 @@
 //! The inscriptions on some satoshis, by sequence.
 
-ghost use Rattle.std.specs.Prelude.{◌≡◌, ◌<◌, ◌≤◌, ◌+◌, ◌^◌, ◌++◌, [], All, length, IfSome, OnOk};
-ghost use Rattle.std.specs.Prelude.{MatchOption};
+ghost use Rattle.std.specs.Prelude.{◌≡◌, ℕ, ◌<◌, ◌≤◌, ◌+◌, ◌^◌, ◌++◌, [], All, length, IfSome};
+ghost use Rattle.std.specs.Prelude.{MatchOption, OnOk};
 ghost use Rattle.std.specs.List.{flat_map};
+ghost use Rattle.std.specs.List.Sorted.{IsStrictlySortedBy};
+ghost use Rattle.std.specs.Ordering.{nat_cmp};
 ghost use Rattle.ox_inscribe.specs.Inscriptions.{on};
+ghost use Rattle.ox_inscribe.specs.Numbers.{is_among};
 ghost use Rattle.ox_range.specs.Runs.{AreMaximal, end_of, numbers_of};
 ghost use Rattle.ox_replies.specs.Walk.{on_between};
 
@@ -61,8 +64,10 @@ pub(crate) fn append_on<V: View>(
     Ok(())
 }
 
-/// These numbers, each once, by rising.
+/// These numbers, each once and rising.
 pub(crate) fn rising(numbers: Vec<u32>) -> List<u32>
+    ensures rising { IsStrictlySortedBy nat_cmp result }
+    ensures same { (n : ℕ) → is_among n result ≡ is_among n numbers.items }
 {
     let mut numbers = numbers;
     numbers.sort_unstable();
