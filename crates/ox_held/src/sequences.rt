@@ -24,11 +24,10 @@ pub fn next_between<V: View>(live: &V, from: u64, end: u64) -> Option<(u64, &[u3
     ensures there { IfSome result
         (λ next. All (λ n. n < length (V.index live.now).inscriptions) next.1.now) }
 {
-    let (sat, numbers) = live.next_on(from)?;
-    if sat >= end {
-        return None;
+    match live.next_on(from) {
+        Some((sat, numbers)) if sat < end => Some((sat, numbers)),
+        _ => None,
     }
-    Some((sat, numbers))
 }
 
 /// Appends the sequences of the inscriptions on a run of satoshis, satoshi by satoshi. `Memory`
