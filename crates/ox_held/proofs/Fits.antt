@@ -1,17 +1,16 @@
 -- What outputs hold that count once each fits: no more than all satoshis, and of each rune no more
 -- than all outputs hold of it.
-use Rattle.std.proofs.Common.{◌≡◌, ◌∙◌, ℕ, ◌+◌, ◌^◌, ◌<◌, ◌≤◌, List, [], ◌∷◌, ◌++◌, length, length-append, map, refl, sym, ap, ap₂, arith, Option, Some, None}
+use Rattle.std.proofs.Common.{◌≡◌, ◌∙◌, ℕ, ◌+◌, ◌^◌, ◌<◌, List, [], ◌∷◌, length, length-append, map, refl, sym, ap, ap₂, arith, Option, Some, None}
 use Rattle.std.specs.Prelude.{unwrap_or}
-use Rattle.std.specs.List.{cons_option, filter_map, fold}
+use Rattle.std.specs.List.{cons_option, fold}
 use Rattle.std.specs.List.Sorted.{IsStrictlySortedBy}
 use Rattle.std.specs.Option.{option_map_or}
 use Rattle.std.specs.FinMap.{entries, get}
 use Rattle.ox_block.specs.declared.block.OutPoint.{OutPoint}
-use Rattle.ox_sat.specs.Heights.{first_at}
 use Rattle.ox_sat.specs.Profiles.{IsProfile}
 use Rattle.ox_sat.specs.declared.profiles.Profile.{Profile}
 use Rattle.ox_sat.proofs.Epochs.{counts, first_most}
-use Rattle.ox_rules.specs.Outputs.{Outputs, outpoint_cmp, sats_held, sats_of}
+use Rattle.ox_rules.specs.Outputs.{Outputs, outpoint_cmp, sats_of}
 use Rattle.ox_rules.specs.declared.rows.OutRow.{OutRow}
 use Rattle.ox_rules.proofs.MapSums.{total}
 use Rattle.ox_rules.proofs.Orders.{outpoints_exact, outpoints_total}

@@ -1,7 +1,10 @@
+pub mod AddressTrees
 pub mod Between
 pub mod Fits
+pub mod Found
 pub mod Gathering
+pub mod JoinedRunes
 pub mod Numbers
-pub mod PathLemmas
 pub mod OnSats
+pub mod PathLemmas
 pub mod Sums

@@ -1,5 +1,5 @@
 -- Numbers that rise are told by which there are.
-use Rattle.std.proofs.Common.{◌≡◌, ◌∙◌, ℕ, ◌<◌, ◌≤◌, ◌==◌, Bool, true, false, List, [], ◌∷◌, refl, sym, ap, ap₂, subst, arith, inl, inr, ⊎_elim}
+use Rattle.std.proofs.Common.{◌≡◌, ◌∙◌, ℕ, ◌<◌, ◌≤◌, ◌==◌, Bool, true, false, List, [], ◌∷◌, refl, sym, ap, ap₂, subst, arith, ⊎_elim}
 use Rattle.std.specs.Prelude.{◌||◌}
 use Rattle.std.specs.Cmp.{ranked}
 use Rattle.std.specs.List.{AllByRecursion}
@@ -36,7 +36,7 @@ others : (x n : ℕ) (xs ys : List ℕ) → Above x xs → Above x ys → is_amo
 others x n xs ys up rise same = ⊎_elim
     (λ (e : x ≡ n). none_above n x xs (omega (arith, e)) up ∙ sym (none_above n x ys (omega (arith, e)) rise))
     (λ other. let test : (x == n) ≡ false = ne_eqb x n other in
-        ap (λ (b : Bool). b || is_among n xs) (sym test) ∙ same ∙ ap (λ (b : Bool). b || is_among n ys) test)
+    ap (λ (b : Bool). b || is_among n xs) (sym test) ∙ same ∙ ap (λ (b : Bool). b || is_among n ys) test)
     (cases_eq x n)
 
 pub same_numbers : (xs ys : List ℕ) → IsStrictlySortedBy nat_cmp xs → IsStrictlySortedBy nat_cmp ys → ((n : ℕ) → is_among n xs ≡ is_among n ys) → xs ≡ ys

@@ -2,7 +2,7 @@
 use Rattle.std.proofs.Common.{◌≡◌, ◌∙◌, ℕ, zero, suc, ◌+◌, ◌-◌, ◌<◌, ◌≤◌, ◌==◌, nat_eq, Bool, true, false, List, [], ◌∷◌, ◌++◌, length, take, get_or, append_assoc, refl, sym, ap, ap₂, subst, arith, Option, Some, None}
 use Rattle.std.specs.Prelude.{◌||◌, Contains, slice_get}
 use Rattle.std.specs.Cmp.{nat_eq_equiv}
-use Rattle.std.specs.List.{dedup, flat_map, list_any}
+use Rattle.std.specs.List.{dedup, flat_map}
 use Rattle.std.specs.List.Sorted.{IsPermutation, IsSorted, IsStrictlySortedBy}
 use Rattle.std.specs.Option.{option_map_or}
 use Rattle.std.specs.Ordering.{nat_cmp}
@@ -116,8 +116,8 @@ module _ (numbers sorted rising : List ℕ) (is : rising ≡ dedup nat_eq sorted
   pub once_same : IsPermutation numbers sorted → (n : ℕ) → is_among n rising ≡ is_among n numbers
   once_same moved n = same_tests (is_among n rising) (is_among n numbers)
       (λ there.
-          contained numbers n (Contains-permutation sorted numbers n (IsPermutation-sym numbers sorted moved)
-          (Contains-from_dedup nat_eq sorted n (subst (λ (ns : List ℕ). Contains ns n) is (contains rising n there)))))
+      contained numbers n (Contains-permutation sorted numbers n (IsPermutation-sym numbers sorted moved)
+      (Contains-from_dedup nat_eq sorted n (subst (λ (ns : List ℕ). Contains ns n) is (contains rising n there)))))
       (λ there.
-          contained rising n (subst (λ (ns : List ℕ). Contains ns n) (sym is)
-          (Contains-dedup_nat sorted n (Contains-permutation numbers sorted n moved (contains numbers n there)))))
+      contained rising n (subst (λ (ns : List ℕ). Contains ns n) (sym is)
+      (Contains-dedup_nat sorted n (Contains-permutation numbers sorted n moved (contains numbers n there)))))

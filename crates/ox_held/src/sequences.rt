@@ -48,11 +48,7 @@ fn append_on_run<V: View>(found: &mut Vec<u32>, live: &V, run: &Run) -> Result<(
 
 /// Appends the sequences of the inscriptions on the satoshis of these runs, satoshi by satoshi.
 /// `Memory` where there is none for them.
-pub(crate) fn append_on<V: View>(
-    found: &mut Vec<u32>,
-    live: &V,
-    runs: &[Run],
-) -> Result<(), Memory>
+pub(crate) fn append_on<V: View>(found: &mut Vec<u32>, live: &V, runs: &[Run]) -> Result<(), Memory>
     requires { AreMaximal runs.now }
     ensures { OnOk result (found.new.items ≡ found.old.items
         ++ flat_map (on (V.index live.now).inscriptions) (numbers_of runs.now)) }

@@ -144,14 +144,14 @@ absent_key x (e ∷ es) below =
     ap (λ (b : Bool). cond b (Some e.1) (find outpoint_cmp x es)) (less_order (outpoint_cmp x e.0) (first_true _ _ below)) ∙ absent_key x es (second_true _ _ below)
 
 -- a row behind another is found behind it
-found_behind : (e : OutPoint × OutRow) (es : List (OutPoint × OutRow)) (at : OutPoint) (row : OutRow) → T (is_sorted outpoint_cmp (e ∷ es)) → find outpoint_cmp at es ≡ Some row → find outpoint_cmp at (e ∷ es) ≡ Some row
+pub found_behind : (e : OutPoint × OutRow) (es : List (OutPoint × OutRow)) (at : OutPoint) (row : OutRow) → T (is_sorted outpoint_cmp (e ∷ es)) → find outpoint_cmp at es ≡ Some row → find outpoint_cmp at (e ∷ es) ≡ Some row
 found_behind e es at row sorted is = by (eq_by_cmp outpoint_cmp at e.0) refl
   where
     by : (b : Bool) → eq_by_cmp outpoint_cmp at e.0 ≡ b → cond b (Some e.1) (find outpoint_cmp at es) ≡ Some row
     by true tied = absurd (let e : None ≡ Some row = sym (absent_key e.0 es (first_true _ _ sorted)) ∙ find_tied outpoint_cmp outpoints_total at e.0 (tie _ tied) es ∙ is in cc e)
     by false other = is
 
-found_front : (e : OutPoint × OutRow) (es : List (OutPoint × OutRow)) → find outpoint_cmp e.0 (e ∷ es) ≡ Some e.1
+pub found_front : (e : OutPoint × OutRow) (es : List (OutPoint × OutRow)) → find outpoint_cmp e.0 (e ∷ es) ≡ Some e.1
 found_front e es = ap (λ (b : Bool). cond b (Some e.1) (find outpoint_cmp e.0 es)) ((eq_by_cmp_equiv outpoints_total).refl e.0)
 
 -- the row of a place is found, and holds the satoshi

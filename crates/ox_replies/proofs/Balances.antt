@@ -25,7 +25,7 @@ use Rattle.ox_replies.specs.Runes.{balance_among, balance_tree}
 use Rattle.ox_replies.proofs.Runes.{id_found}
 
 -- how many are told
-abbrev told : List RuneRow → List Balance → ℕ
+abbrev pub told : List RuneRow → List Balance → ℕ
 told runes balances = length (filter_map (balance_among runes) balances)
 
 module _ (runes : List RuneRow) (distinct : AreDistinct (λ r. r.id) runes) where
@@ -49,7 +49,7 @@ module _ (runes : List RuneRow) (distinct : AreDistinct (λ r. r.id) runes) wher
       by true none = omega (arith, some, none)
       by false none = more none
 
-  all_told : (balances : List Balance) → All (λ amount. 0 < amount) (values_of balances) → ((id : RuneId) → amount_in balances id ≢ 0 → IsSome (row_with runes id))
+  pub all_told : (balances : List Balance) → All (λ amount. 0 < amount) (values_of balances) → ((id : RuneId) → amount_in balances id ≢ 0 → IsSome (row_with runes id))
       → told runes balances ≡ length balances
   all_told [] some known = refl
   all_told (e ∷ rest) some known =

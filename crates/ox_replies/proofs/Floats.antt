@@ -48,22 +48,22 @@ use Rattle.ox_replies.specs.Values.{amount, count, hash_or_null, hex, integer, o
 pub record IsPlain (tree : Data) : Type 0 where
   pub plain : has_float tree ≡ false
 
-record ArePlain (members : Members) : Type 0 where
-  plain : members_have_float members ≡ false
+pub record ArePlain (members : Members) : Type 0 where
+  pub plain : members_have_float members ≡ false
 
-none : ArePlain no_members
+pub none : ArePlain no_members
 none = record { plain = refl }
 
-both : {key : List ℕ} {tree : Data} {members : Members} → IsPlain tree → ArePlain members → ArePlain (member key tree members)
+pub both : {key : List ℕ} {tree : Data} {members : Members} → IsPlain tree → ArePlain members → ArePlain (member key tree members)
 both h hs = record { plain = ap₂ (λ a b. a || b) h.plain hs.plain }
 
-all_of : {members : Members} → ArePlain members → IsPlain (object members)
+pub all_of : {members : Members} → ArePlain members → IsPlain (object members)
 all_of hs = record { plain = hs.plain }
 
-a_string : (bytes : List ℕ) → IsPlain (string bytes)
+pub a_string : (bytes : List ℕ) → IsPlain (string bytes)
 a_string bytes = record { plain = refl }
 
-a_count : (n : ℕ) → IsPlain (count n)
+pub a_count : (n : ℕ) → IsPlain (count n)
 a_count n = record { plain = refl }
 
 an_amount : (n : ℕ) → IsPlain (amount n)
@@ -91,7 +91,7 @@ a_place None = record { plain = refl }
 a_place (Some (Out at offset)) = record { plain = refl }
 a_place (Some (Lost offset)) = record { plain = refl }
 
-all_items : {A : Type 0} (tree : A → Data) (xs : List A) → ((x : A) → IsPlain (tree x)) → IsPlain (array (items_of (map tree xs)))
+pub all_items : {A : Type 0} (tree : A → Data) (xs : List A) → ((x : A) → IsPlain (tree x)) → IsPlain (array (items_of (map tree xs)))
 all_items tree [] h = record { plain = refl }
 all_items tree (x ∷ xs) h = record { plain = ap₂ (λ a b. a || b) (h x).plain (all_items tree xs h).plain }
 
@@ -120,7 +120,7 @@ chosen f (Some x) h = h x
 an_id : (id : InsId) → IsPlain (id_tree id)
 an_id id = record { plain = refl }
 
-ids : (rows : List InsRow) (numbers : List ℕ) → IsPlain (ids_tree rows numbers)
+pub ids : (rows : List InsRow) (numbers : List ℕ) → IsPlain (ids_tree rows numbers)
 ids rows numbers = all_items inscription_id (filter_map (slice_get rows) numbers) (λ row. record { plain = refl })
 
 a_mark : (marks worth : ℕ) (text : List ℕ) (texts : List Data) → IsPlain (array (items_of texts)) → IsPlain (array (items_of (mark_if marks worth text texts)))
@@ -186,7 +186,7 @@ a_rune index n row = all_of (
     both (an_amount row.premine) (
     both (maybe_null character row.symbol (λ c. record { plain = refl })) none)))))))))))))))
 
-balances : (runes : List RuneRow) (all : List Balance) → IsPlain (balances_tree runes all)
+pub balances : (runes : List RuneRow) (all : List Balance) → IsPlain (balances_tree runes all)
 balances runes all = some_items (balance_among runes) all
     (λ (one : Balance). mapped (balance_tree one.1) (option_and_then (slice_get runes) (by_id runes one.0)) (λ row. record { plain = refl }))
 

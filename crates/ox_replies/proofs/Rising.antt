@@ -50,23 +50,23 @@ use Rattle.ox_replies.specs.Values.{amount, count, hash_or_null, hex, integer, o
 pub record Rises (tree : Data) : Type 0 where
   pub rises : keys_rise tree ≡ true
 
-record AllRise (members : Members) : Type 0 where
-  rises : members_rise members ≡ true
+pub record AllRise (members : Members) : Type 0 where
+  pub rises : members_rise members ≡ true
 
-none : AllRise no_members
+pub none : AllRise no_members
 none = record { rises = refl }
 
-both : {key : List ℕ} {tree : Data} {members : Members} → is_before key members ≡ true → Rises tree
+pub both : {key : List ℕ} {tree : Data} {members : Members} → is_before key members ≡ true → Rises tree
     → AllRise members → AllRise (member key tree members)
 both before h hs = record { rises = rw (before, h.rises, hs.rises) refl }
 
-all_of : {members : Members} → AllRise members → Rises (object members)
+pub all_of : {members : Members} → AllRise members → Rises (object members)
 all_of hs = record { rises = hs.rises }
 
-a_string : (bytes : List ℕ) → Rises (string bytes)
+pub a_string : (bytes : List ℕ) → Rises (string bytes)
 a_string bytes = record { rises = refl }
 
-a_count : (n : ℕ) → Rises (count n)
+pub a_count : (n : ℕ) → Rises (count n)
 a_count n = record { rises = refl }
 
 an_amount : (n : ℕ) → Rises (amount n)
@@ -94,7 +94,7 @@ a_place None = record { rises = refl }
 a_place (Some (Out at offset)) = record { rises = refl }
 a_place (Some (Lost offset)) = record { rises = refl }
 
-all_items : {A : Type 0} (tree : A → Data) (xs : List A) → ((x : A) → Rises (tree x)) → Rises (array (items_of (map tree xs)))
+pub all_items : {A : Type 0} (tree : A → Data) (xs : List A) → ((x : A) → Rises (tree x)) → Rises (array (items_of (map tree xs)))
 all_items tree [] h = record { rises = refl }
 all_items tree (x ∷ xs) h = record { rises = rw ((h x).rises, (all_items tree xs h).rises) refl }
 
@@ -123,7 +123,7 @@ chosen f (Some x) h = h x
 an_id : (id : InsId) → Rises (id_tree id)
 an_id id = record { rises = refl }
 
-ids : (rows : List InsRow) (numbers : List ℕ) → Rises (ids_tree rows numbers)
+pub ids : (rows : List InsRow) (numbers : List ℕ) → Rises (ids_tree rows numbers)
 ids rows numbers = all_items inscription_id (filter_map (slice_get rows) numbers) (λ row. record { rises = refl })
 
 a_mark : (marks worth : ℕ) (text : List ℕ) (texts : List Data) → Rises (array (items_of texts)) → Rises (array (items_of (mark_if marks worth text texts)))
@@ -189,7 +189,7 @@ a_rune index n row = all_of (
     both refl (an_amount row.premine) (
     both refl (maybe_null character row.symbol (λ c. record { rises = refl })) none)))))))))))))))
 
-balances : (runes : List RuneRow) (all : List Balance) → Rises (balances_tree runes all)
+pub balances : (runes : List RuneRow) (all : List Balance) → Rises (balances_tree runes all)
 balances runes all = some_items (balance_among runes) all
     (λ (one : Balance). mapped (balance_tree one.1) (option_and_then (slice_get runes) (by_id runes one.0)) (λ row. record { rises = refl }))
 

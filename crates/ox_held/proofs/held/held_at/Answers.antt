@@ -1,5 +1,4 @@
 use Rattle.ox_ledger.proofs.Fresh.{all_rise}
-use Rattle.ox_block.specs.declared.block.OutPoint.{OutPoint}
 use Rattle.ox_model.specs.Index.{runes_of}
 use Rattle.ox_held.proofs.Fits.{runes_fit, sats_fit}
 use Rattle.ox_held.proofs.Gathering.{begun, gathers_all, gathers_more, next_runes_fit, next_sats_fit, no_place}

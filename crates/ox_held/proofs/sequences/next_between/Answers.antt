@@ -16,7 +16,7 @@ pub returns-in_default-clause-told : goal.returns-in_default-clause-told
 returns-in_default-clause-told g c =
     let rows = (g.V.View.index c.args.live.now).inscriptions in
     elim c.in_default.branch [
-      in_default-via-in-Some+else-sat-end w ↦
+      | in_default-via-in-Some+else-sat-end w ↦
           past_end rows c.args.from c.args.end w.in-Some.sat w.in-Some.numbers.now w.in-Some.ensures w.if-sat-end.false
       | in_default-via-in_default w ↦ none_between rows c.args.from c.args.end w.in_default.ensures
     ]

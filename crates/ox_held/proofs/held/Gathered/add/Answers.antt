@@ -1,5 +1,4 @@
-use Rattle.std.proofs.Common.{List, sym, subst}
-use Rattle.ox_allocation.specs.Balances.{Balance}
+use Rattle.std.proofs.Common.{sym, subst}
 use Rattle.ox_ledger.proofs.Brought.{Rise, at_rises}
 use Rattle.ox_ledger.proofs.Fresh.{all_rise}
 use Rattle.ox_model.specs.Index.{runes_of}
