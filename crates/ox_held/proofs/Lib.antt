@@ -1,3 +1,4 @@
+pub mod AddressBytes
 pub mod AddressTrees
 pub mod Between
 pub mod Fits

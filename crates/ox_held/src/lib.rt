@@ -4,6 +4,7 @@
 mod held;
 mod laws;
 mod paths;
+mod script;
 mod sequences;
 
 pub use held::{Held, held_at};
@@ -11,5 +12,6 @@ pub use laws::{
     address_trees_are_exact, addresses_take_no_route, outputs_are_found, runes_are_joined,
 };
 pub use ox_bytes::Memory;
-pub use paths::{SegwitScript, address_part, hrp_of, script_in};
+pub use paths::{address_part, hrp_in, script_in};
+pub use script::SegwitScript;
 pub use sequences::next_between;

@@ -3,45 +3,18 @@
 ghost use Rattle.std.specs.Prelude.{◌≡◌, option_map};
 ghost use Rattle.ox_address.specs.Address.{IsHrp};
 ghost use Rattle.ox_address.specs.Spelled.{script_in};
-ghost use Rattle.ox_held.specs.Paths.{address_part, hrp_of, part_behind};
+ghost use Rattle.ox_held.specs.Paths.{address_part, hrp_in, hrp_of, part_behind};
 ghost use Rattle.ox_routes.specs.Table.{is_part};
 
+use crate::script::SegwitScript;
 use ox_address::read;
-use ox_sat::ProfileName;
-use std::marker::Model;
+use ox_sat::{Profile, ProfileName};
 
 /// What a path that names an address begins with.
 const FRONT: &[u8] = b"/address/";
 
-/// The script of a segwit address. It takes no memory. Contracts see its bytes.
-#[derive(Drop)]
-pub struct SegwitScript {
-    bytes: [u8; 42],
-    len: usize,
-}
-
-impl Model for SegwitScript {
-    ghost use Rattle.std.specs.Prelude.{ℕ, ◌≤◌, List, take};
-
-    ghost Value = { List ℕ };
-
-    ghost view = { λ script. take script.len script.bytes };
-
-    ghost invariant = { λ script. script.len ≤ 42 };
-}
-
-impl SegwitScript {
-    /// The bytes, to be read in place.
-    pub fn as_slice(&self) -> &[u8]
-        ensures { result.now ≡ self.now }
-    {
-        &self.bytes[..self.len]
-    }
-}
-
-/// The human-readable part of a chain's addresses: `bc` on the main chain (BIP 173, "Segwit address
-/// format"), `bcrt` on regtest (Bitcoin Core), and `lab` on lab, this project's own.
-pub fn hrp_of(name: ProfileName) -> &'static [u8]
+/// The human-readable part of the addresses of the chain with a name.
+fn hrp_of(name: ProfileName) -> &'static [u8]
     ensures exact { result.now ≡ hrp_of name }
     ensures lawful { IsHrp result.now }
 {
@@ -50,6 +23,15 @@ pub fn hrp_of(name: ProfileName) -> &'static [u8]
         ProfileName::Regtest => b"bcrt",
         ProfileName::Lab => b"lab",
     }
+}
+
+/// The human-readable part of a chain's addresses: `bc` on the main chain (BIP 173, "Segwit address
+/// format"), `bcrt` on regtest (Bitcoin Core), and `lab` on lab, this project's own.
+pub fn hrp_in(p: &Profile) -> &'static [u8]
+    ensures exact { result.now ≡ hrp_in p.now }
+    ensures lawful { IsHrp result.now }
+{
+    hrp_of(ProfileName::of_byte(p.byte))
 }
 
 /// Whether these bytes are one part of a path: one or more, without a slash.
@@ -78,14 +60,13 @@ pub fn address_part(path: &[u8]) -> Option<&[u8]>
     }
 }
 
-/// The script whose address a text is, behind this human-readable part, lower-case or in capitals
-/// (BIP 173, BIP 350); `None` exactly where it is no segwit script's.
-pub fn script_in(hrp: &[u8], text: &[u8]) -> Option<SegwitScript>
-    requires { IsHrp hrp.now }
-    ensures { result ≡ script_in hrp.now text.now }
+/// The script whose address a text is on a chain, lower-case or in capitals (BIP 173, BIP 350);
+/// `None` exactly where it is no segwit script's.
+pub fn script_in(p: &Profile, text: &[u8]) -> Option<SegwitScript>
+    ensures { result ≡ script_in (hrp_in p.now) text.now }
 {
     let mut bytes = [0; 42];
-    match read(hrp, text, &mut bytes) {
+    match read(hrp_in(p), text, &mut bytes) {
         Ok(len) => Some(SegwitScript { bytes, len }),
         Err(_) => None,
     }
