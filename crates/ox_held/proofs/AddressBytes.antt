@@ -1,6 +1,5 @@
 -- An address is ASCII, and has at most 90 bytes.
-use Rattle.std.proofs.Common.{◌≡◌, ◌<◌, ◌≤◌, ℕ, true, false, Bool, ltb, ltb-true, IsUtf8, List, [], ◌∷◌, ◌++◌, length, map, refl, inl, arith}
-use Rattle.std.specs.Prelude.{◌&&◌}
+use Rattle.std.proofs.Common.{◌≡◌, ◌<◌, ◌≤◌, ℕ, true, ltb, ltb-true, IsUtf8, List, [], ◌∷◌, ◌++◌, length, map, refl, inl, arith}
 use Rattle.std.specs.List.{list_all}
 use Rattle.std.specs.Str.{IsAscii}
 use Rattle.std.proofs.lemmas.Bool.{and_parts}

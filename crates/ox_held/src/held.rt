@@ -19,7 +19,7 @@ use ox_model::{OutRow, RuneId, View};
 use std::alloc::Global;
 
 /// What some outputs hold together.
-#[derive(Debug, Drop)]
+#[derive(Debug)]
 pub struct Held {
     /// How many satoshis.
     pub value: u64,
@@ -27,6 +27,17 @@ pub struct Held {
     pub runes: Balances,
     /// The sequences of the inscriptions on the satoshis, rising.
     pub inscriptions: List<u32>,
+}
+
+/// By hand, so that whoever drops it makes one call, and proves nothing of its lists.
+impl Drop for Held {
+    fn drop(self) {
+        let Held {
+            value: _,
+            runes: _runes,
+            inscriptions: _inscriptions,
+        } = self;
+    }
 }
 
 /// What the outputs hold that were looked up so far.

@@ -1,5 +1,5 @@
 -- Lists of ids, inscription by inscription and satoshi by satoshi.
-use Rattle.std.proofs.Common.{◌≡◌, ℕ, suc, ◌+◌, ◌-◌, ◌<◌, ◌≤◌, ◌^◌, Bool, true, false, cond, ltb, lt-ltb, ltb-true, IsUtf8, ◌&&◌, List, [], ◌∷◌, ◌++◌, length, get_or, take, drop, reverse, map, append_assoc, bytes_eq, Option, Some, None, Result, Ok, Err, decimal, refl, sym, ap, ap₂, ◌∙◌, subst, arith}
+use Rattle.std.proofs.Common.{◌≡◌, ℕ, ◌+◌, ◌-◌, ◌<◌, ◌≤◌, ◌^◌, Bool, true, false, cond, ltb, ltb-true, IsUtf8, ◌&&◌, List, [], ◌∷◌, ◌++◌, length, get_or, take, drop, reverse, map, append_assoc, bytes_eq, Option, Some, None, Result, Ok, Err, decimal, refl, sym, ap, ◌∙◌, subst, arith}
 use Rattle.std.specs.Prelude.{All, IfSome, slice_get}
 use Rattle.std.specs.List.{cons_option, filter_map, flat_map, list_all, position_or_len}
 use Rattle.std.specs.Option.{option_map_or}
@@ -9,7 +9,7 @@ use Rattle.std.specs.Str.Parse.{digits_value}
 use Rattle.std.proofs.lemmas.Fmt.{IsAscii-decimal}
 use Rattle.std.proofs.lemmas.Grind.{flat_map-append}
 use Rattle.std.proofs.lemmas.List.{append-nil, map-append, take_all, take_more}
-use Rattle.std.proofs.lemmas.List.Elements.{All-cons, All-nil, All-weaker, filter_map-append}
+use Rattle.std.proofs.lemmas.List.Elements.{All-nil, All-weaker, filter_map-append}
 use Rattle.std.proofs.lemmas.Option.{cond_some}
 use Rattle.std.proofs.lemmas.Str.{IsUtf8-from_ascii, IsAscii-append}
 use Rattle.std.proofs.lemmas.Str.Ascii.{IsAscii-cons}
@@ -24,14 +24,12 @@ use Rattle.ox_range.specs.Runs.{end_of, numbers_of}
 use Rattle.ox_range.proofs.RunLemmas.{numbers-append, numbers-none, numbers_of_one}
 use Rattle.ox_envelope.specs.Id.{id_from_digits, id_of_text, id_text, is_number}
 use Rattle.ox_envelope.specs.declared.id.InsId.{InsId}
-use Rattle.ox_inscribe.specs.Inscriptions.{children, children_of, find, has_parent, next_on, numbers_where, is_same_id, is_on, on}
-use Rattle.ox_inscribe.specs.Numbers.{IsFirstOn, IsNextOn}
+use Rattle.ox_inscribe.specs.Inscriptions.{children, children_of, find, has_parent, numbers_where, is_same_id, on}
 use Rattle.ox_inscribe.specs.declared.row.InsRow.{InsRow}
-use Rattle.ox_inscribe.proofs.NextLaws.{next_shown}
 use Rattle.ox_replies.specs.Inscriptions.{inscription_id}
-use Rattle.ox_replies.specs.Walk.{on_between, walk_of}
+use Rattle.ox_replies.specs.Walk.{on_between}
 use Rattle.ox_replies.proofs.Halves.{second_half}
-use Rattle.ox_replies.proofs.Walks.{all_walked}
+use Rattle.ox_held.proofs.Between.{below}
 use Rattle.ox_query.specs.Listed.{inscription_ids_of}
 use Rattle.ox_query.specs.Written.{Adds, tokens_of, tokens_of_all}
 use Rattle.ox_query.specs.declared.bodies.Body.{Body}
@@ -70,25 +68,11 @@ id_is_text id again =
     let whole : IsAscii (encode_lower (reverse id.txid) ++ 105 ∷ decimal id.index) = IsAscii-append (encode_lower (reverse id.txid)) (105 ∷ decimal id.index) txid behind in
     subst IsUtf8 (sym (append_assoc (encode_lower (reverse id.txid)) (105 ∷ []) (decimal id.index))) (IsUtf8-from_ascii (encode_lower (reverse id.txid) ++ 105 ∷ decimal id.index) whole)
 
--- numbers that pass a test are those of rows
-below : (passes : InsRow → Bool) (from : ℕ) (rows : List InsRow) → All (λ n. n < from + length rows) (numbers_where passes from rows)
-unfolding numbers_where
-below passes from [] = All-nil (λ n. n < from + 0)
-below passes from (row ∷ rows) = by (passes row) (below passes (from + 1) rows)
-  where
-    by : (passed : Bool) → All (λ n. n < from + 1 + length rows) (numbers_where passes (from + 1) rows)
-        → All (λ n. n < from + suc (length rows)) (cond passed (from ∷ numbers_where passes (from + 1) rows) (numbers_where passes (from + 1) rows))
-    by true later =
-        All-cons (λ n. n < from + suc (length rows)) from (numbers_where passes (from + 1) rows) (omega arith)
-        (All-weaker (λ n. n < from + 1 + length rows) (λ n. n < from + suc (length rows)) (λ n less. omega (arith, less)) (numbers_where passes (from + 1) rows) later)
-    by false later =
-        All-weaker (λ n. n < from + 1 + length rows) (λ n. n < from + suc (length rows)) (λ n less. omega (arith, less)) (numbers_where passes (from + 1) rows) later
+-- what is written behind a bracket
+pub behind_bracket : {old begins all : Body} {tokens : List Token} → Adds old begins (begin_array ∷ []) → Adds begins all tokens → Adds old all (begin_array ∷ tokens)
+behind_bracket begins told = begins ▸ told
 
 module _ (rows : List InsRow) where
-  pub on_below : (sat : ℕ) → All (λ n. n < length rows) (on rows sat)
-  on_below sat =
-      All-weaker (λ n. n < 0 + length rows) (λ n. n < length rows) (λ n less. omega (arith, less)) (on rows sat) (below (is_on sat) 0 rows)
-
   children_below : (row : Option InsRow) → All (λ n. n < length rows) (option_map_or (children_of rows) row [])
   children_below None = All-nil (λ n. n < length rows)
   children_below (Some row) =
@@ -162,33 +146,6 @@ module _ (rows : List InsRow) where
 
   -- ---- a walk along a run
 
-  module _ (first end sat : ℕ) (numbers : List ℕ) (e : Some (sat, numbers) ≡ next_on rows first) where
-    is_first : IsFirstOn rows first (sat, numbers)
-    is_first = subst (IsNextOn rows first) (sym e) (next_shown rows first)
-
-    pub walk_from : first ≤ sat
-    walk_from = is_first.from
-
-    pub walk_below : All (λ n. n < length rows) numbers
-    walk_below = subst (All (λ n. n < length rows)) (sym is_first.numbers) (on_below sat)
-
-    pub walk_on : sat < end → on_between rows first end ≡ numbers ++ on_between rows (sat + 1) end
-    walk_on less =
-        all_walked rows first end ∙ ap (walk_of rows end) (sym e)
-        ∙ ap (λ (test : Bool). cond test (numbers ++ on_between rows (sat + 1) end) []) (lt-ltb sat end less)
-
-    pub walk_past : end ≤ sat → on_between rows first end ≡ []
-    walk_past past =
-        all_walked rows first end ∙ ap (walk_of rows end) (sym e)
-        ∙ ap (λ (test : Bool). cond test (numbers ++ on_between rows (sat + 1) end) []) (not_less (ltb sat end) refl)
-      where
-        not_less : (test : Bool) → ltb sat end ≡ test → ltb sat end ≡ false
-        not_less true is = let less : sat < end = ltb-true sat end is in absurd (omega (arith, less, past))
-        not_less false is = is
-
-  pub walk_none : (first end : ℕ) → None ≡ next_on rows first → on_between rows first end ≡ []
-  walk_none first end e = all_walked rows first end ∙ ap (walk_of rows end) (sym e)
-
   -- what is written of some satoshis, and of the others behind them
   pub walked_one : {old new last : Body} (numbers rest between : List ℕ) → between ≡ numbers ++ rest
       → Adds old new (told_of numbers) → Adds new last (told_of rest) → Adds old last (told_of between)
@@ -197,12 +154,6 @@ module _ (rows : List InsRow) where
 
   pub walked_all : (body : Body) (between : List ℕ) → between ≡ [] → Adds body body (told_of between)
   walked_all body between none = same told_of (sym none) (nothing body)
-
-  -- the ids of these, between brackets
-  pub told_on : {old begins all new : Body} (numbers these : List ℕ) → Adds old begins (begin_array ∷ []) → Adds begins all (told_of numbers) → numbers ≡ these
-      → Adds all new (end_array ∷ []) → Adds old new (tokens_of (array (items_of (inscription_ids_of rows these))))
-  told_on numbers these begins told are ends =
-      bracketed (inscription_ids_of rows these) (begins ▸ same told_of are told) ends
 
   -- ---- run by run
 

@@ -3,6 +3,7 @@ pub mod Filtered
 pub mod Contents
 pub mod Spelled
 pub mod Steps
+pub mod Addresses
 pub mod Arrays
 pub mod MarkTexts
 pub mod Bytes

@@ -1,5 +1,5 @@
 -- What is written of trees, token by token.
-use Rattle.std.specs.Prelude.{◌≡◌, Bool, false, List, [], ◌++◌, flat_map}
+use Rattle.std.specs.Prelude.{◌≡◌, false, List, [], ◌++◌, flat_map}
 use Rattle.json.specs.Token.{Token}
 use Rattle.json.specs.Tree.{json_tokens}
 use Rattle.serde_json.specs.Data.{Data}

@@ -1,14 +1,12 @@
-//! The runes of an output.
+//! The runes of outputs.
 
 ghost use Rattle.std.specs.Prelude.{◌≤◌, [], ◌∷◌};
 ghost use Rattle.std.specs.List.{filter_map};
 ghost use Rattle.ox_replies.specs.Runes.{balance_among, balance_tree, balances_tree};
-ghost use Rattle.ox_ledger.specs.Runes.{balances_at};
 ghost use Rattle.ox_query.specs.Written.{Adds, tokens_of, tokens_of_all};
 
 use crate::bodies::Body;
 use crate::rune_values::{write_amount, write_rune_id, write_rune_name, write_shown};
-use ox_block::OutPoint;
 use ox_model::{RuneId, RuneRow, View};
 
 /// Writes so much of a rune.
@@ -39,13 +37,13 @@ fn write_balance<V: View>(out: &mut Body, live: &V, balance: &(RuneId, u128))
     }
 }
 
-/// Writes the runes of an output, by their ids.
-pub(crate) fn write_balances<V: View>(out: &mut Body, live: &V, at: &OutPoint)
-    ensures { Adds out.old out.new (tokens_of (balances_tree (V.index live.now).runes
-        (balances_at (V.index live.now).bal at.now))) }
+/// Writes balances, in order.
+pub(crate) fn write_balances<V: View>(out: &mut Body, live: &V, balances: &[(RuneId, u128)])
+    ensures { Adds out.old out.new
+        (tokens_of (balances_tree (V.index live.now).runes balances.now)) }
 {
     out.begin_array();
-    for balance in live.balance(at) {
+    for balance in balances {
         write_balance(out, live, balance);
     }
     out.end_array();

@@ -10,6 +10,7 @@ ghost use Rattle.ox_range.specs.Runs.{AreMaximal, end_of, numbers_of};
 
 use crate::bodies::Body;
 use crate::values::text_of;
+use ox_held::next_between;
 use ox_model::{InsId, View};
 use ox_range::{Ranges, Run};
 
@@ -33,14 +34,23 @@ fn write_ids<V: View>(out: &mut Body, live: &V, numbers: &[u32])
     }
 }
 
+/// Writes the ids of the inscriptions with these sequences, as an array.
+pub(crate) fn write_id_array<V: View>(out: &mut Body, live: &V, numbers: &[u32])
+    requires { All (λ n. n < length (V.index live.now).inscriptions) numbers.now }
+    ensures { Adds out.old out.new
+        (tokens_of (ids_tree (V.index live.now).inscriptions numbers.now)) }
+{
+    out.begin_array();
+    write_ids(out, live, numbers);
+    out.end_array();
+}
+
 /// Writes the ids of the inscriptions on a satoshi, by sequence.
 pub(crate) fn write_ids_on<V: View>(out: &mut Body, live: &V, sat: u64)
     ensures { Adds out.old out.new (tokens_of
         (ids_tree (V.index live.now).inscriptions (on (V.index live.now).inscriptions sat))) }
 {
-    out.begin_array();
-    write_ids(out, live, live.on(sat));
-    out.end_array();
+    write_id_array(out, live, live.on(sat));
 }
 
 /// Writes the ids of the children of the inscription with a sequence, by sequence.
@@ -49,9 +59,7 @@ pub(crate) fn write_children<V: View>(out: &mut Body, live: &V, of: u32)
     ensures { Adds out.old out.new (tokens_of (ids_tree
         (V.index live.now).inscriptions (children (V.index live.now).inscriptions of))) }
 {
-    out.begin_array();
-    write_ids(out, live, live.children(of));
-    out.end_array();
+    write_id_array(out, live, live.children(of));
 }
 
 /// Writes the ids of the inscriptions on a run of satoshis, from one satoshi that bears some to the
@@ -64,10 +72,7 @@ fn write_ids_on_run<V: View>(out: &mut Body, live: &V, run: &Run)
 {
     let end = run.first + run.count;
     let mut from = run.first;
-    while let Some((sat, numbers)) = live.next_on(from) {
-        if sat >= end {
-            return;
-        }
+    while let Some((sat, numbers)) = next_between(live, from, end) {
         write_ids(out, live, numbers);
         from = sat + 1;
     }

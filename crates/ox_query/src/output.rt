@@ -54,7 +54,7 @@ fn write_output<V: View>(alloc: Global, out: &mut Body, live: &V, at: &OutPoint,
     out.key("ranges");
     write_runs(out, row.sats.runs());
     out.key("runes");
-    write_balances(out, live, at);
+    write_balances(out, live, live.balance(at));
     out.key("script");
     write_hex(alloc, out, row.script.as_slice());
     out.key("value");

@@ -1,6 +1,6 @@
 //! The reply to each request.
 
-ghost use Rattle.std.specs.Prelude.{◌≡◌, IfOk, option_map, unwrap_or};
+ghost use Rattle.std.specs.Prelude.{◌≡◌, IfOk, Option, option_map, unwrap_or};
 ghost use Rattle.serde_json.specs.Data.{Data};
 ghost use Rattle.serde_json.specs.Written.{compact_text};
 ghost use Rattle.ox_replies.specs.Ask.{error_reply, named_reply, reply_of, route_reply};
@@ -68,6 +68,23 @@ pub fn error_reply(alloc: Global, status: u16, close: bool) -> Result<Reply, Mem
     tree_reply(alloc, status, body, close)
 }
 
+/// The reply of 200 with a tree that is found, by its body, or 404 where none is.
+pub(crate) fn tree_or_missing(
+    alloc: Global,
+    body: Option<Bytes>,
+    close: bool,
+) -> Result<Reply, Memory>
+    ensures { (found : Option Data) → body ≡ option_map compact_text found
+        → IfOk result (λ reply. reply
+        ≡ unwrap_or (option_map (λ tree. tree_reply 200 tree close) found)
+        (error_reply 404 close)) }
+{
+    match body {
+        Some(body) => tree_reply(alloc, 200, body, close),
+        None => error_reply(alloc, 404, close),
+    }
+}
+
 /// The body of the tree that a route has for its part, if the part names something. A content and a
 /// command have none.
 fn body_at<V: View>(
@@ -116,10 +133,7 @@ fn found_tree<V: View>(
         (tree_at (asked_of (V.chain live.now) (V.index live.now) about.now)
         found.now.route found.now.part.now)) (error_reply 404 close)) }
 {
-    match body_at(alloc, live, about, found)? {
-        Some(body) => tree_reply(alloc, 200, body, close),
-        None => error_reply(alloc, 404, close),
-    }
+    tree_or_missing(alloc, body_at(alloc, live, about, found)?, close)
 }
 
 /// The reply of 200 with the content of the inscription that a part names, or 404 where there is
@@ -169,7 +183,7 @@ fn found_reply<V: View>(
 }
 
 /// Whether two methods are the same.
-fn same_method(a: Method, b: Method) -> bool
+pub(crate) fn same_method(a: Method, b: Method) -> bool
     ensures { result ≡ same_method a b }
 {
     a == b

@@ -7,4 +7,4 @@ use Rattle.ox_query.proofs.balances.write_balances.Given as goal
 
 abbrev pub invariant-loop-balance : goal.invariant-loop-balance
 invariant-loop-balance g l =
-    Adds l.fn.out l.out (begin_array ∷ told_of (balance_among (g.V.View.index l.live).runes) (take l.balance-index l.balance-items))
+    Adds l.fn.out l.out (begin_array ∷ told_of (balance_among (g.V.View.index l.live).runes) (take l.balance-index l.balances))
