@@ -10,14 +10,14 @@ use Rattle.ox_asof.specs.AskedKept.{AskedKept}
 use Rattle.ox_asof.specs.Paths.{path_and_hash}
 use Rattle.ox_asof.specs.Reply.{asked_as_of, get_of, is_query, reply_at, reply_by_cut, reply_from}
 
-error_told : (status : ℕ) (close : Bool) → IsTold close (error_reply status close)
+pub error_told : (status : ℕ) (close : Bool) → IsTold close (error_reply status close)
 error_told status close = (refl, record { kind = refl; encoding = tt })
 
 from_told : (asked : Option Asked) (path : List ℕ) (close : Bool) → IsTold close (reply_from asked path close)
 from_told None path close = error_told 404 close
 from_told (Some asked) path close = reply_told asked (get_of path close)
 
-either : (b : Bool) (close : Bool) (one other : Reply) → IsTold close one → IsTold close other → IsTold close (cond b one other)
+pub either : (b : Bool) (close : Bool) (one other : Reply) → IsTold close one → IsTold close other → IsTold close (cond b one other)
 either true close one other first second = first
 either false close one other first second = second
 

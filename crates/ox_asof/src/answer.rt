@@ -19,8 +19,8 @@ use ox_query::{answer_by, error_reply};
 use ox_routes::Routes;
 use std::alloc::Global;
 
-/// A GET of a path.
-fn get_of(alloc: Global, path: &[u8], close: bool) -> Result<Request, Memory>
+/// A GET of a path, behind which its link closes or doesn't. `Memory` where there is none for it.
+pub fn get_of(alloc: Global, path: &[u8], close: bool) -> Result<Request, Memory>
     ensures { IfOk result (λ request. request ≡ get_of path.now close) }
 {
     Ok(Request {

@@ -15,7 +15,7 @@ mod recounted;
 mod said;
 mod undone;
 
-pub use answer::answer_at;
+pub use answer::{answer_at, get_of};
 pub use back::back_to;
 pub use laws::{
     commands_name_no_block, hashes_are_read, older_indexes_are_undone, paths_are_cut,
