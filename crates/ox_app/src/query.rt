@@ -1,11 +1,10 @@
 //! A query of a store.
 
-ghost use Rattle.std.specs.Prelude.{◌≡◌, ◌≢◌, Ok, Err, IsTrue, IfOk, false};
+ghost use Rattle.std.specs.Prelude.{◌≡◌, ◌≢◌, Ok, Err, IsTrue, IfOk};
 ghost use Rattle.ox_model.specs.Stack.{Stack};
 ghost use Rattle.ox_files.specs.Stands.{Misfit, stands};
 ghost use Rattle.ox_app.specs.Headline.{AddsNoImage};
 ghost use Rattle.ox_outside.specs.Runs.{Calls};
-ghost use Rattle.ox_asof.specs.Reply.{get_of};
 ghost use Rattle.ox_app.specs.Query.{query_body};
 ghost use Rattle.ox_app.specs.Show.{DiskFails, EndsAtFault, ShowFails, ShowsText};
 ghost use Rattle.ox_app.specs.Status.{IsQueryStatus, IsUnopened};
@@ -15,34 +14,23 @@ ghost use Rattle.ox_app.specs.declared.status.Status.TheVariants as ends;
 use crate::show::show_all;
 use crate::status::Status;
 use crate::unopened::explain;
+use ox_asof::get_of;
 use ox_bytes::{Bytes, Memory};
-use ox_desk::reply_to;
-use ox_http::{Method, Request};
+use ox_desk::{HeldStore, reply_to};
 use ox_outside::{Failed, Site};
 use ox_routes::Routes;
 use ox_store::Store;
 use std::alloc::Global;
 
-/// A GET of a path.
-fn get_of(alloc: Global, path: &[u8]) -> Result<Request, Memory>
-    ensures { IfOk result (λ request. request ≡ get_of path.now false) }
-{
-    Ok(Request {
-        method: Method::Get,
-        path: Bytes::copy(alloc, path)?,
-        body: Bytes::empty(alloc),
-        close: false,
-    })
-}
-
-/// The body of the reply to a query of a path.
+/// The body of the reply of a store to a query of a path.
 #[tactic(auto, unfolding(crate::specs::Query::query_body))]
-fn body_of(alloc: Global, path: &[u8], store: &Store) -> Result<Bytes, Memory>
-    ensures { IfOk result (λ body. body ≡ query_body path.now store.now.stack) }
+fn body_of(alloc: Global, path: &[u8], store: Store) -> Result<Bytes, Memory>
+    ensures { IfOk result (λ body. body ≡ query_body path.now store.stack) }
 {
-    let request = get_of(alloc, path)?;
+    let request = get_of(alloc, path, false)?;
     let routes = Routes::new(alloc)?;
-    Ok(reply_to(alloc, &routes, store, &request)?.body)
+    let store = HeldStore::new(store);
+    Ok(reply_to(alloc, &routes, &store, &request)?.body)
 }
 
 /// Opens the store and shows the body of the reply to a query of this path.
@@ -68,7 +56,7 @@ pub fn query<S: Site>(alloc: Global, site: &mut S, path: &[u8]) -> Status
     ensures calls { Calls S.Site site.old site.new }
 {
     match Store::open(alloc, site) {
-        Ok(store) => match body_of(alloc, path, &store) {
+        Ok(store) => match body_of(alloc, path, store) {
             Ok(body) => match show_all(site, body.as_slice()) {
                 Ok(()) => Status::Done,
                 Err(Failed) => Status::ShowFault,

@@ -14,15 +14,15 @@ use Rattle.ox_turns.specs.Desk.{state_behind}
 use Rattle.ox_turns.specs.declared.handler.Made.{Made}
 use Rattle.ox_rules.specs.declared.refusal.Refusal.{Refusal}
 use Rattle.ox_model.specs.Stack.{Stack, stack_after}
-use Rattle.ox_asof.specs.Reply.{reply_at}
 use Rattle.ox_cache.specs.Kept.{Answers, Entry, Kept, body_kept, closing, entry_of}
 use Rattle.ox_desk.specs.Asked.{asked_on}
 use Rattle.ox_desk.specs.Commands.{command_by, command_of}
 use Rattle.ox_desk.specs.Desk.{CarriesOut, DeskContents, IsTrueOf, KeepsTrue, LooksUp, Moved, Tells, accepted_one, stack_behind, tally_by, tally_of}
+use Rattle.ox_desk.specs.Queries.{query_reply}
 use Rattle.ox_desk.specs.Replies.{command_reply, reply_or}
 use Rattle.ox_desk.specs.Servers.{reply_to, server_on}
 use Rattle.ox_desk.proofs.Cached.{found, keeps_hit, keeps_miss, keeps_past, tally_hit, tally_miss}
-use Rattle.ox_desk.proofs.Closing.{closes_at, closes_own_at}
+use Rattle.ox_desk.proofs.Closing.{query_closes, query_closes_own}
 
 -- ---- a GET, from a cache
 
@@ -31,18 +31,18 @@ same_hits entries cache true = omega arith
 same_hits entries cache false = omega arith
 
 module _ (MadeBy : Reply → Type 0) (stack : Stack) (commands : ℕ) (request : Request) (old new : Kept) (bytes : List ℕ) (get : request.method ≡ Get)
-    (makes : (reply : Reply) → MadeBy reply → reply ≡ reply_at (asked_on stack) request) (keeps : KeepsTrue stack commands old) (few : old.hits < 2 ^ 64 - 1) where
+    (makes : (reply : Reply) → MadeBy reply → reply ≡ query_reply (asked_on stack) request) (keeps : KeepsTrue stack commands old) (few : old.hits < 2 ^ 64 - 1) where
   looked : (o : Option Entry) → entry_of commands request.path old.entries ≡ o → Answers MadeBy commands request.path request.close old bytes new o → LooksUp stack commands request old bytes new
   looked (Some entry) is answers =
       let its = found commands request.path (IsTrueOf stack commands) old.entries entry keeps.entries is in
-      let true_now : closing request.close entry.reply ≡ reply_at (asked_on stack) request =
+      let true_now : closing request.close entry.reply ≡ query_reply (asked_on stack) request =
       its.1.present (sym its.0.0) request.close
-      ∙ ap (λ (p : List ℕ). reply_at (asked_on stack) (record { method = Get; path = p; body = []; close = request.close })) (sym its.0.1)
-      ∙ closes_own_at (asked_on stack) request get in
+      ∙ ap (λ (p : List ℕ). query_reply (asked_on stack) (record { method = Get; path = p; body = []; close = request.close })) (sym its.0.1)
+      ∙ query_closes_own (asked_on stack) request get in
       record {
         reply = answers.0 ∙ ap written true_now;
         keeps = subst (KeepsTrue stack commands) (sym answers.1) (keeps_hit stack commands commands request.path entry old keeps is);
-        tally = ap tally_of answers.1 ∙ tally_hit commands request.path entry old (length (reply_at (asked_on stack) request).body) keeps.apart is few;
+        tally = ap tally_of answers.1 ∙ tally_hit commands request.path entry old (length (query_reply (asked_on stack) request).body) keeps.apart is few;
         hits = let e : new.hits ≡ old.hits + 1 = ap (λ (k : Kept). k.hits) answers.1 ∙ omega (arith, few) in omega (arith, e);
       }
   looked None is answers =
@@ -51,10 +51,10 @@ module _ (MadeBy : Reply → Type 0) (stack : Stack) (commands : ℕ) (request :
       let entry : Entry = record { commands = commands; path = request.path; reply = reply } in
       record {
         reply = answers.2 ∙ ap (λ (r : Reply). written (closing request.close r)) made
-            ∙ ap written (closes_at (asked_on stack) request request.close get ∙ closes_own_at (asked_on stack) request get);
+            ∙ ap written (query_closes (asked_on stack) request request.close get ∙ query_closes_own (asked_on stack) request get);
         keeps = subst (KeepsTrue stack commands) (sym answers.3) (keeps_miss stack commands entry old keeps is (record {
           none_above = omega arith;
-          present = λ now close. ap (closing close) made ∙ closes_at (asked_on stack) request close get;
+          present = λ now close. ap (closing close) made ∙ query_closes (asked_on stack) request close get;
         }));
         tally = ap tally_of answers.3 ∙ tally_miss entry old keeps.room is
             ∙ ap (λ (r : Reply). with_get (record { accepted = commands; path = request.path }) (length r.body) (tally_of old)) made;
@@ -68,7 +68,7 @@ module _ (MadeBy : Reply → Type 0) (stack : Stack) (commands : ℕ) (request :
       (subst (λ (m : ℕ). Answers MadeBy m path request.close old bytes new (entry_of m path old.entries)) many answers))
 
 pub looked_up : {E : Type 0} (MadeBy : Reply → Type 0) (stack : Stack) (commands : ℕ) (request : Request) (old new : Kept) (result : Result (List ℕ) E) → request.method ≡ Get
-    → ((reply : Reply) → MadeBy reply → reply ≡ reply_at (asked_on stack) request) → KeepsTrue stack commands old → old.hits < 2 ^ 64 - 1
+    → ((reply : Reply) → MadeBy reply → reply ≡ query_reply (asked_on stack) request) → KeepsTrue stack commands old → old.hits < 2 ^ 64 - 1
     → (n : ℕ) (path : List ℕ) → n ≡ commands → path ≡ request.path → IfOk result (λ bytes. Answers MadeBy n path request.close old bytes new (entry_of n path old.entries))
     → IfOk result (λ bytes. LooksUp stack commands request old bytes new)
 looked_up MadeBy stack commands request old new (Ok bytes) get makes keeps few n path many is answers =
@@ -89,7 +89,7 @@ tally_of_get method key size tally get = ap (λ (m : Method). tally_by m key siz
 -- ---- the server's replies and states
 
 module _ (stack : Stack) (operator : Bool) (request : Request) where
-  pub told_reply : command_of operator request ≡ None → reply_at (asked_on stack) request ≡ reply_to stack operator request
+  pub told_reply : command_of operator request ≡ None → query_reply (asked_on stack) request ≡ reply_to stack operator request
   told_reply none = ap (λ (o : Option Command). reply_or stack_after asked_on stack request o) (sym none)
 
   pub carried_reply : (command : Command) → command_of operator request ≡ Some command → command_reply asked_on (stack_after stack command) request.close ≡ reply_to stack operator request

@@ -16,6 +16,8 @@ use Rattle.ox_cache.specs.Kept.{closing}
 use Rattle.ox_asof.specs.AskedKept.{AskedKept}
 use Rattle.ox_asof.specs.Paths.{path_and_hash}
 use Rattle.ox_asof.specs.Reply.{asked_as_of, get_of, is_query, reply_at, reply_by_cut, reply_from}
+use Rattle.ox_held.specs.Replies.{tree_named}
+use Rattle.ox_desk.specs.Queries.{part_named, query_reply, reply_by_part}
 
 -- ---- what is replied, with another `close`
 
@@ -86,7 +88,7 @@ cut_closes kept path body a b None = get_closes kept.first path body a b
 cut_closes kept path body a b (Some cut) =
     either (not (is_query cut.0)) b _ _ _ _ refl (or_none (asked_as_of kept cut.1) cut.0 a b)
 
-pub closes_at : (kept : AskedKept) (request : Request) (close : Bool) → request.method ≡ Get → closing close (reply_at kept request) ≡ reply_at kept (get_of request.path close)
+closes_at : (kept : AskedKept) (request : Request) (close : Bool) → request.method ≡ Get → closing close (reply_at kept request) ≡ reply_at kept (get_of request.path close)
 unfolding reply_at
 closes_at kept request close get =
     ap (λ (m : Method). closing close (reply_by_cut kept (record { method = m; path = request.path; body = request.body; close = request.close }) (path_and_hash request.path))) get
@@ -97,8 +99,32 @@ own_cut : (kept : AskedKept) (path body : List ℕ) (close : Bool) (cut : Option
 own_cut kept path body close None = own_get kept.first path body close
 own_cut kept path body close (Some cut) = refl
 
-pub closes_own_at : (kept : AskedKept) (request : Request) → request.method ≡ Get → reply_at kept (get_of request.path request.close) ≡ reply_at kept request
+closes_own_at : (kept : AskedKept) (request : Request) → request.method ≡ Get → reply_at kept (get_of request.path request.close) ≡ reply_at kept request
 unfolding reply_at
 closes_own_at kept request get =
     own_cut kept request.path request.body request.close (path_and_hash request.path)
     ∙ ap (λ (m : Method). reply_by_cut kept (record { method = m; path = request.path; body = request.body; close = request.close }) (path_and_hash request.path)) (sym get)
+
+-- ---- where it may name an address
+
+part_closes : (kept : AskedKept) (path body : List ℕ) (a b : Bool) (part : Option (List ℕ))
+    → closing b (reply_by_part kept (record { method = Get; path = path; body = body; close = a }) part) ≡ reply_by_part kept (get_of path b) part
+part_closes kept path body a b None = closes_at kept (record { method = Get; path = path; body = body; close = a }) b refl
+part_closes kept path body a b (Some part) = or_error _ _ a b (trees a b (tree_named kept.first.profile kept.first.index part))
+
+pub query_closes : (kept : AskedKept) (request : Request) (close : Bool) → request.method ≡ Get → closing close (query_reply kept request) ≡ query_reply kept (get_of request.path close)
+unfolding query_reply
+query_closes kept request close get =
+    ap (λ (m : Method). closing close (reply_by_part kept (record { method = m; path = request.path; body = request.body; close = request.close }) (part_named request.path))) get
+    ∙ part_closes kept request.path request.body request.close close (part_named request.path)
+
+own_part : (kept : AskedKept) (path body : List ℕ) (close : Bool) (part : Option (List ℕ))
+    → reply_by_part kept (get_of path close) part ≡ reply_by_part kept (record { method = Get; path = path; body = body; close = close }) part
+own_part kept path body close None = closes_own_at kept (record { method = Get; path = path; body = body; close = close }) refl
+own_part kept path body close (Some part) = refl
+
+pub query_closes_own : (kept : AskedKept) (request : Request) → request.method ≡ Get → query_reply kept (get_of request.path request.close) ≡ query_reply kept request
+unfolding query_reply
+query_closes_own kept request get =
+    own_part kept request.path request.body request.close (part_named request.path)
+    ∙ ap (λ (m : Method). reply_by_part kept (record { method = m; path = request.path; body = request.body; close = request.close }) (part_named request.path)) (sym get)

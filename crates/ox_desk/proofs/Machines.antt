@@ -10,9 +10,9 @@ use Rattle.ox_model.specs.Machine.{Machine, older_of, stack_of, turn_by_command}
 use Rattle.ox_model.specs.Stack.{Stack, stack_after}
 use Rattle.ox_model.proofs.AnswersOfStacks.{length-older_of, obeys_alike, on_stack}
 use Rattle.ox_asof.specs.AskedKept.{AskedKept}
-use Rattle.ox_asof.specs.Reply.{reply_at}
 use Rattle.ox_desk.specs.Asked.{asked_in, asked_on, now_in}
 use Rattle.ox_desk.specs.Commands.{command_of}
+use Rattle.ox_desk.specs.Queries.{query_reply}
 use Rattle.ox_desk.specs.Replies.{command_reply, reply_or}
 use Rattle.ox_desk.specs.Servers.{HasStack, server_of, server_on, shown_as}
 
@@ -37,7 +37,7 @@ reply_same machine stack has request (Some command) =
     ap (λ (r : Result Stack Refusal). command_reply asked_on r request.close) (sym (turns_same machine stack has command))
     ∙ came_same request.close (turn_by_command machine command)
 reply_same machine stack has request None =
-    ap (λ (asked : AskedKept). reply_at asked request) (ap asked_on (sym has) ∙ asked_same machine)
+    ap (λ (asked : AskedKept). query_reply asked request) (ap asked_on (sym has) ∙ asked_same machine)
 
 turned : (result : Result Machine Refusal) → SameTurn HasStack (result_ok result) (result_ok (on_stack result))
 turned (Ok machine) = refl

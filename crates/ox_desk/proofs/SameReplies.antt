@@ -15,13 +15,14 @@ use Rattle.ox_links.specs.Link.{Answer}
 use Rattle.ox_links.specs.Serving.{Server, accepted_command, accepted_in, commands_in, message_reply, next_state, served_by, state_after}
 use Rattle.ox_links.proofs.Answered.{all_answer}
 use Rattle.ox_model.specs.Stack.{Stack, stack_after}
-use Rattle.ox_asof.specs.Reply.{get_of, reply_at}
+use Rattle.ox_asof.specs.Reply.{get_of}
 use Rattle.ox_desk.specs.Asked.{asked_on}
 use Rattle.ox_desk.specs.Commands.{command_by, command_of}
 use Rattle.ox_desk.specs.Hits.{IsToGetOf}
+use Rattle.ox_desk.specs.Queries.{query_reply}
 use Rattle.ox_desk.specs.Replies.{reply_or}
 use Rattle.ox_desk.specs.Servers.{server_on, shown_as}
-use Rattle.ox_desk.proofs.Closing.{closes_own_at}
+use Rattle.ox_desk.proofs.Closing.{query_closes_own}
 
 -- ---- lists with one whole
 
@@ -112,11 +113,11 @@ no_command operator request get = ap (λ (m : Method). command_by operator m req
     by false = refl
 
 get_reply : (stack : Stack) (operator : Bool) (request : Request) (message : Option Message) → message ≡ Some (asks request) → request.method ≡ Get
-    → message_reply server_on stack operator message ≡ shown_as (reply_at (asked_on stack) (get_of request.path request.close))
+    → message_reply server_on stack operator message ≡ shown_as (query_reply (asked_on stack) (get_of request.path request.close))
 get_reply stack operator request message is get =
     ap (λ (m : Option Message). message_reply server_on stack operator m) is
     ∙ ap (λ (o : Option Command). shown_as (reply_or stack_after asked_on stack request o)) (no_command operator request get)
-    ∙ ap shown_as (sym (closes_own_at (asked_on stack) request get))
+    ∙ ap shown_as (sym (query_closes_own (asked_on stack) request get))
 
 pub same_reply : (first : Stack) (log : List Event) (path : List ℕ) (accepted : ℕ) (close : Bool) (one two : Answer Command)
     → Contains (served_by server_on first log).answers one → Contains (served_by server_on first log).answers two
@@ -132,7 +133,7 @@ same_reply first log path accepted close one two has has_too get get_too =
     = sym turn.accepted ∙ get.0.same_accepted ∙ sym get_too.0.same_accepted ∙ turn_two.accepted in
     let state = same_state server_on first log answers each at.0 at_two.0 (one ∷ at.1) (two ∷ at_two.1) at.2 at_two.2 many in
     turn.reply ∙ get_reply _ _ get.0.request one.message get.0.message get.0.get
-    ∙ ap (λ (s : Stack). shown_as (reply_at (asked_on s) (get_of get.0.request.path get.0.request.close))) state
-    ∙ ap (λ (p : List ℕ). shown_as (reply_at (asked_on (state_after server_on first (commands_in at_two.0))) (get_of p get.0.request.close))) (get.0.same_path ∙ sym get_too.0.same_path)
-    ∙ ap (λ (b : Bool). shown_as (reply_at (asked_on (state_after server_on first (commands_in at_two.0))) (get_of get_too.0.request.path b))) (get.1 ∙ sym get_too.1)
+    ∙ ap (λ (s : Stack). shown_as (query_reply (asked_on s) (get_of get.0.request.path get.0.request.close))) state
+    ∙ ap (λ (p : List ℕ). shown_as (query_reply (asked_on (state_after server_on first (commands_in at_two.0))) (get_of p get.0.request.close))) (get.0.same_path ∙ sym get_too.0.same_path)
+    ∙ ap (λ (b : Bool). shown_as (query_reply (asked_on (state_after server_on first (commands_in at_two.0))) (get_of get_too.0.request.path b))) (get.1 ∙ sym get_too.1)
     ∙ sym (turn_two.reply ∙ get_reply _ _ get_too.0.request two.message get_too.0.message get_too.0.get)

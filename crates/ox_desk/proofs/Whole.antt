@@ -13,11 +13,11 @@ use Rattle.ox_links.specs.Answered.{TalkGoesOn}
 use Rattle.ox_links.specs.Quiet.{Speaks}
 use Rattle.ox_rules.specs.declared.refusal.Refusal.{Refusal}
 use Rattle.ox_asof.specs.AskedKept.{AskedKept}
-use Rattle.ox_asof.specs.Reply.{reply_at}
-use Rattle.ox_asof.proofs.Telling.{told_at}
 use Rattle.ox_desk.specs.Commands.{command_of}
+use Rattle.ox_desk.specs.Queries.{query_reply}
 use Rattle.ox_desk.specs.Replies.{command_reply, reply_by, reply_or}
 use Rattle.ox_desk.specs.Servers.{server_by, shown_as}
+use Rattle.ox_desk.specs.Telling.{query_told}
 use Rattle.ox_desk.specs.Whole.{IsOneReply}
 
 pub written_some : (reply : Reply) → 1 ≤ length (written reply)
@@ -43,8 +43,8 @@ module _ {X : Type 0} (turn : X → Command → Result X Refusal) (asked : X →
   reply_whole : (state : X) (request : Request) (o : Option Command) → IsOneReply request.close (shown_as (reply_or turn asked state request o))
   reply_whole state request (Some command) = came_whole request.close (turn state command)
   reply_whole state request None =
-      let told = told_at (asked state) request in
-      record { said = reply_at (asked state) request; bytes = refl; size = refl; fits = told.1; closes = (told.0, told.0) }
+      let told = query_told (asked state) request in
+      record { said = query_reply (asked state) request; bytes = refl; size = refl; fits = told.1; closes = (told.0, told.0) }
 
   pub one_reply : (state : X) (operator : Bool) (request : Request) → IsOneReply request.close (shown_as (reply_by turn asked state operator request))
   one_reply state operator request = reply_whole state request (command_of operator request)

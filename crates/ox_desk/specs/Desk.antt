@@ -20,10 +20,10 @@ use Rattle.ox_files.specs.Stands.{stands}
 use Rattle.ox_store.specs.Make.{first_head, made_stack}
 use Rattle.ox_store.specs.Store.{StoreContents}
 pub use Rattle.ox_asof.specs.Reply.{get_of}
-use Rattle.ox_asof.specs.Reply.{reply_at}
 use Rattle.ox_cache.specs.Kept.{Entry, Kept, closing, entry_of}
 use Rattle.ox_desk.specs.Asked.{asked_on}
 use Rattle.ox_desk.specs.Commands.{command_of}
+use Rattle.ox_desk.specs.Queries.{query_reply}
 use Rattle.ox_desk.specs.Replies.{command_reply}
 use Rattle.ox_desk.specs.Servers.{reply_to, server_on}
 use Rattle.ox_desk.specs.declared.told.Step.{Step}
@@ -71,7 +71,7 @@ contents_in store requests cache = let s = unwrap_or store no_store in record {
 pub record IsTrueOf (stack : Stack) (commands : ℕ) (entry : Entry) : Type 0 where
   pub none_above : entry.commands ≤ commands
   pub present : entry.commands ≡ commands → (close : Bool)
-      → closing close entry.reply ≡ reply_at (asked_on stack) (get_of entry.path close)
+      → closing close entry.reply ≡ query_reply (asked_on stack) (get_of entry.path close)
 
 -- no two entries are of one number and one path
 abbrev pub AreApart : List Entry → Type 0
@@ -132,17 +132,17 @@ pub record Rests {S : Type 0} (means : Meanings S) (desk : DeskContents) (site :
 -- A GET was answered from a cache, with the stack's reply, and is counted.
 pub record LooksUp (stack : Stack) (commands : ℕ) (request : Request) (old : Kept)
     (bytes : List ℕ) (new : Kept) : Type 0 where
-  pub reply : bytes ≡ written (reply_at (asked_on stack) request)
+  pub reply : bytes ≡ written (query_reply (asked_on stack) request)
   pub keeps : KeepsTrue stack commands new
   pub tally : tally_of new
       ≡ with_get (record { accepted = commands; path = request.path })
-      (length (reply_at (asked_on stack) request).body) (tally_of old)
+      (length (query_reply (asked_on stack) request).body) (tally_of old)
   pub hits : new.hits ≤ old.hits + 1
 
 -- A request was answered with the stack's reply. It is counted, and the store is as it was.
 pub record Tells (old : DeskContents) (request : Request) (bytes : List ℕ) (new : DeskContents)
     : Type 0 where
-  pub reply : bytes ≡ written (reply_at (asked_on old.stack) request)
+  pub reply : bytes ≡ written (query_reply (asked_on old.stack) request)
   pub is_open : new.is_open ≡ old.is_open
   pub stack : new.stack ≡ old.stack
   pub tail : new.tail ≡ old.tail
@@ -150,7 +150,7 @@ pub record Tells (old : DeskContents) (request : Request) (bytes : List ℕ) (ne
   pub requests : new.requests ≡ old.requests + 1
   pub tally : tally_of new.cache
       ≡ tally_by request.method (record { accepted = old.commands; path = request.path })
-      (length (reply_at (asked_on old.stack) request).body) (tally_of old.cache)
+      (length (query_reply (asked_on old.stack) request).body) (tally_of old.cache)
 
 -- A request carries out nothing and was answered; or this is its command, and nothing has changed
 -- yet.

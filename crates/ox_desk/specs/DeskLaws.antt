@@ -17,12 +17,12 @@ use Rattle.ox_turns.specs.Desk.{IsHttp}
 use Rattle.ox_rules.specs.declared.refusal.Refusal.{Refusal}
 use Rattle.ox_model.specs.Stack.{Stack, stack_after}
 use Rattle.ox_files.specs.Stands.{stands}
-use Rattle.ox_asof.proofs.Telling.{told_at}
 use Rattle.ox_desk.specs.Asked.{asked_on}
 use Rattle.ox_desk.specs.Commands.{command_of}
 use Rattle.ox_desk.specs.Desk.{DeskContents, Rests}
 use Rattle.ox_desk.specs.Replies.{command_reply, reply_or}
 use Rattle.ox_desk.specs.Servers.{server_on}
+use Rattle.ox_desk.specs.Telling.{query_told}
 
 -- a command's reply closes as it was asked to, and so does each other
 command_closes : (close : Bool) (turned : Result Stack Refusal)
@@ -34,7 +34,7 @@ reply_closes : (stack : Stack) (request : Request) (command : Option Command)
     → (reply_or stack_after asked_on stack request command).close ≡ request.close
 reply_closes stack request (Some command) =
     command_closes request.close (stack_after stack command)
-reply_closes stack request None = (told_at (asked_on stack) request).0
+reply_closes stack request None = (query_told (asked_on stack) request).0
 
 -- no reply is empty
 written_some : (reply : Reply) → 1 ≤ length (written reply)

@@ -2,9 +2,12 @@ pub mod Asked
 pub mod Commands
 pub mod Desk
 pub mod DeskLaws
+pub mod Held
 pub mod Hits
 pub mod Plain
 pub mod PutBack
+pub mod Queries
 pub mod Replies
 pub mod Servers
+pub mod Telling
 pub mod Whole

@@ -14,10 +14,10 @@ use Rattle.ox_rules.specs.declared.refusal.Refusal.TheVariants.{Coinbase, BadWit
 use Rattle.ox_rules.specs.declared.refusal.Refusal.TheVariants.{Overspend, Overclaim, Depth}
 use Rattle.ox_index.specs.Tip.{tip_of}
 use Rattle.ox_asof.specs.AskedKept.{AskedKept}
-use Rattle.ox_asof.specs.Reply.{reply_at}
 use Rattle.ox_replies.specs.Ask.{tree_reply}
 use Rattle.ox_replies.specs.Values.{count, or_null}
 use Rattle.ox_desk.specs.Commands.{command_of}
+use Rattle.ox_desk.specs.Queries.{query_reply}
 
 -- ---- what is said of a command
 
@@ -68,7 +68,7 @@ abbrev pub reply_or : {X : Type 0} → (X → Command → Result X Refusal) → 
     → Request → Option Command → Reply
 reply_or turn asked state request (Some command) =
     command_reply asked (turn state command) request.close
-reply_or turn asked state request None = reply_at (asked state) request
+reply_or turn asked state request None = query_reply (asked state) request
 
 -- the reply to a request, by the state before it; whether its link is the operator's
 abbrev pub reply_by : {X : Type 0} → (X → Command → Result X Refusal) → (X → AskedKept) → X

@@ -13,31 +13,31 @@ ghost use Rattle.ox_store.specs.Ready.{StandsForEither};
 ghost use Rattle.ox_desk.specs.Desk.{ComesOf, stack_behind};
 ghost use Rattle.ox_desk.specs.Replies.{refused_reply};
 
+use crate::held::{HeldStore, holders_behind};
 use crate::newest::{Rooms, accepted_reply};
 use crate::refused::refused_reply;
 use ox_bytes::Bytes;
 use ox_feed::Command;
 use ox_gated::DiskFault;
 use ox_outside::Site;
-use ox_store::{Kept, Store, Why};
+use ox_store::{Kept, Why};
 use std::alloc::Global;
 
 /// The store behind a command, and the bytes of the reply; `None` where there was no memory for the
 /// command or for the reply: nothing has changed then.
 #[derive(Drop)]
 pub(crate) struct Carried {
-    pub(crate) store: Store,
+    pub(crate) store: HeldStore,
     pub(crate) told: Option<Bytes>,
 }
 
 /// The store as it is, and what is told of a command that isn't carried out. The memory for a 409
 /// is taken once the store is as before.
-fn refuse(alloc: Global, kept: Kept, close: bool) -> Carried
-    ensures store { result.store ≡ kept.store }
+fn refuse(alloc: Global, store: HeldStore, why: Why, close: bool) -> Carried
+    ensures store { result.store ≡ store }
     ensures told { IfSome result.told (λ bytes. (cause : Cause)
-        × (kept.why ≡ whys.Refused cause) × (bytes ≡ written (refused_reply cause close))) }
+        × (why ≡ whys.Refused cause) × (bytes ≡ written (refused_reply cause close))) }
 {
-    let Kept { store, why } = kept;
     match why {
         Why::Refused(refusal) => Carried {
             store,
@@ -48,12 +48,13 @@ fn refuse(alloc: Global, kept: Kept, close: bool) -> Carried
 }
 
 /// Carries out a command, and makes the reply. All memory of an accepted command and of its reply
-/// is taken before its record is written. At any moment of the call a crash leaves files that stand
+/// is taken before its record is written; where there is none for the step of the holders, they are
+/// let go. At any moment of the call a crash leaves files that stand
 /// for the stack before the command or for the one after it. `DiskFault` only where a call on a
 /// file failed; the store is gone then.
 pub(crate) fn carry_command<S: Site>(
     alloc: Global,
-    store: Store,
+    store: HeldStore,
     command: &Command,
     close: bool,
     site: &mut S,
@@ -76,17 +77,21 @@ pub(crate) fn carry_command<S: Site>(
     let Ok(rooms) = Rooms::new(alloc) else {
         return Ok(Carried { store, told: None });
     };
+    let (store, holders) = store.into_parts();
     match store.prepare(command) {
         Ok(ready) => {
             let bytes = accepted_reply(rooms, ready.tip(), close);
+            let holders = holders_behind(holders, ready.moving());
             let Ok(store) = ready.commit(site) else {
                 return Err(DiskFault);
             };
             Ok(Carried {
-                store,
+                store: HeldStore::of(store, holders),
                 told: Some(bytes),
             })
         }
-        Err(kept) => Ok(refuse(alloc, kept, close)),
+        Err(Kept { store, why }) => {
+            Ok(refuse(alloc, HeldStore::of(store, holders), why, close))
+        }
     }
 }

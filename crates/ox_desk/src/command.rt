@@ -25,7 +25,16 @@ fn command_at(
     match found.route {
         Route::Connect => Ok(Some(Command::Connect(Bytes::copy(alloc, body.as_slice())?))),
         Route::Disconnect => Ok(Some(Command::Disconnect)),
-        _ => Ok(None),
+        Route::Audit
+        | Route::BlockHash
+        | Route::Content
+        | Route::Inscription
+        | Route::Inscriptions
+        | Route::Output
+        | Route::Rune
+        | Route::Runes
+        | Route::Sat
+        | Route::Status => Ok(None),
     }
 }
 

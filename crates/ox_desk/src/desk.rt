@@ -12,6 +12,7 @@ ghost use Rattle.ox_desk.specs.Desk.{tally_of};
 
 use crate::carry::{Carried, carry_command};
 use crate::command::command_of;
+use crate::held::HeldStore;
 use crate::told::{Step, look_up, tell};
 use ox_bytes::{Bytes, Memory};
 use ox_cache::Cache;
@@ -35,7 +36,7 @@ const REPLIES_KEPT: usize = 64;
 pub struct StoreDesk {
     alloc: Global,
     /// A fault of the disk takes it.
-    store: Option<Store>,
+    store: Option<HeldStore>,
     routes: Routes,
     cache: Cache,
     requests: u64,
@@ -90,7 +91,7 @@ impl StoreDesk {
         let routes = Routes::new(alloc)?;
         Ok(StoreDesk {
             alloc,
-            store: Some(store),
+            store: Some(HeldStore::new(store)),
             routes,
             cache,
             requests: 0,
@@ -105,9 +106,10 @@ impl StoreDesk {
         ensures ok { IfOk result (λ bytes. Tells self.old request.now bytes self.new) }
         ensures err { OnErr result (self.new ≡ self.old) }
     {
-        let Some(store) = &self.store else {
+        let Some(store) = &mut self.store else {
             unreachable!();
         };
+        store.hold(self.alloc, request)?;
         let bytes = look_up(self.alloc, &self.routes, store, &mut self.cache, request)?;
         self.requests += 1;
         Ok(bytes)

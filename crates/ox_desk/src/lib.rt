@@ -2,9 +2,11 @@
 //! of it.
 #![tactic(auto)]
 
+mod addresses;
 mod carry;
 mod command;
 mod desk;
+mod held;
 mod hits;
 mod laws;
 mod newest;
@@ -14,6 +16,7 @@ mod told;
 
 pub use command::command_of;
 pub use desk::StoreDesk;
+pub use held::HeldStore;
 pub use hits::hits_are_the_same_reply;
 pub use laws::{
     doors_answer_alike, kept_blocks_are_asked_of, machines_serve_as_their_stacks,

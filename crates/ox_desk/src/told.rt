@@ -6,12 +6,16 @@ ghost use Rattle.ox_http.specs.declared.Method.TheVariants as methods;
 ghost use Rattle.ox_asof.specs.Reply.{reply_at};
 ghost use Rattle.ox_desk.specs.Asked.{asked_on};
 ghost use Rattle.ox_desk.specs.Desk.{KeepsTrue, LooksUp};
+ghost use Rattle.ox_desk.specs.Queries.{query_reply};
 
+use crate::addresses::part_named;
+use crate::held::HeldStore;
 use ox_asof::answer_at;
 use ox_bytes::{Bytes, Memory};
 use ox_cache::Cache;
 use ox_feed::Command;
 use ox_http::{Reply, Request, write_reply};
+use ox_query::answer_address;
 use ox_routes::Routes;
 use ox_store::Store;
 use std::alloc::Global;
@@ -25,9 +29,29 @@ pub(crate) enum Step {
     Carries(Command),
 }
 
-/// The reply of a store's stack to a request that carries out nothing; where the path names a kept
-/// block, as of that block. `Memory` where there is none for it.
+/// The reply of a store's stack to a request that is no command: where the path names an address
+/// (BIP 173, BIP 350), what that holds; where it names a kept block, as of that block. `Memory`
+/// where there is none for it.
+#[tactic(auto, unfolding(crate::specs::Queries::query_reply))]
 pub fn reply_to(
+    alloc: Global,
+    routes: &Routes,
+    store: &HeldStore,
+    request: &Request,
+) -> Result<Reply, Memory>
+    ensures { IfOk result (λ reply. reply ≡ query_reply (asked_on store.now.stack) request.now) }
+{
+    let Some(part) = part_named(request.path.as_slice()) else {
+        return reply_at(alloc, routes, store.store(), request);
+    };
+    let held = store.outputs(alloc, request.method, part)?;
+    let live = store.store().live();
+    answer_address(alloc, live, part, held.as_slice(), request)
+}
+
+/// The reply of a store's stack to a request whose path names no address; where it names a kept
+/// block, as of that block. `Memory` where there is none for it.
+fn reply_at(
     alloc: Global,
     routes: &Routes,
     store: &Store,
@@ -49,11 +73,11 @@ pub fn reply_to(
 pub(crate) fn tell(
     alloc: Global,
     routes: &Routes,
-    store: &Store,
+    store: &HeldStore,
     request: &Request,
 ) -> Result<Bytes, Memory>
     ensures { IfOk result (λ bytes.
-        bytes ≡ written (reply_at (asked_on store.now.stack) request.now)) }
+        bytes ≡ written (query_reply (asked_on store.now.stack) request.now)) }
 {
     let reply = reply_to(alloc, routes, store, request)?;
     write_reply(alloc, &reply)
@@ -64,7 +88,7 @@ pub(crate) fn tell(
 pub(crate) fn look_up(
     alloc: Global,
     routes: &Routes,
-    store: &Store,
+    store: &HeldStore,
     cache: &mut Cache,
     request: &Request,
 ) -> Result<Bytes, Memory>
@@ -76,7 +100,7 @@ pub(crate) fn look_up(
     ensures err { OnErr result (cache.new ≡ cache.old) }
 {
     cache.answer(
-        store.commands(),
+        store.store().commands(),
         request.path.as_slice(),
         request.close,
         || reply_to(alloc, routes, store, request),

@@ -6,7 +6,7 @@ use Rattle.ox_model.specs.Index.{Index}
 use Rattle.ox_asof.specs.AskedKept.{AskedKept}
 use Rattle.ox_asof.specs.Reply.{reply_at}
 use Rattle.ox_asof.proofs.Standing.{as_many, kept_same}
-use Rattle.ox_desk.proofs.told.reply_to.Goals as goal
+use Rattle.ox_desk.proofs.told.reply_at.Goals as goal
 
 pub answer_at-requires-clause-end : goal.answer_at-requires-clause-end
 answer_at-requires-clause-end c =
