@@ -5,9 +5,9 @@ ghost use Rattle.ox_desk.specs.Held.{script_asked};
 ghost use Rattle.ox_desk.specs.Queries.{part_named};
 
 use ox_asof::cut_at;
-use ox_held::{SegwitScript, address_part, hrp_of, script_in};
+use ox_held::{SegwitScript, address_part, script_in};
 use ox_http::Method;
-use ox_sat::{Profile, ProfileName};
+use ox_sat::Profile;
 
 /// The part of a path that stands for an address, where the path names no block.
 pub(crate) fn part_named(path: &[u8]) -> Option<&[u8]>
@@ -25,7 +25,7 @@ pub(crate) fn script_asked(profile: &Profile, method: Method, part: &[u8]) -> Op
     ensures { result ≡ script_asked profile.now method part.now }
 {
     match method {
-        Method::Get => script_in(hrp_of(ProfileName::of_byte(profile.byte)), part),
+        Method::Get => script_in(profile, part),
         Method::Post | Method::Other => None,
     }
 }

@@ -35,48 +35,31 @@ put_back-requires-clause-sound g c =
     (sound_open c.self.inside.store c.in-Some.store c.self.inside.requests c.self.inside.cache (sym c.take.ensures.value ∙ c.in-Some.is) c.self.invariant)
     c.carry_command-carried.ensures.carries
 
-pub returns-clause-ok : goal.returns-clause-ok
-returns-clause-ok g c =
-    carries_out c.in-Some.store c.self.inside.requests c.self.inside.cache c.args.command.now c.args.close c.take.new.self c.carry_command-carried.result c.args.self.now c.put_back.new.self c.put_back.result
-    (seen_open c.self.inside.store c.in-Some.store c.self.inside.requests c.self.inside.cache (sym c.take.ensures.value ∙ c.in-Some.is) c.args.self.now c.self.view_is) c.put_back.ensures.made c.put_back.ensures.desk
-    c.carry_command-carried.ensures.carries
-
-pub returns-clause-memory : goal.returns-clause-memory
-returns-clause-memory g c =
-    stays c.in-Some.store c.self.inside.requests c.self.inside.cache c.args.command.now c.args.close c.take.new.self c.carry_command-carried.result c.args.self.now c.put_back.new.self c.put_back.result
-    (seen_open c.self.inside.store c.in-Some.store c.self.inside.requests c.self.inside.cache (sym c.take.ensures.value ∙ c.in-Some.is) c.args.self.now c.self.view_is) c.put_back.ensures.made c.put_back.ensures.desk
-    c.carry_command-carried.ensures.carries
-
-pub returns-clause-rests : goal.returns-clause-rests
-returns-clause-rests g c =
-    rests_behind c.in-Some.store c.self.inside.requests c.self.inside.cache c.args.command.now c.args.close c.take.new.self c.carry_command-carried.result c.args.self.now c.put_back.new.self c.put_back.result
-    (seen_open c.self.inside.store c.in-Some.store c.self.inside.requests c.self.inside.cache (sym c.take.ensures.value ∙ c.in-Some.is) c.args.self.now c.self.view_is) c.put_back.ensures.made c.put_back.ensures.desk
-    g.S.Site c.args.site.now c.carry_command-carried.new.site c.carry_command-carried.ensures.writes.calls.as_told c.requires.rests
-    c.carry_command-carried.ensures.holds c.carry_command-carried.ensures.stands
-
-pub returns-clause-asked : goal.returns-clause-asked
-returns-clause-asked g c =
-    asked_few c.in-Some.store c.self.inside.requests c.self.inside.cache c.args.command.now c.args.close c.take.new.self c.carry_command-carried.result c.args.self.now c.put_back.new.self c.put_back.result
-    (seen_open c.self.inside.store c.in-Some.store c.self.inside.requests c.self.inside.cache (sym c.take.ensures.value ∙ c.in-Some.is) c.args.self.now c.self.view_is) c.put_back.ensures.made c.put_back.ensures.desk
-
-pub returns-clause-any_moment : goal.returns-clause-any_moment
-returns-clause-any_moment g c told =
-    let seen = (seen_open c.self.inside.store c.in-Some.store c.self.inside.requests c.self.inside.cache (sym c.take.ensures.value ∙ c.in-Some.is) c.args.self.now c.self.view_is) in
-    subst (λ (d : DeskContents). LeavesOnly g.S.Site c.args.site.now c.carry_command-carried.new.site (λ r. StandsForEither d.stack (stack_behind d.stack c.args.command.now) r.files)) seen
-    (c.carry_command-carried.ensures.any_moment told
-    (subst (λ (d : DeskContents). stands (g.S.Site.seen c.args.site.now) ≡ Ok d.stack) (sym seen) (c.requires.rests.stands_for told)))
-
-pub returns-clause-failed : goal.returns-clause-failed
-returns-clause-failed g c =
-    failed_behind c.in-Some.store c.self.inside.requests c.self.inside.cache c.args.command.now c.args.close c.take.new.self c.carry_command-carried.result c.args.self.now c.put_back.new.self c.put_back.result
-    (seen_open c.self.inside.store c.in-Some.store c.self.inside.requests c.self.inside.cache (sym c.take.ensures.value ∙ c.in-Some.is) c.args.self.now c.self.view_is) c.put_back.ensures.made c.put_back.ensures.desk
-    (Rose (g.S.Site.counts c.args.site.now).disk (g.S.Site.counts c.carry_command-carried.new.site).disk) c.carry_command-carried.ensures.failed
-
-pub returns-clause-counted : goal.returns-clause-counted
-returns-clause-counted g c =
-    counted_behind c.in-Some.store c.self.inside.requests c.self.inside.cache c.args.command.now c.args.close c.take.new.self c.carry_command-carried.result c.args.self.now c.put_back.new.self c.put_back.result
-    (seen_open c.self.inside.store c.in-Some.store c.self.inside.requests c.self.inside.cache (sym c.take.ensures.value ∙ c.in-Some.is) c.args.self.now c.self.view_is) c.put_back.ensures.made c.put_back.ensures.desk
-    (g.S.Site.counts c.args.site.now) (g.S.Site.counts c.carry_command-carried.new.site) c.carry_command-carried.ensures.counted
-
-pub returns-clause-writes : goal.returns-clause-writes
-returns-clause-writes g c = c.carry_command-carried.ensures.writes
+pub returns : goal.returns
+returns g c =
+    let store = c.in-Some.store in
+    let requests = c.self.inside.requests in
+    let cache = c.self.inside.cache in
+    let command = c.args.command.now in
+    let carried = c.carry_command-carried.result in
+    let of_carried = c.carry_command-carried.ensures in
+    let seen = seen_open c.self.inside.store store requests cache (sym c.take.ensures.value ∙ c.in-Some.is) c.args.self.now c.self.view_is in
+    record {
+      ok = carries_out store requests cache command c.args.close c.take.new.self carried c.args.self.now c.put_back.new.self c.put_back.result seen c.put_back.ensures.made c.put_back.ensures.desk of_carried.carries;
+      memory = stays store requests cache command c.args.close c.take.new.self carried c.args.self.now c.put_back.new.self c.put_back.result seen c.put_back.ensures.made c.put_back.ensures.desk of_carried.carries;
+      rests =
+          rests_behind store requests cache command c.args.close c.take.new.self carried c.args.self.now c.put_back.new.self c.put_back.result seen c.put_back.ensures.made c.put_back.ensures.desk
+          g.S.Site c.args.site.now c.carry_command-carried.new.site of_carried.writes.calls.as_told c.requires.rests of_carried.holds of_carried.stands;
+      asked = asked_few store requests cache command c.args.close c.take.new.self carried c.args.self.now c.put_back.new.self c.put_back.result seen c.put_back.ensures.made c.put_back.ensures.desk;
+      any_moment = λ told.
+          subst (λ (d : DeskContents). LeavesOnly g.S.Site c.args.site.now c.carry_command-carried.new.site (λ r. StandsForEither d.stack (stack_behind d.stack command) r.files)) seen
+          (of_carried.any_moment told
+          (subst (λ (d : DeskContents). stands (g.S.Site.seen c.args.site.now) ≡ Ok d.stack) (sym seen) (c.requires.rests.stands_for told)));
+      failed =
+          failed_behind store requests cache command c.args.close c.take.new.self carried c.args.self.now c.put_back.new.self c.put_back.result seen c.put_back.ensures.made c.put_back.ensures.desk
+          (Rose (g.S.Site.counts c.args.site.now).disk (g.S.Site.counts c.carry_command-carried.new.site).disk) of_carried.failed;
+      counted =
+          counted_behind store requests cache command c.args.close c.take.new.self carried c.args.self.now c.put_back.new.self c.put_back.result seen c.put_back.ensures.made c.put_back.ensures.desk
+          (g.S.Site.counts c.args.site.now) (g.S.Site.counts c.carry_command-carried.new.site) of_carried.counted;
+      writes = of_carried.writes;
+    }
