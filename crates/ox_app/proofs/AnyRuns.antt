@@ -15,7 +15,7 @@ use Rattle.ox_model.specs.Stack.{Stack}
 use Rattle.ox_files.specs.Runs.{first_lines}
 use Rattle.ox_files.specs.Stands.{Misfit, stands}
 use Rattle.ox_desk.specs.Servers.{server_of, server_on}
-use Rattle.ox_serve.specs.Runs.{StandFor}
+use Rattle.ox_app.specs.Turns.{StandFor}
 use Rattle.ox_app.specs.AnyRuns.{AnyInTurn, AnyRun, Fed, IsServedInTurn, LastOfAny, LeadsOn, Served, Spared, SurvivesAny, SurvivesServed, left_by}
 use Rattle.ox_app.specs.Serve.{LeavesServing, SurvivesLinks}
 use Rattle.ox_app.proofs.Serving.{links_of_machine}

@@ -2,7 +2,10 @@ pub mod AnyRuns
 pub mod AskedLines
 pub mod Carrying
 pub mod CommandAnswers
+pub mod CountsAlong
 pub mod Crashes
+pub mod DeskAlong
+pub mod DeskCounts
 pub mod Done
 pub mod Drilling
 pub mod FeedAnswers
@@ -10,10 +13,12 @@ pub mod FeedState
 pub mod FreshIndexing
 pub mod Images
 pub mod Migrating
+pub mod MoreTurns
 pub mod Opening
 pub mod OtherWords
 pub mod Pieces
 pub mod Prefixes
+pub mod ServersAlike
 pub mod Serving
 pub mod Settled
 pub mod Stacks
@@ -21,5 +26,7 @@ pub mod Statuses
 pub mod Stops
 pub mod Subcommands
 pub mod TalksOn
+pub mod TurnAnswers
+pub mod TurnsGoOn
 pub mod Unmigrated
 pub mod Versions

@@ -26,10 +26,10 @@ use Rattle.ox_store.specs.declared.fault.OpenFault.{OpenFault}
 use Rattle.ox_store.specs.declared.fault.OpenFault.TheVariants as opens
 use Rattle.ox_desk.specs.Servers.{HasStack, server_of, server_on}
 use Rattle.ox_desk.proofs.Machines.{served_alike}
-use Rattle.ox_serve.specs.Runs.{Served, StandFor}
-use Rattle.ox_serve.specs.declared.fault.ServeFault.{ServeFault}
-use Rattle.ox_serve.specs.declared.fault.ServeFault.TheVariants as serves
-use Rattle.ox_serve.proofs.Alike.{counted_alike, fewer_alike, fronts_alike, short_alike, survives_alike}
+use Rattle.ox_app.specs.Turns.{Served, StandFor}
+use Rattle.ox_app.specs.declared.server.ServeFault.{ServeFault}
+use Rattle.ox_app.specs.declared.server.ServeFault.TheVariants as serves
+use Rattle.ox_app.proofs.ServersAlike.{counted_alike, fewer_alike, fronts_alike, short_alike, survives_alike}
 use Rattle.ox_app.specs.Serve.{LeavesServing, RunsServer, StandForMachine, SurvivesLinks, totals_line}
 use Rattle.ox_app.specs.Show.{EndsAtFault, ShowsFront, ShowsReply}
 use Rattle.ox_app.specs.Status.{IsRefusal, fault_status}

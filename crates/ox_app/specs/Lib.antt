@@ -3,8 +3,9 @@
 -- run ends, Show what is said of shown lines and of faults, Init and Unopened the lines of a making
 -- and of files that are no store, Query what a query shows, Serve what a server logs and a crash
 -- leaves of it, Drill the same of a drill, and Migrate of a migration. Stacks says of any stack
--- what Headline and Serve say of a machine's, and AnyRuns joins runs one after the other. Fold and
--- Apply are of single lines, for the functions below `run`, and Carry of what a line asks for.
+-- what Headline and Serve say of a machine's, and AnyRuns joins runs one after the other. For the
+-- functions below `run`, Fold and Apply are of single lines, Carry of what a line asks for, Turns
+-- of a server's turns over any desk, and Along of how that desk goes along their answers.
 pub mod Headline
 pub mod Promises
 pub mod Subcommands
@@ -21,3 +22,5 @@ pub mod Migrate
 pub mod Fold
 pub mod Apply
 pub mod Carry
+pub mod Turns
+pub mod Along

@@ -14,7 +14,7 @@ use Rattle.ox_turns.specs.Follows.{ShowsFrontsIn}
 use Rattle.ox_model.specs.Machine.{Machine, stack_of}
 use Rattle.ox_files.specs.Stands.{stands}
 use Rattle.ox_desk.specs.Servers.{server_of}
-use Rattle.ox_serve.specs.Runs.{Served}
+use Rattle.ox_app.specs.Turns.{Served}
 use Rattle.ox_app.specs.Headline.{OnlyOwn}
 use Rattle.ox_app.specs.Show.{ShowsReply}
 use Rattle.ox_app.specs.declared.status.Status.{Status}

@@ -8,7 +8,7 @@ use Rattle.ox_outside.specs.declared.site.Site.{Ghosts as Meanings}
 use Rattle.ox_model.specs.Replies.{after_on, replies_on}
 use Rattle.ox_model.specs.Stack.{Stack}
 use Rattle.ox_desk.specs.Servers.{server_on}
-use Rattle.ox_serve.specs.Runs.{StandFor}
+use Rattle.ox_app.specs.Turns.{StandFor}
 use Rattle.ox_app.specs.Headline.{Leaves, RunsFeed, StopsBefore}
 use Rattle.ox_app.specs.Serve.{LeavesServing, RunsServer}
 use Rattle.ox_app.specs.declared.status.Status.{Status}

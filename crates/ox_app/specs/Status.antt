@@ -6,8 +6,8 @@ use Rattle.ox_app.specs.declared.status.Status.TheVariants.{DiskFault, HearFault
 use Rattle.ox_app.specs.declared.status.Status.TheVariants.{DoorFault, Memory, TooMuch, OldCommand}
 use Rattle.ox_drill.specs.declared.fault.DrillFault.{DrillFault}
 use Rattle.ox_drill.specs.declared.fault.DrillFault.TheVariants as drills
-use Rattle.ox_serve.specs.declared.fault.ServeFault.{ServeFault}
-use Rattle.ox_serve.specs.declared.fault.ServeFault.TheVariants as serves
+use Rattle.ox_app.specs.declared.server.ServeFault.{ServeFault}
+use Rattle.ox_app.specs.declared.server.ServeFault.TheVariants as serves
 use Rattle.ox_app.specs.declared.stop.Stop.{Stop}
 use Rattle.ox_app.specs.declared.stop.Stop.TheVariants as stops
 

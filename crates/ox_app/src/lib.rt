@@ -13,6 +13,7 @@ mod migrate;
 mod program;
 mod query;
 mod serve;
+mod server;
 mod show;
 mod status;
 mod stop;

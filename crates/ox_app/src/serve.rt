@@ -7,7 +7,7 @@ ghost use Rattle.ox_gated.specs.Tail.{Holds};
 ghost use Rattle.ox_model.specs.Stack.{Stack};
 ghost use Rattle.ox_files.specs.Stands.{Misfit, stands};
 ghost use Rattle.ox_desk.specs.Servers.{server_on};
-ghost use Rattle.ox_serve.specs.Runs.{StandFor};
+ghost use Rattle.ox_app.specs.Turns.{StandFor};
 ghost use Rattle.ox_app.specs.Headline.{AddsNoImage};
 ghost use Rattle.ox_app.specs.Serve.{DoorFails, LeavesServing, RunsServer, SurvivesLinks};
 ghost use Rattle.ox_app.specs.Serve.{totals_line as totals_told};
@@ -18,13 +18,13 @@ ghost use Rattle.ox_app.specs.Subcommands.{IsTurns};
 ghost use Rattle.ox_app.specs.Unopened.{SaysNotStore};
 ghost use Rattle.ox_app.specs.declared.status.Status.TheVariants as ends;
 
+use crate::server::{ServeFault, Totals, serve_store};
 use crate::show::show_all;
 use crate::status::Status;
 use crate::unopened::explain;
 use itoa::Buffer;
 use ox_bytes::{Bytes, Room};
 use ox_outside::{Failed, Site};
-use ox_serve::{ServeFault, Totals};
 use ox_store::Store;
 use std::alloc::Global;
 
@@ -81,7 +81,7 @@ fn serve_by<S: Site>(alloc: Global, room: Room, store: Store, turns: u64, site: 
     ensures stops { EndsAtFault result (S.counts site.old) (S.counts site.new) }
     ensures calls { Calls S.Site site.old site.new }
 {
-    match ox_serve::serve(alloc, store, turns, site) {
+    match serve_store(alloc, store, turns, site) {
         Ok(totals) => match show_all(site, totals_line(room, totals).as_slice()) {
             Ok(()) => Status::Done,
             Err(Failed) => Status::ShowFault,

@@ -4,7 +4,7 @@ use Rattle.ox_outside.specs.Runs.{LeavesOnly}
 use Rattle.ox_model.specs.Stack.{Stack}
 use Rattle.ox_files.specs.Stands.{stands}
 use Rattle.ox_desk.specs.Servers.{server_on}
-use Rattle.ox_serve.specs.Runs.{StandFor}
+use Rattle.ox_app.specs.Turns.{StandFor}
 use Rattle.ox_app.specs.Serve.{LeavesServing, RunsServer}
 use Rattle.ox_app.specs.declared.status.Status.TheVariants as ends
 use Rattle.ox_app.proofs.Images.{looked_then_talked, memory_opens, only_looked, same_stack, says_nothing}

@@ -5,9 +5,9 @@ use Rattle.ox_outside.specs.Log.{Grows}
 use Rattle.ox_outside.proofs.Calls.{calls_then}
 use Rattle.ox_outside.proofs.Counts.{no_fault_then, stops_after, stops_as, stops_at_none, then_rose, went_on}
 use Rattle.ox_desk.specs.Servers.{server_on}
-use Rattle.ox_serve.specs.Runs.{StandFor}
-use Rattle.ox_serve.specs.declared.fault.ServeFault.{ServeFault}
-use Rattle.ox_serve.specs.declared.fault.ServeFault.TheVariants as serves
+use Rattle.ox_app.specs.Turns.{StandFor}
+use Rattle.ox_app.specs.declared.server.ServeFault.{ServeFault}
+use Rattle.ox_app.specs.declared.server.ServeFault.TheVariants as serves
 use Rattle.ox_app.specs.Serve.{RunsServer}
 use Rattle.ox_app.specs.Show.{EndsAtFault, ShowsReply}
 use Rattle.ox_app.specs.Status.{IsRefusal, IsServeStatus, fault_status}
@@ -57,14 +57,14 @@ returns-in-Ok-show_all g c = record {
   serves =
       let log = g.S.Site.log in
       let counts = g.S.Site.counts in
-      let mid = c.serve.new.site in
+      let mid = c.serve_store.new.site in
       let new = c.show_all.new.site in
       let bytes = c.as_slice-in-Ok.ensures ∙ c.totals_line.ensures in
       runs_told server_on c.args.store.stack c.args.turns ends.Done (counts c.args.site.now) (counts mid) (counts new) c.in-Ok.totals.requests c.in-Ok.totals.hits (log c.args.site.now) (log mid) (log new) (inl refl)
       c.show_all.ensures.talks.calls.none_fell c.in-Ok.ensures.served c.in-Ok.ensures.fronts
       (subst (λ (l : List ℕ). Grows (ShowsReply l ends.Done) (log mid) (log new)) bytes (reply_whole _ (log mid) (log mid) (log new) refl c.in-Ok-show_all.ensures.told));
   survives = λ told.
-      served_then_talked g.S.Site server_on c.args.store.stack StandFor g.met.S.Site.counts_now g.met.S.Site.logs_now c.as_slice-in-Ok.result.now c.args.site.now c.serve.new.site c.show_all.new.site
+      served_then_talked g.S.Site server_on c.args.store.stack StandFor g.met.S.Site.counts_now g.met.S.Site.logs_now c.as_slice-in-Ok.result.now c.args.site.now c.serve_store.new.site c.show_all.new.site
       (c.in-Ok.ensures.survives told) c.show_all.ensures.talks;
   memory = λ is. absurd (ends_apart ends.Done ends.Memory refl is);
   opened = λ is. done_opens is;
@@ -73,7 +73,7 @@ returns-in-Ok-show_all g c = record {
   door_fault = λ is. absurd (ends_apart ends.Done ends.DoorFault refl is);
   show_fault = λ is. absurd (ends_apart ends.Done ends.ShowFault refl is);
   stops = stops_at_none _ _ _ _ _ (no_fault_then _ _ _ (served_well c.in-Ok.totals _ _ c.in-Ok.ensures.counted) (all_shown _ _ c.in-Ok-show_all.ensures.counted));
-  calls = calls_then g.S.Site c.args.site.now c.serve.new.site c.show_all.new.site c.serve.ensures.calls c.show_all.ensures.talks.calls;
+  calls = calls_then g.S.Site c.args.site.now c.serve_store.new.site c.show_all.new.site c.serve_store.ensures.calls c.show_all.ensures.talks.calls;
 }
 
 pub returns-in-Ok : goal.returns-in-Ok
@@ -81,14 +81,14 @@ returns-in-Ok g c = record {
   serves =
       let log = g.S.Site.log in
       let counts = g.S.Site.counts in
-      let mid = c.serve.new.site in
+      let mid = c.serve_store.new.site in
       let new = c.show_all.new.site in
       let bytes = c.as_slice-in-Ok.ensures ∙ c.totals_line.ensures in
       runs_told server_on c.args.store.stack c.args.turns ends.ShowFault (counts c.args.site.now) (counts mid) (counts new) c.in-Ok.totals.requests c.in-Ok.totals.hits (log c.args.site.now) (log mid) (log new) (inr refl)
       c.show_all.ensures.talks.calls.none_fell c.in-Ok.ensures.served c.in-Ok.ensures.fronts
       (subst (λ (l : List ℕ). Grows (ShowsReply l ends.ShowFault) (log mid) (log new)) bytes (reply_front _ ends.ShowFault (log mid) (log mid) (log new) show_undone refl c.in-Err-show_all.ensures.told));
   survives = λ told.
-      served_then_talked g.S.Site server_on c.args.store.stack StandFor g.met.S.Site.counts_now g.met.S.Site.logs_now c.as_slice-in-Ok.result.now c.args.site.now c.serve.new.site c.show_all.new.site
+      served_then_talked g.S.Site server_on c.args.store.stack StandFor g.met.S.Site.counts_now g.met.S.Site.logs_now c.as_slice-in-Ok.result.now c.args.site.now c.serve_store.new.site c.show_all.new.site
       (c.in-Ok.ensures.survives told) c.show_all.ensures.talks;
   memory = λ is. absurd (ends_apart ends.ShowFault ends.Memory refl is);
   opened = λ is. show_opens is;
@@ -97,12 +97,12 @@ returns-in-Ok g c = record {
   door_fault = λ is. absurd (ends_apart ends.ShowFault ends.DoorFault refl is);
   show_fault = λ is.
       let counts = g.S.Site.counts in
-      then_rose ((counts c.args.site.now).show 0) ((counts c.serve.new.site).show 0) ((counts c.show_all.new.site).show 0) (c.serve.ensures.calls.none_fell.show 0) c.in-Err-show_all.ensures.failed;
+      then_rose ((counts c.args.site.now).show 0) ((counts c.serve_store.new.site).show 0) ((counts c.show_all.new.site).show 0) (c.serve_store.ensures.calls.none_fell.show 0) c.in-Err-show_all.ensures.failed;
   stops =
       let counts = g.S.Site.counts in
-      totals_stop c.in-Ok.totals c.show_all.result (counts c.args.site.now) (counts c.serve.new.site) (counts c.show_all.new.site)
+      totals_stop c.in-Ok.totals c.show_all.result (counts c.args.site.now) (counts c.serve_store.new.site) (counts c.show_all.new.site)
       c.in-Ok.ensures.counted c.show_all.ensures.counted;
-  calls = calls_then g.S.Site c.args.site.now c.serve.new.site c.show_all.new.site c.serve.ensures.calls c.show_all.ensures.talks.calls;
+  calls = calls_then g.S.Site c.args.site.now c.serve_store.new.site c.show_all.new.site c.serve_store.ensures.calls c.show_all.ensures.talks.calls;
 }
 
 pub returns : goal.returns
@@ -110,13 +110,13 @@ returns g c = record {
   serves =
       let log = g.S.Site.log in
       let counts = g.S.Site.counts in
-      subst (λ (s : Status). Grows (RunsServer server_on c.args.store.stack c.args.turns s (counts c.args.site.now) (counts c.serve.new.site)) (log c.args.site.now) (log c.serve.new.site)) (sym c.fault_of.ensures)
-      (runs_by_fault server_on c.args.store.stack c.args.turns c.in-Err.fault (counts c.args.site.now) (counts c.serve.new.site) (log c.args.site.now) (log c.serve.new.site)
+      subst (λ (s : Status). Grows (RunsServer server_on c.args.store.stack c.args.turns s (counts c.args.site.now) (counts c.serve_store.new.site)) (log c.args.site.now) (log c.serve_store.new.site)) (sym c.fault_of.ensures)
+      (runs_by_fault server_on c.args.store.stack c.args.turns c.in-Err.fault (counts c.args.site.now) (counts c.serve_store.new.site) (log c.args.site.now) (log c.serve_store.new.site)
       (λ is. ap log (c.in-Err.ensures.memory (ap Err is)))
       (λ isnt. c.in-Err.ensures.cut (λ e. let f : c.in-Err.fault ≡ serves.Memory = cc e in isnt f))
       (λ is. c.in-Err.ensures.fewer (ap Err is))
       c.in-Err.ensures.fronts c.requires.some);
-  survives = λ told. served_only g.S.Site server_on c.args.store.stack StandFor c.args.site.now c.serve.new.site (c.in-Err.ensures.survives told);
+  survives = λ told. served_only g.S.Site server_on c.args.store.stack StandFor c.args.site.now c.serve_store.new.site (c.in-Err.ensures.survives told);
   memory = λ is. ap g.S.Site.log (c.in-Err.ensures.memory (ap Err ((ends_turns c.in-Err.fault).memory (sym c.fault_of.ensures ∙ is))));
   opened = λ is. (ends_turns c.in-Err.fault).opened (sym c.fault_of.ensures ∙ is);
   status = subst IsServeStatus (sym c.fault_of.ensures) (ends_turns c.in-Err.fault).status;
@@ -124,5 +124,5 @@ returns g c = record {
   door_fault = λ is. c.in-Err.ensures.door_fault (ap Err ((ends_turns c.in-Err.fault).door (sym c.fault_of.ensures ∙ is)));
   show_fault = λ is. absurd ((ends_turns c.in-Err.fault).show (sym c.fault_of.ensures ∙ is));
   stops = fault_stops c.in-Err.fault c.fault_of.result _ _ c.fault_of.ensures c.in-Err.ensures.counted;
-  calls = c.serve.ensures.calls;
+  calls = c.serve_store.ensures.calls;
 }

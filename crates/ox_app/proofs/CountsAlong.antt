@@ -12,9 +12,9 @@ use Rattle.ox_links.specs.Counted.{Key, Tally, is_request, no_tally, requests_in
 use Rattle.ox_links.specs.Link.{Answer, Written}
 use Rattle.ox_links.specs.Serving.{Server, message_command, message_reply, next_state, one_if, served_by}
 use Rattle.ox_desk.specs.Desk.{tally_by}
-use Rattle.ox_serve.specs.Led.{ByMessage, Led}
-use Rattle.ox_serve.specs.Runs.{MadeTurns, Served}
-use Rattle.ox_serve.proofs.Leading.{many_after}
+use Rattle.ox_app.specs.Along.{ByMessage, GoesAlong}
+use Rattle.ox_app.specs.Turns.{MadeTurns, Served}
+use Rattle.ox_app.proofs.DeskAlong.{many_after}
 
 abbrev key_at : ℕ → List ℕ → Key
 key_at accepted path = record { accepted = accepted; path = path }
@@ -84,13 +84,13 @@ module _ {X C D : Type 0} (server : Server X C) (state : D → X) (moved : D →
     pub commands : accepted new ≡ many_after n answers
     pub tallied : tally new ≡ tally_after (tally old) answers
 
-  pub led_totals : (n : ℕ) (old new : D) (answers : List (Answer C)) → accepted old ≡ n → Led server state moved same n old answers new → Totals n old answers new
-  led_totals n old new [] is led = record { many = let e : requests new ≡ requests old = ap requests led in omega (arith, e); commands = ap accepted led ∙ is; tallied = ap tally led }
-  led_totals n old new (answer ∷ answers) is led =
-      let by = led.1 in
-      let mid = led.0 in
+  pub totals_along : (n : ℕ) (old new : D) (answers : List (Answer C)) → accepted old ≡ n → GoesAlong server state moved same n old answers new → Totals n old answers new
+  totals_along n old new [] is goes = record { many = let e : requests new ≡ requests old = ap requests goes in omega (arith, e); commands = ap accepted goes ∙ is; tallied = ap tally goes }
+  totals_along n old new (answer ∷ answers) is goes =
+      let by = goes.1 in
+      let mid = goes.0 in
       let added = adds n old mid by.operator answer.message answer is by.accepted_before by.reply by.command by.is_accepted by.desk in
-      let later = led_totals (n + one_if answer.is_accepted) mid new answers (added.commands ∙ ap (λ (k : ℕ). k + one_if answer.is_accepted) is) led.2 in
+      let later = totals_along (n + one_if answer.is_accepted) mid new answers (added.commands ∙ ap (λ (k : ℕ). k + one_if answer.is_accepted) is) goes.2 in
       record {
         many = let e : requests_in (answer ∷ answers) ≡ (0 + one_if (is_request answer.message)) + requests_in answers = sum_by-append _ (answer ∷ []) answers in omega (arith, later.many, added.many, e);
         commands = later.commands;
@@ -101,7 +101,7 @@ module _ {X C D : Type 0} (server : Server X C) (state : D → X) (moved : D →
   pub made_served : (n : ℕ) (old new : Site) (desk next : D) (events : List Event) → requests desk ≡ 0 → accepted desk ≡ 0 → tally desk ≡ no_tally
       → MadeTurns server state moved same n old new desk next events → Served server (state desk) n old new (requests next) (tally next).hits events
   made_served n old new desk next events none first untold made =
-      let totals = led_totals 0 desk next (served_by server (state desk) events).answers first made.led in
+      let totals = totals_along 0 desk next (served_by server (state desk) events).answers first made.goes in
       record {
         turned = made.turned;
         requests_counted = omega (arith, totals.many, none);

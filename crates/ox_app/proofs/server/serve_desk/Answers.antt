@@ -2,8 +2,8 @@ use Rattle.std.proofs.Common.{List, sym, subst}
 use Rattle.std.specs.Prelude.{[], Option}
 use Rattle.ox_turns.specs.Follows.{Follows}
 use Rattle.ox_turns.specs.declared.slot.Slot.{Slot}
-use Rattle.ox_serve.proofs.WentOn.{follows_none}
-use Rattle.ox_serve.proofs.desk.serve_from.Goals as goal
+use Rattle.ox_app.proofs.TurnsGoOn.{follows_none}
+use Rattle.ox_app.proofs.server.serve_desk.Goals as goal
 
 pub go_round-requires-clause-follows : goal.go_round-requires-clause-follows
 go_round-requires-clause-follows g c log is =

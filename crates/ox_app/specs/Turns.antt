@@ -9,7 +9,7 @@ use Rattle.ox_links.specs.Serving.{Server, served_by}
 use Rattle.ox_links.specs.Turned.{Turned}
 use Rattle.ox_model.specs.Stack.{Stack}
 use Rattle.ox_files.specs.Stands.{stands}
-use Rattle.ox_serve.specs.Led.{Led}
+use Rattle.ox_app.specs.Along.{GoesAlong}
 
 -- So many turns were made, with these counts before and after them, and the desk went from one to
 -- another along their answers.
@@ -17,7 +17,7 @@ pub record MadeTurns {X C D : Type 0} (server : Server X C) (state : D → X)
     (moved : D → Request → Bool → D → Type 0) (same : D → D → Type 0) (n : ℕ) (old new : Counts)
     (desk next : D) (events : List Event) : Type 0 where
   pub turned : Turned server (state desk) n old new events
-  pub led : Led server state moved same 0 desk (served_by server (state desk) events).answers next
+  pub goes : GoesAlong server state moved same 0 desk (served_by server (state desk) events).answers next
 
 -- So many turns were made, and so many requests and hits counted of their answers.
 pub record Served {X C : Type 0} (server : Server X C) (first : X) (n : ℕ) (old new : Counts)

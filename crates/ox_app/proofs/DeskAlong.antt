@@ -5,7 +5,7 @@ use Rattle.ox_outside.specs.Event.{Event, channel_of}
 use Rattle.ox_links.specs.Link.{Answer}
 use Rattle.ox_links.specs.Serving.{Server, Serving, start_at, answer_of, with_answer, with_event, after_event, serve_on, served_by, one_if}
 use Rattle.ox_links.proofs.Moments.{at_event}
-use Rattle.ox_serve.specs.Led.{Led}
+use Rattle.ox_app.specs.Along.{GoesAlong}
 
 -- ---- the number of accepted commands
 
@@ -41,7 +41,7 @@ module _ {X C : Type 0} (server : Server X C) where
 -- ---- a desk
 
 module _ {X C D : Type 0} (server : Server X C) (state : D → X) (moved : D → Request → Bool → D → Type 0) (same : D → D → Type 0) where
-  pub led_then : (n : ℕ) (old mid new : D) (one two : List (Answer C)) → Led server state moved same n old one mid → Led server state moved same (many_after n one) mid two new
-      → Led server state moved same n old (one ++ two) new
-  led_then n old mid new [] two first then_ = subst (λ (d : D). Led server state moved same n d two new) first then_
-  led_then n old mid new (answer ∷ one) two first then_ = (first.0, first.1, led_then (n + one_if answer.is_accepted) first.0 mid new one two first.2 then_)
+  pub along_then : (n : ℕ) (old mid new : D) (one two : List (Answer C)) → GoesAlong server state moved same n old one mid → GoesAlong server state moved same (many_after n one) mid two new
+      → GoesAlong server state moved same n old (one ++ two) new
+  along_then n old mid new [] two first then_ = subst (λ (d : D). GoesAlong server state moved same n d two new) first then_
+  along_then n old mid new (answer ∷ one) two first then_ = (first.0, first.1, along_then (n + one_if answer.is_accepted) first.0 mid new one two first.2 then_)

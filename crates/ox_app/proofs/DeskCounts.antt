@@ -4,7 +4,7 @@ use Rattle.ox_http.specs.declared.Request.{Request}
 use Rattle.std.specs.Prelude.{Bool}
 use Rattle.ox_desk.specs.Desk.{DeskContents, Moved, Same, tally_of}
 use Rattle.ox_desk.specs.Servers.{server_on}
-use Rattle.ox_serve.proofs.Counting.{Counts, Stays}
+use Rattle.ox_app.proofs.CountsAlong.{Counts, Stays}
 
 abbrev pub DeskCounts : DeskContents → Request → Bool → DeskContents → Type 0
 DeskCounts = Counts server_on (λ (d : DeskContents). d.stack) (λ (d : DeskContents). d.requests) (λ (d : DeskContents). d.commands) (λ (d : DeskContents). tally_of d.cache)

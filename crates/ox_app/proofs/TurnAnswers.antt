@@ -21,7 +21,7 @@ use Rattle.ox_links.proofs.GoingOn.{past_is, serve_on-append}
 use Rattle.ox_links.proofs.Quiet.{asks_nothing}
 use Rattle.ox_turns.specs.Desk.{IsHttp}
 use Rattle.ox_turns.specs.Turn.{DeskAnswers, DeskTurns}
-use Rattle.ox_serve.specs.Led.{AnsweredBy, ByMessage, Led}
+use Rattle.ox_app.specs.Along.{AnsweredBy, ByMessage, GoesAlong}
 
 -- who replies as HTTP/1.1 does speaks
 pub http_speaks : {X C : Type 0} (server : Server X C) → IsHttp server → Speaks server
@@ -164,7 +164,7 @@ pub record Goes {X C D : Type 0} (server : Server X C) (first : X) (state : D �
     (since events : List Event) (old new : D) : Type 0 where
   pub answers : List (Answer C)
   pub answered : (served_by server first (since ++ events)).answers ≡ (served_by server first since).answers ++ answers
-  pub led : Led server state moved same (served_by server first since).accepted old answers new
+  pub goes : GoesAlong server state moved same (served_by server first since).accepted old answers new
 
 module _ {X C D : Type 0} (server : Server X C) (speaks : Speaks server) (first : X) (state : D → X) (moved : D → Request → Bool → D → Type 0) (same : D → D → Type 0)
     (since : List Event) (old new : D) where
@@ -176,11 +176,11 @@ module _ {X C D : Type 0} (server : Server X C) (speaks : Speaks server) (first 
 
   -- no event brings an answer
   went_none : (events : List Event) → (served_by server first (since ++ events)).answers ≡ so_far.answers → new ≡ old → WentAlong events
-  went_none events is stays = record { answers = []; answered = is ∙ sym (append-nil so_far.answers); led = stays }
+  went_none events is stays = record { answers = []; answered = is ∙ sym (append-nil so_far.answers); goes = stays }
 
   -- one does
   led_one : (r : Serving X C) (c : ℕ) (m : Option Message) → state old ≡ r.state → ByMessage moved same (is_operators c r.past) m old new
-      → Led server state moved same r.accepted old (answer_of server r c m ∷ []) new
+      → GoesAlong server state moved same r.accepted old (answer_of server r c m ∷ []) new
   led_one r c m is by = (new, answered, refl)
     where
       answered : AnsweredBy server state moved same r.accepted old (answer_of server r c m) new
@@ -198,7 +198,7 @@ module _ {X C D : Type 0} (server : Server X C) (speaks : Speaks server) (first 
   went_one events r c m is many state_is by = record {
     answers = answer_of server r c m ∷ [];
     answered = is;
-    led = subst (λ (k : ℕ). Led server state moved same k old (answer_of server r c m ∷ []) new) many (led_one r c m state_is by);
+    goes = subst (λ (k : ℕ). GoesAlong server state moved same k old (answer_of server r c m ∷ []) new) many (led_one r c m state_is by);
   }
 
   by_message : (operator : Bool) (m : Message) → DeskAnswers moved same operator false (Some m) old new → ByMessage moved same operator (Some m) old new
@@ -247,7 +247,7 @@ module _ {X C D : Type 0} (server : Server X C) (speaks : Speaks server) (first 
       answers = went.answers;
       answered = ap (λ (l : List Event). (served_by server first l).answers) (sym (append_assoc since (event ∷ []) (Shut c ∷ [])))
           ∙ shut_adds_none server speaks first (since ++ event ∷ []) c ∙ went.answered;
-      led = went.led;
+      goes = went.goes;
     }
 
     -- it gives up then

@@ -3,8 +3,8 @@ use Rattle.std.specs.Prelude.{IsTrue}
 use Rattle.ox_outside.specs.Counts.{NoFault}
 use Rattle.ox_outside.specs.Event.{Event}
 use Rattle.ox_outside.specs.Runs.{Calls, LeavesOnly}
-use Rattle.ox_serve.proofs.WentOn.{Lasts, WentOn}
-use Rattle.ox_serve.proofs.round.go_round.Given as goal
+use Rattle.ox_app.proofs.TurnsGoOn.{Lasts, WentOn}
+use Rattle.ox_app.proofs.server.go_round.Given as goal
 
 abbrev pub invariant-loop : goal.invariant-loop
 invariant-loop g l =

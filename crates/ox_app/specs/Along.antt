@@ -26,9 +26,9 @@ pub record AnsweredBy {X C D : Type 0} (server : Server X C) (state : D → X)
   pub desk : ByMessage moved same operator answer.message old new
 
 -- from one desk to another by these answers, one after another
-abbrev pub Led : {X C D : Type 0} → Server X C → (D → X) → (D → Request → Bool → D → Type 0)
+abbrev pub GoesAlong : {X C D : Type 0} → Server X C → (D → X) → (D → Request → Bool → D → Type 0)
     → (D → D → Type 0) → ℕ → D → List (Answer C) → D → Type 0
-Led server state moved same accepted old [] new = new ≡ old
-Led {D = D} server state moved same accepted old (answer ∷ answers) new =
+GoesAlong server state moved same accepted old [] new = new ≡ old
+GoesAlong {D = D} server state moved same accepted old (answer ∷ answers) new =
     (mid : D) × AnsweredBy server state moved same accepted old answer mid
-    × Led server state moved same (accepted + one_if answer.is_accepted) mid answers new
+    × GoesAlong server state moved same (accepted + one_if answer.is_accepted) mid answers new

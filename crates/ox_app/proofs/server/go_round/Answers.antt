@@ -5,9 +5,9 @@ use Rattle.ox_outside.proofs.Counts.{no_fault_then, went_on}
 use Rattle.std.specs.Prelude.{Err}
 use Rattle.ox_links.specs.Turned.{logged_by}
 use Rattle.ox_turns.specs.declared.turns.TurnFault.TheVariants.{DoorFault}
-use Rattle.ox_serve.proofs.Asking.{http_speaks}
-use Rattle.ox_serve.proofs.WentOn.{can_follow, cut_shown, grows_by, lasts_more, went_all, went_cut, went_fewer, went_more, went_shown}
-use Rattle.ox_serve.proofs.round.go_round.Goals as goal
+use Rattle.ox_app.proofs.TurnAnswers.{http_speaks}
+use Rattle.ox_app.proofs.TurnsGoOn.{can_follow, cut_shown, grows_by, lasts_more, went_all, went_cut, went_fewer, went_more, went_shown}
+use Rattle.ox_app.proofs.server.go_round.Goals as goal
 
 pub turn-requires-clause-follows : goal.turn-requires-clause-follows
 turn-requires-clause-follows g c =

@@ -25,11 +25,11 @@ use Rattle.ox_turns.specs.Follows.{Follows, ShowsFrontsIn, Start}
 use Rattle.ox_turns.specs.Places.{Places}
 use Rattle.ox_turns.specs.declared.slot.Slot.{Slot}
 use Rattle.ox_turns.specs.Turn.{DeskOf, FollowsSome, OneTurn, TurnCut}
-use Rattle.ox_serve.specs.Led.{Led}
-use Rattle.ox_serve.specs.Runs.{MadeTurns}
-use Rattle.ox_serve.proofs.Asking.{Goes, door_went, link_went}
-use Rattle.ox_serve.proofs.Joined.{cut_so, idle_one, idles_join, idles_none, logged_more, one_more, one_turn, turned_so, turns_more}
-use Rattle.ox_serve.proofs.Leading.{led_then, many_after, many_of_run}
+use Rattle.ox_app.specs.Along.{GoesAlong}
+use Rattle.ox_app.specs.Turns.{MadeTurns}
+use Rattle.ox_app.proofs.TurnAnswers.{Goes, door_went, link_went}
+use Rattle.ox_app.proofs.MoreTurns.{cut_so, idle_one, idles_join, idles_none, logged_more, one_more, one_turn, turned_so, turns_more}
+use Rattle.ox_app.proofs.DeskAlong.{along_then, many_after, many_of_run}
 
 -- ---- what a crash leaves
 
@@ -55,7 +55,7 @@ pub record WentOn {X C D : Type 0} (server : Server X C) (state : D → X) (move
   pub made : AreTurns server (state desk) [] 0 turns places.place
   pub idles : CountsIdles turns old new
   pub follows : Follows server (record { log = past; state = state desk }) (logged_by turns) places.slots (state next)
-  pub led : Led server state moved same 0 desk (served_by server (state desk) (logged_by turns)).answers next
+  pub goes : GoesAlong server state moved same 0 desk (served_by server (state desk) (logged_by turns)).answers next
 
 module _ {X C D : Type 0} (server : Server X C) (speaks : Speaks server) (state : D → X) (moved : D → Request → Bool → D → Type 0) (same : D → D → Type 0)
     (past : List Event) (counts : Counts) (desk : D) where
@@ -73,7 +73,7 @@ module _ {X C D : Type 0} (server : Server X C) (speaks : Speaks server) (state 
     made = sym first;
     idles = idles_none counts;
     follows = follows;
-    led = refl;
+    goes = refl;
   }
 
   -- the way of a desk in a turn
@@ -96,9 +96,9 @@ module _ {X C D : Type 0} (server : Server X C) (speaks : Speaks server) (state 
       let answers = (served_by server (state desk) since).answers in
       let accepted : (served_by server (state desk) since).accepted ≡ many_after 0 answers = many_of_run server (state desk) since in
       let along = went_along since one.who events desk2 desk3 turn.made went.follows.state turn.desk in
-      let led_now : Led server state moved same (many_after 0 answers) desk2 along.answers desk3 =
-      subst (λ (k : ℕ). Led server state moved same k desk2 along.answers desk3) accepted along.led in
-      let led_all = led_then server state moved same 0 desk desk2 desk3 answers along.answers went.led led_now in
+      let goes_now : GoesAlong server state moved same (many_after 0 answers) desk2 along.answers desk3 =
+      subst (λ (k : ℕ). GoesAlong server state moved same k desk2 along.answers desk3) accepted along.goes in
+      let goes_all = along_then server state moved same 0 desk desk2 desk3 answers along.answers went.goes goes_now in
       record {
         turns = all;
         many = let e = went.many in let f = one_more went.turns (one_turn one.who events) in omega (arith, e, f);
@@ -107,8 +107,8 @@ module _ {X C D : Type 0} (server : Server X C) (speaks : Speaks server) (state 
         idles = idles_join went.turns (one_turn one.who events ∷ []) counts (means.counts before) (means.counts after) fell went.idles
             (idle_one one.who events (means.counts before) (means.counts after) fell turn.idle);
         follows = subst (λ (l : List Event). Follows server start l new.slots (state desk3)) all_logged turn.follows;
-        led = subst (λ (l : List Event). Led server state moved same 0 desk (served_by server (state desk) l).answers desk3) all_logged
-            (subst (λ (l : List (Answer C)). Led server state moved same 0 desk l desk3) (sym along.answered) led_all);
+        goes = subst (λ (l : List Event). GoesAlong server state moved same 0 desk (served_by server (state desk) l).answers desk3) all_logged
+            (subst (λ (l : List (Answer C)). GoesAlong server state moved same 0 desk l desk3) (sym along.answered) goes_all);
       }
 
   -- all of them
@@ -119,7 +119,7 @@ module _ {X C D : Type 0} (server : Server X C) (speaks : Speaks server) (state 
     went.logged,
     record {
       turned = subst (λ (k : ℕ). Turned server (state desk) k counts new (logged_by went.turns)) (went.many ∙ all) (turned_so server (state desk) counts new went.turns places.place went.made went.idles);
-      led = went.led;
+      goes = went.goes;
     },
   )
 

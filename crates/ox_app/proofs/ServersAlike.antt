@@ -14,7 +14,7 @@ use Rattle.ox_links.specs.Survives.{Survives, acknowledged_to}
 use Rattle.ox_links.specs.Turned.{AreTurns, CutShort, IsCut, IsFewer, IsFirst, IsRest, IsTurn, Turn, Turned, is_first, logged_by}
 use Rattle.ox_links.proofs.Like.{serve_alike}
 use Rattle.ox_turns.specs.Follows.{ShowsFrontsIn}
-use Rattle.ox_serve.specs.Runs.{Served}
+use Rattle.ox_app.specs.Turns.{Served}
 
 module _ {X Y C : Type 0} (stands_for : X → Y → Type 0) (one : Server X C) (two : Server Y C) (same : SameServer stands_for one two) where
   state_same : (x : X) (y : Y) → stands_for x y → (s : Option X) (t : Option Y) → SameTurn stands_for s t → stands_for (unwrap_or s x) (unwrap_or t y)
