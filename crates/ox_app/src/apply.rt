@@ -68,7 +68,7 @@ fn next_carried<S: Site>(
 }
 
 /// Reads the feed of channel 0 to its end; each line is carried out, and its answer shown.
-fn follow<S: Site>(alloc: Global, store: Store, site: &mut S) -> Result<(), Stop>
+fn answer_feed<S: Site>(alloc: Global, store: Store, site: &mut S) -> Result<(), Stop>
     requires holds { IsTrue (S.told site.old) → Holds S.Site store.tail site.old }
     requires fresh { store.commands ≡ 0 }
     ensures told { Grows (RunsFeed (replies_on store.stack) (status_of result)) (S.log site.old)
@@ -142,7 +142,7 @@ pub fn apply<S: Site>(alloc: Global, site: &mut S) -> Status
     ensures calls { Calls S.Site site.old site.new }
 {
     match Store::open(alloc, site) {
-        Ok(store) => status(follow(alloc, store, site)),
+        Ok(store) => status(answer_feed(alloc, store, site)),
         Err(fault) => explain(alloc, fault, site),
     }
 }

@@ -24,51 +24,51 @@ pub returns-in-Ok : goal.returns-in-Ok
 returns-in-Ok g c = record {
   feeds = λ told stack stood.
       let same = same_stack (stands (g.S.Site.seen c.args.site.now)) c.in-Ok.store.stack stack (c.in-Ok.ensures.stands told) stood in (
-        (λ is. (ends_run c.follow.result).opened (sym c.status.ensures ∙ is)),
-        subst (λ (s : Status). Grows (RunsFeed (replies_on stack) s) (g.S.Site.log c.args.site.now) (g.S.Site.log c.follow.new.site)) (sym c.status.ensures)
-            (subst (λ (s : Stack). Grows (RunsFeed (replies_on s) (status_of c.follow.result)) (g.S.Site.log c.args.site.now) (g.S.Site.log c.follow.new.site)) same
-            (grows_from (RunsFeed (replies_on c.in-Ok.store.stack) (status_of c.follow.result)) (g.S.Site.log c.args.site.now) (g.S.Site.log c.open.new.site) (g.S.Site.log c.follow.new.site) c.open.ensures.looks.nothing.as_logged c.follow.ensures.told)),
+        (λ is. (ends_run c.answer_feed.result).opened (sym c.status.ensures ∙ is)),
+        subst (λ (s : Status). Grows (RunsFeed (replies_on stack) s) (g.S.Site.log c.args.site.now) (g.S.Site.log c.answer_feed.new.site)) (sym c.status.ensures)
+            (subst (λ (s : Stack). Grows (RunsFeed (replies_on s) (status_of c.answer_feed.result)) (g.S.Site.log c.args.site.now) (g.S.Site.log c.answer_feed.new.site)) same
+            (grows_from (RunsFeed (replies_on c.in-Ok.store.stack) (status_of c.answer_feed.result)) (g.S.Site.log c.args.site.now) (g.S.Site.log c.open.new.site) (g.S.Site.log c.answer_feed.new.site) c.open.ensures.looks.nothing.as_logged c.answer_feed.ensures.told)),
       );
   survives = λ told stack stood.
       let same = same_stack (stands (g.S.Site.seen c.args.site.now)) c.in-Ok.store.stack stack (c.in-Ok.ensures.stands told) stood in
       let mid = c.open.ensures.looks.calls.as_told ∙ told in
       let stood_mid = ap stands c.open.ensures.looks.nothing.files ∙ c.in-Ok.ensures.stands told in
-      subst (λ (s : Stack). LeavesOnly g.S.Site c.args.site.now c.follow.new.site
+      subst (λ (s : Stack). LeavesOnly g.S.Site c.args.site.now c.answer_feed.new.site
       (λ r. Grows (Leaves g.S.Site.may_leave c.args.site.now (replies_on s) (after_on s) r.files) (g.S.Site.log c.args.site.now) (Some r.log))) same
-      (opened_then_followed g.S.Site g.met.S.Site.logs_now c.in-Ok.store.stack c.args.site.now c.open.new.site c.follow.new.site c.open.ensures.looks (c.follow.ensures.survives mid stood_mid));
+      (opened_then_followed g.S.Site g.met.S.Site.logs_now c.in-Ok.store.stack c.args.site.now c.open.new.site c.answer_feed.new.site c.open.ensures.looks (c.answer_feed.ensures.survives mid stood_mid));
   out_of_memory = λ told stack stood is.
       let same = same_stack (stands (g.S.Site.seen c.args.site.now)) c.in-Ok.store.stack stack (c.in-Ok.ensures.stands told) stood in
       let mid = c.open.ensures.looks.calls.as_told ∙ told in
       let stood_mid = ap stands c.open.ensures.looks.nothing.files ∙ c.in-Ok.ensures.stands told in
-      subst (λ (s : Stack). Grows (StopsBefore (replies_on s) (after_on s) (g.S.Site.seen c.follow.new.site)) (g.S.Site.log c.args.site.now) (g.S.Site.log c.follow.new.site)) same
-      (grows_from (StopsBefore (replies_on c.in-Ok.store.stack) (after_on c.in-Ok.store.stack) (g.S.Site.seen c.follow.new.site))
-      (g.S.Site.log c.args.site.now) (g.S.Site.log c.open.new.site) (g.S.Site.log c.follow.new.site) c.open.ensures.looks.nothing.as_logged
-      (c.follow.ensures.out_of_memory mid stood_mid (stopped_by_memory c.follow.result (sym c.status.ensures ∙ is))));
+      subst (λ (s : Stack). Grows (StopsBefore (replies_on s) (after_on s) (g.S.Site.seen c.answer_feed.new.site)) (g.S.Site.log c.args.site.now) (g.S.Site.log c.answer_feed.new.site)) same
+      (grows_from (StopsBefore (replies_on c.in-Ok.store.stack) (after_on c.in-Ok.store.stack) (g.S.Site.seen c.answer_feed.new.site))
+      (g.S.Site.log c.args.site.now) (g.S.Site.log c.open.new.site) (g.S.Site.log c.answer_feed.new.site) c.open.ensures.looks.nothing.as_logged
+      (c.answer_feed.ensures.out_of_memory mid stood_mid (stopped_by_memory c.answer_feed.result (sym c.status.ensures ∙ is))));
   logged = λ isnt. record {
     stack = c.in-Ok.store.stack;
-    feeds = subst (λ (s : Status). Grows (RunsFeed (replies_on c.in-Ok.store.stack) s) (g.S.Site.log c.args.site.now) (g.S.Site.log c.follow.new.site)) (sym c.status.ensures)
-        (grows_from (RunsFeed (replies_on c.in-Ok.store.stack) (status_of c.follow.result)) (g.S.Site.log c.args.site.now) (g.S.Site.log c.open.new.site) (g.S.Site.log c.follow.new.site) c.open.ensures.looks.nothing.as_logged c.follow.ensures.told);
+    feeds = subst (λ (s : Status). Grows (RunsFeed (replies_on c.in-Ok.store.stack) s) (g.S.Site.log c.args.site.now) (g.S.Site.log c.answer_feed.new.site)) (sym c.status.ensures)
+        (grows_from (RunsFeed (replies_on c.in-Ok.store.stack) (status_of c.answer_feed.result)) (g.S.Site.log c.args.site.now) (g.S.Site.log c.open.new.site) (g.S.Site.log c.answer_feed.new.site) c.open.ensures.looks.nothing.as_logged c.answer_feed.ensures.told);
   };
   unopened = λ told misfit stood. no_misfit_stands (stands (g.S.Site.seen c.args.site.now)) c.in-Ok.store.stack misfit (c.in-Ok.ensures.stands told) stood;
   unsaid = λ told misfit stood isnt. no_misfit_stands (stands (g.S.Site.seen c.args.site.now)) c.in-Ok.store.stack misfit (c.in-Ok.ensures.stands told) stood;
   looks = λ told misfit stood. no_misfit_stands (stands (g.S.Site.seen c.args.site.now)) c.in-Ok.store.stack misfit (c.in-Ok.ensures.stands told) stood;
-  no_store = λ is. absurd ((ends_run c.follow.result).opened (sym c.status.ensures ∙ is));
-  not_store = λ is. absurd ((ends_run c.follow.result).opened (sym c.status.ensures ∙ is));
-  status = subst IsApplyStatus (sym c.status.ensures) (ends_run c.follow.result).status;
+  no_store = λ is. absurd ((ends_run c.answer_feed.result).opened (sym c.status.ensures ∙ is));
+  not_store = λ is. absurd ((ends_run c.answer_feed.result).opened (sym c.status.ensures ∙ is));
+  status = subst IsApplyStatus (sym c.status.ensures) (ends_run c.answer_feed.result).status;
   hear_fault = λ is.
       let counts = g.S.Site.counts in
-      then_rose ((counts c.args.site.now).hear 0) ((counts c.open.new.site).hear 0) ((counts c.follow.new.site).hear 0) (c.open.ensures.looks.calls.none_fell.hear 0) (c.follow.ensures.hear_fault ((ends_run c.follow.result).hear (sym c.status.ensures ∙ is)));
+      then_rose ((counts c.args.site.now).hear 0) ((counts c.open.new.site).hear 0) ((counts c.answer_feed.new.site).hear 0) (c.open.ensures.looks.calls.none_fell.hear 0) (c.answer_feed.ensures.hear_fault ((ends_run c.answer_feed.result).hear (sym c.status.ensures ∙ is)));
   show_fault = λ is.
       let counts = g.S.Site.counts in
-      then_rose ((counts c.args.site.now).show 0) ((counts c.open.new.site).show 0) ((counts c.follow.new.site).show 0) (c.open.ensures.looks.calls.none_fell.show 0) (c.follow.ensures.show_fault ((ends_run c.follow.result).show (sym c.status.ensures ∙ is)));
+      then_rose ((counts c.args.site.now).show 0) ((counts c.open.new.site).show 0) ((counts c.answer_feed.new.site).show 0) (c.open.ensures.looks.calls.none_fell.show 0) (c.answer_feed.ensures.show_fault ((ends_run c.answer_feed.result).show (sym c.status.ensures ∙ is)));
   disk_fault = λ is.
       let counts = g.S.Site.counts in
-      then_rose (counts c.args.site.now).disk (counts c.open.new.site).disk (counts c.follow.new.site).disk (c.open.ensures.looks.calls.none_fell.disk) (c.follow.ensures.disk_fault ((ends_run c.follow.result).disk (sym c.status.ensures ∙ is)));
-  settled = λ told is. c.follow.ensures.settled (c.open.ensures.looks.calls.as_told ∙ told) (stopped_by_memory c.follow.result (sym c.status.ensures ∙ is));
+      then_rose (counts c.args.site.now).disk (counts c.open.new.site).disk (counts c.answer_feed.new.site).disk (c.open.ensures.looks.calls.none_fell.disk) (c.answer_feed.ensures.disk_fault ((ends_run c.answer_feed.result).disk (sym c.status.ensures ∙ is)));
+  settled = λ told is. c.answer_feed.ensures.settled (c.open.ensures.looks.calls.as_told ∙ told) (stopped_by_memory c.answer_feed.result (sym c.status.ensures ∙ is));
   stops =
-      subst (λ (s : Status). EndsAtFault s (g.S.Site.counts c.args.site.now) (g.S.Site.counts c.follow.new.site)) (sym c.status.ensures)
-      (status_stops c.follow.result _ _ _ (opened_well c.in-Ok.store _ _ c.in-Ok.ensures.counted) c.follow.ensures.counted);
-  calls = calls_then g.S.Site c.args.site.now c.open.new.site c.follow.new.site c.open.ensures.looks.calls c.follow.ensures.calls;
+      subst (λ (s : Status). EndsAtFault s (g.S.Site.counts c.args.site.now) (g.S.Site.counts c.answer_feed.new.site)) (sym c.status.ensures)
+      (status_stops c.answer_feed.result _ _ _ (opened_well c.in-Ok.store _ _ c.in-Ok.ensures.counted) c.answer_feed.ensures.counted);
+  calls = calls_then g.S.Site c.args.site.now c.open.new.site c.answer_feed.new.site c.open.ensures.looks.calls c.answer_feed.ensures.calls;
 }
 
 pub returns-in-Err : goal.returns-in-Err

@@ -9,7 +9,7 @@ use Rattle.ox_app.specs.Headline.{Survives}
 use Rattle.ox_outside.specs.Runs.{Calls, LeavesOnly}
 use Rattle.ox_gated.specs.Tail.{Holds}
 use Rattle.ox_outside.specs.Counts.{NoFault}
-use Rattle.ox_app.proofs.apply.follow.Given as goal
+use Rattle.ox_app.proofs.apply.answer_feed.Given as goal
 
 abbrev pub invariant-loop-lines : goal.invariant-loop-lines
 invariant-loop-lines g l =

@@ -11,7 +11,7 @@ use Rattle.ox_app.proofs.FeedState.{HasAnswered}
 use Rattle.ox_outside.proofs.Calls.{calls_then, no_call}
 use Rattle.ox_outside.proofs.Counts.{no_fault_then, no_fault_yet, stops_at_none, then_rose}
 use Rattle.ox_app.proofs.Stops.{all_shown, part_stops, part_went, show_stops, stopped_as, stops_apart, unstopped}
-use Rattle.ox_app.proofs.apply.follow.Goals as goal
+use Rattle.ox_app.proofs.apply.answer_feed.Goals as goal
 
 pub loop-lines-init : goal.loop-lines-init
 loop-lines-init g c =
