@@ -4,7 +4,7 @@ use Rattle.std.specs.Str.Parse.{digits_value}
 use Rattle.std.specs.Str.{IsUtf8}
 use Rattle.std.proofs.lemmas.Fmt.{IsAscii-decimal, decimal_is_IsNumeral}
 use Rattle.std.proofs.lemmas.Str.{IsUtf8-from_ascii}
-use Rattle.ox_app.specs.Subcommands.{IsDepth, IsDrillLength, IsTurns}
+use Rattle.ox_app.specs.Subcommands.{IsDepth, IsUpTo}
 
 same_one : (a x : List ℕ) → a ≡ x → a ∷ [] ≡ x ∷ []
 same_one a x e = rw e refl
@@ -35,7 +35,7 @@ three_words (a ∷ b ∷ []) row word last x y z low high r w l first second thi
 three_words (a ∷ b ∷ c ∷ []) row word last x y z low high r w l first second third = same_three a b c x y z (sym r ∙ first) (sym w ∙ second) (sym l ∙ third)
 three_words (a ∷ b ∷ c ∷ d ∷ words) row word last x y z low high r w l first second third = absurd (omega arith)
 
--- ---- depths
+-- ---- numbers
 
 pub same_number : (m n : ℕ) → m < 2 ^ 64 → n < 2 ^ 64 → decimal m ≡ decimal n → m ≡ n
 same_number m n few few' is = sym (decimal_is_IsNumeral m few).1 ∙ ap (digits_value 10) is ∙ (decimal_is_IsNumeral n few').1
@@ -43,33 +43,11 @@ same_number m n few few' is = sym (decimal_is_IsNumeral m few).1 ∙ ap (digits_
 pub same_depth : (m n : ℕ) → IsDepth m → IsDepth n → decimal m ≡ decimal n → m ≡ n
 same_depth m n p q = same_number m n (omega (arith, p.few)) (omega (arith, q.few))
 
--- a number that is no depth isn't written as one
-pub no_depth : (number : ℕ) (text : List ℕ) → number < 2 ^ 64 → text ≡ decimal number → (IsDepth number → ⊥) → (depth : ℕ) → IsDepth depth → text ≢ decimal depth
-no_depth number text few is isnt depth fits written =
-    isnt (subst IsDepth (sym (same_number number depth few (omega (arith, fits.few)) (sym is ∙ written))) fits)
+-- a number that isn't within a limit isn't written as one that is
+pub none_within : (most number : ℕ) (text : List ℕ) → most < 2 ^ 64 → number < 2 ^ 64 → text ≡ decimal number → (IsUpTo most number → ⊥) → (n : ℕ) → IsUpTo most n → text ≢ decimal n
+none_within most number text bounded few is isnt n fits written =
+    isnt (subst (IsUpTo most) (sym (same_number number n few (omega (arith, bounded, fits.few)) (sym is ∙ written))) fits)
 
--- a depth is written as text
-pub depth_text : (depth : ℕ) (word : List ℕ) → IsDepth depth → word ≡ decimal depth → IsUtf8 word
-depth_text depth word fits written = subst IsUtf8 (sym written) (IsUtf8-from_ascii (decimal depth) (IsAscii-decimal depth (omega (arith, fits.few))))
-
--- ---- numbers of turns
-
--- a number that is none of turns isn't written as one
-pub no_turns : (number : ℕ) (text : List ℕ) → number < 2 ^ 64 → text ≡ decimal number → (IsTurns number → ⊥) → (turns : ℕ) → IsTurns turns → text ≢ decimal turns
-no_turns number text few is isnt turns fits written =
-    isnt (subst IsTurns (sym (same_number number turns few (omega (arith, fits.few)) (sym is ∙ written))) fits)
-
--- a number of turns is written as text
-pub turns_text : (turns : ℕ) (word : List ℕ) → IsTurns turns → word ≡ decimal turns → IsUtf8 word
-turns_text turns word fits written = subst IsUtf8 (sym written) (IsUtf8-from_ascii (decimal turns) (IsAscii-decimal turns (omega (arith, fits.few))))
-
--- ---- lengths of drills
-
--- a number that is no length isn't written as one
-pub no_length : (number : ℕ) (text : List ℕ) → number < 2 ^ 64 → text ≡ decimal number → (IsDrillLength number → ⊥) → (n : ℕ) → IsDrillLength n → text ≢ decimal n
-no_length number text few is isnt n fits written =
-    isnt (subst IsDrillLength (sym (same_number number n few (omega (arith, fits.few)) (sym is ∙ written))) fits)
-
--- a length is written as text
-pub length_text : (n : ℕ) (word : List ℕ) → IsDrillLength n → word ≡ decimal n → IsUtf8 word
-length_text n word fits written = subst IsUtf8 (sym written) (IsUtf8-from_ascii (decimal n) (IsAscii-decimal n (omega (arith, fits.few))))
+-- a number within a limit is written as text
+pub number_text : (most n : ℕ) (word : List ℕ) → most < 2 ^ 64 → IsUpTo most n → word ≡ decimal n → IsUtf8 word
+number_text most n word bounded fits written = subst IsUtf8 (sym written) (IsUtf8-from_ascii (decimal n) (IsAscii-decimal n (omega (arith, bounded, fits.few))))

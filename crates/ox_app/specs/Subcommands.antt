@@ -35,20 +35,22 @@ drill_words n = codes "drill" ∷ decimal n ∷ []
 abbrev pub migrate_words : List (List ℕ)
 migrate_words = codes "migrate" ∷ []
 
+-- a number from 1 to this one
+pub record IsUpTo (most n : ℕ) : Type 0 where
+  pub some : 1 ≤ n
+  pub few : n ≤ most
+
 -- how many blocks a store may keep
-pub record IsDepth (depth : ℕ) : Type 0 where
-  pub some : 1 ≤ depth
-  pub few : depth ≤ 1000
+abbrev pub IsDepth : ℕ → Type 0
+IsDepth = IsUpTo 1000
 
 -- how many turns a server may make
-pub record IsTurns (turns : ℕ) : Type 0 where
-  pub some : 1 ≤ turns
-  pub few : turns ≤ greatest
+abbrev pub IsTurns : ℕ → Type 0
+IsTurns = IsUpTo greatest
 
 -- how many blocks a drill may have
-pub record IsDrillLength (n : ℕ) : Type 0 where
-  pub some : 1 ≤ n
-  pub few : n ≤ 100000
+abbrev pub IsDrillLength : ℕ → Type 0
+IsDrillLength = IsUpTo 100000
 
 -- the words are no subcommand
 pub record IsUnknown (words : List (List ℕ)) : Type 0 where

@@ -1,7 +1,7 @@
 //! The subcommands.
 
 ghost use Rattle.std.specs.Prelude.{◌≡◌, ◌≢◌, ℕ, IfSome, IfNone, decimal};
-ghost use Rattle.ox_app.specs.Subcommands.{IsDepth, IsDrillLength, IsSubcommand, IsTurns};
+ghost use Rattle.ox_app.specs.Subcommands.{IsSubcommand, IsUpTo};
 
 use ox_bytes::Bytes;
 use ox_sat::{ProfileName, read_number};
@@ -27,70 +27,31 @@ pub enum Subcommand<'a> {
     Unknown,
 }
 
-/// The depth that a text writes.
-fn read_depth(text: &str) -> Option<u16>
-    ensures found { IfSome result (λ depth. IsDepth depth × (text.now ≡ decimal depth)) }
-    ensures only { IfNone result ((depth : ℕ) → IsDepth depth → text.now ≢ decimal depth) }
+/// The greatest depth of a store.
+const DEPTH_LIMIT: u64 = 1000;
+
+/// The most blocks of a drill.
+const DRILL_LIMIT: u64 = 100_000;
+
+/// The number from 1 to this one that a text writes.
+fn read_up_to(text: &str, most: u64) -> Option<u64>
+    ensures found { IfSome result (λ n. IsUpTo most n × (text.now ≡ decimal n)) }
+    ensures only { IfNone result ((n : ℕ) → IsUpTo most n → text.now ≢ decimal n) }
 {
     match read_number(text) {
-        Some(number) if 1 <= number && number <= 1000 => Some(number as u16),
+        Some(number) if 1 <= number && number <= most => Some(number),
         _ => None,
     }
 }
 
-/// The depth that a word writes: decimal digits with no sign and no leading zero, from 1 to 1,000.
-fn depth_in(word: &[u8]) -> Option<u16>
-    ensures found { IfSome result (λ depth. IsDepth depth × (word.now ≡ decimal depth)) }
-    ensures only { IfNone result ((depth : ℕ) → IsDepth depth → word.now ≢ decimal depth) }
+/// The number from 1 to this one that a word writes: decimal digits with no sign and no leading
+/// zero.
+fn number_in(word: &[u8], most: u64) -> Option<u64>
+    ensures found { IfSome result (λ n. IsUpTo most n × (word.now ≡ decimal n)) }
+    ensures only { IfNone result ((n : ℕ) → IsUpTo most n → word.now ≢ decimal n) }
 {
     match str::from_utf8(word) {
-        Ok(text) => read_depth(text),
-        Err(_) => None,
-    }
-}
-
-/// The number of turns that a text writes.
-fn read_turns(text: &str) -> Option<u64>
-    ensures found { IfSome result (λ turns. IsTurns turns × (text.now ≡ decimal turns)) }
-    ensures only { IfNone result ((turns : ℕ) → IsTurns turns → text.now ≢ decimal turns) }
-{
-    match read_number(text) {
-        Some(number) if 1 <= number => Some(number),
-        _ => None,
-    }
-}
-
-/// The number of turns that a word writes: decimal digits with no sign and no leading zero, from 1
-/// to 18,446,744,073,709,551,615.
-fn turns_in(word: &[u8]) -> Option<u64>
-    ensures found { IfSome result (λ turns. IsTurns turns × (word.now ≡ decimal turns)) }
-    ensures only { IfNone result ((turns : ℕ) → IsTurns turns → word.now ≢ decimal turns) }
-{
-    match str::from_utf8(word) {
-        Ok(text) => read_turns(text),
-        Err(_) => None,
-    }
-}
-
-/// The length of a drill that a text writes.
-fn read_length(text: &str) -> Option<u32>
-    ensures found { IfSome result (λ n. IsDrillLength n × (text.now ≡ decimal n)) }
-    ensures only { IfNone result ((n : ℕ) → IsDrillLength n → text.now ≢ decimal n) }
-{
-    match read_number(text) {
-        Some(number) if 1 <= number && number <= 100_000 => Some(number as u32),
-        _ => None,
-    }
-}
-
-/// The length of a drill that a word writes: decimal digits with no sign and no leading zero, from
-/// 1 to 100,000.
-fn length_in(word: &[u8]) -> Option<u32>
-    ensures found { IfSome result (λ n. IsDrillLength n × (word.now ≡ decimal n)) }
-    ensures only { IfNone result ((n : ℕ) → IsDrillLength n → word.now ≢ decimal n) }
-{
-    match str::from_utf8(word) {
-        Ok(text) => read_length(text),
+        Ok(text) => read_up_to(text, most),
         Err(_) => None,
     }
 }
@@ -111,24 +72,26 @@ pub fn subcommand_of(words: &[Bytes]) -> Subcommand<'_>
             Some(name) => Subcommand::Fold(name),
             None => Subcommand::Unknown,
         },
-        [first, turns] if first.as_slice() == b"serve".as_slice() => match turns_in(
+        [first, turns] if first.as_slice() == b"serve".as_slice() => match number_in(
             turns.as_slice(),
+            u64::MAX,
         ) {
             Some(turns) => Subcommand::Serve(turns),
             None => Subcommand::Unknown,
         },
-        [first, length] if first.as_slice() == b"drill".as_slice() => match length_in(
+        [first, length] if first.as_slice() == b"drill".as_slice() => match number_in(
             length.as_slice(),
+            DRILL_LIMIT,
         ) {
-            Some(n) => Subcommand::Drill(n),
+            Some(n) => Subcommand::Drill(n as u32),
             None => Subcommand::Unknown,
         },
         [first, profile, depth] if first.as_slice() == b"init".as_slice() => {
             match (
                 ProfileName::of_word(profile.as_slice()),
-                depth_in(depth.as_slice()),
+                number_in(depth.as_slice(), DEPTH_LIMIT),
             ) {
-                (Some(name), Some(depth)) => Subcommand::Init(name, depth),
+                (Some(name), Some(depth)) => Subcommand::Init(name, depth as u16),
                 _ => Subcommand::Unknown,
             }
         }

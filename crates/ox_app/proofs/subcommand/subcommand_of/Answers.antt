@@ -42,22 +42,22 @@ returns-in-Some-Some c =
           ((bytes_eq-Decides c.first-item-then-words-lt4.result (codes "init")).0 (sym first)) (sym c.as_slice-in-len3.ensures ∙ c.in-Some-Some.ensures.found) (sym c.as_slice-in-len3-2.ensures ∙ depth.1),
     )
 
-pub returns-in-Some-turns_in : goal.returns-in-Some-turns_in
-returns-in-Some-turns_in c =
+pub returns-in-Some-number_in : goal.returns-in-Some-number_in
+returns-in-Some-number_in c =
     let first = rw (c.as_slice-then-words-lt3-5.ensures, c.as_slice-then-words-lt3-6.ensures) at c.if-eq-5.ensures in
-    let turns = c.in-Some-turns_in.ensures.found in (
+    let turns = c.in-Some-number_in.ensures.found in (
       turns.0,
-      two_words c.args.words.now c.first-item-then-words-lt3-3.result c.turns-item.result (codes "serve") (decimal c.in-Some-turns_in.turns)
+      two_words c.args.words.now c.first-item-then-words-lt3-3.result c.turns-item.result (codes "serve") (decimal c.in-Some-number_in.turns)
           c.in-len2.len_at_least c.in-len2.len_below c.first-item-then-words-lt3-3.is c.turns-item.is
           ((bytes_eq-Decides c.first-item-then-words-lt3-3.result (codes "serve")).0 (sym first)) (sym c.as_slice-in-len2-3.ensures ∙ turns.1),
     )
 
-pub returns-in-Some-length_in : goal.returns-in-Some-length_in
-returns-in-Some-length_in c =
+pub returns-in-Some-number_in-2 : goal.returns-in-Some-number_in-2
+returns-in-Some-number_in-2 c =
     let first = rw (c.as_slice-then-words-lt3-7.ensures, c.as_slice-then-words-lt3-8.ensures) at c.if-eq-6.ensures in
-    let length = c.in-Some-length_in.ensures.found in (
+    let length = c.in-Some-number_in-2.ensures.found in (
       length.0,
-      two_words c.args.words.now c.first-item-then-words-lt3-4.result c.length-item.result (codes "drill") (decimal c.in-Some-length_in.n)
+      two_words c.args.words.now c.first-item-then-words-lt3-4.result c.length-item.result (codes "drill") (decimal c.in-Some-number_in-2.n)
           c.in-len2.len_at_least c.in-len2.len_below c.first-item-then-words-lt3-4.is c.length-item.is
           ((bytes_eq-Decides c.first-item-then-words-lt3-4.result (codes "drill")).0 (sym first)) (sym c.as_slice-in-len2-4.ensures ∙ length.1),
     )
