@@ -3,6 +3,7 @@ pub mod Coming
 pub mod Following
 pub mod LinkCrashes
 pub mod LinkTurns
+pub mod Promised
 pub mod Rotating
 pub mod Rounds
 pub mod Surviving

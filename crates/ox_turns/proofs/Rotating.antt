@@ -8,7 +8,7 @@ use Rattle.ox_outside.specs.declared.site.Doorway.TheVariants.{Public, Operator}
 use Rattle.ox_session.specs.Link.{new_link}
 use Rattle.ox_links.specs.Rotation.{Who, door_of, link_of, first_who, is_free, places}
 use Rattle.ox_turns.specs.Follows.{Holds}
-use Rattle.ox_turns.specs.Places.{channels_of, IsFirstOn, IsLowestFree, IsNext}
+use Rattle.ox_turns.specs.Places.{Places, channels_of, IsFirstOn, IsLowestFree, IsNext}
 use Rattle.ox_turns.specs.Turn.{IsReady}
 use Rattle.ox_turns.specs.declared.slot.Slot.{Slot}
 use Rattle.ox_turns.proofs.Following.{first_nil}
@@ -110,6 +110,14 @@ within_some (s ∷ slots) (suc i) some = let e : i < length slots = within_some 
 
 pub held_here : (slots : List (Option Slot)) (at : ℕ) (o : Option Slot) (slot : Slot) → at < length slots → o ≡ get_or slots at o → o ≡ Some slot → Holds slots at slot
 held_here slots at o slot inside read is = sym (get_or_read slots at o inside read None) ∙ is
+
+-- the link that was read in a slot, behind a view and within it
+pub slot_seen : (within outer : Places) → within ≡ outer → (at : ℕ) (o : Option Slot) (slot : Slot) → IsSome (get_or outer.slots at None) → o ≡ get_or within.slots at o → o ≡ Some slot
+    → (at < length within.slots) × Holds within.slots at slot × Holds outer.slots at slot
+slot_seen within outer same at o slot some read is =
+    let inside = subst (λ (p : Places). at < length p.slots) (sym same) (within_some outer.slots at some) in
+    let held = held_here within.slots at o slot inside read is in
+    (inside, held, subst (λ (p : Places). Holds p.slots at slot) same held)
 
 pub set_again : (slots : List (Option Slot)) (at : ℕ) (a b : Option Slot) → set (set slots at a) at b ≡ set slots at b
 set_again [] at a b = refl

@@ -1,16 +1,16 @@
 -- What one turn makes.
-use Rattle.std.specs.Prelude.{◌≡◌, ◌⊎◌, ℕ, ◌≤◌, suc, Bool, true, false, not, IsTrue}
-use Rattle.std.specs.Prelude.{if◌then◌else◌, List, [], ◌∷◌, ◌++◌, All, Option, Some, length, take}
-use Rattle.std.specs.Prelude.{drop}
+use Rattle.std.specs.Prelude.{◌≡◌, ◌⊎◌, ℕ, ◌+◌, ◌≤◌, suc, Bool, true, false, not, IsTrue}
+use Rattle.std.specs.Prelude.{if◌then◌else◌, List, [], ◌∷◌, ◌++◌, All, Option, Some, None, length}
+use Rattle.std.specs.Prelude.{take, drop, Result, Err, OnOk, IsErrOf}
 use Rattle.std.specs.Option.{ForSome}
-use Rattle.ox_outside.specs.Counts.{Counts, Rose}
+use Rattle.ox_outside.specs.Counts.{Counts, Rose, StopsAtFault}
 use Rattle.ox_outside.specs.Event.{Event, Opened, Heard, Ended, Showed, Broke, GaveUp, Shut}
 use Rattle.ox_outside.specs.Event.{channel_of}
 use Rattle.ox_outside.specs.Event.{has_broken, has_given_up, is_named, is_open, shown_bytes}
 use Rattle.ox_outside.specs.Event.{was_opened}
 use Rattle.ox_outside.specs.Files.{Files}
-use Rattle.ox_outside.specs.Log.{Adds}
-use Rattle.ox_outside.specs.Runs.{OnlyTalks}
+use Rattle.ox_outside.specs.Log.{Adds, Grows}
+use Rattle.ox_outside.specs.Runs.{Calls, LeavesOnly, OnlyTalks}
 use Rattle.ox_outside.specs.Shown.{IsFrontOf}
 use Rattle.ox_outside.specs.declared.site.Doorway.{Doorway}
 use Rattle.ox_outside.specs.declared.site.Site.{Ghosts as Meanings}
@@ -25,15 +25,19 @@ use Rattle.ox_links.specs.Rotation.{Who, door_of, link_of, next_turn, slots_afte
 use Rattle.ox_links.specs.Rotation.{without_link}
 use Rattle.ox_links.specs.Serving.{Server, Serving, after_event, gives_up, serve_on}
 use Rattle.ox_links.specs.Serving.{served_by}
+use Rattle.ox_links.specs.Survives.{Survives}
 use Rattle.ox_links.specs.Turned.{IsCut, IsFirst, IsTurn, is_first}
 use Rattle.ox_turns.specs.Desk.{state_behind}
 use Rattle.ox_turns.specs.Follows.{Follows, IsAtRest, LinkFollows, ShowsFrontsIn, Start}
 use Rattle.ox_turns.specs.Places.{IsSeated, Places}
+use Rattle.ox_turns.specs.declared.handler.Desk.{Ghosts as Desk}
 use Rattle.ox_turns.specs.declared.link.Came.{Came}
 use Rattle.ox_turns.specs.declared.link.Came.TheVariants.{Nothing, Part, More, NoMemory, Over}
 use Rattle.ox_turns.specs.declared.link.Next.{Next}
 use Rattle.ox_turns.specs.declared.link.Next.TheVariants.{Rests, NoMemory as NoneLeft, Over as Ends}
 use Rattle.ox_turns.specs.declared.slot.Slot.{Slot}
+use Rattle.ox_turns.specs.declared.turns.TurnFault.{TurnFault}
+use Rattle.ox_turns.specs.declared.turns.TurnFault.TheVariants.{DiskFault, DoorFault}
 
 -- ---- the call on a link's channel
 
@@ -268,3 +272,27 @@ abbrev pub FollowsSome : {X C : Type 0} → Server X C → List (Option Slot) �
 FollowsSome {X = X} server slots now log =
     (start : Start X) × (since : List Event) × (log ≡ start.log ++ since)
     × Follows server start since slots now
+
+-- What a turn promises, whosever it is and however it ended: of slots before it, of a site and of
+-- a desk.
+pub record TurnPromises {S D T : Type 0} (means : Meanings S) (desk : Desk D S)
+    (result : Result T TurnFault) (slots : List (Option Slot)) (before after : S) (old new : D)
+    : Type 0 where
+  -- at each moment a crash leaves files and a log that survive, from each start that they follow
+  pub survives : (start : Start desk.State) (since : List Event)
+      → means.log before ≡ Some (start.log ++ since)
+      → Follows desk.server start since slots (desk.state old)
+      → IsTrue (means.told before) → LeavesOnly means before after (λ r. Grows (λ events.
+      Survives desk.server start.state desk.stands (since ++ events) r.files)
+      (means.log before) (Some r.log))
+  pub untold : means.log before ≡ None → means.log after ≡ None
+  pub rests : OnOk result (desk.rests new after)
+  pub asked : desk.asked new ≤ desk.asked old + 1
+  pub disk_fault : IsErrOf result DiskFault
+      → Rose (means.counts before).disk (means.counts after).disk
+  pub door_fault : IsErrOf result DoorFault
+      → Rose (means.counts before).door (means.counts after).door
+  pub door_logs : IsErrOf result DoorFault → means.log after ≡ means.log before
+  pub counted : StopsAtFault (result ≡ Err DiskFault) ⊥ ⊥ (means.counts before)
+      (means.counts after)
+  pub calls : Calls means before after

@@ -1,22 +1,19 @@
 //! The slots of a server, and the rotation.
 
-ghost use Rattle.std.specs.Prelude.{◌≡◌, ◌≢◌, ◌<◌, ◌≤◌, ◌+◌, ◌++◌, List, true, IsTrue, Some, None};
-ghost use Rattle.std.specs.Prelude.{Err, IfOk, IfErr, OnOk, OnErr, IfSome, IsErrOf, IsSome};
+ghost use Rattle.std.specs.Prelude.{◌≡◌, ◌≢◌, ◌<◌, ◌≤◌, ◌+◌, ◌++◌, List, true, Some, None};
+ghost use Rattle.std.specs.Prelude.{IfOk, IfErr, OnOk, OnErr, IfSome, IsSome};
 ghost use Rattle.std.specs.Prelude.{is_some, get_or, length, replicate, set, vec_len};
 ghost use Rattle.std.specs.List.{list_any};
 ghost use Rattle.std.specs.Option.{ForSome};
-ghost use Rattle.ox_outside.specs.Counts.{NoFault, Rose, StopsAtFault, greatest};
+ghost use Rattle.ox_outside.specs.Counts.{NoFault, Rose, greatest};
 ghost use Rattle.ox_outside.specs.Crash.{LeavesFiles, OneCall};
 ghost use Rattle.ox_outside.specs.Event.{Event};
-ghost use Rattle.ox_outside.specs.Log.{Grows};
-ghost use Rattle.ox_outside.specs.Runs.{Calls, LeavesOnly};
 ghost use Rattle.ox_links.specs.Rotation.{Who, is_free, link_of, places};
 ghost use Rattle.ox_links.specs.Serving.{served_by};
-ghost use Rattle.ox_links.specs.Survives.{Survives};
 ghost use Rattle.ox_turns.specs.Follows.{Follows, Holds, Start};
 ghost use Rattle.ox_turns.specs.Places.{IsFirstOn, IsLowestFree, IsNext, IsSeated, channels_of};
 ghost use Rattle.ox_turns.specs.Turn.{CutOf, DoorComes, FollowsSome, LinkCut, OneTurn};
-ghost use Rattle.ox_turns.specs.Turn.{TurnCut, TurnOf};
+ghost use Rattle.ox_turns.specs.Turn.{TurnCut, TurnOf, TurnPromises};
 ghost use Rattle.ox_turns.specs.declared.slot.Slot.{Slot as Held};
 
 use crate::slot::Slot;
@@ -251,21 +248,10 @@ impl Turns {
             → Holds self.old.slots at slot → OnErr result (LinkCut D.server
             (served_by D.server start.state since) (start.log ++ since) slot.channel
             (S.log site.new)) }
-        ensures survives { (start : Start D.State) (since : List Event)
-            → S.log site.old ≡ Some (start.log ++ since)
-            → Follows D.server start since self.old.slots (D.state desk.old)
-            → IsTrue (S.told site.old) → LeavesOnly S.Site site.old site.new (λ r. Grows (λ events.
-            Survives D.server start.state D.stands (since ++ events) r.files) (S.log site.old)
-            (Some r.log)) }
-        ensures untold { S.log site.old ≡ None → S.log site.new ≡ None }
+        ensures promises { TurnPromises S.Site D.Desk result self.old.slots site.old site.new
+            desk.old desk.new }
         ensures place { self.new.place ≡ self.old.place }
         ensures fault { IfErr result (λ fault. fault ≡ TurnFault.DiskFault) }
-        ensures rests { OnOk result (D.rests desk.new site.new) }
-        ensures asked { D.asked desk.new ≤ D.asked desk.old + 1 }
-        ensures failed { OnErr result (Rose (S.counts site.old).disk (S.counts site.new).disk) }
-        ensures counted { StopsAtFault (result ≡ Err TurnFault.DiskFault) ⊥ ⊥ (S.counts site.old)
-            (S.counts site.new) }
-        ensures calls { Calls S.Site site.old site.new }
     {
         match &mut self.slots[at] {
             Some(slot) => match link::step_link(slot, self.room.as_mut_slice(), site, desk) {
@@ -306,24 +292,9 @@ impl Turns {
             → Follows D.server start since self.old.slots (D.state desk.old)
             → get_or (places (channels_of self.old.slots)) at None ≡ Some who → OnErr result (
             CutOf D.server start since who (S.log site.new)) }
-        ensures survives { (start : Start D.State) (since : List Event)
-            → S.log site.old ≡ Some (start.log ++ since)
-            → Follows D.server start since self.old.slots (D.state desk.old)
-            → IsTrue (S.told site.old) → LeavesOnly S.Site site.old site.new (λ r. Grows (λ events.
-            Survives D.server start.state D.stands (since ++ events) r.files) (S.log site.old)
-            (Some r.log)) }
-        ensures untold { S.log site.old ≡ None → S.log site.new ≡ None }
+        ensures promises { TurnPromises S.Site D.Desk result self.old.slots site.old site.new
+            desk.old desk.new }
         ensures place { self.new.place ≡ self.old.place }
-        ensures rests { OnOk result (D.rests desk.new site.new) }
-        ensures asked { D.asked desk.new ≤ D.asked desk.old + 1 }
-        ensures disk_fault { IsErrOf result TurnFault.DiskFault
-            → Rose (S.counts site.old).disk (S.counts site.new).disk }
-        ensures door_fault { IsErrOf result TurnFault.DoorFault
-            → Rose (S.counts site.old).door (S.counts site.new).door }
-        ensures door_logs { IsErrOf result TurnFault.DoorFault → S.log site.new ≡ S.log site.old }
-        ensures counted { StopsAtFault (result ≡ Err TurnFault.DiskFault) ⊥ ⊥ (S.counts site.old)
-            (S.counts site.new) }
-        ensures calls { Calls S.Site site.old site.new }
     {
         if at < 2 {
             self.turn_of_door(door_at(at), site)
@@ -355,23 +326,8 @@ impl Turns {
             → S.log site.old ≡ Some (start.log ++ since)
             → Follows D.server start since self.old.slots (D.state desk.old) → OnErr result (
             TurnCut D.server start since self.old.place (S.log site.new)) }
-        ensures survives { (start : Start D.State) (since : List Event)
-            → S.log site.old ≡ Some (start.log ++ since)
-            → Follows D.server start since self.old.slots (D.state desk.old)
-            → IsTrue (S.told site.old) → LeavesOnly S.Site site.old site.new (λ r. Grows (λ events.
-            Survives D.server start.state D.stands (since ++ events) r.files) (S.log site.old)
-            (Some r.log)) }
-        ensures untold { S.log site.old ≡ None → S.log site.new ≡ None }
-        ensures rests { OnOk result (D.rests desk.new site.new) }
-        ensures asked { D.asked desk.new ≤ D.asked desk.old + 1 }
-        ensures disk_fault { IsErrOf result TurnFault.DiskFault
-            → Rose (S.counts site.old).disk (S.counts site.new).disk }
-        ensures door_fault { IsErrOf result TurnFault.DoorFault
-            → Rose (S.counts site.old).door (S.counts site.new).door }
-        ensures door_logs { IsErrOf result TurnFault.DoorFault → S.log site.new ≡ S.log site.old }
-        ensures counted { StopsAtFault (result ≡ Err TurnFault.DiskFault) ⊥ ⊥ (S.counts site.old)
-            (S.counts site.new) }
-        ensures calls { Calls S.Site site.old site.new }
+        ensures promises { TurnPromises S.Site D.Desk result self.old.slots site.old site.new
+            desk.old desk.new }
     {
         let at = self.next();
         self.place = at + 1;

@@ -1,27 +1,28 @@
 use Rattle.std.proofs.Common.{◌≡◌, ◌∙◌, ◌<◌, ◌++◌, Bool, true, false, List, ap, sym, subst, refl, set, length, None, Some, Option}
+use Rattle.std.specs.Prelude.{Ok, Err}
 use Rattle.ox_links.specs.Rotation.{link_of}
 use Rattle.ox_links.specs.Serving.{served_by}
 use Rattle.ox_turns.specs.Follows.{Holds}
 use Rattle.ox_turns.specs.Places.{Places}
 use Rattle.ox_turns.specs.Turn.{IsGoing, IsReady, LinkCut, LinkTurns, TurnOf}
 use Rattle.ox_turns.specs.declared.slot.Slot.{Slot}
-use Rattle.ox_turns.proofs.Rotating.{held_here, ready_set, set_again, within_some}
+use Rattle.ox_turns.specs.declared.turns.TurnFault.TheVariants.{DiskFault}
+use Rattle.ox_outside.proofs.Counts.{stops_as}
+use Rattle.ox_turns.proofs.Promised.{link_promises, slot_survives}
+use Rattle.ox_turns.proofs.Rotating.{ready_set, set_again, slot_seen, within_some}
 use Rattle.ox_turns.proofs.Turned.{going_of, fronts_since, slot_turned}
 use Rattle.ox_turns.proofs.turns.Turns.turn_of_slot.Goals as goal
 
 pub step_link-requires-clause-ready : goal.step_link-requires-clause-ready
 step_link-requires-clause-ready g c =
-    let inside : c.args.at < length c.self.inside.slots.items = subst (λ (p : Places). c.args.at < length p.slots) (sym c.self.view_is) (within_some c.args.self.now.slots c.args.at c.requires.held) in
-    let held : Holds c.self.inside.slots.items c.args.at c.in-Some.slot = held_here c.self.inside.slots.items c.args.at c.index_mut.result.now c.in-Some.slot inside c.index_mut.ensures.value c.in-Some.is in
-    c.self.invariant.3 c.args.at c.in-Some.slot held
+    let seen = slot_seen _ _ c.self.view_is c.args.at c.index_mut.result.now c.in-Some.slot c.requires.held c.index_mut.ensures.value c.in-Some.is in
+    c.self.invariant.3 c.args.at c.in-Some.slot seen.1
 
 pub step_link-requires-clause-goes_on : goal.step_link-requires-clause-goes_on
 step_link-requires-clause-goes_on g c x is =
-    let inside : c.args.at < length c.self.inside.slots.items = subst (λ (p : Places). c.args.at < length p.slots) (sym c.self.view_is) (within_some c.args.self.now.slots c.args.at c.requires.held) in
-    let held : Holds c.self.inside.slots.items c.args.at c.in-Some.slot = held_here c.self.inside.slots.items c.args.at c.index_mut.result.now c.in-Some.slot inside c.index_mut.ensures.value c.in-Some.is in
-    let seen : Holds c.args.self.now.slots c.args.at c.in-Some.slot = subst (λ (p : Places). Holds p.slots c.args.at c.in-Some.slot) c.self.view_is held in
+    let seen = slot_seen _ _ c.self.view_is c.args.at c.index_mut.result.now c.in-Some.slot c.requires.held c.index_mut.ensures.value c.in-Some.is in
     let some = c.requires.follows x is in
-    subst (IsGoing c.in-Some.slot.channel c.in-Some.slot.session) (sym some.2) (going_of g.D.Desk.server g.met.D.Desk.http some.0 some.1 c.args.self.now.slots (g.D.Desk.state c.args.desk.now) some.3 c.args.at c.in-Some.slot seen)
+    subst (IsGoing c.in-Some.slot.channel c.in-Some.slot.session) (sym some.2) (going_of g.D.Desk.server g.met.D.Desk.http some.0 some.1 c.args.self.now.slots (g.D.Desk.state c.args.desk.now) some.3 c.args.at c.in-Some.slot seen.2)
 
 pub invariant_of-self : goal.invariant_of-self
 invariant_of-self g c =
@@ -44,56 +45,59 @@ invariant_of-self-in-Ok-false g c =
     let all = ready_set c.self.inside.slots.items c.args.at (Some c.step_link.new.slot) inside c.self.invariant.3 (λ (a : Slot) e. let f : c.step_link.new.slot ≡ a = cc e in subst (λ (s : Slot). IsReady s.session) f ready) in
     (c.self.invariant.0, c.self.invariant.1, c.self.invariant.2, all)
 
-pub returns-in-Ok-true-clause-turn : goal.returns-in-Ok-true-clause-turn
-returns-in-Ok-true-clause-turn g c start since slot is follows at_slot =
-    let inside : c.args.at < length c.self.inside.slots.items = subst (λ (p : Places). c.args.at < length p.slots) (sym c.self.view_is) (within_some c.args.self.now.slots c.args.at c.requires.held) in
-    let held : Holds c.self.inside.slots.items c.args.at c.in-Some.slot = held_here c.self.inside.slots.items c.args.at c.index_mut.result.now c.in-Some.slot inside c.index_mut.ensures.value c.in-Some.is in
-    let seen : Holds c.args.self.now.slots c.args.at c.in-Some.slot = subst (λ (p : Places). Holds p.slots c.args.at c.in-Some.slot) c.self.view_is held in
-    let made = c.in-Ok-true.ensures.turn (start.log ++ since) (served_by g.D.Desk.server start.state since) is (follows.links c.args.at c.in-Some.slot seen) (fronts_since g.D.Desk.server g.met.D.Desk.http start since c.args.self.now.slots (g.D.Desk.state c.args.desk.now) follows) follows.state in
-    let made = subst (λ (b : Bool). LinkTurns g.S.Site g.D.Desk.server g.D.Desk.moved g.D.Desk.same (served_by g.D.Desk.server start.state since) (start.log ++ since) c.in-Some.slot.channel c.in-Some.slot.door b c.args.site.now c.step_link.new.site c.step_link.new.slot.session (g.D.Desk.state c.step_link.new.desk) c.args.desk.now c.step_link.new.desk) c.in-Ok-true.field-0-test made in
-    let whose : c.in-Some.slot ≡ slot = (let e : Some c.in-Some.slot ≡ Some slot = sym seen ∙ at_slot in cc e) in
-    subst (λ (s : Slot). TurnOf g.S.Site g.D.Desk.server g.D.Desk.moved g.D.Desk.same start since (link_of s.channel) c.put.new.slots.items c.args.site.now c.step_link.new.site (g.D.Desk.state c.step_link.new.desk) c.args.desk.now c.step_link.new.desk) whose
-    (slot_turned g.D.Desk.server g.met.D.Desk.http start since c.args.self.now.slots (g.D.Desk.state c.args.desk.now) follows g.S.Site g.D.Desk.moved g.D.Desk.same c.args.at c.in-Some.slot seen true c.step_link.new.slot c.in-Ok-true.ensures.channel c.in-Ok-true.ensures.door c.put.new.slots.items
-    (c.put.ensures.items ∙ set_again c.self.inside.slots.items c.args.at (Some c.step_link.new.slot) None ∙ ap (λ (p : Places). set p.slots c.args.at None) c.self.view_is) c.args.site.now c.step_link.new.site (g.D.Desk.state c.step_link.new.desk) c.args.desk.now c.step_link.new.desk made)
+pub returns-in-Ok-true : goal.returns-in-Ok-true
+returns-in-Ok-true g c =
+    let seen = slot_seen _ _ c.self.view_is c.args.at c.index_mut.result.now c.in-Some.slot c.requires.held c.index_mut.ensures.value c.in-Some.is in
+    record {
+      turn = λ start since slot is follows at_slot.
+          let made = c.in-Ok-true.ensures.turn (start.log ++ since) (served_by g.D.Desk.server start.state since) is (follows.links c.args.at c.in-Some.slot seen.2) (fronts_since g.D.Desk.server g.met.D.Desk.http start since c.args.self.now.slots (g.D.Desk.state c.args.desk.now) follows) follows.state in
+          let made = subst (λ (b : Bool). LinkTurns g.S.Site g.D.Desk.server g.D.Desk.moved g.D.Desk.same (served_by g.D.Desk.server start.state since) (start.log ++ since) c.in-Some.slot.channel c.in-Some.slot.door b c.args.site.now c.step_link.new.site c.step_link.new.slot.session (g.D.Desk.state c.step_link.new.desk) c.args.desk.now c.step_link.new.desk) c.in-Ok-true.field-0-test made in
+          let whose : c.in-Some.slot ≡ slot = (let e : Some c.in-Some.slot ≡ Some slot = sym seen.2 ∙ at_slot in cc e) in
+          subst (λ (s : Slot). TurnOf g.S.Site g.D.Desk.server g.D.Desk.moved g.D.Desk.same start since (link_of s.channel) c.put.new.slots.items c.args.site.now c.step_link.new.site (g.D.Desk.state c.step_link.new.desk) c.args.desk.now c.step_link.new.desk) whose
+          (slot_turned g.D.Desk.server g.met.D.Desk.http start since c.args.self.now.slots (g.D.Desk.state c.args.desk.now) follows g.S.Site g.D.Desk.moved g.D.Desk.same c.args.at c.in-Some.slot seen.2 true c.step_link.new.slot c.in-Ok-true.ensures.channel c.in-Ok-true.ensures.door c.put.new.slots.items
+          (c.put.ensures.items ∙ set_again c.self.inside.slots.items c.args.at (Some c.step_link.new.slot) None ∙ ap (λ (p : Places). set p.slots c.args.at None) c.self.view_is) c.args.site.now c.step_link.new.site (g.D.Desk.state c.step_link.new.desk) c.args.desk.now c.step_link.new.desk made);
+      cut = λ start since slot is follows at_slot. tt;
+      promises = link_promises g.S.Site g.D.Desk c.args.self.now.slots c.args.site.now c.step_link.new.site (Ok (tt {0})) c.args.desk.now c.step_link.new.desk
+          (slot_survives g.S.Site g.D.Desk c.args.self.now.slots c.args.site.now c.step_link.new.site g.met.D.Desk.http c.args.at c.in-Some.slot seen.2 c.args.desk.now c.in-Ok-true.ensures.survives)
+          c.in-Ok-true.ensures.untold c.in-Ok-true.ensures.rests c.in-Ok-true.ensures.asked tt c.in-Ok-true.ensures.failed
+          (stops_as _ ⊥ ⊥ _ ⊥ ⊥ _ _ (λ failed. absurd failed) (λ no. no) (λ no. no) c.in-Ok-true.ensures.counted) c.in-Ok-true.ensures.calls;
+      place = ap (λ (p : Places). p.place) c.self.view_is;
+      fault = tt;
+    }
 
-pub returns-in-Ok-false-clause-turn : goal.returns-in-Ok-false-clause-turn
-returns-in-Ok-false-clause-turn g c start since slot is follows at_slot =
-    let inside : c.args.at < length c.self.inside.slots.items = subst (λ (p : Places). c.args.at < length p.slots) (sym c.self.view_is) (within_some c.args.self.now.slots c.args.at c.requires.held) in
-    let held : Holds c.self.inside.slots.items c.args.at c.in-Some.slot = held_here c.self.inside.slots.items c.args.at c.index_mut.result.now c.in-Some.slot inside c.index_mut.ensures.value c.in-Some.is in
-    let seen : Holds c.args.self.now.slots c.args.at c.in-Some.slot = subst (λ (p : Places). Holds p.slots c.args.at c.in-Some.slot) c.self.view_is held in
-    let made = c.in-Ok-false.ensures.turn (start.log ++ since) (served_by g.D.Desk.server start.state since) is (follows.links c.args.at c.in-Some.slot seen) (fronts_since g.D.Desk.server g.met.D.Desk.http start since c.args.self.now.slots (g.D.Desk.state c.args.desk.now) follows) follows.state in
-    let made = subst (λ (b : Bool). LinkTurns g.S.Site g.D.Desk.server g.D.Desk.moved g.D.Desk.same (served_by g.D.Desk.server start.state since) (start.log ++ since) c.in-Some.slot.channel c.in-Some.slot.door b c.args.site.now c.step_link.new.site c.step_link.new.slot.session (g.D.Desk.state c.step_link.new.desk) c.args.desk.now c.step_link.new.desk) c.in-Ok-false.field-0-test made in
-    let whose : c.in-Some.slot ≡ slot = (let e : Some c.in-Some.slot ≡ Some slot = sym seen ∙ at_slot in cc e) in
-    subst (λ (s : Slot). TurnOf g.S.Site g.D.Desk.server g.D.Desk.moved g.D.Desk.same start since (link_of s.channel) (set c.self.inside.slots.items c.args.at (Some c.step_link.new.slot)) c.args.site.now c.step_link.new.site (g.D.Desk.state c.step_link.new.desk) c.args.desk.now c.step_link.new.desk) whose
-    (slot_turned g.D.Desk.server g.met.D.Desk.http start since c.args.self.now.slots (g.D.Desk.state c.args.desk.now) follows g.S.Site g.D.Desk.moved g.D.Desk.same c.args.at c.in-Some.slot seen false c.step_link.new.slot c.in-Ok-false.ensures.channel c.in-Ok-false.ensures.door (set c.self.inside.slots.items c.args.at (Some c.step_link.new.slot))
-    (ap (λ (p : Places). set p.slots c.args.at (Some c.step_link.new.slot)) c.self.view_is) c.args.site.now c.step_link.new.site (g.D.Desk.state c.step_link.new.desk) c.args.desk.now c.step_link.new.desk made)
+pub returns-in-Ok-false : goal.returns-in-Ok-false
+returns-in-Ok-false g c =
+    let seen = slot_seen _ _ c.self.view_is c.args.at c.index_mut.result.now c.in-Some.slot c.requires.held c.index_mut.ensures.value c.in-Some.is in
+    record {
+      turn = λ start since slot is follows at_slot.
+          let made = c.in-Ok-false.ensures.turn (start.log ++ since) (served_by g.D.Desk.server start.state since) is (follows.links c.args.at c.in-Some.slot seen.2) (fronts_since g.D.Desk.server g.met.D.Desk.http start since c.args.self.now.slots (g.D.Desk.state c.args.desk.now) follows) follows.state in
+          let made = subst (λ (b : Bool). LinkTurns g.S.Site g.D.Desk.server g.D.Desk.moved g.D.Desk.same (served_by g.D.Desk.server start.state since) (start.log ++ since) c.in-Some.slot.channel c.in-Some.slot.door b c.args.site.now c.step_link.new.site c.step_link.new.slot.session (g.D.Desk.state c.step_link.new.desk) c.args.desk.now c.step_link.new.desk) c.in-Ok-false.field-0-test made in
+          let whose : c.in-Some.slot ≡ slot = (let e : Some c.in-Some.slot ≡ Some slot = sym seen.2 ∙ at_slot in cc e) in
+          subst (λ (s : Slot). TurnOf g.S.Site g.D.Desk.server g.D.Desk.moved g.D.Desk.same start since (link_of s.channel) (set c.self.inside.slots.items c.args.at (Some c.step_link.new.slot)) c.args.site.now c.step_link.new.site (g.D.Desk.state c.step_link.new.desk) c.args.desk.now c.step_link.new.desk) whose
+          (slot_turned g.D.Desk.server g.met.D.Desk.http start since c.args.self.now.slots (g.D.Desk.state c.args.desk.now) follows g.S.Site g.D.Desk.moved g.D.Desk.same c.args.at c.in-Some.slot seen.2 false c.step_link.new.slot c.in-Ok-false.ensures.channel c.in-Ok-false.ensures.door (set c.self.inside.slots.items c.args.at (Some c.step_link.new.slot))
+          (ap (λ (p : Places). set p.slots c.args.at (Some c.step_link.new.slot)) c.self.view_is) c.args.site.now c.step_link.new.site (g.D.Desk.state c.step_link.new.desk) c.args.desk.now c.step_link.new.desk made);
+      cut = λ start since slot is follows at_slot. tt;
+      promises = link_promises g.S.Site g.D.Desk c.args.self.now.slots c.args.site.now c.step_link.new.site (Ok (tt {0})) c.args.desk.now c.step_link.new.desk
+          (slot_survives g.S.Site g.D.Desk c.args.self.now.slots c.args.site.now c.step_link.new.site g.met.D.Desk.http c.args.at c.in-Some.slot seen.2 c.args.desk.now c.in-Ok-false.ensures.survives)
+          c.in-Ok-false.ensures.untold c.in-Ok-false.ensures.rests c.in-Ok-false.ensures.asked tt c.in-Ok-false.ensures.failed
+          (stops_as _ ⊥ ⊥ _ ⊥ ⊥ _ _ (λ failed. absurd failed) (λ no. no) (λ no. no) c.in-Ok-false.ensures.counted) c.in-Ok-false.ensures.calls;
+      place = ap (λ (p : Places). p.place) c.self.view_is;
+      fault = tt;
+    }
 
-pub returns-in-Ok-true-clause-survives : goal.returns-in-Ok-true-clause-survives
-returns-in-Ok-true-clause-survives g c start since is follows told =
-    let inside : c.args.at < length c.self.inside.slots.items = subst (λ (p : Places). c.args.at < length p.slots) (sym c.self.view_is) (within_some c.args.self.now.slots c.args.at c.requires.held) in
-    let held : Holds c.self.inside.slots.items c.args.at c.in-Some.slot = held_here c.self.inside.slots.items c.args.at c.index_mut.result.now c.in-Some.slot inside c.index_mut.ensures.value c.in-Some.is in
-    let seen : Holds c.args.self.now.slots c.args.at c.in-Some.slot = subst (λ (p : Places). Holds p.slots c.args.at c.in-Some.slot) c.self.view_is held in
-    c.in-Ok-true.ensures.survives start.log since start.state is (follows.links c.args.at c.in-Some.slot seen) (fronts_since g.D.Desk.server g.met.D.Desk.http start since c.args.self.now.slots (g.D.Desk.state c.args.desk.now) follows) follows.state told
-
-pub returns-in-Ok-false-clause-survives : goal.returns-in-Ok-false-clause-survives
-returns-in-Ok-false-clause-survives g c start since is follows told =
-    let inside : c.args.at < length c.self.inside.slots.items = subst (λ (p : Places). c.args.at < length p.slots) (sym c.self.view_is) (within_some c.args.self.now.slots c.args.at c.requires.held) in
-    let held : Holds c.self.inside.slots.items c.args.at c.in-Some.slot = held_here c.self.inside.slots.items c.args.at c.index_mut.result.now c.in-Some.slot inside c.index_mut.ensures.value c.in-Some.is in
-    let seen : Holds c.args.self.now.slots c.args.at c.in-Some.slot = subst (λ (p : Places). Holds p.slots c.args.at c.in-Some.slot) c.self.view_is held in
-    c.in-Ok-false.ensures.survives start.log since start.state is (follows.links c.args.at c.in-Some.slot seen) (fronts_since g.D.Desk.server g.met.D.Desk.http start since c.args.self.now.slots (g.D.Desk.state c.args.desk.now) follows) follows.state told
-
-pub returns-in-Err-clause-survives : goal.returns-in-Err-clause-survives
-returns-in-Err-clause-survives g c start since is follows told =
-    let inside : c.args.at < length c.self.inside.slots.items = subst (λ (p : Places). c.args.at < length p.slots) (sym c.self.view_is) (within_some c.args.self.now.slots c.args.at c.requires.held) in
-    let held : Holds c.self.inside.slots.items c.args.at c.in-Some.slot = held_here c.self.inside.slots.items c.args.at c.index_mut.result.now c.in-Some.slot inside c.index_mut.ensures.value c.in-Some.is in
-    let seen : Holds c.args.self.now.slots c.args.at c.in-Some.slot = subst (λ (p : Places). Holds p.slots c.args.at c.in-Some.slot) c.self.view_is held in
-    c.in-Err.ensures.survives start.log since start.state is (follows.links c.args.at c.in-Some.slot seen) (fronts_since g.D.Desk.server g.met.D.Desk.http start since c.args.self.now.slots (g.D.Desk.state c.args.desk.now) follows) follows.state told
-
-pub returns-in-Err-clause-cut : goal.returns-in-Err-clause-cut
-returns-in-Err-clause-cut g c start since slot is follows at_slot =
-    let inside : c.args.at < length c.self.inside.slots.items = subst (λ (p : Places). c.args.at < length p.slots) (sym c.self.view_is) (within_some c.args.self.now.slots c.args.at c.requires.held) in
-    let held : Holds c.self.inside.slots.items c.args.at c.in-Some.slot = held_here c.self.inside.slots.items c.args.at c.index_mut.result.now c.in-Some.slot inside c.index_mut.ensures.value c.in-Some.is in
-    let seen : Holds c.args.self.now.slots c.args.at c.in-Some.slot = subst (λ (p : Places). Holds p.slots c.args.at c.in-Some.slot) c.self.view_is held in
-    let cut = c.in-Err.ensures.cut (start.log ++ since) (served_by g.D.Desk.server start.state since) is (follows.links c.args.at c.in-Some.slot seen) (fronts_since g.D.Desk.server g.met.D.Desk.http start since c.args.self.now.slots (g.D.Desk.state c.args.desk.now) follows) in
-    let whose : c.in-Some.slot ≡ slot = (let e : Some c.in-Some.slot ≡ Some slot = sym seen ∙ at_slot in cc e) in
-    subst (λ (s : Slot). LinkCut g.D.Desk.server (served_by g.D.Desk.server start.state since) (start.log ++ since) s.channel (g.S.Site.log c.step_link.new.site)) whose cut
+pub returns-in-Err : goal.returns-in-Err
+returns-in-Err g c =
+    let seen = slot_seen _ _ c.self.view_is c.args.at c.index_mut.result.now c.in-Some.slot c.requires.held c.index_mut.ensures.value c.in-Some.is in
+    record {
+      turn = λ start since slot is follows at_slot. tt;
+      cut = λ start since slot is follows at_slot.
+          let cut = c.in-Err.ensures.cut (start.log ++ since) (served_by g.D.Desk.server start.state since) is (follows.links c.args.at c.in-Some.slot seen.2) (fronts_since g.D.Desk.server g.met.D.Desk.http start since c.args.self.now.slots (g.D.Desk.state c.args.desk.now) follows) in
+          let whose : c.in-Some.slot ≡ slot = (let e : Some c.in-Some.slot ≡ Some slot = sym seen.2 ∙ at_slot in cc e) in
+          subst (λ (s : Slot). LinkCut g.D.Desk.server (served_by g.D.Desk.server start.state since) (start.log ++ since) s.channel (g.S.Site.log c.step_link.new.site)) whose cut;
+      promises = link_promises g.S.Site g.D.Desk c.args.self.now.slots c.args.site.now c.step_link.new.site (Err DiskFault) c.args.desk.now c.step_link.new.desk
+          (slot_survives g.S.Site g.D.Desk c.args.self.now.slots c.args.site.now c.step_link.new.site g.met.D.Desk.http c.args.at c.in-Some.slot seen.2 c.args.desk.now c.in-Err.ensures.survives)
+          c.in-Err.ensures.untold c.in-Err.ensures.rests c.in-Err.ensures.asked refl c.in-Err.ensures.failed
+          (stops_as _ ⊥ ⊥ _ ⊥ ⊥ _ _ (λ failed. refl) (λ no. no) (λ no. no) c.in-Err.ensures.counted) c.in-Err.ensures.calls;
+      place = ap (λ (p : Places). p.place) c.self.view_is;
+      fault = refl;
+    }
