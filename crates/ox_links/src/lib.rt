@@ -10,4 +10,4 @@ pub use laws::{
     Likeness, answers_are_in_turn, commands_decide_replies, commands_lead_to_the_state,
     events_bring_one_answer, like_servers_serve_alike, links_are_apart, logs_go_on, turns_go_on,
 };
-pub use rotation::each_has_its_turn;
+pub use rotation::{LINKS, each_has_its_turn};

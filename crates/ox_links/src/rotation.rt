@@ -7,6 +7,9 @@ ghost use Rattle.ox_links.specs.Round.{SlotsStay, round_from};
 ghost use Rattle.ox_links.specs.Serving.{Server};
 ghost use Rattle.ox_links.specs.Turned.{AreTurns, Turn};
 
+/// The most links at once, at both doors together: a server has a slot for each.
+pub const LINKS: usize = 32;
+
 /// The next turn is that of the first place that isn't passed over, from where it is looked for on
 /// and round. While the slots stay, as many turns as there are such places, or fewer, give each
 /// once, in that order.

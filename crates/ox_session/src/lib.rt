@@ -20,6 +20,8 @@ use ox_http::{Request, fault_reply, write_reply};
 use std::alloc::Global;
 use std::marker::Model;
 
+pub use stream::PIECE;
+
 /// What a link asks.
 #[derive(Debug, Drop)]
 pub enum Poll {

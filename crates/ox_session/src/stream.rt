@@ -13,8 +13,8 @@ use ox_http::{HEAD_LIMIT, HeadFound, HeadRead, Method, Request, read_head};
 use std::alloc::Global;
 use std::marker::Model;
 
-/// The most bytes that are heard at once.
-const PIECE: usize = 65_536;
+/// The most bytes that are heard at once, of one link in one turn.
+pub const PIECE: usize = 65_536;
 
 /// A head that was read, whose body hasn't wholly come.
 #[derive(Drop)]

@@ -10,15 +10,13 @@ use crate::watch::Watch;
 use mio::event::Event;
 use mio::net::TcpStream;
 use mio::{Events, Interest, Poll, Token};
+use ox_links::LINKS;
 use ox_outside::{Doorway, Failed, Heard, Shown};
 use std::alloc::Global;
 use std::io;
 use std::net::{Net, Shutdown, TcpListener};
 use std::rt::Clock;
 use std::time::Duration;
-
-/// How many links there may be.
-const LINKS: usize = 32;
 
 /// What the system calls the doors. A link has its number, which is smaller.
 const PUBLIC: Token = Token(usize::MAX);

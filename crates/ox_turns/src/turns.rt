@@ -19,15 +19,14 @@ ghost use Rattle.ox_turns.specs.declared.slot.Slot.{Slot as Held};
 use crate::slot::Slot;
 use crate::{Desk, link};
 use ox_bytes::Memory;
+use ox_links::LINKS;
 use ox_outside::{Doorway, Site};
+use ox_session::PIECE;
 use std::alloc::{AllocError, Global};
 use std::marker::Model;
 
-/// The slots.
-const SLOTS: usize = 32;
-
 /// The places of the rotation: both doors, and the slots.
-const PLACES: usize = 34;
+const PLACES: usize = 2 + LINKS;
 
 /// Why a turn came to no end.
 #[derive(Clone, Copy, Debug, PartialEq, Eq)]
@@ -77,15 +76,15 @@ impl Model for Turns {
 fn room(alloc: Global) -> Result<Vec<u8>, AllocError>
     ensures { IfOk result (λ room. vec_len room ≡ 65536) }
 {
-    vec![in alloc; 0u8; 65_536]
+    vec![in alloc; 0u8; PIECE]
 }
 
 /// Slots without a link.
 fn no_links(alloc: Global) -> Result<Vec<Option<Slot>>, AllocError>
     ensures { IfOk result (λ slots. slots.items ≡ replicate 32 None) }
 {
-    let mut slots = Vec::with_capacity(alloc, SLOTS)?;
-    for _ in 0..SLOTS {
+    let mut slots = Vec::with_capacity(alloc, LINKS)?;
+    for _ in 0..LINKS {
         slots.push(None)?;
     }
     Ok(slots)
@@ -133,7 +132,7 @@ impl Turns {
     fn free(&self) -> Option<usize>
         ensures { IsLowestFree self.now.slots result }
     {
-        for at in 0..SLOTS {
+        for at in 0..LINKS {
             if self.slots[at].is_none() {
                 return Some(at);
             }
