@@ -19,7 +19,6 @@ use ox_bytes::{Bytes, Memory};
 use ox_http::{Request, fault_reply, write_reply};
 use std::alloc::Global;
 use std::marker::Model;
-
 pub use stream::PIECE;
 
 /// What a link asks.
