@@ -90,8 +90,6 @@ pub(crate) fn carry_command<S: Site>(
                 told: Some(bytes),
             })
         }
-        Err(Kept { store, why }) => {
-            Ok(refuse(alloc, HeldStore::of(store, holders), why, close))
-        }
+        Err(Kept { store, why }) => { Ok(refuse(alloc, HeldStore::of(store, holders), why, close)) }
     }
 }
