@@ -78,7 +78,8 @@ impl Gathered {
         requires { self.old.value + length row.now.sats < 2 ^ 64 }
         ensures { OnOk result (AddsSats (V.index live.now) row.now.sats self.old self.new) }
     {
-        self.value += row.sats.len();
+        let count = row.sats.len();
+        self.value += count;
         append_on(&mut self.sequences, live, row.sats.runs())
     }
 
