@@ -9,31 +9,32 @@ use Rattle.ox_desk.specs.Desk.{DeskContents, stack_behind}
 use Rattle.ox_desk.proofs.PutBack.{asked_few, carries_out, counted_behind, failed_behind, none_open, rests_behind, seen_open, sound_behind, sound_open, stays}
 use Rattle.ox_desk.proofs.desk.StoreDesk.carry_out.Goals as goal
 
-pub carry_command-carried-requires-clause-holds : goal.carry_command-carried-requires-clause-holds
-carry_command-carried-requires-clause-holds g c =
-    subst (λ (d : DeskContents). IsTrue (g.S.Site.told c.args.site.now) → Holds g.S.Site d.tail c.args.site.now)
-    (sym (seen_open c.self.inside.store c.in-Some.store c.self.inside.requests c.self.inside.cache (sym c.take.ensures.value ∙ c.in-Some.is) c.args.self.now c.self.view_is)) c.requires.rests.holds
-
-pub carry_command-carried-requires-clause-few : goal.carry_command-carried-requires-clause-few
-carry_command-carried-requires-clause-few g c =
-    let sound = sound_open c.self.inside.store c.in-Some.store c.self.inside.requests c.self.inside.cache (sym c.take.ensures.value ∙ c.in-Some.is) c.self.invariant in
-    let same : c.self.inside.requests ≡ c.args.self.now.requests = ap (λ (d : DeskContents). d.requests) c.self.view_is in
-    let few = sound.commands in
-    omega (arith, few, same, c.requires.room)
+pub carry_command-carried-requires : goal.carry_command-carried-requires
+carry_command-carried-requires g c =
+    let taken = sym c.take.ensures.value ∙ c.in-Some.is in
+    let seen = seen_open c.self.inside.store c.in-Some.store c.self.inside.requests c.self.inside.cache taken c.args.self.now c.self.view_is in
+    let sound = sound_open c.self.inside.store c.in-Some.store c.self.inside.requests c.self.inside.cache taken c.self.invariant in
+    record {
+      holds = subst (λ (d : DeskContents). IsTrue (g.S.Site.told c.args.site.now) → Holds g.S.Site d.tail c.args.site.now) (sym seen) c.requires.rests.holds;
+      few =
+          let same : c.self.inside.requests ≡ c.args.self.now.requests = ap (λ (d : DeskContents). d.requests) c.self.view_is in
+          let fewer = sound.commands in
+          omega (arith, fewer, same, c.requires.room);
+    }
 
 pub invariant_of-self : goal.invariant_of-self
 invariant_of-self g c = λ is_open. absurd (none_open c.take.new.self c.take.ensures.after is_open)
 
-pub put_back-requires-clause-room : goal.put_back-requires-clause-room
-put_back-requires-clause-room g c =
-    let same : c.self.inside.requests ≡ c.args.self.now.requests = ap (λ (d : DeskContents). d.requests) c.self.view_is in
-    omega (arith, same, c.requires.room)
-
-pub put_back-requires-clause-sound : goal.put_back-requires-clause-sound
-put_back-requires-clause-sound g c =
-    sound_behind c.in-Some.store c.self.inside.requests c.self.inside.cache c.args.command.now c.args.close c.take.new.self c.carry_command-carried.result
-    (sound_open c.self.inside.store c.in-Some.store c.self.inside.requests c.self.inside.cache (sym c.take.ensures.value ∙ c.in-Some.is) c.self.invariant)
-    c.carry_command-carried.ensures.carries
+pub put_back-requires : goal.put_back-requires
+put_back-requires g c = record {
+  room =
+      let same : c.self.inside.requests ≡ c.args.self.now.requests = ap (λ (d : DeskContents). d.requests) c.self.view_is in
+      omega (arith, same, c.requires.room);
+  sound =
+      sound_behind c.in-Some.store c.self.inside.requests c.self.inside.cache c.args.command.now c.args.close c.take.new.self c.carry_command-carried.result
+      (sound_open c.self.inside.store c.in-Some.store c.self.inside.requests c.self.inside.cache (sym c.take.ensures.value ∙ c.in-Some.is) c.self.invariant)
+      c.carry_command-carried.ensures.carries;
+}
 
 pub returns : goal.returns
 returns g c =

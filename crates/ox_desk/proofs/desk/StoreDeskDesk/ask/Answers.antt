@@ -19,21 +19,16 @@ use Rattle.ox_desk.proofs.Commanded.{files_untouched, writes_none}
 use Rattle.ox_desk.proofs.PutBack.{memory_is_no_fault, ok_is_no_error}
 use Rattle.ox_desk.proofs.desk.StoreDeskDesk.ask.Goals as goal
 
-pub step-requires-clause-is_open : goal.step-requires-clause-is_open
-step-requires-clause-is_open g c = c.requires.rests.is_open
+pub step-requires : goal.step-requires
+step-requires g c = record { is_open = c.requires.rests.is_open; room = c.requires.room }
 
-pub step-requires-clause-room : goal.step-requires-clause-room
-step-requires-clause-room g c = c.requires.room
-
-pub carry_out-requires-clause-rests : goal.carry_out-requires-clause-rests
-carry_out-requires-clause-rests g c =
-    let step = (subst (λ (s : Step). Steps c.args.self.now c.args.request.now c.args.operator s c.step.new.self) c.in-Ok-Carries.field-0-is c.in-Ok-Carries.ensures.ok) in
-    subst (λ (d : DeskContents). Rests g.S.Site d c.args.site.now) (sym step.1) c.requires.rests
-
-pub carry_out-requires-clause-room : goal.carry_out-requires-clause-room
-carry_out-requires-clause-room g c =
-    let step = (subst (λ (s : Step). Steps c.args.self.now c.args.request.now c.args.operator s c.step.new.self) c.in-Ok-Carries.field-0-is c.in-Ok-Carries.ensures.ok) in
-    subst (λ (d : DeskContents). d.requests < greatest) (sym step.1) c.requires.room
+pub carry_out-requires : goal.carry_out-requires
+carry_out-requires g c =
+    let step = subst (λ (s : Step). Steps c.args.self.now c.args.request.now c.args.operator s c.step.new.self) c.in-Ok-Carries.field-0-is c.in-Ok-Carries.ensures.ok in
+    record {
+      rests = subst (λ (d : DeskContents). Rests g.S.Site d c.args.site.now) (sym step.1) c.requires.rests;
+      room = subst (λ (d : DeskContents). d.requests < greatest) (sym step.1) c.requires.room;
+    }
 
 -- a request that is told
 pub returns-in-Ok-Told : goal.returns-in-Ok-Told
