@@ -30,7 +30,7 @@ use Rattle.ox_app.specs.declared.stop.Stop.{Stop}
 use Rattle.ox_app.specs.declared.stop.Stop.TheVariants.{DiskFault, Memory}
 use Rattle.ox_app.proofs.CommandAnswers.{files_untouched}
 
--- an end for want of memory is none of the disk's
+-- an end out of memory is none of the disk's
 pub memory_alone : {T : Type 0} (stop : Stop) → stop ≡ Memory → IsErrOf {T = T} (Err stop) DiskFault → ⊥
 memory_alone stop is e =
     let same : stop ≡ DiskFault = cc e in

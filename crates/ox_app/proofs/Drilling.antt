@@ -1,4 +1,4 @@
--- A drill in a run: its commands, and then what is told of them.
+-- A drill in a run: its commands, and then what is shown of them.
 use Rattle.std.proofs.Common.{◌≡◌, ◌∙◌, ℕ, List, [], ◌∷◌, Some, inl, inr, refl, sym, ap, arith}
 use Rattle.std.specs.Prelude.{Ok, Err}
 use Rattle.ox_outside.specs.Crash.{Remains}
@@ -71,7 +71,7 @@ module _ {S : Type 0} (means : Meanings S) where
     settled = settled_talking means mid new talks.files drilled.settled;
   }
 
-  -- all commands are carried out, and the line is told
+  -- all commands are carried out, and the line is shown
   pub drill_told : (line bytes : List ℕ) (n : ℕ) (status : Status) (old mid new : S) → IsTold status → DrillsInTurn means n (Ok line) old mid → IsDrilled means n mid → means.seen old ≡ no_files → OnlyWrites means old mid
       → OnlyTalks means (ShowsFront bytes) mid new → RunsDrill means n status old new
   drill_told line bytes n status old mid new told turns drilled empty writes talks = record {

@@ -50,7 +50,7 @@ show_opens e = cc
 pub show_undone : ShowFault ≡ Done → ⊥
 show_undone e = cc
 
--- where bytes came to be told a run ends in no other way
+-- where bytes came to be shown a run ends in no other way
 pub record OnlyTold (status : Status) : Type 0 where
   pub not_empty : status ≡ NotEmpty → ⊥
   pub disk : status ≡ DiskFault → ⊥
@@ -68,7 +68,7 @@ only_told status (inr a) = record {
   memory = λ b. let e : ShowFault ≡ Memory = sym a ∙ b in cc e;
 }
 
--- a feed that ends for want of memory
+-- a feed that ends out of memory
 pub stopped_by_memory : (result : Result (Unit {0}) Stop) → status_of result ≡ Memory → IsErrOf result stops.Memory
 stopped_by_memory (Ok done) e = cc
 stopped_by_memory (Err stops.DiskFault) e = cc
@@ -102,7 +102,7 @@ pub reply_none : (bytes : List ℕ) (status : Status) (first now : Option (List 
 reply_none bytes status first now isnt same =
     grows_same (ShowsReply bytes status) first first now (grows_none (ShowsReply bytes status) first (record { front = front_none bytes; whole = λ is. absurd (isnt is) })) same
 
--- bytes are told behind calls that logged nothing
+-- bytes are shown behind calls that logged nothing
 pub told_after : {S : Type 0} (means : Meanings S) (bytes line : List ℕ) (status : Status) (old mid new : S) → bytes ≡ line → means.log mid ≡ means.log old → ShowsText means bytes status mid new → ShowsText means line status old new
 told_after means bytes line status old mid new is same shows =
     subst (λ (l : List ℕ). Grows (ShowsReply l status) (means.log old) (means.log new)) is
@@ -211,7 +211,7 @@ module _ {S : Type 0} (means : Meanings S) where
       (λ events logs. subst (Leaves means.may_leave old (replies_on stack) (after_on stack) r.files) (sym (no_misfit (stands (means.seen old)) stack fault events stood misfit logs))
       (inl (talked.files.0, looks.nothing.crash talked.files.0 talked.files.1, talked.files.2))) talked.grown)) talks.moments)
 
-  -- they aren't opened for want of memory: the files are as they were, and nothing is logged
+  -- they aren't opened where memory runs out: the files are as they were, and nothing is logged
   pub stops_unopened : (stack : Stack) (fault : OpenFault) (status : Status) (old mid new : S) → stands (means.seen old) ≡ Ok stack → OnlyLooks means old mid
       → UnopenedAs means fault status mid new → (status ≡ NotStore → ⊥) → OnlyTalks means (LogsUnopened fault) mid new
       → Grows (StopsBefore (replies_on stack) (after_on stack) (means.seen new)) (means.log old) (means.log new)

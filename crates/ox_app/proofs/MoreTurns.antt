@@ -84,7 +84,7 @@ rose_if : (b : Bool) (old new : ℕ) → old ≤ new → (b ≡ true → Rose ol
 rose_if true old new le rose = ⊎_elim (λ less. inl (omega (arith, less))) (λ full. inr full) (rose refl)
 rose_if false old new le rose = inl (omega (arith, le))
 
--- one turn, of which its own count is told where it is idle
+-- one turn, which its own count has where it is idle
 pub idle_one : (who : Who) (events : List Event) (old new : Counts) → NoneFell old new → (events ≡ [] → RoseIdle who old new) → CountsIdles (one_turn who events ∷ []) old new
 idle_one who events old new none_fell rose = record {
   doors = λ door. rose_if (is_same (door_of door) who && is_idle (one_turn who events)) _ _ (none_fell.door_idles door) (λ is.

@@ -1,4 +1,4 @@
--- A server in a run of the program: what is told behind its turns, what a crash leaves, and machines for stacks.
+-- A server in a run of the program: what is shown behind its turns, what a crash leaves, and machines for stacks.
 use Rattle.std.proofs.Common.{◌≡◌, ◌≢◌, ◌∙◌, ◌⊎◌, ◌≤◌, ℕ, zero, suc, List, [], ◌∷◌, ◌++◌, take, Option, Some, None, refl, sym, ap, subst, arith, inl, inr, ⊎_elim}
 use Rattle.std.specs.Prelude.{Result, Ok, Err}
 use Rattle.std.proofs.lemmas.List.{append-nil, append_cancel_left}

@@ -117,7 +117,7 @@ serve_refuses status a (inr (inl e)) = absurd ((not_serve status a).not_empty e)
 serve_refuses status a (inr (inr (inl e))) = e
 serve_refuses status a (inr (inr (inr e))) = absurd ((not_serve status a).old e)
 
--- how a migration ends that does; `migrate` says of want of memory what it says of these
+-- how a migration ends that does; `migrate` says of running out of memory what it says of these
 pub migrate_refuses : (status : Status) → IsMigrateStatus status → IsRefusal status → (status ≡ ends.NotStore) ⊎ (status ≡ ends.OldCommand) ⊎ (status ≡ ends.Memory)
 migrate_refuses status a (inl e) = absurd ((not_migrate status a).usage e)
 migrate_refuses status a (inr (inl e)) = absurd ((not_migrate status a).not_empty e)

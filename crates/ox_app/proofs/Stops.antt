@@ -132,7 +132,7 @@ not_disk means (opens.NotStore file at) status old new says is e = cc e
 not_disk means opens.DiskFault status old new says is e = let same : ends.DiskFault ≡ ends.Memory = sym says.0 ∙ is in cc same
 not_disk means opens.Memory status old new says is e = cc e
 
--- bytes are told behind calls of which none failed
+-- bytes are shown behind calls of which none failed
 pub told_stops : (status : Status) (old mid new : Counts) → NoFault old mid → StopsAtFault ⊥ ⊥ (status ≡ ends.ShowFault) mid new → EndsAtFault status old new
 told_stops status old mid new none told =
     stops_after (status ≡ ends.DiskFault) (status ≡ ends.HearFault) ((status ≡ ends.ShowFault) ⊎ IsRefusal status) old mid new none

@@ -50,7 +50,7 @@ refused_unmigrated standing command refusal (IllFormed misfit) status old failed
 refused_unmigrated standing command refusal (Refused other why) status old failed (inl is) = inl is
 refused_unmigrated standing command refusal (Refused other why) status old failed (inr is) = inr (inr is)
 
--- where the line was told
+-- where the line was shown
 pub record OnlyToldOld (status : Status) : Type 0 where
   pub store : status ≡ ends.NotStore → ⊥
   pub old : status ≡ ends.OldCommand → ⊥

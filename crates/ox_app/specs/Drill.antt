@@ -1,4 +1,4 @@
--- A drill: its commands, carried out over the files, and then the line that is told of them.
+-- A drill: its commands, carried out over the files, and then the line that is shown of them.
 use Rattle.std.specs.Prelude.{◌≡◌, ◌≢◌, ◌⊎◌, ℕ, List, [], ◌∷◌, Some, Result, Ok, Err}
 use Rattle.ox_outside.specs.Event.{Event}
 use Rattle.ox_outside.specs.Files.{Files}

@@ -31,7 +31,7 @@ DoorFails means old new = Rose (means.counts old).door (means.counts new).door
 
 -- ---- what is logged
 
--- All turns were made, and what was counted of their answers is told: a front of the line, and all
+-- All turns were made, and what was counted of their answers is shown: a front of the line, and all
 -- of it where the run is done.
 pub record ServesAll {X C : Type 0} (server : Server X C) (first : X) (turns : ℕ) (status : Status)
     (old new : Counts) (links own : List Event) : Type 0 where

@@ -85,7 +85,7 @@ use std::alloc::Global;
 /// | | | number from 0, and the line of refusal |
 ///
 /// From `DiskFault` to `TooMuch` a status ends the run at once. A link's fault ends that link
-/// alone, and in `serve` a command that meets want of memory is answered 503 and changes nothing;
+/// alone, and in `serve` a command that runs out of memory is answered 503 and changes nothing;
 /// `Memory` comes before the first turn. If showing the line of `Usage`, `NotEmpty`, `NotStore` or
 /// `OldCommand` fails, the status stays. In `apply`, `Memory` leaves the line at which memory ran
 /// out undone; in `migrate` it comes before the first write.

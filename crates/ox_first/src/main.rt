@@ -3,7 +3,7 @@
 //! Each line is answered as `ox_main FOLDER fold regtest` answers it. A line is `connect`, a space
 //! and a block in hex digits, or `disconnect`, which takes the newest block back. The answer is
 //! `ok` with the height and the hash of the newest block then, `ok empty`, or `refused` with the
-//! cause; then the index is as before. Want of memory ends the program.
+//! cause; then the index is as before. Running out of memory ends the program.
 //!
 //! It shows how the library is used: a chain is made for a profile, a block's bytes go to
 //! `connect`, and what the chain's index holds is asked of `live`, by the calls of the trait

@@ -15,7 +15,7 @@ fn print_refusal(rt: &impl Print, alloc: Global, refusal: &Refusal) -> io::Resul
     }
 }
 
-/// How a command ended: the newest block then, why it is refused, or want of memory.
+/// How a command ended: the newest block then, why it is refused, or that memory ran out.
 pub fn print_end(
     rt: &impl Print,
     alloc: Global,

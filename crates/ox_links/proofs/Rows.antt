@@ -106,7 +106,7 @@ hits_between : requests_in (ran asked_between).answers ∷ hits_in (ran asked_be
 unfolding asked_between
 hits_between = refl
 
--- ---- want of memory: the command isn't carried out, and its link gets the 503 alone
+-- ---- out of memory: the command isn't carried out, and its link gets the 503 alone
 gave_up : List Event
 gave_up = Opened 2 Operator ∷ Heard 2 (0 ∷ 5 ∷ []) ∷ GaveUp 2 ∷ Showed 2 (53 ∷ []) ∷ Shut 2 ∷ []
 

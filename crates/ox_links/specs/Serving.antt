@@ -3,7 +3,7 @@
 -- The moment of a message is the first event of the log after which the message stands whole in
 -- what was heard of its link and all answers before its own are wholly shown. There it is answered
 -- by the state, and a command changes the state there. A message whose link gives up at its next
--- event met want of memory: it isn't answered, and changes nothing.
+-- event ran out of memory: it isn't answered, and changes nothing.
 use Rattle.std.specs.Prelude.{ℕ, ◌+◌, ◌==◌, Bool, false, ◌||◌, if◌then◌else◌, List, [], ◌∷◌, ◌++◌}
 use Rattle.std.specs.Prelude.{Option, Some, None, is_some, unwrap_or}
 use Rattle.std.specs.List.{filter_map}

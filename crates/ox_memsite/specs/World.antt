@@ -166,7 +166,7 @@ is_listed w = is_in w.calls w.failing
 abbrev pub after_step : Step → World → World
 after_step step w = record w { steps = w.steps ++ step ∷ [] }
 
--- for want of memory
+-- where memory ran out
 abbrev pub after_starving : World → World
 after_starving w = record w { starved = next_count w.starved }
 
@@ -233,8 +233,8 @@ after_opening door w = record w {
 
 -- ---- how a call ends
 
--- A call did its work, its number not being listed; or it failed so because it is listed, or so for
--- want of memory.
+-- A call did its work, its number not being listed; or it failed so because it is listed, or so
+-- where memory ran out.
 abbrev pub Ends : {T : Type 0} → (T → World → World → Type 0) → (World → World) → (World → World)
     → Result T Failed → World → World → Type 0
 Ends works fails starving (Ok x) old new = (is_listed old ≡ false) × works x (after_call old) new

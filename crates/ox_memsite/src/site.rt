@@ -110,7 +110,7 @@ impl MemSite {
         Ok(())
     }
 
-    /// How often a call failed for want of memory alone.
+    /// How often a call failed only because memory ran out.
     pub fn starved(&self) -> u64
         ensures { result ≡ self.now.starved }
     {

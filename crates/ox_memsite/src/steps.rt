@@ -7,8 +7,8 @@ use ox_bytes::Memory;
 use std::alloc::Global;
 use std::marker::Model;
 
-/// Steps in order, and a number of spare places, in which steps can be put where want of memory
-/// must not come up.
+/// Steps in order, and a number of spare places, in which steps can be put where memory must not
+/// run out.
 #[derive(Drop)]
 pub struct Steps {
     items: Vec<Step>,

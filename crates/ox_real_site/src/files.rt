@@ -91,7 +91,8 @@ impl FilePair {
         self.file(file).write_all_at(bytes, at)
     }
 
-    /// Waits until the disk has all that was written. An error where the system can't say so.
+    /// Waits until the disk has all that was written (`fsync`). An error where the system can't
+    /// say so.
     pub(crate) fn sync(&self, file: Which) -> io::Result<()> {
         self.file(file).sync_all()
     }

@@ -38,10 +38,10 @@ pub struct RealSite<C> {
 }
 
 impl<C: Clock + Drop> RealSite<C> {
-    /// Opens the folder's files, locks them, and syncs the folder; nothing has failed yet, and
-    /// there is no door. An error where the folder's name isn't UTF-8, one of the files can't be
-    /// opened or made, a standard stream is closed, another program has the files, or the folder
-    /// can't be synced.
+    /// Opens the folder's files, locks them, and syncs the folder (`fsync`); nothing has failed
+    /// yet, and there is no door. An error where the folder's name isn't UTF-8, one of the files
+    /// can't be opened or made, a standard stream is closed, another program has the files, or the
+    /// folder can't be synced.
     pub fn open<R: Files<File = File>>(
         rt: &R,
         alloc: Global,

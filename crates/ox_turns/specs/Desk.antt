@@ -6,8 +6,8 @@ use Rattle.ox_http.specs.Talk.{talk}
 use Rattle.ox_http.specs.Written.{fault_reply, unavailable, written}
 use Rattle.ox_links.specs.Serving.{Server, next_state}
 
--- A server that reads streams as HTTP/1.1 does: a fault and want of memory end a link, and so does
--- a request that says so, and no other. No reply is empty.
+-- A server that reads streams as HTTP/1.1 does: a fault and running out of memory end a link, and
+-- so does a request that says so, and no other. No reply is empty.
 pub record IsHttp {X C : Type 0} (server : Server X C) : Type 0 where
   pub talk : (bytes : List ℕ) → server.talk bytes ≡ talk bytes
   pub fault_bytes : (status : ℕ)

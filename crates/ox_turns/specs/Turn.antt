@@ -105,7 +105,7 @@ Asks server operator request NoneLeft old new x y = (new ≡ old) × (y ≡ x)
 Asks server operator request Ends old new x y = ⊥
 
 -- What it makes of the desk, by what the pending bytes begin with: a request that is answered moves
--- it; one that met want of memory leaves what is the same.
+-- it; one that ran out of memory leaves what is the same.
 abbrev pub DeskGoes : {D : Type 0} → (D → Request → Bool → D → Type 0) → (D → D → Type 0) → Bool
     → Next → First → D → D → Type 0
 DeskGoes moved same operator Rests (whole request n) old new = moved old request operator new

@@ -61,7 +61,7 @@ pub trait Desk<S: Site> {
     /// operator's, and the desk after.
     ghost moved: { Self → Asked → Bool → Self → Type 0 };
 
-    /// What a request that met want of memory leaves as it is: the desk before, and after.
+    /// What a request that ran out of memory leaves as it is: the desk before, and after.
     ghost same: { Self → Self → Type 0 };
 
     /// Answers a request, by the state before it; its command, if there is one, moves the state.

@@ -201,7 +201,7 @@ fn answer<S: Site, D: Desk<S>>(slot: &mut Slot, site: &mut S, desk: &mut D) -> R
     }
 }
 
-/// Says that the link met want of memory; the reply to that is due, and the link ends with it.
+/// Says that the link ran out of memory; the reply to that is due, and the link ends with it.
 fn give_up<S: Site>(slot: &mut Slot, site: &mut S)
     requires taken { slot.old.session.due ≡ [] }
     requires open { ForSome (S.log site.old) (λ log. IsTrue (is_open slot.old.channel log)) }

@@ -305,8 +305,8 @@ impl Turns {
     /// Makes one turn: that of a door or of a link, the first from the place in the rotation on and
     /// round. It is one call of `door`, `hear` or `show`; what a link then asks is answered, and
     /// one that is over is shut. `DiskFault` and `DoorFault` come only where that count rose in the
-    /// call; at `DoorFault` nothing is logged. Want of memory ends no turn: the link gives up, and
-    /// the reply 503 is due.
+    /// call; at `DoorFault` nothing is logged. Running out of memory ends no turn: the link gives
+    /// up, and the reply 503 is due.
     ///
     /// Where the log is told, there has to be a start from which slots and desk follow it: as after
     /// `new` its present length, and the desk's state. Each start from which they follow it is one

@@ -126,7 +126,7 @@ impl MemSite {
         Ok(Some(number))
     }
 
-    /// Logs that a link met want of memory.
+    /// Logs that a link ran out of memory.
     pub fn give_up(&mut self, channel: u32)
         requires channel { IsTrue (is_open channel (log_of self.old)) }
         requires once { has_given_up channel (log_of self.old) ≡ false }
