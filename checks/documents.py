@@ -70,11 +70,11 @@ CONSTANTS = [
     ("ox_block/src/read.rt", "MOST_BYTES: usize =", r"at most ([\d,]+) bytes in all"),
     ("ox_block/src/read.rt", "MOST_BYTES: usize =", r"largest block, ([\d,]+) bytes"),
     ("ox_feed/src/held.rt", "LINE_LIMIT: usize =", r"line (?:of|has) more than ([\d,]+) bytes"),
-    ("ox_app/src/subcommand.rt", "number <=", r"taken back, from 1 to ([\d,]+)"),
+    ("ox_app/src/subcommand.rt", "DEPTH_LIMIT: u64 =", r"taken back, from 1 to ([\d,]+)"),
     ("ox_app/src/fold.rt", "DEPTH: u16 =", r"`fold` keeps ([\d,]+)"),
     ("ox_gated/src/layout.rt", "BODY_AT: usize =", r"`body_at` ([\d,]+)"),
     ("ox_gated/src/layout.rt", "BODY_AT: usize =", r"([\d,]+) bytes of head\b"),
-    ("ox_app/src/subcommand.rt", "number <=", r"\bdepth from 1 to ([\d,]+)"),
+    ("ox_app/src/subcommand.rt", "DEPTH_LIMIT: u64 =", r"\bdepth from 1 to ([\d,]+)"),
     ("ox_http/src/reader.rt", "HEAD_LIMIT: usize =", r"first ([\d,]+) bytes hold no whole"),
     ("ox_http/src/reader.rt", "BODY_LIMIT: usize =", r"where the length is above ([\d,]+)"),
 ]
