@@ -9,7 +9,7 @@
 //!   last byte, and where the work is `both` its address is read again: a sum of what came out,
 //!   to be timed (bench/address.py).
 //!
-//! The rows and what has to be printed are made by checks/address_rows.py, which goes by the BIPs'
+//! The rows and what has to be printed are made by checks/make_rows.py, which goes by the BIPs'
 //! own reading and shares nothing with the library.
 #![tactic(auto)]
 

@@ -49,7 +49,7 @@
 //! digits, or `-` for none. What is written into room is printed with whether the bytes behind it
 //! stayed.
 //!
-//! The rows and what has to be printed are made by checks/block_rows.py, which goes by the public
+//! The rows and what has to be printed are made by checks/make_rows.py, which goes by the public
 //! rules and shares nothing with the libraries.
 //!
 //! With an argument the work of the rows `block`, `items` and `envelopes` is done so many times

@@ -23,8 +23,8 @@
 //! A part is hex digits, or `N*` and hex digits for so many times the same; `-` is none. Bytes are
 //! printed in hex digits, and by their number where there are many.
 //!
-//! The rows and what has to be printed are made by checks/http_rows.py, which reads streams by the
-//! public rules and shares nothing with the library; those of frames by checks/frame_rows.py.
+//! The rows and what has to be printed are made by checks/make_rows.py, which reads streams and
+//! frames by the public rules and shares nothing with the library.
 #![tactic(auto)]
 
 mod frames;

@@ -47,7 +47,7 @@
 //! Bytes are hex digits, or how often they stand, a `*` and hex digits, or `-` for none. Want of
 //! memory is said, and the next row is done: `no memory`, and the index is as before.
 //!
-//! The rows and what has to be printed are made by checks/index_rows.py, which makes blocks and
+//! The rows and what has to be printed are made by checks/make_rows.py, which makes blocks and
 //! spells rows by the public formats and shares nothing with the libraries.
 //!
 //! An argument says how often work is done, to be timed: `index` reads so many times, `spell`

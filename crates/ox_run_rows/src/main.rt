@@ -42,7 +42,7 @@
 //! Of a store its counts are printed, the number that the body of a file comes to that has its
 //! index and its kept changes, and its newest block.
 //!
-//! The rows and what has to be printed are made by checks/run_rows.py, which has its own lines,
+//! The rows and what has to be printed are made by checks/make_rows.py, which has its own lines,
 //! rotation, store and disk, and shares nothing with the library.
 #![tactic(auto)]
 
