@@ -462,10 +462,10 @@ def rows_in_turn(memory):
         elif shown_ != whole:
             lacked.add(shown_)
             demand(shown_ in may_be, f"rows, allocation {fails}: {shown_}")
-    demand(len(lacked) > len(may_be) // 2, f"only {len(lacked)} replies tell want of memory")
+    demand(len(lacked) > len(may_be) // 2, f"only {len(lacked)} replies say out of memory")
     print(
         f"rows: {count} allocations, {unread} runs end before a row, {len(lacked)} of"
-        f" {len(may_be)} replies tell want of memory"
+        f" {len(may_be)} replies say out of memory"
     )
 
 

@@ -4,10 +4,10 @@
     python3 checks/surface.py
 
 reads the Rust code of crates/*/src. Of each public function of a library that answers a `Result` it
-looks for a call, in any crate's code but that of the function itself. Want of memory is free in
-every contract, so a body that always answers it is proved: what nothing calls would pass with that.
-It tells each function that nothing calls, and how many functions it looked at; the status is 1
-where it told one. It reads words and no types, so of several functions of one name a call of any
+looks for a call, in any crate's code but that of the function itself. Running out of memory is free
+in every contract, so a body that always answers it is proved: what nothing calls would pass with
+that. It tells each function that nothing calls, and how many functions it looked at; the status is
+1 where it told one. It reads words and no types, so of several functions of one name a call of any
 counts.
 """
 

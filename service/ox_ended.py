@@ -90,7 +90,7 @@ def of_signal(name: str, asked: bool = False) -> str:
 def of_service(result: str, code: str, status: str) -> str:
     """The line about an end that systemd tells so."""
     if result == "oom-kill":
-        return "the system ended it for want of memory: nothing is lost; give it more"
+        return "the system was out of memory and ended it: nothing is lost; give it more"
     if code in ("killed", "dumped"):
         return of_signal(status, result == "success")
     if code == "exited" and status.isdigit() and int(status) in MEANINGS:
