@@ -169,9 +169,7 @@ def after_of(index, change):
         joined(index.lost, change.lost),
         index.inscriptions + change.inscriptions,
         swapped(index.balances, change.before, change.after),
-        counted(
-            index.runes, change.counts, lambda count: (count.mints_after, count.burned_after)
-        )
+        counted(index.runes, change.counts, lambda count: (count.mints_after, count.burned_after))
         + change.appended,
     )
 

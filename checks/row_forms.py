@@ -164,9 +164,7 @@ held = listed(pair(rune_id, number(16)))
 balances = listed(pair(outpoint, held))
 
 SPELLED = {
-    "index": fields(
-        listed(bytes), outputs, sats, listed(inscription), balances, listed(rune)
-    ),
+    "index": fields(listed(bytes), outputs, sats, listed(inscription), balances, listed(rune)),
     "change": fields(
         bytes,
         outputs,
@@ -235,9 +233,7 @@ class Reader:
         runs, left, end = [], MOST_SATS, None
         for _ in range(self.number(4)):
             first = self.number(8, lambda first: first != end)
-            many = self.number(
-                8, lambda many: 0 < many <= left and first + many <= MOST_SATS
-            )
+            many = self.number(8, lambda many: 0 < many <= left and first + many <= MOST_SATS)
             runs.append((first, many))
             left, end = left - many, first + many
         return runs

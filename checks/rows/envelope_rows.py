@@ -243,5 +243,5 @@ def answer(row):
         ]
     if word == "value":
         return [" " + (id_of(bytes.fromhex(rest.replace("-", ""))) or "none")]
-    is_id = re.fullmatch(r"[0-9a-f]{64}i(0|[1-9][0-9]*)", rest) and int(rest[65:]) < 2 ** 32
+    is_id = re.fullmatch(r"[0-9a-f]{64}i(0|[1-9][0-9]*)", rest) and int(rest[65:]) < 2**32
     return [" " + (rest if is_id else "none")]

@@ -45,9 +45,7 @@ def is_count_kept(runes, count):
     """Whether counts rise, and the rune isn't minted beyond its cap."""
     terms = runes[count.place].terms
     cap = terms.cap or 0 if terms else 0
-    rises = (
-        count.mints_before <= count.mints_after and count.burned_before <= count.burned_after
-    )
+    rises = count.mints_before <= count.mints_after and count.burned_before <= count.burned_after
     return rises and count.mints_after <= cap
 
 

@@ -281,9 +281,7 @@ def rune_faults():
     sixteen, eight = list(sixteen), list(eight)
     told = [optional(number(16))(1), optional(number(16))(None)]
     told += [optional(number(8))(value) for value in (2, None, 3)]
-    term_faults = row_faults(
-        *zip(told, (sixteen, sixteen, eight, eight, eight)), (b"", eight)
-    )
+    term_faults = row_faults(*zip(told, (sixteen, sixteen, eight, eight, eight)), (b"", eight))
     character = [*number_faults(4)]
     character += [(number(4)(code), 0) for code in (0xD800, 0xDC00, 0xDFFF, 0x110000, U32)]
     yield from row_faults(
