@@ -46,6 +46,7 @@ NEEDS = {
     "address": (["ox_address_rows"], ["address"]),
     "allocation": (["ox_speed"], ["allocation"]),
     "apply_and_open": (["ox_main"], ["opening"]),
+    "as_of": (["ox_run_rows"], ["as_of"]),
     "checkpoint": (["ox_main"], ["checkpoint"]),
     "decipher_runestones": (["ox_speed"], []),
     "desk": (["ox_run_rows", "ox_main"], ["desk"]),
@@ -92,6 +93,7 @@ PAGE = [
     "a body heard in pieces",
     "a kept reply, /status",
     "a reply made anew, /blockhash",
+    "replies as of 100 blocks back, beside `walk`",
     "a block posted, beside `apply`",
     "/status served, 1,000 blocks, processor time",
 ]

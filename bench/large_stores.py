@@ -32,11 +32,20 @@ def small_change(chance, height, spent):
     return Change(chance.randbytes(32), [spent], sorted([paid, moved]))
 
 
-def index_rows(hashes, outputs):
-    """The rows of an index of these hashes and rows of outputs, which rise."""
+def front_rows(hashes, outputs):
+    """The rows of an index up to its outputs, which rise."""
     front = SPELLED["index"](Index(hashes))[:-EMPTY_LISTS]
-    lists = bytes(EMPTY_LISTS - 4)
-    return front + number(4)(len(outputs)) + b"".join(outputs) + lists
+    return front + number(4)(len(outputs)) + b"".join(outputs)
+
+
+def index_rows(hashes, outputs):
+    """The rows of an index of these hashes and outputs alone."""
+    return front_rows(hashes, outputs) + bytes(EMPTY_LISTS - 4)
+
+
+def kept_rows(changes):
+    """The rows of kept changes, the newest first."""
+    return body_of(Index(), changes)[len(SPELLED["index"](Index())) :]
 
 
 def spelled(pair):
@@ -57,6 +66,6 @@ def write_store(path, outputs, kept, records):
     hashes += [change.hash for change in changes[:kept]]
     came = [row for change in changes[:kept] for row in change.came]
     body = index_rows(hashes, sorted(map(spelled, rows[kept:] + came)))
-    body += body_of(Index(), changes[:kept][::-1])[len(SPELLED["index"](Index())) :]
+    body += kept_rows(changes[:kept][::-1])
     path.write_bytes(file_of("regtest", kept, body, map(payload_on, changes[kept:])))
     return first + len(changes), changes[-1].hash[::-1].hex()

@@ -1,8 +1,8 @@
 //! Replies to queries in plain Rust: a path is routed by `matchit`, a body is made by `serde_json`, and a reply owns its kind
 //! and body.
 mod bodies;
-mod sat;
-mod text;
+pub mod sat;
+pub mod text;
 
 use fold_blocks::feed::Chain;
 use index::Whole;
@@ -94,7 +94,7 @@ pub enum Way {
 }
 
 impl Way {
-    fn body(self, said: &impl Serialize) -> Option<Vec<u8>> {
+    pub fn body(self, said: &impl Serialize) -> Option<Vec<u8>> {
         match self {
             Way::Structs => serde_json::to_vec(said).ok(),
             Way::Tree => serde_json::to_vec(&serde_json::to_value(said).ok()?).ok(),
@@ -157,11 +157,12 @@ pub fn json_reply(status: u16, body: Vec<u8>, close: bool) -> Reply {
     Reply { status, kind: b"application/json".to_vec(), encoding: None, body, close }
 }
 
+pub fn error_reply(status: u16, close: bool, way: Way) -> Reply {
+    json_reply(status, way.body(&bodies::Error { error: status }).unwrap_or_default(), close)
+}
+
 pub fn answer(routes: &Router<Route>, whole: &Whole, about: &About, request: &Request, way: Way) -> Reply {
-    let error = |status: u16| {
-        let body = way.body(&bodies::Error { error: status }).unwrap_or_default();
-        json_reply(status, body, request.close)
-    };
+    let error = |status: u16| error_reply(status, request.close, way);
     let Some(found) = std::str::from_utf8(&request.path).ok().and_then(|path| routes.at(path).ok()) else {
         return error(404);
     };

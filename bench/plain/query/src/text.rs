@@ -48,7 +48,7 @@ fn short_number(text: &str) -> Option<u32> {
 }
 
 /// A hash as it is printed, whose digits are small letters.
-fn hash(digits: &str) -> Option<Hash> {
+pub fn hash(digits: &str) -> Option<Hash> {
     let mut hash = [0; 32];
     hex::decode_to_slice(digits, &mut hash).ok()?;
     hash.reverse();
