@@ -1,4 +1,5 @@
 pub mod AddressBytes
+pub mod AddressReplies
 pub mod AddressTrees
 pub mod Between
 pub mod Fits

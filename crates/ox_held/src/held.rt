@@ -85,7 +85,8 @@ impl Gathered {
 
     /// With the satoshis of the output at an outpoint more, and the inscriptions on them.
     fn add_sats<V: View>(&mut self, live: &V, at: &OutPoint) -> Result<(), Memory>
-        requires { self.old.value + length (sats_at (V.index live.now).outs (at.now ∷ [])) < 2 ^ 64 }
+        requires { self.old.value
+            + length (sats_at (V.index live.now).outs (at.now ∷ [])) < 2 ^ 64 }
         ensures { OnOk result (AddsSats (V.index live.now)
             (sats_at (V.index live.now).outs (at.now ∷ [])) self.old self.new) }
     {
@@ -97,7 +98,8 @@ impl Gathered {
 
     /// With what the output at an outpoint holds. `Memory` where there is none for it.
     fn add<V: View>(&mut self, live: &V, at: &OutPoint) -> Result<(), Memory>
-        requires sats { self.old.value + length (sats_at (V.index live.now).outs (at.now ∷ [])) < 2 ^ 64 }
+        requires sats { self.old.value
+            + length (sats_at (V.index live.now).outs (at.now ∷ [])) < 2 ^ 64 }
         requires runes { (id : Id) → amount_in self.old.runes id
             + amount_in (balances_at (V.index live.now).bal at.now) id < 2 ^ 128 }
         ensures { OnOk result (AddsOutput (V.index live.now) at.now self.old self.new) }

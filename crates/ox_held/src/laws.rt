@@ -15,10 +15,13 @@ ghost use Rattle.ox_holders.specs.Outputs.{is_locked_by, outputs_with};
 ghost use Rattle.ox_model.specs.Index.{Index};
 ghost use Rattle.ox_model.specs.Sound.{IsSound};
 ghost use Rattle.ox_routes.specs.Table.{route_and_part};
+ghost use Rattle.ox_http.specs.declared.Request.{Request};
+ghost use Rattle.ox_replies.specs.Content.{FitsHead};
 ghost use Rattle.ox_replies.specs.Keys.{keys_rise};
 ghost use Rattle.ox_replies.specs.Runes.{balance_among};
 ghost use Rattle.ox_held.specs.Held.{held_by, rows_at};
 ghost use Rattle.ox_held.specs.Paths.{address_part};
+ghost use Rattle.ox_held.specs.Replies.{address_reply};
 ghost use Rattle.ox_held.specs.Trees.{address_tree};
 
 /// The outpoints of the outputs with a script rise, so that none counts twice, and at each the
@@ -56,4 +59,13 @@ pub fn address_trees_are_exact()
 /// matter which is asked first.
 pub fn addresses_take_no_route()
     ensures { (path part : List ℕ) → address_part path ≡ Some part → route_and_part path ≡ None }
+{}
+
+/// Every reply to what an address holds closes the link where the request does, and fits its head:
+/// its kind is one printable ASCII text (RFC 9110, section 5.5).
+pub fn address_replies_are_told()
+    ensures close { (p : Profile) (index : Index) (request : Request) (part : List ℕ)
+        → (address_reply p index request part).close ≡ request.close }
+    ensures head { (p : Profile) (index : Index) (request : Request) (part : List ℕ)
+        → FitsHead (address_reply p index request part) }
 {}

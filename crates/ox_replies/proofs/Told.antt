@@ -18,7 +18,7 @@ use Rattle.ox_replies.specs.Errors.{error_tree}
 abbrev pub IsTold : Bool → Reply → Type 0
 IsTold close reply = (reply.close ≡ close) × FitsHead reply
 
-tree_told : (status : ℕ) (tree : Data) (close : Bool) → IsTold close (tree_reply status tree close)
+pub tree_told : (status : ℕ) (tree : Data) (close : Bool) → IsTold close (tree_reply status tree close)
 tree_told status tree close = (refl, record { kind = refl; encoding = tt })
 
 -- bytes are a header's, or there are none
@@ -46,7 +46,7 @@ chosen_told : {X : Type 0} (close : Bool) (f : X → Option Reply) (o : Option X
 chosen_told close f None h = tt
 chosen_told close f (Some x) h = h x
 
-trees_told : (close : Bool) (tree : Option Data) → IfSome (option_map (λ t. tree_reply 200 t close) tree) (IsTold close)
+pub trees_told : (close : Bool) (tree : Option Data) → IfSome (option_map (λ t. tree_reply 200 t close) tree) (IsTold close)
 trees_told close tree = mapped_told close (λ t. tree_reply 200 t close) tree (λ t. tree_told 200 t close)
 
 named_told : (asked : Asked) (route : Route) (part : List ℕ) (close : Bool) → IfSome (named_reply asked route part close) (IsTold close)
@@ -64,11 +64,11 @@ named_told asked Runes part close = trees_told close (tree_at asked Runes part)
 named_told asked Sat part close = trees_told close (tree_at asked Sat part)
 named_told asked Status part close = trees_told close (tree_at asked Status part)
 
-or_told : (reply : Option Reply) (close : Bool) → IfSome reply (IsTold close) → IsTold close (unwrap_or reply (error_reply 404 close))
+pub or_told : (reply : Option Reply) (close : Bool) → IfSome reply (IsTold close) → IsTold close (unwrap_or reply (error_reply 404 close))
 or_told None close h = tree_told 404 (error_tree 404) close
 or_told (Some reply) close h = h
 
-either_told : (test : Bool) (close : Bool) (a b : Reply) → IsTold close a → IsTold close b → IsTold close (cond test a b)
+pub either_told : (test : Bool) (close : Bool) (a b : Reply) → IsTold close a → IsTold close b → IsTold close (cond test a b)
 either_told true close a b h k = h
 either_told false close a b h k = k
 
