@@ -1,6 +1,6 @@
 -- How a run of turns goes on: what is known behind so many of them, and what the next one makes of it.
 use Rattle.std.proofs.Common.{◌≡◌, ◌∙◌, ◌≤◌, ◌<◌, ℕ, zero, suc, ◌+◌, Bool, List, [], ◌∷◌, ◌++◌, length, Option, Some, None, refl, sym, ap, subst, arith, inl, append_assoc}
-use Rattle.std.specs.Prelude.{get_or, replicate}
+use Rattle.std.specs.Prelude.{get_or, replicate, Result, Err}
 use Rattle.std.proofs.lemmas.List.{append-nil}
 use Rattle.std.proofs.lemmas.List.Elements.{All-nil}
 use Rattle.std.proofs.lemmas.Option.{same_Some}
@@ -25,8 +25,12 @@ use Rattle.ox_turns.specs.Follows.{Follows, ShowsFrontsIn, Start}
 use Rattle.ox_turns.specs.Places.{Places}
 use Rattle.ox_turns.specs.declared.slot.Slot.{Slot}
 use Rattle.ox_turns.specs.Turn.{DeskOf, FollowsSome, OneTurn, TurnCut}
+use Rattle.ox_turns.specs.declared.turns.TurnFault.{TurnFault}
+use Rattle.ox_turns.specs.declared.turns.TurnFault.TheVariants as turn_faults
 use Rattle.ox_app.specs.Along.{GoesAlong}
-use Rattle.ox_app.specs.Turns.{MadeTurns}
+use Rattle.ox_app.specs.Turns.{MadeTurns, fault_of_turn}
+use Rattle.ox_app.specs.declared.server.ServeFault.{ServeFault}
+use Rattle.ox_app.specs.declared.server.ServeFault.TheVariants as faults
 use Rattle.ox_app.proofs.TurnAnswers.{Goes, door_went, link_went}
 use Rattle.ox_app.proofs.MoreTurns.{cut_so, idle_one, idles_join, idles_none, logged_more, one_more, one_turn, turned_so, turns_more}
 use Rattle.ox_app.proofs.DeskAlong.{along_then, many_after, many_of_run}
@@ -216,3 +220,22 @@ follows_none server log state = record {
   shown = λ channel some. ([], refl);
   state = refl;
 }
+
+-- ---- faults
+
+-- by which turn's fault a run stopped
+pub by_disk : {T U : Type 0} (fault : TurnFault) → (let e : Result T ServeFault = Err (fault_of_turn fault) in e) ≡ Err faults.DiskFault → (let e : Result U TurnFault = Err fault in e) ≡ Err turn_faults.DiskFault
+by_disk turn_faults.DiskFault is = refl
+by_disk turn_faults.DoorFault is = cc is
+
+pub by_door : {T U : Type 0} (fault : TurnFault) → (let e : Result T ServeFault = Err (fault_of_turn fault) in e) ≡ Err faults.DoorFault → (let e : Result U TurnFault = Err fault in e) ≡ Err turn_faults.DoorFault
+by_door turn_faults.DiskFault is = cc is
+by_door turn_faults.DoorFault is = refl
+
+pub of_disk : {T U : Type 0} (fault : TurnFault) → (let e : Result T TurnFault = Err fault in e) ≡ Err turn_faults.DiskFault → (let e : Result U ServeFault = Err (fault_of_turn fault) in e) ≡ Err faults.DiskFault
+of_disk turn_faults.DiskFault is = refl
+of_disk turn_faults.DoorFault is = cc is
+
+pub has_memory : {T : Type 0} (fault : TurnFault) → (let e : Result T ServeFault = Err (fault_of_turn fault) in e) ≡ Err faults.Memory → ⊥
+has_memory turn_faults.DiskFault is = cc is
+has_memory turn_faults.DoorFault is = cc is

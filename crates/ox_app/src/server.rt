@@ -2,7 +2,7 @@
 //! to.
 
 ghost use Rattle.std.specs.Prelude.{◌≡◌, ◌≢◌, ◌+◌, ◌≤◌, [], Err, Ok as Stood, Some, IsTrue};
-ghost use Rattle.std.specs.Prelude.{IfOk, OnOk, OnErr, IsErrOf};
+ghost use Rattle.std.specs.Prelude.{IfOk, OnErr, IsErrOf};
 ghost use Rattle.std.specs.Option.{ForSome};
 ghost use Rattle.ox_outside.specs.Counts.{Rose, StopsAtFault, greatest};
 ghost use Rattle.ox_outside.specs.Log.{Grows};
@@ -11,10 +11,9 @@ ghost use Rattle.ox_gated.specs.Tail.{Holds};
 ghost use Rattle.ox_links.specs.Survives.{Survives};
 ghost use Rattle.ox_links.specs.Turned.{CutShort, IsFewer};
 ghost use Rattle.ox_turns.specs.Follows.{Follows, ShowsFrontsIn};
-ghost use Rattle.ox_turns.specs.declared.turns.TurnFault.TheVariants as turn_faults;
 ghost use Rattle.ox_files.specs.Stands.{stands};
 ghost use Rattle.ox_desk.specs.Servers.{server_on};
-ghost use Rattle.ox_app.specs.Turns.{MadeTurns, Served, StandFor};
+ghost use Rattle.ox_app.specs.Turns.{RunPromises, Served, StandFor};
 ghost use Rattle.ox_app.specs.declared.server.ServeFault.TheVariants as faults;
 
 use ox_desk::StoreDesk;
@@ -37,12 +36,25 @@ pub enum ServeFault {
 /// What a server counted.
 #[derive(Clone, Copy, Debug, PartialEq, Eq)]
 pub struct Totals {
-    /// The requests that were answered. What was no request, and what met want of memory, isn't
+    /// The requests that were answered. What was no request, and what ran out of memory, isn't
     /// counted.
     pub requests: u64,
     /// Those of them that were GETs for whose path a reply was kept since the last accepted
     /// command.
     pub hits: u64,
+}
+
+impl From<TurnFault> for ServeFault {
+    ghost use Rattle.ox_app.specs.Turns.{fault_of_turn};
+
+    ghost from_gives = { λ turn fault. fault ≡ fault_of_turn turn };
+
+    fn from(fault: TurnFault) -> ServeFault {
+        match fault {
+            TurnFault::DiskFault => ServeFault::DiskFault,
+            TurnFault::DoorFault => ServeFault::DoorFault,
+        }
+    }
 }
 
 /// Makes so many turns, of slots that are free as yet. A fault of a file or of a door ends them; a
@@ -52,32 +64,15 @@ fn go_round<S: Site, D: Desk<S>>(
     times: u64,
     site: &mut S,
     desk: &mut D,
-) -> Result<(), TurnFault>
+) -> Result<(), ServeFault>
     requires first { turns.old.place ≡ 0 }
     requires follows { ForSome (S.log site.old) (λ log. Follows D.server
         (record { log = log; state = D.state desk.old }) [] turns.old.slots (D.state desk.old)) }
     requires rests { D.rests desk.old site.old }
     requires room { D.asked desk.old + times ≤ greatest }
-    ensures made { OnOk result (Grows (λ events. MadeTurns D.server D.state D.moved D.same times
-        (S.counts site.old) (S.counts site.new) desk.old desk.new events)
-        (S.log site.old) (S.log site.new)) }
-    ensures cut { OnErr result (Grows (CutShort D.server (D.state desk.old) times)
-        (S.log site.old) (S.log site.new)) }
-    ensures fewer { IsErrOf result TurnFault.DoorFault
-        → Grows (IsFewer D.server (D.state desk.old) times) (S.log site.old) (S.log site.new) }
-    ensures fronts { Grows (ShowsFrontsIn D.server (D.state desk.old)) (S.log site.old)
-        (S.log site.new) }
-    ensures survives { IsTrue (S.told site.old) → LeavesOnly S.Site site.old site.new (λ r.
-        Grows (λ events. Survives D.server (D.state desk.old) D.stands events r.files)
-        (S.log site.old) (Some r.log)) }
-    ensures rests { OnOk result (D.rests desk.new site.new) }
-    ensures disk_fault { IsErrOf result TurnFault.DiskFault
-        → Rose (S.counts site.old).disk (S.counts site.new).disk }
-    ensures door_fault { IsErrOf result TurnFault.DoorFault
-        → Rose (S.counts site.old).door (S.counts site.new).door }
-    ensures counted { StopsAtFault (result ≡ Err turn_faults.DiskFault) ⊥ ⊥
-        (S.counts site.old) (S.counts site.new) }
-    ensures calls { Calls S.Site site.old site.new }
+    ensures promises { RunPromises S.Site D.Desk times result site.old site.new
+        desk.old desk.new }
+    ensures begun { result ≢ Err faults.Memory }
 {
     for _ in 0..times {
         turns.turn(site, desk)?;
@@ -97,36 +92,14 @@ fn serve_desk<S: Site, D: Desk<S>>(
 ) -> Result<(), ServeFault>
     requires rests { D.rests desk.old site.old }
     requires room { D.asked desk.old + times ≤ greatest }
-    ensures made { OnOk result (Grows (λ events. MadeTurns D.server D.state D.moved D.same times
-        (S.counts site.old) (S.counts site.new) desk.old desk.new events)
-        (S.log site.old) (S.log site.new)) }
-    ensures cut { OnErr result (result ≢ Err faults.Memory
-        → Grows (CutShort D.server (D.state desk.old) times) (S.log site.old) (S.log site.new)) }
+    ensures promises { RunPromises S.Site D.Desk times result site.old site.new
+        desk.old desk.new }
     ensures memory { IsErrOf result ServeFault.Memory → site.new ≡ site.old }
-    ensures fewer { IsErrOf result ServeFault.DoorFault
-        → Grows (IsFewer D.server (D.state desk.old) times) (S.log site.old) (S.log site.new) }
-    ensures fronts { Grows (ShowsFrontsIn D.server (D.state desk.old)) (S.log site.old)
-        (S.log site.new) }
-    ensures survives { IsTrue (S.told site.old) → LeavesOnly S.Site site.old site.new (λ r.
-        Grows (λ events. Survives D.server (D.state desk.old) D.stands events r.files)
-        (S.log site.old) (Some r.log)) }
-    ensures rests { OnOk result (D.rests desk.new site.new) }
-    ensures disk_fault { IsErrOf result ServeFault.DiskFault
-        → Rose (S.counts site.old).disk (S.counts site.new).disk }
-    ensures door_fault { IsErrOf result ServeFault.DoorFault
-        → Rose (S.counts site.old).door (S.counts site.new).door }
-    ensures counted { StopsAtFault (result ≡ Err faults.DiskFault) ⊥ ⊥
-        (S.counts site.old) (S.counts site.new) }
-    ensures calls { Calls S.Site site.old site.new }
 {
     let Ok(mut turns) = Turns::new(alloc) else {
         return Err(ServeFault::Memory);
     };
-    match go_round(&mut turns, times, site, desk) {
-        Ok(()) => Ok(()),
-        Err(TurnFault::DiskFault) => Err(ServeFault::DiskFault),
-        Err(TurnFault::DoorFault) => Err(ServeFault::DoorFault),
-    }
+    go_round(&mut turns, times, site, desk)
 }
 
 /// Serves links by a store that was just opened, for so many turns: it answers requests, and

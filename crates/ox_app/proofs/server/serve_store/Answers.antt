@@ -29,7 +29,7 @@ returns-in-Ok-serve_desk-clause-served g c =
     let fresh = c.in-Ok.ensures.fresh in
     let served = grows_weaker (MadeTurns server_on (λ (d : DeskContents). d.stack) Moved Same c.args.turns first last c.in-Ok.desk next) (Served server_on c.in-Ok.desk.stack c.args.turns first last next.requests next.cache.hits) old new
     (λ events made. made_served server_on (λ (d : DeskContents). d.stack) Moved Same (λ (d : DeskContents). d.requests) (λ (d : DeskContents). d.commands) (λ (d : DeskContents). tally_of d.cache) moves stays
-    c.args.turns first last c.in-Ok.desk next events fresh.1 fresh.0 fresh.2 made) c.in-Ok-serve_desk.ensures.made in
+    c.args.turns first last c.in-Ok.desk next events fresh.1 fresh.0 fresh.2 made) c.in-Ok-serve_desk.ensures.promises.made in
     subst (λ (n : ℕ). Grows (Served server_on c.args.store.stack c.args.turns first last n c.hits.result) old new) (sym c.requests.ensures)
     (subst (λ (m : ℕ). Grows (Served server_on c.args.store.stack c.args.turns first last next.requests m) old new) (sym c.hits.ensures)
     (subst (λ (s : Stack). Grows (Served server_on s c.args.turns first last next.requests next.cache.hits) old new) c.in-Ok.ensures.stack served))
@@ -37,9 +37,9 @@ returns-in-Ok-serve_desk-clause-served g c =
 pub returns-in-Ok-serve_desk-clause-survives : goal.returns-in-Ok-serve_desk-clause-survives
 returns-in-Ok-serve_desk-clause-survives g c told =
     subst (λ (s : Stack). LeavesOnly g.S.Site c.args.site.now c.serve_desk.new.site (λ r. Grows (λ events. Survives server_on s StandFor events r.files) (g.S.Site.log c.args.site.now) (Some r.log)))
-    c.in-Ok.ensures.stack (c.in-Ok-serve_desk.ensures.survives told)
+    c.in-Ok.ensures.stack (c.in-Ok-serve_desk.ensures.promises.survives told)
 
 pub returns-clause-survives : goal.returns-clause-survives
 returns-clause-survives g c told =
     subst (λ (s : Stack). LeavesOnly g.S.Site c.args.site.now c.serve_desk.new.site (λ r. Grows (λ events. Survives server_on s StandFor events r.files) (g.S.Site.log c.args.site.now) (Some r.log)))
-    c.in-Ok.ensures.stack (c.in-Err.ensures.survives told)
+    c.in-Ok.ensures.stack (c.in-Err.ensures.promises.survives told)
