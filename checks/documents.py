@@ -556,7 +556,7 @@ WRONG = {
     links: ("docs/OPERATING.md", "See docs/FORMATS.md, 'Nothing of the kind'."),
     limits: (
         "docs/FORMATS.md",
-        "## Limits\n\n| a | 31 | `SLOTS` of `ox_turns/src/turns.rt` |",
+        "## Limits\n\n| a | 31 | `LINKS` of `ox_links/src/rotation.rt` |",
     ),
     sizes: ("docs/RULES.md", "A block has at most 4,000,001 bytes in all."),
     logic: ("README.md", "It is logic `0123456789abcdef`."),
