@@ -1,2 +1,2 @@
-mod Reading
-mod Following
+pub mod Reading
+pub mod Following

@@ -1,0 +1,7 @@
+pub mod Stood
+pub mod Frames
+pub mod Leader
+pub mod Follower
+pub mod NotTaken
+pub mod Writing
+pub mod Taken

@@ -1,0 +1,157 @@
+//! A store that takes the pieces of another one.
+
+ghost use Rattle.std.specs.Prelude.{◌≡◌, Ok, Some, IsTrue, IfOk, IfErr, IsErrOf};
+ghost use Rattle.ox_outside.specs.Counts.{Rose, StopsAtFault};
+ghost use Rattle.ox_outside.specs.Runs.{OnlyLooks};
+ghost use Rattle.ox_gated.specs.Layout.{is_lawful};
+ghost use Rattle.ox_gated.specs.Tail.{Holds, IsSettled};
+ghost use Rattle.ox_files.specs.Stands.{stack_in_file, stands};
+ghost use Rattle.ox_store.specs.Fault.{IsMisfit};
+ghost use Rattle.ox_pieces.specs.Follower.{position_of};
+
+use crate::open::{Current, open_files};
+use ox_bytes::Memory as OutOfMemory;
+use ox_checkpoint::Standing;
+use ox_follow::Position;
+use ox_gated::Tail;
+use ox_outside::Site;
+use ox_store::OpenFault;
+use std::alloc::Global;
+use std::marker::Model;
+
+/// A store that takes the pieces of another one. It stands as plain data, and answers no query.
+/// Contracts see where its files stand and what for, and the tail of their records.
+pub struct Follower {
+    pub(crate) alloc: Global,
+    pub(crate) standing: Standing,
+    pub(crate) tail: Tail,
+}
+
+/// By hand, so that whoever drops one makes one call, and proves nothing of its fields.
+impl Drop for Follower {
+    fn drop(self) {
+        let Follower {
+            alloc: _alloc,
+            standing: _standing,
+            tail: _tail,
+        } = self;
+    }
+}
+
+impl Model for Follower {
+    ghost use Rattle.std.specs.Coded.{codes};
+    ghost use Rattle.std.specs.FinMap as map;
+    ghost use Rattle.ox_store.specs.Heads.{Names};
+    ghost use Rattle.ox_pieces.specs.Follower.{FollowerContents, position_of};
+
+    ghost Value = { FollowerContents };
+
+    ghost coded = { Prim.hlevel (codes, map.code) };
+
+    ghost view = { λ f.
+        record {
+          mine = record { at = position_of f.tail; state = f.standing };
+          tail = f.tail;
+        } };
+
+    ghost invariant = { λ f. Names f.tail.head f.standing };
+}
+
+/// Why a frame isn't taken.
+#[derive(Drop)]
+pub enum NotTaken {
+    /// It isn't next: a step of another position, a base of a generation that isn't greater, or a
+    /// Level of another position. The follower is as before.
+    NotNext(Follower),
+    /// No leader of this follower sends it: a Have; a base that is next, of another profile or
+    /// depth, or whose body stands for nothing; or a step that is next, whose payload isn't
+    /// accepted. The follower is as before.
+    NotFit(Follower),
+    /// The leader stands where the follower does. The follower is as before.
+    IsLevel(Follower),
+    /// There is no memory for it. The follower is gone: open the files again.
+    Memory,
+}
+
+impl From<OutOfMemory> for NotTaken {
+    ghost use Rattle.ox_pieces.specs.declared.follower.NotTaken.TheVariants as whys;
+
+    ghost from_gives = { λ _ e. e ≡ whys.Memory };
+
+    fn from(_memory: OutOfMemory) -> NotTaken {
+        NotTaken::Memory
+    }
+}
+
+impl Follower {
+    ghost use Rattle.ox_pieces.specs.Stood.{stood_in};
+
+    /// Opens two files of version 2, as `Store::open` does, but for the index, which stands as
+    /// plain data. It begins with a sync (`fsync`) of both files, and changes nothing: at no moment
+    /// does a crash leave anything that it didn't leave before.
+    ///
+    /// `NotStore` exactly where the files stand for nothing, with the file and the place of the
+    /// first test that fails; `DiskFault` only where a call on a file failed; `Memory` where there
+    /// is none for what the files hold.
+    pub fn open<S: Site>(alloc: Global, site: &mut S) -> Result<Follower, OpenFault>
+        ensures stood { IsTrue (S.told site.old)
+            → IfOk result (λ follower. stood_in (S.seen site.old) ≡ Some follower.mine) }
+        ensures holds { IsTrue (S.told site.old)
+            → IfOk result (λ follower. Holds S.Site follower.tail site.new) }
+        ensures not_store { IsTrue (S.told site.old)
+            → IfErr result (IsMisfit (stands (S.seen site.old))) }
+        ensures failed { IsErrOf result OpenFault.DiskFault
+            → Rose (S.counts site.old).disk (S.counts site.new).disk }
+        ensures counted { StopsAtFault (IsErrOf result OpenFault.DiskFault) ⊥ ⊥
+            (S.counts site.old) (S.counts site.new) }
+        // Each crash leaves what is read, unless a call failed.
+        ensures settled { ¬ IsErrOf result OpenFault.DiskFault → IsSettled S.Site site.new }
+        ensures looks { OnlyLooks S.Site site.old site.new }
+    {
+        match open_files(alloc, site) {
+            Ok(current) => Ok(follower_of(alloc, current)),
+            Err(fault) => Err(fault),
+        }
+    }
+
+    /// Where the files stand.
+    pub fn position(&self) -> Position
+        ensures { result ≡ self.now.mine.at }
+    {
+        Position {
+            generation: self.tail.head().generation,
+            place: self.tail.records(),
+        }
+    }
+
+    /// The tail of its records.
+    pub(crate) fn into_tail(self) -> Tail
+        ensures { result ≡ self.tail }
+    {
+        let Follower {
+            alloc: _alloc,
+            standing: _standing,
+            tail,
+        } = self;
+        tail
+    }
+}
+
+/// The follower of files that were read.
+fn follower_of(alloc: Global, current: Current) -> Follower
+    requires stack { stack_in_file current.opened.head current.opened.body current.opened.records
+        ≡ Ok current.standing }
+    requires head { (current.opened.tail.head ≡ current.opened.head)
+        × (current.opened.head.version ≡ 2) }
+    requires lawful { IsTrue (is_lawful current.opened.head) }
+    ensures state { result.mine.state ≡ current.standing }
+    ensures at { result.mine.at ≡ position_of current.opened.tail }
+    ensures tail { result.tail ≡ current.opened.tail }
+{
+    let Current { opened, standing } = current;
+    Follower {
+        alloc,
+        standing,
+        tail: opened.tail,
+    }
+}

@@ -1,0 +1,61 @@
+//! What is written of a piece.
+
+ghost use Rattle.std.specs.Prelude.{◌≡◌, Some, IsTrue, IfOk, OnOk, OnErr};
+ghost use Rattle.ox_outside.specs.Counts.{IsFailure, Rose, StopsAtFault};
+ghost use Rattle.ox_outside.specs.Runs.{LeavesOnly};
+ghost use Rattle.ox_gated.specs.Tail.{Holds};
+ghost use Rattle.ox_gated.specs.Writes.{OnlyWrites};
+ghost use Rattle.ox_model.specs.Stack.{Stack};
+ghost use Rattle.ox_follow.specs.World.{Stood};
+ghost use Rattle.ox_store.specs.Heads.{Names};
+ghost use Rattle.ox_pieces.specs.Follower.{position_of};
+ghost use Rattle.ox_pieces.specs.Stood.{stood_in};
+ghost use Rattle.ox_pieces.specs.Writing.{CanFollow, LeadsTo, StandsEither, stood_behind};
+
+use ox_gated::{Checkpoint, DiskFault, Framed, Tail};
+use ox_outside::Site;
+
+/// What is written of a piece. Contracts see the payload of the record, or the head and the body of
+/// the file.
+#[derive(Drop)]
+pub(crate) enum Writing {
+    /// A record behind those of the current file, however many they are.
+    Append(Framed),
+    /// A whole file, without records, that takes the current one's place.
+    Turn(Checkpoint),
+}
+
+impl Writing {
+    /// Writes it. At `Ok` it is on the disk. At any moment of the call a crash leaves files that
+    /// stand where they stood, or where it leads. No event of a channel is logged. `DiskFault` only
+    /// where a call on a file failed; the tail is gone then.
+    pub(crate) fn write<S: Site>(&self, tail: Tail, site: &mut S) -> Result<Tail, DiskFault>
+        requires can { CanFollow tail self.now }
+        requires version { tail.head.version ≡ 2 }
+        requires holds { IsTrue (S.told site.old) → Holds S.Site tail site.old }
+        ensures position { (stack : Stack)
+            → IfOk result (λ new. position_of new ≡ (stood_behind tail stack self.now).at) }
+        ensures names { (stack : Stack) → Names tail.head stack
+            → IfOk result (λ new. Names new.head stack) }
+        ensures holds { IsTrue (S.told site.old)
+            → IfOk result (λ new. Holds S.Site new site.new) }
+        ensures stood { IsTrue (S.told site.old)
+            → (before : Stood Stack) (after : Stack) → stood_in (S.seen site.old) ≡ Some before
+            → LeadsTo before.state after self.now
+            → OnOk result (stood_in (S.seen site.new) ≡ Some (stood_behind tail after self.now)) }
+        ensures any_moment { IsTrue (S.told site.old)
+            → (before : Stood Stack) (after : Stack) → stood_in (S.seen site.old) ≡ Some before
+            → LeadsTo before.state after self.now
+            → LeavesOnly S.Site site.old site.new
+            (λ r. StandsEither before (stood_behind tail after self.now) r.files) }
+        ensures failed { OnErr result (Rose (S.counts site.old).disk (S.counts site.new).disk) }
+        ensures counted { StopsAtFault (IsFailure result) ⊥ ⊥
+            (S.counts site.old) (S.counts site.new) }
+        ensures writes { OnlyWrites S.Site site.old site.new }
+    {
+        match self {
+            Writing::Append(framed) => tail.append(site, framed),
+            Writing::Turn(checkpoint) => tail.turn_to(site, checkpoint),
+        }
+    }
+}
