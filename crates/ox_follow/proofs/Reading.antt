@@ -1,8 +1,8 @@
 -- What is written reads back, and a longer front reads alike.
-use Rattle.std.proofs.Common.{◌≡◌, ◌∙◌, ◌<◌, ◌≤◌, ◌^◌, ℕ, ◌+◌, ◌-◌, ◌==◌, ◌&&◌, ◌||◌, not, Bool, true, false, cond, ltb, List, [], ◌∷◌, ◌++◌, length, take, drop, Some, Result, Ok, Err, refl, sym, ap, subst, arith, append_assoc, length-append, length-drop}
+use Rattle.std.proofs.Common.{◌≡◌, ◌∙◌, ◌<◌, ◌≤◌, ◌^◌, ℕ, ◌+◌, ◌-◌, ◌==◌, ◌&&◌, ◌||◌, not, Bool, true, false, cond, ltb, List, [], ◌∷◌, ◌++◌, length, take, drop, Option, Some, None, Result, Ok, Err, refl, sym, ap, subst, arith, append_assoc, length-append, length-drop}
 use Rattle.std.specs.Prelude.{◌≢◌, nat_le}
 use Rattle.std.specs.Int.{Width, w16, w64, byte_len, from_le_bytes, to_le_bytes}
-use Rattle.std.proofs.lemmas.Bool.{le-ltb, ltb-false, leb-true}
+use Rattle.std.proofs.lemmas.Bool.{le-ltb, ltb-false, ltb-true, leb-true}
 use Rattle.std.proofs.lemmas.Bool.Decides.{nat_tests}
 use Rattle.std.proofs.lemmas.List.{take-append-le, drop-append-le}
 use Rattle.ox_bytes.specs.Reading.{number_at, run_at, ◌>>=◌}
@@ -138,6 +138,97 @@ by_length_on bytes more (Err left) read some = absurd (some refl)
 
 pub read_alike : (bytes more : List ℕ) → front_of bytes ≢ More → front_of (bytes ++ more) ≡ front_of bytes
 read_alike bytes more some = by_length_on bytes more (number_at w64 bytes) refl some
+
+-- ---- how much stands there
+
+-- of two choices with one test, where the first is Bad
+not_chosen : (b : Bool) (x y : Front) → cond b Bad x ≡ y → (Bad ≡ y → ⊥) → x ≡ y
+not_chosen true x y is other = absurd (other is)
+not_chosen false x y is other = is
+
+whole_as : (size : ℕ) (read : Option Frame) (frame : Frame) (used : ℕ) → whole_or_bad size read ≡ Whole frame used → used ≡ size
+whole_as size None frame used is = absurd (cc is)
+whole_as size (Some other) frame used is = sym (cc is)
+
+never_more : (size : ℕ) (read : Option Frame) → whole_or_bad size read ≡ More → ⊥
+never_more size None is = cc is
+never_more size (Some other) is = cc is
+
+whole_in_run : (size kind : ℕ) (behind : List ℕ) (frame : Frame) (used : ℕ) (read : Result (List ℕ × List ℕ) ℕ) → run_at (size - 1) behind ≡ read → by_run size kind read ≡ Whole frame used
+    → (used ≡ 8 + size) × (size - 1 ≤ length behind)
+whole_in_run size kind behind frame used (Ok run) read is =
+    (whole_as (8 + size) (frame_by kind (number_at w64 run.0)) frame used is, run_long (size - 1) behind run read)
+whole_in_run size kind behind frame used (Err left) read is = absurd (cc is)
+
+whole_in_size : (size : ℕ) (rest : List ℕ) (frame : Frame) (used : ℕ) → by_size size rest ≡ Whole frame used → (used ≡ 8 + size) × (size ≤ length rest)
+whole_in_size size [] frame used is = absurd (cc (not_chosen (not (is_length size)) More (Whole frame used) is (λ e. cc e)))
+whole_in_size size (kind ∷ behind) frame used is =
+    let of_kind : by_kind size kind behind ≡ Whole frame used = not_chosen (not (is_length size)) (by_kind size kind behind) (Whole frame used) is (λ e. cc e) in
+    let of_run : by_run size kind (run_at (size - 1) behind) ≡ Whole frame used =
+    not_chosen (not (is_length_of kind size) || has_bad_place kind behind) (by_run size kind (run_at (size - 1) behind)) (Whole frame used) of_kind (λ e. cc e) in
+    let found = whole_in_run size kind behind frame used (run_at (size - 1) behind) refl of_run in
+    let long : size - 1 ≤ length behind = found.1 in
+    (found.0, omega (arith, long))
+
+-- a frame takes more bytes than its length has, and they are there
+pub whole_is_there : (bytes : List ℕ) (frame : Frame) (used : ℕ) → front_of bytes ≡ Whole frame used → (8 ≤ used) × (used ≤ length bytes)
+whole_is_there bytes frame used is = by_read (number_at w64 bytes) refl is
+  where
+    by_read : (read : Field) → number_at w64 bytes ≡ read → by_length read ≡ Whole frame used → (8 ≤ used) × (used ≤ length bytes)
+    by_read (Ok x) read is =
+        let found = whole_in_size x.0 x.1 frame used is in
+        let size : used ≡ 8 + x.0 = found.0 in
+        let long : x.0 ≤ length x.1 = found.1 in
+        let all : length bytes ≡ 8 + length x.1 = number_long w64 bytes x read in
+        (omega (arith, size), omega (arith, size, long, all))
+    by_read (Err left) read is = absurd (cc is)
+
+short_run : (n : ℕ) (bytes : List ℕ) (left : ℕ) → run_at n bytes ≡ Err left → length bytes < n
+unfolding run_at
+short_run n bytes left is = by_test (ltb (length bytes) n) refl is
+  where
+    by_test : (b : Bool) → ltb (length bytes) n ≡ b → cond {A = Result (List ℕ × List ℕ) ℕ} b (Err (length bytes)) (Ok (take n bytes, drop n bytes)) ≡ Err left → length bytes < n
+    by_test true short is = ltb-true _ _ short
+    by_test false short is = absurd (cc is)
+
+more_in_run : (size kind : ℕ) (behind : List ℕ) (read : Result (List ℕ × List ℕ) ℕ) → run_at (size - 1) behind ≡ read → by_run size kind read ≡ More → length behind < size - 1
+more_in_run size kind behind (Ok run) read is = absurd (never_more (8 + size) (frame_by kind (number_at w64 run.0)) is)
+more_in_run size kind behind (Err left) read is = short_run (size - 1) behind left read
+
+-- a length that may stand there
+length_most : (size : ℕ) → not (is_length size) ≡ false → size ≤ 4294967315
+length_most size is = grind (arith, nat_tests)
+
+chosen_other : (b : Bool) (x y : Front) → cond b Bad x ≡ y → (Bad ≡ y → ⊥) → b ≡ false
+chosen_other true x y is other = absurd (other is)
+chosen_other false x y is other = refl
+
+more_in_size : (size : ℕ) (rest : List ℕ) → by_size size rest ≡ More → length rest ≤ 4294967315
+more_in_size size [] is = omega arith
+more_in_size size (kind ∷ behind) is =
+    let few : size ≤ 4294967315 = length_most size (chosen_other (not (is_length size)) (by_kind size kind behind) More is (λ e. cc e)) in
+    let of_kind : by_kind size kind behind ≡ More = not_chosen (not (is_length size)) (by_kind size kind behind) More is (λ e. cc e) in
+    let of_run : by_run size kind (run_at (size - 1) behind) ≡ More =
+    not_chosen (not (is_length_of kind size) || has_bad_place kind behind) (by_run size kind (run_at (size - 1) behind)) More of_kind (λ e. cc e) in
+    let short : length behind < size - 1 = more_in_run size kind behind (run_at (size - 1) behind) refl of_run in
+    omega (arith, few, short)
+
+-- while neither a frame nor a fault stands there, the bytes are fewer than the longest frame has
+pub more_is_short : (bytes : List ℕ) → front_of bytes ≡ More → length bytes ≤ 4294967323
+more_is_short bytes is = by_read (number_at w64 bytes) refl is
+  where
+    by_read : (read : Field) → number_at w64 bytes ≡ read → by_length read ≡ More → length bytes ≤ 4294967323
+    by_read (Ok x) read is =
+        let few : length x.1 ≤ 4294967315 = more_in_size x.0 x.1 is in
+        let all : length bytes ≡ 8 + length x.1 = number_long w64 bytes x read in
+        omega (arith, few, all)
+    by_read (Err left) read is =
+        let few : length bytes < 8 = number_short w64 bytes left read in
+        omega (arith, few)
+
+pub none_in_front : front_of [] ≡ More
+unfolding number_at
+none_in_front = refl
 
 -- ---- what is written
 

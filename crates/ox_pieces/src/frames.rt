@@ -1,6 +1,6 @@
 //! The frames of channel 0, read one by one.
 
-ghost use Rattle.std.specs.Prelude.{◌≡◌, ◌+◌, ◌<◌, ◌≤◌, false, length};
+ghost use Rattle.std.specs.Prelude.{◌≡◌, ◌+◌, ◌<◌, ◌≤◌, ◌^◌, false, length, drop, vec_len};
 ghost use Rattle.std.specs.Prelude.{IsTrue, IfOk, IfSome, OnOk, IsErrOf};
 ghost use Rattle.ox_outside.specs.Counts.{Rose, StopsAtFault};
 ghost use Rattle.ox_outside.specs.Log.{Grows};
@@ -123,7 +123,9 @@ impl Frames {
 
     /// Whether a whole frame, a fault or the end of the channel stands in front.
     fn is_ready(&self) -> bool
-        ensures { result ≡ is_ready self.now }
+        ensures ready { result ≡ is_ready self.now }
+        ensures size { length self.now.rest ≤ longest_frame + room_size }
+        ensures count { self.now.heard ≤ feed_limit }
     {
         self.ended || !matches!(read_frame(self.rest()), Ok(None))
     }
@@ -139,31 +141,32 @@ impl Frames {
             (S.counts site.old) (S.counts site.new) }
         ensures too_much { IsErrOf result FeedFault.TooMuch → IsTooMuch self.new }
         ensures left { bytes_left self.new ≤ bytes_left self.old }
+        ensures size { length self.new.rest ≤ longest_frame + room_size }
+        ensures count { self.new.heard ≤ feed_limit }
         ensures talks { OnlyTalks S.Site OnlyHears site.old site.new }
     {
         let most = ROOM.min(FEED_LIMIT - self.heard);
         if most == 0 {
             return Err(FeedFault::TooMuch);
         }
-        self.forget_passed();
+        forget(&mut self.bytes, self.passed);
+        self.passed = 0;
         match hear_behind(&mut self.bytes, site, most as usize)? {
             Some(n) => self.heard += n as u64,
             None => self.ended = true,
         }
         Ok(())
     }
+}
 
-    /// Gives the place of the bytes that are passed over to those behind them.
-    fn forget_passed(&mut self)
-        ensures { self.new ≡ self.old }
-    {
-        if self.passed > 0 {
-            let len = self.bytes.len();
-            self.bytes.copy_within(self.passed..len, 0);
-            self.bytes.truncate(len - self.passed);
-            self.passed = 0;
-        }
-    }
+/// Gives the place of the first n bytes to those behind them.
+fn forget(bytes: &mut Vec<u8>, n: usize)
+    requires { n ≤ vec_len bytes.old }
+    ensures { bytes.new.items ≡ drop n bytes.old.items }
+{
+    let left = bytes.len() - n;
+    bytes.copy_within(n.., 0);
+    bytes.truncate(left);
 }
 
 /// Hears bytes on channel 0 behind those that are there, at most `most`, and answers how many;
@@ -173,7 +176,8 @@ fn hear_behind<S: Site>(
     site: &mut S,
     most: usize,
 ) -> Result<Option<usize>, FeedFault>
-    requires { 0 < most }
+    requires some { 0 < most }
+    requires room { vec_len bytes.old + most < 2 ^ 64 }
     ensures logged { Grows (HearsBehind result bytes.old.items bytes.new.items)
         (S.log site.old) (S.log site.new) }
     ensures some { IfOk result (λ heard. IfSome heard (λ n. (0 < n) × (n ≤ most))) }
@@ -187,8 +191,7 @@ fn hear_behind<S: Site>(
 {
     let len = bytes.len();
     bytes.resize(len + most, 0)?;
-    let heard = site.hear(0, bytes.as_mut_slice().split_at_mut(len).1);
-    match heard {
+    match site.hear(0, bytes.as_mut_slice().split_at_mut(len).1) {
         Ok(Heard::Bytes(n)) => {
             bytes.truncate(len + n);
             Ok(Some(n))
