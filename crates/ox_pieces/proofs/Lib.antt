@@ -1,0 +1,3 @@
+pub mod FramesInTurn
+mod Hearings
+mod PiecesOfLeaders

@@ -115,10 +115,11 @@ impl Leader {
 
     /// The whole file.
     fn base(&self) -> Frame<'_>
-        ensures base { Some (plain result)
-            ≡ frame_of (rules_of self.now.state) self.now (stood self.now).at Whole }
+        ensures base { (at : Position)
+            → Some (plain result) ≡ frame_of (rules_of self.now.state) self.now at Whole }
         ensures fits { FitsFrame (plain result) }
     {
+        let _generation = self.head.generation;
         Frame::Base {
             at: Position {
                 generation: self.head.generation,
