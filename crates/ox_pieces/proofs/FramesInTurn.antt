@@ -1,14 +1,14 @@
 -- The frames that stand in some bytes, by what stands in front of these.
-use Rattle.std.proofs.Common.{◌≡◌, ◌≢◌, ◌∙◌, ◌<◌, ◌≤◌, ℕ, zero, suc, ◌-◌, Bool, true, false, List, [], ◌∷◌, ◌++◌, length, drop, refl, sym, ap, subst, arith, inl, inr, length-append, length-drop}
+use Rattle.std.proofs.Common.{◌≡◌, ◌≢◌, ◌∙◌, ◌<◌, ◌≤◌, ℕ, zero, suc, Bool, true, false, List, [], ◌∷◌, ◌++◌, length, drop, refl, sym, ap, subst, arith, inl, inr, length-drop}
 use Rattle.std.specs.Prelude.{◌||◌, not, IsTrue}
-use Rattle.std.proofs.lemmas.List.{append-nil, drop-append-le}
+use Rattle.std.proofs.lemmas.List.{drop-append-le}
 use Rattle.ox_outside.specs.Shown.{IsFrontOf}
 use Rattle.ox_feed.specs.Feed.{Feed}
 use Rattle.ox_follow.specs.Frame.{Frame}
 use Rattle.ox_follow.specs.Front.{Front, More, Bad, Whole, front_of}
-use Rattle.ox_follow.specs.Talk.{Fault, Part}
+use Rattle.ox_follow.specs.Talk.{Part}
 use Rattle.ox_follow.proofs.Reading.{none_in_front, read_alike, whole_is_there}
-use Rattle.ox_pieces.specs.Frames.{Talk, GivesFrame, HasBadFrame, HasNoFrame, behind_first, behind_front, by_front, frames_in, frames_within, is_more, is_ready, only_rest, part_of, with_first}
+use Rattle.ox_pieces.specs.Frames.{Talk, GivesFrame, HasBadFrame, behind_front, by_front, frames_in, frames_within, is_more, is_ready, only_rest, part_of, with_first}
 
 -- ---- one frame off
 

@@ -1,5 +1,5 @@
 -- Hearings of a reader of frames: what they put behind its bytes, and what several say together.
-use Rattle.std.proofs.Common.{◌≡◌, ◌≤◌, ◌∙◌, ℕ, ◌+◌, Bool, true, false, List, [], ◌++◌, length, take, refl, sym, ap, subst, arith, length-append, append_assoc}
+use Rattle.std.proofs.Common.{◌≡◌, ◌≤◌, ◌∙◌, ℕ, ◌+◌, Bool, true, false, List, [], ◌++◌, length, take, refl, sym, ap, arith, length-append, append_assoc}
 use Rattle.std.specs.Prelude.{◌||◌, IsTrue, Option, Some, Result, Ok}
 use Rattle.std.proofs.Math.Seq.{take-append-add}
 use Rattle.std.proofs.lemmas.List.{append-nil, take-append-le, take-take, take_all}
@@ -11,7 +11,7 @@ use Rattle.ox_outside.specs.declared.site.Site.{Ghosts as Meanings}
 use Rattle.ox_outside.proofs.Event.{heard_bytes-append}
 use Rattle.ox_outside.proofs.Log.{adds_grows, grows_then}
 use Rattle.ox_outside.proofs.OnlyTalks.{talks_then}
-use Rattle.ox_feed.specs.Feed.{Feed, Hears, Listens, OnlyHears}
+use Rattle.ox_feed.specs.Feed.{Feed, Listens, OnlyHears}
 use Rattle.ox_feed.specs.declared.lines.FeedFault.{FeedFault}
 use Rattle.ox_feed.proofs.HearingOnlyTalks.{only_hears_none, only_hears_one, only_hears_then}
 use Rattle.ox_feed.proofs.HearingsInTurn.{hears_then}

@@ -1,3 +1,5 @@
 pub mod FramesInTurn
 mod Hearings
+mod HeadsOfPieces
 mod PiecesOfLeaders
+pub mod StoodFiles

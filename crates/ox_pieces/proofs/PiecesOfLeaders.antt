@@ -1,6 +1,6 @@
 -- What a leader hands out, by its head, its body and its records.
-use Rattle.std.proofs.Common.{◌≡◌, ◌∙◌, ◌<◌, ◌≤◌, ◌^◌, ltb, All, nat_cmp, Less, ℕ, zero, suc, ◌==◌, ◌&&◌, Bool, true, false, List, [], ◌∷◌, length, refl, sym, ap, subst, arith}
-use Rattle.std.specs.Prelude.{◌||◌, not, nat_le, nat_lt, slice_index_or, Option, Some, None, Result, Ok, Err, IsTrue}
+use Rattle.std.proofs.Common.{◌≡◌, ◌∙◌, ◌<◌, ◌≤◌, ◌^◌, ltb, All, nat_cmp, Less, ℕ, zero, suc, ◌==◌, ◌&&◌, true, false, List, [], ◌∷◌, length, refl, sym, ap, subst, arith}
+use Rattle.std.specs.Prelude.{◌||◌, not, nat_le, nat_lt, slice_index_or, Option, Some, None}
 use Rattle.std.proofs.lemmas.Bool.{and_parts, leb-true, le-ltb, ltb-false, ltb-true, ne_eqb}
 use Rattle.std.proofs.lemmas.Cmp.{ranked}
 use Rattle.std.proofs.lemmas.List.Elements.{All-head, All-tail}
@@ -10,7 +10,6 @@ use Rattle.ox_gated.specs.declared.records.Record.{Record}
 use Rattle.ox_sat.specs.Profiles.{name_at, profile_named}
 use Rattle.ox_sat.specs.declared.profiles.Profile.{Profile}
 use Rattle.ox_model.specs.Stack.{Stack}
-use Rattle.ox_files.specs.Stands.{stack_in_file}
 use Rattle.ox_files.proofs.FilesOfStacks.{file_stack}
 use Rattle.ox_follow.specs.Frame.{Frame, Base, Step, Level}
 use Rattle.ox_follow.specs.Position.{start_of}

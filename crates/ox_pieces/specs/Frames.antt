@@ -120,7 +120,8 @@ heard_count (Ok None) = 0
 heard_count (Ok (Some n)) = n
 heard_count (Err fault) = 0
 
--- What a hearing logged stands behind the bytes that were there, or says that the channel has ended.
+-- What a hearing logged stands behind the bytes that were there, or says that the channel has
+-- ended.
 pub record HearsBehind (result : Result (Option ℕ) FeedFault) (old new : List ℕ)
     (events : List Event) : Type 0 where
   pub only : OnlyHears events

@@ -1,5 +1,5 @@
 -- What two files hand out, where a store stands that has them, and the rules by which it goes on.
-use Rattle.std.specs.Prelude.{ℕ, List, map, Option, Some, None, Result, Ok, Err}
+use Rattle.std.specs.Prelude.{ℕ, List, map, Option, None, Result, Ok, Err}
 use Rattle.std.specs.Option.{option_map}
 use Rattle.std.specs.Result.{result_ok}
 use Rattle.ox_outside.specs.Files.{Files}

@@ -10,10 +10,12 @@ ghost use Rattle.ox_store.specs.Fault.{IsMisfit};
 ghost use Rattle.ox_pieces.specs.Follower.{position_of};
 
 use crate::open::{Current, open_files};
+use crate::taken::Taken;
+use crate::writing::{Writing, file_of, record_of};
 use ox_bytes::Memory as OutOfMemory;
-use ox_checkpoint::Standing;
-use ox_follow::Position;
-use ox_gated::Tail;
+use ox_checkpoint::{Judgement, Standing};
+use ox_follow::{Frame, Position};
+use ox_gated::{Head, Tail};
 use ox_outside::Site;
 use ox_store::OpenFault;
 use std::alloc::Global;
@@ -123,17 +125,117 @@ impl Follower {
             place: self.tail.records(),
         }
     }
+}
 
-    /// The tail of its records.
-    pub(crate) fn into_tail(self) -> Tail
-        ensures { result ≡ self.tail }
+impl Follower {
+    ghost use Rattle.ox_follow.specs.Frame.{Base, Level, Step, plain};
+    ghost use Rattle.ox_pieces.specs.NotTaken.{IsNotTaken};
+    ghost use Rattle.ox_pieces.specs.Taken.{IsTaken};
+
+    /// Judges a frame, and takes a step of just its own position, or a base of a greater generation
+    /// and of its own profile and depth, where these stand: then all memory of what is written is
+    /// taken, and nothing is written yet.
+    ///
+    /// `NotNext`, `NotFit` and `IsLevel` exactly by the frame, and hand the follower back as it
+    /// was. `Memory` where there is none, where a payload or a body is 2^32 bytes or longer, and
+    /// where the file has no room for the payload.
+    pub fn take(self, frame: &Frame<'_>) -> Result<Taken, NotTaken>
+        ensures taken { IfOk result (IsTaken self (plain frame.now)) }
+        ensures not_taken { IfErr result (IsNotTaken self (plain frame.now)) }
     {
+        match *frame {
+            Frame::Base {
+                at,
+                profile,
+                depth,
+                body,
+            } => self.take_base(at, profile, depth, body),
+            Frame::Step { at, payload } => self.take_step(at, payload),
+            Frame::Have { .. } => Err(NotTaken::NotFit(self)),
+            Frame::Level { at } => Err(self.meet_level(at)),
+        }
+    }
+
+    /// Judges a step, and takes it where it is next and accepted.
+    fn take_step(self, at: Position, payload: &[u8]) -> Result<Taken, NotTaken>
+        ensures taken { IfOk result (IsTaken self (Step at payload.now)) }
+        ensures not_taken { IfErr result (IsNotTaken self (Step at payload.now)) }
+    {
+        if at != self.position() {
+            return Err(NotTaken::NotNext(self));
+        }
         let Follower {
-            alloc: _alloc,
-            standing: _standing,
+            alloc,
+            standing,
             tail,
         } = self;
-        tail
+        match standing.judge(alloc, payload)? {
+            Judgement::Accepted(standing) => {
+                let framed = record_of(alloc, &tail, payload)?;
+                Ok(Taken {
+                    alloc,
+                    standing,
+                    tail,
+                    writing: Writing::Append(framed),
+                })
+            }
+            Judgement::NotAccepted(standing) => Err(NotTaken::NotFit(Follower {
+                alloc,
+                standing,
+                tail,
+            })),
+        }
+    }
+
+    /// Judges a base, and takes it where it is next and its body stands for a stack.
+    fn take_base(
+        self,
+        at: Position,
+        profile: u8,
+        depth: u16,
+        body: &[u8],
+    ) -> Result<Taken, NotTaken>
+        ensures taken { IfOk result (IsTaken self (Base at profile depth body.now)) }
+        ensures not_taken { IfErr result (IsNotTaken self (Base at profile depth body.now)) }
+    {
+        let head = self.tail.head();
+        if at.generation <= head.generation {
+            return Err(NotTaken::NotNext(self));
+        }
+        if profile != head.profile || depth != head.depth {
+            return Err(NotTaken::NotFit(self));
+        }
+        let later = Head {
+            generation: at.generation,
+            ..head
+        };
+        match file_of(self.alloc, &later, body)? {
+            Some((standing, checkpoint)) => {
+                let Follower {
+                    alloc,
+                    standing: _left,
+                    tail,
+                } = self;
+                Ok(Taken {
+                    alloc,
+                    standing,
+                    tail,
+                    writing: Writing::Turn(checkpoint),
+                })
+            }
+            None => Err(NotTaken::NotFit(self)),
+        }
+    }
+
+    /// What a Level says to it.
+    fn meet_level(self, at: Position) -> NotTaken
+        ensures { IsNotTaken self (Level at) result }
+    {
+        if at == self.position() {
+            NotTaken::IsLevel(self)
+        } else {
+            NotTaken::NotNext(self)
+        }
     }
 }
 

@@ -157,7 +157,10 @@ fn leader_of(current: Current) -> Result<Leader, OpenFault>
         IfOk result (λ leader. leader ≡ leader_as o.head o.body o.records current.standing) }
     ensures memory { IfErr result (λ fault. fault ≡ OpenFault.Memory) }
 {
-    let Current { opened, standing: _ } = current;
+    let Current {
+        opened,
+        standing: _,
+    } = current;
     if opened.body.len() > LONGEST || !are_short(&opened.records) {
         return Err(OpenFault::Memory);
     }

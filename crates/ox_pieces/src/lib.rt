@@ -7,7 +7,6 @@ mod frames;
 mod laws;
 mod leader;
 mod open;
-mod take;
 mod taken;
 mod writing;
 

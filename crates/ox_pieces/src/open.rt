@@ -13,7 +13,7 @@ ghost use Rattle.ox_store.specs.Fault.{IsMisfit};
 use ox_checkpoint::{Standing, stand};
 use ox_gated::{Opened, Tail};
 use ox_outside::Site;
-use ox_store::{OpenFault, fault_of, in_file};
+use ox_store::OpenFault;
 use std::alloc::Global;
 
 /// What was read of two files, and what it stands for.
@@ -45,7 +45,7 @@ pub(crate) fn open_files<S: Site>(alloc: Global, site: &mut S) -> Result<Current
 {
     match Tail::open(alloc, site) {
         Ok(opened) => judged(alloc, opened),
-        Err(fault) => Err(fault_of(alloc, fault)),
+        Err(fault) => Err(OpenFault::of(alloc, fault)),
     }
 }
 
@@ -60,6 +60,6 @@ fn judged(alloc: Global, opened: Opened) -> Result<Current, OpenFault>
 {
     match stand(alloc, &opened.head, &opened.body, &opened.records) {
         Ok(standing) => Ok(Current { opened, standing }),
-        Err(unjudged) => Err(in_file(opened.file, unjudged)),
+        Err(unjudged) => Err(OpenFault::in_file(opened.file, unjudged)),
     }
 }

@@ -1,19 +1,28 @@
 //! What is written of a piece.
 
-ghost use Rattle.std.specs.Prelude.{◌≡◌, Some, IsTrue, IfOk, OnOk, OnErr};
+ghost use Rattle.std.specs.Prelude.{◌≡◌, Some, IsTrue, IfOk, OnOk, OnErr, length};
 ghost use Rattle.ox_outside.specs.Counts.{IsFailure, Rose, StopsAtFault};
 ghost use Rattle.ox_outside.specs.Runs.{LeavesOnly};
-ghost use Rattle.ox_gated.specs.Tail.{Holds};
+ghost use Rattle.ox_gated.specs.Layout.{is_lawful};
+ghost use Rattle.ox_gated.specs.Tail.{Fits, Holds};
 ghost use Rattle.ox_gated.specs.Writes.{OnlyWrites};
 ghost use Rattle.ox_model.specs.Stack.{Stack};
 ghost use Rattle.ox_follow.specs.World.{Stood};
 ghost use Rattle.ox_store.specs.Heads.{Names};
 ghost use Rattle.ox_pieces.specs.Follower.{position_of};
 ghost use Rattle.ox_pieces.specs.Stood.{stood_in};
-ghost use Rattle.ox_pieces.specs.Writing.{CanFollow, LeadsTo, StandsEither, stood_behind};
+ghost use Rattle.ox_pieces.specs.Writing.{CanFollow, IsFileOf, LeadsTo, StandsEither};
+ghost use Rattle.ox_pieces.specs.Writing.{position_behind, stood_behind};
 
-use ox_gated::{Checkpoint, DiskFault, Framed, Tail};
+use ox_bytes::{Bytes, Memory};
+use ox_checkpoint::Standing;
+use ox_files::profile_of_head;
+use ox_gated::{Checkpoint, DiskFault, Framed, Head, Tail, checkpoint_of, frame};
 use ox_outside::Site;
+use std::alloc::Global;
+
+/// The greatest length of a body and of a payload.
+const LONGEST: usize = 0xffff_ffff;
 
 /// What is written of a piece. Contracts see the payload of the record, or the head and the body of
 /// the file.
@@ -33,8 +42,7 @@ impl Writing {
         requires can { CanFollow tail self.now }
         requires version { tail.head.version ≡ 2 }
         requires holds { IsTrue (S.told site.old) → Holds S.Site tail site.old }
-        ensures position { (stack : Stack)
-            → IfOk result (λ new. position_of new ≡ (stood_behind tail stack self.now).at) }
+        ensures position { IfOk result (λ new. position_of new ≡ position_behind tail self.now) }
         ensures names { (stack : Stack) → Names tail.head stack
             → IfOk result (λ new. Names new.head stack) }
         ensures holds { IsTrue (S.told site.old)
@@ -58,4 +66,36 @@ impl Writing {
             Writing::Turn(checkpoint) => tail.turn_to(site, checkpoint),
         }
     }
+}
+
+/// The record of a payload. `Memory` where it is too long for one, where the file has no room for
+/// it, and where there is none.
+pub(crate) fn record_of(alloc: Global, tail: &Tail, payload: &[u8]) -> Result<Framed, Memory>
+    ensures payload { IfOk result (λ framed. framed ≡ payload.now) }
+    ensures fits { IfOk result (λ framed. Fits tail.now (length framed)) }
+{
+    if payload.len() > LONGEST || !tail.fits(payload.len() as u64) {
+        return Err(Memory);
+    }
+    frame(alloc, payload)
+}
+
+/// What a body stands for under this head, and the file of the two, without records; `None` exactly
+/// where it stands for nothing. `Memory` where it is too long for one, and where there is none.
+pub(crate) fn file_of(
+    alloc: Global,
+    head: &Head,
+    body: &[u8],
+) -> Result<Option<(Standing, Checkpoint)>, Memory>
+    requires { IsTrue (is_lawful head.now) }
+    ensures { IfOk result (IsFileOf head.now body.now) }
+{
+    let Some(standing) = Standing::of(alloc, profile_of_head(head), head.depth, body)? else {
+        return Ok(None);
+    };
+    if body.len() > LONGEST {
+        return Err(Memory);
+    }
+    let checkpoint = checkpoint_of(alloc, head, Bytes::copy(alloc, body)?)?;
+    Ok(Some((standing, checkpoint)))
 }

@@ -1,4 +1,4 @@
-use Rattle.std.proofs.Common.{◌∙◌, le_trans, refl, sym}
+use Rattle.std.proofs.Common.{◌∙◌, le_trans, sym}
 use Rattle.ox_outside.proofs.Counts.{no_fault_then}
 use Rattle.ox_feed.proofs.HearingsInTurn.{hearing_worked}
 use Rattle.ox_pieces.proofs.FramesInTurn.{not_ready}

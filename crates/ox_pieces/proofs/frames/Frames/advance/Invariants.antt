@@ -1,4 +1,4 @@
-use Rattle.std.proofs.Common.{◌≤◌, ◌+◌, length}
+use Rattle.std.proofs.Common.{◌≤◌}
 use Rattle.ox_outside.specs.Counts.{NoFault}
 use Rattle.ox_outside.specs.Log.{Grows}
 use Rattle.ox_outside.specs.Runs.{OnlyTalks}

@@ -1,7 +1,6 @@
-use Rattle.std.proofs.Common.{◌≡◌, ◌≤◌, ◌<◌, ◌∙◌, ◌+◌, ℕ, List, length, ap, sym, arith}
+use Rattle.std.proofs.Common.{◌≡◌, ◌≤◌, ◌∙◌, ℕ, List, length, ap, arith}
 use Rattle.ox_feed.specs.Feed.{Feed}
 use Rattle.ox_follow.proofs.Reading.{more_is_short}
-use Rattle.ox_pieces.specs.Frames.{heard_count}
 use Rattle.ox_pieces.proofs.FramesInTurn.{not_ready}
 use Rattle.ox_pieces.proofs.frames.Frames.hear.Goals as goal
 

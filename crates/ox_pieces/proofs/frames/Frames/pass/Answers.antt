@@ -1,4 +1,4 @@
-use Rattle.std.proofs.Common.{◌≡◌, ◌≤◌, ◌∙◌, ◌-◌, ℕ, List, length, ap, sym, arith, length-drop}
+use Rattle.std.proofs.Common.{◌≡◌, ◌∙◌, ◌-◌, ℕ, List, length, ap, sym, arith, length-drop}
 use Rattle.ox_feed.specs.Feed.{Feed}
 use Rattle.ox_follow.proofs.Reading.{whole_is_there}
 use Rattle.ox_pieces.proofs.frames.Frames.pass.Goals as goal
