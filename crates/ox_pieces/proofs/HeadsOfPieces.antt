@@ -2,7 +2,7 @@
 use Rattle.std.proofs.Common.{◌≡◌, ◌∙◌, ◌<◌, ℕ, Bool, true, false, List, [], ◌∷◌, refl, sym, ap, subst, arith}
 use Rattle.std.specs.Prelude.{◌&&◌, ◌||◌, ◌==◌, not, nat_le, nat_lt, Option, Some, None, if◌then◌else◌}
 use Rattle.std.specs.Result.{result_ok}
-use Rattle.std.proofs.lemmas.Bool.{eq-eqb, false≢true, lt-ltb, ne_eqb}
+use Rattle.std.proofs.lemmas.Bool.{and_parts, eq-eqb, eqb-true, false≢true, lt-ltb, ne_eqb}
 use Rattle.std.proofs.lemmas.Option.{same_Some}
 use Rattle.ox_gated.specs.Layout.{Whole, is_lawful}
 use Rattle.ox_gated.specs.Tail.{Kept}
@@ -15,21 +15,22 @@ use Rattle.ox_model.specs.declared.change.Change.{Change}
 use Rattle.ox_plain.specs.Ends.{begins_in}
 use Rattle.ox_rows.specs.RowReading.{change_at}
 use Rattle.ox_sound.specs.Sound.{sound}
-use Rattle.ox_files.specs.Body.{stack_in_body, whole}
+use Rattle.ox_files.specs.Body as bodies
+use Rattle.ox_files.specs.Body.{Body, stack_in_body, whole}
 use Rattle.ox_files.specs.Payload.{payload_step, stack_back, stack_by_change, with_change}
 use Rattle.ox_files.specs.Stands.{stack_in_file}
 use Rattle.ox_files.proofs.FilesOfStacks.{file_stack, file_turned}
-use Rattle.ox_follow.specs.Frame.{Base}
-use Rattle.ox_follow.specs.Position.{start_of}
-use Rattle.ox_follow.specs.Talk.{Takes, fitting, judged}
-use Rattle.ox_follow.specs.World.{Stood}
+use Rattle.ox_follow.specs.Frame.{Frame, Base, Step, Have, Level}
+use Rattle.ox_follow.specs.Position.{is_same, next_place, start_of}
+use Rattle.ox_follow.specs.Talk.{Judged, Done, Ends, Stays, Takes, fitting, judged}
+use Rattle.ox_follow.specs.World.{Stood, spelled_by}
 use Rattle.ox_follow.specs.declared.frame.Position.{Position}
 use Rattle.ox_store.specs.Heads.{Names}
 use Rattle.ox_pieces.specs.Follower.{FollowerContents, position_of}
 use Rattle.ox_pieces.specs.Stood.{rules_of}
 use Rattle.ox_pieces.specs.Taken.{IsTaken}
 use Rattle.ox_pieces.specs.Writing.{IsLater, stack_under, stood_behind}
-use Rattle.ox_pieces.specs.declared.writing.Writing.TheVariants.{Turn}
+use Rattle.ox_pieces.specs.declared.writing.Writing.TheVariants.{Append, Turn}
 use Rattle.ox_pieces.proofs.PiecesOfLeaders.{byte_of}
 
 -- ---- a payload changes neither the profile nor the depth
@@ -76,6 +77,54 @@ names_step head before after payload names is =
       profile = names.profile ∙ alike.profile;
       depth = names.depth ∙ alike.depth;
     }
+
+-- ---- the rules stay
+
+alike_rules : (mine next : Stack) → CountsAlike mine next → rules_of next ≡ rules_of mine
+alike_rules mine next alike = λ i. record {
+  leads = λ payload before. payload_step before payload;
+  spells = stack_in_body (sym alike.profile i) (sym alike.depth i);
+  profile = (sym alike.profile i).byte;
+  depth = sym alike.depth i;
+}
+
+same_taken : {X : Type 0} (one other : Stood X) → ◌≡◌ {A = Judged X} (Takes one) (Takes other) → one ≡ other
+same_taken one other is = cc is
+
+by_fitting : (mine : Stack) (at : Position) (found : Option Stack) (next : Stood Stack) → ((stack : Stack) → found ≡ Some stack → CountsAlike mine stack) → fitting at found ≡ Takes next
+    → CountsAlike mine next.state
+by_fitting mine at None next alike is = absurd (cc is)
+by_fitting mine at (Some stack) next alike is =
+    subst (CountsAlike mine) (ap (λ (s : Stood Stack). s.state) (same_taken (record { at = at; state = stack }) next is)) (alike stack refl)
+
+where_next : (b : Bool) (mine : Stack) (at : Position) (found : Option Stack) (next : Stood Stack) → ((stack : Stack) → found ≡ Some stack → CountsAlike mine stack)
+    → (if b then fitting at found else Stays) ≡ Takes next → CountsAlike mine next.state
+where_next true mine at found next alike is = by_fitting mine at found next alike is
+where_next false mine at found next alike is = absurd (cc is)
+
+under_counts : (mine stack : Stack) (read : Option Body) → bodies.stack_in mine.profile mine.depth read ≡ Some stack → CountsAlike mine stack
+under_counts mine stack None is = absurd (cc is)
+under_counts mine stack (Some body) is = alike_chosen (bodies.is_kept mine.profile mine.depth body) mine (bodies.stack_of mine.profile mine.depth body) stack refl refl is
+
+spelled_counts : (b : Bool) (mine stack : Stack) (body : List ℕ) → (if b then stack_in_body mine.profile mine.depth body else None) ≡ Some stack → CountsAlike mine stack
+spelled_counts true mine stack body is = under_counts mine stack (whole (bodies.body_at body)) is
+spelled_counts false mine stack body is = absurd (cc is)
+
+never_takes : (b : Bool) (next : Stood Stack) → (if b then Ends Done else Stays) ≡ Takes next → ⊥
+never_takes true next is = cc is
+never_takes false next is = cc is
+
+pub taken_counts : (mine next : Stood Stack) (frame : Frame) → judged (rules_of mine.state) mine frame ≡ Takes next → CountsAlike mine.state next.state
+taken_counts mine next (Step at payload) is =
+    where_next (is_same at mine.at) mine.state (next_place at) (payload_step mine.state payload) next (λ stack leads. counts_alike mine.state stack payload leads) is
+taken_counts mine next (Base at profile depth body) is =
+    where_next (nat_lt mine.at.generation at.generation) mine.state (start_of at.generation) (spelled_by (rules_of mine.state) profile depth body) next
+    (λ stack stands. spelled_counts (profile == mine.state.profile.byte && depth == mine.state.depth) mine.state stack body stands) is
+taken_counts mine next (Have at) is = absurd (cc is)
+taken_counts mine next (Level at) is = absurd (never_takes (is_same at mine.at) next is)
+
+pub rules_kept : (mine next : Stood Stack) (frame : Frame) → judged (rules_of mine.state) mine frame ≡ Takes next → rules_of next.state ≡ rules_of mine.state
+rules_kept mine next frame is = alike_rules mine.state next.state (taken_counts mine next frame is)
 
 -- ---- a later head
 
@@ -154,5 +203,36 @@ base_taken follower tail before after head at profile depth body made is names o
           ∙ ap (fitting (start_of at.generation)) stands
           ∙ (λ i. Takes (record { at = start_of (sym generation i); state = after }));
       leads = ap (λ (w : Whole). stack_in_file w.head w.body []) same ∙ file_turned (record head { generation = at.generation }) body after stands;
+      tail = refl;
+    })
+
+-- ---- a step
+
+same_as_own : (at : Position) → is_same at at ≡ true
+same_as_own at = rw (eq-eqb at.generation at.generation refl, eq-eqb at.place at.place refl) refl
+
+not_other : (b : Bool) → not b ≡ false → b ≡ true
+not_other true is = refl
+not_other false is = absurd (false≢true (sym is))
+
+-- two positions that don't differ
+pub same_position : (one other : Position) → not (is_same one other) ≡ false → one ≡ other
+same_position one other is =
+    let both = and_parts (one.generation == other.generation) (one.place == other.place) (not_other (is_same one other) is) in
+    λ i. record { generation = eqb-true one.generation other.generation both.0 i; place = eqb-true one.place other.place both.1 i }
+
+-- a step of the follower's own position is taken where its payload is accepted
+pub step_taken : (follower : FollowerContents) (tail : Kept) (before after : Stack) (at own : Position) (payload framed : List ℕ) → held tail before ≡ follower → own ≡ follower.mine.at → at ≡ own
+    → payload_step before payload ≡ Some after → framed ≡ payload → IsTaken follower (Step at payload) (record { next = stood_behind tail after (Append framed); tail = tail; writing = Append framed })
+step_taken follower tail before after at own payload framed is place same leads written =
+    let here = held tail before in
+    let there : at ≡ position_of tail = same ∙ place ∙ ap (λ (f : FollowerContents). f.mine.at) (sym is) in
+    subst (λ (f : FollowerContents). IsTaken f (Step at payload) (record { next = stood_behind tail after (Append framed); tail = tail; writing = Append framed })) is
+    (record {
+      takes =
+          ap (λ (b : Bool). if b then fitting (next_place at) (payload_step before payload) else Stays) (ap (λ (p : Position). is_same at p) (sym there) ∙ same_as_own at)
+          ∙ ap (fitting (next_place at)) leads
+          ∙ (λ i. Takes (record { at = next_place (there i); state = after }));
+      leads = ap (payload_step before) written ∙ leads;
       tail = refl;
     })

@@ -1,5 +1,5 @@
 pub mod FramesInTurn
-mod Hearings
-mod HeadsOfPieces
-mod PiecesOfLeaders
+pub mod Hearings
+pub mod HeadsOfPieces
+pub mod PiecesOfLeaders
 pub mod StoodFiles

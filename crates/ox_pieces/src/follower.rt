@@ -161,7 +161,8 @@ impl Follower {
         ensures taken { IfOk result (IsTaken self (Step at payload.now)) }
         ensures not_taken { IfErr result (IsNotTaken self (Step at payload.now)) }
     {
-        if at != self.position() {
+        let own = self.position();
+        if at != own {
             return Err(NotTaken::NotNext(self));
         }
         let Follower {

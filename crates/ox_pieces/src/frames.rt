@@ -164,9 +164,11 @@ fn forget(bytes: &mut Vec<u8>, n: usize)
     requires { n ≤ vec_len bytes.old }
     ensures { bytes.new.items ≡ drop n bytes.old.items }
 {
-    let left = bytes.len() - n;
-    bytes.copy_within(n.., 0);
-    bytes.truncate(left);
+    if n > 0 {
+        let left = bytes.len() - n;
+        bytes.copy_within(n.., 0);
+        bytes.truncate(left);
+    }
 }
 
 /// Hears bytes on channel 0 behind those that are there, at most `most`, and answers how many;

@@ -1,4 +1,5 @@
-use Rattle.ox_pieces.proofs.HeadsOfPieces.{names_step}
+use Rattle.std.proofs.Common.{◌∙◌, sym}
+use Rattle.ox_pieces.proofs.HeadsOfPieces.{names_step, same_position, step_taken}
 use Rattle.ox_pieces.proofs.follower.Follower.take_step.Goals as goal
 
 pub invariant_of-result : goal.invariant_of-result
@@ -6,3 +7,10 @@ invariant_of-result c =
     let i = c.self.inside in
     let made = rw c.in-Accepted.is at c.in_ok-standing.ensures in
     (c.in_ok-framed-in-Accepted.ensures.fits, names_step i.tail.head i.standing c.in-Accepted.standing c.args.payload.now c.self.invariant made)
+
+pub returns-in_ok-framed-in-Accepted-clause-taken : goal.returns-in_ok-framed-in-Accepted-clause-taken
+returns-in_ok-framed-in-Accepted-clause-taken c =
+    let i = c.self.inside in
+    let made = rw c.in-Accepted.is at c.in_ok-standing.ensures in
+    step_taken c.args.self i.tail i.standing c.in-Accepted.standing c.args.at c.position-own.result c.args.payload.now c.in_ok-framed-in-Accepted.framed c.self.view_is c.position-own.ensures (same_position c.args.at c.position-own.result (sym c.ne.ensures ∙ c.if-ne.false))
+    made c.in_ok-framed-in-Accepted.ensures.payload
