@@ -208,29 +208,21 @@ base_taken follower tail before after head at profile depth body made is names o
 
 -- ---- a step
 
-same_as_own : (at : Position) → is_same at at ≡ true
-same_as_own at = rw (eq-eqb at.generation at.generation refl, eq-eqb at.place at.place refl) refl
-
-not_other : (b : Bool) → not b ≡ false → b ≡ true
-not_other true is = refl
-not_other false is = absurd (false≢true (sym is))
-
--- two positions that don't differ
-pub same_position : (one other : Position) → not (is_same one other) ≡ false → one ≡ other
+same_position : (one other : Position) → is_same one other ≡ true → one ≡ other
 same_position one other is =
-    let both = and_parts (one.generation == other.generation) (one.place == other.place) (not_other (is_same one other) is) in
+    let both = and_parts (one.generation == other.generation) (one.place == other.place) is in
     λ i. record { generation = eqb-true one.generation other.generation both.0 i; place = eqb-true one.place other.place both.1 i }
 
 -- a step of the follower's own position is taken where its payload is accepted
-pub step_taken : (follower : FollowerContents) (tail : Kept) (before after : Stack) (at own : Position) (payload framed : List ℕ) → held tail before ≡ follower → own ≡ follower.mine.at → at ≡ own
+pub step_taken : (follower : FollowerContents) (tail : Kept) (before after : Stack) (at : Position) (payload framed : List ℕ) → held tail before ≡ follower → is_same at follower.mine.at ≡ true
     → payload_step before payload ≡ Some after → framed ≡ payload → IsTaken follower (Step at payload) (record { next = stood_behind tail after (Append framed); tail = tail; writing = Append framed })
-step_taken follower tail before after at own payload framed is place same leads written =
-    let here = held tail before in
-    let there : at ≡ position_of tail = same ∙ place ∙ ap (λ (f : FollowerContents). f.mine.at) (sym is) in
+step_taken follower tail before after at payload framed is own leads written =
+    let here : is_same at (position_of tail) ≡ true = ap (λ (f : FollowerContents). is_same at f.mine.at) is ∙ own in
+    let there : at ≡ position_of tail = same_position at (position_of tail) here in
     subst (λ (f : FollowerContents). IsTaken f (Step at payload) (record { next = stood_behind tail after (Append framed); tail = tail; writing = Append framed })) is
     (record {
       takes =
-          ap (λ (b : Bool). if b then fitting (next_place at) (payload_step before payload) else Stays) (ap (λ (p : Position). is_same at p) (sym there) ∙ same_as_own at)
+          ap (λ (b : Bool). if b then fitting (next_place at) (payload_step before payload) else Stays) here
           ∙ ap (fitting (next_place at)) leads
           ∙ (λ i. Takes (record { at = next_place (there i); state = after }));
       leads = ap (payload_step before) written ∙ leads;

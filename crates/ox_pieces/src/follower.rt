@@ -129,6 +129,7 @@ impl Follower {
 
 impl Follower {
     ghost use Rattle.ox_follow.specs.Frame.{Base, Level, Step, plain};
+    ghost use Rattle.ox_follow.specs.Position.{is_same};
     ghost use Rattle.ox_pieces.specs.NotTaken.{IsNotTaken};
     ghost use Rattle.ox_pieces.specs.Taken.{IsTaken};
 
@@ -161,8 +162,7 @@ impl Follower {
         ensures taken { IfOk result (IsTaken self (Step at payload.now)) }
         ensures not_taken { IfErr result (IsNotTaken self (Step at payload.now)) }
     {
-        let own = self.position();
-        if at != own {
+        if !self.stands_at(at) {
             return Err(NotTaken::NotNext(self));
         }
         let Follower {
@@ -228,11 +228,18 @@ impl Follower {
         }
     }
 
+    /// Whether the files stand there.
+    fn stands_at(&self, at: Position) -> bool
+        ensures { result ≡ is_same at self.now.mine.at }
+    {
+        at == self.position()
+    }
+
     /// What a Level says to it.
     fn meet_level(self, at: Position) -> NotTaken
         ensures { IsNotTaken self (Level at) result }
     {
-        if at == self.position() {
+        if self.stands_at(at) {
             NotTaken::IsLevel(self)
         } else {
             NotTaken::NotNext(self)

@@ -1,5 +1,5 @@
 use Rattle.std.proofs.Common.{◌∙◌, sym}
-use Rattle.ox_pieces.proofs.HeadsOfPieces.{names_step, same_position, step_taken}
+use Rattle.ox_pieces.proofs.HeadsOfPieces.{names_step, step_taken}
 use Rattle.ox_pieces.proofs.follower.Follower.take_step.Goals as goal
 
 pub invariant_of-result : goal.invariant_of-result
@@ -12,5 +12,5 @@ pub returns-in_ok-framed-in-Accepted-clause-taken : goal.returns-in_ok-framed-in
 returns-in_ok-framed-in-Accepted-clause-taken c =
     let i = c.self.inside in
     let made = rw c.in-Accepted.is at c.in_ok-standing.ensures in
-    step_taken c.args.self i.tail i.standing c.in-Accepted.standing c.args.at c.position-own.result c.args.payload.now c.in_ok-framed-in-Accepted.framed c.self.view_is c.position-own.ensures (same_position c.args.at c.position-own.result (sym c.ne.ensures ∙ c.if-ne.false))
+    step_taken c.args.self i.tail i.standing c.in-Accepted.standing c.args.at c.args.payload.now c.in_ok-framed-in-Accepted.framed c.self.view_is (sym c.stands_at.ensures ∙ c.if-not-stands_at.false)
     made c.in_ok-framed-in-Accepted.ensures.payload
