@@ -2,7 +2,7 @@
 use Rattle.std.proofs.Common.{◌≡◌, ◌≤◌, ◌∙◌, ℕ, ◌+◌, Bool, true, false, List, [], ◌++◌, length, take, refl, sym, ap, arith, length-append, append_assoc}
 use Rattle.std.specs.Prelude.{◌||◌, IsTrue, Option, Some, Result, Ok}
 use Rattle.std.proofs.Math.Seq.{take-append-add}
-use Rattle.std.proofs.lemmas.List.{append-nil, take-append-le, take-take, take_all}
+use Rattle.std.proofs.lemmas.List.{append-nil, length-take, take-append-le, take-take, take_all}
 use Rattle.ox_outside.specs.Event.{Event, Heard, has_ended, hear_events, heard_bytes}
 use Rattle.ox_outside.specs.Log.{Adds, Grows}
 use Rattle.ox_outside.specs.declared.site.Heard.TheVariants.{Bytes}
@@ -33,13 +33,13 @@ advances_none feed = record {
 }
 
 -- room behind bytes leaves them
-pub front_kept : (len most : ℕ) (old room : List ℕ) → len ≡ length old → take len (take (len + most) old ++ room) ≡ old
+front_kept : (len most : ℕ) (old room : List ℕ) → len ≡ length old → take len (take (len + most) old ++ room) ≡ old
 front_kept len most old room is =
     ap (λ (l : List ℕ). take len (l ++ room)) (take_all (len + most) old (omega (arith, is)))
     ∙ take-append-le len old room (omega (arith, is)) ∙ take_all len old (omega (arith, is))
 
 -- n bytes that were heard into the room behind others
-pub heard_behind : (len n size : ℕ) (front into old more : List ℕ) → front ≡ old → length front ≡ len → n ≤ length into → len + length into ≡ size
+heard_behind : (len n size : ℕ) (front into old more : List ℕ) → front ≡ old → length front ≡ len → n ≤ length into → len + length into ≡ size
     → take (len + n) (take size ((front ++ into) ++ more)) ≡ old ++ take n into
 heard_behind len n size front into old more same long within whole =
     take-take (len + n) size ((front ++ into) ++ more) (omega (arith, within, whole))
@@ -47,6 +47,17 @@ heard_behind len n size front into old more same long within whole =
     ∙ ap (λ (k : ℕ). take (k + n) (front ++ into)) (sym long)
     ∙ take-append-add front into n
     ∙ ap (λ (l : List ℕ). l ++ take n into) same
+
+-- of bytes with room behind, which are shown in two parts, and of which all behind the n heard ones is cut off
+pub heard_in_room : (len n most size : ℕ) (old room items seen front into more new : List ℕ) → len ≡ length old → items ≡ take (len + most) old ++ room → seen ≡ items → front ≡ take len seen
+    → length front ≡ len → n ≤ length into → len + length into ≡ size → new ≡ take (len + n) (take size ((front ++ into) ++ more)) → new ≡ old ++ take n into
+heard_in_room len n most size old room items seen front into more new whole roomy same cut long within all is =
+    let kept : front ≡ old = cut ∙ ap (take len) (same ∙ roomy) ∙ front_kept len most old room whole in
+    is ∙ heard_behind len n size front into old more kept long within all
+
+pub heard_size : (n : ℕ) (old into new : List ℕ) → n ≤ length into → new ≡ old ++ take n into → length new ≡ length old + n
+heard_size n old into new within is =
+    omega (arith, within, ap (λ (l : List ℕ). length l) is, length-append old (take n into), length-take n into)
 
 -- what is logged of bytes that a hearing has put behind others
 pub logged_bytes : (room old new : List ℕ) (n : ℕ) (first now : Option (List Event)) → new ≡ old ++ take n room → Adds (hear_events 0 room (Ok (Bytes n))) first now
