@@ -209,6 +209,13 @@ class Desks:
         self.stdout += ["status 0", printed(self.told), *map(printed, shown)]
         return counts
 
+    def query(self, path, reply):
+        """A run by itself shows the body of the reply to a GET of this path, which may be bytes."""
+        self.serve()
+        self.row("run", "query", path if isinstance(path, str) else f"={path.hex()}")
+        self.told += reply[1]
+        self.stdout += ["status 0", printed(self.told)]
+
     def often(self, times, asked):
         """One desk answers GETs of these paths, by their replies, so many times over."""
         self.serve()
