@@ -12,6 +12,7 @@ ghost use Rattle.ox_store.specs.Fault.{IsMisfit};
 ghost use Rattle.ox_pieces.specs.Stood.{leader_of as leader_as};
 
 use crate::open::{Current, open_files};
+use crate::writing::LONGEST;
 use ox_bytes::Bytes;
 use ox_follow::{Frame, Position};
 use ox_gated::{Head, Records};
@@ -20,9 +21,6 @@ use ox_store::OpenFault;
 use std::alloc::Global;
 use std::cmp::Ordering;
 use std::marker::Model;
-
-/// The greatest length of a body and of a payload.
-const LONGEST: usize = 0xffff_ffff;
 
 /// A store that hands out its pieces. What was opened stays in memory as bytes, and no call is made
 /// on the files. Contracts see its generation, its body, its payloads, and the stack that they lead

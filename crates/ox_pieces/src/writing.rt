@@ -22,7 +22,7 @@ use ox_outside::Site;
 use std::alloc::Global;
 
 /// The greatest length of a body and of a payload.
-const LONGEST: usize = 0xffff_ffff;
+pub(crate) const LONGEST: usize = 0xffff_ffff;
 
 /// What is written of a piece. Contracts see the payload of the record, or the head and the body of
 /// the file.
