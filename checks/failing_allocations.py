@@ -21,6 +21,9 @@ crates/ox_main, and `rt run < stdin` in crates/ox_index_rows.
 - `serve` of two links, of which the operator's posts a block: the run has to end with 8 before
   anybody is served, or each link gets its replies, but for one, which is 503 and shuts its link.
   The files are as before where that is the block's, and those that the block leaves elsewhere.
+- `serve` of a link that asks for an address, connects a block that pays it, asks again, takes the
+  block back and asks once more: each gets its reply, but for one, which is 503 and gets it when it
+  is asked again. Holders that found no memory for a command are so made anew.
 - crates/ox_index_rows/out/ox_index_rows over rows that connect blocks, take them back and lead both
   ways, each followed by a dump of the whole index: one run for each allocation, which fails. Where
   a row finds no memory it has to say so, and the index has to be as before; the same row then has
@@ -42,11 +45,13 @@ import tempfile
 
 import made_blocks
 import old_files
-from chain import SHORT, block_of, block_with, chain, coinbase, commitment, committing, envelope
-from chain import line, payload_of, reveal_into
+from chain import DISCONNECT, SHORT, block_of, block_with, chain, coinbase, commitment, committing
+from chain import envelope, line, payload_of, reveal_into
 from kills import Failed, demand
+from plain_index import after_block, empty
 from real_sockets import SECONDS, Server, exactly, get, newest, post, reply, status_of
-from rows import hash_text, plain, reveal
+from rows import address_rows, hash_text, plain, reveal
+from rows.holder_rows import FIRST, address_tree
 from rows.index_rows import Full, Held, Indexes, runes_of_mainnet
 from rows.scenarios import ETCHES, MINTS_AND_BURNS
 from store_files import CLOSED, files_after_each, files_of
@@ -240,37 +245,79 @@ def in_turn(program, memory, top, words, first, may_leave):
 # ---- a server
 
 
-def serve_in_turn(program, memory, top):
-    """Each allocation of a server of two links and a command fails in turn, until none is left."""
-    blocks, tips = chain(2)
-    first = top / "first"
-    first.mkdir()
+def served(program, folder, block):
+    """A store of this block, in a new folder."""
+    folder.mkdir()
     for words in (["init", "regtest", "100"], ["apply"]):
-        subprocess.run([program, first, *words], input=line(blocks[0]), stdout=subprocess.DEVNULL)
-    before, after = (files_of(map(payload_of, blocks[:count])) for count in (1, 2))
-    met = collections.Counter()
+        subprocess.run([program, folder, *words], input=line(block), stdout=subprocess.DEVNULL)
+    return folder
+
+
+def each_of_a_server(program, memory, first, top, talks):
+    """Each allocation of a server fails in turn, until none is left: who lacked memory, and the
+    folder then."""
     fails = 0
     while fails == 0 or memory.has_refused():
         fails += 1
         folder = copy(first, top / str(fails))
-        was = serve_once(program, memory, folder, fails, blocks[1], tips)
+        yield serve_once(program, memory, folder, fails, talks), folder
+        shutil.rmtree(folder)
+    shutil.rmtree(first)
+
+
+def serve_in_turn(program, memory, top):
+    """Each allocation of a server of two links and a command fails in turn."""
+    blocks, tips = chain(2)
+    first = served(program, top / "first", blocks[0])
+    before, after = (files_of(map(payload_of, blocks[:count])) for count in (1, 2))
+    met = collections.Counter()
+    talks = functools.partial(talk, block=blocks[1], tips=tips)
+    for was, folder in each_of_a_server(program, memory, first, top, talks):
         met[was] += 1
         demand(
             files(folder) == (before if was in ("the start", "the block") else after),
-            f"serve, allocation {fails}: {was} lacked memory, and the files are others",
+            f"serve, allocation {folder.name}: {was} lacked memory, and the files are others",
         )
-        shutil.rmtree(folder)
-    shutil.rmtree(first)
-    print(f"serve: {fails - 1} allocations; of these lacked memory: {dict(met)}")
+    print(f"serve: {met.total() - 1} allocations; of these lacked memory: {dict(met)}")
 
 
-def serve_once(program, memory, folder, fails, block, tips):
-    """Serves two links: who lacked memory."""
+def addresses_in_turn(program, memory, top):
+    """Each allocation of a server fails in turn that is asked for an address, before and behind
+    commands."""
+    blocks, tips = chain(2, lambda height: FIRST)
+    first = served(program, top / "first", blocks[0])
+    one = after_block("regtest", empty("regtest"), blocks[0])
+    asks = get(f"/address/{address_rows.written('bcrt', FIRST)}")
+    held = [
+        reply(200, address_tree(index, "bcrt", FIRST))
+        for index in (one, after_block("regtest", one, blocks[1]))
+    ]
+    asked = [
+        ("the first address", asks, held[0]),
+        ("the block", post("/connect", blocks[1]), newest(tips, 1)),
+        ("the address behind it", asks, held[1]),
+        ("the disconnect", post("/disconnect", b""), newest(tips, 0)),
+        ("the last address", asks, held[0]),
+    ]
+    commands = [*map(payload_of, blocks), DISCONNECT]
+    met = collections.Counter()
+    talks = functools.partial(talk_of_all, asked=asked)
+    for was, folder in each_of_a_server(program, memory, first, top, talks):
+        met[was] += 1
+        demand(
+            files(folder) == files_of(commands[:1] if was == "the start" else commands),
+            f"addresses, allocation {folder.name}: {was} lacked memory, and the files are others",
+        )
+    print(f"addresses: {met.total() - 1} allocations; of these lacked memory: {dict(met)}")
+
+
+def serve_once(program, memory, folder, fails, talks):
+    """Serves what talks to it: who lacked memory."""
     server = Server(program, folder)
     try:
         with server.serving(**memory.how(fails)):
             try:
-                return talk(server, block, tips)
+                return talks(server)
             except OSError:
                 server.child.wait(SECONDS)
                 raise
@@ -305,6 +352,27 @@ def talk(server, block, tips):
     if lacking == [0]:
         return "the public link"
     return "the operator's second request" if got[1] else "the block"
+
+
+def talk_of_all(server, asked):
+    """An operator's link asks all this in turn; where it is shown 503, another one goes on with the
+    same request: what lacked memory."""
+    lacking, link = "nothing", server.link(server.operator)
+    for what, said, wanted in asked:
+        got = answer_to(link, said, wanted)
+        if got != wanted:
+            demand(got == UNAVAILABLE and lacking == "nothing", f"{what}: {got}")
+            link.close()
+            lacking, link = what, server.link(server.operator)
+            again = answer_to(link, said, wanted)
+            demand(again == wanted, f"{what}, behind 503: {again}")
+    link.close()
+    return lacking
+
+
+def answer_to(link, said, wanted):
+    link.sendall(said)
+    return exactly(link, len(wanted))
 
 
 class Scarce(Indexes):
@@ -481,6 +549,7 @@ def main():
         apply_in_turn(program, memory, top, long[:62], long[62:])
         others_in_turn(program, memory, top)
         serve_in_turn(program, memory, top)
+        addresses_in_turn(program, memory, top)
         rows_in_turn(memory)
     except Failed as failed:
         print(f"FAILED: {failed}; the files are in {top}")
