@@ -341,6 +341,7 @@ def commands(repository):
     subcommands = set(re.findall(r'b"([a-z]+)"', program))
     profiles = set(re.findall(r'=> "([a-z]+)"', repository.text("crates/ox_sat/src/profiles.rt")))
     routes = set(re.findall(r'=> "(/[a-z]+/?)"', repository.text("crates/ox_routes/src/route.rt")))
+    routes |= set(re.findall(r'b"(/[a-z]+/)"', repository.text("crates/ox_held/src/paths.rt")))
     codes = set(re.findall(r"Status::\w+ => (\d+)", repository.text("crates/ox_app/src/status.rt")))
     for name in repository.documents():
         for number, command in commands_in(repository, name):

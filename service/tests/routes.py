@@ -11,6 +11,9 @@ from tests.standing import SERVICE, TOP, Desk, Served, Tree, every, get, need
 from tools.bitcoin import RESERVED, block, coinbase, commitment, root, twice
 from tools.checks import demand
 
+# a segwit script, and its address on regtest
+PAID = bytes.fromhex("0014751e76e8199196d454941c45d1b3a323f1433bd6")
+ADDRESS = "bcrt1qw508d6qejxtdg4y5r3zarvary0c5xw7kygt080"
 # paths by their routes: those that name something, and those that don't
 Paths = dict[str, tuple[list[str], list[str]]]
 
@@ -24,7 +27,7 @@ def described(desk: Desk) -> tuple[Served, Paths]:
     first = id_value(second(node, 1), 0)
     fields = [(1, b"text/html"), (5, b"\1\2"), (7, b"m"), (9, b"br"), (11, first), (3, first)]
     script = envelope(fields, b"<p>") + envelope([], None)
-    spends = reveal_into(paid, script, [(claim(height - 1), OPEN)])
+    spends = reveal_into(paid, script, [(claim(height - 1), PAID)])
     outputs = [(claim(height), OPEN), (0, commitment([spends[1]]))]
     own = coinbase(outputs, b"\4" + bytes(4), [RESERVED])
     data, tip = block(tip, root([twice(own[0]), twice(spends[0])]), [own[1], spends[1]], height)
@@ -36,6 +39,10 @@ def described(desk: Desk) -> tuple[Served, Paths]:
         "/status": (["/status"], []),
         "/audit": (["/audit"], []),
         "/blockhash/{height}": (["/blockhash/0", "/blockhash/11"], ["/blockhash/12"]),
+        "/address/{address}": (
+            [f"/address/{ADDRESS}", f"/address/{ADDRESS.upper()}"],
+            [f"/address/{ADDRESS[:-1]}"],
+        ),
         "/output/{outpoint}": (
             [f"/output/{hash_}:0", f"/output/{shown(second(node, 10))}:1", f"/output/{mints}:1"],
             [f"/output/{hash_}:7"],
@@ -85,7 +92,10 @@ def description(desk: Desk) -> None:
     asked += [(empty, route, route, 200) for route in ("/status", "/audit")]
     tip = json.loads(get(served.public, "/blockhash/11")[2])["hash"]
     for end, wanted in (f"?at={tip}", 200), (f"?at={'0' * 64}", 404):
-        asked += [(served, route, found[0] + end, wanted) for route, (found, _) in rows.items()]
+        for route, (found, _) in rows.items():
+            # what an address held before isn't told
+            status = 404 if route == "/address/{address}" else wanted
+            asked.append((served, route, found[0] + end, status))
     asked += [(empty, "/rune/{rune}", "/rune/UNCOMMON.GOODS", 200)]
     changed = 0
     for ox, route, path, wanted in asked:
