@@ -144,9 +144,10 @@ def worked(desks):
     chain.connects(coinbase)
     text = VALID[0][0].lower()
     others = [address_rows.written(hrp, FIRST) for hrp in ("bcrt", "lab", "tb")]
-    others += [text[:3].upper() + text[3:], text[:-1] + text[-1].upper(), text[:-1] + "5"]
+    others += [text[:3].upper() + text[3:], text[:-2] + text[-2:].upper(), text[:-1] + "5"]
     others += [text + "q", text[:-1], f"{text}?at=", f"{text}?at=0", "bc1", "a", "%ff", "\u00f6"]
     for other in others:
+        assert address_rows.read("bc", other.encode()) is None
         path = f"/address/{other}"
         desks.ask("GET", path, error(404))
         desks.ask_publicly("GET", path, error(404))
@@ -208,7 +209,10 @@ def outputs(desks):
     chain.connects(first)
     chain.asks(FIRST, SECOND)
     chain.connects(paid(1, SHORT, FIRST, FIRST, THIRD))
-    chain.asks(FIRST, THIRD)
+    chain.asks(FIRST)
+    # a refused command changes nothing
+    desks.refuses("/connect", "refused 3 0")
+    chain.asks(THIRD)
     # one is spent into two of its script, of another and of one that is too long for an address
     split = moved(first, (1, FIRST), (2, SECOND), (3, FIRST), (4, bytes(43)), (5, FIRST))
     chain.extend(split)

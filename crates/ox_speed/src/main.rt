@@ -11,7 +11,9 @@
 //! - `look ROWS TIMES`, `number ROWS TIMES`, `check ROWS TIMES` and `mark ROWS TIMES` keep so many
 //!   inscriptions, and look them up, ask their signed numbers, or go back to a mark; `reveal
 //!   PARENTS TIMES` reveals what the last of the blocks on standard input has, over so many earlier
-//!   inscriptions (bench/inscriptions.py).
+//!   inscriptions (bench/inscriptions.py);
+//! - `spend SCRIPTS TIMES` and `ask SCRIPTS TIMES` keep an output of each of so many scripts, and
+//!   spend 500 of them, or look up those of each script (bench/holders.py).
 #![tactic(auto)]
 
 use anyhow::bail;
@@ -21,6 +23,7 @@ use std::io::Read;
 
 mod blocks;
 mod feed;
+mod holders;
 mod pools;
 mod reveals;
 mod rows;
@@ -35,6 +38,7 @@ enum Task {
     Runes,
     Keep(rows::Load),
     Reveal,
+    Hold(holders::Load),
 }
 
 /// The task of a name.
@@ -50,6 +54,8 @@ fn task_of(name: &str) -> Option<Task> {
         "check" => Some(Task::Keep(rows::Load::Check)),
         "mark" => Some(Task::Keep(rows::Load::Mark)),
         "reveal" => Some(Task::Reveal),
+        "spend" => Some(Task::Hold(holders::Load::Spend)),
+        "ask" => Some(Task::Hold(holders::Load::Ask)),
         _ => None,
     }
 }
@@ -58,7 +64,7 @@ fn task_of(name: &str) -> Option<Task> {
 fn hears(task: Task) -> bool {
     match task {
         Task::Stone | Task::Runes | Task::Reveal => true,
-        Task::Deal(_) | Task::Keep(_) => false,
+        Task::Deal(_) | Task::Keep(_) | Task::Hold(_) => false,
     }
 }
 
@@ -77,6 +83,7 @@ fn run(
         Task::Runes => runes::run(rt, alloc, feed, first, second),
         Task::Keep(load) => rows::run(rt, alloc, load, first, second),
         Task::Reveal => reveals::run(rt, alloc, feed, first, second),
+        Task::Hold(load) => holders::run(rt, alloc, load, first, second),
     }
 }
 
@@ -88,7 +95,7 @@ fn main(rt: HostRuntime) -> anyhow::Result<()> {
         None => None,
     };
     let Some(task) = task else {
-        bail!("stone, one, all, pool, runes, look, number, check, mark or reveal");
+        bail!("stone, one, all, pool, runes, look, number, check, mark, reveal, spend or ask");
     };
     let mut numbers = [0, 0];
     for (number, word) in numbers.iter_mut().zip(words) {
