@@ -7,6 +7,8 @@ mod cache;
 #[cfg(test)]
 mod etching;
 #[cfg(test)]
+mod frames;
+#[cfg(test)]
 mod holders;
 #[cfg(test)]
 mod inscribe;
