@@ -22,7 +22,7 @@ use std::alloc::Global;
 use std::io::{self, BufRead, BufReader};
 
 /// What stands in the room before it is written into.
-const FILLED: u8 = 0xaa;
+const FILLED: u8 = 0x5a;
 
 /// Whether nothing was written from here on.
 fn is_untouched(room: &[u8], len: usize) -> bool {

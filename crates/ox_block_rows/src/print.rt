@@ -6,7 +6,7 @@ use std::alloc::{AllocError, Global};
 const MOST_SHOWN: usize = 80;
 
 /// What stands in room before it is written into.
-pub const FILLED: u8 = 0xaa;
+pub const FILLED: u8 = 0x5a;
 
 /// What is said of a row that can't be read, or for which there is no memory.
 pub const NO_ROW: &str = "no row, or no memory";
