@@ -28,5 +28,5 @@ pub record IsOpen (head : Head) (place : ℕ) (bytes payload rest : List ℕ) : 
   pub chain_is : chain_of head place bytes
       ≡ with_record place payload
       (chain_of head (gate_behind (layout_of head.version) place payload) rest)
-  pub size : place + length bytes
-      ≡ gate_behind (layout_of head.version) place payload + length rest
+  pub size : length bytes
+      ≡ (layout_of head.version).before_payload + length payload + length rest

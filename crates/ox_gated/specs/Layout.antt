@@ -1,7 +1,7 @@
 -- How a file is laid out: a gate, a head, a body, and records behind gates. Versions 1 and 2 are
 -- laid out alike; version 3 has SHA-256 sums of its head, its body and each record, each of which
 -- stands before what it is of.
-use Rattle.std.specs.Prelude.{ℕ, ◌+◌, ◌-◌, ◌^◌, Bool, true, List, [], ◌∷◌, ◌++◌, length, take}
+use Rattle.std.specs.Prelude.{ℕ, ◌-◌, ◌^◌, Bool, true, List, [], ◌∷◌, ◌++◌, length, take}
 use Rattle.std.specs.Prelude.{nat_lt, nat_le, ◌==◌, ◌&&◌, ◌||◌, not, bytes_eq, slice_index}
 use Rattle.std.specs.Prelude.{slice_range, Option, Some, None, if◌then◌else◌}
 use Rattle.std.specs.Int.{w16, w64, to_le_bytes, from_le_bytes}

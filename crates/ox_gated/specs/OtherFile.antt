@@ -56,8 +56,8 @@ found_in file whole = record {
   gate = first_gate_at whole.head whole.body;
 }
 
--- the files stand for the head and the body in this file, without records, wherever their version is
--- one of those that are read
+-- the files stand for the head and the body in this file, without records, wherever their version
+-- is one of those that are read
 abbrev pub ReadsNew : Which → Whole → Files → Type 0
 ReadsNew file whole image =
     (reads : ℕ → Bool) → IsTrue (reads whole.head.version)

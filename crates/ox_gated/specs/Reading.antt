@@ -89,19 +89,21 @@ by_parts layout file opening body rest =
     let records = chain layout opening.head.generation (layout.body_at + opening.size) rest in
     found_or_fault file opening.head body records.records records.end
 
--- the current file from its body on, by the bytes before that and those behind: the body is there
--- and as its sum says, and so are its gates and records
-abbrev pub behind_head : Layout → Which → Opening → List ℕ → List ℕ → Result Found Fault
-behind_head layout file opening front bytes =
-    if nat_lt (length bytes) opening.size || not (layout.is_body front (take opening.size bytes))
-    then fault_at file layout.body_at else
-    by_parts layout file opening (take opening.size bytes) (drop opening.size bytes)
+-- the current file from its body on, at this layout: the body is there and as its sum says, and so
+-- are its gates and records
+abbrev pub body_reading_at : Layout → Which → List ℕ → Opening → Result Found Fault
+body_reading_at layout file bytes opening =
+    let body_on = drop layout.body_at bytes in
+    let body = take opening.size body_on in
+    if nat_lt (length bytes) (layout.body_at + opening.size)
+    || not (layout.is_body (take layout.body_at bytes) body)
+    then fault_at file layout.body_at
+    else by_parts layout file opening body (drop opening.size body_on)
 
--- the same by all its bytes, at the layout of the head's version
+-- the same at the layout of the head's version
 abbrev pub body_reading : Which → List ℕ → Opening → Result Found Fault
 body_reading file bytes opening =
-    let layout = layout_of opening.head.version in
-    behind_head layout file opening (take layout.body_at bytes) (drop layout.body_at bytes)
+    body_reading_at (layout_of opening.head.version) file bytes opening
 
 -- the current file: its version is one of those that are read
 abbrev pub current_reading : (ℕ → Bool) → Which → List ℕ → Opening → Result Found Fault

@@ -1,5 +1,5 @@
--- How a record is laid out behind its gate: in versions 1 and 2 a length and the payload; in version
--- 3 a length, a sum and the payload.
+-- How a record is laid out behind its gate: in versions 1 and 2 a length and the payload; in
+-- version 3 a length, a sum and the payload.
 use Rattle.std.specs.Prelude.{ℕ, List, ◌++◌, length, Ok, Err, bytes_eq, if◌then◌else◌}
 use Rattle.std.specs.Int.{w32, w64, to_le_bytes}
 use Rattle.ox_bytes.specs.Reading.{Reader, number_at, run_at, ◌>>=◌}

@@ -1,12 +1,12 @@
 //! What is written: a record with the closed gate behind it, and a file without records.
 
-ghost use Rattle.std.specs.Prelude.{◌≡◌, ◌+◌, ◌<◌, ◌^◌, ◌++◌, ◌∷◌, [], length, IsTrue, IfOk};
+ghost use Rattle.std.specs.Prelude.{◌≡◌, ◌+◌, ◌≤◌, ◌<◌, ◌^◌, ◌++◌, ◌∷◌, [], length, IsTrue, IfOk};
 ghost use Rattle.ox_gated.specs.Layout.{head_bytes, head_front, is_lawful, layout_of};
 ghost use Rattle.ox_gated.specs.RecordLayout.{plain_record, summed_record};
 ghost use Rattle.ox_gated.specs.Tail.{IsFramedBehind};
 
 use crate::head::Head;
-use crate::layout::record_sum;
+use crate::layout::{SUMMED_BODY_AT, record_sum};
 use crate::tail::Tail;
 use ox_bytes::{Bytes, Memory};
 use sha2::{Digest, Sha256};
@@ -56,27 +56,20 @@ pub fn frame(alloc: Global, payload: &[u8]) -> Result<Framed, Memory>
 
 /// The record whose payload is the bytes of `front` and then those of `rest`, each copied once, at
 /// version 2. `Memory` where there is none for it.
+#[tactic(auto, unfolding(crate::specs::RecordLayout::plain_record))]
 pub fn frame_parts(alloc: Global, front: &[u8], rest: &[u8]) -> Result<Framed, Memory>
     requires { length front.now + length rest.now < 2 ^ 32 }
     ensures payload { IfOk result (λ framed. framed.payload ≡ front.now ++ rest.now) }
     ensures bytes { IfOk result (λ framed.
         framed.bytes ≡ plain_record (front.now ++ rest.now) ++ 0 ∷ []) }
 {
-    let size = front.len() + rest.len();
-    let mut bytes = Vec::with_capacity(alloc, size + 5)?;
-    bytes.extend_from_slice(&(size as u32).to_le_bytes())?;
-    bytes.extend_from_slice(front)?;
-    bytes.extend_from_slice(rest)?;
-    bytes.push(0)?;
-    Ok(Framed {
-        before: 4,
-        bytes: Bytes::from_vec(bytes),
-    })
+    let size = (front.len() + rest.len()) as u32;
+    record_of(alloc, &size.to_le_bytes(), &[], front, rest)
 }
 
-/// The record whose payload is the bytes of `front` and then those of `rest`, with its sum, at
-/// version 3: where its gate stands at this place of a file of this generation. `Memory` where
-/// there is none for it.
+/// The same with its sum, at version 3: where its gate stands at this place of a file of this
+/// generation.
+#[tactic(auto, unfolding(crate::specs::RecordLayout::summed_record))]
 fn frame_summed(
     alloc: Global,
     generation: u64,
@@ -88,15 +81,37 @@ fn frame_summed(
     ensures bytes { IfOk result (λ framed.
         framed.bytes ≡ summed_record generation place (front.now ++ rest.now) ++ 0 ∷ []) }
 {
-    let size = front.len() + rest.len();
-    let mut bytes = Vec::with_capacity(alloc, size + 41)?;
-    bytes.extend_from_slice(&(size as u64).to_le_bytes())?;
-    bytes.extend_from_slice(&record_sum(generation, place, front, rest))?;
+    let size = (front.len() + rest.len()) as u64;
+    let sum = record_sum(generation, place, front, rest);
+    record_of(alloc, &size.to_le_bytes(), &sum, front, rest)
+}
+
+/// What is written of a record: its length and its sum, as these bytes spell them, its payload,
+/// which is the bytes of `front` and then those of `rest`, and a closed gate.
+fn record_of(
+    alloc: Global,
+    size: &[u8],
+    sum: &[u8],
+    front: &[u8],
+    rest: &[u8],
+) -> Result<Framed, Memory>
+    requires { length size.now + length sum.now ≤ 40 }
+    ensures payload { IfOk result (λ framed. framed.payload ≡ front.now ++ rest.now) }
+    ensures bytes { IfOk result (λ framed.
+        framed.bytes ≡ size.now ++ sum.now ++ (front.now ++ rest.now) ++ 0 ∷ []) }
+{
+    let before = size.len() + sum.len();
+    let room = (before + 1)
+        .saturating_add(front.len())
+        .saturating_add(rest.len());
+    let mut bytes = Vec::with_capacity(alloc, room)?;
+    bytes.extend_from_slice(size)?;
+    bytes.extend_from_slice(sum)?;
     bytes.extend_from_slice(front)?;
     bytes.extend_from_slice(rest)?;
     bytes.push(0)?;
     Ok(Framed {
-        before: 40,
+        before,
         bytes: Bytes::from_vec(bytes),
     })
 }
@@ -215,7 +230,7 @@ fn front_of(alloc: Global, head: &Head, body: &[u8]) -> Result<Bytes, Memory>
 fn plain_front(alloc: Global, head: &Head, size: u64) -> Result<Vec<u8>, Memory>
     ensures { IfOk result (λ front. front.items ≡ head_front head.now size) }
 {
-    let mut bytes = Vec::with_capacity(alloc, head.body_at() as usize - 1)?;
+    let mut bytes = Vec::with_capacity(alloc, SUMMED_BODY_AT - 1)?;
     bytes.extend_from_slice(head.letters())?;
     bytes.extend_from_slice(&[head.version, head.profile])?;
     bytes.extend_from_slice(&head.depth.to_le_bytes())?;

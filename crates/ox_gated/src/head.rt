@@ -32,8 +32,8 @@ pub struct Opening {
 }
 
 impl Head {
-    /// Whether a file may have it: a version from 1 to 3, a known profile, a depth from 1 to 1,000, a
-    /// generation other than 0.
+    /// Whether a file may have it: a version from 1 to 3, a known profile, a depth from 1 to 1,000,
+    /// a generation other than 0.
     pub fn is_lawful(&self) -> bool
         ensures { result ≡ is_lawful self.now }
     {

@@ -2,8 +2,8 @@
 //! what a changed byte makes of them.
 
 ghost use Rattle.std.specs.Prelude.{◌≡◌, ◌≢◌, ◌↔◌, ◌⊎◌, ◌<◌, ◌^◌, ℕ, List, [], ◌∷◌, ◌++◌, length};
-ghost use Rattle.std.specs.Prelude.{All, IsTrue, Ok, Some, slice_index};
-ghost use Rattle.ox_outside.specs.Files.{Files, file_of, with_bytes, with_file};
+ghost use Rattle.std.specs.Prelude.{All, IsTrue, Ok, Some, set, slice_index};
+ghost use Rattle.ox_outside.specs.Files.{Files, file_of, with_file};
 ghost use Rattle.ox_outside.specs.declared.site.Which.{Which};
 ghost use Rattle.ox_gated.specs.Changed.{Collide, IsNoGate, StandForNothing};
 ghost use Rattle.ox_gated.specs.Layout.{head_bytes, head_of, is_lawful, layout_of};
@@ -54,7 +54,7 @@ pub fn layouts_read_back()
 pub fn changed_bytes_are_found()
     ensures { (files : Files) (found : Found) → reading is_present files ≡ Ok found
         → found.head.version ≡ 3 → (at byte : ℕ) → IsNoGate found at
-        → let old = file_of files found.file in let new = with_bytes at (byte ∷ []) old in
+        → let old = file_of files found.file in let new = set old at byte in
         byte ≢ slice_index old at
         → StandForNothing (with_file files found.file new) ⊎ Collide old new }
 {}

@@ -1,7 +1,7 @@
 //! Where the parts of a file stand, in bytes, and what else differs from version to version. The
 //! first gate stands at 0.
 
-ghost use Rattle.std.specs.Prelude.{◌≡◌, ◌+◌, ◌<◌, ◌^◌, ◌++◌, length};
+ghost use Rattle.std.specs.Prelude.{◌≡◌, ◌+◌, ◌≤◌, ◌<◌, ◌^◌, ◌++◌, length};
 ghost use Rattle.ox_gated.specs.Layout.{is_summed, layout_of};
 ghost use Rattle.ox_gated.specs.RecordLayout.{record_sum};
 
@@ -33,7 +33,7 @@ pub const SUMS_AT: usize = 26;
 pub const HEAD_SUM_AT: usize = 58;
 
 /// The body of a file of version 1 or 2. The first record's gate stands behind it.
-pub const BODY_AT: usize = SUMS_AT;
+pub const BODY_AT: usize = 26;
 
 /// The body of a file of version 3.
 pub const SUMMED_BODY_AT: usize = 90;
@@ -70,7 +70,8 @@ impl Head {
     /// How many bytes stand before a payload, from its record's gate on.
     #[tactic(auto, unfolding(crate::specs::Layout::layout_of))]
     pub(crate) fn before_payload(&self) -> u64
-        ensures { result ≡ (layout_of self.now.version).before_payload }
+        ensures value { result ≡ (layout_of self.now.version).before_payload }
+        ensures some { 1 ≤ result }
     {
         if self.is_summed() { 41 } else { 5 }
     }

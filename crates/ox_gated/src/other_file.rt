@@ -149,8 +149,8 @@ impl Tail {
 impl Closed {
     /// Writes a file of this head and body, without records, behind the other file's closed gate,
     /// and syncs it. What an older, longer file had behind it stays there. At any moment of the
-    /// call each crash leaves files that stand for what they stood for, whichever versions are read.
-    /// `DiskFault` comes only where a call on a file failed; the tail is gone then.
+    /// call each crash leaves files that stand for what they stood for, whichever versions are
+    /// read. `DiskFault` comes only where a call on a file failed; the tail is gone then.
     pub fn fill_other<S: Site>(
         self,
         site: &mut S,
@@ -191,8 +191,9 @@ impl Closed {
 impl Filled {
     /// Opens the other file, in a write of its own, and syncs it: it is current then, without a
     /// record. At any moment of the call each crash leaves files that stand for what they stood
-    /// for, whichever versions are read, or for what the other file was filled with, at its version.
-    /// `DiskFault` comes only where a call on a file failed; the tail is gone then.
+    /// for, whichever versions are read, or for what the other file was filled with, where its
+    /// version is one of them. `DiskFault` comes only where a call on a file failed; the tail is
+    /// gone then.
     pub fn open_other<S: Site>(self, site: &mut S) -> Result<Tail, DiskFault>
         requires { IsTrue (S.told site.old)
             → (body : List ℕ) × HoldsBoth S.Site self body site.old }
