@@ -10,12 +10,12 @@ use Rattle.ox_gated.specs.declared.open.Opened.{Opened}
 use Rattle.ox_gated.specs.declared.fault.Before.{Before}
 use Rattle.ox_gated.specs.declared.fault.GateFault.{GateFault}
 use Rattle.ox_gated.specs.declared.fault.GateFault.TheVariants as gates
-use Rattle.ox_gated.specs.declared.fault.ReadFault.{ReadFault}
-use Rattle.ox_gated.specs.declared.fault.ReadFault.TheVariants as reads
+use Rattle.ox_gated.specs.declared.fault.Halt.{Halt}
+use Rattle.ox_gated.specs.declared.fault.Halt.TheVariants as halts
 
-abbrev pub gate_fault : ReadFault → GateFault
-gate_fault reads.Disk = gates.DiskFault
-gate_fault reads.Memory = gates.Memory
+abbrev pub gate_fault : Halt → GateFault
+gate_fault halts.Disk = gates.DiskFault
+gate_fault halts.Memory = gates.Memory
 
 -- what stands before a fault, where the body is there
 abbrev pub intact_part : Option Before → Option IntactPart

@@ -15,7 +15,7 @@ mod tail;
 mod two_pieces;
 mod writes;
 
-pub use fault::{Before, GateFault};
+pub use fault::{Before, GateFault, Halt};
 pub use framed::{Checkpoint, Framed, checkpoint_of, frame, frame_parts};
 pub use head::Head;
 pub use laws::{

@@ -17,7 +17,7 @@ ghost use Rattle.ox_gated.specs.Reading.{by_parts, is_present, reading};
 ghost use Rattle.ox_gated.specs.Tail.{Holds, IsSettled};
 ghost use Rattle.ox_gated.specs.declared.fault.GateFault.TheVariants.{NotStore};
 
-use crate::fault::{Before, GateFault, ReadFault};
+use crate::fault::{Before, GateFault, Halt};
 use crate::head::{Head, Opening, is_body, is_shut};
 use crate::layout::{GENERATION_AT, SUMMED_BODY_AT, VERSION_AT};
 use crate::pick::pick;
@@ -45,16 +45,16 @@ pub fn read_part<S: Site>(
     file: Which,
     at: u64,
     size: u64,
-) -> Result<Vec<u8>, ReadFault>
+) -> Result<Vec<u8>, Halt>
     requires { IsTrue (S.told site.old) → at + size ≤ length (file_of (S.seen site.old) file) }
     ensures bytes { IsTrue (S.told site.old)
         → IfOk result (λ bytes.
         bytes.items ≡ slice_range (file_of (S.seen site.old) file) at (at + size)) }
     ensures size { IfOk result (λ bytes. length bytes.items ≡ size) }
     ensures looks { OnlyLooks S.Site site.old site.new }
-    ensures failed { IsErrOf result ReadFault.Disk
+    ensures failed { IsErrOf result Halt.Disk
         → Rose (S.counts site.old).disk (S.counts site.new).disk }
-    ensures counted { StopsAtFault (IsErrOf result ReadFault.Disk) ⊥ ⊥
+    ensures counted { StopsAtFault (IsErrOf result Halt.Disk) ⊥ ⊥
         (S.counts site.old) (S.counts site.new) }
 {
     let mut bytes = blank(alloc, size as usize)?;
@@ -77,7 +77,7 @@ pub struct Front {
 }
 
 /// Reads the front of a file.
-pub fn read_front<S: Site>(alloc: Global, site: &mut S, file: Which) -> Result<Front, ReadFault>
+pub fn read_front<S: Site>(alloc: Global, site: &mut S, file: Which) -> Result<Front, Halt>
     ensures len { IsTrue (S.told site.old)
         → IfOk result (λ front. front.len ≡ length (file_of (S.seen site.old) file)) }
     ensures bytes { IsTrue (S.told site.old)
@@ -86,9 +86,9 @@ pub fn read_front<S: Site>(alloc: Global, site: &mut S, file: Which) -> Result<F
     ensures size { IfOk result (λ front.
         length front.bytes.items ≡ min summed_body_at front.len) }
     ensures looks { OnlyLooks S.Site site.old site.new }
-    ensures failed { IsErrOf result ReadFault.Disk
+    ensures failed { IsErrOf result Halt.Disk
         → Rose (S.counts site.old).disk (S.counts site.new).disk }
-    ensures counted { StopsAtFault (IsErrOf result ReadFault.Disk) ⊥ ⊥
+    ensures counted { StopsAtFault (IsErrOf result Halt.Disk) ⊥ ⊥
         (S.counts site.old) (S.counts site.new) }
 {
     let len = site.len(file)?;
