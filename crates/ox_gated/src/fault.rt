@@ -32,15 +32,15 @@ pub enum GateFault {
     Memory,
 }
 
-impl From<Halt> for GateFault {
+impl From<ReadFault> for GateFault {
     ghost use Rattle.ox_gated.specs.Opened.{gate_fault};
 
-    ghost from_gives = { λ halt e. e ≡ gate_fault halt };
+    ghost from_gives = { λ fault e. e ≡ gate_fault fault };
 
-    fn from(halt: Halt) -> GateFault {
-        match halt {
-            Halt::Disk => GateFault::DiskFault,
-            Halt::Memory => GateFault::Memory,
+    fn from(fault: ReadFault) -> GateFault {
+        match fault {
+            ReadFault::Disk => GateFault::DiskFault,
+            ReadFault::Memory => GateFault::Memory,
         }
     }
 }
@@ -65,41 +65,29 @@ impl From<Memory> for GateFault {
     }
 }
 
-/// Why a call ends before its work is done.
+/// Why a part of a file wasn't read.
 #[derive(Clone, Copy, Debug, PartialEq, Eq)]
-pub enum Halt {
-    /// A call on a file failed.
+pub enum ReadFault {
     Disk,
-    /// There was no memory.
     Memory,
 }
 
-impl From<Failed> for Halt {
-    ghost use Rattle.ox_gated.specs.declared.fault.Halt.TheVariants as halts;
+impl From<Failed> for ReadFault {
+    ghost use Rattle.ox_gated.specs.declared.fault.ReadFault.TheVariants as faults;
 
-    ghost from_gives = { λ _ e. e ≡ halts.Disk };
+    ghost from_gives = { λ _ e. e ≡ faults.Disk };
 
-    fn from(_failed: Failed) -> Halt {
-        Halt::Disk
+    fn from(_failed: Failed) -> ReadFault {
+        ReadFault::Disk
     }
 }
 
-impl From<Memory> for Halt {
-    ghost use Rattle.ox_gated.specs.declared.fault.Halt.TheVariants as halts;
+impl From<AllocError> for ReadFault {
+    ghost use Rattle.ox_gated.specs.declared.fault.ReadFault.TheVariants as faults;
 
-    ghost from_gives = { λ _ e. e ≡ halts.Memory };
+    ghost from_gives = { λ _ e. e ≡ faults.Memory };
 
-    fn from(_memory: Memory) -> Halt {
-        Halt::Memory
-    }
-}
-
-impl From<AllocError> for Halt {
-    ghost use Rattle.ox_gated.specs.declared.fault.Halt.TheVariants as halts;
-
-    ghost from_gives = { λ _ e. e ≡ halts.Memory };
-
-    fn from(_e: AllocError) -> Halt {
-        Halt::Memory
+    fn from(_e: AllocError) -> ReadFault {
+        ReadFault::Memory
     }
 }
