@@ -4,16 +4,18 @@
     python3 bench/gate.py [--scale FACTOR] [--write] COMMAND..
     python3 bench/gate.py [--scale FACTOR] [--write] --pid PID
 
-runs a command, as `rt ci --anew`, or takes one that runs, and looks twice a second at the processes
-below it. The log of `rt ci` tells no times, but each of its checks names its crate, a check of
-tests says so, and one of a wrong body runs in a folder `rt-edit-..` of its own. At the end it
-prints the minutes of processor time of each crate's proof, tests and wrong bodies, each times
-FACTOR (1 without a word), the sums, and how much of all that the command took was seen: what a
-process takes behind the last look at it is lost. With --write the rows of these crates take the
-place of those in bench/gate.tsv, as far as they were seen; `rt ci` proves only what changed.
+runs a command, as `rt ci --anew`, or takes one that runs, until that ends or Ctrl-C, and looks
+twice a second at the processes below it. The log of `rt ci` tells no times, but each of its checks
+names its crate, a check of tests says so, and one of a wrong body runs in a folder `rt-edit-..` of
+its own. At the end it prints the minutes of processor time of each crate's proof, tests and wrong
+bodies, each times FACTOR (1 without a word), the sums, and how much of all that the command took
+was seen: what a process takes behind the last look at it is lost. With --write the rows of these
+crates take the place of those in bench/gate.tsv, as far as they were seen; `rt ci` proves only what
+changed.
 """
 
 import argparse
+import contextlib
 import os
 import pathlib
 import re
@@ -118,9 +120,10 @@ def watch(said: argparse.Namespace) -> tuple[Watch, float | None, int]:
     if said.pid:
         seen = Watch(said.pid)
         begun = look(said.pid)
-        while begun is not None and (now := look(said.pid)) and now.begun == begun.begun:
-            seen.look()
-            time.sleep(PAUSE)
+        with contextlib.suppress(KeyboardInterrupt):
+            while begun is not None and (now := look(said.pid)) and now.begun == begun.begun:
+                seen.look()
+                time.sleep(PAUSE)
         return seen, None, 0
     child = subprocess.Popen(said.command)
     seen = Watch(child.pid)
