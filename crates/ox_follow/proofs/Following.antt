@@ -264,6 +264,23 @@ module _ {State : Type 0} (rules : Rules State) where
   follows_on world known (Have at) is = known.follows
   follows_on world known (Level at) is = known.follows
 
+  true_of_sent : (history : List (Stood State)) (frames : List Frame) → AreTrueOf history frames → (frame : Frame) → IsIn frame frames → IsTrueOf history frame
+  true_of_sent history [] are frame in' = absurd in'
+  true_of_sent history (one ∷ frames) are frame (inl is) = subst (IsTrueOf history) (sym is) are.0
+  true_of_sent history (one ∷ frames) are frame (inr in') = true_of_sent history frames are.1 frame in'
+
+  -- another follower that stands where the leader once stood
+  stands_too : (world : World State) → Known world → (mine : Stood State) → IsIn mine world.history → Known (record world { follower = mine })
+  stands_too world known mine had = record {
+    falls = known.falls;
+    most = known.most;
+    now = known.now;
+    began = known.began;
+    steps = known.steps;
+    frames = known.frames;
+    follows = had;
+  }
+
   numbered_is_true : (history : List (Stood State)) (frames : List Frame) → AreTrueOf history frames → (number : ℕ) (f : Frame) → frame_numbered number frames ≡ Some f → IsTrueOf history f
   unfolding frame_numbered
   numbered_is_true history [] are number f is = absurd (cc is)
@@ -309,6 +326,14 @@ module _ {State : Type 0} (rules : Rules State) where
   pub holds_prefixes : (generation : ℕ) (body : List ℕ) (state : State) (events : List Event) → rules.spells body ≡ Some state
       → let world = after rules (begun generation body state) events in IsIn world.follower world.history
   holds_prefixes generation body state events spells = (known_after (begun generation body state) events (known_first generation body state spells)).follows
+
+  -- whoever stands where the leader once stood does so behind each frame that was sent
+  pub takes_of_sent : (generation : ℕ) (body : List ℕ) (state : State) (events : List Event) → rules.spells body ≡ Some state
+      → let world = after rules (begun generation body state) events in (mine : Stood State) (frame : Frame) → IsIn mine world.history → IsIn frame world.sent → IsIn (took rules mine frame) world.history
+  takes_of_sent generation body state events spells mine frame had sent =
+      let world = after rules (begun generation body state) events in
+      let known : Known world = known_after (begun generation body state) events (known_first generation body state spells) in
+      follows_on (record world { follower = mine }) (stands_too world known mine had) frame (true_of_sent world.history world.sent known.frames frame sent)
 
   -- ---- the follower's position
 
@@ -370,11 +395,6 @@ module _ {State : Type 0} (rules : Rules State) where
   takes_judged mine (Base at profile depth body) = by_next mine (start_of at.generation) (spelled_by rules profile depth body) (nat_lt mine.at.generation at.generation)
   takes_judged mine (Have at) = refl
   takes_judged mine (Level at) = ended_or_not mine (is_same at mine.at)
-
-  true_of_sent : (history : List (Stood State)) (frames : List Frame) → AreTrueOf history frames → (frame : Frame) → IsIn frame frames → IsTrueOf history frame
-  true_of_sent history [] are frame in' = absurd in'
-  true_of_sent history (one ∷ frames) are frame (inl is) = subst (IsTrueOf history) (sym is) are.0
-  true_of_sent history (one ∷ frames) are frame (inr in') = true_of_sent history frames are.1 frame in'
 
   fits_next : (at : Position) (state : Option State) (some : State) → state ≡ Some some → (next : Bool) → cond next (fitting at state) Stays ≡ Ends BadFrame → ⊥
   fits_next at None some is next bad = cc is
