@@ -3,6 +3,7 @@
 use Rattle.std.specs.Prelude.{◌≡◌, ◌≢◌, ◌⊎◌, ℕ, IsTrue, List}
 use Rattle.ox_outside.specs.Log.{Grows}
 use Rattle.ox_outside.specs.declared.site.Site.{Ghosts as Meanings}
+use Rattle.ox_follow.specs.World.{Leader, Stood}
 use Rattle.ox_model.specs.Machine.{Machine, empty_machine, stack_of}
 use Rattle.ox_model.specs.Stack.{Stack}
 use Rattle.ox_sat.specs.Profiles.{profile_named}
@@ -12,13 +13,16 @@ use Rattle.ox_app.specs.Fold.{fold_depth}
 use Rattle.ox_app.specs.Headline.{AddsNoImage, AnswersFeed, IsRunInTurn, StandsFor, StopsAtLine}
 use Rattle.ox_app.specs.Init.{IsMade, MakesFirst, made_line}
 use Rattle.ox_app.specs.AnyRuns.{IsServedInTurn}
+use Rattle.ox_app.specs.Follow.{IsFollowInTurn}
 use Rattle.ox_app.specs.Query.{query_body}
 use Rattle.ox_app.specs.Serve.{AnswersLinks, DoorFails, SurvivesServing}
 use Rattle.ox_app.specs.Stacks.{FeedsOn, FeedsSome, ServesOn, ServesSome, StopsOn}
 use Rattle.ox_app.specs.Stacks.{SurvivesOn, SurvivesServingOn}
 use Rattle.ox_app.specs.Show.{DiskFails, EndsDone, HearFails, ShowFails, ShowsText}
-use Rattle.ox_app.specs.Status.{IsApplyStatus, IsDone, IsFoldStatus, IsInitStatus, IsQueryStatus}
-use Rattle.ox_app.specs.Status.{IsServeStatus, IsSparing, IsUnopened}
+use Rattle.ox_app.specs.Status.{IsApplyStatus, IsDone, IsFoldStatus, IsFollowStatus, IsInitStatus}
+use Rattle.ox_app.specs.Status.{IsLeadStatus, IsQueryStatus, IsServeStatus, IsSparing, IsUnopened}
+use Rattle.ox_app.specs.Talks.{EndsTalk, StandsAsLeader, StandsThere, Talks, follower_party}
+use Rattle.ox_app.specs.Talks.{leader_party}
 use Rattle.ox_app.specs.declared.status.Status.{Status}
 use Rattle.ox_app.specs.declared.status.Status.TheVariants.{Done, Memory, NotEmpty, NotStore}
 use Rattle.ox_app.specs.declared.status.Status.TheVariants.{ShowFault}
@@ -119,8 +123,40 @@ pub record Serves {S : Type 0} (means : Meanings S) (turns : ℕ) (status : Stat
       → ¬ DiskFails means old new → ¬ DoorFails means old new → ¬ ShowFails means old new
       → IsDone status
 
--- `apply`, `query` and `serve` on files that stand for no stack: the first test that fails is
--- shown, and nothing else; and the files are spared
+-- `lead`
+pub record Leads {S : Type 0} (means : Meanings S) (status : Status) (old new : S)
+    : Type 0 where
+  -- on files that stand for a stack: what was shown begins the frames that answer the Haves heard,
+  -- and is all of them where frames or the end of channel 0 ended the run, as the status says
+  pub leads : (leader : Leader Stack) → StandsAsLeader means old leader
+      → (status ≢ NotStore) × Talks means (leader_party leader) status old new
+  -- no line is shown where they stand for none
+  pub lead_unsaid : status ≡ NotStore → means.log new ≡ means.log old
+  pub lead_status : IsLeadStatus status
+  -- without a fault, and where channel 0 ends, frames or that end do end the run, unless memory
+  -- runs out
+  pub lead_completes : (leader : Leader Stack) → StandsAsLeader means old leader
+      → ¬ DiskFails means old new → ¬ HearFails means old new → ¬ ShowFails means old new
+      → Grows (EndsTalk status) (means.log old) (means.log new)
+
+-- `follow`
+pub record Follows {S : Type 0} (means : Meanings S) (status : Status) (old new : S)
+    : Type 0 where
+  -- likewise, of a Have of where the files stand, and one of each place to which frames lead
+  pub follows : (mine : Stood Stack) → StandsThere means old mine
+      → (status ≢ NotStore) × Talks means (follower_party mine) status old new
+  -- what it leaves behind its first event is a run in turn, as `followers_keep_to_leaders` counts
+  -- them
+  pub follow_in_turn : (mine : Stood Stack) → StandsThere means old mine
+      → IsFollowInTurn means old new
+  pub follow_unsaid : status ≡ NotStore → means.log new ≡ means.log old
+  pub follow_status : IsFollowStatus status
+  pub follow_completes : (mine : Stood Stack) → StandsThere means old mine
+      → ¬ DiskFails means old new → ¬ HearFails means old new → ¬ ShowFails means old new
+      → Grows (EndsTalk status) (means.log old) (means.log new)
+
+-- any word that opens a store, on files that stand for no stack: the first test that fails is
+-- shown, and nothing else, by `lead` and `follow` nothing at all; and the files are spared
 pub record Unopened {S : Type 0} (means : Meanings S) (status : Status) (old new : S)
     : Type 0 where
   pub unopened : IsUnopened status

@@ -4,6 +4,13 @@ use Rattle.ox_app.specs.declared.status.Status.{Status}
 use Rattle.ox_app.specs.declared.status.Status.TheVariants.{Done, Usage, NotEmpty, NotStore}
 use Rattle.ox_app.specs.declared.status.Status.TheVariants.{DiskFault, HearFault, ShowFault}
 use Rattle.ox_app.specs.declared.status.Status.TheVariants.{DoorFault, Memory, TooMuch, OldCommand}
+use Rattle.ox_app.specs.declared.status.Status.TheVariants.{BadFrame, Ahead, EndedEarly}
+use Rattle.ox_feed.specs.declared.lines.FeedFault.{FeedFault}
+use Rattle.ox_feed.specs.declared.lines.FeedFault.TheVariants as feeds
+use Rattle.ox_store.specs.declared.fault.OpenFault.{OpenFault}
+use Rattle.ox_store.specs.declared.fault.OpenFault.TheVariants as opens
+use Rattle.ox_follow.specs.Talk.{End}
+use Rattle.ox_follow.specs.Talk as talks
 use Rattle.ox_drill.specs.declared.fault.DrillFault.{DrillFault}
 use Rattle.ox_drill.specs.declared.fault.DrillFault.TheVariants as drills
 use Rattle.ox_app.specs.declared.server.ServeFault.{ServeFault}
@@ -24,6 +31,9 @@ code_of DoorFault = 7
 code_of Memory = 8
 code_of TooMuch = 9
 code_of OldCommand = 10
+code_of BadFrame = 11
+code_of Ahead = 12
+code_of EndedEarly = 13
 
 -- how a run over a feed ends
 abbrev pub status_of : Result (Unit {0}) Stop → Status
@@ -40,11 +50,30 @@ fault_status serves.DiskFault = DiskFault
 fault_status serves.DoorFault = DoorFault
 fault_status serves.Memory = Memory
 
+-- how a run ends whose frames aren't heard further
+abbrev pub feed_status : FeedFault → Status
+feed_status feeds.HearFault = HearFault
+feed_status feeds.TooMuch = TooMuch
+feed_status feeds.Memory = Memory
+
+-- how a run ends whose files aren't opened
+abbrev pub open_status : OpenFault → Status
+open_status (opens.NotStore file at) = NotStore
+open_status opens.DiskFault = DiskFault
+open_status opens.Memory = Memory
+
 -- how a drill ends that a fault ended
 abbrev pub drill_status : DrillFault → Status
 drill_status drills.NotEmpty = NotEmpty
 drill_status drills.DiskFault = DiskFault
 drill_status drills.Memory = Memory
+
+-- how a run ends that frames ended, or the end of channel 0 behind them
+abbrev pub end_status : End → Status
+end_status talks.Done = Done
+end_status talks.BadFrame = BadFrame
+end_status talks.Ahead = Ahead
+end_status talks.EndedEarly = EndedEarly
 
 -- how `fold` may end
 abbrev pub IsFoldStatus : Status → Type 0
@@ -90,6 +119,30 @@ IsMigrateStatus status =
 abbrev pub IsUnopened : Status → Type 0
 IsUnopened status = (status ≡ NotStore) ⊎ (status ≡ DiskFault) ⊎ (status ≡ Memory)
 
+-- what may end a talk in frames but these and the end of channel 0
+abbrev pub IsTalkFault : Status → Type 0
+IsTalkFault status =
+    (status ≡ HearFault) ⊎ (status ≡ ShowFault) ⊎ (status ≡ Memory) ⊎ (status ≡ TooMuch)
+
+-- how a leader's talk may end
+abbrev pub IsLeadTalk : Status → Type 0
+IsLeadTalk status =
+    (status ≡ Done) ⊎ (status ≡ BadFrame) ⊎ (status ≡ Ahead) ⊎ IsTalkFault status
+
+-- how a follower's may end
+abbrev pub IsFollowTalk : Status → Type 0
+IsFollowTalk status =
+    (status ≡ Done) ⊎ (status ≡ BadFrame) ⊎ (status ≡ EndedEarly) ⊎ (status ≡ DiskFault)
+    ⊎ IsTalkFault status
+
+-- how `lead` may end
+abbrev pub IsLeadStatus : Status → Type 0
+IsLeadStatus status = IsUnopened status ⊎ IsLeadTalk status
+
+-- how `follow` may end
+abbrev pub IsFollowStatus : Status → Type 0
+IsFollowStatus status = IsUnopened status ⊎ IsFollowTalk status
+
 -- how `init` and `drill` may end where a file isn't empty
 abbrev pub IsSparing : Status → Type 0
 IsSparing status = (status ≡ NotEmpty) ⊎ (status ≡ DiskFault) ⊎ (status ≡ Memory)
@@ -97,6 +150,10 @@ IsSparing status = (status ≡ NotEmpty) ⊎ (status ≡ DiskFault) ⊎ (status 
 -- all was done, or memory ran out
 abbrev pub IsDone : Status → Type 0
 IsDone status = (status ≡ Done) ⊎ (status ≡ Memory)
+
+-- frames ended the run, or the end of channel 0 behind them, or memory ran out
+abbrev pub IsTalkDone : Status → Type 0
+IsTalkDone status = ((end : End) × (status ≡ end_status end)) ⊎ (status ≡ Memory)
 
 -- how a run ends that showed one line and wrote no file
 abbrev pub IsRefusal : Status → Type 0

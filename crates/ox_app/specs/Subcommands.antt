@@ -5,7 +5,8 @@ use Rattle.ox_sat.specs.Profiles.{profile_word}
 use Rattle.ox_sat.specs.declared.profiles.ProfileName.{ProfileName}
 use Rattle.ox_app.specs.declared.subcommand.Subcommand.{Subcommand}
 use Rattle.ox_app.specs.declared.subcommand.Subcommand.TheVariants.{Fold, Init, Apply, Query}
-use Rattle.ox_app.specs.declared.subcommand.Subcommand.TheVariants.{Serve, Drill, Migrate, Unknown}
+use Rattle.ox_app.specs.declared.subcommand.Subcommand.TheVariants.{Serve, Drill, Migrate, Lead}
+use Rattle.ox_app.specs.declared.subcommand.Subcommand.TheVariants.{Follow, Unknown}
 
 -- a run over a feed, by its profile
 abbrev pub fold_words : ProfileName → List (List ℕ)
@@ -35,6 +36,14 @@ drill_words n = codes "drill" ∷ decimal n ∷ []
 abbrev pub migrate_words : List (List ℕ)
 migrate_words = codes "migrate" ∷ []
 
+-- a store that hands out its pieces
+abbrev pub lead_words : List (List ℕ)
+lead_words = codes "lead" ∷ []
+
+-- a store that takes another one's
+abbrev pub follow_words : List (List ℕ)
+follow_words = codes "follow" ∷ []
+
 -- a number from 1 to this one
 pub record IsUpTo (most n : ℕ) : Type 0 where
   pub some : 1 ≤ n
@@ -61,6 +70,8 @@ pub record IsUnknown (words : List (List ℕ)) : Type 0 where
   pub no_serve : (turns : ℕ) → IsTurns turns → words ≢ serve_words turns
   pub no_drill : (n : ℕ) → IsDrillLength n → words ≢ drill_words n
   pub no_migrate : words ≢ migrate_words
+  pub no_lead : words ≢ lead_words
+  pub no_follow : words ≢ follow_words
 
 -- the words are this subcommand
 abbrev pub IsSubcommand : List (List ℕ) → Subcommand → Type 0
@@ -71,6 +82,8 @@ IsSubcommand words (Query path) = words ≡ query_words path.now
 IsSubcommand words (Serve turns) = IsTurns turns × (words ≡ serve_words turns)
 IsSubcommand words (Drill n) = IsDrillLength n × (words ≡ drill_words n)
 IsSubcommand words Migrate = words ≡ migrate_words
+IsSubcommand words Lead = words ≡ lead_words
+IsSubcommand words Follow = words ≡ follow_words
 IsSubcommand words Unknown = IsUnknown words
 
 -- the words of a run that opens files
@@ -78,9 +91,10 @@ abbrev pub IsOpening : List (List ℕ) → Type 0
 IsOpening words =
     (words ≡ apply_words) ⊎ ((path : List ℕ) × (words ≡ query_words path))
     ⊎ ((turns : ℕ) × IsTurns turns × (words ≡ serve_words turns))
+    ⊎ (words ≡ lead_words) ⊎ (words ≡ follow_words)
 
 -- the words of a run that writes no file
 abbrev pub IsReading : List (List ℕ) → Type 0
 IsReading words =
     ((name : ProfileName) × (words ≡ fold_words name))
-    ⊎ ((path : List ℕ) × (words ≡ query_words path))
+    ⊎ ((path : List ℕ) × (words ≡ query_words path)) ⊎ (words ≡ lead_words)
