@@ -1,6 +1,7 @@
 //! The program.
 
 ghost use Rattle.std.specs.Prelude.{◌≡◌, ◌≢◌, ◌⊎◌, ℕ, List, IsTrue};
+ghost use Rattle.ox_follow.specs.World.{Stood};
 ghost use Rattle.ox_model.specs.Machine.{Machine, stack_of};
 ghost use Rattle.ox_model.specs.Stack.{Stack};
 ghost use Rattle.ox_files.specs.OldStands.{OldFault};
@@ -9,11 +10,13 @@ ghost use Rattle.ox_sat.specs.declared.profiles.ProfileName.{ProfileName};
 ghost use Rattle.ox_store.specs.Make.{no_files};
 ghost use Rattle.ox_app.specs.Drill.{RunsDrill, told_line};
 ghost use Rattle.ox_app.specs.Headline.{AddsNoImage, StandsFor, StandsForNone, SurvivesCrash};
+ghost use Rattle.ox_app.specs.Follow.{SurvivesFollowing};
 ghost use Rattle.ox_app.specs.Init.{not_empty_line};
 ghost use Rattle.ox_app.specs.Migrate.{IsMigrated, IsUnmigrated, MigratesFirst, SaysNoOldStore};
 ghost use Rattle.ox_app.specs.Migrate.{SaysOldCommand, StandsForNoOld, StandsForOld};
 ghost use Rattle.ox_app.specs.Migrate.{migrated_line};
-ghost use Rattle.ox_app.specs.Promises.{Applies, Folds, Inits, Queries, Serves, Unopened};
+ghost use Rattle.ox_app.specs.Promises.{Applies, Folds, Follows, Inits, Leads, Queries, Serves};
+ghost use Rattle.ox_app.specs.Promises.{Unopened};
 ghost use Rattle.ox_outside.specs.Runs.{Calls};
 ghost use Rattle.ox_app.specs.Serve.{DoorFails};
 ghost use Rattle.ox_app.specs.Show.{DiskFails, EndsAtFault, HearFails, Says};
@@ -21,15 +24,18 @@ ghost use Rattle.ox_app.specs.Show.{ShowFails, ShowsText, usage_line};
 ghost use Rattle.ox_app.specs.Status.{IsDone, IsDrillStatus, IsMigrateStatus, IsRefusal};
 ghost use Rattle.ox_app.specs.Subcommands.{IsDepth, IsDrillLength, IsOpening, IsReading};
 ghost use Rattle.ox_app.specs.Subcommands.{IsTurns, IsUnknown, apply_words, drill_words};
-ghost use Rattle.ox_app.specs.Subcommands.{fold_words, init_words, migrate_words, query_words};
-ghost use Rattle.ox_app.specs.Subcommands.{serve_words};
+ghost use Rattle.ox_app.specs.Subcommands.{fold_words, follow_words, init_words, lead_words};
+ghost use Rattle.ox_app.specs.Subcommands.{migrate_words, query_words, serve_words};
+ghost use Rattle.ox_app.specs.Talks.{StandsThere};
 ghost use Rattle.ox_app.specs.Unopened.{SaysNotStore};
 ghost use Rattle.ox_app.specs.declared.status.Status.TheVariants as ends;
 
 use crate::apply::apply;
 use crate::drill::drill;
 use crate::fold::fold;
+use crate::follow::follow;
 use crate::init::init;
+use crate::lead::lead;
 use crate::migrate::migrate;
 use crate::query::query;
 use crate::serve::serve;
@@ -61,6 +67,10 @@ use std::alloc::Global;
 /// | | again, and shows what the index then counts. From 1 to 100,000 blocks. |
 /// | `migrate` | Makes a store of version 1 one of version 2, by the present rules, and shows |
 /// | | how many commands were carried out: `ok <commands>`. |
+/// | `lead` | Opens the store and answers each Have of channel 0 by a frame: the record behind |
+/// | | that position, the whole current file, or a Level where there is nothing. |
+/// | `follow` | Opens the store, shows a Have of where it stands, takes the bases and steps of |
+/// | | channel 0 that come next, and shows a Have behind each frame. |
 ///
 /// The profile is `mainnet`, `regtest` or `lab`, and a number has decimal digits with no sign and
 /// no leading zero.
@@ -68,12 +78,14 @@ use std::alloc::Global;
 /// | Status | Comes | Shown |
 /// |---|---|---|
 /// | `Done` | where channel 0 was read to its end and each line answered, the line or body was | |
-/// | | shown, or all turns were made and what was counted was shown | |
+/// | | shown, or all turns were made and what was counted was shown; in `lead`, where | |
+/// | | channel 0 ended behind a frame that was answered, or at once; in `follow`, exactly | |
+/// | | where a Level of the follower's own position was heard | |
 /// | `Usage` | exactly where the words are no subcommand | `usage` |
 /// | `NotEmpty` | of `init` and `drill`, exactly where a file isn't empty | `not empty` |
 /// | `NotStore` | exactly where the files are no store; in `migrate`, none | `not a store`, the |
 /// | | of version 1 that another file can follow | file's letter and the place of the first |
-/// | | | test that fails |
+/// | | | test that fails; in `lead` and `follow`, nothing |
 /// | `DiskFault` | only where a call on a file failed in this run | nothing further |
 /// | `HearFault` | only where hearing on channel 0 failed in this run | nothing further |
 /// | `ShowFault` | only where showing on channel 0 failed in this run | nothing further |
@@ -83,6 +95,12 @@ use std::alloc::Global;
 /// | | hasn't ended | further |
 /// | `OldCommand` | of `migrate`, exactly where the present rules refuse a command | `old`, its |
 /// | | | number from 0, and the line of refusal |
+/// | `BadFrame` | of `lead` and `follow`, exactly where no frame begins as what was heard does, | |
+/// | | channel 0 ended within one, or one was heard that this side doesn't take: by `lead` | |
+/// | | none but a Have, by `follow` a Have, or a base or step that is next and doesn't fit | |
+/// | `Ahead` | of `lead`, exactly where a Have above the store's position was heard | |
+/// | `EndedEarly` | of `follow`, exactly where channel 0 ended behind a whole frame or at once, | |
+/// | | without a Level of the store's position | |
 ///
 /// From `DiskFault` to `TooMuch` a status ends the run at once. A link's fault ends that link
 /// alone, and in `serve` a command that runs out of memory is answered 503 and changes nothing;
@@ -189,13 +207,26 @@ pub fn run<S: Site>(alloc: Global, words: &[Bytes], site: &mut S) -> Status
         → Serves S.Site turns result site.old site.new }
     ensures door_fault { result ≡ ends.DoorFault → DoorFails S.Site site.old site.new }
 
-    // ---- `apply`, `query` and `serve` on files that stand for no stack
+    // ---- `lead` and `follow`
+
+    // Each Have is answered by a frame, of what the store has behind it.
+    ensures leads { words.now ≡ lead_words → Leads S.Site result site.old site.new }
+    // A Have is shown of where the store stands, and one behind each frame.
+    ensures follows { words.now ≡ follow_words → Follows S.Site result site.old site.new }
+    // Whatever the frames and at whatever moment the run stops: the files stand where the first
+    // frames lead, at each place of whose Have a byte was shown, or past it.
+    ensures follow_survives { words.now ≡ follow_words → (mine : Stood Stack)
+        → StandsThere S.Site site.old mine
+        → SurvivesFollowing S.Site mine site.old site.new }
+
+    // ---- words that open a store, on files that stand for no stack
 
     // The first test that fails is shown, and nothing else; and the files are spared.
     ensures unopened { IsOpening words.now → (misfit : Misfit)
         → StandsForNone S.Site site.old misfit
         → Unopened S.Site result site.old site.new }
-    ensures not_store { words.now ≢ migrate_words → result ≡ ends.NotStore
+    ensures not_store { words.now ≢ migrate_words → words.now ≢ lead_words
+        → words.now ≢ follow_words → result ≡ ends.NotStore
         → SaysNotStore S.Site site.old site.new }
 
     // ---- any words
@@ -222,6 +253,8 @@ pub fn run<S: Site>(alloc: Global, words: &[Bytes], site: &mut S) -> Status
         Subcommand::Serve(turns) => serve(alloc, site, turns),
         Subcommand::Drill(n) => drill(alloc, site, n),
         Subcommand::Migrate => migrate(alloc, site),
+        Subcommand::Lead => lead(alloc, site),
+        Subcommand::Follow => follow(alloc, site),
         Subcommand::Unknown => {
             say(site, b"usage\n");
             Status::Usage

@@ -3,11 +3,18 @@
 ghost use Rattle.std.specs.Prelude.{◌≡◌};
 ghost use Rattle.ox_app.specs.Status.{code_of};
 
+use ox_feed::FeedFault;
+use ox_follow::BadFrame;
+use ox_gated::DiskFault;
+use ox_outside::Failed;
+use ox_store::OpenFault;
+
 /// How a run ended.
 #[derive(Clone, Copy, Debug, PartialEq, Eq)]
 pub enum Status {
     /// Channel 0 was read to its end and each line was answered, the line or body was shown, or all
-    /// turns were made and what was counted was shown.
+    /// turns were made and what was counted was shown. Of a leader: channel 0 ended behind a frame
+    /// that was answered, or at once. Of a follower: it stands where its leader does.
     Done,
     /// The words are no subcommand.
     Usage,
@@ -29,10 +36,16 @@ pub enum Status {
     TooMuch,
     /// The present rules refuse a command of a store of version 1.
     OldCommand,
+    /// No frame began so, one was none that this side takes, or channel 0 ended within one.
+    BadFrame,
+    /// A follower stands past the leader's own position.
+    Ahead,
+    /// Channel 0 ended before the leader said that the follower stands where it does.
+    EndedEarly,
 }
 
 impl Status {
-    /// The exit status of the process: 0 to 10, in the order above.
+    /// The exit status of the process: 0 to 13, in the order above.
     pub fn code(self) -> u8
         ensures { result ≡ code_of self }
     {
@@ -48,6 +61,67 @@ impl Status {
             Status::Memory => 8,
             Status::TooMuch => 9,
             Status::OldCommand => 10,
+            Status::BadFrame => 11,
+            Status::Ahead => 12,
+            Status::EndedEarly => 13,
         }
+    }
+}
+
+impl From<FeedFault> for Status {
+    ghost use Rattle.ox_app.specs.Status.{feed_status};
+
+    ghost from_gives = { λ fault status. status ≡ feed_status fault };
+
+    fn from(fault: FeedFault) -> Status {
+        match fault {
+            FeedFault::HearFault => Status::HearFault,
+            FeedFault::TooMuch => Status::TooMuch,
+            FeedFault::Memory => Status::Memory,
+        }
+    }
+}
+
+impl From<OpenFault> for Status {
+    ghost use Rattle.ox_app.specs.Status.{open_status};
+
+    ghost from_gives = { λ fault status. status ≡ open_status fault };
+
+    fn from(fault: OpenFault) -> Status {
+        match fault {
+            OpenFault::NotStore { .. } => Status::NotStore,
+            OpenFault::DiskFault => Status::DiskFault,
+            OpenFault::Memory => Status::Memory,
+        }
+    }
+}
+
+impl From<BadFrame> for Status {
+    ghost use Rattle.ox_app.specs.declared.status.Status.TheVariants as ends;
+
+    ghost from_gives = { λ _ status. status ≡ ends.BadFrame };
+
+    fn from(_bad: BadFrame) -> Status {
+        Status::BadFrame
+    }
+}
+
+impl From<Failed> for Status {
+    ghost use Rattle.ox_app.specs.declared.status.Status.TheVariants as ends;
+
+    ghost from_gives = { λ _ status. status ≡ ends.ShowFault };
+
+    fn from(_failed: Failed) -> Status {
+        Status::ShowFault
+    }
+}
+
+impl From<DiskFault> for Status {
+    ghost use Rattle.ox_app.specs.declared.status.Status.TheVariants as ends;
+
+    ghost from_gives = { λ _ status. status ≡ ends.DiskFault };
+
+    fn from(_fault: DiskFault) -> Status {
+        Status::DiskFault
     }
 }

@@ -23,6 +23,10 @@ pub enum Subcommand<'a> {
     Drill(u32),
     /// The migration of a store of version 1.
     Migrate,
+    /// A store that hands out its pieces.
+    Lead,
+    /// A store that takes those of another one.
+    Follow,
     /// The words are no subcommand.
     Unknown,
 }
@@ -63,6 +67,8 @@ pub fn subcommand_of(words: &[Bytes]) -> Subcommand<'_>
     match words {
         [first] if first.as_slice() == b"apply".as_slice() => Subcommand::Apply,
         [first] if first.as_slice() == b"migrate".as_slice() => Subcommand::Migrate,
+        [first] if first.as_slice() == b"lead".as_slice() => Subcommand::Lead,
+        [first] if first.as_slice() == b"follow".as_slice() => Subcommand::Follow,
         [first, path] if first.as_slice() == b"query".as_slice() => Subcommand::Query(
             path.as_slice(),
         ),
