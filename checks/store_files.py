@@ -279,8 +279,9 @@ class Store:
         set_gate(self.disk, file, OPEN, gate)
         self.tail = self.tail._replace(records=count + 1, gate=gate + len(record))
 
-    def turn_to(self, stack):
-        file, generation = OTHER[self.tail.file], self.tail.generation + 1
+    def turn_to(self, stack, generation=None):
+        """Puts a whole file in place of the current one, of this generation or the next one."""
+        file, generation = OTHER[self.tail.file], generation or self.tail.generation + 1
         if not self.tail.is_other_shut:
             set_gate(self.disk, file, CLOSED)
         gate = fill(self.disk, file, stack, generation)

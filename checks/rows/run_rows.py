@@ -1,16 +1,17 @@
 """The rows of crates/ox_run_rows, and what has to be printed for them.
 
-Its own are runs of each subcommand but `serve`, whole, with failing calls, stopped, and over a site
-of short calls; and lines, hearings, showings and links of a site by themselves. Those that serve
-links are those of serve_rows, those that ask one desk those of desk_rows, of which holder_rows has
-those that ask for addresses, and those that make and open a store those of store_rows. What a run
-does is told by worlds, which shares nothing with the library.
+Its own are runs of each subcommand but `serve`, `lead` and `follow`, whole, with failing calls,
+stopped, and over a site of short calls; and lines, hearings, showings and links of a site by
+themselves. Those that serve links are those of serve_rows, those that ask one desk those of
+desk_rows, of which holder_rows has those that ask for addresses, those that make and open a store
+those of store_rows, and those of a leader or a follower those of follow_rows. What a run does is
+told by worlds, which shares nothing with the library.
 """
 
 import old_files
 import store_files
 from chain import DISCONNECT, GENESIS, SHORT, line, payload_of
-from rows import desk_rows, holder_rows, serve_rows, store_rows
+from rows import desk_rows, follow_rows, holder_rows, serve_rows, store_rows
 from rows.desk_rows import compact, printed
 from rows.store_rows import ALL
 from rows.worlds import CUTS_NOTHING, NONE, PORTIONS, SATOSHI, Runs, bytes_of
@@ -167,6 +168,8 @@ def usage(rows):
         ("init", "regtest"),
         ("apply", "x"),
         ("query",),
+        ("lead", "x"),
+        ("follow", ""),
     ):
         rows.fresh()
         rows.feed(b"connect \n")
@@ -573,8 +576,8 @@ def made():
         part(rows)
     for part in (feeds, hearings, links):
         part(rows)
-    parts = serve_rows.served(), desk_rows.desks(), holder_rows.holders(), store_rows.stores()
-    for others in parts:
+    parts = serve_rows.served, desk_rows.desks, holder_rows.holders, store_rows.stores
+    for others in (part() for part in (*parts, follow_rows.follows)):
         rows.stdin += others.stdin
         rows.stdout += others.stdout
     return rows.stdin, rows.stdout

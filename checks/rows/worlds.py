@@ -2,10 +2,10 @@
 crates/ox_run_rows about it.
 
 Lines, answers, statuses and files are told by docs/FORMATS.md and docs/OPERATING.md, on their own:
-blocks are read as block_rows does, indexes are plain_index's, files store_files', and servers
-serving's. What these don't say and the rows go by: a run hears at most 65,536 bytes at a time, and
-only where it holds no whole line; each line is shown by a call of its own; and of the calls of an
-opening, a making and a record store_rows tells.
+blocks are read as block_rows does, indexes are plain_index's, files store_files', servers serving's,
+and leaders and followers following's. What these don't say and the rows go by: a run hears at most
+65,536 bytes at a time, and only where it holds no whole line; each line is shown by a call of its
+own; and of the calls of an opening, a making and a record store_rows tells.
 """
 
 import re
@@ -15,7 +15,7 @@ import old_files
 import store_files
 from chain import DISCONNECT, payload_of, record_of
 from plain_index import Refused, count_of, subsidy
-from rows import store_rows
+from rows import following, store_rows
 from rows.block_rows import Fault, Reader
 from rows.desk_rows import ROOM, compact, printed
 from rows.serving import Desk, DoorFailed, Server
@@ -224,11 +224,14 @@ class World:
             return 6
         except DoorFailed:
             return 7
+        except following.Ended as ended:
+            return ended.args[0]
         except NoStore as place:
             # the calls behind the fronts aren't counted: then none of them may fail
             assert all(call < self.site.calls for call in self.site.failing)
             self.site.calls = ALL
-            self.say(f"not a store {str(place).lower().replace(' at', '')}\n".encode())
+            if words not in (("lead",), ("follow",)):
+                self.say(f"not a store {str(place).lower().replace(' at', '')}\n".encode())
             return 3
 
     def carry_out(self, *words):
@@ -248,6 +251,11 @@ class World:
             return self.drill(int(words[1]))
         elif words == ("migrate",):
             return self.migrate()
+        elif words == ("lead",):
+            self.opened()
+            following.lead(self)
+        elif words == ("follow",):
+            following.follow(self, self.opened())
         else:
             self.say(b"usage\n")
             return 1
@@ -444,7 +452,8 @@ class Runs:
 
     def ends(self, words, status, told):
         """A run that has to end so."""
-        assert self.run(*words) == (status, told), (words, status, told)
+        ran = self.run(*words)
+        assert ran == (status, told), (words, status, told, ran)
 
     def short(self, portion, whole_writes, *words):
         """A run over a site of short calls; and how many writes were cut short."""
