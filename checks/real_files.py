@@ -6,10 +6,11 @@ No proof says which bytes a real file gives or takes, so this tries it: each sub
 but 9, which would take 4,611,686,018,427,387,904 bytes, the bytes of both files after each line
 (checks/store_files.py), a content of 3,900,000 bytes, blocks that ask for as much work as they can
 and blocks whose counts lie (checks/hostile_blocks.py), satoshis among 500,000 outputs
-(checks/table.py), and fifty kills of a running `apply` (checks/kills.py). Each check has a new
-folder, below out/ beside this script, that is gone where it passed. A check that fails is told with
-its cause, and its folder stays. The last line says how many passed and how many failed, and the
-status is 1 where one failed. It takes one to two minutes.
+(checks/table.py), fifty kills of a running `apply` (checks/kills.py), and twenty of a `follow` that
+pipes join to a `lead`. Each check has a new folder, below out/ beside this script, that is gone
+where it passed. A check that fails is told with its cause, and its folder stays. The last line says
+how many passed and how many failed, and the status is 1 where one failed. It takes one to two
+minutes.
 """
 
 import collections
@@ -33,7 +34,8 @@ from chain import DISCONNECT, SHORT, block_of, block_with, chain, coinbase, comm
 from chain import envelope, id_value, line, line_of, payload_of, reveal_into
 from kills import kill_often
 from old_files import old_file_of
-from store_files import MOST_RECORDS, file_a, files_of, payload_on, store_of
+from rows.frame_rows import have, level
+from store_files import MOST_RECORDS, bytes_in, file_a, files_of, payload_on, store_of
 from table import BLOCKS, Table, outpoint, satoshi
 from tools.bitcoin import SUBSIDY, twice
 from tools.checks import Checks, demand
@@ -839,6 +841,71 @@ def old_commands(ox):
         ox.has(a, EMPTY_B)
 
 
+# A leader and a follower.
+
+FOLLOWED = 200
+FOLLOWER_KILLS = 20
+
+
+def join(leader, follower, seconds):
+    """Joins a leader and a follower by two pipes, and kills the follower after so many seconds: how
+    the two ended."""
+    haves, frames = os.pipe(), os.pipe()
+    lead = subprocess.Popen(
+        [leader.program, leader.folder, "lead"], stdin=haves[0], stdout=frames[1]
+    )
+    follow = subprocess.Popen(
+        [follower.program, follower.folder, "follow"], stdin=frames[0], stdout=haves[1]
+    )
+    for end in (*haves, *frames):
+        os.close(end)
+    try:
+        follow.wait(seconds)
+    except subprocess.TimeoutExpired:
+        follow.kill()
+        follow.wait()
+    return lead.wait(SECONDS), follow.returncode
+
+
+def current_of(files):
+    """Where a store stands, and the bytes of its current file up to its last gate."""
+    _, tail = store_files.stands(files)
+    return (tail.generation, tail.records), bytes(files[tail.file][: tail.gate + 1])
+
+
+@every.check(
+    f"a follower of {FOLLOWED} lines that is killed {FOLLOWER_KILLS} times has what its leader had,"
+    " and in the end what it has"
+)
+def followed(ox):
+    chance, commands = random.Random(SEED), list(walk(random.Random(SEED), 100, FOLLOWED))
+    leader, follower = (Ox(ox.program, ox.folder / name) for name in ("leader", "follower"))
+    for one in (leader, follower):
+        one.folder.mkdir()
+        one.init()
+    told, took = store_files.make(store_files.Disk()), 0
+    had = dict([current_of(told.disk.files)])
+    for first in range(0, FOLLOWED, FOLLOWED // FOLLOWER_KILLS):
+        lines = commands[first : first + FOLLOWED // FOLLOWER_KILLS]
+        leader.run("apply", feed=b"".join(map(line_of, lines)))
+        for command in lines:
+            told.carry_out(command)
+            had |= [current_of(told.disk.files)]
+        leader.has(*bytes_in(told))
+        if not took:
+            # one that isn't killed tells how long it takes
+            begun = time.perf_counter()
+            demand(join(leader, follower, SECONDS) == (0, 0), "the first run ended otherwise")
+            took = time.perf_counter() - begun
+        join(leader, follower, took * chance.uniform(0.1, 1))
+        at, held = current_of(dict(zip("AB", follower.files())))
+        demand(had[at] == held, f"the follower holds otherwise what its leader had at {at}")
+    demand(told.tail.generation == 4, "the leader's files didn't turn three times")
+    demand(join(leader, follower, SECONDS) == (0, 0), "the last run ended otherwise")
+    ends = [current_of(dict(zip("AB", one.files()))) for one in (leader, follower)]
+    demand(ends[0] == ends[1], "the current files of the two differ in the end")
+
+
 # The statuses, by what brings each about.
 
 
@@ -854,6 +921,7 @@ def usage(ox):
     ]
     rows += [("drill",), ("drill", "0"), ("drill", "100001"), ("drill", "01"), ("drill", "1", "1")]
     rows += [("apply", "regtest"), ("fold",), ("fold", "Lab"), ("query",), ("served",), (b"\xff",)]
+    rows += [("lead", "regtest"), ("follow", ".")]
     for words in rows:
         ox.wants((1, b"usage\n"), *words, feed=GENESIS)
     ox.has(b"", b"")
@@ -917,6 +985,8 @@ def not_store(ox):
         line = f"not a store {told}\n".encode()
         ox.wants((3, line), "apply", feed=GENESIS)
         ox.wants((3, line), "query", "/status")
+        for word in ("lead", "follow"):
+            ox.wants((3, b""), word, feed=have(1, 0))
         ox.has(a, b)
 
 
@@ -938,9 +1008,11 @@ def lying_files():
 def lying_in_files(ox):
     for a, place in lying_files():
         ox.write(a, EMPTY_B)
-        for words in (("query", "/status"), ("apply",), ("migrate",)):
+        for words in (("query", "/status"), ("apply",), ("migrate",), ("lead",), ("follow",)):
             if words == ("migrate",):
                 wanted = (3, b"not a store a 6\n")
+            elif words in (("lead",), ("follow",)):
+                wanted = (3, b"")
             else:
                 wanted = (3, f"not a store a {place}\n".encode())
             ox.wants(wanted, *words, preexec_fn=little)
@@ -1053,6 +1125,23 @@ def cut_pipe(ox):
     finally:
         os.close(theirs)
     ox.status_is(1, GENESIS_ANSWER.split()[2].decode())
+
+
+@every.check("statuses 11, 12 and 13: frames, or the end of the channel, end a leader or a follower")
+def ended_talks(ox):
+    ox.init()
+    for status, heard in ((0, level(1, 0)), (11, have(1, 0)), (11, bytes(8)), (13, b"")):
+        ox.wants((status, have(1, 0)), "follow", feed=heard)
+    for status, heard, told in (
+        (0, b"", b""),
+        (0, have(1, 0), level(1, 0)),
+        (11, level(1, 0), b""),
+        (11, have(1, 0) + have(1, 0)[:24], level(1, 0)),
+        (12, have(1, 1), b""),
+        (12, have(2, 0), b""),
+    ):
+        ox.wants((status, told), "lead", feed=heard)
+    ox.has(EMPTY_A, EMPTY_B)
 
 
 @every.check("statuses 1, 2 and 3 stay where their line can't be shown")
