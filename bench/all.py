@@ -54,6 +54,7 @@ NEEDS = {
     "drill": (["ox_main"], ["drill"]),
     "fold_blocks": (["ox_main"], ["fold_blocks"]),
     "fold_feed": (["ox_main"], []),
+    "follow": (["ox_main"], []),
     "holders": (["ox_speed"], ["holders"]),
     "hostile": (["ox_main"], []),
     "index_blocks": (["ox_main"], ["index"]),
