@@ -83,7 +83,7 @@ module _ {S : Type 0} (means : Meanings S) where
   abbrev Only : S → S → (Remains → Type 0) → Type 0
   Only old new P = LeavesOnly means old new P
 
-  both : (old new : S) (P Q : Remains → Type 0) → Only old new P → Only old new Q → Only old new (λ r. P r × Q r)
+  pub both : (old new : S) (P Q : Remains → Type 0) → Only old new P → Only old new Q → Only old new (λ r. P r × Q r)
   both old new P Q p q = record {
     later = p.later;
     each = λ r left. (p.each r left, q.each r left);

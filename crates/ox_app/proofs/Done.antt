@@ -26,7 +26,7 @@ fold_ends (Err stops.TooMuch) no_disk = inr (inr (inr (inr refl)))
 pub not_folded : (r : Result (Unit {0}) Stop) (status : Status) → status ≡ status_of r → (IsErrOf r stops.DiskFault → ⊥) → NotFold status
 not_folded r status is no_disk = not_fold status (subst IsFoldStatus (sym is) (fold_ends r no_disk))
 
-contradicts : (b : Bool) → b ≡ true → b ≡ false → ⊥
+pub contradicts : (b : Bool) → b ≡ true → b ≡ false → ⊥
 contradicts b e f = cc
 
 -- the same, without a fault and on a feed that ends

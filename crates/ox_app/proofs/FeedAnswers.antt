@@ -41,7 +41,7 @@ hearing_own (Broke channel) h = eqb-true channel 0 h
 hearing_own (GaveUp channel) h = cc
 hearing_own (Shut channel) h = cc
 
-hearings_own : (events : List Event) → All IsHearing events → OnlyOwn events
+pub hearings_own : (events : List Event) → All IsHearing events → OnlyOwn events
 hearings_own [] h = All-nil Own
 hearings_own (event ∷ events) h =
     All-cons Own event events (hearing_own event (All-head IsHearing event events h)) (hearings_own events (All-tail IsHearing event events h))
@@ -55,7 +55,7 @@ one_shows_nothing (Broke channel) events h = refl
 one_shows_nothing (GaveUp channel) events h = refl
 one_shows_nothing (Shut channel) events h = refl
 
-hearings_show_nothing : (events : List Event) → All IsHearing events → shown_bytes 0 events ≡ []
+pub hearings_show_nothing : (events : List Event) → All IsHearing events → shown_bytes 0 events ≡ []
 hearings_show_nothing [] h = refl
 hearings_show_nothing (event ∷ events) h =
     one_shows_nothing event events (All-head IsHearing event events h) ∙ hearings_show_nothing events (All-tail IsHearing event events h)

@@ -41,7 +41,11 @@ pub fn show_frame<S: Site>(site: &mut S, frame: &Frame) -> Result<(), Failed>
             profile,
             depth,
             body,
-        } => show_both(site, &base_front(at, profile, depth, body.len() as u32), body),
+        } => show_both(
+            site,
+            &base_front(at, profile, depth, body.len() as u32),
+            body,
+        ),
         Frame::Step { at, payload } => {
             show_both(site, &step_front(at, payload.len() as u32), payload)
         }

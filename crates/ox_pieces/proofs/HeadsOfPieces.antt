@@ -106,6 +106,12 @@ under_counts : (mine stack : Stack) (read : Option Body) → bodies.stack_in min
 under_counts mine stack None is = absurd (cc is)
 under_counts mine stack (Some body) is = alike_chosen (bodies.is_kept mine.profile mine.depth body) mine (bodies.stack_of mine.profile mine.depth body) stack refl refl is
 
+pub payload_rules : (mine next : Stack) (payload : List ℕ) → payload_step mine payload ≡ Some next → rules_of next ≡ rules_of mine
+payload_rules mine next payload is = alike_rules mine next (counts_alike mine next payload is)
+
+pub body_rules : (mine next : Stack) (body : List ℕ) → stack_in_body mine.profile mine.depth body ≡ Some next → rules_of next ≡ rules_of mine
+body_rules mine next body is = alike_rules mine next (under_counts mine next (whole (bodies.body_at body)) is)
+
 spelled_counts : (b : Bool) (mine stack : Stack) (body : List ℕ) → (if b then stack_in_body mine.profile mine.depth body else None) ≡ Some stack → CountsAlike mine stack
 spelled_counts true mine stack body is = under_counts mine stack (whole (bodies.body_at body)) is
 spelled_counts false mine stack body is = absurd (cc is)

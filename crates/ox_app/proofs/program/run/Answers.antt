@@ -1,5 +1,5 @@
 use Rattle.std.proofs.Common.{◌∙◌, ⊎_elim, List, ℕ, ap, inl, inr, refl, subst, sym}
-use Rattle.std.specs.Prelude.{Ok}
+use Rattle.std.specs.Prelude.{Err, Ok}
 use Rattle.ox_outside.specs.Log.{Grows}
 use Rattle.ox_outside.proofs.Log.{grows_weaker}
 use Rattle.ox_model.specs.Machine.{empty_machine, stack_of}
@@ -16,6 +16,7 @@ use Rattle.ox_app.specs.Promises.{Serves}
 use Rattle.ox_app.specs.Serve.{DoorFails}
 use Rattle.ox_app.specs.Show.{DiskFails, EndsAtFault, EndsDone, HearFails, ShowFails, ShowsText}
 use Rattle.ox_app.specs.Status.{IsFoldStatus, status_of}
+use Rattle.ox_app.specs.Talks.{EndsTalk, RunsTalk, follower_party, leader_party}
 use Rattle.ox_app.specs.declared.status.Status.{Status}
 use Rattle.ox_app.proofs.AnyRuns.{served_in_turn}
 use Rattle.ox_app.proofs.Done.{fold_done, fold_ends, not_folded, path_same, text_done}
@@ -24,11 +25,12 @@ use Rattle.ox_app.proofs.FreshIndexing.{ends_done, fold_same, grows_alike, grows
 use Rattle.ox_outside.proofs.Counts.{no_fault_yet}
 use Rattle.ox_app.proofs.Images.{talked_old}
 use Rattle.ox_app.proofs.Opening.{ends_run}
-use Rattle.ox_app.proofs.OtherWords.{apply_isnt_drill, apply_isnt_init, apply_isnt_migrate, apply_isnt_query, apply_isnt_serve, apply_writes, drill_isnt_migrate, drill_isnt_query, drill_isnt_serve, drill_opens, drill_writes, fold_isnt_apply, fold_isnt_drill, fold_isnt_init, fold_isnt_migrate, fold_isnt_query, fold_isnt_serve, fold_opens, init_isnt_drill, init_isnt_migrate, init_isnt_query, init_isnt_serve, init_opens, init_writes, migrate_isnt_query, migrate_isnt_serve, migrate_opens, migrate_writes, query_isnt_serve, serve_writes, unknown_opens}
+use Rattle.ox_app.proofs.OtherWords.{no_opening, no_reading, other_words, unknown_opens}
 use Rattle.ox_app.proofs.Serving.{grows_of_machine, serving_of_machine, turns_same}
 use Rattle.ox_app.proofs.Settled.{said_of_each}
 use Rattle.ox_app.proofs.Statuses.{apply_refuses, ends_apart, init_refuses, migrate_done, migrate_refuses, not_apply, not_init, not_migrate, not_query, not_serve, serve_done, serve_refuses}
 use Rattle.ox_app.proofs.Stops.{said_stops, status_stops}
+use Rattle.ox_app.proofs.TalkEnds.{follow_done, follow_otherwise, follows_in_turn, lead_done, lead_otherwise, not_talk, talk_refuses, talk_stops}
 use Rattle.ox_app.specs.declared.status.Status.TheVariants as ends
 use Rattle.ox_app.proofs.program.run.Goals as goal
 
@@ -52,31 +54,34 @@ returns-in-Fold g c = record {
             (fold_done (replies_on (stack_of machine)) c.fold.result (HearFails g.S.Site c.args.site.now c.fold.new.site) (ShowFails g.S.Site c.args.site.now c.fold.new.site)
             c.fold.ensures.no_disk_fault c.fold.ensures.hear_fault c.fold.ensures.show_fault no_hear no_show) told);
       };
-  applies = λ words. absurd (fold_isnt_apply c.args.words.now c.in-Fold.name c.in-Fold.ensures words);
-  survives = λ words. absurd (fold_isnt_apply c.args.words.now c.in-Fold.name c.in-Fold.ensures words);
-  inits = λ name depth fits words. absurd (fold_isnt_init c.args.words.now c.in-Fold.name name depth c.in-Fold.ensures words);
+  applies = λ words. absurd (other_words c.in-Fold.ensures words refl);
+  survives = λ words. absurd (other_words c.in-Fold.ensures words refl);
+  inits = λ name depth fits words. absurd (other_words c.in-Fold.ensures words refl);
   not_empty = λ is. absurd ((not_folded c.fold.result c.status.result c.status.ensures c.fold.ensures.no_disk_fault).not_empty is);
   only_files = λ told is. absurd ((not_folded c.fold.result c.status.result c.status.ensures c.fold.ensures.no_disk_fault).not_empty is);
-  drills = λ n fits words. absurd (fold_isnt_drill c.args.words.now c.in-Fold.name n c.in-Fold.ensures words);
-  drill_survives = λ told n fits words. absurd (fold_isnt_drill c.args.words.now c.in-Fold.name n c.in-Fold.ensures words);
-  drill_status = λ n fits words. absurd (fold_isnt_drill c.args.words.now c.in-Fold.name n c.in-Fold.ensures words);
-  drill_completes = λ told n fits words. absurd (fold_isnt_drill c.args.words.now c.in-Fold.name n c.in-Fold.ensures words);
-  migrates = λ words. absurd (fold_isnt_migrate c.args.words.now c.in-Fold.name c.in-Fold.ensures words);
-  migrated = λ words. absurd (fold_isnt_migrate c.args.words.now c.in-Fold.name c.in-Fold.ensures words);
-  migrate_survives = λ words. absurd (fold_isnt_migrate c.args.words.now c.in-Fold.name c.in-Fold.ensures words);
-  unmigrated = λ words. absurd (fold_isnt_migrate c.args.words.now c.in-Fold.name c.in-Fold.ensures words);
-  migrate_unsaid = λ words. absurd (fold_isnt_migrate c.args.words.now c.in-Fold.name c.in-Fold.ensures words);
-  migrates_nothing = λ words. absurd (fold_isnt_migrate c.args.words.now c.in-Fold.name c.in-Fold.ensures words);
+  drills = λ n fits words. absurd (other_words c.in-Fold.ensures words refl);
+  drill_survives = λ told n fits words. absurd (other_words c.in-Fold.ensures words refl);
+  drill_status = λ n fits words. absurd (other_words c.in-Fold.ensures words refl);
+  drill_completes = λ told n fits words. absurd (other_words c.in-Fold.ensures words refl);
+  migrates = λ words. absurd (other_words c.in-Fold.ensures words refl);
+  migrated = λ words. absurd (other_words c.in-Fold.ensures words refl);
+  migrate_survives = λ words. absurd (other_words c.in-Fold.ensures words refl);
+  unmigrated = λ words. absurd (other_words c.in-Fold.ensures words refl);
+  migrate_unsaid = λ words. absurd (other_words c.in-Fold.ensures words refl);
+  migrates_nothing = λ words. absurd (other_words c.in-Fold.ensures words refl);
   no_old_store = λ words is. absurd ((not_folded c.fold.result c.status.result c.status.ensures c.fold.ensures.no_disk_fault).not_store is);
   old_command = λ is. absurd ((not_folded c.fold.result c.status.result c.status.ensures c.fold.ensures.no_disk_fault).old is);
-  migrate_memory = λ words. absurd (fold_isnt_migrate c.args.words.now c.in-Fold.name c.in-Fold.ensures words);
-  migrate_status = λ words. absurd (fold_isnt_migrate c.args.words.now c.in-Fold.name c.in-Fold.ensures words);
-  migrate_completes = λ words. absurd (fold_isnt_migrate c.args.words.now c.in-Fold.name c.in-Fold.ensures words);
-  queries = λ path words. absurd (fold_isnt_query c.args.words.now c.in-Fold.name path c.in-Fold.ensures words);
-  serves = λ turns fits words. absurd (fold_isnt_serve c.args.words.now c.in-Fold.name turns c.in-Fold.ensures words);
+  migrate_memory = λ words. absurd (other_words c.in-Fold.ensures words refl);
+  migrate_status = λ words. absurd (other_words c.in-Fold.ensures words refl);
+  migrate_completes = λ words. absurd (other_words c.in-Fold.ensures words refl);
+  queries = λ path words. absurd (other_words c.in-Fold.ensures words refl);
+  serves = λ turns fits words. absurd (other_words c.in-Fold.ensures words refl);
   door_fault = λ is. absurd ((not_folded c.fold.result c.status.result c.status.ensures c.fold.ensures.no_disk_fault).door is);
-  unopened = λ opening. absurd (fold_opens c.args.words.now c.in-Fold.name c.in-Fold.ensures opening);
-  not_store = λ others is. absurd ((not_folded c.fold.result c.status.result c.status.ensures c.fold.ensures.no_disk_fault).not_store is);
+  leads = λ words. absurd (other_words words c.in-Fold.ensures refl);
+  follows = λ words. absurd (other_words words c.in-Fold.ensures refl);
+  follow_survives = λ words. absurd (other_words words c.in-Fold.ensures refl);
+  unopened = λ opening. absurd (no_opening c.in-Fold.ensures (refl, refl, refl, refl, refl) opening);
+  not_store = λ no_migrate no_lead no_follow is. absurd ((not_folded c.fold.result c.status.result c.status.ensures c.fold.ensures.no_disk_fault).not_store is);
   usage = λ unknown. absurd (unknown.no_fold c.in-Fold.name c.in-Fold.ensures);
   usage_status = λ unknown. absurd (unknown.no_fold c.in-Fold.name c.in-Fold.ensures);
   no_image = λ either. talked_old g.S.Site _ c.args.site.now c.fold.new.site c.fold.ensures.talks;
@@ -91,9 +96,9 @@ returns-in-Fold g c = record {
 -- ---- `init`
 pub returns-in-Init : goal.returns-in-Init
 returns-in-Init g c = record {
-  folds = λ name words. absurd (fold_isnt_init c.args.words.now name c.in-Init.name c.in-Init.depth words c.in-Init.ensures.1);
-  applies = λ words. absurd (apply_isnt_init c.args.words.now c.in-Init.name c.in-Init.depth words c.in-Init.ensures.1);
-  survives = λ words. absurd (apply_isnt_init c.args.words.now c.in-Init.name c.in-Init.depth words c.in-Init.ensures.1);
+  folds = λ name words. absurd (other_words words c.in-Init.ensures.1 refl);
+  applies = λ words. absurd (other_words words c.in-Init.ensures.1 refl);
+  survives = λ words. absurd (other_words words c.in-Init.ensures.1 refl);
   inits = λ name depth fits words. let same = init_same c.in-Init.name name c.in-Init.depth depth c.in-Init.ensures.0 fits (sym c.in-Init.ensures.1 ∙ words) in
       record {
         inits = c.init.ensures.shows;
@@ -114,29 +119,32 @@ returns-in-Init g c = record {
       };
   not_empty = λ is. c.init.ensures.not_empty is;
   only_files = λ told is. c.init.ensures.only_empty told is;
-  drills = λ n fits words. absurd (init_isnt_drill c.args.words.now c.in-Init.name c.in-Init.depth n c.in-Init.ensures.1 words);
-  drill_survives = λ told n fits words. absurd (init_isnt_drill c.args.words.now c.in-Init.name c.in-Init.depth n c.in-Init.ensures.1 words);
-  drill_status = λ n fits words. absurd (init_isnt_drill c.args.words.now c.in-Init.name c.in-Init.depth n c.in-Init.ensures.1 words);
-  drill_completes = λ told n fits words. absurd (init_isnt_drill c.args.words.now c.in-Init.name c.in-Init.depth n c.in-Init.ensures.1 words);
-  migrates = λ words. absurd (init_isnt_migrate c.args.words.now c.in-Init.name c.in-Init.depth c.in-Init.ensures.1 words);
-  migrated = λ words. absurd (init_isnt_migrate c.args.words.now c.in-Init.name c.in-Init.depth c.in-Init.ensures.1 words);
-  migrate_survives = λ words. absurd (init_isnt_migrate c.args.words.now c.in-Init.name c.in-Init.depth c.in-Init.ensures.1 words);
-  unmigrated = λ words. absurd (init_isnt_migrate c.args.words.now c.in-Init.name c.in-Init.depth c.in-Init.ensures.1 words);
-  migrate_unsaid = λ words. absurd (init_isnt_migrate c.args.words.now c.in-Init.name c.in-Init.depth c.in-Init.ensures.1 words);
-  migrates_nothing = λ words. absurd (init_isnt_migrate c.args.words.now c.in-Init.name c.in-Init.depth c.in-Init.ensures.1 words);
+  drills = λ n fits words. absurd (other_words c.in-Init.ensures.1 words refl);
+  drill_survives = λ told n fits words. absurd (other_words c.in-Init.ensures.1 words refl);
+  drill_status = λ n fits words. absurd (other_words c.in-Init.ensures.1 words refl);
+  drill_completes = λ told n fits words. absurd (other_words c.in-Init.ensures.1 words refl);
+  migrates = λ words. absurd (other_words c.in-Init.ensures.1 words refl);
+  migrated = λ words. absurd (other_words c.in-Init.ensures.1 words refl);
+  migrate_survives = λ words. absurd (other_words c.in-Init.ensures.1 words refl);
+  unmigrated = λ words. absurd (other_words c.in-Init.ensures.1 words refl);
+  migrate_unsaid = λ words. absurd (other_words c.in-Init.ensures.1 words refl);
+  migrates_nothing = λ words. absurd (other_words c.in-Init.ensures.1 words refl);
   no_old_store = λ words is. absurd ((not_init c.init.result c.init.ensures.status).not_store is);
   old_command = λ is. absurd ((not_init c.init.result c.init.ensures.status).old is);
-  migrate_memory = λ words. absurd (init_isnt_migrate c.args.words.now c.in-Init.name c.in-Init.depth c.in-Init.ensures.1 words);
-  migrate_status = λ words. absurd (init_isnt_migrate c.args.words.now c.in-Init.name c.in-Init.depth c.in-Init.ensures.1 words);
-  migrate_completes = λ words. absurd (init_isnt_migrate c.args.words.now c.in-Init.name c.in-Init.depth c.in-Init.ensures.1 words);
-  queries = λ path words. absurd (init_isnt_query c.args.words.now c.in-Init.name c.in-Init.depth path c.in-Init.ensures.1 words);
-  serves = λ turns fits words. absurd (init_isnt_serve c.args.words.now c.in-Init.name c.in-Init.depth turns c.in-Init.ensures.1 words);
+  migrate_memory = λ words. absurd (other_words c.in-Init.ensures.1 words refl);
+  migrate_status = λ words. absurd (other_words c.in-Init.ensures.1 words refl);
+  migrate_completes = λ words. absurd (other_words c.in-Init.ensures.1 words refl);
+  queries = λ path words. absurd (other_words c.in-Init.ensures.1 words refl);
+  serves = λ turns fits words. absurd (other_words c.in-Init.ensures.1 words refl);
   door_fault = λ is. absurd ((not_init c.init.result c.init.ensures.status).door is);
-  unopened = λ opening. absurd (init_opens c.args.words.now c.in-Init.name c.in-Init.depth c.in-Init.ensures.1 opening);
-  not_store = λ others is. absurd ((not_init c.init.result c.init.ensures.status).not_store is);
+  leads = λ words. absurd (other_words words c.in-Init.ensures.1 refl);
+  follows = λ words. absurd (other_words words c.in-Init.ensures.1 refl);
+  follow_survives = λ words. absurd (other_words words c.in-Init.ensures.1 refl);
+  unopened = λ opening. absurd (no_opening c.in-Init.ensures.1 (refl, refl, refl, refl, refl) opening);
+  not_store = λ no_migrate no_lead no_follow is. absurd ((not_init c.init.result c.init.ensures.status).not_store is);
   usage = λ unknown. absurd (unknown.no_init c.in-Init.name c.in-Init.depth c.in-Init.ensures.0 c.in-Init.ensures.1);
   usage_status = λ unknown. absurd (unknown.no_init c.in-Init.name c.in-Init.depth c.in-Init.ensures.0 c.in-Init.ensures.1);
-  no_image = ⊎_elim (λ reading. absurd (init_writes c.args.words.now c.in-Init.name c.in-Init.depth c.in-Init.ensures.1 reading))
+  no_image = ⊎_elim (λ reading. absurd (no_reading c.in-Init.ensures.1 (refl, refl, refl) reading))
       (λ refuses. c.init.ensures.looks (inl (init_refuses c.init.result c.init.ensures.status refuses)));
   disk_fault = λ is. c.init.ensures.disk_fault is;
   hear_fault = λ is. absurd ((not_init c.init.result c.init.ensures.status).hear is);
@@ -148,7 +156,7 @@ returns-in-Init g c = record {
 -- ---- `apply`
 pub returns-in-Apply : goal.returns-in-Apply
 returns-in-Apply g c = record {
-  folds = λ name words. absurd (fold_isnt_apply c.args.words.now name words c.in-Apply.ensures);
+  folds = λ name words. absurd (other_words words c.in-Apply.ensures refl);
   applies = λ words. record {
     applies = λ machine opened.
         let feeds = c.apply.ensures.feeds opened.told (stack_of machine) opened.stands_for in
@@ -177,36 +185,39 @@ returns-in-Apply g c = record {
         events c.apply.ensures.status feeds.0 c.apply.ensures.disk_fault c.apply.ensures.hear_fault c.apply.ensures.show_fault no_disk no_hear no_show runs) feeds.1;
   };
   survives = λ words machine opened. leaves_alike g.S.Site machine c.args.site.now c.apply.new.site (c.apply.ensures.survives opened.told (stack_of machine) opened.stands_for);
-  inits = λ name depth fits words. absurd (apply_isnt_init c.args.words.now name depth c.in-Apply.ensures words);
+  inits = λ name depth fits words. absurd (other_words c.in-Apply.ensures words refl);
   not_empty = λ is. absurd ((not_apply c.apply.result c.apply.ensures.status).not_empty is);
   only_files = λ told is. absurd ((not_apply c.apply.result c.apply.ensures.status).not_empty is);
-  drills = λ n fits words. absurd (apply_isnt_drill c.args.words.now n c.in-Apply.ensures words);
-  drill_survives = λ told n fits words. absurd (apply_isnt_drill c.args.words.now n c.in-Apply.ensures words);
-  drill_status = λ n fits words. absurd (apply_isnt_drill c.args.words.now n c.in-Apply.ensures words);
-  drill_completes = λ told n fits words. absurd (apply_isnt_drill c.args.words.now n c.in-Apply.ensures words);
-  migrates = λ words. absurd (apply_isnt_migrate c.args.words.now c.in-Apply.ensures words);
-  migrated = λ words. absurd (apply_isnt_migrate c.args.words.now c.in-Apply.ensures words);
-  migrate_survives = λ words. absurd (apply_isnt_migrate c.args.words.now c.in-Apply.ensures words);
-  unmigrated = λ words. absurd (apply_isnt_migrate c.args.words.now c.in-Apply.ensures words);
-  migrate_unsaid = λ words. absurd (apply_isnt_migrate c.args.words.now c.in-Apply.ensures words);
-  migrates_nothing = λ words. absurd (apply_isnt_migrate c.args.words.now c.in-Apply.ensures words);
-  no_old_store = λ words. absurd (apply_isnt_migrate c.args.words.now c.in-Apply.ensures words);
+  drills = λ n fits words. absurd (other_words c.in-Apply.ensures words refl);
+  drill_survives = λ told n fits words. absurd (other_words c.in-Apply.ensures words refl);
+  drill_status = λ n fits words. absurd (other_words c.in-Apply.ensures words refl);
+  drill_completes = λ told n fits words. absurd (other_words c.in-Apply.ensures words refl);
+  migrates = λ words. absurd (other_words c.in-Apply.ensures words refl);
+  migrated = λ words. absurd (other_words c.in-Apply.ensures words refl);
+  migrate_survives = λ words. absurd (other_words c.in-Apply.ensures words refl);
+  unmigrated = λ words. absurd (other_words c.in-Apply.ensures words refl);
+  migrate_unsaid = λ words. absurd (other_words c.in-Apply.ensures words refl);
+  migrates_nothing = λ words. absurd (other_words c.in-Apply.ensures words refl);
+  no_old_store = λ words. absurd (other_words c.in-Apply.ensures words refl);
   old_command = λ is. absurd ((not_apply c.apply.result c.apply.ensures.status).old is);
-  migrate_memory = λ words. absurd (apply_isnt_migrate c.args.words.now c.in-Apply.ensures words);
-  migrate_status = λ words. absurd (apply_isnt_migrate c.args.words.now c.in-Apply.ensures words);
-  migrate_completes = λ words. absurd (apply_isnt_migrate c.args.words.now c.in-Apply.ensures words);
-  queries = λ path words. absurd (apply_isnt_query c.args.words.now path c.in-Apply.ensures words);
-  serves = λ turns fits words. absurd (apply_isnt_serve c.args.words.now turns c.in-Apply.ensures words);
+  migrate_memory = λ words. absurd (other_words c.in-Apply.ensures words refl);
+  migrate_status = λ words. absurd (other_words c.in-Apply.ensures words refl);
+  migrate_completes = λ words. absurd (other_words c.in-Apply.ensures words refl);
+  queries = λ path words. absurd (other_words c.in-Apply.ensures words refl);
+  serves = λ turns fits words. absurd (other_words c.in-Apply.ensures words refl);
   door_fault = λ is. absurd ((not_apply c.apply.result c.apply.ensures.status).door is);
+  leads = λ words. absurd (other_words words c.in-Apply.ensures refl);
+  follows = λ words. absurd (other_words words c.in-Apply.ensures refl);
+  follow_survives = λ words. absurd (other_words words c.in-Apply.ensures refl);
   unopened = λ opening misfit stood. record {
     unopened = c.apply.ensures.unopened stood.told misfit stood.fails;
     unsaid = c.apply.ensures.unsaid stood.told misfit stood.fails;
     opens_nothing = c.apply.ensures.looks stood.told misfit stood.fails;
   };
-  not_store = λ others is. c.apply.ensures.not_store is;
+  not_store = λ no_migrate no_lead no_follow is. c.apply.ensures.not_store is;
   usage = λ unknown. absurd (unknown.no_apply c.in-Apply.ensures);
   usage_status = λ unknown. absurd (unknown.no_apply c.in-Apply.ensures);
-  no_image = ⊎_elim (λ reading. absurd (apply_writes c.args.words.now c.in-Apply.ensures reading))
+  no_image = ⊎_elim (λ reading. absurd (no_reading c.in-Apply.ensures (refl, refl, refl) reading))
       (λ refuses. c.apply.ensures.no_store (apply_refuses c.apply.result c.apply.ensures.status refuses));
   disk_fault = λ is. c.apply.ensures.disk_fault is;
   hear_fault = λ is. c.apply.ensures.hear_fault is;
@@ -218,27 +229,27 @@ returns-in-Apply g c = record {
 -- ---- `query`
 pub returns-in-Query : goal.returns-in-Query
 returns-in-Query g c = record {
-  folds = λ name words. absurd (fold_isnt_query c.args.words.now name c.in-Query.path.now words c.in-Query.ensures);
-  applies = λ words. absurd (apply_isnt_query c.args.words.now c.in-Query.path.now words c.in-Query.ensures);
-  survives = λ words. absurd (apply_isnt_query c.args.words.now c.in-Query.path.now words c.in-Query.ensures);
-  inits = λ name depth fits words. absurd (init_isnt_query c.args.words.now name depth c.in-Query.path.now words c.in-Query.ensures);
+  folds = λ name words. absurd (other_words words c.in-Query.ensures refl);
+  applies = λ words. absurd (other_words words c.in-Query.ensures refl);
+  survives = λ words. absurd (other_words words c.in-Query.ensures refl);
+  inits = λ name depth fits words. absurd (other_words words c.in-Query.ensures refl);
   not_empty = λ is. absurd ((not_query c.query.result c.query.ensures.status).not_empty is);
   only_files = λ told is. absurd ((not_query c.query.result c.query.ensures.status).not_empty is);
-  drills = λ n fits words. absurd (drill_isnt_query c.args.words.now n c.in-Query.path.now words c.in-Query.ensures);
-  drill_survives = λ told n fits words. absurd (drill_isnt_query c.args.words.now n c.in-Query.path.now words c.in-Query.ensures);
-  drill_status = λ n fits words. absurd (drill_isnt_query c.args.words.now n c.in-Query.path.now words c.in-Query.ensures);
-  drill_completes = λ told n fits words. absurd (drill_isnt_query c.args.words.now n c.in-Query.path.now words c.in-Query.ensures);
-  migrates = λ words. absurd (migrate_isnt_query c.args.words.now c.in-Query.path.now words c.in-Query.ensures);
-  migrated = λ words. absurd (migrate_isnt_query c.args.words.now c.in-Query.path.now words c.in-Query.ensures);
-  migrate_survives = λ words. absurd (migrate_isnt_query c.args.words.now c.in-Query.path.now words c.in-Query.ensures);
-  unmigrated = λ words. absurd (migrate_isnt_query c.args.words.now c.in-Query.path.now words c.in-Query.ensures);
-  migrate_unsaid = λ words. absurd (migrate_isnt_query c.args.words.now c.in-Query.path.now words c.in-Query.ensures);
-  migrates_nothing = λ words. absurd (migrate_isnt_query c.args.words.now c.in-Query.path.now words c.in-Query.ensures);
-  no_old_store = λ words. absurd (migrate_isnt_query c.args.words.now c.in-Query.path.now words c.in-Query.ensures);
+  drills = λ n fits words. absurd (other_words words c.in-Query.ensures refl);
+  drill_survives = λ told n fits words. absurd (other_words words c.in-Query.ensures refl);
+  drill_status = λ n fits words. absurd (other_words words c.in-Query.ensures refl);
+  drill_completes = λ told n fits words. absurd (other_words words c.in-Query.ensures refl);
+  migrates = λ words. absurd (other_words words c.in-Query.ensures refl);
+  migrated = λ words. absurd (other_words words c.in-Query.ensures refl);
+  migrate_survives = λ words. absurd (other_words words c.in-Query.ensures refl);
+  unmigrated = λ words. absurd (other_words words c.in-Query.ensures refl);
+  migrate_unsaid = λ words. absurd (other_words words c.in-Query.ensures refl);
+  migrates_nothing = λ words. absurd (other_words words c.in-Query.ensures refl);
+  no_old_store = λ words. absurd (other_words words c.in-Query.ensures refl);
   old_command = λ is. absurd ((not_query c.query.result c.query.ensures.status).old is);
-  migrate_memory = λ words. absurd (migrate_isnt_query c.args.words.now c.in-Query.path.now words c.in-Query.ensures);
-  migrate_status = λ words. absurd (migrate_isnt_query c.args.words.now c.in-Query.path.now words c.in-Query.ensures);
-  migrate_completes = λ words. absurd (migrate_isnt_query c.args.words.now c.in-Query.path.now words c.in-Query.ensures);
+  migrate_memory = λ words. absurd (other_words words c.in-Query.ensures refl);
+  migrate_status = λ words. absurd (other_words words c.in-Query.ensures refl);
+  migrate_completes = λ words. absurd (other_words words c.in-Query.ensures refl);
   queries = λ path words. let same = path_same c.in-Query.path.now path (sym c.in-Query.ensures ∙ words) in
       record {
         queries = λ stack opened.
@@ -249,14 +260,17 @@ returns-in-Query g c = record {
             text_done c.query.result ends.NotStore (DiskFails g.S.Site c.args.site.now c.query.new.site) (ShowFails g.S.Site c.args.site.now c.query.new.site)
             c.query.ensures.status (c.query.ensures.shows opened.told stack opened.stands_for).0 c.query.ensures.disk_fault c.query.ensures.show_fault no_disk no_show;
       };
-  serves = λ turns fits words. absurd (query_isnt_serve c.args.words.now c.in-Query.path.now turns c.in-Query.ensures words);
+  serves = λ turns fits words. absurd (other_words c.in-Query.ensures words refl);
   door_fault = λ is. absurd ((not_query c.query.result c.query.ensures.status).door is);
+  leads = λ words. absurd (other_words words c.in-Query.ensures refl);
+  follows = λ words. absurd (other_words words c.in-Query.ensures refl);
+  follow_survives = λ words. absurd (other_words words c.in-Query.ensures refl);
   unopened = λ opening misfit stood. record {
     unopened = c.query.ensures.unopened stood.told misfit stood.fails;
     unsaid = c.query.ensures.unsaid stood.told misfit stood.fails;
     opens_nothing = c.query.ensures.looks;
   };
-  not_store = λ others is. c.query.ensures.not_store is;
+  not_store = λ no_migrate no_lead no_follow is. c.query.ensures.not_store is;
   usage = λ unknown. absurd (unknown.no_query c.in-Query.path.now c.in-Query.ensures);
   usage_status = λ unknown. absurd (unknown.no_query c.in-Query.path.now c.in-Query.ensures);
   no_image = λ either. c.query.ensures.looks;
@@ -270,28 +284,28 @@ returns-in-Query g c = record {
 -- ---- `serve`
 pub returns-in-Serve : goal.returns-in-Serve
 returns-in-Serve g c = record {
-  folds = λ name words. absurd (fold_isnt_serve c.args.words.now name c.in-Serve.turns words c.in-Serve.ensures.1);
-  applies = λ words. absurd (apply_isnt_serve c.args.words.now c.in-Serve.turns words c.in-Serve.ensures.1);
-  survives = λ words. absurd (apply_isnt_serve c.args.words.now c.in-Serve.turns words c.in-Serve.ensures.1);
-  inits = λ name depth fits words. absurd (init_isnt_serve c.args.words.now name depth c.in-Serve.turns words c.in-Serve.ensures.1);
+  folds = λ name words. absurd (other_words words c.in-Serve.ensures.1 refl);
+  applies = λ words. absurd (other_words words c.in-Serve.ensures.1 refl);
+  survives = λ words. absurd (other_words words c.in-Serve.ensures.1 refl);
+  inits = λ name depth fits words. absurd (other_words words c.in-Serve.ensures.1 refl);
   not_empty = λ is. absurd ((not_serve c.serve.result c.serve.ensures.status).not_empty is);
   only_files = λ told is. absurd ((not_serve c.serve.result c.serve.ensures.status).not_empty is);
-  drills = λ n fits words. absurd (drill_isnt_serve c.args.words.now n c.in-Serve.turns words c.in-Serve.ensures.1);
-  drill_survives = λ told n fits words. absurd (drill_isnt_serve c.args.words.now n c.in-Serve.turns words c.in-Serve.ensures.1);
-  drill_status = λ n fits words. absurd (drill_isnt_serve c.args.words.now n c.in-Serve.turns words c.in-Serve.ensures.1);
-  drill_completes = λ told n fits words. absurd (drill_isnt_serve c.args.words.now n c.in-Serve.turns words c.in-Serve.ensures.1);
-  migrates = λ words. absurd (migrate_isnt_serve c.args.words.now c.in-Serve.turns words c.in-Serve.ensures.1);
-  migrated = λ words. absurd (migrate_isnt_serve c.args.words.now c.in-Serve.turns words c.in-Serve.ensures.1);
-  migrate_survives = λ words. absurd (migrate_isnt_serve c.args.words.now c.in-Serve.turns words c.in-Serve.ensures.1);
-  unmigrated = λ words. absurd (migrate_isnt_serve c.args.words.now c.in-Serve.turns words c.in-Serve.ensures.1);
-  migrate_unsaid = λ words. absurd (migrate_isnt_serve c.args.words.now c.in-Serve.turns words c.in-Serve.ensures.1);
-  migrates_nothing = λ words. absurd (migrate_isnt_serve c.args.words.now c.in-Serve.turns words c.in-Serve.ensures.1);
-  no_old_store = λ words. absurd (migrate_isnt_serve c.args.words.now c.in-Serve.turns words c.in-Serve.ensures.1);
+  drills = λ n fits words. absurd (other_words words c.in-Serve.ensures.1 refl);
+  drill_survives = λ told n fits words. absurd (other_words words c.in-Serve.ensures.1 refl);
+  drill_status = λ n fits words. absurd (other_words words c.in-Serve.ensures.1 refl);
+  drill_completes = λ told n fits words. absurd (other_words words c.in-Serve.ensures.1 refl);
+  migrates = λ words. absurd (other_words words c.in-Serve.ensures.1 refl);
+  migrated = λ words. absurd (other_words words c.in-Serve.ensures.1 refl);
+  migrate_survives = λ words. absurd (other_words words c.in-Serve.ensures.1 refl);
+  unmigrated = λ words. absurd (other_words words c.in-Serve.ensures.1 refl);
+  migrate_unsaid = λ words. absurd (other_words words c.in-Serve.ensures.1 refl);
+  migrates_nothing = λ words. absurd (other_words words c.in-Serve.ensures.1 refl);
+  no_old_store = λ words. absurd (other_words words c.in-Serve.ensures.1 refl);
   old_command = λ is. absurd ((not_serve c.serve.result c.serve.ensures.status).old is);
-  migrate_memory = λ words. absurd (migrate_isnt_serve c.args.words.now c.in-Serve.turns words c.in-Serve.ensures.1);
-  migrate_status = λ words. absurd (migrate_isnt_serve c.args.words.now c.in-Serve.turns words c.in-Serve.ensures.1);
-  migrate_completes = λ words. absurd (migrate_isnt_serve c.args.words.now c.in-Serve.turns words c.in-Serve.ensures.1);
-  queries = λ path words. absurd (query_isnt_serve c.args.words.now path c.in-Serve.turns words c.in-Serve.ensures.1);
+  migrate_memory = λ words. absurd (other_words words c.in-Serve.ensures.1 refl);
+  migrate_status = λ words. absurd (other_words words c.in-Serve.ensures.1 refl);
+  migrate_completes = λ words. absurd (other_words words c.in-Serve.ensures.1 refl);
+  queries = λ path words. absurd (other_words words c.in-Serve.ensures.1 refl);
   serves = λ turns fits words.
       let site = g.S.Site in
       let old = c.args.site.now in
@@ -313,15 +327,18 @@ returns-in-Serve g c = record {
             (c.serve.ensures.serves opened.told stack opened.stands_for).0 c.serve.ensures.disk_fault c.serve.ensures.door_fault c.serve.ensures.show_fault no_disk no_door no_show;
       });
   door_fault = λ is. c.serve.ensures.door_fault is;
+  leads = λ words. absurd (other_words words c.in-Serve.ensures.1 refl);
+  follows = λ words. absurd (other_words words c.in-Serve.ensures.1 refl);
+  follow_survives = λ words. absurd (other_words words c.in-Serve.ensures.1 refl);
   unopened = λ opening misfit stood. record {
     unopened = c.serve.ensures.unopened stood.told misfit stood.fails;
     unsaid = c.serve.ensures.unsaid stood.told misfit stood.fails;
     opens_nothing = c.serve.ensures.looks stood.told misfit stood.fails;
   };
-  not_store = λ others is. c.serve.ensures.not_store is;
+  not_store = λ no_migrate no_lead no_follow is. c.serve.ensures.not_store is;
   usage = λ unknown. absurd (unknown.no_serve c.in-Serve.turns c.in-Serve.ensures.0 c.in-Serve.ensures.1);
   usage_status = λ unknown. absurd (unknown.no_serve c.in-Serve.turns c.in-Serve.ensures.0 c.in-Serve.ensures.1);
-  no_image = ⊎_elim (λ reading. absurd (serve_writes c.args.words.now c.in-Serve.turns c.in-Serve.ensures.1 reading))
+  no_image = ⊎_elim (λ reading. absurd (no_reading c.in-Serve.ensures.1 (refl, refl, refl) reading))
       (λ refuses. c.serve.ensures.no_store (serve_refuses c.serve.result c.serve.ensures.status refuses));
   disk_fault = λ is. c.serve.ensures.disk_fault is;
   hear_fault = λ is. absurd ((not_serve c.serve.result c.serve.ensures.status).hear is);
@@ -333,10 +350,10 @@ returns-in-Serve g c = record {
 -- ---- `drill`
 pub returns-in-Drill : goal.returns-in-Drill
 returns-in-Drill g c = record {
-  folds = λ name words. absurd (fold_isnt_drill c.args.words.now name c.in-Drill.n words c.in-Drill.ensures.1);
-  applies = λ words. absurd (apply_isnt_drill c.args.words.now c.in-Drill.n words c.in-Drill.ensures.1);
-  survives = λ words. absurd (apply_isnt_drill c.args.words.now c.in-Drill.n words c.in-Drill.ensures.1);
-  inits = λ name depth fits words. absurd (init_isnt_drill c.args.words.now name depth c.in-Drill.n words c.in-Drill.ensures.1);
+  folds = λ name words. absurd (other_words words c.in-Drill.ensures.1 refl);
+  applies = λ words. absurd (other_words words c.in-Drill.ensures.1 refl);
+  survives = λ words. absurd (other_words words c.in-Drill.ensures.1 refl);
+  inits = λ name depth fits words. absurd (other_words words c.in-Drill.ensures.1 refl);
   not_empty = λ is. c.drill.ensures.not_empty is;
   only_files = λ told is. c.drill.ensures.only_files told is;
   drills = λ n fits words isnt. let same = lengths_same c.in-Drill.n n c.in-Drill.ensures.0 fits (sym c.in-Drill.ensures.1 ∙ words) in
@@ -345,25 +362,28 @@ returns-in-Drill g c = record {
       subst (λ (m : ℕ). RunsDrill g.S.Site m c.drill.result c.args.site.now c.drill.new.site) same (c.drill.ensures.runs told);
   drill_status = λ n fits words. c.drill.ensures.status;
   drill_completes = λ told n fits words empty no_disk no_show. text_done c.drill.result ends.NotEmpty (DiskFails g.S.Site c.args.site.now c.drill.new.site) (ShowFails g.S.Site c.args.site.now c.drill.new.site) c.drill.ensures.status (λ is. c.drill.ensures.only_files told is empty) c.drill.ensures.disk_fault c.drill.ensures.show_fault no_disk no_show;
-  migrates = λ words. absurd (drill_isnt_migrate c.args.words.now c.in-Drill.n c.in-Drill.ensures.1 words);
-  migrated = λ words. absurd (drill_isnt_migrate c.args.words.now c.in-Drill.n c.in-Drill.ensures.1 words);
-  migrate_survives = λ words. absurd (drill_isnt_migrate c.args.words.now c.in-Drill.n c.in-Drill.ensures.1 words);
-  unmigrated = λ words. absurd (drill_isnt_migrate c.args.words.now c.in-Drill.n c.in-Drill.ensures.1 words);
-  migrate_unsaid = λ words. absurd (drill_isnt_migrate c.args.words.now c.in-Drill.n c.in-Drill.ensures.1 words);
-  migrates_nothing = λ words. absurd (drill_isnt_migrate c.args.words.now c.in-Drill.n c.in-Drill.ensures.1 words);
+  migrates = λ words. absurd (other_words c.in-Drill.ensures.1 words refl);
+  migrated = λ words. absurd (other_words c.in-Drill.ensures.1 words refl);
+  migrate_survives = λ words. absurd (other_words c.in-Drill.ensures.1 words refl);
+  unmigrated = λ words. absurd (other_words c.in-Drill.ensures.1 words refl);
+  migrate_unsaid = λ words. absurd (other_words c.in-Drill.ensures.1 words refl);
+  migrates_nothing = λ words. absurd (other_words c.in-Drill.ensures.1 words refl);
   no_old_store = λ words is. absurd ((not_init c.drill.result c.drill.ensures.status).not_store is);
   old_command = λ is. absurd ((not_init c.drill.result c.drill.ensures.status).old is);
-  migrate_memory = λ words. absurd (drill_isnt_migrate c.args.words.now c.in-Drill.n c.in-Drill.ensures.1 words);
-  migrate_status = λ words. absurd (drill_isnt_migrate c.args.words.now c.in-Drill.n c.in-Drill.ensures.1 words);
-  migrate_completes = λ words. absurd (drill_isnt_migrate c.args.words.now c.in-Drill.n c.in-Drill.ensures.1 words);
-  queries = λ path words. absurd (drill_isnt_query c.args.words.now c.in-Drill.n path c.in-Drill.ensures.1 words);
-  serves = λ turns fits words. absurd (drill_isnt_serve c.args.words.now c.in-Drill.n turns c.in-Drill.ensures.1 words);
+  migrate_memory = λ words. absurd (other_words c.in-Drill.ensures.1 words refl);
+  migrate_status = λ words. absurd (other_words c.in-Drill.ensures.1 words refl);
+  migrate_completes = λ words. absurd (other_words c.in-Drill.ensures.1 words refl);
+  queries = λ path words. absurd (other_words c.in-Drill.ensures.1 words refl);
+  serves = λ turns fits words. absurd (other_words c.in-Drill.ensures.1 words refl);
   door_fault = λ is. absurd ((not_init c.drill.result c.drill.ensures.status).door is);
-  unopened = λ opening. absurd (drill_opens c.args.words.now c.in-Drill.n c.in-Drill.ensures.1 opening);
-  not_store = λ others is. absurd ((not_init c.drill.result c.drill.ensures.status).not_store is);
+  leads = λ words. absurd (other_words words c.in-Drill.ensures.1 refl);
+  follows = λ words. absurd (other_words words c.in-Drill.ensures.1 refl);
+  follow_survives = λ words. absurd (other_words words c.in-Drill.ensures.1 refl);
+  unopened = λ opening. absurd (no_opening c.in-Drill.ensures.1 (refl, refl, refl, refl, refl) opening);
+  not_store = λ no_migrate no_lead no_follow is. absurd ((not_init c.drill.result c.drill.ensures.status).not_store is);
   usage = λ unknown. absurd (unknown.no_drill c.in-Drill.n c.in-Drill.ensures.0 c.in-Drill.ensures.1);
   usage_status = λ unknown. absurd (unknown.no_drill c.in-Drill.n c.in-Drill.ensures.0 c.in-Drill.ensures.1);
-  no_image = ⊎_elim (λ reading. absurd (drill_writes c.args.words.now c.in-Drill.n c.in-Drill.ensures.1 reading))
+  no_image = ⊎_elim (λ reading. absurd (no_reading c.in-Drill.ensures.1 (refl, refl, refl) reading))
       (λ refuses. c.drill.ensures.looks (init_refuses c.drill.result c.drill.ensures.status refuses));
   disk_fault = λ is. c.drill.ensures.disk_fault is;
   hear_fault = λ is. absurd ((not_init c.drill.result c.drill.ensures.status).hear is);
@@ -375,16 +395,16 @@ returns-in-Drill g c = record {
 -- ---- `migrate`
 pub returns-in-Migrate : goal.returns-in-Migrate
 returns-in-Migrate g c = record {
-  folds = λ name words. absurd (fold_isnt_migrate c.args.words.now name words c.in-Migrate.ensures);
-  applies = λ words. absurd (apply_isnt_migrate c.args.words.now words c.in-Migrate.ensures);
-  survives = λ words. absurd (apply_isnt_migrate c.args.words.now words c.in-Migrate.ensures);
-  inits = λ name depth fits words. absurd (init_isnt_migrate c.args.words.now name depth words c.in-Migrate.ensures);
+  folds = λ name words. absurd (other_words words c.in-Migrate.ensures refl);
+  applies = λ words. absurd (other_words words c.in-Migrate.ensures refl);
+  survives = λ words. absurd (other_words words c.in-Migrate.ensures refl);
+  inits = λ name depth fits words. absurd (other_words words c.in-Migrate.ensures refl);
   not_empty = λ is. absurd ((not_migrate c.migrate.result c.migrate.ensures.status).not_empty is);
   only_files = λ told is. absurd ((not_migrate c.migrate.result c.migrate.ensures.status).not_empty is);
-  drills = λ n fits words. absurd (drill_isnt_migrate c.args.words.now n words c.in-Migrate.ensures);
-  drill_survives = λ told n fits words. absurd (drill_isnt_migrate c.args.words.now n words c.in-Migrate.ensures);
-  drill_status = λ n fits words. absurd (drill_isnt_migrate c.args.words.now n words c.in-Migrate.ensures);
-  drill_completes = λ told n fits words. absurd (drill_isnt_migrate c.args.words.now n words c.in-Migrate.ensures);
+  drills = λ n fits words. absurd (other_words words c.in-Migrate.ensures refl);
+  drill_survives = λ told n fits words. absurd (other_words words c.in-Migrate.ensures refl);
+  drill_status = λ n fits words. absurd (other_words words c.in-Migrate.ensures refl);
+  drill_completes = λ told n fits words. absurd (other_words words c.in-Migrate.ensures refl);
   migrates = λ words stack commands opened. c.migrate.ensures.shows opened.told stack commands opened.stands_for;
   migrated = λ words stack commands opened is. c.migrate.ensures.migrated opened.told stack commands opened.stands_for is;
   migrate_survives = λ words stack commands opened. c.migrate.ensures.survives opened.told stack commands opened.stands_for;
@@ -397,20 +417,127 @@ returns-in-Migrate g c = record {
   migrate_status = λ words. c.migrate.ensures.status;
   migrate_completes = λ words stack commands opened no_disk no_show. let shows = c.migrate.ensures.shows opened.told stack commands opened.stands_for in
       migrate_done c.migrate.result (DiskFails g.S.Site c.args.site.now c.migrate.new.site) (ShowFails g.S.Site c.args.site.now c.migrate.new.site) c.migrate.ensures.status shows.0 shows.1 c.migrate.ensures.disk_fault c.migrate.ensures.show_fault no_disk no_show;
-  queries = λ path words. absurd (migrate_isnt_query c.args.words.now path c.in-Migrate.ensures words);
-  serves = λ turns fits words. absurd (migrate_isnt_serve c.args.words.now turns c.in-Migrate.ensures words);
+  queries = λ path words. absurd (other_words c.in-Migrate.ensures words refl);
+  serves = λ turns fits words. absurd (other_words c.in-Migrate.ensures words refl);
   door_fault = λ is. absurd ((not_migrate c.migrate.result c.migrate.ensures.status).door is);
-  unopened = λ opening. absurd (migrate_opens c.args.words.now c.in-Migrate.ensures opening);
-  not_store = λ others is. absurd (others c.in-Migrate.ensures);
+  leads = λ words. absurd (other_words words c.in-Migrate.ensures refl);
+  follows = λ words. absurd (other_words words c.in-Migrate.ensures refl);
+  follow_survives = λ words. absurd (other_words words c.in-Migrate.ensures refl);
+  unopened = λ opening. absurd (no_opening c.in-Migrate.ensures (refl, refl, refl, refl, refl) opening);
+  not_store = λ no_migrate no_lead no_follow is. absurd (no_migrate c.in-Migrate.ensures);
   usage = λ unknown. absurd (unknown.no_migrate c.in-Migrate.ensures);
   usage_status = λ unknown. absurd (unknown.no_migrate c.in-Migrate.ensures);
-  no_image = ⊎_elim (λ reading. absurd (migrate_writes c.args.words.now c.in-Migrate.ensures reading))
+  no_image = ⊎_elim (λ reading. absurd (no_reading c.in-Migrate.ensures (refl, refl, refl) reading))
       (λ refuses. c.migrate.ensures.looks (migrate_refuses c.migrate.result c.migrate.ensures.status refuses));
   disk_fault = λ is. c.migrate.ensures.disk_fault is;
   hear_fault = λ is. absurd ((not_migrate c.migrate.result c.migrate.ensures.status).hear is);
   show_fault = λ is. c.migrate.ensures.show_fault is;
   stops = c.migrate.ensures.stops;
   calls = c.migrate.ensures.calls;
+}
+
+-- ---- `lead`
+pub returns-in-Lead : goal.returns-in-Lead
+returns-in-Lead g c = record {
+  folds = λ name words. absurd (other_words words c.in-Lead.ensures refl);
+  applies = λ words. absurd (other_words words c.in-Lead.ensures refl);
+  survives = λ words. absurd (other_words words c.in-Lead.ensures refl);
+  inits = λ name depth fits words. absurd (other_words words c.in-Lead.ensures refl);
+  not_empty = λ is. absurd ((not_talk c.lead.result (lead_otherwise c.lead.result c.lead.ensures.status)).not_empty is);
+  only_files = λ told is. absurd ((not_talk c.lead.result (lead_otherwise c.lead.result c.lead.ensures.status)).not_empty is);
+  drills = λ n fits words. absurd (other_words words c.in-Lead.ensures refl);
+  drill_survives = λ told n fits words. absurd (other_words words c.in-Lead.ensures refl);
+  drill_status = λ n fits words. absurd (other_words words c.in-Lead.ensures refl);
+  drill_completes = λ told n fits words. absurd (other_words words c.in-Lead.ensures refl);
+  migrates = λ words. absurd (other_words words c.in-Lead.ensures refl);
+  migrated = λ words. absurd (other_words words c.in-Lead.ensures refl);
+  migrate_survives = λ words. absurd (other_words words c.in-Lead.ensures refl);
+  unmigrated = λ words. absurd (other_words words c.in-Lead.ensures refl);
+  migrate_unsaid = λ words. absurd (other_words words c.in-Lead.ensures refl);
+  migrates_nothing = λ words. absurd (other_words words c.in-Lead.ensures refl);
+  no_old_store = λ words. absurd (other_words words c.in-Lead.ensures refl);
+  old_command = λ is. absurd ((not_talk c.lead.result (lead_otherwise c.lead.result c.lead.ensures.status)).old is);
+  migrate_memory = λ words. absurd (other_words words c.in-Lead.ensures refl);
+  migrate_status = λ words. absurd (other_words words c.in-Lead.ensures refl);
+  migrate_completes = λ words. absurd (other_words words c.in-Lead.ensures refl);
+  queries = λ path words. absurd (other_words words c.in-Lead.ensures refl);
+  serves = λ turns fits words. absurd (other_words words c.in-Lead.ensures refl);
+  door_fault = λ is. absurd ((not_talk c.lead.result (lead_otherwise c.lead.result c.lead.ensures.status)).door is);
+  leads = λ words. record {
+    leads = λ leader there. c.lead.ensures.leads there.told leader there.leads;
+    lead_unsaid = c.lead.ensures.not_store;
+    lead_status = c.lead.ensures.status;
+    lead_completes = λ leader there no_disk no_hear no_show.
+        let leads = c.lead.ensures.leads there.told leader there.leads in
+        grows_weaker (RunsTalk (leader_party leader) c.lead.result) (EndsTalk c.lead.result) (g.S.Site.log c.args.site.now) (g.S.Site.log c.lead.new.site)
+        (lead_done g.S.Site (leader_party leader) c.lead.result c.args.site.now c.lead.new.site leads.0 c.lead.ensures.faults no_disk no_hear no_show c.lead.ensures.status) leads.1;
+  };
+  follows = λ words. absurd (other_words words c.in-Lead.ensures refl);
+  follow_survives = λ words. absurd (other_words words c.in-Lead.ensures refl);
+  unopened = λ opening misfit stood. let opens = c.lead.ensures.unopened stood.told misfit stood.fails in
+      record { unopened = opens.0; unsaid = λ isnt. opens.1; opens_nothing = c.lead.ensures.looks };
+  not_store = λ no_migrate no_lead no_follow is. absurd (no_lead c.in-Lead.ensures);
+  usage = λ unknown. absurd (unknown.no_lead c.in-Lead.ensures);
+  usage_status = λ unknown. absurd (unknown.no_lead c.in-Lead.ensures);
+  no_image = λ either. c.lead.ensures.looks;
+  disk_fault = λ is. c.lead.ensures.faults.disk (ap Err is);
+  hear_fault = λ is. c.lead.ensures.faults.hear (ap Err is);
+  show_fault = λ is. c.lead.ensures.faults.show (ap Err is);
+  stops = talk_stops g.S.Site c.lead.result c.args.site.now c.lead.new.site c.lead.ensures.faults;
+  calls = c.lead.ensures.calls;
+}
+
+-- ---- `follow`
+pub returns-in-Follow : goal.returns-in-Follow
+returns-in-Follow g c = record {
+  folds = λ name words. absurd (other_words words c.in-Follow.ensures refl);
+  applies = λ words. absurd (other_words words c.in-Follow.ensures refl);
+  survives = λ words. absurd (other_words words c.in-Follow.ensures refl);
+  inits = λ name depth fits words. absurd (other_words words c.in-Follow.ensures refl);
+  not_empty = λ is. absurd ((not_talk c.follow.result (follow_otherwise c.follow.result c.follow.ensures.status)).not_empty is);
+  only_files = λ told is. absurd ((not_talk c.follow.result (follow_otherwise c.follow.result c.follow.ensures.status)).not_empty is);
+  drills = λ n fits words. absurd (other_words words c.in-Follow.ensures refl);
+  drill_survives = λ told n fits words. absurd (other_words words c.in-Follow.ensures refl);
+  drill_status = λ n fits words. absurd (other_words words c.in-Follow.ensures refl);
+  drill_completes = λ told n fits words. absurd (other_words words c.in-Follow.ensures refl);
+  migrates = λ words. absurd (other_words words c.in-Follow.ensures refl);
+  migrated = λ words. absurd (other_words words c.in-Follow.ensures refl);
+  migrate_survives = λ words. absurd (other_words words c.in-Follow.ensures refl);
+  unmigrated = λ words. absurd (other_words words c.in-Follow.ensures refl);
+  migrate_unsaid = λ words. absurd (other_words words c.in-Follow.ensures refl);
+  migrates_nothing = λ words. absurd (other_words words c.in-Follow.ensures refl);
+  no_old_store = λ words. absurd (other_words words c.in-Follow.ensures refl);
+  old_command = λ is. absurd ((not_talk c.follow.result (follow_otherwise c.follow.result c.follow.ensures.status)).old is);
+  migrate_memory = λ words. absurd (other_words words c.in-Follow.ensures refl);
+  migrate_status = λ words. absurd (other_words words c.in-Follow.ensures refl);
+  migrate_completes = λ words. absurd (other_words words c.in-Follow.ensures refl);
+  queries = λ path words. absurd (other_words words c.in-Follow.ensures refl);
+  serves = λ turns fits words. absurd (other_words words c.in-Follow.ensures refl);
+  door_fault = λ is. absurd ((not_talk c.follow.result (follow_otherwise c.follow.result c.follow.ensures.status)).door is);
+  leads = λ words. absurd (other_words words c.in-Follow.ensures refl);
+  follows = λ words. record {
+    follows = λ mine there. c.follow.ensures.follows there.told mine there.stands;
+    follow_in_turn = λ mine there. follows_in_turn g.S.Site mine c.args.site.now c.follow.new.site there.stands (c.follow.ensures.survives there.told mine there.stands);
+    follow_unsaid = λ is. (c.follow.ensures.not_store is).1;
+    follow_status = c.follow.ensures.status;
+    follow_completes = λ mine there no_disk no_hear no_show.
+        let follows = c.follow.ensures.follows there.told mine there.stands in
+        grows_weaker (RunsTalk (follower_party mine) c.follow.result) (EndsTalk c.follow.result) (g.S.Site.log c.args.site.now) (g.S.Site.log c.follow.new.site)
+        (follow_done g.S.Site (follower_party mine) c.follow.result c.args.site.now c.follow.new.site follows.0 c.follow.ensures.faults no_disk no_hear no_show c.follow.ensures.status) follows.1;
+  };
+  follow_survives = λ words mine there. c.follow.ensures.survives there.told mine there.stands;
+  unopened = λ opening misfit stood. let opens = c.follow.ensures.unopened stood.told misfit stood.fails in
+      record { unopened = opens.0; unsaid = λ isnt. opens.1; opens_nothing = c.follow.ensures.looks stood.told misfit stood.fails };
+  not_store = λ no_migrate no_lead no_follow is. absurd (no_follow c.in-Follow.ensures);
+  usage = λ unknown. absurd (unknown.no_follow c.in-Follow.ensures);
+  usage_status = λ unknown. absurd (unknown.no_follow c.in-Follow.ensures);
+  no_image = ⊎_elim (λ reading. absurd (no_reading c.in-Follow.ensures (refl, refl, refl) reading))
+      (λ refuses. (c.follow.ensures.not_store (talk_refuses c.follow.result (not_talk c.follow.result (follow_otherwise c.follow.result c.follow.ensures.status)) refuses)).0);
+  disk_fault = λ is. c.follow.ensures.faults.disk (ap Err is);
+  hear_fault = λ is. c.follow.ensures.faults.hear (ap Err is);
+  show_fault = λ is. c.follow.ensures.faults.show (ap Err is);
+  stops = talk_stops g.S.Site c.follow.result c.args.site.now c.follow.new.site c.follow.ensures.faults;
+  calls = c.follow.ensures.calls;
 }
 
 -- ---- other words
@@ -440,8 +567,11 @@ returns-in-Unknown g c = record {
   queries = λ path words. absurd (c.in-Unknown.ensures.no_query path words);
   serves = λ turns fits words. absurd (c.in-Unknown.ensures.no_serve turns fits words);
   door_fault = λ is. absurd (ends_apart ends.Usage ends.DoorFault refl is);
+  leads = λ words. absurd (c.in-Unknown.ensures.no_lead words);
+  follows = λ words. absurd (c.in-Unknown.ensures.no_follow words);
+  follow_survives = λ words. absurd (c.in-Unknown.ensures.no_follow words);
   unopened = λ opening. absurd (unknown_opens c.args.words.now c.in-Unknown.ensures opening);
-  not_store = λ others is. absurd (ends_apart ends.Usage ends.NotStore refl is);
+  not_store = λ no_migrate no_lead no_follow is. absurd (ends_apart ends.Usage ends.NotStore refl is);
   usage = λ unknown. c.say.ensures.says;
   usage_status = λ unknown. refl;
   no_image = λ either. talked_old g.S.Site _ c.args.site.now c.say.new.site c.say.ensures.talks;
