@@ -15,6 +15,7 @@ Every other first word is a store's folder, and the words behind it are the prog
     ./ox FOLDER serve [--turns N] [--public ADDRESS] [--operator ADDRESS]
                                          serves HTTP: 127.0.0.1:8080, and 8081 for you alone
     ./ox FOLDER drill BLOCKS             makes a store of so many made blocks
+    ./ox FOLDER lead, follow             a store hands its pieces to another one, by two pipes
     ./ox FOLDER migrate                  makes a store of version 1 one of version 2
     ./ox FOLDER fold PROFILE < FEED      answers a feed with an index that is gone at the end
 

@@ -1127,7 +1127,7 @@ def cut_pipe(ox):
     ox.status_is(1, GENESIS_ANSWER.split()[2].decode())
 
 
-@every.check("statuses 11, 12 and 13: frames, or the end of the channel, end a leader or a follower")
+@every.check("statuses 11, 12 and 13: frames or the channel's end end a leader or a follower")
 def ended_talks(ox):
     ox.init()
     for status, heard in ((0, level(1, 0)), (11, have(1, 0)), (11, bytes(8)), (13, b"")):

@@ -71,6 +71,21 @@ MEANINGS = {
         "make a new store, and feed it the blocks again",
         "`serve` doesn't end so",
     ),
+    11: Meaning(
+        "it heard what is no frame for it, or a piece that doesn't fit its store",
+        "see that both stores have one profile and one depth",
+        "`serve` doesn't end so",
+    ),
+    12: Meaning(
+        "the follower stands further on than the leader",
+        "see that the two aren't the wrong way round",
+        "`serve` doesn't end so",
+    ),
+    13: Meaning(
+        "the frames ended before the follower stood where the leader does",
+        "begin both again: what was taken is kept",
+        "`serve` doesn't end so",
+    ),
     75: Meaning("another program has the store", "end that one, or leave it alone", STOPS),
 }
 

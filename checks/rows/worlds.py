@@ -2,10 +2,10 @@
 crates/ox_run_rows about it.
 
 Lines, answers, statuses and files are told by docs/FORMATS.md and docs/OPERATING.md, on their own:
-blocks are read as block_rows does, indexes are plain_index's, files store_files', servers serving's,
-and leaders and followers following's. What these don't say and the rows go by: a run hears at most
-65,536 bytes at a time, and only where it holds no whole line; each line is shown by a call of its
-own; and of the calls of an opening, a making and a record store_rows tells.
+blocks are read as block_rows does, indexes are plain_index's, files store_files', servers
+serving's, leaders and followers following's. What these don't say and the rows go by: a run hears
+at most 65,536 bytes at a time, and only where it holds no whole line; each line is shown by a call
+of its own; and of the calls of an opening, a making and a record store_rows tells.
 """
 
 import re
