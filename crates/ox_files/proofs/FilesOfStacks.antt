@@ -10,8 +10,8 @@ use Rattle.std.proofs.lemmas.Option.{same_Some}
 use Rattle.ox_bytes.specs.Reading.{◌>>=◌}
 use Rattle.ox_outside.specs.Files.{Files}
 use Rattle.ox_outside.specs.declared.site.Which.{Which}
-use Rattle.ox_gated.specs.Layout.{body_at}
-use Rattle.ox_gated.specs.Reading.{Found, Fault, IntactPart, with_payload, reading}
+use Rattle.ox_gated.specs.Layout.{layout_of}
+use Rattle.ox_gated.specs.Reading.{Found, Fault, IntactPart, is_present, with_payload, reading}
 use Rattle.ox_gated.specs.declared.head.Head.{Head}
 use Rattle.ox_gated.specs.declared.records.Record.{Record}
 use Rattle.ox_sat.specs.Profiles.{IsProfile, name_at, profile_named}
@@ -90,7 +90,7 @@ stands_more (Err fault) payload stack new is next = absurd (no_stack fault.file 
 -- a body that stands for a stack, and nothing behind it
 pub file_turned : (head : Head) (bytes : List ℕ) (stack : Stack) → stack_in_body (profile_named (name_at head.profile)) head.depth bytes ≡ Some stack
     → stack_in_file head bytes [] ≡ Ok stack
-file_turned head bytes stack is = only_one (stack_at_body head bytes) ∙ ap (or_place body_at) is
+file_turned head bytes stack is = only_one (stack_at_body head bytes) ∙ ap (or_place (layout_of head.version).body_at) is
 
 pub stands_turned : (found : Found) (stack : Stack) → found.records ≡ [] → stack_in_body (profile_named (name_at found.head.profile)) found.head.depth found.body ≡ Some stack
     → stack_in (Ok found) ≡ Ok stack
@@ -204,7 +204,7 @@ file_stack head bytes records stack is =
     let p = profile_named (name_at head.profile) in
     let begun = bind_ok (stack_at_body head bytes) (λ first. stack_after_records first records) stack is in
     by_records p head.depth begun.0 stack records
-    (of_body p head.depth (whole (bodies.body_at bytes)) begun.0 (placed body_at (stack_in_body p head.depth bytes) begun.0 begun.1)) begun.2
+    (of_body p head.depth (whole (bodies.body_at bytes)) begun.0 (placed (layout_of head.version).body_at (stack_in_body p head.depth bytes) begun.0 begun.1)) begun.2
 
 -- the stack that files stand for is of some head
 pub record IsStackOfHead (stack : Stack) : Type 0 where
@@ -217,7 +217,7 @@ of_found (Ok found) stack is =
 of_found (Err fault) stack is = absurd (no_stack fault.file fault.at fault.before stack is)
 
 pub stands_of_head : (files : Files) (stack : Stack) → stands files ≡ Ok stack → IsStackOfHead stack
-stands_of_head files stack is = of_found (reading 2 files) stack is
+stands_of_head files stack is = of_found (reading is_present files) stack is
 
 -- its profile is one of the table
 pub stands_for_known : (files : Files) (stack : Stack) → stands files ≡ Ok stack → IsProfile stack.profile

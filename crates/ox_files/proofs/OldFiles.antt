@@ -1,5 +1,5 @@
 -- What old files stand for stays while they are read as before; and the stack that their commands lead to is of the profile and the depth of their head.
-use Rattle.std.proofs.Common.{◌≡◌, ◌≢◌, ◌∙◌, ℕ, ◌+◌, ◌==◌, Bool, true, false, List, [], ◌∷◌, length, take, drop, not, if◌then◌else◌, ap, refl, sym}
+use Rattle.std.proofs.Common.{◌≡◌, ◌≢◌, ◌∙◌, ℕ, ◌+◌, ◌==◌, ◌||◌, Bool, true, false, List, [], ◌∷◌, length, take, drop, not, if◌then◌else◌, ap, refl, sym}
 use Rattle.std.specs.Prelude.{nat_lt, Option, Some, None, Result, Ok, Err}
 use Rattle.std.proofs.lemmas.Bool.{ne_eqb}
 use Rattle.ox_outside.specs.Files.{Files, file_of}
@@ -7,7 +7,8 @@ use Rattle.ox_outside.specs.declared.site.Which.{Which}
 use Rattle.ox_gated.specs.OldReading.{followed_reading, old_reading}
 use Rattle.ox_gated.specs.OtherFile.{last_generation}
 use Rattle.ox_gated.specs.Pick.{Choice, choice_of}
-use Rattle.ox_gated.specs.Reading.{Found, Fault, body_reading, chain, current_reading, fault_at, found_or_fault, of_picked, reading, reading_by}
+use Rattle.ox_gated.specs.Layout.{Layout, layout_of}
+use Rattle.ox_gated.specs.Reading.{Found, Fault, body_reading, body_reading_at, chain, current_reading, fault_at, found_or_fault, is_old, of_picked, reading, reading_by}
 use Rattle.ox_gated.specs.declared.head.Opening.{Opening}
 use Rattle.ox_gated.specs.declared.head.Head.{Head}
 use Rattle.ox_gated.specs.declared.records.Record.{Record}
@@ -83,35 +84,40 @@ body_ok : (v : Bool) (file : Which) (body : Result Found Fault) (found : Found) 
 body_ok true file body found is = is
 body_ok false file body found is = absurd (cc is)
 
-head_ok : (cut : Bool) (file : Which) (head : Head) (body : List ℕ) (records : List Record) (end : Result ℕ ℕ) (found : Found) → (if cut then fault_at file 26 else found_or_fault file head body records end) ≡ Ok found → found.head ≡ head
-head_ok true file head body records end found is = absurd (cc is)
-head_ok false file head body records (Ok gate) found is = sym (ap (λ (f : Found). f.head) (ok_same {F = Fault} _ found is))
-head_ok false file head body records (Err at) found is = absurd (cc is)
+head_ok : (cut : Bool) (place : ℕ) (file : Which) (head : Head) (body : List ℕ) (records : List Record) (end : Result ℕ ℕ) (found : Found) → (if cut then fault_at file place else found_or_fault file head body records end) ≡ Ok found → found.head ≡ head
+head_ok true place file head body records end found is = absurd (cc is)
+head_ok false place file head body records (Ok gate) found is = sym (ap (λ (f : Found). f.head) (ok_same {F = Fault} _ found is))
+head_ok false place file head body records (Err at) found is = absurd (cc is)
+
+-- the head of what is found in a file of this layout
+head_at : (layout : Layout) (file : Which) (bytes : List ℕ) (opening : Opening) (found : Found) → body_reading_at layout file bytes opening ≡ Ok found → found.head ≡ opening.head
+head_at layout file bytes opening found is =
+    let behind = drop layout.body_at bytes in
+    let body = take opening.size behind in
+    let records = chain layout opening.head.generation (layout.body_at + opening.size) (drop opening.size behind) in
+    head_ok (nat_lt (length bytes) (layout.body_at + opening.size) || not (layout.is_body (take layout.body_at bytes) body)) layout.body_at file opening.head body records.records records.end found is
 
 lesser : (v last : Bool) (file : Which) (body : Result Found Fault) (found : Found) → last ≡ false → (if not v then fault_at file 6 else body) ≡ Ok found → (if not v then fault_at file 6 else if last then fault_at file 10 else body) ≡ Ok found
 lesser true true file body found not_last is = absurd (cc not_last)
 lesser true false file body found not_last is = is
 lesser false last file body found not_last is = absurd (cc is)
 
-current_is_followed : (version : ℕ) (file : Which) (bytes : List ℕ) (opening : Opening) (found : Found) → current_reading version file bytes opening ≡ Ok found → found.head.generation ≢ last_generation
-    → followed_reading version file bytes opening ≡ Ok found
-current_is_followed version file bytes opening found is not_last =
-    let behind = drop 26 bytes in
-    let records = chain (26 + opening.size) (drop opening.size behind) in
-    let there = body_ok (opening.head.version == version) file (body_reading file bytes opening) found is in
-    let same = head_ok (nat_lt (length bytes) (26 + opening.size)) file opening.head (take opening.size behind) records.records records.end found there in
-    lesser (opening.head.version == version) (opening.head.generation == last_generation) file (body_reading file bytes opening) found
+current_is_followed : (file : Which) (bytes : List ℕ) (opening : Opening) (found : Found) → current_reading is_old file bytes opening ≡ Ok found → found.head.generation ≢ last_generation → followed_reading file bytes opening ≡ Ok found
+current_is_followed file bytes opening found is not_last =
+    let there = body_ok (is_old opening.head.version) file (body_reading file bytes opening) found is in
+    let same = head_at (layout_of opening.head.version) file bytes opening found there in
+    lesser (is_old opening.head.version) (opening.head.generation == last_generation) file (body_reading file bytes opening) found
     (ne_eqb opening.head.generation last_generation (λ e. not_last (ap (λ (h : Head). h.generation) same ∙ e))) is
 
 -- what the plain reading finds, of a generation that another one can follow, the old one finds
-pub reading_is_old : (files : Files) (found : Found) → reading 1 files ≡ Ok found → found.head.generation ≢ last_generation → old_reading files ≡ Ok found
+pub reading_is_old : (files : Files) (found : Found) → reading is_old files ≡ Ok found → found.head.generation ≢ last_generation → old_reading files ≡ Ok found
 reading_is_old files found is not_last = by (choice_of files.a files.b) is
   where
-    by : (choice : Choice) → reading_by 1 files choice ≡ Ok found → of_picked (followed_reading 1) files choice ≡ Ok found
+    by : (choice : Choice) → reading_by is_old files choice ≡ Ok found → of_picked followed_reading files choice ≡ Ok found
     by (Err fault) is = absurd (cc is)
-    by (Ok choice) is = current_is_followed 1 choice.0 (file_of files choice.0) choice.1 found is not_last
+    by (Ok choice) is = current_is_followed choice.0 (file_of files choice.0) choice.1 found is not_last
 
 -- files that are read as these stand for what these stand for
-pub old_stands_alike : (files image : Files) (found : Found) → old_reading files ≡ Ok found → found.head.generation ≢ last_generation → reading 1 image ≡ reading 1 files → old_stands image ≡ old_stands files
+pub old_stands_alike : (files image : Files) (found : Found) → old_reading files ≡ Ok found → found.head.generation ≢ last_generation → reading is_old image ≡ reading is_old files → old_stands image ≡ old_stands files
 old_stands_alike files image found is not_last alike =
     ap old_stack_in (reading_is_old image found (alike ∙ old_is_reading files found is) not_last ∙ sym is)

@@ -1,4 +1,4 @@
--- What two files of version 1 stand for, where a file of version 2 is to take the place of the
+-- What two files of version 1 stand for, where a file of a later version is to take the place of the
 -- current one: the stack that their commands lead to, and how many they are; or the file and the
 -- place of the first test that fails; or a command that the present rules refuse. The body is
 -- empty, and a record's payload is that of a command.

@@ -1,12 +1,12 @@
--- What two files stand for, at version 2: a stack, or the file and the place of the first test that
--- fails. The body is a checkpoint, an index and the changes of its newest blocks, and each record
--- holds what its command changed.
+-- What two files stand for, at version 2 or 3: a stack, or the file and the place of the first test
+-- that fails. The body is a checkpoint, an index and the changes of its newest blocks, and each
+-- record holds what its command changed.
 use Rattle.std.specs.Prelude.{ℕ, List, [], ◌∷◌, Option, Some, None, Result, Ok, Err}
 use Rattle.ox_bytes.specs.Reading.{◌>>=◌}
 use Rattle.ox_outside.specs.Files.{Files}
 use Rattle.ox_outside.specs.declared.site.Which.{Which}
-use Rattle.ox_gated.specs.Layout.{body_at}
-use Rattle.ox_gated.specs.Reading.{Found, Fault, IntactPart, reading}
+use Rattle.ox_gated.specs.Layout.{layout_of}
+use Rattle.ox_gated.specs.Reading.{Found, Fault, IntactPart, is_present, reading}
 use Rattle.ox_gated.specs.declared.head.Head.{Head}
 use Rattle.ox_gated.specs.declared.records.Record.{Record}
 use Rattle.ox_sat.specs.Profiles.{name_at, profile_named}
@@ -28,7 +28,8 @@ stack_after_records stack (one ∷ records) = do
 -- a body that stands for no stack is at fault where it begins
 abbrev pub stack_at_body : Head → List ℕ → Result Stack ℕ
 stack_at_body head body =
-    or_place body_at (stack_in_body (profile_named (name_at head.profile)) head.depth body)
+    or_place (layout_of head.version).body_at
+    (stack_in_body (profile_named (name_at head.profile)) head.depth body)
 
 -- the stack of a head, a body and records
 abbrev pub stack_in_file : Head → List ℕ → List Record → Result Stack ℕ
@@ -57,4 +58,4 @@ stack_in (Err fault) = in_file fault.file (place_of_cut fault.at fault.before)
 
 -- what the files stand for
 abbrev pub stands : Files → Result Stack Misfit
-stands files = stack_in (reading 2 files)
+stands files = stack_in (reading is_present files)

@@ -9,88 +9,104 @@ use Rattle.ox_outside.specs.declared.site.Site.{Ghosts as Meanings}
 use Rattle.ox_outside.specs.declared.site.Which.{Which}
 use Rattle.ox_outside.specs.declared.site.Which.TheVariants.{A, B}
 use Rattle.ox_outside.proofs.Calls.{leaves_then, leaves_weaker}
-use Rattle.ox_gated.specs.Layout.{is_closed, record_bytes}
-use Rattle.ox_gated.specs.Reading.{Found, Fault, reading, with_payload}
-use Rattle.ox_gated.specs.Tail.{Kept, KeepsFound, Keeps, Holds, IsSettled, IsBeforeOrAfter}
+use Rattle.ox_gated.specs.Layout.{is_closed, layout_of}
+use Rattle.ox_gated.specs.Reading.{Found, Fault, is_any, reading, with_payload, ReadsAlike, ReadsMore}
+use Rattle.ox_gated.specs.Tail.{Framing, Kept, KeepsFound, Keeps, Holds, Fits, IsFramedBehind, IsSettled, IsBeforeOrAfter}
+use Rattle.ox_gated.specs.declared.head.Head.{Head}
 use Rattle.ox_gated.proofs.OneFile.{file_of-with_file, file_of-with_other, with_file-with_file, files_are}
-use Rattle.ox_gated.proofs.RecordWrites.{here, behind, staged_bytes, staging_is_before, opening_is_either, opened_bytes, stands_appended, gate_within, gate_within_staged, length-record_bytes}
+use Rattle.ox_gated.proofs.RecordWrites.{here, behind, written, staged_bytes, staging_is_before, opening_is_either, opened_bytes, stands_appended, gate_within, gate_within_staged, length-written}
 
--- ---- by what the tail keeps
+-- ---- by what is found
 
-module _ (version : ℕ) (payload : List ℕ) (small : length payload < 2 ^ 32) (files : Files) where
-  abbrev pub first_files : Which → ℕ → Files
-  first_files file gate = with_file files file (with_bytes (gate + 1) (record_bytes payload) (file_of files file))
+-- the files after the first write, and after the second
+abbrev pub first_files : List ℕ → Files → Which → ℕ → Files
+first_files bytes files file gate = with_file files file (with_bytes (gate + 1) bytes (file_of files file))
 
-  abbrev pub second_files : Files → Which → ℕ → Files
-  second_files staged_files file gate = with_file staged_files file (with_bytes gate (1 ∷ []) (file_of staged_files file))
+abbrev pub second_files : Files → Which → ℕ → Files
+second_files staged_files file gate = with_file staged_files file (with_bytes gate (1 ∷ []) (file_of staged_files file))
 
-  first_of : (found : Found) → reading version files ≡ Ok found → (image : Files) → TornFile found.file (found.gate + 1) (length (record_bytes payload)) files image → reading version image ≡ reading version files
-  first_of found is image torn = ap (reading version) (files_are files image found.file torn.others) ∙ staging_is_before version files found is payload small (file_of image found.file) torn.torn
+module _ (files : Files) (found : Found) (is : reading is_any files ≡ Ok found) (payload : List ℕ) (fits : length payload < (layout_of found.head.version).payload_limit) where
+  abbrev record_now : List ℕ
+  record_now = written found.head found.gate payload
 
-  -- the files after the first write
-  staged_files : (found : Found) (is : reading version files ≡ Ok found) (mid : Files) → mid ≡ first_files found.file found.gate
-      → mid ≡ with_file files found.file ((here version files found is payload small).front ++ 0 ∷ (record_bytes payload ++ behind version files found is payload small))
-  staged_files found is mid mid_is = mid_is ∙ ap (with_file files found.file) (staged_bytes version files found is payload small)
+  abbrev later : List ℕ
+  later = behind files found is payload fits
 
-  second_of : (found : Found) → reading version files ≡ Ok found → (mid image : Files) → mid ≡ first_files found.file found.gate → TornFile found.file found.gate 1 mid image → IsBeforeOrAfter version payload files image
-  second_of found is mid image mid_is torn =
-      let whole = staged_files found is mid mid_is in
-      let staged_is = ap (λ (f : Files). file_of f found.file) whole ∙ file_of-with_file files found.file _ in
-      let image_is = files_are mid image found.file torn.others ∙ ap (λ (f : Files). with_file f found.file (file_of image found.file)) whole ∙ with_file-with_file files found.file _ (file_of image found.file) in
-      let here_torn = subst (λ (l : List ℕ). Torn found.gate 1 l (file_of image found.file)) staged_is torn.torn in
-      subst (IsBeforeOrAfter version payload files) (sym image_is) (opening_is_either version files found is payload small (file_of image found.file) here_torn)
+  abbrev before : List ℕ
+  before = (here files found is payload fits).front
 
-  after_of : (found : Found) → reading version files ≡ Ok found → (mid last : Files) → mid ≡ first_files found.file found.gate → last ≡ second_files mid found.file found.gate → reading version last ≡ with_payload payload (reading version files)
-  after_of found is mid last mid_is last_is =
-      let whole = staged_files found is mid mid_is in
-      let staged_is = ap (λ (f : Files). file_of f found.file) whole ∙ file_of-with_file files found.file _ in
-      let opened_is = ap (λ (l : List ℕ). with_bytes found.gate (1 ∷ []) l) staged_is ∙ opened_bytes version files found is payload small in
-      let final = (here version files found is payload small).front ++ 1 ∷ (record_bytes payload ++ behind version files found is payload small) in
+  first_of : (image : Files) → TornFile found.file (found.gate + 1) (length record_now) files image → ReadsAlike files image
+  first_of image torn reads = ap (reading reads) (files_are files image found.file torn.others) ∙ staging_is_before files found is payload fits (file_of image found.file) torn.torn reads
+
+  staged_files : (mid : Files) → mid ≡ first_files record_now files found.file found.gate → mid ≡ with_file files found.file (before ++ 0 ∷ (record_now ++ later))
+  staged_files mid mid_is = mid_is ∙ ap (with_file files found.file) (staged_bytes files found is payload fits)
+
+  staged_file : (mid : Files) → mid ≡ first_files record_now files found.file found.gate → file_of mid found.file ≡ before ++ 0 ∷ (record_now ++ later)
+  staged_file mid mid_is = ap (λ (f : Files). file_of f found.file) (staged_files mid mid_is) ∙ file_of-with_file files found.file _
+
+  second_of : (mid image : Files) → mid ≡ first_files record_now files found.file found.gate → TornFile found.file found.gate 1 mid image → IsBeforeOrAfter payload files image
+  second_of mid image mid_is torn =
+      let image_is = files_are mid image found.file torn.others ∙ ap (λ (f : Files). with_file f found.file (file_of image found.file)) (staged_files mid mid_is) ∙ with_file-with_file files found.file _ (file_of image found.file) in
+      let here_torn = subst (λ (l : List ℕ). Torn found.gate 1 l (file_of image found.file)) (staged_file mid mid_is) torn.torn in
+      subst (IsBeforeOrAfter payload files) (sym image_is) (opening_is_either files found is payload fits (file_of image found.file) here_torn)
+
+  after_of : (mid last : Files) → mid ≡ first_files record_now files found.file found.gate → last ≡ second_files mid found.file found.gate → ReadsMore payload files last
+  after_of mid last mid_is last_is reads =
+      let opened_is = ap (λ (l : List ℕ). with_bytes found.gate (1 ∷ []) l) (staged_file mid mid_is) ∙ opened_bytes files found is payload fits in
+      let final = before ++ 1 ∷ (record_now ++ later) in
       let last_whole : last ≡ with_file files found.file final =
-      last_is ∙ ap (λ (l : List ℕ). with_file mid found.file l) opened_is ∙ ap (λ (f : Files). with_file f found.file final) whole ∙ with_file-with_file files found.file _ final in
-      ap (reading version) last_whole ∙ stands_appended version files found is payload small
+      last_is ∙ ap (λ (l : List ℕ). with_file mid found.file l) opened_is ∙ ap (λ (f : Files). with_file f found.file final) (staged_files mid mid_is) ∙ with_file-with_file files found.file _ final in
+      ap (reading reads) last_whole ∙ stands_appended files found is payload fits reads
 
-  within_of : (found : Found) → reading version files ≡ Ok found → (mid : Files) → mid ≡ first_files found.file found.gate → found.gate ≤ length (file_of mid found.file)
-  within_of found is mid mid_is =
-      let staged_is = ap (λ (f : Files). file_of f found.file) (staged_files found is mid mid_is) ∙ file_of-with_file files found.file _ in
-      subst (λ (l : List ℕ). found.gate ≤ length l) (sym staged_is) (gate_within_staged version files found is payload small)
+  within_of : (mid : Files) → mid ≡ first_files record_now files found.file found.gate → found.gate ≤ length (file_of mid found.file)
+  within_of mid mid_is = subst (λ (l : List ℕ). found.gate ≤ length l) (sym (staged_file mid mid_is)) (gate_within_staged files found is payload fits)
 
-  -- the same, by the tail
-  module _ (tail : Kept) (keeps : Keeps tail (reading version files)) where
-    found_of : (r : Result Found Fault) → Keeps tail r → (found : Found) × (r ≡ Ok found) × KeepsFound tail found
-    found_of (Ok found) keeps = (found, refl, keeps)
-    found_of (Err fault) keeps = absurd keeps
+-- ---- by the tail
 
-    pub kept_found : (found : Found) × (reading version files ≡ Ok found) × KeepsFound tail found
-    kept_found = found_of (reading version files) keeps
+found_of : (tail : Kept) (r : Result Found Fault) → Keeps tail r → (found : Found) × (r ≡ Ok found) × KeepsFound tail found
+found_of tail (Ok found) keeps = (found, refl, keeps)
+found_of tail (Err fault) keeps = absurd keeps
 
-    pub first_write : (image : Files) → TornFile tail.file (tail.gate + 1) (length (record_bytes payload)) files image → reading version image ≡ reading version files
-    first_write image torn =
-        let k = kept_found in
-        first_of k.0 k.1 image (subst (λ (g : ℕ). TornFile k.0.file (g + 1) (length (record_bytes payload)) files image) k.2.gate (subst (λ (w : Which). TornFile w (tail.gate + 1) (length (record_bytes payload)) files image) k.2.file torn))
+module _ (payload bytes : List ℕ) (files : Files) (tail : Kept) (keeps : Keeps tail (reading is_any files)) (framed : IsFramedBehind tail (record { payload = payload; bytes = bytes })) where
+  pub kept_found : (found : Found) × (reading is_any files ≡ Ok found) × KeepsFound tail found
+  kept_found = found_of tail (reading is_any files) keeps
 
-    first_is : (found : Found) → KeepsFound tail found → (mid : Files) → mid ≡ first_files tail.file tail.gate → mid ≡ first_files found.file found.gate
-    first_is found k mid mid_is = mid_is ∙ (λ i. first_files (k.file i) (k.gate i))
+  abbrev found : Found
+  found = kept_found.0
 
-    pub second_write : (mid image : Files) → mid ≡ first_files tail.file tail.gate → TornFile tail.file tail.gate 1 mid image → IsBeforeOrAfter version payload files image
-    second_write mid image mid_is torn =
-        let k = kept_found in
-        second_of k.0 k.1 mid image (first_is k.0 k.2 mid mid_is) (subst (λ (g : ℕ). TornFile k.0.file g 1 mid image) k.2.gate (subst (λ (w : Which). TornFile w tail.gate 1 mid image) k.2.file torn))
+  abbrev k : KeepsFound tail found
+  k = kept_found.2
 
-    pub after_both : (mid last : Files) → mid ≡ first_files tail.file tail.gate → last ≡ second_files mid tail.file tail.gate → reading version last ≡ with_payload payload (reading version files)
-    after_both mid last mid_is last_is =
-        let k = kept_found in
-        after_of k.0 k.1 mid last (first_is k.0 k.2 mid mid_is) (last_is ∙ (λ i. second_files mid (k.2.file i) (k.2.gate i)))
+  short : length payload < (layout_of found.head.version).payload_limit
+  short = subst (λ (h : Head). length payload < (layout_of h.version).payload_limit) k.head framed.short
 
-    pub first_within : tail.gate + 1 ≤ length (file_of files tail.file)
-    first_within =
-        let k = kept_found in
-        subst (λ (g : ℕ). g + 1 ≤ length (file_of files tail.file)) (sym k.2.gate) (subst (λ (w : Which). k.0.gate + 1 ≤ length (file_of files w)) (sym k.2.file) (gate_within version files k.0 k.1 payload small))
+  bytes_are : bytes ≡ written found.head found.gate payload
+  bytes_are = framed.bytes ∙ (λ i. written (k.head i) (k.gate i) payload)
 
-    pub second_within : (mid : Files) → mid ≡ first_files tail.file tail.gate → tail.gate ≤ length (file_of mid tail.file)
-    second_within mid mid_is =
-        let k = kept_found in
-        subst (λ (g : ℕ). g ≤ length (file_of mid tail.file)) (sym k.2.gate) (subst (λ (w : Which). k.0.gate ≤ length (file_of mid w)) (sym k.2.file) (within_of k.0 k.1 mid (first_is k.0 k.2 mid mid_is)))
+  pub first_write : (image : Files) → TornFile tail.file (tail.gate + 1) (length bytes) files image → ReadsAlike files image
+  first_write image torn =
+      first_of files found kept_found.1 payload short image
+      (subst (λ (l : List ℕ). TornFile found.file (found.gate + 1) (length l) files image) bytes_are
+      (subst (λ (g : ℕ). TornFile found.file (g + 1) (length bytes) files image) k.gate (subst (λ (w : Which). TornFile w (tail.gate + 1) (length bytes) files image) k.file torn)))
+
+  first_is : (mid : Files) → mid ≡ first_files bytes files tail.file tail.gate → mid ≡ first_files (written found.head found.gate payload) files found.file found.gate
+  first_is mid mid_is = mid_is ∙ (λ i. first_files (bytes_are i) files (k.file i) (k.gate i))
+
+  pub second_write : (mid image : Files) → mid ≡ first_files bytes files tail.file tail.gate → TornFile tail.file tail.gate 1 mid image → IsBeforeOrAfter payload files image
+  second_write mid image mid_is torn =
+      second_of files found kept_found.1 payload short mid image (first_is mid mid_is) (subst (λ (g : ℕ). TornFile found.file g 1 mid image) k.gate (subst (λ (w : Which). TornFile w tail.gate 1 mid image) k.file torn))
+
+  pub after_both : (mid last : Files) → mid ≡ first_files bytes files tail.file tail.gate → last ≡ second_files mid tail.file tail.gate → ReadsMore payload files last
+  after_both mid last mid_is last_is =
+      after_of files found kept_found.1 payload short mid last (first_is mid mid_is) (last_is ∙ (λ i. second_files mid (k.file i) (k.gate i)))
+
+  pub first_within : tail.gate + 1 ≤ length (file_of files tail.file)
+  first_within =
+      subst (λ (g : ℕ). g + 1 ≤ length (file_of files tail.file)) (sym k.gate) (subst (λ (w : Which). found.gate + 1 ≤ length (file_of files w)) (sym k.file) (gate_within files found kept_found.1 payload short))
+
+  pub second_within : (mid : Files) → mid ≡ first_files bytes files tail.file tail.gate → tail.gate ≤ length (file_of mid tail.file)
+  second_within mid mid_is =
+      subst (λ (g : ℕ). g ≤ length (file_of mid tail.file)) (sym k.gate) (subst (λ (w : Which). found.gate ≤ length (file_of mid w)) (sym k.file) (within_of files found kept_found.1 payload short mid (first_is mid mid_is)))
 
 -- ---- what a crash leaves after the calls
 
@@ -117,68 +133,81 @@ some_after files file at bytes now is some a b =
 pub closed_after : (files : Files) (file : Which) (bytes : List ℕ) (now : Files) → now ≡ with_file files file bytes → is_closed (file_of now (other file)) ≡ is_closed (file_of files (other file))
 closed_after files file bytes now is = ap is_closed (ap (λ (f : Files). file_of f (other file)) is ∙ file_of-with_other files file bytes)
 
-keeps_ok : (version : ℕ) (payload : List ℕ) (tail : Kept) (now : Result Found Fault) (found : Found) → KeepsFound tail found → now ≡ with_payload payload (Ok found)
-    → Keeps (record tail { records = tail.records + 1; gate = tail.gate + (5 + length payload) }) now
-keeps_ok version payload tail now found k is =
-    subst (Keeps (record tail { records = tail.records + 1; gate = tail.gate + (5 + length payload) })) (sym is) (
+-- the tail behind a record of so many bytes
+abbrev pub tail_behind : Kept → ℕ → Kept
+tail_behind tail size = record tail { records = tail.records + 1; gate = tail.gate + size }
+
+keeps_ok : (payload : List ℕ) (tail : Kept) (now : Result Found Fault) (found : Found) (size : ℕ) → KeepsFound tail found → size ≡ (layout_of found.head.version).before_payload + length payload → now ≡ with_payload payload (Ok found)
+    → Keeps (tail_behind tail size) now
+keeps_ok payload tail now found size k size_is is =
+    subst (Keeps (tail_behind tail size)) (sym is) (
     record {
       file = k.file;
       head = k.head;
       records = ap (λ (n : ℕ). n + 1) k.records ∙ sym (length_push found.records (record { place = found.gate; payload = payload }));
-      gate = ap (λ (n : ℕ). n + (5 + length payload)) k.gate;
+      gate = λ i. k.gate i + size_is i;
     }
     )
 
-pub keeps_after : (version : ℕ) (payload : List ℕ) (small : length payload < 2 ^ 32) (files : Files) (tail : Kept) (keeps : Keeps tail (reading version files)) (now : Files) → reading version now ≡ with_payload payload (reading version files)
-    → Keeps (record tail { records = tail.records + 1; gate = tail.gate + (5 + length payload) }) (reading version now)
-keeps_after version payload small files tail keeps now is =
-    let k = kept_found version payload small files tail keeps in
-    keeps_ok version payload tail (reading version now) k.0 k.2 (is ∙ ap (with_payload payload) k.1)
+pub keeps_after : (payload bytes : List ℕ) (files : Files) (tail : Kept) (keeps : Keeps tail (reading is_any files)) (framed : IsFramedBehind tail (record { payload = payload; bytes = bytes })) (now : Files) → ReadsMore payload files now
+    → Keeps (tail_behind tail (length bytes)) (reading is_any now)
+keeps_after payload bytes files tail keeps framed now is =
+    let k = kept_found payload bytes files tail keeps framed in
+    let size = ap length (bytes_are payload bytes files tail keeps framed) ∙ length-written k.0.head k.0.gate payload in
+    keeps_ok payload tail (reading is_any now) k.0 (length bytes) k.2 size (is is_any ∙ ap (with_payload payload) k.1)
 
 -- ---- the moments of the two writes
 
 module _ {S : Type 0} (means : Meanings S)
-    (payload : List ℕ) (small : length payload < 2 ^ 32) (tail : Kept) (bytes : List ℕ) (bytes_are : bytes ≡ record_bytes payload) (old mid : S) (holds : Holds means tail old) where
+    (payload bytes : List ℕ) (tail : Kept) (framed : IsFramedBehind tail (record { payload = payload; bytes = bytes })) (old mid : S) (holds : Holds means tail old) where
   abbrev pub AtFirst : Type 0
   AtFirst = LeavesOnly means old mid (λ r. TornFile tail.file (tail.gate + 1) (length bytes) (means.seen old) r.files)
 
   abbrev pub Staged : Type 0
-  Staged = means.seen mid ≡ with_file (means.seen old) tail.file (with_bytes (tail.gate + 1) bytes (file_of (means.seen old) tail.file))
+  Staged = means.seen mid ≡ first_files bytes (means.seen old) tail.file tail.gate
 
-  pub moments_first : AtFirst → LeavesOnly means old mid (λ r. IsBeforeOrAfter tail.head.version payload (means.seen old) r.files)
-  moments_first first = leaves_weaker means old mid _ _
-      (λ r torn. inl (first_write tail.head.version payload small (means.seen old) tail holds.keeps r.files (subst (λ (l : List ℕ). TornFile tail.file (tail.gate + 1) (length l) (means.seen old) r.files) bytes_are torn)))
-      first
-
-  staged_is : Staged → means.seen mid ≡ first_files tail.head.version payload small (means.seen old) tail.file tail.gate
-  staged_is is = is ∙ ap (λ (l : List ℕ). with_file (means.seen old) tail.file (with_bytes (tail.gate + 1) l (file_of (means.seen old) tail.file))) bytes_are
+  pub moments_first : AtFirst → LeavesOnly means old mid (λ r. IsBeforeOrAfter payload (means.seen old) r.files)
+  moments_first first = leaves_weaker means old mid _ _ (λ r torn. inl (first_write payload bytes (means.seen old) tail holds.keeps framed r.files torn)) first
 
   pub moments_both : (new : S) → AtFirst → Staged → LeavesOnly means mid new (λ r. TornFile tail.file tail.gate 1 (means.seen mid) r.files)
-      → LeavesOnly means old new (λ r. IsBeforeOrAfter tail.head.version payload (means.seen old) r.files)
+      → LeavesOnly means old new (λ r. IsBeforeOrAfter payload (means.seen old) r.files)
   moments_both new first is second = leaves_then means old mid new _ (moments_first first)
-      (leaves_weaker means mid new _ _ (λ r torn. second_write tail.head.version payload small (means.seen old) tail holds.keeps (means.seen mid) r.files (staged_is is) torn) second)
+      (leaves_weaker means mid new _ _ (λ r torn. second_write payload bytes (means.seen old) tail holds.keeps framed (means.seen mid) r.files is torn) second)
 
   pub staged_settled : Staged → Only tail.file (file_of (means.seen mid) tail.file) (means.may_leave mid)
       → ((r : Remains) → means.may_leave mid r → (q : Remains) × means.may_leave old q × (file_of r.files (other tail.file) ≡ file_of q.files (other tail.file))) → IsSettled means mid
   staged_settled is only others = settled_after (means.seen old) tail.file _ (means.may_leave old) (means.may_leave mid) (means.seen mid) is holds.settled only others
 
   pub staged_within : Staged → tail.gate ≤ length (file_of (means.seen mid) tail.file)
-  staged_within is = second_within tail.head.version payload small (means.seen old) tail holds.keeps (means.seen mid) (staged_is is)
+  staged_within is = second_within payload bytes (means.seen old) tail holds.keeps framed (means.seen mid) is
 
-  module _ (new : S) (is : Staged) (last : means.seen new ≡ with_file (means.seen mid) tail.file (with_bytes tail.gate (1 ∷ []) (file_of (means.seen mid) tail.file))) where
-    pub reads_after : reading tail.head.version (means.seen new) ≡ with_payload payload (reading tail.head.version (means.seen old))
-    reads_after = after_both tail.head.version payload small (means.seen old) tail holds.keeps (means.seen mid) (means.seen new) (staged_is is) last
+  some_bytes : 1 ≤ length bytes
+  some_bytes = omega (arith, ap length framed.bytes, length-append ((layout_of tail.head.version).record_bytes tail.head.generation tail.gate payload) (0 ∷ []))
+
+  module _ (new : S) (is : Staged) (last : means.seen new ≡ second_files (means.seen mid) tail.file tail.gate) where
+    pub reads_after : ReadsMore payload (means.seen old) (means.seen new)
+    reads_after = after_both payload bytes (means.seen old) tail holds.keeps framed (means.seen mid) (means.seen new) is last
 
     pub holds_after : IsSettled means mid → Only tail.file (file_of (means.seen new) tail.file) (means.may_leave new)
         → ((r : Remains) → means.may_leave new r → (q : Remains) × means.may_leave mid q × (file_of r.files (other tail.file) ≡ file_of q.files (other tail.file)))
-        → Holds means (record tail { records = tail.records + 1; gate = tail.gate + (5 + length payload) }) new
+        → Holds means (tail_behind tail (length bytes)) new
     holds_after settled only others =
-        let some_mid = some_after (means.seen old) tail.file (tail.gate + 1) bytes (means.seen mid) is (omega (arith, ap length bytes_are, length-record_bytes payload)) holds.some_a holds.some_b in
+        let some_mid = some_after (means.seen old) tail.file (tail.gate + 1) bytes (means.seen mid) is some_bytes holds.some_a holds.some_b in
         let some = some_after (means.seen mid) tail.file tail.gate (1 ∷ []) (means.seen new) last (omega arith) some_mid.0 some_mid.1 in
         record {
           settled = settled_after (means.seen mid) tail.file _ (means.may_leave mid) (means.may_leave new) (means.seen new) last settled only others;
           some_a = some.0;
           some_b = some.1;
-          keeps = keeps_after tail.head.version payload small (means.seen old) tail holds.keeps (means.seen new) reads_after;
+          keeps = keeps_after payload bytes (means.seen old) tail holds.keeps framed (means.seen new) reads_after;
           closed = holds.closed ∙ sym (closed_after (means.seen mid) tail.file _ (means.seen new) last ∙ closed_after (means.seen old) tail.file _ (means.seen mid) is);
         }
+
+-- ---- by the tail that a caller sees, and the slice of what is framed
+
+pub fits_behind : (tail self : Kept) (framed : Framing) (slice : List ℕ) → tail ≡ self → slice ≡ framed.bytes → IsFramedBehind self framed → Fits self (length framed.payload) → tail.gate + length slice < 2 ^ 64
+fits_behind tail self framed slice same bytes is fits =
+    let size = ap length (bytes ∙ is.bytes) ∙ length-written self.head self.gate framed.payload in
+    omega (arith, fits, size, ap (λ (t : Kept). t.gate) same)
+
+pub framed_at : (tail self : Kept) (framed : Framing) (slice : List ℕ) → tail ≡ self → slice ≡ framed.bytes → IsFramedBehind self framed → IsFramedBehind tail (record { payload = framed.payload; bytes = slice })
+framed_at tail self framed slice same bytes is = subst (λ (l : List ℕ). IsFramedBehind tail (record { payload = framed.payload; bytes = l })) (sym bytes) (subst (λ (t : Kept). IsFramedBehind t framed) (sym same) is)

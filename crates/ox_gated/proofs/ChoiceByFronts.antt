@@ -1,17 +1,18 @@
--- Which of two files is current is decided by the fronts of the two.
-use Rattle.std.proofs.Common.{◌≡◌, ◌≢◌, ◌∙◌, ◌≤◌, ◌+◌, ◌-◌, min, inl, inr, ⊎_elim, ℕ, suc, Bool, true, false, List, [], ◌∷◌, length, take, drop, ◌==◌, if◌then◌else◌, refl, sym, ap, arith, length-drop, take-append-drop}
-use Rattle.std.specs.Prelude.{Ok, Err, nat_lt, slice_range}
-use Rattle.std.proofs.lemmas.Bool.{cases_lt, ltb-false}
+-- Which of two files is current is decided by the fronts of the two, of 90 bytes each.
+use Rattle.std.proofs.Common.{◌≡◌, ◌≢◌, ◌∙◌, ◌≤◌, ◌+◌, ◌-◌, min, inl, inr, ⊎_elim, ℕ, suc, Bool, true, false, List, [], ◌∷◌, length, take, drop, ◌==◌, if◌then◌else◌, refl, sym, ap, arith, take-append-drop}
+use Rattle.std.specs.Prelude.{Ok, Err, slice_range}
+use Rattle.std.proofs.lemmas.Bool.{cases_lt}
 use Rattle.std.proofs.lemmas.Bool.Decides.{eqb_tells}
-use Rattle.std.proofs.lemmas.List.{length-take, take_all, take_min, drop-drop}
+use Rattle.std.proofs.lemmas.List.{length-take, take_all, take_min}
 use Rattle.ox_outside.specs.Files.{Files, file_of}
 use Rattle.ox_outside.specs.declared.site.Which.{Which}
 use Rattle.ox_outside.specs.declared.site.Which.TheVariants.{A, B}
-use Rattle.ox_gated.specs.Layout.{is_closed, head_of}
-use Rattle.ox_gated.specs.Pick.{lone_choice, greater_of, choice_by, choice_of}
-use Rattle.ox_gated.specs.Reading.{chain, found_or_fault, fault_at, body_reading}
-use Rattle.ox_gated.specs.declared.head.Opening.{Opening}
+use Rattle.ox_gated.specs.Layout.{is_closed, head_of, layout_of, opening_at}
+use Rattle.ox_gated.specs.Opened.{IsFrontOf}
+use Rattle.ox_gated.specs.Pick.{lone_choice, greater_of, choice_by, choice_of, of_file}
+use Rattle.ox_gated.specs.declared.open.Front.{Front}
 use Rattle.ox_gated.proofs.CurrentByFront.{head_of_front}
+use Rattle.ox_gated.proofs.LayoutLaws.{laws_of}
 
 -- ---- fronts
 
@@ -26,25 +27,29 @@ empty_take : (n : ℕ) (file : List ℕ) → (length (take (suc n) file) == 0) �
 empty_take n [] = refl
 empty_take n (x ∷ file) = suc_not_zero (length (take n file)) ∙ sym (suc_not_zero (length file))
 
-pub closed_front : (file : List ℕ) → is_closed (take 26 file) ≡ is_closed file
-closed_front file = closed_take 25 file
+pub closed_front : (file : List ℕ) → is_closed (take 90 file) ≡ is_closed file
+closed_front file = closed_take 89 file
 
-head_front : (file : List ℕ) → head_of (take 26 file) ≡ head_of file
-head_front file = elim (cases_lt (length file) 26) [
-  | inl short ↦ ap head_of (take_all 26 file (omega arith))
-  | inr long ↦ sym (ap head_of (sym (take-append-drop 26 file)) ∙ head_of_front (take 26 file) (drop 26 file) (omega (arith, length-take 26 file)))
+-- of whichever version
+enough : (front : List ℕ) → 90 ≤ length front → (layout_of (opening_at front).head.version).body_at ≤ length front
+enough front long = let ends = (laws_of (opening_at front).head.version).ends in omega (arith, long, ends)
+
+head_front : (file : List ℕ) → head_of (take 90 file) ≡ head_of file
+head_front file = elim (cases_lt (length file) 90) [
+  | inl short ↦ ap head_of (take_all 90 file (omega arith))
+  | inr long ↦ sym (ap head_of (sym (take-append-drop 90 file)) ∙ head_of_front (take 90 file) (drop 90 file) (omega (arith, length-take 90 file)) (enough (take 90 file) (omega (arith, length-take 90 file))))
 ]
 
-pub choice_of-fronts : (a b : List ℕ) → choice_of (take 26 a) (take 26 b) ≡ choice_of a b
+pub choice_of-fronts : (a b : List ℕ) → choice_of (take 90 a) (take 90 b) ≡ choice_of a b
 choice_of-fronts a b =
-    ap (λ (x : Bool). choice_by x (is_closed (take 26 b)) (take 26 a) (take 26 b)) (closed_front a)
-    ∙ ap (λ (x : Bool). choice_by (is_closed a) x (take 26 a) (take 26 b)) (closed_front b)
+    ap (λ (x : Bool). choice_by x (is_closed (take 90 b)) (take 90 a) (take 90 b)) (closed_front a)
+    ∙ ap (λ (x : Bool). choice_by (is_closed a) x (take 90 a) (take 90 b)) (closed_front b)
     ∙ by (is_closed a) (is_closed b)
   where
-    by : (x y : Bool) → choice_by x y (take 26 a) (take 26 b) ≡ choice_by x y a b
+    by : (x y : Bool) → choice_by x y (take 90 a) (take 90 b) ≡ choice_by x y a b
     by true true = refl
-    by true false = λ i. if empty_take 25 a i then Err (A, 0) else lone_choice B (head_front b i)
-    by false true = λ i. if empty_take 25 b i then Err (B, 0) else lone_choice A (head_front a i)
+    by true false = λ i. if empty_take 89 a i then Err (A, 0) else lone_choice B (head_front b i)
+    by false true = λ i. if empty_take 89 b i then Err (B, 0) else lone_choice A (head_front a i)
     by false false = λ i. greater_of (head_front a i) (head_front b i)
 
 -- where one is current, both have a byte
@@ -76,29 +81,24 @@ choice_some a b found is = by (is_closed a) (is_closed b) refl refl is
 -- ---- what was read
 
 -- the front that was read
-pub front_is : (file bytes : List ℕ) (len m : ℕ) → len ≡ length file → m ≡ min len 26 → bytes ≡ slice_range file 0 (0 + m) → bytes ≡ take 26 file
+pub front_is : (file bytes : List ℕ) (len m : ℕ) → len ≡ length file → m ≡ min len 90 → bytes ≡ slice_range file 0 (0 + m) → bytes ≡ take 90 file
 front_is file bytes len m is_len is_m is =
-    let size : 0 + m - 0 ≡ min 26 (length file) = omega (arith, is_len, is_m) in
-    is ∙ ap (λ (k : ℕ). take k file) size ∙ take_min 26 file
+    let size : 0 + m - 0 ≡ min 90 (length file) = omega (arith, is_len, is_m) in
+    is ∙ ap (λ (k : ℕ). take k file) size ∙ take_min 90 file
 
-pub choice_read : (files : Files) (a b : List ℕ) → a ≡ take 26 files.a → b ≡ take 26 files.b → choice_of a b ≡ choice_of files.a files.b
+pub choice_read : (files : Files) (a b : List ℕ) → a ≡ take 90 files.a → b ≡ take 90 files.b → choice_of a b ≡ choice_of files.a files.b
 choice_read files a b is_a is_b = (λ i. choice_of (is_a i) (is_b i)) ∙ choice_of-fronts files.a files.b
 
 -- whether either file is closed
-pub closed_read : (files : Files) (a b : List ℕ) → a ≡ take 26 files.a → b ≡ take 26 files.b → (file : Which) → is_closed (file_of (record { a = a; b = b }) file) ≡ is_closed (file_of files file)
+pub closed_read : (files : Files) (a b : List ℕ) → a ≡ take 90 files.a → b ≡ take 90 files.b → (file : Which) → is_closed (file_of (record { a = a; b = b }) file) ≡ is_closed (file_of files file)
 closed_read files a b is_a is_b A = ap is_closed is_a ∙ closed_front files.a
 closed_read files a b is_a is_b B = ap is_closed is_b ∙ closed_front files.b
 
--- the current file from its body on, by the parts that were read
-pub current_read : (file : Which) (bytes : List ℕ) (opening : Opening) (len : ℕ) (body rest : List ℕ) → len ≡ length bytes → nat_lt len (26 + opening.size) ≡ false
-    → body ≡ slice_range bytes 26 (26 + opening.size) → rest ≡ slice_range bytes (26 + opening.size) (26 + opening.size + (len - (26 + opening.size)))
-    → found_or_fault file opening.head body (chain (26 + opening.size) rest).records (chain (26 + opening.size) rest).end ≡ body_reading file bytes opening
-current_read file bytes opening len body rest is_len fits is_body is_rest =
-    let size = opening.size in
-    let one : 26 + size - 26 ≡ size = omega arith in
-    let within : 26 + size ≤ len = ltb-false len (26 + size) fits in
-    let long : length (drop (26 + size) bytes) ≤ 26 + size + (len - (26 + size)) - (26 + size) = omega (arith, length-drop (26 + size) bytes, is_len, within) in
-    let body_is : body ≡ take size (drop 26 bytes) = is_body ∙ ap (λ (k : ℕ). take k (drop 26 bytes)) one in
-    let rest_is : rest ≡ drop size (drop 26 bytes) = is_rest ∙ take_all (26 + size + (len - (26 + size)) - (26 + size)) (drop (26 + size) bytes) long ∙ sym (drop-drop size 26 bytes) in
-    (λ i. found_or_fault file opening.head (body_is i) (chain (26 + size) (rest_is i)).records (chain (26 + size) (rest_is i)).end)
-    ∙ sym (ap (λ (b : Bool). if b then fault_at file 26 else found_or_fault file opening.head (take size (drop 26 bytes)) (chain (26 + size) (drop size (drop 26 bytes))).records (chain (26 + size) (drop size (drop 26 bytes))).end) (ap (λ (n : ℕ). nat_lt n (26 + size)) (sym is_len) ∙ fits))
+-- of two fronts, the one of a file
+pub front_of_file : (files : Files) (a b : Front) → IsFrontOf a files.a → IsFrontOf b files.b → (file : Which) → IsFrontOf (of_file file a b) (file_of files file)
+front_of_file files a b is_a is_b A = is_a
+front_of_file files a b is_a is_b B = is_b
+
+pub size_of_file : (a b : Front) → length a.bytes.items ≡ min 90 a.len → length b.bytes.items ≡ min 90 b.len → (file : Which) → length (of_file file a b).bytes.items ≡ min 90 (of_file file a b).len
+size_of_file a b is_a is_b A = is_a
+size_of_file a b is_a is_b B = is_b

@@ -1,14 +1,19 @@
 mod AppendKeepsTail
 mod Chain
+mod ChangedFiles
+mod ChangedRecords
 mod ChoiceByFronts
 mod CurrentByFront
+mod CurrentRead
 mod CutRecords
+mod LayoutLaws
 mod NewFiles
 pub mod OldReading
 mod OneFile
 mod OneWrite
 mod OpenedHolds
 mod OtherGate
+mod Picking
 mod Pieces
 mod RecordWrites
 mod Stands

@@ -1,25 +1,37 @@
 -- Two files that were made stand for what they were made of.
-use Rattle.std.proofs.Common.{◌≡◌, ◌∙◌, ◌<◌, ◌+◌, ◌^◌, ℕ, List, [], ◌∷◌, ◌++◌, length, true, Option, refl, sym, ap, arith}
-use Rattle.std.specs.Prelude.{Ok, IsTrue}
+use Rattle.std.proofs.Common.{◌≡◌, ◌∙◌, ◌<◌, ◌+◌, ◌^◌, inl, ℕ, Bool, List, [], ◌∷◌, ◌++◌, length, true, refl, sym, ap, arith}
+use Rattle.std.specs.Prelude.{IsTrue}
 use Rattle.std.proofs.lemmas.List.{drop_all, append-nil}
 use Rattle.ox_outside.specs.Files.{Files, file_of, with_file, with_bytes}
 use Rattle.ox_outside.specs.declared.site.Which.TheVariants.{A, B}
 use Rattle.ox_gated.specs.Layout.{is_lawful, head_of, checkpoint_bytes}
-use Rattle.ox_gated.specs.Pick.{lone_choice}
-use Rattle.ox_gated.specs.Reading.{current_reading, reading_by, reading}
+use Rattle.ox_gated.specs.OtherFile.{ReadsNew, first_gate_at}
+use Rattle.ox_gated.specs.Pick.{Picked}
+use Rattle.ox_gated.specs.Reading.{body_reading}
 use Rattle.ox_outside.specs.Crash.{Remains, Only, Follows, Tears}
 use Rattle.ox_gated.specs.Tail.{KeepsFound, new_files, new_found}
 use Rattle.ox_gated.specs.declared.head.Head.{Head}
-use Rattle.ox_gated.specs.declared.head.Opening.{Opening}
-use Rattle.ox_gated.proofs.WholeFile.{head_there, current_whole}
+use Rattle.ox_gated.proofs.Stands.{judged, reading_of}
+use Rattle.ox_gated.proofs.WholeFile.{opening, head_whole, body_whole}
 
-module _ (head : Head) (body : List ℕ) (lawful : IsTrue (is_lawful head)) (depth : head.depth < 2 ^ 16) (generation : head.generation < 2 ^ 64) (small : length body < 2 ^ 32) where
-  pub stands_made : reading head.version (new_files (record { head = head; body = body })) ≡ Ok (new_found (record { head = head; body = body }))
-  stands_made =
-      let nothing_behind : (1 ∷ checkpoint_bytes head body) ++ [] ≡ 1 ∷ checkpoint_bytes head body = append-nil (1 ∷ checkpoint_bytes head body) in
-      ap (λ (o : Option Opening). reading_by head.version (new_files (record { head = head; body = body })) (lone_choice A o)) (sym (ap head_of nothing_behind) ∙ head_there head body lawful depth generation small 1 [])
-      ∙ ap (λ (l : List ℕ). current_reading head.version A l (record { head = head; size = length body })) (sym nothing_behind)
-      ∙ current_whole head body lawful depth generation small 1 [] A
+module _ (head : Head) (body : List ℕ) (lawful : IsTrue (is_lawful head)) (depth : head.depth < 2 ^ 16) (generation : head.generation < 2 ^ 64) (small : length body < 2 ^ 64) where
+  nothing_behind : (1 ∷ checkpoint_bytes head body) ++ [] ≡ 1 ∷ checkpoint_bytes head body
+  nothing_behind = append-nil (1 ∷ checkpoint_bytes head body)
+
+  picked_made : Picked (new_files (record { head = head; body = body })) A (opening head body lawful depth generation small)
+  picked_made = record {
+    opened = refl;
+    head = sym (ap head_of nothing_behind) ∙ head_whole head body lawful depth generation small 1 [];
+    beside = inl (refl, omega arith);
+  }
+
+  pub stands_made : ReadsNew A (record { head = head; body = body }) (new_files (record { head = head; body = body }))
+  stands_made reads read =
+      let o = opening head body lawful depth generation small in
+      reading_of (new_files (record { head = head; body = body })) A o reads picked_made
+      ∙ ap (λ (b : Bool). judged b A (body_reading A (1 ∷ checkpoint_bytes head body) o)) read
+      ∙ ap (λ (l : List ℕ). body_reading A l o) (sym nothing_behind)
+      ∙ body_whole head body lawful depth generation small 1 [] A
 
 -- what the writes make of two empty files
 pub written_first : (bytes : List ℕ) → with_bytes 1 bytes (0 ∷ []) ≡ 0 ∷ bytes
@@ -48,5 +60,5 @@ made_settled m1 m2 m3 m4 s1 s4 only_b follows others3 others4 only_a same r left
     let a : r.files.a ≡ s4.a = only_a r left in
     λ i. record { a = a i; b = b i }
 
-pub made_keeps : (head : Head) (body : List ℕ) (size : ℕ) → size ≡ 26 + length body → KeepsFound (record { file = A; head = head; records = 0; gate = size; other_closed = true }) (new_found (record { head = head; body = body }))
+pub made_keeps : (head : Head) (body : List ℕ) (size : ℕ) → size ≡ first_gate_at head body → KeepsFound (record { file = A; head = head; records = 0; gate = size; other_closed = true }) (new_found (record { head = head; body = body }))
 made_keeps head body size is = record { file = refl; head = refl; records = refl; gate = is }

@@ -11,8 +11,8 @@ use Rattle.ox_outside.specs.declared.site.Which.{Which}
 use Rattle.ox_outside.specs.declared.site.Which.TheVariants.{A, B}
 use Rattle.ox_outside.proofs.Calls.{no_call, one_call, leaves_at_first, leaves_on, looks_call, looks_none}
 use Rattle.ox_outside.proofs.Counts.{file_call, stops_as, then_rose, went_on}
-use Rattle.ox_gated.specs.declared.fault.ReadFault.{ReadFault}
-use Rattle.ox_gated.specs.declared.fault.ReadFault.TheVariants as reads
+use Rattle.ox_gated.specs.declared.fault.Halt.{Halt}
+use Rattle.ox_gated.specs.declared.fault.Halt.TheVariants as halts
 use Rattle.ox_gated.specs.Tail.{IsSettled}
 use Rattle.ox_gated.specs.Writes.{OnlyWrites}
 use Rattle.ox_gated.proofs.Pieces.{not_torn}
@@ -105,12 +105,12 @@ both_settled result mid_leaves new_leaves old mid new same1 same2 crash only_a d
 -- ---- a read that failed
 
 -- for want of memory
-pub no_disk : {T : Type 0} (result : Result T ReadFault) (e : ReadFault) → result ≡ Err e → e ≡ reads.Memory → result ≡ Err reads.Disk → ⊥
+pub no_disk : {T : Type 0} (result : Result T Halt) (e : Halt) → result ≡ Err e → e ≡ halts.Memory → result ≡ Err halts.Disk → ⊥
 no_disk result e is memory disk = cc
 
 -- at a call
-pub read_failed : {T U E : Type 0} (call : Result U E) (result : Result T ReadFault) (e : ReadFault) (old new : Counts) → result ≡ Err e → e ≡ reads.Disk → StopsAtFault (IsFailure call) ⊥ ⊥ old new → StopsAtFault (IsErrOf result reads.Disk) ⊥ ⊥ old new
-read_failed call result e old new is disk stops = stops_as (IsFailure call) ⊥ ⊥ (result ≡ Err reads.Disk) ⊥ ⊥ old new (λ failed. is ∙ ap Err disk) (λ no. no) (λ no. no) stops
+pub read_failed : {T U E : Type 0} (call : Result U E) (result : Result T Halt) (e : Halt) (old new : Counts) → result ≡ Err e → e ≡ halts.Disk → StopsAtFault (IsFailure call) ⊥ ⊥ old new → StopsAtFault (IsErrOf result halts.Disk) ⊥ ⊥ old new
+read_failed call result e old new is disk stops = stops_as (IsFailure call) ⊥ ⊥ (result ≡ Err halts.Disk) ⊥ ⊥ old new (λ failed. is ∙ ap Err disk) (λ no. no) (λ no. no) stops
 
-pub read_worked : {T : Type 0} (x : T) (old new : Counts) → StopsAtFault (IsErrOf {T = T} {E = ReadFault} (Ok x) reads.Disk) ⊥ ⊥ old new → NoFault old new
+pub read_worked : {T : Type 0} (x : T) (old new : Counts) → StopsAtFault (IsErrOf {T = T} {E = Halt} (Ok x) halts.Disk) ⊥ ⊥ old new → NoFault old new
 read_worked x old new stops = went_on _ ⊥ ⊥ old new (λ is. absurd (cc is)) (λ no. no) (λ no. no) stops

@@ -9,16 +9,17 @@ use Rattle.ox_outside.specs.declared.site.Site.{Ghosts as Meanings}
 use Rattle.ox_outside.specs.declared.site.Which.{Which}
 use Rattle.ox_outside.specs.declared.site.Which.TheVariants.{A, B}
 use Rattle.ox_outside.proofs.Calls.{leaves_then, leaves_weaker}
-use Rattle.ox_gated.specs.Layout.{Whole, is_closed, head_of, is_lawful, checkpoint_bytes}
-use Rattle.ox_gated.specs.OtherFile.{ReadsAlike, BeginsShut, KeptBoth, HoldsBoth, filled_with, ReadsNew, IsOldOrNew, tail_of_other}
-use Rattle.ox_gated.specs.Reading.{Found, Fault, current_reading, reading_by, reading}
+use Rattle.ox_gated.specs.Layout.{Whole, is_closed, head_of, is_lawful, checkpoint_bytes, layout_of}
+use Rattle.ox_gated.specs.OtherFile.{BeginsShut, KeptBoth, HoldsBoth, filled_with, first_gate_at, ReadsNew, IsOldOrNew, tail_of_other}
+use Rattle.ox_gated.specs.Reading.{Found, Fault, ReadsAlike, body_reading, is_any, reading}
 use Rattle.ox_gated.specs.Tail.{Kept, Keeps, Holds, IsSettled}
 use Rattle.ox_gated.specs.declared.head.Head.{Head}
 use Rattle.ox_gated.proofs.AppendKeepsTail.{settled_after}
 use Rattle.ox_gated.proofs.OneFile.{file_of-with_file, file_of-with_other}
 use Rattle.ox_gated.specs.Pick.{Beside, Picked}
-use Rattle.ox_gated.proofs.OtherGate.{Chosen, chosen, picks, beside_alike, torn_gate, torn_behind, shut_gate, any_gate, open_gate}
-use Rattle.ox_gated.proofs.WholeFile.{opening, head_there, current_whole}
+use Rattle.ox_gated.proofs.OtherGate.{Chosen, chosen, beside_alike, torn_gate, torn_behind, shut_gate, any_gate, open_gate}
+use Rattle.ox_gated.proofs.Stands.{judged, reading_of}
+use Rattle.ox_gated.proofs.WholeFile.{opening, head_whole, body_whole}
 
 -- ---- the two files
 
@@ -68,7 +69,7 @@ module _ {S : Type 0} (means : Meanings S) (tail : Kept) (old : S) (holds : Hold
   beside = other tail.file
 
   abbrev here : Chosen files tail
-  here = chosen tail.head.version files tail holds.keeps
+  here = chosen files tail holds.keeps
 
   some_beside : 1 ≤ length (file_of files beside)
   some_beside = one_some files beside holds.some_a holds.some_b
@@ -124,7 +125,7 @@ module _ {S : Type 0} (means : Meanings S) (tail : Kept) (old : S) (holds : Hold
           settled = settled;
           some_a = some.0;
           some_b = some.1;
-          keeps = subst (Keeps (record tail { other_closed = true })) (sym (shut_alike tail.head.version)) (keeps_closed tail (reading tail.head.version files) holds.keeps);
+          keeps = subst (Keeps (record tail { other_closed = true })) (sym (shut_alike is_any)) (keeps_closed tail (reading is_any files) holds.keeps);
           closed = sym (ap is_closed now_beside);
         }
 
@@ -182,7 +183,7 @@ module _ {S : Type 0} (means : Meanings S) (tail : Kept) (old : S) (holds : Hold
       pub fill_alike : ReadsAlike files (means.seen new)
       fill_alike = shut_alike (checkpoint_bytes whole.head whole.body ++ all_is.0) new all_is.1
 
-      pub fill_holds : (gate : ℕ) → gate ≡ 26 + length whole.body → HoldsBoth means (record { tail = tail; head = whole.head; gate = gate }) whole.body new
+      pub fill_holds : (gate : ℕ) → gate ≡ first_gate_at whole.head whole.body → HoldsBoth means (record { tail = tail; head = whole.head; gate = gate }) whole.body new
       fill_holds gate gate_is =
           let behind = checkpoint_bytes whole.head whole.body ++ all_is.0 in
           record {
@@ -193,7 +194,7 @@ module _ {S : Type 0} (means : Meanings S) (tail : Kept) (old : S) (holds : Hold
 -- ---- opening
 
 module _ {S : Type 0} (means : Meanings S) (both : KeptBoth) (body : List ℕ) (old : S) (holds : HoldsBoth means both body old)
-    (lawful : IsTrue (is_lawful both.head)) (depth : both.head.depth < 2 ^ 16) (generation : both.head.generation < 2 ^ 64) (greater : both.tail.head.generation < both.head.generation) (small : both.gate < 2 ^ 32 + 26) where
+    (lawful : IsTrue (is_lawful both.head)) (depth : both.head.depth < 2 ^ 16) (generation : both.head.generation < 2 ^ 64) (greater : both.tail.head.generation < both.head.generation) (small : both.gate < 2 ^ 63 + (layout_of both.head.version).body_at) where
   abbrev were : Files
   were = means.seen old
 
@@ -201,12 +202,12 @@ module _ {S : Type 0} (means : Meanings S) (both : KeptBoth) (body : List ℕ) (
   next = other both.tail.file
 
   abbrev now : Chosen were both.tail
-  now = chosen both.tail.head.version were both.tail holds.current.keeps
+  now = chosen were both.tail holds.current.keeps
 
   abbrev behind : List ℕ
   behind = checkpoint_bytes both.head body ++ holds.filled.older
 
-  pub short : length body < 2 ^ 32
+  pub short : length body < 2 ^ 64
   short = omega (arith, small, holds.filled.gate_is)
 
   -- an image whose other file is open
@@ -220,15 +221,17 @@ module _ {S : Type 0} (means : Meanings S) (both : KeptBoth) (body : List ℕ) (
     picked_new : Picked image next (opening both.head body lawful depth generation short)
     picked_new = record {
       opened = ap is_closed parts ∙ open_gate byte behind some;
-      head = ap head_of parts ∙ head_there both.head body lawful depth generation short byte holds.filled.older;
+      head = ap head_of parts ∙ head_whole both.head body lawful depth generation short byte holds.filled.older;
       beside = inr (ap is_closed same_current ∙ now.why.opened, (now.opening, ap head_of same_current ∙ now.why.head, lesser));
     }
 
     pub reads_new : ReadsNew next (filled_with both body) image
-    reads_new =
-        ap (reading_by both.head.version image) (picks image next (opening both.head body lawful depth generation short) picked_new)
-        ∙ ap (λ (l : List ℕ). current_reading both.head.version next l (opening both.head body lawful depth generation short)) parts
-        ∙ current_whole both.head body lawful depth generation short byte holds.filled.older next
+    reads_new reads read =
+        let o = opening both.head body lawful depth generation short in
+        reading_of image next o reads picked_new
+        ∙ ap (λ (b : Bool). judged b next (body_reading next (file_of image next) o)) read
+        ∙ ap (λ (l : List ℕ). body_reading next l o) parts
+        ∙ body_whole both.head body lawful depth generation short byte holds.filled.older next
 
   open_either : (image : Files) → TornFile next 0 1 were image → IsOldOrNew next (filled_with both body) were image
   open_either image torn =
@@ -269,14 +272,14 @@ module _ {S : Type 0} (means : Meanings S) (both : KeptBoth) (body : List ℕ) (
           settled = settled_after were next _ (means.may_leave old) (means.may_leave new) (means.seen new) opened_is holds.current.settled wrote_next.durable wrote_next.others;
           some_a = some.0;
           some_b = some.1;
-          keeps = subst (Keeps (tail_of_other both.tail.file both.head both.gate)) (sym open_reads) (record { file = refl; head = refl; records = refl; gate = holds.filled.gate_is });
+          keeps = subst (Keeps (tail_of_other both.tail.file both.head both.gate)) (sym (open_reads is_any refl)) (record { file = refl; head = refl; records = refl; gate = holds.filled.gate_is });
           closed = sym (ap is_closed was ∙ now.why.opened);
         }
 
 -- ---- the three together
 
 then_alike : (before between image : Files) → ReadsAlike before between → ReadsAlike between image → ReadsAlike before image
-then_alike before between image first then_ version = then_ version ∙ first version
+then_alike before between image first then_ reads = then_ reads ∙ first reads
 
 module _ {S : Type 0} (means : Meanings S) (next : Which) (whole : Whole) (old closed : S) where
   abbrev since : Remains → Type 0

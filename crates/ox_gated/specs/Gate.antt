@@ -1,22 +1,32 @@
 -- The gates that were read, and what the first of some bytes is as a gate.
 use Rattle.std.specs.Prelude.{◌≡◌, ℕ, ◌+◌, List, [], length, Ok, Err}
-use Rattle.ox_gated.specs.Reading.{Chain, chain, with_record}
+use Rattle.ox_gated.specs.Layout.{layout_of}
+use Rattle.ox_gated.specs.Reading.{Chain, chain, gate_behind, with_record}
+use Rattle.ox_gated.specs.declared.head.Head.{Head}
 use Rattle.ox_gated.specs.declared.records.Walk.{Walk}
 
 -- what a walk over the gates gave
 abbrev pub gates_of : Walk → Chain
 gates_of walk = record { records = walk.records; end = walk.end }
 
--- closed, so the last one
-abbrev pub IsShut : List ℕ → Type 0
-IsShut bytes = (place : ℕ) → chain place bytes ≡ record { records = []; end = Ok place }
+-- the gates of a file with this head, from a place on
+abbrev pub chain_of : Head → ℕ → List ℕ → Chain
+chain_of head place bytes = chain (layout_of head.version) head.generation place bytes
 
--- missing, or its record is cut
-abbrev pub IsBroken : List ℕ → Type 0
-IsBroken bytes = (place : ℕ) → chain place bytes ≡ record { records = []; end = Err place }
+-- ---- the first of some bytes, which stand at a place
+
+-- closed, so the last one
+abbrev pub IsShut : Head → ℕ → List ℕ → Type 0
+IsShut head place bytes = chain_of head place bytes ≡ record { records = []; end = Ok place }
+
+-- missing, or its record is cut or not as its sum says
+abbrev pub IsBroken : Head → ℕ → List ℕ → Type 0
+IsBroken head place bytes = chain_of head place bytes ≡ record { records = []; end = Err place }
 
 -- open, with this payload behind it, and then these bytes
-pub record IsOpen (bytes payload rest : List ℕ) : Type 0 where
-  pub chain_is : (place : ℕ)
-      → chain place bytes ≡ with_record place payload (chain (place + (5 + length payload)) rest)
-  pub size : length bytes ≡ 5 + length payload + length rest
+pub record IsOpen (head : Head) (place : ℕ) (bytes payload rest : List ℕ) : Type 0 where
+  pub chain_is : chain_of head place bytes
+      ≡ with_record place payload
+      (chain_of head (gate_behind (layout_of head.version) place payload) rest)
+  pub size : length bytes
+      ≡ (layout_of head.version).before_payload + length payload + length rest

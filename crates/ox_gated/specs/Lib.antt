@@ -1,3 +1,4 @@
+pub mod Changed
 pub mod Gate
 pub mod Layout
 pub mod OldReading
@@ -5,6 +6,7 @@ pub mod Opened
 pub mod OtherFile
 pub mod Pick
 pub mod Reading
+pub mod RecordLayout
 pub mod Spelled
 pub mod Tail
 pub mod Writes

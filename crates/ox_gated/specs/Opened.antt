@@ -1,19 +1,21 @@
 -- What the opening of two files gives, in the words of what they stand for.
-use Rattle.std.specs.Prelude.{◌≡◌, Bool, IsTrue, length, Option, Some, None, Result, Err}
-use Rattle.ox_gated.specs.Layout.{is_lawful}
+use Rattle.std.specs.Prelude.{◌≡◌, ℕ, Bool, IsTrue, List, length, take, Option, Some, None, Result}
+use Rattle.std.specs.Prelude.{Err}
+use Rattle.ox_gated.specs.Layout.{is_lawful, summed_body_at}
 use Rattle.ox_gated.specs.Pick.{Choice}
 use Rattle.ox_gated.specs.Reading.{Found, Fault, IntactPart}
 use Rattle.ox_gated.specs.Tail.{Kept}
+use Rattle.ox_gated.specs.declared.open.Front.{Front}
 use Rattle.ox_gated.specs.declared.open.Opened.{Opened}
 use Rattle.ox_gated.specs.declared.fault.Before.{Before}
 use Rattle.ox_gated.specs.declared.fault.GateFault.{GateFault}
 use Rattle.ox_gated.specs.declared.fault.GateFault.TheVariants as gates
-use Rattle.ox_gated.specs.declared.fault.ReadFault.{ReadFault}
-use Rattle.ox_gated.specs.declared.fault.ReadFault.TheVariants as reads
+use Rattle.ox_gated.specs.declared.fault.Halt.{Halt}
+use Rattle.ox_gated.specs.declared.fault.Halt.TheVariants as halts
 
-abbrev pub gate_fault : ReadFault → GateFault
-gate_fault reads.Disk = gates.DiskFault
-gate_fault reads.Memory = gates.Memory
+abbrev pub gate_fault : Halt → GateFault
+gate_fault halts.Disk = gates.DiskFault
+gate_fault halts.Memory = gates.Memory
 
 -- what stands before a fault, where the body is there
 abbrev pub intact_part : Option Before → Option IntactPart
@@ -48,6 +50,11 @@ found_of opened = record {
   records = opened.records;
   gate = opened.tail.gate;
 }
+
+-- the length of a file and its first 90 bytes, or all where it has fewer
+pub record IsFrontOf (front : Front) (file : List ℕ) : Type 0 where
+  pub len : front.len ≡ length file
+  pub bytes : front.bytes.items ≡ take summed_body_at file
 
 -- the tail of what was opened
 abbrev pub tail_of : Opened → Bool → Kept

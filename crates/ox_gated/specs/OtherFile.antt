@@ -1,18 +1,14 @@
 -- A whole file in place of the current one: the other file is closed, filled behind its closed
 -- gate, and opened; and when it is time for that.
-use Rattle.std.specs.Prelude.{◌≡◌, ◌≢◌, ◌⊎◌, ℕ, ◌+◌, ◌≤◌, false, List, [], ◌∷◌, ◌++◌, length}
-use Rattle.std.specs.Prelude.{Ok}
+use Rattle.std.specs.Prelude.{◌≡◌, ◌≢◌, ◌⊎◌, ℕ, ◌+◌, ◌≤◌, Bool, false, IsTrue, List, [], ◌∷◌, ◌++◌}
+use Rattle.std.specs.Prelude.{length, Ok}
 use Rattle.ox_outside.specs.Files.{Files, file_of, other}
 use Rattle.ox_outside.specs.declared.site.Site.{Ghosts as Meanings}
 use Rattle.ox_outside.specs.declared.site.Which.{Which}
-use Rattle.ox_gated.specs.Layout.{Whole, checkpoint_bytes, body_at}
-use Rattle.ox_gated.specs.Reading.{Found, reading}
+use Rattle.ox_gated.specs.Layout.{Whole, checkpoint_bytes, layout_of}
+use Rattle.ox_gated.specs.Reading.{Found, ReadsAlike, reading}
 use Rattle.ox_gated.specs.Tail.{Kept, Holds}
 use Rattle.ox_gated.specs.declared.head.Head.{Head}
-
--- both pairs of files stand for the same, whichever version is read
-abbrev pub ReadsAlike : Files → Files → Type 0
-ReadsAlike files image = (version : ℕ) → reading version image ≡ reading version files
 
 -- this file stays as it is
 abbrev pub IsSpared : Which → Files → Files → Type 0
@@ -22,12 +18,16 @@ IsSpared file old new = file_of new file ≡ file_of old file
 abbrev pub BeginsShut : List ℕ → Type 0
 BeginsShut file = (rest : List ℕ) × (file ≡ 0 ∷ rest)
 
+-- where the gate behind this body is, in a file with this head
+abbrev pub first_gate_at : Head → List ℕ → ℕ
+first_gate_at head body = (layout_of head.version).body_at + length body
+
 -- Behind a closed first gate stand this head and body, and a closed gate at this place. What an
 -- older, longer file had behind that may stand there still.
 pub record IsFilled (head : Head) (body : List ℕ) (gate : ℕ) (file : List ℕ) : Type 0 where
   pub older : List ℕ
   pub bytes : file ≡ 0 ∷ checkpoint_bytes head body ++ older
-  pub gate_is : gate ≡ body_at + length body
+  pub gate_is : gate ≡ first_gate_at head body
 
 -- what a tail keeps of the current file; and of the other one, which is filled, its head and the
 -- place of its last gate
@@ -53,13 +53,15 @@ found_in file whole = record {
   head = whole.head;
   body = whole.body;
   records = [];
-  gate = body_at + length whole.body;
+  gate = first_gate_at whole.head whole.body;
 }
 
--- the files stand for the head and the body in this file, without records, where their own version
--- is read
+-- the files stand for the head and the body in this file, without records, wherever their version
+-- is one of those that are read
 abbrev pub ReadsNew : Which → Whole → Files → Type 0
-ReadsNew file whole image = reading whole.head.version image ≡ Ok (found_in file whole)
+ReadsNew file whole image =
+    (reads : ℕ → Bool) → IsTrue (reads whole.head.version)
+    → reading reads image ≡ Ok (found_in file whole)
 
 -- the files stand for what these stand for, or for the head and the body in this file
 abbrev pub IsOldOrNew : Which → Whole → Files → Files → Type 0

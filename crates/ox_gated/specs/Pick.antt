@@ -35,8 +35,8 @@ choice_by false false a b = greater_of (head_of a) (head_of b)
 abbrev pub choice_of : List ℕ → List ℕ → Choice
 choice_of a b = choice_by (is_closed a) (is_closed b) a b
 
--- of two numbers, that of this file
-abbrev pub of_file : Which → ℕ → ℕ → ℕ
+-- of what there is of each file, that of this one
+abbrev pub of_file : {A : Type 0} → Which → A → A → A
 of_file A a b = a
 of_file B a b = b
 

@@ -1,38 +1,46 @@
 -- Records one behind the other, without the closed gate that ends them in a file; and which of them
 -- are whole where these bytes are cut.
 use Rattle.std.specs.Prelude.{◌≡◌, ℕ, suc, ◌+◌, ◌<◌, ◌≤◌, List, [], ◌∷◌, ◌++◌, length, take, Err}
-use Rattle.std.specs.Int.{w32, to_le_bytes}
-use Rattle.std.specs.List.{flat_map}
-use Rattle.ox_gated.specs.Reading.{chain}
+use Rattle.ox_gated.specs.Layout.{Layout}
+use Rattle.ox_gated.specs.Reading.{chain, gate_behind}
 use Rattle.ox_gated.specs.declared.records.Record.{Record}
 
--- a record behind its open gate: the byte 1, the payload's length in four bytes, and the payload
-abbrev pub open_record : List ℕ → List ℕ
-open_record payload = 1 ∷ to_le_bytes w32 (length payload) ++ payload
-
-abbrev pub open_records : List (List ℕ) → List ℕ
-open_records = flat_map open_record
+-- a record behind its open gate, the byte 1, at this place of a file of this generation
+abbrev pub open_record : Layout → ℕ → ℕ → List ℕ → List ℕ
+open_record layout generation place payload = 1 ∷ layout.record_bytes generation place payload
 
 -- the records of these payloads, the first one's gate at this place
-abbrev pub records_from : ℕ → List (List ℕ) → List Record
-records_from place [] = []
-records_from place (payload ∷ payloads) =
+abbrev pub open_records : Layout → ℕ → ℕ → List (List ℕ) → List ℕ
+open_records layout generation place [] = []
+open_records layout generation place (payload ∷ payloads) =
+    open_record layout generation place payload
+    ++ open_records layout generation (gate_behind layout place payload) payloads
+
+-- what is read of them
+abbrev pub records_from : Layout → ℕ → List (List ℕ) → List Record
+records_from layout place [] = []
+records_from layout place (payload ∷ payloads) =
     record { place = place; payload = payload }
-    ∷ records_from (place + (5 + length payload)) payloads
+    ∷ records_from layout (gate_behind layout place payload) payloads
 
 -- Of these payloads the first k, and no more, are whole in the first n bytes of their records.
-pub record AreWhole (n k : ℕ) (payloads : List (List ℕ)) : Type 0 where
+pub record AreWhole (layout : Layout) (generation place n k : ℕ) (payloads : List (List ℕ))
+    : Type 0 where
   pub most : k ≤ length payloads
-  pub whole : length (open_records (take k payloads)) ≤ n
-  pub no_more : k < length payloads → n < length (open_records (take (suc k) payloads))
+  pub whole : length (open_records layout generation place (take k payloads)) ≤ n
+  pub no_more : k < length payloads
+      → n < length (open_records layout generation place (take (suc k) payloads))
 
 -- What the first n bytes of these records, the first of them at this place, read as: those that are
 -- whole, and behind them no gate, or one whose record is cut.
-pub record EndsCut (place n : ℕ) (payloads : List (List ℕ)) : Type 0 where
+pub record EndsCut (layout : Layout) (generation place n : ℕ) (payloads : List (List ℕ))
+    : Type 0 where
   pub count : ℕ
-  pub are_whole : AreWhole n count payloads
-  pub chain_is : chain place (take n (open_records payloads))
+  pub are_whole : AreWhole layout generation place n count payloads
+  pub chain_is : chain layout generation place
+      (take n (open_records layout generation place payloads))
       ≡ record {
-        records = records_from place (take count payloads);
-        end = Err (place + length (open_records (take count payloads)));
+        records = records_from layout place (take count payloads);
+        end = Err
+            (place + length (open_records layout generation place (take count payloads)));
       }

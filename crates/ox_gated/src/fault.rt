@@ -32,15 +32,15 @@ pub enum GateFault {
     Memory,
 }
 
-impl From<ReadFault> for GateFault {
+impl From<Halt> for GateFault {
     ghost use Rattle.ox_gated.specs.Opened.{gate_fault};
 
-    ghost from_gives = { λ fault e. e ≡ gate_fault fault };
+    ghost from_gives = { λ halt e. e ≡ gate_fault halt };
 
-    fn from(fault: ReadFault) -> GateFault {
-        match fault {
-            ReadFault::Disk => GateFault::DiskFault,
-            ReadFault::Memory => GateFault::Memory,
+    fn from(halt: Halt) -> GateFault {
+        match halt {
+            Halt::Disk => GateFault::DiskFault,
+            Halt::Memory => GateFault::Memory,
         }
     }
 }
@@ -65,29 +65,41 @@ impl From<Memory> for GateFault {
     }
 }
 
-/// Why a part of a file wasn't read.
+/// Why a call ends before its work is done.
 #[derive(Clone, Copy, Debug, PartialEq, Eq)]
-pub enum ReadFault {
+pub enum Halt {
+    /// A call on a file failed.
     Disk,
+    /// There was no memory.
     Memory,
 }
 
-impl From<Failed> for ReadFault {
-    ghost use Rattle.ox_gated.specs.declared.fault.ReadFault.TheVariants as faults;
+impl From<Failed> for Halt {
+    ghost use Rattle.ox_gated.specs.declared.fault.Halt.TheVariants as halts;
 
-    ghost from_gives = { λ _ e. e ≡ faults.Disk };
+    ghost from_gives = { λ _ e. e ≡ halts.Disk };
 
-    fn from(_failed: Failed) -> ReadFault {
-        ReadFault::Disk
+    fn from(_failed: Failed) -> Halt {
+        Halt::Disk
     }
 }
 
-impl From<AllocError> for ReadFault {
-    ghost use Rattle.ox_gated.specs.declared.fault.ReadFault.TheVariants as faults;
+impl From<Memory> for Halt {
+    ghost use Rattle.ox_gated.specs.declared.fault.Halt.TheVariants as halts;
 
-    ghost from_gives = { λ _ e. e ≡ faults.Memory };
+    ghost from_gives = { λ _ e. e ≡ halts.Memory };
 
-    fn from(_e: AllocError) -> ReadFault {
-        ReadFault::Memory
+    fn from(_memory: Memory) -> Halt {
+        Halt::Memory
+    }
+}
+
+impl From<AllocError> for Halt {
+    ghost use Rattle.ox_gated.specs.declared.fault.Halt.TheVariants as halts;
+
+    ghost from_gives = { λ _ e. e ≡ halts.Memory };
+
+    fn from(_e: AllocError) -> Halt {
+        Halt::Memory
     }
 }

@@ -1,15 +1,20 @@
 //! The head of a file.
 
-ghost use Rattle.std.specs.Prelude.{◌≡◌, ◌+◌, ◌≤◌, IfSome, IsTrue, length, slice_range};
+ghost use Rattle.std.specs.Prelude.{◌≡◌, ◌+◌, ◌≤◌, IfSome, IsTrue, length, slice_range, take};
 ghost use Rattle.std.specs.Int.{w16, w64, from_le_bytes};
-ghost use Rattle.ox_gated.specs.Layout.{is_lawful, has_magic, is_closed, head_of, body_at};
+ghost use Rattle.ox_gated.specs.Layout.{is_lawful, has_layout, is_closed, head_of, layout_of};
+ghost use Rattle.ox_gated.specs.Layout.{head_sum_at, magic_at, summed, summed_body_at, sums_at};
 
-use crate::layout::{BODY_AT, DEPTH_AT, GENERATION_AT, MAGIC_AT, PROFILE_AT, SIZE_AT, VERSION_AT};
+use crate::layout::{
+    DEPTH_AT, GENERATION_AT, HEAD_SUM_AT, MAGIC_AT, PROFILE_AT, SIZE_AT, SUMMED_BODY_AT, SUMS_AT,
+    VERSION_AT,
+};
+use sha2::{Digest, Sha256};
 
 /// What a file's head says. It lies behind the file's gate, and the length of the body follows it.
 #[derive(Clone, Copy, Debug, PartialEq, Eq)]
 pub struct Head {
-    /// 1 or 2.
+    /// From 1 to 3.
     pub version: u8,
     /// 0 mainnet, 1 regtest, 2 lab.
     pub profile: u8,
@@ -27,12 +32,12 @@ pub struct Opening {
 }
 
 impl Head {
-    /// Whether a file may have it: version 1 or 2, a known profile, a depth from 1 to 1,000, a
-    /// generation other than 0.
+    /// Whether a file may have it: a version from 1 to 3, a known profile, a depth from 1 to 1,000,
+    /// a generation other than 0.
     pub fn is_lawful(&self) -> bool
         ensures { result ≡ is_lawful self.now }
     {
-        (self.version == 1 || self.version == 2)
+        (self.version == 1 || self.version == 2 || self.version == 3)
             && self.profile < 3
             && 1 <= self.depth
             && self.depth <= 1000
@@ -40,13 +45,13 @@ impl Head {
     }
 }
 
-/// The head of an open file, of whose front these bytes are 26 or, where it has fewer, all. None
-/// where they are cut or break the form.
+/// The head of an open file, of whose front these bytes are 90 or, where it has fewer, all. None
+/// where they are cut, break the form, or aren't as their sum says.
 pub fn opening_of(front: &[u8]) -> Option<Opening>
     ensures opening { result ≡ head_of front.now }
     ensures lawful { IfSome result (λ opening. IsTrue (is_lawful opening.head)) }
 {
-    if front.len() < BODY_AT {
+    if front.len() < SUMS_AT {
         return None;
     }
     let opening = Opening {
@@ -58,7 +63,7 @@ pub fn opening_of(front: &[u8]) -> Option<Opening>
         },
         size: u64_at(front, SIZE_AT),
     };
-    if begins_with_magic(front) && opening.head.is_lawful() {
+    if opening.head.is_lawful() && has_layout(&opening.head, front) {
         Some(opening)
     } else {
         None
@@ -75,15 +80,42 @@ pub fn is_shut(front: &[u8]) -> bool
     }
 }
 
-fn begins_with_magic(front: &[u8]) -> bool
-    requires { body_at ≤ length front.now }
-    ensures { result ≡ has_magic front.now }
+/// Whether these bytes have the letters of this head's version, and where it has sums that of the
+/// head, up to the body.
+#[tactic(auto, unfolding(crate::specs::Layout::layout_of))]
+fn has_layout(head: &Head, front: &[u8]) -> bool
+    requires { sums_at ≤ length front.now }
+    ensures { result ≡ has_layout (layout_of head.now.version) front.now }
 {
-    front[MAGIC_AT] == b'o'
-        && front[MAGIC_AT + 1] == b'x'
-        && front[MAGIC_AT + 2] == b'i'
-        && front[MAGIC_AT + 3] == b'd'
-        && front[MAGIC_AT + 4] == b'x'
+    let has_letters = &front[MAGIC_AT..VERSION_AT] == head.letters();
+    if head.is_summed() {
+        front.len() >= SUMMED_BODY_AT && has_letters && is_head(&front[..SUMMED_BODY_AT])
+    } else {
+        has_letters
+    }
+}
+
+/// Whether the bytes before a body are as their sum says.
+fn is_head(front: &[u8]) -> bool
+    requires { length front.now ≡ summed_body_at }
+    ensures { result ≡ summed.is_head front.now }
+{
+    let sum = Sha256::digest(&front[MAGIC_AT..HEAD_SUM_AT]);
+    front[HEAD_SUM_AT..SUMMED_BODY_AT] == sum[..]
+}
+
+/// Whether a body is as its sum among the bytes before it says.
+#[tactic(auto, unfolding(crate::specs::Layout::layout_of))]
+pub fn is_body(head: &Head, front: &[u8], body: &[u8]) -> bool
+    requires { (layout_of head.now.version).body_at ≤ length front.now }
+    ensures { let layout = layout_of head.now.version in
+        result ≡ layout.is_body (take layout.body_at front.now) body.now }
+{
+    if !head.is_summed() {
+        return true;
+    }
+    let sum = Sha256::digest(body);
+    front[SUMS_AT..HEAD_SUM_AT] == sum[..]
 }
 
 fn u16_at(bytes: &[u8], at: usize) -> u16

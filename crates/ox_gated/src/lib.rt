@@ -15,10 +15,13 @@ mod tail;
 mod two_pieces;
 mod writes;
 
-pub use fault::{Before, GateFault};
+pub use fault::{Before, GateFault, Halt};
 pub use framed::{Checkpoint, Framed, checkpoint_of, frame, frame_parts};
 pub use head::Head;
-pub use laws::{current_files_are_chosen, cut_records_end_at_their_gate};
+pub use laws::{
+    changed_bytes_are_found, current_files_are_chosen, cut_records_end_at_their_gate,
+    layouts_read_back,
+};
 pub use layout::BODY_AT;
 pub use open::Opened;
 pub use other_file::{Closed, Filled};

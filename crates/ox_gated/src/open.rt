@@ -7,18 +7,19 @@ ghost use Rattle.std.specs.Prelude.{IsTrue, IfOk, IfErr, OnOk, OnErr, IsErrOf};
 ghost use Rattle.ox_outside.specs.Counts.{IsFailure, Rose, StopsAtFault};
 ghost use Rattle.ox_outside.specs.Files.{Files, file_of, other};
 ghost use Rattle.ox_outside.specs.Runs.{OnlyLooks};
-ghost use Rattle.ox_gated.specs.Layout.{is_closed, is_lawful, body_at};
-ghost use Rattle.ox_gated.specs.OldReading.{current_as, reading_as, old_reading};
-ghost use Rattle.ox_gated.specs.Opened.{IsBehindLawful, IsFault, IsUnpicked, found_of, tail_of};
+ghost use Rattle.ox_gated.specs.Layout.{is_closed, is_lawful, layout_of, summed_body_at};
+ghost use Rattle.ox_gated.specs.OldReading.{current_as, is_read, reading_as, old_reading};
+ghost use Rattle.ox_gated.specs.Opened.{IsBehindLawful, IsFault, IsFrontOf, IsUnpicked};
+ghost use Rattle.ox_gated.specs.Opened.{found_of, tail_of};
 ghost use Rattle.ox_gated.specs.OtherFile.{last_generation};
 ghost use Rattle.ox_gated.specs.Pick.{choice_of, of_file};
-ghost use Rattle.ox_gated.specs.Reading.{by_parts, reading};
+ghost use Rattle.ox_gated.specs.Reading.{by_parts, is_present, reading};
 ghost use Rattle.ox_gated.specs.Tail.{Holds, IsSettled};
 ghost use Rattle.ox_gated.specs.declared.fault.GateFault.TheVariants.{NotStore};
 
-use crate::fault::{Before, GateFault, ReadFault};
-use crate::head::{Head, Opening, is_shut};
-use crate::layout::{BODY_AT, GENERATION_AT, VERSION_AT};
+use crate::fault::{Before, GateFault, Halt};
+use crate::head::{Head, Opening, is_body, is_shut};
+use crate::layout::{GENERATION_AT, SUMMED_BODY_AT, VERSION_AT};
 use crate::pick::pick;
 use crate::records::{Records, Walk, walk_from};
 use crate::tail::Tail;
@@ -44,16 +45,16 @@ pub fn read_part<S: Site>(
     file: Which,
     at: u64,
     size: u64,
-) -> Result<Vec<u8>, ReadFault>
+) -> Result<Vec<u8>, Halt>
     requires { IsTrue (S.told site.old) → at + size ≤ length (file_of (S.seen site.old) file) }
     ensures bytes { IsTrue (S.told site.old)
         → IfOk result (λ bytes.
         bytes.items ≡ slice_range (file_of (S.seen site.old) file) at (at + size)) }
     ensures size { IfOk result (λ bytes. length bytes.items ≡ size) }
     ensures looks { OnlyLooks S.Site site.old site.new }
-    ensures failed { IsErrOf result ReadFault.Disk
+    ensures failed { IsErrOf result Halt.Disk
         → Rose (S.counts site.old).disk (S.counts site.new).disk }
-    ensures counted { StopsAtFault (IsErrOf result ReadFault.Disk) ⊥ ⊥
+    ensures counted { StopsAtFault (IsErrOf result Halt.Disk) ⊥ ⊥
         (S.counts site.old) (S.counts site.new) }
 {
     let mut bytes = blank(alloc, size as usize)?;
@@ -68,7 +69,7 @@ fn blank(alloc: Global, size: usize) -> Result<Vec<u8>, AllocError>
     Vec::from_elem(alloc, 0, size)
 }
 
-/// The length of a file, and its first 26 bytes, or all where it has fewer.
+/// The length of a file, and its first 90 bytes, or all where it has fewer.
 #[derive(Drop)]
 pub struct Front {
     pub len: u64,
@@ -76,68 +77,60 @@ pub struct Front {
 }
 
 /// Reads the front of a file.
-pub fn read_front<S: Site>(alloc: Global, site: &mut S, file: Which) -> Result<Front, ReadFault>
+pub fn read_front<S: Site>(alloc: Global, site: &mut S, file: Which) -> Result<Front, Halt>
     ensures len { IsTrue (S.told site.old)
         → IfOk result (λ front. front.len ≡ length (file_of (S.seen site.old) file)) }
     ensures bytes { IsTrue (S.told site.old)
-        → IfOk result (λ front. front.bytes.items ≡ take body_at (file_of (S.seen site.old) file)) }
-    ensures size { IfOk result (λ front. length front.bytes.items ≡ min body_at front.len) }
+        → IfOk result (λ front.
+        front.bytes.items ≡ take summed_body_at (file_of (S.seen site.old) file)) }
+    ensures size { IfOk result (λ front.
+        length front.bytes.items ≡ min summed_body_at front.len) }
     ensures looks { OnlyLooks S.Site site.old site.new }
-    ensures failed { IsErrOf result ReadFault.Disk
+    ensures failed { IsErrOf result Halt.Disk
         → Rose (S.counts site.old).disk (S.counts site.new).disk }
-    ensures counted { StopsAtFault (IsErrOf result ReadFault.Disk) ⊥ ⊥
+    ensures counted { StopsAtFault (IsErrOf result Halt.Disk) ⊥ ⊥
         (S.counts site.old) (S.counts site.new) }
 {
     let len = site.len(file)?;
-    let bytes = read_part(alloc, site, file, 0, len.min(BODY_AT as u64))?;
+    let bytes = read_part(alloc, site, file, 0, len.min(SUMMED_BODY_AT as u64))?;
     Ok(Front { len, bytes })
 }
 
-/// The current file of two, its head and the length of its body, its length, and whether the other
+/// The current file of two, its head and the length of its body, its front, and whether the other
 /// file is closed.
-#[derive(Clone, Copy)]
+#[derive(Drop)]
 pub struct Examined {
     pub file: Which,
     pub opening: Opening,
-    pub len: u64,
+    pub front: Front,
     pub other_closed: bool,
 }
 
-fn compare(a: &Front, b: &Front) -> Result<Examined, GateFault>
+fn compare(a: Front, b: Front) -> Result<Examined, GateFault>
     ensures found { IfOk result (λ e.
-        choice_of a.now.bytes.items b.now.bytes.items ≡ Ok (e.file, e.opening)) }
-    ensures len { IfOk result (λ e. e.len ≡ of_file e.file a.now.len b.now.len) }
-    ensures closed { let fronts : Files = record { a = a.now.bytes.items; b = b.now.bytes.items } in
+        choice_of a.bytes.items b.bytes.items ≡ Ok (e.file, e.opening)) }
+    ensures front { IfOk result (λ e. e.front ≡ of_file e.file a b) }
+    ensures closed { let fronts : Files = record { a = a.bytes.items; b = b.bytes.items } in
         IfOk result (λ e. e.other_closed ≡ is_closed (file_of fronts (other e.file))) }
-    ensures fault { IfErr result (IsUnpicked (choice_of a.now.bytes.items b.now.bytes.items)) }
+    ensures fault { IfErr result (IsUnpicked (choice_of a.bytes.items b.bytes.items)) }
     ensures behind { IfErr result IsBehindLawful }
     ensures lawful { IfOk result (λ e. IsTrue (is_lawful e.opening.head)) }
     ensures not_disk { IsErrOf result GateFault.DiskFault → ⊥ }
 {
     let (file, opening) = match pick(&a.bytes, &b.bytes) {
         Ok(current) => current,
-        Err((file, at)) => {
-            return Err(GateFault::NotStore {
-                file,
-                at,
-                before: None,
-            });
-        }
+        Err((file, at)) => return Err(refused_at(file, at)),
     };
-    match file {
-        Which::A => Ok(Examined {
-            file,
-            opening,
-            len: a.len,
-            other_closed: is_shut(&b.bytes),
-        }),
-        Which::B => Ok(Examined {
-            file,
-            opening,
-            len: b.len,
-            other_closed: is_shut(&a.bytes),
-        }),
-    }
+    let (front, other_closed) = match file {
+        Which::A => (a, is_shut(&b.bytes)),
+        Which::B => (b, is_shut(&a.bytes)),
+    };
+    Ok(Examined {
+        file,
+        opening,
+        front,
+        other_closed,
+    })
 }
 
 /// Finds out which file is current.
@@ -145,8 +138,10 @@ pub fn examine<S: Site>(alloc: Global, site: &mut S) -> Result<Examined, GateFau
     ensures found { IsTrue (S.told site.old)
         → IfOk result (λ e.
         choice_of (S.seen site.old).a (S.seen site.old).b ≡ Ok (e.file, e.opening)) }
-    ensures len { IsTrue (S.told site.old)
-        → IfOk result (λ e. e.len ≡ length (file_of (S.seen site.old) e.file)) }
+    ensures front { IsTrue (S.told site.old)
+        → IfOk result (λ e. IsFrontOf e.front (file_of (S.seen site.old) e.file)) }
+    ensures size { IfOk result (λ e.
+        length e.front.bytes.items ≡ min summed_body_at e.front.len) }
     ensures closed { IsTrue (S.told site.old)
         → IfOk result (λ e. e.other_closed ≡ is_closed (file_of (S.seen site.old) (other e.file))) }
     ensures fault { IsTrue (S.told site.old)
@@ -161,7 +156,7 @@ pub fn examine<S: Site>(alloc: Global, site: &mut S) -> Result<Examined, GateFau
 {
     let a = read_front(alloc, site, Which::A)?;
     let b = read_front(alloc, site, Which::B)?;
-    compare(&a, &b)
+    compare(a, b)
 }
 
 /// What two files hold: the tail, and of the current file which it is, its head, its body and its
@@ -182,20 +177,25 @@ fn found_or_fault(
     body: Vec<u8>,
     rest: &[u8],
 ) -> Result<Opened, GateFault>
-    requires fits { body_at + examined.now.opening.size + length rest.now < 2 ^ 64 }
+    requires fits { let e = examined.now in
+        (layout_of e.opening.head.version).body_at + e.opening.size + length rest.now < 2 ^ 64 }
     requires lawful { IsTrue (is_lawful examined.now.opening.head) }
     ensures found { let e = examined.now in
-        IfOk result (λ o. by_parts e.file e.opening body.items rest.now ≡ Ok (found_of o)) }
+        IfOk result (λ o.
+        by_parts (layout_of e.opening.head.version) e.file e.opening body.items rest.now
+        ≡ Ok (found_of o)) }
     ensures tail { IfOk result (λ o. o.tail ≡ tail_of o examined.now.other_closed) }
     ensures head { IfOk result (λ o. o.head ≡ examined.now.opening.head) }
     ensures fault { let e = examined.now in
-        IfErr result (IsFault (by_parts e.file e.opening body.items rest.now)) }
+        IfErr result
+        (IsFault (by_parts (layout_of e.opening.head.version) e.file e.opening
+        body.items rest.now)) }
     ensures behind { IfErr result IsBehindLawful }
     ensures not_disk { IsErrOf result GateFault.DiskFault → ⊥ }
 {
-    let head = examined.opening.head;
+    let Opening { head, size } = examined.opening;
     let file = examined.file;
-    let Walk { records, end } = walk_from(alloc, BODY_AT as u64 + examined.opening.size, rest)?;
+    let Walk { records, end } = walk_from(alloc, &head, head.body_at() + size, rest)?;
     let body = Bytes::from_vec(body);
     match end {
         Ok(gate) => Ok(Opened {
@@ -223,33 +223,31 @@ fn found_or_fault(
     }
 }
 
-/// Reads the body and the records of the current file. Its version has to be this one; and where
-/// another file is to follow it, its generation not the greatest.
+/// Reads the body and the records of the current file. Its version has to be one that is read; and
+/// its generation not the greatest, in an old store, which another file is to follow.
 pub fn read_current<S: Site>(
     alloc: Global,
     site: &mut S,
-    version: u8,
-    followed: bool,
+    old: bool,
     examined: &Examined,
 ) -> Result<Opened, GateFault>
-    requires len { IsTrue (S.told site.old)
-        → examined.now.len ≡ length (file_of (S.seen site.old) examined.now.file) }
+    requires front { IsTrue (S.told site.old)
+        → IsFrontOf examined.now.front (file_of (S.seen site.old) examined.now.file) }
+    requires size { let front = examined.now.front in
+        length front.bytes.items ≡ min summed_body_at front.len }
     requires lawful { IsTrue (is_lawful examined.now.opening.head) }
     ensures found { let e = examined.now in
         IsTrue (S.told site.old)
         → IfOk result (λ o.
-        current_as followed version e.file (file_of (S.seen site.old) e.file) e.opening
-        ≡ Ok (found_of o)) }
+        current_as old e.file (file_of (S.seen site.old) e.file) e.opening ≡ Ok (found_of o)) }
     ensures tail { IfOk result (λ o. o.tail ≡ tail_of o examined.now.other_closed) }
     ensures head { IfOk result (λ o. o.head ≡ examined.now.opening.head) }
-    ensures version { IfOk result (λ o. o.head.version ≡ version) }
-    ensures generation { IsTrue followed → IfOk result (λ o.
-        o.head.generation ≢ last_generation) }
+    ensures version { IfOk result (λ o. IsTrue (is_read old o.head.version)) }
+    ensures generation { IsTrue old → IfOk result (λ o. o.head.generation ≢ last_generation) }
     ensures fault { let e = examined.now in
         IsTrue (S.told site.old)
         → IfErr result
-        (IsFault
-        (current_as followed version e.file (file_of (S.seen site.old) e.file) e.opening)) }
+        (IsFault (current_as old e.file (file_of (S.seen site.old) e.file) e.opening)) }
     ensures behind { IfErr result IsBehindLawful }
     ensures looks { OnlyLooks S.Site site.old site.new }
     ensures failed { IsErrOf result GateFault.DiskFault
@@ -259,33 +257,48 @@ pub fn read_current<S: Site>(
 {
     let file = examined.file;
     let Opening { head, size } = examined.opening;
-    if head.version != version {
+    if !is_read(head.version, old) {
         return Err(refused_at(file, VERSION_AT as u64));
     }
-    if is_unfollowed(&head, followed) {
+    if is_unfollowed(&head, old) {
         return Err(refused_at(file, GENERATION_AT as u64));
     }
-    if is_cut(examined.len, size) {
-        return Err(refused_at(file, BODY_AT as u64));
+    let body_at = head.body_at();
+    if is_cut(examined.front.len, body_at, size) {
+        return Err(refused_at(file, body_at));
     }
-    let end = BODY_AT as u64 + size;
-    let body = read_part(alloc, site, file, BODY_AT as u64, size)?;
-    let rest = read_part(alloc, site, file, end, examined.len - end)?;
+    let end = body_at + size;
+    let body = read_part(alloc, site, file, body_at, size)?;
+    if !is_body(&head, &examined.front.bytes, &body) {
+        return Err(refused_at(file, body_at));
+    }
+    let rest = read_part(alloc, site, file, end, examined.front.len - end)?;
     found_or_fault(alloc, examined, body, &rest)
 }
 
-/// Whether another file is to follow one with this head, and can't.
-fn is_unfollowed(head: &Head, followed: bool) -> bool
-    ensures { result ≡ (followed && head.now.generation == last_generation) }
+/// Whether files of this version are read, in an old store or a present one.
+fn is_read(version: u8, old: bool) -> bool
+    ensures { result ≡ is_read old version }
 {
-    followed && head.generation == u64::MAX
+    if old {
+        version == 1
+    } else {
+        version == 2 || version == 3
+    }
 }
 
-/// Whether a file of this length is too short for a body of this one.
-fn is_cut(len: u64, size: u64) -> bool
+/// Whether another file is to follow one with this head, as in an old store, and can't.
+fn is_unfollowed(head: &Head, old: bool) -> bool
+    ensures { result ≡ (old && head.now.generation == last_generation) }
+{
+    old && head.generation == u64::MAX
+}
+
+/// Whether a file of this length is too short for a body of this one that begins at this place.
+fn is_cut(len: u64, body_at: u64, size: u64) -> bool
     ensures { result ≡ nat_lt len (body_at + size) }
 {
-    len < BODY_AT as u64 || len - (BODY_AT as u64) < size
+    len < body_at || len - body_at < size
 }
 
 fn refused_at(file: Which, at: u64) -> GateFault
@@ -298,23 +311,17 @@ fn refused_at(file: Which, at: u64) -> GateFault
     }
 }
 
-/// Opens two files of this version, behind which another one is to follow or not: see `Tail::open`
-/// and `Tail::open_old`.
-pub fn open_files<S: Site>(
-    alloc: Global,
-    site: &mut S,
-    version: u8,
-    followed: bool,
-) -> Result<Opened, GateFault>
+/// Opens two files, of an old store or a present one: see `Tail::open_old` and `Tail::open`.
+pub fn open_files<S: Site>(alloc: Global, site: &mut S, old: bool) -> Result<Opened, GateFault>
     ensures found { IsTrue (S.told site.old)
-        → IfOk result (λ o. reading_as followed version (S.seen site.old) ≡ Ok (found_of o)) }
+        → IfOk result (λ o. reading_as old (S.seen site.old) ≡ Ok (found_of o)) }
     ensures holds { IsTrue (S.told site.old) → IfOk result (λ o. Holds S.Site o.tail site.new) }
-    ensures head { IfOk result (λ o. (o.tail.head ≡ o.head) × (o.head.version ≡ version)) }
-    ensures generation { IsTrue followed → IfOk result (λ o.
-        o.head.generation ≢ last_generation) }
+    ensures head { IfOk result (λ o.
+        (o.tail.head ≡ o.head) × IsTrue (is_read old o.head.version)) }
+    ensures generation { IsTrue old → IfOk result (λ o. o.head.generation ≢ last_generation) }
     ensures lawful { IfOk result (λ o. IsTrue (is_lawful o.head)) }
     ensures not_store { IsTrue (S.told site.old)
-        → IfErr result (IsFault (reading_as followed version (S.seen site.old))) }
+        → IfErr result (IsFault (reading_as old (S.seen site.old))) }
     ensures behind { IfErr result IsBehindLawful }
     ensures failed { IsErrOf result GateFault.DiskFault
         → Rose (S.counts site.old).disk (S.counts site.new).disk }
@@ -328,32 +335,27 @@ pub fn open_files<S: Site>(
         Ok(examined) => examined,
         Err(fault) => return Err(fault),
     };
-    read_current(alloc, site, version, followed, &examined)
+    read_current(alloc, site, old, &examined)
 }
 
-/// The version that is read and written.
-const VERSION: u8 = 2;
-
-/// The version before it, which is read where a file of the present one is to follow.
-const OLD_VERSION: u8 = 1;
-
 impl Tail {
-    /// Opens two files of version 2. It begins with a sync of both, and changes nothing: at no
+    /// Opens two files of version 2 or 3. It begins with a sync of both, and changes nothing: at no
     /// moment does a crash leave anything that it didn't leave before. What is opened has a lawful
-    /// head of version 2, whatever the site tells. Unless a call failed, each crash image of the
-    /// two is then what a read gives.
+    /// head of one of these versions, whatever the site tells. Unless a call failed, each crash
+    /// image of the two is then what a read gives.
     ///
     /// `NotStore` comes exactly where the files stand for nothing, with the file and the place of
     /// the first test that fails; `DiskFault` only where a call on a file failed; `Memory` where
     /// there is none for what the files hold.
     pub fn open<S: Site>(alloc: Global, site: &mut S) -> Result<Opened, GateFault>
         ensures found { IsTrue (S.told site.old)
-            → IfOk result (λ o. reading 2 (S.seen site.old) ≡ Ok (found_of o)) }
+            → IfOk result (λ o. reading is_present (S.seen site.old) ≡ Ok (found_of o)) }
         ensures holds { IsTrue (S.told site.old) → IfOk result (λ o. Holds S.Site o.tail site.new) }
-        ensures head { IfOk result (λ o. (o.tail.head ≡ o.head) × (o.head.version ≡ 2)) }
+        ensures head { IfOk result (λ o.
+            (o.tail.head ≡ o.head) × IsTrue (is_present o.head.version)) }
         ensures lawful { IfOk result (λ o. IsTrue (is_lawful o.head)) }
         ensures not_store { IsTrue (S.told site.old)
-            → IfErr result (IsFault (reading 2 (S.seen site.old))) }
+            → IfErr result (IsFault (reading is_present (S.seen site.old))) }
         ensures behind { IfErr result IsBehindLawful }
         ensures failed { IsErrOf result GateFault.DiskFault
             → Rose (S.counts site.old).disk (S.counts site.new).disk }
@@ -362,12 +364,12 @@ impl Tail {
         ensures settled { ¬ IsErrOf result GateFault.DiskFault → IsSettled S.Site site.new }
         ensures looks { OnlyLooks S.Site site.old site.new }
     {
-        open_files(alloc, site, VERSION, false)
+        open_files(alloc, site, false)
     }
 
-    /// Opens two files of version 1, so that a checkpoint of version 2 can follow. Of the tests it
-    /// makes one more than `open`, between that of the version and that of the body: `NotStore`
-    /// comes too with the current file and place 10, where its generation is
+    /// Opens two files of version 1, so that a checkpoint of a later version can follow. Of the
+    /// tests it makes one more than `open`, between that of the version and that of the body:
+    /// `NotStore` comes too with the current file and place 10, where its generation is
     /// 18,446,744,073,709,551,615, which no other follows. What is opened has a lawful head of
     /// version 1 and of a lesser generation, whatever the site tells.
     ///
@@ -392,6 +394,6 @@ impl Tail {
         ensures settled { ¬ IsErrOf result GateFault.DiskFault → IsSettled S.Site site.new }
         ensures looks { OnlyLooks S.Site site.old site.new }
     {
-        open_files(alloc, site, OLD_VERSION, true)
+        open_files(alloc, site, true)
     }
 }

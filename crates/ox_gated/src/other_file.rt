@@ -5,16 +5,15 @@ ghost use Rattle.std.specs.Prelude.{IsTrue, IfOk, OnOk, OnErr};
 ghost use Rattle.ox_outside.specs.Counts.{IsFailure, Rose, StopsAtFault};
 ghost use Rattle.ox_outside.specs.Files.{file_of, other};
 ghost use Rattle.ox_outside.specs.Runs.{LeavesOnly};
-ghost use Rattle.ox_gated.specs.Layout.{body_at};
-ghost use Rattle.ox_gated.specs.OtherFile.{ReadsAlike, BeginsShut, HoldsBoth, IsOldOrNew, IsSpared};
-ghost use Rattle.ox_gated.specs.OtherFile.{ReadsNew, MustTurn, filled_with, tail_of_other};
+ghost use Rattle.ox_gated.specs.OtherFile.{BeginsShut, HoldsBoth, IsOldOrNew, IsSpared, ReadsNew};
+ghost use Rattle.ox_gated.specs.OtherFile.{MustTurn, filled_with, first_gate_at, tail_of_other};
+ghost use Rattle.ox_gated.specs.Reading.{ReadsAlike};
 ghost use Rattle.ox_gated.specs.Tail.{Holds};
 ghost use Rattle.ox_gated.specs.Writes.{OnlyWrites};
 ghost use Rattle.ox_gated.specs.Written.{with_open_gate};
 
 use crate::framed::Checkpoint;
 use crate::head::Head;
-use crate::layout::BODY_AT;
 use crate::tail::{DiskFault, Tail};
 use crate::two_pieces::write_pieces_synced;
 use crate::writes::write_synced;
@@ -50,7 +49,7 @@ pub struct Filled {
 
 impl Model for Filled {
     ghost use Rattle.std.specs.Prelude.{◌+◌, ◌<◌, ◌^◌, IsTrue};
-    ghost use Rattle.ox_gated.specs.Layout.{is_lawful, body_at};
+    ghost use Rattle.ox_gated.specs.Layout.{is_lawful, layout_of};
     ghost use Rattle.ox_gated.specs.OtherFile.{KeptBoth};
 
     ghost Value = { KeptBoth };
@@ -60,7 +59,7 @@ impl Model for Filled {
     ghost invariant = { λ f.
         IsTrue (is_lawful f.head) × (f.head.depth < 2 ^ 16) × (f.head.generation < 2 ^ 64)
         × (f.tail.head.generation < f.head.generation)
-        × (f.gate < 2 ^ 32 + body_at) };
+        × (f.gate < 2 ^ 63 + (layout_of f.head.version).body_at) };
 }
 
 /// How many records a file has at the least when the other one takes its place.
@@ -86,7 +85,7 @@ impl Tail {
     }
 
     /// Closes the other file, unless it is closed: then no call is made. At any moment of it each
-    /// crash leaves files that stand for what they stood for, whichever version is read.
+    /// crash leaves files that stand for what they stood for, whichever versions are read.
     /// `DiskFault` comes only where a call on a file failed; the tail is gone then.
     pub fn close_other<S: Site>(self, site: &mut S) -> Result<Closed, DiskFault>
         requires { IsTrue (S.told site.old) → Holds S.Site self site.old }
@@ -130,8 +129,9 @@ impl Tail {
         // The file that was current stays as it is.
         ensures spared { IsTrue (S.told site.old)
             → OnOk result (IsSpared self.file (S.seen site.old) (S.seen site.new)) }
-        ensures kept { let gate = body_at + length checkpoint.now.body in
-            IfOk result (λ tail. tail ≡ tail_of_other self.file checkpoint.now.head gate) }
+        ensures kept { let whole = checkpoint.now in
+            IfOk result (λ tail. tail
+            ≡ tail_of_other self.file whole.head (first_gate_at whole.head whole.body)) }
         ensures any_moment { IsTrue (S.told site.old)
             → LeavesOnly S.Site site.old site.new
             (λ r. IsOldOrNew (other self.file) checkpoint.now (S.seen site.old) r.files) }
@@ -149,8 +149,8 @@ impl Tail {
 impl Closed {
     /// Writes a file of this head and body, without records, behind the other file's closed gate,
     /// and syncs it. What an older, longer file had behind it stays there. At any moment of the
-    /// call each crash leaves files that stand for what they stood for, whichever version is read.
-    /// `DiskFault` comes only where a call on a file failed; the tail is gone then.
+    /// call each crash leaves files that stand for what they stood for, whichever versions are
+    /// read. `DiskFault` comes only where a call on a file failed; the tail is gone then.
     pub fn fill_other<S: Site>(
         self,
         site: &mut S,
@@ -166,7 +166,7 @@ impl Closed {
             IfOk result (λ filled. filled ≡ record {
               tail = self;
               head = whole.head;
-              gate = body_at + length whole.body;
+              gate = first_gate_at whole.head whole.body;
             }) }
         ensures alike { IsTrue (S.told site.old)
             → OnOk result (ReadsAlike (S.seen site.old) (S.seen site.new)) }
@@ -191,8 +191,9 @@ impl Closed {
 impl Filled {
     /// Opens the other file, in a write of its own, and syncs it: it is current then, without a
     /// record. At any moment of the call each crash leaves files that stand for what they stood
-    /// for, whichever version is read, or for what the other file was filled with, at its version.
-    /// `DiskFault` comes only where a call on a file failed; the tail is gone then.
+    /// for, whichever versions are read, or for what the other file was filled with, where its
+    /// version is one of them. `DiskFault` comes only where a call on a file failed; the tail is
+    /// gone then.
     pub fn open_other<S: Site>(self, site: &mut S) -> Result<Tail, DiskFault>
         requires { IsTrue (S.told site.old)
             → (body : List ℕ) × HoldsBoth S.Site self body site.old }

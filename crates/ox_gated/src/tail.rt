@@ -52,8 +52,9 @@ impl Model for Tail {
 
 impl Tail {
     ghost use Rattle.std.specs.Prelude.{length, ◌≤◌};
-    ghost use Rattle.ox_gated.specs.Reading.{reading, with_payload};
-    ghost use Rattle.ox_gated.specs.Tail.{Holds, IsBeforeOrAfter, Fits, new_files, new_found};
+    ghost use Rattle.ox_gated.specs.OtherFile.{ReadsNew};
+    ghost use Rattle.ox_gated.specs.Reading.{ReadsMore};
+    ghost use Rattle.ox_gated.specs.Tail.{Holds, IsBeforeOrAfter, IsFramedBehind, Fits, new_files};
 
     /// The tail of files that were read.
     pub(crate) fn at(file: Which, head: Head, records: u64, gate: u64, other_closed: bool) -> Tail
@@ -96,6 +97,13 @@ impl Tail {
         self.records
     }
 
+    /// The place of the last gate of the current file, which is closed.
+    pub(crate) fn gate(&self) -> u64
+        ensures { result ≡ self.now.gate }
+    {
+        self.gate
+    }
+
     /// Whether the other file is closed.
     pub(crate) fn is_other_closed(&self) -> bool
         ensures { result ≡ self.now.other_closed }
@@ -119,37 +127,35 @@ impl Tail {
         ensures { IsTrue result ↔ Fits self.now size }
     {
         match self.gate.checked_add(size) {
-            Some(end) => end < u64::MAX - 5,
+            Some(end) => end < u64::MAX - self.head.before_payload(),
             None => false,
         }
     }
 
     /// Appends a record. At `Ok` it is on the disk: each crash then leaves files that have it. At
     /// any moment of the call a crash leaves files that stand for what they stood for before, with
-    /// the record behind it or without. No event of a channel is logged. `DiskFault` comes only
-    /// where a call on a file failed.
+    /// the record behind it or without, whichever versions are read. No event of a channel is
+    /// logged. `DiskFault` comes only where a call on a file failed.
     ///
-    /// The record is written behind the closed gate, and the gate is then the byte 1; nothing else
-    /// of the two files changes.
+    /// The record is written behind the closed gate, as `frame` gives it, and the gate is then the
+    /// byte 1; nothing else of the two files changes.
     pub fn append<S: Site>(self, site: &mut S, framed: &Framed) -> Result<Tail, DiskFault>
-        requires fits { Fits self (length framed.now) }
+        requires framed { IsFramedBehind self framed.now }
+        requires fits { Fits self (length framed.now.payload) }
         requires holds { IsTrue (S.told site.old) → Holds S.Site self site.old }
         ensures holds { IsTrue (S.told site.old)
             → IfOk result (λ tail. Holds S.Site tail site.new) }
-        ensures appended { let v = self.head.version in
-            IsTrue (S.told site.old)
-            → IfOk result (λ tail.
-            reading v (S.seen site.new) ≡ with_payload framed.now (reading v (S.seen site.old))) }
+        ensures appended { IsTrue (S.told site.old)
+            → OnOk result (ReadsMore framed.now.payload (S.seen site.old) (S.seen site.new)) }
         ensures files { IsTrue (S.told site.old)
             → OnOk result (S.seen site.new
-            ≡ with_record_behind self.file self.gate framed.now (S.seen site.old)) }
+            ≡ with_record_behind self.file self.gate framed.now.bytes (S.seen site.old)) }
         ensures kept { IfOk result (λ tail.
             (tail.file ≡ self.file) × (tail.head ≡ self.head)
             × (tail.records ≡ self.records + 1)) }
-        ensures any_moment { let v = self.head.version in
-            IsTrue (S.told site.old)
+        ensures any_moment { IsTrue (S.told site.old)
             → LeavesOnly S.Site site.old site.new
-            (λ r. IsBeforeOrAfter v framed.now (S.seen site.old) r.files) }
+            (λ r. IsBeforeOrAfter framed.now.payload (S.seen site.old) r.files) }
         ensures failed { OnErr result (Rose (S.counts site.old).disk (S.counts site.new).disk) }
         ensures counted { StopsAtFault (IsFailure result) ⊥ ⊥
             (S.counts site.old) (S.counts site.new) }
@@ -174,9 +180,8 @@ impl Tail {
             → IfOk result (λ tail. S.seen site.new ≡ new_files checkpoint.now) }
         ensures holds { IsTrue (S.told site.old)
             → IfOk result (λ tail. Holds S.Site tail site.new) }
-        ensures stands { let v = checkpoint.now.head.version in
-            IsTrue (S.told site.old)
-            → IfOk result (λ tail. reading v (S.seen site.new) ≡ Ok (new_found checkpoint.now)) }
+        ensures stands { IsTrue (S.told site.old)
+            → OnOk result (ReadsNew Which.A checkpoint.now (S.seen site.new)) }
         ensures kept { IfOk result (λ tail.
             (tail.file ≡ Which.A) × (tail.head ≡ checkpoint.now.head) × (tail.records ≡ 0)) }
         ensures failed { OnErr result (Rose (S.counts site.old).disk (S.counts site.new).disk) }

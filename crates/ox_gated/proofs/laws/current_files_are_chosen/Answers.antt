@@ -1,4 +1,4 @@
-use Rattle.ox_gated.proofs.OtherGate.{picked, picks}
+use Rattle.ox_gated.proofs.Picking.{picked, picks}
 use Rattle.ox_gated.proofs.laws.current_files_are_chosen.Goals as goal
 
 pub returns : goal.returns

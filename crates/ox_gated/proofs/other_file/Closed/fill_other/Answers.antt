@@ -1,7 +1,7 @@
 use Rattle.std.proofs.Common.{◌≡◌, ◌∙◌, ◌+◌, ◌++◌, [], ◌∷◌, length, sym, ap, subst, append_assoc, arith}
 use Rattle.ox_outside.specs.Files.{file_of, other}
 use Rattle.ox_gated.specs.Layout.{head_bytes, checkpoint_bytes}
-use Rattle.ox_gated.specs.OtherFile.{HoldsBoth}
+use Rattle.ox_gated.specs.OtherFile.{HoldsBoth, first_gate_at}
 use Rattle.ox_gated.specs.Tail.{Kept, Holds}
 use Rattle.ox_gated.specs.declared.head.Head.{Head}
 use Rattle.ox_gated.proofs.OneFile.{spared}
@@ -26,7 +26,7 @@ returns-clause-alike g c told =
     let h : Holds g.S.Site tail c.args.site.now = subst (λ (t : Kept). Holds g.S.Site t c.args.site.now) (sym c.self.view_is) (c.requires.holds told) in
     let e = c.in_ok-write_pieces_synced.ensures in
     let w = c.args.checkpoint.now in
-    let bytes_are : c.front-front.result.now ++ c.behind-behind.result.now ≡ checkpoint_bytes w.head w.body = (λ i. c.front-front.ensures.bytes i ++ c.behind-behind.ensures.bytes i) ∙ sym (append_assoc (head_bytes w.head (length w.body)) w.body (0 ∷ [])) in
+    let bytes_are : c.front-front.result.now ++ c.behind-behind.result.now ≡ checkpoint_bytes w.head w.body = (λ i. c.front-front.ensures.bytes i ++ c.behind-behind.ensures.bytes i) ∙ sym (append_assoc (head_bytes w.head w.body) w.body (0 ∷ [])) in
     fill_alike g.S.Site tail c.args.site.now h c.self.invariant c.other_file.result (c.other_file.ensures ∙ ap other c.file.ensures) w _ bytes_are c.write_pieces_synced.new.site (record { written = e.written told; durable = e.durable; others = e.others })
 
 pub returns-clause-holds : goal.returns-clause-holds
@@ -37,8 +37,8 @@ returns-clause-holds g c told =
     let w = c.args.checkpoint.now in
     let new = c.write_pieces_synced.new.site in
     let gate = length c.front-front.result.now + length c.behind-behind.result.now in
-    let bytes_are : c.front-front.result.now ++ c.behind-behind.result.now ≡ checkpoint_bytes w.head w.body = (λ i. c.front-front.ensures.bytes i ++ c.behind-behind.ensures.bytes i) ∙ sym (append_assoc (head_bytes w.head (length w.body)) w.body (0 ∷ [])) in
-    let gate_is : gate ≡ 26 + length w.body = omega (arith, c.front-front.ensures.size, c.behind-behind.ensures.size) in
+    let bytes_are : c.front-front.result.now ++ c.behind-behind.result.now ≡ checkpoint_bytes w.head w.body = (λ i. c.front-front.ensures.bytes i ++ c.behind-behind.ensures.bytes i) ∙ sym (append_assoc (head_bytes w.head w.body) w.body (0 ∷ [])) in
+    let gate_is : gate ≡ first_gate_at w.head w.body = omega (arith, c.front-front.ensures.size, c.behind-behind.ensures.size) in
     subst (λ (head : Head). HoldsBoth g.S.Site (record { tail = tail; head = head; gate = gate }) w.body new) (sym c.head.ensures)
     (fill_holds g.S.Site tail c.args.site.now h c.self.invariant c.other_file.result (c.other_file.ensures ∙ ap other c.file.ensures) w _ bytes_are new (record { written = e.written told; durable = e.durable; others = e.others }) gate gate_is)
 

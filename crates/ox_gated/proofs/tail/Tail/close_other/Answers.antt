@@ -18,8 +18,8 @@ returns-then-is_other_closed g c =
       shut = λ told. shut_now g.S.Site c.args.self site (c.requires told) shut;
       spared = λ told. refl;
       kept = λ i. record c.args.self { other_closed = shut i };
-      alike = λ told version. refl;
-      any_moment = λ told. leaves_at_first g.S.Site site _ (λ r left version. ap (reading version) ((c.requires told).settled r (g.met.S.Site.only_now site r left)));
+      alike = λ told reads. refl;
+      any_moment = λ told. leaves_at_first g.S.Site site _ (λ r left reads. ap (reading reads) ((c.requires told).settled r (g.met.S.Site.only_now site r left)));
       failed = tt;
       counted = stops_at_none _ _ _ _ _ (no_fault_yet _);
       writes = writes_none g.S.Site g.met.S.Site.only_now g.met.S.Site.logs_now site;

@@ -2,14 +2,14 @@ use Rattle.std.proofs.Common.{◌≡◌, ◌∙◌, ◌≤◌, ◌+◌, ℕ, Lis
 use Rattle.ox_outside.specs.Files.{Files}
 use Rattle.ox_outside.specs.declared.site.Which.TheVariants.{A}
 use Rattle.ox_gated.specs.Layout.{is_closed, head_bytes, checkpoint_bytes}
-use Rattle.ox_gated.specs.Reading.{reading}
+use Rattle.ox_gated.specs.Reading.{is_any, reading}
 use Rattle.ox_gated.specs.Tail.{Kept, Keeps, Holds, new_files}
 use Rattle.ox_gated.specs.declared.head.Head.{Head}
 use Rattle.ox_gated.proofs.NewFiles.{stands_made, made_is, first_b, made_settled, made_keeps}
 use Rattle.std.proofs.lemmas.Result.{err_from_is_err_and}
 use Rattle.ox_outside.proofs.Counts.{file_call, no_fault_then, none_fell_then, stops_after, stops_at_none, then_rose}
 use Rattle.ox_gated.proofs.Writing.{writes_then, writes_call, all_worked, ends_failed}
-use Rattle.ox_gated.proofs.OneWrite.{file_worked, if_none, on_failed}
+use Rattle.ox_gated.proofs.OneWrite.{file_worked, if_none, on_failed, on_none}
 use Rattle.ox_gated.proofs.tail.Tail.make.Goals as goal
 
 pub returns-in_err-write_synced : goal.returns-in_err-write_synced
@@ -18,7 +18,7 @@ returns-in_err-write_synced g c =
     let p = err_from_is_err_and result c.from_residual.ensures.1 in record {
       made = λ told. if_none result p.0 p.1 _;
       holds = λ told. if_none result p.0 p.1 _;
-      stands = λ told. if_none result p.0 p.1 _;
+      stands = λ told. on_none result p.0 p.1 _;
       kept = if_none result p.0 p.1 _;
       failed = on_failed result p.0 p.1 _ (c.in_err-write_synced.ensures.failed);
       counted = ends_failed _ result p.0 _ _ p.1 (c.write_synced.ensures.counted);
@@ -32,7 +32,7 @@ returns-in_err-write g c =
     let p = err_from_is_err_and result c.from_residual-in_err-write.ensures.1 in record {
       made = λ told. if_none result p.0 p.1 _;
       holds = λ told. if_none result p.0 p.1 _;
-      stands = λ told. if_none result p.0 p.1 _;
+      stands = λ told. on_none result p.0 p.1 _;
       kept = if_none result p.0 p.1 _;
       failed = on_failed result p.0 p.1 _ (then_rose _ _ _ c.in_ok-write_synced.ensures.writes.calls.none_fell.disk c.in_err-write.ensures.failed);
       counted = ends_failed _ result p.0 _ _ p.1 (stops_after _ _ _ _ _ _ (all_worked _ _ c.in_ok-write_synced.ensures.counted) (file_call _ _ _ c.write.ensures.counted));
@@ -46,7 +46,7 @@ returns-in_err-write_pieces_synced g c =
     let p = err_from_is_err_and result c.from_residual-in_err-write_pieces_synced.ensures.1 in record {
       made = λ told. if_none result p.0 p.1 _;
       holds = λ told. if_none result p.0 p.1 _;
-      stands = λ told. if_none result p.0 p.1 _;
+      stands = λ told. on_none result p.0 p.1 _;
       kept = if_none result p.0 p.1 _;
       failed = on_failed result p.0 p.1 _ (then_rose _ _ _ (none_fell_then _ _ _ c.in_ok-write_synced.ensures.writes.calls.none_fell c.in_ok-write.ensures.call.none_fell).disk c.in_err-write_pieces_synced.ensures.failed);
       counted = ends_failed _ result p.0 _ _ p.1 (stops_after _ _ _ _ _ _ (no_fault_then _ _ _ (all_worked _ _ c.in_ok-write_synced.ensures.counted) (file_worked _ _ _ c.in_ok-write.ensures.counted)) c.write_pieces_synced.ensures.counted);
@@ -61,7 +61,7 @@ returns-in_err-write_synced-2 g c =
     let p = err_from_is_err_and result c.from_residual-in_err-write_synced-2.ensures.1 in record {
       made = λ told. if_none result p.0 p.1 _;
       holds = λ told. if_none result p.0 p.1 _;
-      stands = λ told. if_none result p.0 p.1 _;
+      stands = λ told. on_none result p.0 p.1 _;
       kept = if_none result p.0 p.1 _;
       failed = on_failed result p.0 p.1 _ (then_rose _ _ _ (none_fell_then _ _ _ (none_fell_then _ _ _ c.in_ok-write_synced.ensures.writes.calls.none_fell c.in_ok-write.ensures.call.none_fell) c.in_ok-write_pieces_synced.ensures.writes.calls.none_fell).disk c.in_err-write_synced-2.ensures.failed);
       counted = ends_failed _ result p.0 _ _ p.1 (stops_after _ _ _ _ _ _ (no_fault_then _ _ _ (no_fault_then _ _ _ (all_worked _ _ c.in_ok-write_synced.ensures.counted) (file_worked _ _ _ c.in_ok-write.ensures.counted)) (all_worked _ _ c.in_ok-write_pieces_synced.ensures.counted)) c.write_synced-2.ensures.counted);
@@ -77,7 +77,7 @@ returns g c = record {
       let b = c.behind-behind.ensures in
       let pieces = c.front-front.result.now ++ c.behind-behind.result.now in
       let w = c.args.checkpoint.now in
-      let bytes_are : pieces ≡ checkpoint_bytes w.head w.body = (λ i. c.front-front.ensures.bytes i ++ b.bytes i) ∙ sym (append_assoc (head_bytes w.head (length w.body)) w.body (0 ∷ [])) in
+      let bytes_are : pieces ≡ checkpoint_bytes w.head w.body = (λ i. c.front-front.ensures.bytes i ++ b.bytes i) ∙ sym (append_assoc (head_bytes w.head w.body) w.body (0 ∷ [])) in
       let told1 = c.in_ok-write_synced.ensures.writes.calls.as_told ∙ told in
       let told2 = c.in_ok-write.ensures.call.as_told ∙ told1 in
       let told3 = c.in_ok-write_pieces_synced.ensures.writes.calls.as_told ∙ told2 in
@@ -88,7 +88,7 @@ returns g c = record {
       let b = c.behind-behind.ensures in
       let pieces = c.front-front.result.now ++ c.behind-behind.result.now in
       let w = c.args.checkpoint.now in
-      let bytes_are : pieces ≡ checkpoint_bytes w.head w.body = (λ i. c.front-front.ensures.bytes i ++ b.bytes i) ∙ sym (append_assoc (head_bytes w.head (length w.body)) w.body (0 ∷ [])) in
+      let bytes_are : pieces ≡ checkpoint_bytes w.head w.body = (λ i. c.front-front.ensures.bytes i ++ b.bytes i) ∙ sym (append_assoc (head_bytes w.head w.body) w.body (0 ∷ [])) in
       let told1 = c.in_ok-write_synced.ensures.writes.calls.as_told ∙ told in
       let told2 = c.in_ok-write.ensures.call.as_told ∙ told1 in
       let told3 = c.in_ok-write_pieces_synced.ensures.writes.calls.as_told ∙ told2 in
@@ -96,8 +96,8 @@ returns g c = record {
       let is : g.S.Site.seen c.write_synced-2.new.site ≡ new_files w = last ∙ ap (λ (l : List ℕ). record { a = 1 ∷ l; b = 0 ∷ [] }) bytes_are in
       let b_same = first_b _ _ (c.requires.empty told) (c.in_ok-write_synced.ensures.written told) ∙ sym (ap (λ (f : Files). f.b) last) in
       let tail : Kept = record { file = A; head = w.head; records = 0; gate = length c.front-front.result.now + length c.behind-behind.result.now; other_closed = true } in
-      let keeps : Keeps tail (reading w.head.version (g.S.Site.seen c.write_synced-2.new.site)) =
-      subst (Keeps tail) (sym (ap (reading w.head.version) is ∙ stands_made w.head w.body b.lawful b.depth b.generation b.small)) (made_keeps w.head w.body _ (omega (arith, c.front-front.ensures.size, b.size))) in
+      let keeps : Keeps tail (reading is_any (g.S.Site.seen c.write_synced-2.new.site)) =
+      subst (Keeps tail) (sym (ap (reading is_any) is ∙ stands_made w.head w.body b.lawful b.depth b.generation (omega (arith, b.small)) is_any refl)) (made_keeps w.head w.body _ (omega (arith, c.front-front.ensures.size, b.size))) in
       subst (λ (h : Head). Holds g.S.Site (record tail { head = h }) c.write_synced-2.new.site) (sym c.head.ensures) (
       record {
         settled = made_settled (g.S.Site.may_leave c.write_synced.new.site) (g.S.Site.may_leave c.write.new.self) (g.S.Site.may_leave c.write_pieces_synced.new.site) (g.S.Site.may_leave c.write_synced-2.new.site)
@@ -108,17 +108,17 @@ returns g c = record {
         closed = sym (ap (λ (f : Files). is_closed f.b) is);
       }
       );
-  stands = λ told.
+  stands = λ told reads read.
       let b = c.behind-behind.ensures in
       let pieces = c.front-front.result.now ++ c.behind-behind.result.now in
       let w = c.args.checkpoint.now in
-      let bytes_are : pieces ≡ checkpoint_bytes w.head w.body = (λ i. c.front-front.ensures.bytes i ++ b.bytes i) ∙ sym (append_assoc (head_bytes w.head (length w.body)) w.body (0 ∷ [])) in
+      let bytes_are : pieces ≡ checkpoint_bytes w.head w.body = (λ i. c.front-front.ensures.bytes i ++ b.bytes i) ∙ sym (append_assoc (head_bytes w.head w.body) w.body (0 ∷ [])) in
       let told1 = c.in_ok-write_synced.ensures.writes.calls.as_told ∙ told in
       let told2 = c.in_ok-write.ensures.call.as_told ∙ told1 in
       let told3 = c.in_ok-write_pieces_synced.ensures.writes.calls.as_told ∙ told2 in
       let last = made_is pieces _ _ _ _ (g.S.Site.seen c.write_synced-2.new.site) (c.requires.empty told) (c.in_ok-write_synced.ensures.written told) (c.in_ok-write.ensures.written told1) (c.in_ok-write_pieces_synced.ensures.written told2) (c.in_ok-write_synced-2.ensures.written told3) in
       let is : g.S.Site.seen c.write_synced-2.new.site ≡ new_files w = last ∙ ap (λ (l : List ℕ). record { a = 1 ∷ l; b = 0 ∷ [] }) bytes_are in
-      ap (reading w.head.version) is ∙ stands_made w.head w.body b.lawful b.depth b.generation b.small;
+      ap (reading reads) is ∙ stands_made w.head w.body b.lawful b.depth b.generation (omega (arith, b.small)) reads read;
   kept = (refl, c.head.ensures, refl);
   failed = tt;
   counted = stops_at_none _ _ _ _ _ (no_fault_then _ _ _ (no_fault_then _ _ _ (no_fault_then _ _ _ (all_worked _ _ c.in_ok-write_synced.ensures.counted) (file_worked _ _ _ c.in_ok-write.ensures.counted)) (all_worked _ _ c.in_ok-write_pieces_synced.ensures.counted)) (all_worked _ _ c.in_ok-write_synced-2.ensures.counted));

@@ -1,10 +1,10 @@
-use Rattle.std.proofs.Common.{◌≡◌, ◌∙◌, ◌+◌, length, ap, subst}
+use Rattle.std.proofs.Common.{◌≡◌, ◌∙◌, ap, subst}
 use Rattle.std.proofs.lemmas.Result.{IfOk-weaker, on_ok_weaker}
 use Rattle.ox_outside.specs.Files.{file_of, other}
 use Rattle.ox_outside.specs.Runs.{LeavesOnly}
 use Rattle.ox_outside.specs.declared.site.Which.{Which}
 use Rattle.ox_gated.specs.Layout.{Whole}
-use Rattle.ox_gated.specs.OtherFile.{KeptBoth, IsOldOrNew, ReadsNew, filled_with, tail_of_other}
+use Rattle.ox_gated.specs.OtherFile.{KeptBoth, IsOldOrNew, ReadsNew, filled_with, first_gate_at, tail_of_other}
 use Rattle.ox_gated.specs.Tail.{Kept}
 use Rattle.ox_gated.proofs.Turning.{turn_filling, turn_opening}
 use Rattle.std.proofs.lemmas.Result.{err_from_is_err_and}
@@ -77,7 +77,7 @@ returns g c =
           ∙ first.spared told)
           (c.open_other.ensures.spared told2);
       kept = IfOk-weaker result _ _
-          (λ tail is. is ∙ ap (λ (b : KeptBoth). tail_of_other b.tail.file b.head b.gate) second.kept ∙ ap (λ (t : Kept). tail_of_other t.file whole.head (26 + length whole.body)) first.kept)
+          (λ tail is. is ∙ ap (λ (b : KeptBoth). tail_of_other b.tail.file b.head b.gate) second.kept ∙ ap (λ (t : Kept). tail_of_other t.file whole.head (first_gate_at whole.head whole.body)) first.kept)
           c.open_other.ensures.kept;
       any_moment = λ told.
           let first = c.in_ok-closed.ensures in

@@ -1,0 +1,6 @@
+use Rattle.std.proofs.Common.{◌∙◌, sym}
+use Rattle.ox_gated.proofs.LayoutLaws.{body_summed}
+use Rattle.ox_gated.proofs.head.is_body.Goals as goal
+
+pub returns : goal.returns
+returns c = body_summed c.args.head.now.version (sym c.is_summed.ensures ∙ c.if-not-is_summed.false) c.args.front.now c.args.body.now c.digest-sum.result c.eq.result c.eq.ensures c.digest-sum.ensures
