@@ -10,7 +10,7 @@ ghost use Rattle.ox_checkpoint.specs.Unjudged.{IsUnjudged, stack_after_record};
 use crate::standing::{Judgement, Standing};
 use ox_bytes::Bytes;
 use ox_files::profile_of_head;
-use ox_gated::{BODY_AT, Before, Head, Record, Records};
+use ox_gated::{Before, Head, Record, Records};
 use ox_index::Chain;
 use std::alloc::Global;
 
@@ -94,7 +94,7 @@ fn begin(alloc: Global, head: &Head, body: &Bytes) -> Result<Standing, Unjudged>
 {
     match Standing::of(alloc, profile_of_head(head), head.depth, body.as_slice()) {
         Ok(Some(standing)) => Ok(standing),
-        Ok(None) => Err(Unjudged::At(BODY_AT as u64)),
+        Ok(None) => Err(Unjudged::At(head.body_at())),
         Err(_) => Err(Unjudged::Memory),
     }
 }

@@ -3,6 +3,7 @@ use Rattle.std.proofs.Common.{◌≡◌, ◌∙◌, ℕ, ◌+◌, ◌≤◌, Boo
 use Rattle.std.specs.Prelude.{◌&&◌, ◌||◌, ◌==◌, not, nat_le, nat_lt, Result, Ok, Err}
 use Rattle.std.proofs.lemmas.Bool.{false≢true, le-leb, ne_eqb}
 use Rattle.ox_gated.specs.Layout.{is_lawful}
+use Rattle.ox_gated.specs.Reading.{is_present}
 use Rattle.ox_gated.specs.declared.head.Head.{Head}
 use Rattle.ox_gated.specs.declared.records.Record.{Record}
 use Rattle.ox_sat.specs.Profiles.{name_at, profile_named}
@@ -68,7 +69,7 @@ never_none n = ap not (ne_eqb (n + 1) 0 (λ e. omega (arith, e)))
 
 lawful_next : (head : Head) → is_lawful head ≡ true → is_lawful (next_head head) ≡ true
 lawful_next head is =
-    last_for (head.version == 1 || head.version == 2) (nat_lt head.profile 3) (nat_le 1 head.depth) (nat_le head.depth 1000)
+    last_for (head.version == 1 || head.version == 2 || head.version == 3) (nat_lt head.profile 3) (nat_le 1 head.depth) (nat_le head.depth 1000)
     (not (head.generation == 0)) (not (head.generation + 1 == 0)) is (never_none head.generation)
 
 pub names_next : (head : Head) (stack : Stack) → Names head stack → Names (next_head head) stack
@@ -97,7 +98,7 @@ all_true a b c d e is_a is_b is_c is_d is_e = rw (is_a, is_b, is_c, is_d, is_e) 
 
 lawful_first : (name : ProfileName) (depth : ℕ) → 1 ≤ depth → depth ≤ 1000 → is_lawful (first_head name depth) ≡ true
 lawful_first name depth some few =
-    all_true (2 == 1 || 2 == 2) (nat_lt (profile_named name).byte 3) (nat_le 1 depth) (nat_le depth 1000) (not (1 == 0))
+    all_true (2 == 1 || 2 == 2 || 2 == 3) (nat_lt (profile_named name).byte 3) (nat_le 1 depth) (nat_le depth 1000) (not (1 == 0))
     refl (low_byte name) (le-leb 1 depth some) (le-leb depth 1000 few) refl
 
 pub names_first : (name : ProfileName) (depth : ℕ) (stack : Stack) → 1 ≤ depth → depth ≤ 1000 → stack ≡ stack_of (empty_machine (profile_named name) depth) → Names (first_head name depth) stack
@@ -110,6 +111,6 @@ names_first name depth stack some few is = record {
 
 -- ---- a file that is read
 
-pub names_read : (head : Head) (bytes : List ℕ) (records : List Record) (stack : Stack) → head.version ≡ 2 → is_lawful head ≡ true → stack_in_file head bytes records ≡ Ok stack → Names head stack
+pub names_read : (head : Head) (bytes : List ℕ) (records : List Record) (stack : Stack) → is_present head.version ≡ true → is_lawful head ≡ true → stack_in_file head bytes records ≡ Ok stack → Names head stack
 names_read head bytes records stack version lawful is =
     let of = file_stack head bytes records stack is in record { version = version; lawful = lawful; profile = sym of.has_profile; depth = sym of.has_depth }

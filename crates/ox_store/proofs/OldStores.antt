@@ -14,10 +14,11 @@ use Rattle.ox_outside.proofs.Calls.{leaves_then, leaves_weaker}
 use Rattle.ox_outside.proofs.Counts.{went_on}
 use Rattle.ox_gated.specs.Layout.{Whole, is_lawful}
 use Rattle.ox_gated.specs.OldReading.{old_reading}
-use Rattle.ox_gated.specs.OtherFile.{IsOldOrNew, IsSpared, ReadsAlike, last_generation, tail_of_other}
-use Rattle.ox_gated.specs.Reading.{Fault, Found, IntactPart, reading}
+use Rattle.ox_gated.specs.OtherFile.{IsOldOrNew, IsSpared, last_generation, tail_of_other}
+use Rattle.ox_gated.specs.Reading.{Fault, Found, IntactPart, ReadsAlike, is_any, is_old, reading}
 use Rattle.ox_gated.specs.Tail.{Keeps, Kept}
 use Rattle.ox_gated.proofs.OldReading.{old_is_reading}
+use Rattle.ox_gated.proofs.Stands.{reading_any}
 use Rattle.ox_gated.specs.declared.head.Head.{Head}
 use Rattle.ox_gated.specs.declared.records.Record.{Record}
 use Rattle.ox_model.specs.Stack.{Stack}
@@ -44,7 +45,7 @@ names_migrated head body records stack lawful is =
     let counts = old_file_counts head body records stack is in
     record {
       version = refl;
-      lawful = first_for (head.version == 1 || head.version == 2) (nat_lt head.profile 3) (nat_le 1 head.depth) (nat_le head.depth 1000) (not (head.generation == 0)) (2 == 1 || 2 == 2) lawful refl;
+      lawful = first_for (head.version == 1 || head.version == 2 || head.version == 3) (nat_lt head.profile 3) (nat_le 1 head.depth) (nat_le head.depth 1000) (not (head.generation == 0)) (2 == 1 || 2 == 2 || 2 == 3) lawful refl;
       profile = sym counts.profile;
       depth = sym counts.depth;
     }
@@ -87,14 +88,14 @@ on_ok_of (Ok x) p = p
 on_ok_of (Err e) p = tt
 
 pub stays_old : (files : Files) (found : Found) → old_reading files ≡ Ok found → found.head.generation ≢ last_generation → StaysOld files
-stays_old files found is lesser image alike = old_stands_alike files image found is lesser (alike 1)
+stays_old files found is lesser image alike = old_stands_alike files image found is lesser (alike is_old)
 
 -- the tail is that of the file that was found
-pub tail_found : (tail : Kept) (old files : Files) (found : Found) → tail.head.version ≡ 1 → files ≡ old → Keeps tail (reading tail.head.version files) → old_reading old ≡ Ok found
+pub tail_found : (tail : Kept) (old files : Files) (found : Found) → files ≡ old → Keeps tail (reading is_any files) → old_reading old ≡ Ok found
     → (tail.file ≡ found.file) × (tail.head ≡ found.head)
-tail_found tail old files found version same keeps is =
+tail_found tail old files found same keeps is =
     let there : old_reading files ≡ Ok found = ap old_reading same ∙ is in
-    let kept : Keeps tail (Ok found) = subst (λ (r : Result Found Fault). Keeps tail r) (ap (λ (v : ℕ). reading v files) version ∙ old_is_reading files found there) keeps in
+    let kept : Keeps tail (Ok found) = subst (λ (r : Result Found Fault). Keeps tail r) (reading_any files found is_old (old_is_reading files found there) is_any) keeps in
     (kept.file, kept.head)
 
 -- and that of the other one follows it

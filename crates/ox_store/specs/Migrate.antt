@@ -3,8 +3,7 @@
 use Rattle.std.specs.Prelude.{◌≡◌, ◌⊎◌, ℕ, Result, Ok, Err}
 use Rattle.ox_outside.specs.Files.{Files, other}
 use Rattle.ox_outside.specs.declared.site.Which.{Which}
-use Rattle.ox_gated.specs.OtherFile.{ReadsAlike}
-use Rattle.ox_gated.specs.Reading.{Found}
+use Rattle.ox_gated.specs.Reading.{Found, ReadsAlike}
 use Rattle.ox_gated.specs.Tail.{Kept}
 use Rattle.ox_gated.specs.declared.head.Head.{Head}
 use Rattle.ox_model.specs.Stack.{Stack}

@@ -21,15 +21,12 @@ ghost use Rattle.ox_store.specs.Migrate.{migrated_head, old_fault_in};
 
 use crate::fault::MigrateFault;
 use crate::store::Store;
-use crate::writing::next_file;
+use crate::writing::{VERSION, next_file};
 use ox_gated::{Checkpoint, GateFault, Head, Opened, Tail};
 use ox_index::Chain;
 use ox_outside::{Site, Which};
 use ox_replay::{ReplayFault, earliest, replay};
 use std::alloc::Global;
-
-/// The version that a store has.
-const VERSION: u8 = 2;
 
 /// A store of version 1, with all the memory of its migration taken: the chain that its commands
 /// lead to, its tail, their number, and the file of that chain.

@@ -5,6 +5,7 @@ ghost use Rattle.ox_outside.specs.Counts.{Rose, StopsAtFault};
 ghost use Rattle.ox_outside.specs.Runs.{OnlyLooks};
 ghost use Rattle.ox_gated.specs.Layout.{is_lawful};
 ghost use Rattle.ox_gated.specs.Opened.{found_of};
+ghost use Rattle.ox_gated.specs.Reading.{is_present};
 ghost use Rattle.ox_gated.specs.Tail.{Holds, IsSettled};
 ghost use Rattle.ox_files.specs.Stands.{stack_in};
 ghost use Rattle.ox_store.specs.Fault.{IsMisfit};
@@ -19,8 +20,8 @@ use std::alloc::Global;
 impl Store {
     ghost use Rattle.ox_files.specs.Stands.{stands};
 
-    /// Opens two files of version 2: reads the checkpoint, and makes the changes of the records
-    /// again. It begins with a sync (`fsync`) of both files, and changes nothing: at no moment does
+    /// Opens two files of version 2 or 3: reads the checkpoint, and makes the changes of the
+    /// records again. It begins with a sync (`fsync`) of both files, and changes nothing: at no moment does
     /// a crash leave anything that it didn't leave before.
     ///
     /// `NotStore` exactly where the files stand for nothing, with the file and the place of the
@@ -51,7 +52,8 @@ impl Store {
 
 /// The store of files that were read.
 fn store_of(alloc: Global, opened: Opened) -> Result<Store, OpenFault>
-    requires head { (opened.tail.head ≡ opened.head) × (opened.head.version ≡ 2) }
+    requires head { (opened.tail.head ≡ opened.head)
+        × IsTrue (is_present opened.head.version) }
     requires lawful { IsTrue (is_lawful opened.head) }
     ensures stack { IfOk result (λ store. stack_in (Ok (found_of opened)) ≡ Ok store.stack) }
     ensures fresh { IfOk result (λ store. store.commands ≡ 0) }

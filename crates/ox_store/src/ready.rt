@@ -3,7 +3,6 @@
 ghost use Rattle.std.specs.Prelude.{◌≡◌, ◌+◌, Ok, IsTrue, IfOk, OnErr};
 ghost use Rattle.ox_outside.specs.Counts.{IsFailure, Rose, StopsAtFault};
 ghost use Rattle.ox_outside.specs.Runs.{LeavesOnly};
-ghost use Rattle.ox_gated.specs.OtherFile.{MustTurn};
 ghost use Rattle.ox_gated.specs.Tail.{Holds};
 ghost use Rattle.ox_gated.specs.Writes.{OnlyWrites};
 
@@ -70,7 +69,7 @@ impl Ready {
     ghost use Rattle.ox_files.specs.Stands.{stands};
     ghost use Rattle.ox_store.specs.Ready.{Leads, Moves, StandsForEither};
     ghost use Rattle.ox_index.specs.Tip.{tip_of};
-    ghost use Rattle.ox_store.specs.Writing.{HasOneMore, HasTurned};
+    ghost use Rattle.ox_store.specs.Writing.{HasOneMore, HasTurned, IsFileDue};
 
     /// The newest block's height and its hash in serialized order, as the command leaves them;
     /// `None` exactly where no block is left.
@@ -96,10 +95,10 @@ impl Ready {
         }
     }
 
-    /// Writes the command's record; where the current file has 64 records or more, and its
-    /// generation isn't the greatest, it writes the whole store into the other file, which takes
-    /// the current one's place. At `Ok` it is on the disk: each crash then leaves files that have
-    /// it. At any moment of the call a crash leaves files that stand for the stack before the
+    /// Writes the command's record; where the current file is of version 2, has 64 records or more,
+    /// and its generation isn't the greatest, it writes the whole store into the other file, which
+    /// takes the current one's place. At `Ok` it is on the disk: each crash then leaves files that
+    /// have it. At any moment of the call a crash leaves files that stand for the stack before the
     /// command or for the one after it. No event of a channel is logged. `DiskFault` only where a
     /// call on a file failed; the store is gone then.
     pub fn commit<S: Site>(self, site: &mut S) -> Result<Store, DiskFault>
@@ -107,10 +106,10 @@ impl Ready {
         ensures stack { IfOk result (λ store. store.stack ≡ self.stack) }
         ensures one_more { IfOk result (λ store. store.commands ≡ self.commands + 1) }
         // The same file is current, with one record more.
-        ensures appended { ¬ MustTurn self.tail
+        ensures appended { ¬ IsFileDue self.tail
             → IfOk result (λ store. HasOneMore self.tail store.tail) }
         // The other file is current, with the next generation and no record.
-        ensures turned { MustTurn self.tail
+        ensures turned { IsFileDue self.tail
             → IfOk result (λ store. HasTurned self.tail store.tail) }
         ensures holds { IsTrue (S.told site.old)
             → IfOk result (λ store. Holds S.Site store.tail site.new) }

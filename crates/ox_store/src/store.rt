@@ -19,7 +19,7 @@ ghost use Rattle.ox_store.specs.Writing.{IsDue, LeadsTo};
 
 use crate::fault::{Kept, MakeFault};
 use crate::ready::Ready;
-use crate::writing::{Writing, file_of, writing_of};
+use crate::writing::{VERSION, Writing, file_of, writing_of};
 use ox_bytes::Memory;
 use ox_feed::Command;
 use ox_gated::{Checkpoint, Head, Tail};
@@ -163,10 +163,10 @@ impl Store {
     }
 
     /// Carries a command out in memory and takes all the memory of what is written of it: its
-    /// record, or the whole file where the current one has to turn. Nothing is written yet.
+    /// record, or the whole file where one of version 2 has to turn. Nothing is written yet.
     /// `Refused` exactly where the command is refused; `Memory` where there is none for it, and
-    /// where the record or the body of the file is 2^32 bytes or longer. Both hand the store back
-    /// as it was.
+    /// where at version 2 the record or the body of the file is 2^32 bytes or longer. Both hand the
+    /// store back as it was.
     pub fn prepare(self, command: &Command) -> Result<Ready, Kept>
         requires { self.commands < 2 ^ 64 - 1 }
         ensures ready { IfOk result (λ ready. Prepares self command.now ready) }
@@ -215,7 +215,7 @@ fn first_file(
         stack_in_file whole.head whole.body [] ≡ Ok (stack_in chain.now)) }
 {
     let head = Head {
-        version: 2,
+        version: VERSION,
         profile: profile_of(name).byte,
         depth,
         generation: 1,

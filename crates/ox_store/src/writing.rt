@@ -1,11 +1,11 @@
 //! What is written of a command that was carried out in memory.
 
-ghost use Rattle.std.specs.Prelude.{◌≡◌, ◌≢◌, ◌≤◌, ℕ, List, [], ◌∷◌, length, Ok, Some};
+ghost use Rattle.std.specs.Prelude.{◌≡◌, ◌≢◌, ◌↔◌, ◌≤◌, ℕ, List, [], ◌∷◌, length, Ok, Some};
 ghost use Rattle.std.specs.Prelude.{IsTrue, IfOk, OnOk, OnErr};
 ghost use Rattle.ox_outside.specs.Counts.{IsFailure, Rose, StopsAtFault};
 ghost use Rattle.ox_outside.specs.Runs.{LeavesOnly};
-ghost use Rattle.ox_gated.specs.OtherFile.{MustTurn, last_generation};
-ghost use Rattle.ox_gated.specs.Tail.{Fits, Holds};
+ghost use Rattle.ox_gated.specs.OtherFile.{last_generation};
+ghost use Rattle.ox_gated.specs.Tail.{Fits, Holds, IsFramedBehind};
 ghost use Rattle.ox_gated.specs.Writes.{OnlyWrites};
 ghost use Rattle.ox_index.specs.Chain.{stack_in};
 ghost use Rattle.ox_feed.specs.declared.command.Command.TheVariants.{Connect};
@@ -15,23 +15,26 @@ ghost use Rattle.ox_files.specs.Payload.{payload_step};
 ghost use Rattle.ox_files.specs.Stands.{stack_in_file, stands};
 ghost use Rattle.ox_store.specs.Heads.{Names, next_head};
 ghost use Rattle.ox_store.specs.Ready.{StandsForEither};
-ghost use Rattle.ox_store.specs.Writing.{HasOneMore, HasTurned, IsDue, LeadsTo};
+ghost use Rattle.ox_store.specs.Writing.{HasOneMore, HasTurned, IsDue, IsFileDue, LeadsTo};
 
 use ox_bytes::{Bytes, Memory};
 use ox_checkpoint::put_body;
 use ox_feed::Command;
 use ox_files::{CONNECT, DISCONNECT};
-use ox_gated::{Checkpoint, DiskFault, Framed, Head, Tail, checkpoint_of, frame_parts};
+use ox_gated::{Checkpoint, DiskFault, Framed, Head, Tail, checkpoint_of};
 use ox_index::Chain;
 use ox_outside::Site;
 use ox_rows::write_change;
 use std::alloc::Global;
 
-/// The greatest length of a body. That of a payload is the same, with its first byte.
+/// The version of each whole file that is made, or that takes another one's place.
+pub(crate) const VERSION: u8 = 2;
+
+/// The greatest length of its body.
 const LONGEST: usize = 0xffff_ffff;
 
-/// What is written of a command. Contracts see the payload of the record, or the head and the body
-/// of the file.
+/// What is written of a command. Contracts see the payload of the record and its bytes, or the head
+/// and the body of the file.
 #[derive(Drop)]
 pub(crate) enum Writing {
     /// A record behind those of the current file.
@@ -46,10 +49,9 @@ impl Writing {
     /// logged. `DiskFault` only where a call on a file failed; the tail is gone then.
     pub(crate) fn write<S: Site>(&self, tail: Tail, site: &mut S) -> Result<Tail, DiskFault>
         requires due { IsDue tail self.now }
-        requires version { tail.head.version ≡ 2 }
         requires holds { IsTrue (S.told site.old) → Holds S.Site tail site.old }
-        ensures appended { ¬ MustTurn tail → IfOk result (HasOneMore tail) }
-        ensures turned { MustTurn tail → IfOk result (HasTurned tail) }
+        ensures appended { ¬ IsFileDue tail → IfOk result (HasOneMore tail) }
+        ensures turned { IsFileDue tail → IfOk result (HasTurned tail) }
         ensures names { (stack : Stack) → Names tail.head stack
             → IfOk result (λ new. Names new.head stack) }
         ensures holds { IsTrue (S.told site.old)
@@ -73,10 +75,10 @@ impl Writing {
     }
 }
 
-/// What is to be written of the command that has led to this chain: where the tail has to turn, the
-/// file of the chain with the next generation, and else the record of the command. `Memory` where
-/// there is none for it, where its body or payload is 2^32 bytes or longer, and where the file has
-/// no room for the record.
+/// What is to be written of the command that has led to this chain: where a file is due, that of
+/// the chain with the next generation, and else the record of the command. `Memory` where there is
+/// none for it, where at version 2 its body or payload is 2^32 bytes or longer, and where the file
+/// has no room for the record.
 pub(crate) fn writing_of(
     alloc: Global,
     chain: &Chain,
@@ -90,11 +92,18 @@ pub(crate) fn writing_of(
         (before : Stack) → stack_after before command.now ≡ Ok after
         → IfOk result (LeadsTo before after) }
 {
-    if tail.must_turn() {
+    if is_file_due(tail) {
         Ok(Writing::Turn(next_file(alloc, chain, &tail.head())?))
     } else {
         Ok(Writing::Append(record_of(alloc, chain, tail, command)?))
     }
+}
+
+/// Whether a whole file is due in place of a record: the current one has version 2 and must turn.
+fn is_file_due(tail: &Tail) -> bool
+    ensures { IsTrue result ↔ IsFileDue tail.now }
+{
+    tail.head().version == VERSION && tail.must_turn()
 }
 
 /// The file of a chain that takes the place of one with this head.
@@ -141,10 +150,11 @@ fn body_of(alloc: Global, chain: &Chain) -> Result<Bytes, Memory>
 /// change, or 00.
 fn record_of(alloc: Global, chain: &Chain, tail: &Tail, command: &Command) -> Result<Framed, Memory>
     requires { (before : Stack) × (stack_after before command.now ≡ Ok (stack_in chain.now)) }
-    ensures fits { IfOk result (λ framed. Fits tail.now (length framed)) }
+    ensures framed { IfOk result (IsFramedBehind tail.now) }
+    ensures fits { IfOk result (λ framed. Fits tail.now (length framed.payload)) }
     ensures leads { let after = stack_in chain.now in
         (before : Stack) → stack_after before command.now ≡ Ok after
-        → IfOk result (λ framed. payload_step before framed ≡ Some after) }
+        → IfOk result (λ framed. payload_step before framed.payload ≡ Some after) }
 {
     match command {
         Command::Connect(_) => {
@@ -168,14 +178,15 @@ fn newest_rows(alloc: Global, chain: &Chain) -> Result<Bytes, Memory>
     }
 }
 
-/// A record of this kind with these rows behind it. `Memory` where they are too long for one, where
-/// the file has no room for it, and where there is none.
+/// The record of this kind with these rows behind it, as the tail's file has it. `Memory` where
+/// they are too long for one, where the file has no room for it, and where there is none.
 fn frame_of(alloc: Global, tail: &Tail, kind: u8, rows: &[u8]) -> Result<Framed, Memory>
-    ensures payload { IfOk result (λ framed. framed ≡ kind ∷ rows.now) }
-    ensures fits { IfOk result (λ framed. Fits tail.now (length framed)) }
+    ensures payload { IfOk result (λ framed. framed.payload ≡ kind ∷ rows.now) }
+    ensures framed { IfOk result (IsFramedBehind tail.now) }
+    ensures fits { IfOk result (λ framed. Fits tail.now (length framed.payload)) }
 {
-    if rows.len() >= LONGEST || !tail.fits(rows.len() as u64 + 1) {
+    if !tail.fits(rows.len() as u64 + 1) {
         return Err(Memory);
     }
-    frame_parts(alloc, &[kind], rows)
+    tail.frame(alloc, &[kind], rows)
 }

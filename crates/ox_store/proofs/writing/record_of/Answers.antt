@@ -6,6 +6,7 @@ pub returns-in_err-rows-in-Connect : goal.returns-in_err-rows-in-Connect
 returns-in_err-rows-in-Connect c =
     let left = c.from_residual.result in
     let p = err_from_is_err_and left c.from_residual.ensures.1 in record {
+      framed = no_value left p.0 _ p.1;
       fits = no_value left p.0 _ p.1;
       leads = λ before is. no_value left p.0 _ p.1;
     }

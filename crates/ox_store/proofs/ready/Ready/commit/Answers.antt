@@ -2,11 +2,10 @@ use Rattle.std.proofs.Common.{ap, subst, sym}
 use Rattle.std.proofs.lemmas.Result.{err_from_is_err_and}
 use Rattle.std.specs.Prelude.{◌+◌}
 use Rattle.ox_outside.specs.Runs.{LeavesOnly}
-use Rattle.ox_gated.specs.OtherFile.{MustTurn}
 use Rattle.ox_gated.proofs.Writing.{ends_failed}
 use Rattle.ox_index.specs.Chain.{stack_in}
 use Rattle.ox_store.specs.Ready.{PreparedCommand, StandsForEither}
-use Rattle.ox_store.specs.Writing.{HasOneMore, HasTurned, LeadsTo}
+use Rattle.ox_store.specs.Writing.{HasOneMore, HasTurned, IsFileDue, LeadsTo}
 use Rattle.ox_store.proofs.Exits.{no_value}
 use Rattle.ox_store.proofs.ready.Ready.commit.Goals as goal
 
@@ -19,9 +18,9 @@ returns g c =
       stack = ap (λ (r : PreparedCommand). r.stack) c.self.view_is;
       one_more = ap (λ (r : PreparedCommand). r.commands + 1) c.self.view_is;
       appended = λ stays. subst (λ (r : PreparedCommand). HasOneMore r.tail c.in_ok-tail.tail) c.self.view_is
-          (c.in_ok-tail.ensures.appended (subst (λ (r : PreparedCommand). ¬ MustTurn r.tail) (sym c.self.view_is) stays));
+          (c.in_ok-tail.ensures.appended (subst (λ (r : PreparedCommand). ¬ IsFileDue r.tail) (sym c.self.view_is) stays));
       turned = λ must. subst (λ (r : PreparedCommand). HasTurned r.tail c.in_ok-tail.tail) c.self.view_is
-          (c.in_ok-tail.ensures.turned (subst (λ (r : PreparedCommand). MustTurn r.tail) (sym c.self.view_is) must));
+          (c.in_ok-tail.ensures.turned (subst (λ (r : PreparedCommand). IsFileDue r.tail) (sym c.self.view_is) must));
       holds = c.in_ok-tail.ensures.holds;
       stands = λ told before is leads. c.in_ok-tail.ensures.stands told before (stack_in i.chain) is (subst (λ (r : PreparedCommand). LeadsTo before r.stack r.writing) (sym c.self.view_is) leads.leads);
       any_moment = λ told before is leads.

@@ -4,6 +4,7 @@ use Rattle.std.proofs.lemmas.Result.{err_from_is_err_and}
 use Rattle.std.specs.Prelude.{Err, IsErrOf}
 use Rattle.ox_outside.specs.Counts.{IsFailure}
 use Rattle.ox_outside.proofs.Counts.{no_fault_then, stops_after, stops_as, stops_at_none, then_rose}
+use Rattle.ox_outside.specs.declared.site.Which.TheVariants.{A}
 use Rattle.ox_gated.specs.declared.head.Head.{Head}
 use Rattle.ox_gated.proofs.Writing.{all_worked, writes_looking, writes_then}
 use Rattle.ox_index.specs.Chain.{stack_in}
@@ -11,7 +12,7 @@ use Rattle.ox_model.specs.Machine.{empty_machine, stack_of}
 use Rattle.ox_sat.specs.declared.profiles.Profile.{Profile}
 use Rattle.ox_store.specs.Heads.{Names}
 use Rattle.ox_store.proofs.Exits.{no_fault, no_value}
-use Rattle.ox_store.proofs.FilesOfStores.{stands_first}
+use Rattle.ox_store.proofs.FilesOfStores.{after_turn}
 use Rattle.ox_store.proofs.HeadLemmas.{names_first}
 use Rattle.ox_store.proofs.MakeFaults.{neither_fault, not_empty_alone, not_filled, not_from_disk, the_disk_alone}
 use Rattle.ox_store.specs.declared.fault.MakeFault.TheVariants.{DiskFault}
@@ -115,7 +116,7 @@ returns g c =
       stack = c.in_ok-chain.ensures ∙ ap (λ (p : Profile). stack_of (empty_machine p c.args.depth)) c.profile_of.ensures.value;
       fresh = refl;
       tail = (c.in_ok-tail.ensures.kept.0, c.in_ok-tail.ensures.kept.1 ∙ c.in_ok-checkpoint.ensures.head, c.in_ok-tail.ensures.kept.2);
-      stands = λ told. stands_first made (stack_in c.in_ok-chain.chain) (g.S.Site.seen c.make.new.site) (ap (λ (h : Head). h.version) c.in_ok-checkpoint.ensures.head) c.in_ok-checkpoint.ensures.stack
+      stands = λ told. after_turn A made (g.S.Site.seen c.make.new.site) (stack_in c.in_ok-chain.chain) (ap (λ (h : Head). h.version) c.in_ok-checkpoint.ensures.head) c.in_ok-checkpoint.ensures.stack
           (c.in_ok-tail.ensures.stands (looks.calls.as_told ∙ told));
       holds = λ told. c.in_ok-tail.ensures.holds (looks.calls.as_told ∙ told);
       empty = λ told. (c.in_ok-are_empty.ensures.empty told).0 c.if-not-branch.false;

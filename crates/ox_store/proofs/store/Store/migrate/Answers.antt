@@ -1,11 +1,11 @@
 use Rattle.std.proofs.Common.{◌∙◌, inl, refl, ap}
 use Rattle.std.proofs.lemmas.Result.{err_from_is_err_and}
-use Rattle.std.specs.Prelude.{◌+◌, ◌⊎◌, length, Err, IsErrOf}
+use Rattle.std.specs.Prelude.{◌⊎◌, Err, IsErrOf}
 use Rattle.ox_outside.specs.Counts.{IsFailure}
 use Rattle.ox_outside.specs.Files.{other}
 use Rattle.ox_outside.proofs.Calls.{leaves_weaker}
 use Rattle.ox_outside.proofs.Counts.{no_fault_then, stops_after, stops_as, stops_at_none, then_rose}
-use Rattle.ox_gated.specs.Layout.{body_at}
+use Rattle.ox_gated.specs.OtherFile.{first_gate_at}
 use Rattle.ox_gated.specs.declared.head.Head.{Head}
 use Rattle.ox_gated.proofs.Writing.{all_worked, writes_looking, writes_then}
 use Rattle.ox_index.specs.Chain.{stack_in}
@@ -82,8 +82,8 @@ returns g c =
       commands = parts.ensures.commands;
       stands = λ told. after_turn (other old.tail.file) whole new (stack_in old.chain) (ap (λ (h : Head). h.version) parts.ensures.head) parts.ensures.file
           (c.in_ok-tail.ensures.turned (looks.calls.as_told ∙ told));
-      turned = λ told found is. has_migrated old.tail c.in_ok-tail.tail whole.head (body_at + length whole.body) found c.in_ok-tail.ensures.kept parts.ensures.head (parts.ensures.tail told found is);
-      spared = λ told. spared_other old.tail c.in_ok-tail.tail whole.head (body_at + length whole.body) files (g.S.Site.seen c.open_old.new.site) new c.in_ok-tail.ensures.kept looks.nothing.files
+      turned = λ told found is. has_migrated old.tail c.in_ok-tail.tail whole.head (first_gate_at whole.head whole.body) found c.in_ok-tail.ensures.kept parts.ensures.head (parts.ensures.tail told found is);
+      spared = λ told. spared_other old.tail c.in_ok-tail.tail whole.head (first_gate_at whole.head whole.body) files (g.S.Site.seen c.open_old.new.site) new c.in_ok-tail.ensures.kept looks.nothing.files
           (c.in_ok-tail.ensures.spared (looks.calls.as_told ∙ told));
       fresh = refl;
       holds = λ told. c.in_ok-tail.ensures.holds (looks.calls.as_told ∙ told);

@@ -2,7 +2,7 @@ use Rattle.std.proofs.Common.{◌∙◌, ap, subst, sym}
 use Rattle.std.proofs.lemmas.Result.{IfOk-weaker}
 use Rattle.std.specs.Prelude.{Err, IfErr, IsErrOf, Result}
 use Rattle.ox_outside.proofs.Counts.{stops_as, stops_at_none}
-use Rattle.ox_gated.specs.Reading.{Found, Fault, reading}
+use Rattle.ox_gated.specs.Reading.{Found, Fault, is_present, reading}
 use Rattle.ox_gated.specs.Tail.{Holds, Kept}
 use Rattle.ox_gated.specs.declared.fault.GateFault.TheVariants as gates
 use Rattle.ox_files.specs.Stands.{stack_in}
@@ -30,7 +30,7 @@ returns-in-Err g c = record {
   stands = λ told. tt;
   fresh = tt;
   holds = λ told. tt;
-  not_store = λ told. c.of.ensures.misfit (reading 2 (g.S.Site.seen c.args.site.now)) (c.in-Err.ensures.not_store told);
+  not_store = λ told. c.of.ensures.misfit (reading is_present (g.S.Site.seen c.args.site.now)) (c.in-Err.ensures.not_store told);
   failed = λ is. c.in-Err.ensures.failed (ap Err (c.of.ensures.disk (same_fault _ _ is)));
   counted = stops_as (IsErrOf (Err c.in-Err.fault) gates.DiskFault) ⊥ ⊥ (IsErrOf (Err c.of.result) faults.DiskFault) ⊥ ⊥ _ _
       (λ is. ap Err (c.of.ensures.disk_alone (same_fault _ _ is))) (λ no. no) (λ no. no) c.in-Err.ensures.counted;

@@ -12,7 +12,12 @@ use Rattle.ox_store.proofs.writing.Writing.write.Goals as goal
 pub append-requires-clause-fits : goal.append-requires-clause-fits
 append-requires-clause-fits g c =
     let due = rw c.in-Append.is at c.requires.due in
-    due.1
+    due.1.1
+
+pub append-requires-clause-framed : goal.append-requires-clause-framed
+append-requires-clause-framed g c =
+    let due = rw c.in-Append.is at c.requires.due in
+    due.1.0
 
 pub returns-in-Append : goal.returns-in-Append
 returns-in-Append g c = record {
@@ -22,11 +27,11 @@ returns-in-Append g c = record {
   holds = c.append.ensures.holds;
   stands = λ told before after is led. let leads = rw c.in-Append.is at led in
       on_ok_weaker c.append.result
-      (λ reads. after_record c.args.tail.head.version c.in-Append.framed (g.S.Site.seen c.args.site.now) (g.S.Site.seen c.append.new.site) before after c.requires.version is leads reads)
+      (λ more. after_record c.in-Append.framed.payload (g.S.Site.seen c.args.site.now) (g.S.Site.seen c.append.new.site) before after is leads more)
       (c.append.ensures.appended told);
   any_moment = λ told before after is led. let leads = rw c.in-Append.is at led in
       leaves_weaker g.S.Site c.args.site.now c.append.new.site _ _
-      (λ r either. before_or_after c.args.tail.head.version c.in-Append.framed (g.S.Site.seen c.args.site.now) r.files before after c.requires.version is leads either)
+      (λ r either. before_or_after c.in-Append.framed.payload (g.S.Site.seen c.args.site.now) r.files before after is leads either)
       (c.append.ensures.any_moment told);
   failed = c.append.ensures.failed;
   counted = c.append.ensures.counted;
@@ -50,11 +55,11 @@ returns-in-Turn g c = record {
   holds = c.turn_to.ensures.holds;
   stands = λ told before after is led. let due = rw c.in-Turn.is at c.requires.due in let leads = rw c.in-Turn.is at led in
       on_ok_weaker c.turn_to.result
-      (λ reads. after_turn (other c.args.tail.file) c.in-Turn.checkpoint (g.S.Site.seen c.turn_to.new.site) after (ap (λ (h : Head). h.version) due.1 ∙ c.requires.version) leads reads)
+      (λ reads. after_turn (other c.args.tail.file) c.in-Turn.checkpoint (g.S.Site.seen c.turn_to.new.site) after (ap (λ (h : Head). h.version) due.1 ∙ due.0.0) leads reads)
       (c.turn_to.ensures.turned told);
   any_moment = λ told before after is led. let due = rw c.in-Turn.is at c.requires.due in let leads = rw c.in-Turn.is at led in
       leaves_weaker g.S.Site c.args.site.now c.turn_to.new.site _ _
-      (λ r either. old_or_new (other c.args.tail.file) c.in-Turn.checkpoint (g.S.Site.seen c.args.site.now) r.files before after (ap (λ (h : Head). h.version) due.1 ∙ c.requires.version) is leads either)
+      (λ r either. old_or_new (other c.args.tail.file) c.in-Turn.checkpoint (g.S.Site.seen c.args.site.now) r.files before after (ap (λ (h : Head). h.version) due.1 ∙ due.0.0) is leads either)
       (c.turn_to.ensures.any_moment told);
   failed = c.turn_to.ensures.failed;
   counted = c.turn_to.ensures.counted;
