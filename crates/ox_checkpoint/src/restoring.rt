@@ -52,19 +52,21 @@ pub fn stand(
 
 /// The chain that a head, a body and records stand for, its index in memory: that of `stand`, which
 /// says what is tested and what it costs. `At` exactly where they stand for none, with the place of
-/// the first test that fails. `Memory` where there is none for the chain.
+/// the first test that fails. `Memory` where there is none for the chain. The body is let go of
+/// before the index in memory is made, which takes the most.
 pub fn restore(
     alloc: Global,
     head: &Head,
-    body: &Bytes,
+    body: Bytes,
     records: &Records,
 ) -> Result<Chain, Unjudged>
     requires { IsTrue (is_lawful head.now) }
     ensures stack { IfOk result (λ chain.
-        stack_in_file head.now body.now records.now ≡ Ok (stack_in chain)) }
-    ensures place { IfErr result (IsUnjudged (stack_in_file head.now body.now records.now)) }
+        stack_in_file head.now body records.now ≡ Ok (stack_in chain)) }
+    ensures place { IfErr result (IsUnjudged (stack_in_file head.now body records.now)) }
 {
-    let standing = stand(alloc, head, body, records)?;
+    let standing = stand(alloc, head, &body, records)?;
+    drop(body);
     match standing.into_chain(alloc) {
         Ok(chain) => Ok(chain),
         Err(_) => Err(Unjudged::Memory),

@@ -61,7 +61,7 @@ fn store_of(alloc: Global, opened: Opened) -> Result<Store, OpenFault>
     ensures misfit { IfErr result (IsMisfit (stack_in (Ok (found_of opened)))) }
     ensures not_disk { IsErrOf result OpenFault.DiskFault → ⊥ }
 {
-    match restore(alloc, &opened.head, &opened.body, &opened.records) {
+    match restore(alloc, &opened.head, opened.body, &opened.records) {
         Ok(chain) => Ok(Store {
             alloc,
             chain,
