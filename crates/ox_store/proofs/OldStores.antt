@@ -1,6 +1,6 @@
 -- What a store of version 1 is migrated to, and why it isn't.
 use Rattle.std.proofs.Common.{◌≡◌, ◌≢◌, ◌∙◌, inl, inr, ⊎_elim, ℕ, Bool, true, false, List, [], refl, sym, ap, subst}
-use Rattle.std.specs.Prelude.{◌&&◌, ◌||◌, ◌==◌, ◌⊎◌, not, nat_le, nat_lt, Option, Some, None, Result, Ok, Err}
+use Rattle.std.specs.Prelude.{◌&&◌, ◌||◌, ◌==◌, ◌⊎◌, not, nat_le, nat_lt, if◌then◌else◌, Option, Some, None, Result, Ok, Err}
 use Rattle.std.proofs.lemmas.Bool.{false≢true}
 use Rattle.ox_bytes.specs.Reading.{◌>>=◌}
 use Rattle.std.specs.Result.{OnOk}
@@ -15,10 +15,10 @@ use Rattle.ox_outside.proofs.Counts.{went_on}
 use Rattle.ox_gated.specs.Layout.{Whole, is_lawful}
 use Rattle.ox_gated.specs.OldReading.{old_reading}
 use Rattle.ox_gated.specs.OtherFile.{IsOldOrNew, IsSpared, last_generation, tail_of_other}
-use Rattle.ox_gated.specs.Reading.{Fault, Found, IntactPart, ReadsAlike, is_any, is_old, reading}
+use Rattle.ox_gated.specs.Pick.{Choice, choice_of}
+use Rattle.ox_gated.specs.Reading.{Fault, Found, IntactPart, ReadsAlike, body_reading, fault_at, is_any, is_old, reading, reading_by}
 use Rattle.ox_gated.specs.Tail.{Keeps, Kept}
 use Rattle.ox_gated.proofs.OldReading.{old_is_reading}
-use Rattle.ox_gated.proofs.Stands.{reading_any}
 use Rattle.ox_gated.specs.declared.head.Head.{Head}
 use Rattle.ox_gated.specs.declared.records.Record.{Record}
 use Rattle.ox_model.specs.Stack.{Stack}
@@ -90,12 +90,24 @@ on_ok_of (Err e) p = tt
 pub stays_old : (files : Files) (found : Found) → old_reading files ≡ Ok found → found.head.generation ≢ last_generation → StaysOld files
 stays_old files found is lesser image alike = old_stands_alike files image found is lesser (alike is_old)
 
+behind_version : (read : Bool) (file : Which) (body : Result Found Fault) (found : Found) → (if not read then fault_at file 6 else body) ≡ Ok found → body ≡ Ok found
+behind_version true file body found is = is
+behind_version false file body found is = absurd (cc is)
+
+-- what is read of version 1 alone is read whichever versions are
+read_as_any : (files : Files) (found : Found) → reading is_old files ≡ Ok found → reading is_any files ≡ Ok found
+read_as_any files found is = by (choice_of files.a files.b) is
+  where
+    by : (choice : Choice) → reading_by is_old files choice ≡ Ok found → reading_by is_any files choice ≡ Ok found
+    by (Err fault) is = absurd (cc is)
+    by (Ok choice) is = behind_version (is_old choice.1.head.version) choice.0 (body_reading choice.0 (file_of files choice.0) choice.1) found is
+
 -- the tail is that of the file that was found
 pub tail_found : (tail : Kept) (old files : Files) (found : Found) → files ≡ old → Keeps tail (reading is_any files) → old_reading old ≡ Ok found
     → (tail.file ≡ found.file) × (tail.head ≡ found.head)
 tail_found tail old files found same keeps is =
     let there : old_reading files ≡ Ok found = ap old_reading same ∙ is in
-    let kept : Keeps tail (Ok found) = subst (λ (r : Result Found Fault). Keeps tail r) (reading_any files found is_old (old_is_reading files found there) is_any) keeps in
+    let kept : Keeps tail (Ok found) = subst (λ (r : Result Found Fault). Keeps tail r) (read_as_any files found (old_is_reading files found there)) keeps in
     (kept.file, kept.head)
 
 -- and that of the other one follows it

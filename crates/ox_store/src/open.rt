@@ -61,13 +61,20 @@ fn store_of(alloc: Global, opened: Opened) -> Result<Store, OpenFault>
     ensures misfit { IfErr result (IsMisfit (stack_in (Ok (found_of opened)))) }
     ensures not_disk { IsErrOf result OpenFault.DiskFault → ⊥ }
 {
-    match restore(alloc, &opened.head, opened.body, &opened.records) {
+    let Opened {
+        tail,
+        file,
+        head,
+        body,
+        records,
+    } = opened;
+    match restore(alloc, &head, body, &records) {
         Ok(chain) => Ok(Store {
             alloc,
             chain,
-            tail: opened.tail,
+            tail,
             commands: 0,
         }),
-        Err(unjudged) => Err(OpenFault::in_file(opened.file, unjudged)),
+        Err(unjudged) => Err(OpenFault::in_file(file, unjudged)),
     }
 }

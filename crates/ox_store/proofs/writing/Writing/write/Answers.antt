@@ -12,12 +12,12 @@ use Rattle.ox_store.proofs.writing.Writing.write.Goals as goal
 pub append-requires-clause-fits : goal.append-requires-clause-fits
 append-requires-clause-fits g c =
     let due = rw c.in-Append.is at c.requires.due in
-    due.1.1
+    due.2
 
 pub append-requires-clause-framed : goal.append-requires-clause-framed
 append-requires-clause-framed g c =
     let due = rw c.in-Append.is at c.requires.due in
-    due.1.0
+    due.1
 
 pub returns-in-Append : goal.returns-in-Append
 returns-in-Append g c = record {
