@@ -15,3 +15,4 @@ pub mod Telling
 pub mod Standing
 pub mod Backing
 pub mod Pasts
+pub mod Showing

@@ -7,3 +7,4 @@ pub mod Back
 pub mod Said
 pub mod Places
 pub mod Past
+pub mod Shown

@@ -1,22 +1,24 @@
 //! The reply to each request, whose path may name a kept block.
 
-ghost use Rattle.std.specs.Prelude.{◌≡◌, IfOk, length};
+ghost use Rattle.std.specs.Prelude.{◌≡◌, IfOk, Some, false, length, true};
+ghost use Rattle.std.specs.Option.{IfNone, IfSome};
 ghost use Rattle.ox_model.specs.Ends.{AllEnd};
 ghost use Rattle.ox_http.specs.declared.Method.TheVariants.{Get};
 ghost use Rattle.ox_query.specs.Asked.{asked_of};
+ghost use Rattle.ox_routes.specs.Table.{route_and_part};
 ghost use Rattle.ox_replies.specs.Ask.{same_method};
 ghost use Rattle.ox_asof.specs.AskedKept.{kept_of};
 ghost use Rattle.ox_asof.specs.Reply.{get_of, is_query, reply_at};
 
 use crate::back::back_to;
-use crate::past::past_of;
 use crate::paths::cut_at;
+use crate::told::past_for;
 use ox_bytes::{Bytes, Memory};
 use ox_http::{Method, Reply, Request};
 use ox_index::Changes;
 use ox_model::{About, View};
 use ox_query::{answer_by, error_reply};
-use ox_routes::Routes;
+use ox_routes::{Found, Routes};
 use std::alloc::Global;
 
 /// A GET of a path, behind which its link closes or doesn't. `Memory` where there is none for it.
@@ -38,13 +40,18 @@ fn is_get(method: Method) -> bool
     method == Method::Get
 }
 
-/// Whether a path takes a route that is no command's.
-fn is_query(routes: &Routes, path: &[u8]) -> bool
-    ensures { result ≡ is_query path.now }
+/// The route that a path takes, and its part, if that route is no command's.
+fn query_of<'p>(routes: &Routes, path: &'p [u8]) -> Option<Found<'p>>
+    ensures is { IfSome result (λ _. is_query path.now ≡ true) }
+    ensures taken { IfSome result
+        (λ found. route_and_part path.now ≡ Some (found.route, found.part.now)) }
+    ensures none { IfNone result (is_query path.now ≡ false) }
 {
-    match routes.find(path) {
-        Some(found) => is_get(found.route.method()),
-        None => false,
+    let found = routes.find(path)?;
+    if is_get(found.route.method()) {
+        Some(found)
+    } else {
+        None
     }
 }
 
@@ -74,16 +81,16 @@ pub fn answer_at<'a, V: View>(
     };
     let path = cut.0;
     let hash = cut.1;
-    if !is_query(routes, path) {
+    let Some(found) = query_of(routes, path) else {
         return error_reply(alloc, 404, request.close);
-    }
+    };
     if !is_get(request.method) {
         return error_reply(alloc, 405, request.close);
     }
     let Some(back) = back_to(view, about.kept, &hash) else {
         return error_reply(alloc, 404, request.close);
     };
-    let past = past_of(alloc, view, changes, back)?;
+    let past = past_for(alloc, view, changes, back, &found)?;
     let earlier = About {
         depth: about.depth,
         kept: about.kept - back as u16,

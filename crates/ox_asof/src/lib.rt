@@ -13,6 +13,7 @@ mod paths;
 mod places;
 mod recounted;
 mod said;
+mod told;
 mod undone;
 
 pub use answer::{answer_at, get_of};

@@ -1,6 +1,6 @@
 //! A view of an older index.
 
-ghost use Rattle.std.specs.Prelude.{◌≡◌, ◌≤◌, IfOk, length, take};
+ghost use Rattle.std.specs.Prelude.{◌≡◌, ◌≤◌, IfOk, false, length, take, true};
 ghost use Rattle.std.specs.BTreeMap as maps;
 ghost use Rattle.std.specs.Ordering.{nat_cmp};
 ghost use Rattle.std.proofs.Props.{props};
@@ -9,6 +9,7 @@ ghost use Rattle.ox_model.specs.Index.{Index};
 ghost use Rattle.ox_model.specs.Sound.{IsSound};
 ghost use Rattle.ox_model.proofs.Ended.{AllEnd-prop};
 ghost use Rattle.ox_asof.specs.Past.{AreRecounted, counted_by, lengths_of};
+ghost use Rattle.ox_asof.specs.Shown.{shown};
 ghost use Rattle.ox_asof.specs.Undone.{undone_by};
 
 use crate::amounts::{held_of, rune_audit};
@@ -17,8 +18,8 @@ use crate::lengths::{Lengths, lengths_by};
 use crate::places::place_by;
 use crate::recounted::{Rows, recounted};
 use crate::said::{Said, oldest_said};
+use crate::told::balance_before;
 use crate::undone::Undone;
-use ox_allocation::Balances;
 use ox_block::OutPoint;
 use ox_bytes::{List, Memory};
 use ox_index::Changes;
@@ -27,18 +28,22 @@ use ox_sat::{Profile, first};
 use std::alloc::Global;
 
 /// A view of an index before its newest blocks, over a view of it as it stands and the changes of
-/// these blocks. It takes memory for the runes alone of which something was counted since.
+/// these blocks. It takes memory for the runes alone of which something was counted since, and none
+/// where it shows the index without its runes.
 pub struct Past<'a, V: View> {
     alloc: Global,
     view: &'a V,
     undone: Undone<'a>,
     lengths: Lengths,
+    /// Whether it shows the runes.
+    has_runes: bool,
     /// The runes of which something was counted since, as they were.
     rows: Rows,
     ghost end: { AllEnd (V.chain view.now) (V.index view.now) undone } by { AllEnd-prop _ _ _ },
     ghost sound: { IsSound (V.chain view.now)
-        (undone_by (V.index view.now) undone) } by { Prim.hlevel props },
-    ghost counted: { lengths ≡ lengths_of (undone_by (V.index view.now) undone) },
+        (shown has_runes (undone_by (V.index view.now) undone)) } by { Prim.hlevel props },
+    ghost counted: { lengths ≡ lengths_of (shown has_runes
+        (undone_by (V.index view.now) undone)) },
     ghost recounted: { AreRecounted (V.index view.now).runes lengths.runes (counted_by undone)
         (maps.get nat_cmp rows) },
 }
@@ -51,6 +56,7 @@ impl<'a, V: View> Drop for Past<'a, V> {
             view: _view,
             undone: _undone,
             lengths: _lengths,
+            has_runes: _has_runes,
             rows: _rows,
         } = self;
     }
@@ -69,6 +75,7 @@ pub fn past_of<'a, V: View>(
     ensures chain { IfOk result (λ past. V.chain past.view.now ≡ V.chain view.now) }
     ensures index { IfOk result (λ past. undone_by (V.index past.view.now) past.undone
         ≡ undone_by (V.index view.now) (take back changes.now.kept)) }
+    ensures runes { IfOk result (λ past. past.has_runes ≡ true) }
 {
     let undone = Undone::of(changes, back);
     let lengths = lengths_by(view, &undone);
@@ -78,14 +85,45 @@ pub fn past_of<'a, V: View>(
         view,
         undone,
         lengths,
+        has_runes: true,
         rows,
     })
+}
+
+/// The same without the runes, for replies that tell of none. It takes no memory.
+pub(crate) fn past_without_runes<'a, V: View>(
+    alloc: Global,
+    view: &'a V,
+    changes: &'a Changes,
+    back: usize,
+) -> Past<'a, V>
+    requires end { AllEnd (V.chain view.now) (V.index view.now) changes.now.kept }
+    requires kept { back ≤ length changes.now.kept }
+    ensures chain { V.chain result.view.now ≡ V.chain view.now }
+    ensures index { undone_by (V.index result.view.now) result.undone
+        ≡ undone_by (V.index view.now) (take back changes.now.kept) }
+    ensures runes { result.has_runes ≡ false }
+{
+    let undone = Undone::of(changes, back);
+    let lengths = Lengths {
+        runes: 0,
+        ..lengths_by(view, &undone)
+    };
+    Past {
+        alloc,
+        view,
+        undone,
+        lengths,
+        has_runes: false,
+        rows: Rows::new(alloc),
+    }
 }
 
 impl<'a, V: View> View for Past<'a, V> {
     ghost chain = { λ past. V.chain past.view.now };
 
-    ghost index = { λ past. undone_by (V.index past.view.now) past.undone };
+    ghost index = { λ past. shown past.has_runes
+        (undone_by (V.index past.view.now) past.undone) };
 
     fn profile(&self) -> &Profile {
         self.view.profile()
@@ -157,11 +195,10 @@ impl<'a, V: View> View for Past<'a, V> {
     }
 
     fn balance(&self, at: &OutPoint) -> &[(RuneId, u128)] {
-        match oldest_said::<Balances>(&self.undone, at) {
-            Said::Stood(balances) => balances.as_slice(),
-            Said::Gone => &[],
-            Said::Nothing => self.view.balance(at),
+        if !self.has_runes {
+            return &[];
         }
+        balance_before(self.view, &self.undone, at)
     }
 
     fn runes(&self) -> u32 {

@@ -1,34 +1,17 @@
-use Rattle.std.proofs.Common.{◌∙◌, ap, sym, List, [], unwrap_or}
-use Rattle.std.specs.FinMap.{get}
-use Rattle.ox_allocation.specs.Balances.{Balance}
-use Rattle.ox_asof.specs.Said.{by, meant}
-use Rattle.ox_asof.specs.declared.said.Said.{Said}
-use Rattle.ox_asof.proofs.Ending.{balances_rise}
-use Rattle.ox_asof.proofs.Pasts.{held_there}
+use Rattle.std.proofs.Common.{◌∙◌}
+use Rattle.ox_asof.specs.Undone.{undone_by}
+use Rattle.ox_asof.proofs.Showing.{balance_hidden, balance_told}
 use Rattle.ox_asof.proofs.past.PastView.balance.Goals as goal
 
-pub oldest_said-requires : goal.oldest_said-requires
-oldest_said-requires g c =
-    let past = c.args.self.now in
-    balances_rise (g.V.View.chain past.view.now) (g.V.View.index past.view.now) past.undone past.end
+pub balance_before-requires : goal.balance_before-requires
+balance_before-requires g c = c.args.self.now.end
 
-pub returns-in-Stood : goal.returns-in-Stood
-returns-in-Stood g c =
+pub returns-then-not-self : goal.returns-then-not-self
+returns-then-not-self g c =
     let past = c.args.self.now in
-    let index = g.V.View.index past.view.now in
-    held_there index past.undone c.args.at.now (meant c.oldest_said.result) _ c.oldest_said.ensures
-    (c.as_slice.ensures ∙ ap (λ (s : Said (List Balance)). unwrap_or (by (meant s) (get index.bal c.args.at.now)) []) (sym c.in-Stood.is))
+    balance_hidden past.has_runes (undone_by (g.V.View.index past.view.now) past.undone) c.args.at.now c.if-not-self.true
 
-pub returns-in-Gone : goal.returns-in-Gone
-returns-in-Gone g c =
+pub returns : goal.returns
+returns g c =
     let past = c.args.self.now in
-    let index = g.V.View.index past.view.now in
-    held_there index past.undone c.args.at.now (meant c.oldest_said.result) _ c.oldest_said.ensures
-    (ap (λ (s : Said (List Balance)). unwrap_or (by (meant s) (get index.bal c.args.at.now)) []) (sym c.in-Gone.is))
-
-pub returns-in-Nothing : goal.returns-in-Nothing
-returns-in-Nothing g c =
-    let past = c.args.self.now in
-    let index = g.V.View.index past.view.now in
-    held_there index past.undone c.args.at.now (meant c.oldest_said.result) _ c.oldest_said.ensures
-    (c.balance.ensures ∙ ap (λ (s : Said (List Balance)). unwrap_or (by (meant s) (get index.bal c.args.at.now)) []) (sym c.in-Nothing.is))
+    c.balance_before.ensures ∙ balance_told past.has_runes (undone_by (g.V.View.index past.view.now) past.undone) c.args.at.now c.if-not-self.false
