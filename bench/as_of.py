@@ -9,12 +9,13 @@ to 60 outputs that it makes of older ones, of which some bear inscriptions; it m
 balances, and reveals 5 inscriptions. Now and as of 1, 10, 100 and 1,000 blocks back 65 paths are
 asked again and again, which is one more than replies are kept, so that each is made anew: of
 outputs, satoshis, inscriptions and runes 16 each, of which kept blocks touched one half, and the
-audit. `ox_run_rows`, whose word `often` asks one desk, and the plain program run three times, with
-the work that is timed and with one round of it; all have to count the same, and as many bytes. It
-prints, of the runs that took least, replies a second of the processor time that the work took. The
-plain program reads the same file, and undoes of each change only what a reply needs: by `walk` it
-asks all changes above the block, and by `heights` none where the row that stands was made before
-them. Nothing here is proved. bench/all.py builds both programs.
+audit. And so are 68 that tell of no rune, of satoshis and inscriptions. `ox_run_rows`, whose word
+`often` asks one desk, and the plain program run three times, with the work that is timed and with
+one round of it; all have to count the same, and as many bytes. It prints, of the runs that took
+least, replies a second of the processor time that the work took. The plain program reads the same
+file, and undoes of each change only what a reply needs: by `walk` it asks all changes above the
+block, and by `heights` none where the row that stands was made before them. Nothing here is proved.
+bench/all.py builds both programs.
 """
 
 import pathlib
@@ -33,6 +34,8 @@ BACK = [0, 1, 10, 100, 1_000]
 # the work that is timed takes so many processor seconds at the least
 LEAST_SECONDS = 2
 SEARCHES = ["walk", "heights"]
+# as kept_blocks.py tells the paths
+KINDS = ["replies", "replies that tell of no rune"]
 
 
 def often(paths, times):
@@ -62,7 +65,8 @@ class Store:
 
     def compare(self):
         """Ends where the programs don't count the same."""
-        shown, rows = set(), b"".join(often(paths, 2) for paths in self.asked)
+        shown = set()
+        rows = b"".join(often(paths, 2) for kinds in self.asked for paths in kinds)
         for name, words in self.words.items():
             self.give(name, rows)
             shown.add(run(words, self.feed)[2])
@@ -82,24 +86,29 @@ class Store:
         return more * len(paths) / (self.seconds(name, paths, 1 + more) - one)
 
 
-def asked_at(back):
+def asked_at(back, kind):
     """What is asked so many blocks back, in words."""
     if not back:
-        return "replies now"
-    return f"replies as of {back:,} block{'' if back == 1 else 's'} back"
+        return f"{kind} now"
+    return f"{kind} as of {back:,} block{'' if back == 1 else 's'} back"
+
+
+def time_kind(store, size, what, paths):
+    rates = {name: store.rate(name, paths) for name in store.words}
+    for search in SEARCHES:
+        work, ours, plain = f"{what}, beside `{search}`", rates["ox"], rates[search]
+        print(
+            f"{work}, {size}: ox {ours:,.0f} a second ({1e6 / ours:,.2f} microseconds each),"
+            f" plain {plain:,.0f}, ratio {ours / plain:.3f}",
+            flush=True,
+        )
+        report(work, size, "replies a second", ours, plain, GOAL)
 
 
 def time_replies(store, size):
-    for back, paths in zip(BACK, store.asked):
-        rates = {name: store.rate(name, paths) for name in store.words}
-        for search in SEARCHES:
-            work, ours, plain = f"{asked_at(back)}, beside `{search}`", rates["ox"], rates[search]
-            print(
-                f"{work}, {size}: ox {ours:,.0f} a second ({1e6 / ours:,.2f} microseconds each),"
-                f" plain {plain:,.0f}, ratio {ours / plain:.3f}",
-                flush=True,
-            )
-            report(work, size, "replies a second", ours, plain, GOAL)
+    for back, kinds in zip(BACK, store.asked):
+        for kind, paths in zip(KINDS, kinds):
+            time_kind(store, size, asked_at(back, kind), paths)
 
 
 def main():

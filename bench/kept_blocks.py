@@ -27,8 +27,8 @@ MOVED, REVEALED = 10, 5
 # one of so many older outputs bears an inscription
 TENTH = 10
 BODY = b"an inscription as small as most are"
-# so many paths of each route but the audit
-EACH_ROUTE = 16
+# so many paths of each route but the audit, and of each of two where no rune is to be told
+EACH_ROUTE, WITHOUT_RUNES = 16, 34
 
 
 def new_rune(chance, place):
@@ -131,11 +131,11 @@ class Blocks:
         first, last = self.first - 1, self.first + KEPT
         return self.came.get(at, first) <= height < self.gone.get(at, last)
 
-    def outputs_at(self, height):
+    def outputs_at(self, height, count):
         """Outputs that stood then, one half of them such that kept blocks took away or made."""
         still = [at for at in self.chance.sample(self.old, 100) if at in self.rows]
         touched = [at for at in {**self.gone, **self.came} if self.stood(at, height)]
-        return still[: EACH_ROUTE // 2] + self.chance.sample(touched, EACH_ROUTE // 2)
+        return still[: count // 2] + self.chance.sample(touched, count // 2)
 
     def first_sat(self, at):
         """The first satoshi of an output that stands or stood."""
@@ -144,24 +144,34 @@ class Blocks:
             row = dict(self.changes[self.gone[at] - self.first].gone)[at]
         return row.sats[0][0]
 
-    def inscriptions_at(self, height):
+    def inscriptions_at(self, height, count):
         """Inscriptions that were there, one half of them on satoshis that kept blocks moved."""
         starts = {row.sats[0][0] for change in self.changes for _, row in change.gone}
         parts = [], []
         for row in self.inscriptions:
             if row.height <= height:
                 parts[row.sat in starts].append(row)
-        return [row for part in parts for row in self.chance.sample(part, EACH_ROUTE // 2)]
+        return [row for part in parts for row in self.chance.sample(part, count // 2)]
+
+    def without_runes(self, height, count):
+        """What is asked of satoshis and inscriptions, whose replies tell of no rune."""
+        sats = [f"sat/{self.first_sat(at)}" for at in self.outputs_at(height, count)]
+        rows = self.inscriptions_at(height, count)
+        return sats + [f"inscription/{shown(row.id, 'i')}" for row in rows]
+
+    def of_each_route(self, height):
+        """What is asked of all."""
+        ends = [f"output/{shown(at, ':')}" for at in self.outputs_at(height, EACH_ROUTE)]
+        ends += self.without_runes(height, EACH_ROUTE)
+        ends += [f"rune/0:{row.id[1]}" for row in self.chance.sample(self.runes, EACH_ROUTE)]
+        return [*ends, "audit"]
 
     def paths(self, back):
-        """What is asked so many blocks back."""
+        """What is asked so many blocks back: of all, and such that tells of no rune."""
         height = self.first + KEPT - 1 - back
-        ends = [f"output/{shown(at, ':')}" for at in self.outputs_at(height)]
-        ends += [f"sat/{self.first_sat(at)}" for at in self.outputs_at(height)]
-        ends += [f"inscription/{shown(row.id, 'i')}" for row in self.inscriptions_at(height)]
-        ends += [f"rune/0:{row.id[1]}" for row in self.chance.sample(self.runes, EACH_ROUTE)]
         named = f"?at={self.hashes[height][::-1].hex()}" if back else ""
-        return [f"/{end}{named}" for end in [*ends, "audit"]]
+        kinds = self.of_each_route(height), self.without_runes(height, WITHOUT_RUNES)
+        return [[f"/{end}{named}" for end in ends] for ends in kinds]
 
 
 def write_store(path, outputs, backs):
