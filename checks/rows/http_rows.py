@@ -322,8 +322,12 @@ def rows():
         b"\tA: b",
     ):
         made.stream(get(text))
-    for count in (63, 64, 65):
-        made.stream(b"GET / HTTP/1.1\r\n", (count, b"A: b\r\n"), b"\r\n", grows=False)
+    made.says("so many fields, of which the last tells a length, or isn't one")
+    for count in (0, 15, 16, 17, 63, 64, 65):
+        front = b"GET / HTTP/1.1\r\n", (max(count - 1, 0), b"A: b\r\n")
+        for last in (length(b"2"), b"Content-Length 2") if count else (b"",):
+            end = last + b"\r\n" if last else b""
+            made.stream(*front, end + b"\r\nxy", grows=False)
     made.says("lengths")
     for text in (
         b"",
