@@ -619,21 +619,31 @@ def old_store(folder):
     (folder / "b.ox").write_bytes(b"\0")
 
 
+def folder_for(word, command, program, room):
+    """A folder that stands for a word of a command, with such a store as the command wants."""
+    folder = room / (word + re.sub(r"\W", "", command))
+    folder.mkdir()
+    if "migrate" in command:
+        old_store(folder)
+    elif "drill" not in command:
+        subprocess.run([program, folder, "init", "mainnet", "100"], check=True, stdout=QUIET)
+    return str(folder)
+
+
 def run_command(command, program, room):
     """The status of a command in this folder; `serve` is left running, and is given back."""
-    words = command.replace("ox_main FOLDER", f"{program} FOLDER")
-    if "FOLDER" in words:
-        folder = room / re.sub(r"\W", "", command)
-        folder.mkdir()
-        words = words.replace("FOLDER", str(folder))
-        if "migrate" in words:
-            old_store(folder)
+
+    def meant(word):
+        """What stands for a word: the program, or a folder."""
+        return str(program) if word == "ox_main" else folder_for(word, command, program, room)
+
+    words = re.sub(r"\b(?:ox_main|FOLDER|LEADER|FOLLOWER)\b", lambda it: meant(it[0]), command)
     if command == "service/package.py":
         words += f" --program {program} --into ."
     if " serve " in words:
-        subprocess.run([program, folder, "init", "mainnet", "100"], check=True, stdout=QUIET)
         return 0, subprocess.Popen(words.split(), stdout=QUIET)
-    ran = subprocess.run(["bash", "-c", words], cwd=room, stdout=QUIET, stdin=QUIET, timeout=120)
+    shell = ["bash", "-o", "pipefail", "-c", words]
+    ran = subprocess.run(shell, cwd=room, stdout=QUIET, stdin=QUIET, timeout=120)
     return ran.returncode, None
 
 
