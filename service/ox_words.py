@@ -7,6 +7,7 @@
     ox FOLDER serve [TURNS PUBLIC OPERATOR] [--turns N] [--public ADDRESS] [--operator ADDRESS]
                                        serves HTTP at two addresses
     ox FOLDER drill BLOCKS             makes a store of so many made blocks
+    ox FOLDER lead, follow             a store hands its pieces to another one, by two pipes
     ox FOLDER migrate                  makes a store of version 1 one of version 2
     ox FOLDER fold PROFILE < FEED      answers a feed with an index that is gone at the end
 
