@@ -1,67 +1,35 @@
 #!/usr/bin/env python3
 """Runs the tests of every crate at once, unproved.
 
-It runs `rt try --test` in each crate that has tests, or in those that are named, in as many at once
-as there are processors, and tells of each whether its tests passed and how long that took. Of a
-crate whose tests failed it shows what `rt try` said. The last line says how many crates passed and
-how many failed, and the status is 1 where one failed. Nothing is proved, no program is run, and a
-call that breaks a `requires` isn't seen.
+It builds the program of a crate's tests as a try would, but optimised and all at once, leaves it in
+build/, and runs each test in a process of its own; so it does for the crates that are named, or for
+all that have tests. A test stops at an index out of bounds, a sum that wraps, a bad access, or a
+failed assertion. What a test that failed said is shown. The last line says how many passed and how
+many failed, and the status is 1 where one failed. Nothing is proved, and a call that breaks a
+`requires` isn't seen.
 """
 
-import concurrent.futures
-import os
-import pathlib
-import subprocess
 import sys
-import time
+
+from tools import children, kit, tests
 from tools.words import words_of
-
-TOP = pathlib.Path(__file__).resolve().parent.parent
-# how long the tests of one crate may run: they are built without optimization
-SECONDS = 600
-
-
-def names():
-    """The crates that have tests, the highest first, since their tests take longest."""
-    lines = (TOP / "crates.txt").read_text().splitlines()
-    every = [
-        line.split(":")[0].split()[0] for line in lines if line.strip() and not line.startswith("#")
-    ]
-    return [name for name in reversed(every) if has_tests(TOP / "crates" / name)]
-
-
-def has_tests(crate):
-    return any("#[test]" in path.read_text() for path in (crate / "src").rglob("*.rt"))
-
-
-def passes(name):
-    begun = time.monotonic()
-    command = ["rt", "try", "--test", "--seconds", str(SECONDS)]
-    ran = subprocess.run(
-        command,
-        cwd=TOP / "crates" / name,
-        stdin=subprocess.DEVNULL,
-        stdout=subprocess.PIPE,
-        stderr=subprocess.STDOUT,
-    )
-    passed = ran.returncode == 0
-    said = "" if passed else ran.stdout.decode(errors="replace")
-    print(
-        f"{name}: {'passed' if passed else 'FAILED'}, {time.monotonic() - begun:.0f} s\n{said}",
-        end="",
-        flush=True,
-    )
-    return passed
 
 
 def main():
     words = words_of(__doc__)
-    words.add_argument("crates", nargs="*", metavar="CRATE", help="all that have tests without")
-    chosen = words.parse_args().crates or names()
-    with concurrent.futures.ThreadPoolExecutor(os.cpu_count()) as at_once:
-        results = list(at_once.map(passes, chosen))
-    print(f"{results.count(True)} passed, {results.count(False)} failed")
-    sys.exit(0 if all(results) else 1)
+    words.add_argument(
+        "crates", nargs="*", metavar="CRATE", help=f"of {', '.join(tests.of_tests())} (all of them)"
+    )
+    said = words.parse_args()
+    if not set(said.crates) <= set(tests.of_tests()):
+        words.error(f"tests are in {', '.join(tests.of_tests())}")
+    children.leave_at_signals()
+    try:
+        sys.exit(tests.run_tests(said.crates))
+    except kit.NoKit as cause:
+        sys.exit(str(cause))
+    finally:
+        children.end_all()
 
 
 if __name__ == "__main__":

@@ -1,6 +1,7 @@
 """Tries what stands: documents, types, rows, tests, files, sockets, crashes. Nothing is proved."""
 
 import concurrent.futures
+import functools
 import os
 import pathlib
 import re
@@ -8,16 +9,17 @@ import shutil
 import subprocess
 import sys
 import tempfile
+from collections.abc import Callable
 from typing import NamedTuple
 
-from tools import children
+from tools import children, kit
 from tools.build import Unbuilt, build
-from tools.programs import CRATES, TOP, quick_program, stands_on
+from tools.programs import CRATES, TOP, quick_program, sources, stands_on
 from tools.steps import Steps
 
 # how much memory one build may take, in bytes
-OF_A_BUILD = 3 << 30
-# how long one program may take over its rows, in seconds
+OF_A_BUILD = 2 << 30
+# how long one program may take over its rows, and one test, in seconds
 SECONDS = 120
 # what `mypy --strict` looks at
 TYPED = ["ox", "tools", "service"]
@@ -33,14 +35,20 @@ class Count(NamedTuple):
         return f"{self.passed} passed, {self.failed} failed"
 
 
+# tries something, and counts it
+Work = Callable[[], Count]
+
+
 def total(counts: list[Count]) -> Count:
     return Count(sum(one.passed for one in counts), sum(one.failed for one in counts))
 
 
 def at_once() -> int:
-    """How many programs are built at once."""
-    memory = os.sysconf("SC_AVPHYS_PAGES") * os.sysconf("SC_PAGE_SIZE")
-    return max(1, min(os.cpu_count() or 1, memory // OF_A_BUILD))
+    """How many programs are built at once, by the memory that is free or can be freed."""
+    told = pathlib.Path("/proc/meminfo").read_text()
+    free = re.search(r"^MemAvailable: +(\d+) kB$", told, re.M)
+    builds = int(free[1]) * 1024 // OF_A_BUILD if free else 1
+    return max(1, min(os.cpu_count() or 1, builds))
 
 
 def counted(told: str, status: int) -> Count:
@@ -80,6 +88,15 @@ def of_rows() -> list[str]:
     return [name for name in stands_on() if (CRATES / name / "stdout").exists()]
 
 
+def of_tests() -> list[str]:
+    """The crates that have tests."""
+    return [name for name in stands_on() if has_tests(CRATES / name / "src")]
+
+
+def has_tests(folder: pathlib.Path) -> bool:
+    return any("#[test]" in path.read_text() for path in folder.rglob("*.rt"))
+
+
 def first_difference(got: bytes, wanted: bytes) -> str:
     """What is told where a program prints something else."""
     left, right = got.split(b"\n"), wanted.split(b"\n")
@@ -111,7 +128,7 @@ def rows_of(name: str, program: pathlib.Path, steps: Steps) -> Count:
     """Builds a program over rows, where it is another than this one, and runs it."""
     try:
         if name != "ox_main":
-            build(name, steps, level="-O1")
+            build(name, steps, level="-O1", checked=True)
             program = quick_program(name)
         fault = fault_of_rows(name, program)
     except Unbuilt as cause:
@@ -120,27 +137,75 @@ def rows_of(name: str, program: pathlib.Path, steps: Steps) -> Count:
     return Count(int(not fault), int(bool(fault)))
 
 
-def rows(program: pathlib.Path, steps: Steps) -> Count:
+def tests_of(name: str, steps: Steps) -> Count:
+    """Builds the program of a crate's tests, and runs each test in a process of its own."""
+    try:
+        build(name, steps, level="-O1", checked=True)
+    except Unbuilt as cause:
+        steps.tell(f"tests of {name}: {cause}")
+        return Count(0, 1)
+    runner = str(kit.place() / "bin" / "rattle-test")
+    words = [runner, "--seconds", str(SECONDS), str(quick_program(name))]
+    status, told = children.run(words)
+    found = re.search(r"^test result: .*?(\d+) passed; (\d+) failed;", told, re.M)
+    count = Count(int(found[1]), int(found[2])) if found else Count(0, 1)
+    if status and not count.failed:
+        count = Count(count.passed, 1)
+    steps.tell(f"tests of {name}: {count}" + (f"\n{told.rstrip()}" if count.failed else ""))
+    return count
+
+
+def of_programs(names: list[str], program: pathlib.Path, steps: Steps) -> list[Work]:
+    """What tries each of these programs, the largest first, since they take longest."""
+    with_tests = of_tests()
+    works: list[Work] = []
+    for name in sorted(names, key=weight, reverse=True):
+        if name in with_tests:
+            works.append(functools.partial(tests_of, name, steps))
+        else:
+            works.append(functools.partial(rows_of, name, program, steps))
+    return works
+
+
+def weight(name: str) -> int:
+    """How many bytes of sources a program is built of."""
+    return sum(path.stat().st_size for path in sources(name, "src"))
+
+
+def beside_each_other(works: list[Work]) -> list[Count]:
+    """What these count, several at once."""
     with concurrent.futures.ThreadPoolExecutor(at_once()) as pool:
-        # the highest take longest
-        tried = [pool.submit(rows_of, name, program, steps) for name in reversed(of_rows())]
-        return total([one.result() for one in tried])
+        return [one.result() for one in [pool.submit(work) for work in works]]
 
 
 def run(program: pathlib.Path) -> int:
     """Runs all, with the last line 'N passed, M failed'; the status."""
     with Steps() as steps:
-        counts = [
-            script(steps, "documents", "checks/documents.py"),
-            script(steps, "their commands", "checks/documents.py", "--commands", str(program)),
-            script(steps, "rows as they are made", "checks/make_rows.py", "--compare"),
-            types(steps),
-            rows(program, steps),
-            script(steps, "tests, unproved", "checks/all_tests.py"),
-            script(steps, "real files", "checks/real_files.py", str(program)),
-            script(steps, "real sockets", "checks/real_sockets.py", str(program)),
-            script(steps, "real crashes", "checks/real_crashes.py", str(program)),
+
+        def later(what: str, *words: str) -> Work:
+            return functools.partial(script, steps, what, *words)
+
+        works = of_programs([*of_rows(), *of_tests()], program, steps)
+        works += [
+            later("rows as they are made", "checks/make_rows.py", "--compare"),
+            functools.partial(types, steps),
+            later("documents", "checks/documents.py"),
+            later("their commands", "checks/documents.py", "--commands", str(program)),
         ]
+        counts = beside_each_other(works)
+        # one after the other: they look at times, and begin several processes themselves
+        for what in "files", "sockets", "crashes":
+            counts.append(script(steps, f"real {what}", f"checks/real_{what}.py", str(program)))
     count = total(counts)
+    print(count)
+    return int(count.failed != 0)
+
+
+def run_tests(chosen: list[str]) -> int:
+    """Runs the tests of these crates, or of all; the status."""
+    with Steps() as steps:
+        names = chosen or of_tests()
+        works: list[Work] = [functools.partial(tests_of, name, steps) for name in names]
+        count = total(beside_each_other(works))
     print(count)
     return int(count.failed != 0)
