@@ -5,8 +5,10 @@ same work.
     python3 bench/allocation.py
 
 has crates/ox_speed deal a pool of 1,000 runes to 10 outputs, by edicts to one output and to all,
-and gather pools in a scattered order, each also at ten times the size, so that growth shows. The
-plain program has a map for each output too. bench/all.py builds both.
+and gather pools in a scattered order, each also at ten times the size, so that growth shows. A
+block of 320 KB, with 20,000 edicts of one rune to each of 20,000 outputs, is also dealt with twice
+the edicts, and with twice the outputs. The plain program has a map for each output too, and owes
+all outputs what edicts give to each. bench/all.py builds both.
 """
 
 from runs import processor_time, report
@@ -18,6 +20,8 @@ TIMES = 20
 LOADS = {
     "one": ("edicts to one output", (10_000, 100_000)),
     "all": ("edicts to all outputs", (10_000, 100_000)),
+    "each": ("edicts to each of 20,000 outputs", (20_000, 40_000)),
+    "outputs": ("20,000 edicts to each output", (20_000, 40_000)),
     "pool": ("a pool gathered", (1_000, 10_000)),
 }
 

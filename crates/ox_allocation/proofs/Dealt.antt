@@ -16,7 +16,7 @@ use Rattle.ox_runestone.specs.declared.stone.Edict.{Edict}
 use Rattle.ox_allocation.specs.Balances.{AreBalances, Balance, amount_in, balances_by, id_cmp, ids_of, is_same, with_more}
 use Rattle.ox_allocation.specs.Gifts.{Gift, Left, amount_given, given_by, gifts_by, gifts_of, gifts_to, heir, holders, left_after, parts_of, rest_to, rune_of}
 use Rattle.ox_allocation.specs.Allocation.{Allocation, amount_at, amount_burned, amount_in_returns, balances_from, gifts_from}
-use Rattle.ox_allocation.specs.Dealing.{Gives, Stage, burns, empty_hands, gifts_for, hand, with_all, with_gift, with_gifts, with_rest}
+use Rattle.ox_allocation.specs.Dealing.{AreHands, Gives, Stage, burns, empty_hands, gifts_for, hand, with_all, with_gift, with_gifts, with_rest}
 use Rattle.ox_allocation.proofs.BalanceLemmas.{no_balances}
 use Rattle.ox_allocation.proofs.Ids.{below_differs, same_id, same_turned}
 use Rattle.ox_allocation.proofs.Amounts.{amount-with_more}
@@ -36,7 +36,7 @@ pub within-append : (count : ℕ) (gifts more : List Gift) → AreWithin count g
 within-append count [] more these others = others
 within-append count (gift ∷ gifts) more these others = (these.0, within-append count gifts more these.1 others)
 
-within-gifts_to : (count : ℕ) (id : RuneId) (places parts : List ℕ) → AllByRecursion (λ place. place < count) places → AreWithin count (gifts_to id places parts)
+pub within-gifts_to : (count : ℕ) (id : RuneId) (places parts : List ℕ) → AllByRecursion (λ place. place < count) places → AreWithin count (gifts_to id places parts)
 within-gifts_to count id [] parts within = tt
 within-gifts_to count id (place ∷ places) [] within = tt
 within-gifts_to count id (place ∷ places) (part ∷ parts) within = (within.0, within-gifts_to count id places parts within.1)
@@ -116,11 +116,6 @@ burned-with_gifts outputs hands (gift ∷ gifts) id =
     let both = returns-cons outputs 0 gift gifts id in
     omega arith
 
--- hands hold balances
-pub record AreHands (hands : Allocation) : Type 0 where
-  pub given : (place : ℕ) → AreBalances (hand hands place)
-  pub burned : AreBalances hands.burned
-
 set_by_test : (hands : Allocation) (at place : ℕ) (new : List Balance) → at < length hands.given → AreBalances new → AreBalances (hand hands place) → (t : Bool) → (at == place) ≡ t
     → AreBalances (slice_index_or (slice_set hands.given at new) place [])
 set_by_test hands at place new within are old true is =
@@ -138,7 +133,7 @@ hands_by_test hands gift false within are = record {
   burned = are.burned;
 }
 
-hands-with_gift : (outputs : List TxOut) (hands : Allocation) (gift : Gift) → gift.output < length hands.given → AreHands hands → AreHands (with_gift outputs hands gift)
+pub hands-with_gift : (outputs : List TxOut) (hands : Allocation) (gift : Gift) → gift.output < length hands.given → AreHands hands → AreHands (with_gift outputs hands gift)
 unfolding with_gift
 hands-with_gift outputs hands gift within are = hands_by_test hands gift (burns (slice_get outputs gift.output)) within are
 
@@ -153,11 +148,11 @@ unfolding with_gifts
 count-with_gifts outputs hands [] = refl
 count-with_gifts outputs hands (gift ∷ gifts) = count-with_gifts outputs (with_gift outputs hands gift) gifts ∙ count-with_gift outputs hands gift
 
-empty_count : (count : ℕ) → length (replicate {A = List Balance} count []) ≡ count
+pub empty_count : (count : ℕ) → length (replicate {A = List Balance} count []) ≡ count
 empty_count zero = refl
 empty_count (suc count) = let e = empty_count count in omega arith
 
-empty_lawful : (count : ℕ) → AreHands (empty_hands count)
+pub empty_lawful : (count : ℕ) → AreHands (empty_hands count)
 empty_lawful count = record { given = λ place. subst AreBalances (sym (empty_hand count place)) no_balances; burned = no_balances }
 
 -- ---- the lists of all outputs
@@ -223,7 +218,7 @@ gifts_for_left place (e ∷ es) rising =
     let others = gifts_for_left place es (sorted_tail id_cmp e.0 (ids_of es) rising) ∙ agree place (amount_in es) (amount_in (e ∷ es)) (ids_of es) (later_same e es (ids_of es) (sorted_head id_cmp e.0 (ids_of es) rising)) in
     λ i. record { output = place; id = e.0; amount = first i } ∷ others i
 
-all_by_test : (e : Balance) (es : List Balance) (q : RuneId) (old : ℕ) → amount_in es e.0 ≡ 0 → (t : Bool) → is_same e.0 q ≡ t
+pub all_by_test : (e : Balance) (es : List Balance) (q : RuneId) (old : ℕ) → amount_in es e.0 ≡ 0 → (t : Bool) → is_same e.0 q ≡ t
     → old + (if t then e.1 else 0) + amount_in es q ≡ old + amount_in (e ∷ es) q
 all_by_test e es q old none true is =
     let same = same_id e.0 q is in

@@ -166,6 +166,19 @@ fits-with_gift outputs left hands gift enough fits =
           fits_still (is_same gift.id id) (amount_in hands.burned id) _ (amount_in left id) gift.amount (omega arith) (there id) (fits.burned id);
     }
 
+-- so is what is left once a gift was given
+pub fits_after_gift : (outputs : List TxOut) (left fewer : Left) (hands : Allocation) (gift : Gift) → ((id : RuneId) → fewer id + gain gift id ≤ left id) → Fits left hands
+    → Fits fewer (with_gift outputs hands gift)
+fits_after_gift outputs left fewer hands gift le fits = record {
+  given = λ place id. let h = hand_at_most outputs hands gift place id in let l = le id in let f = fits.given place id in omega arith;
+  burned = λ id.
+      let e = burned-with_gift outputs hands gift id in
+      let m = burned_at_most (burns (slice_get outputs gift.output)) (gain gift id) in
+      let l = le id in
+      let f = fits.burned id in
+      omega arith;
+}
+
 pub fits_fewer : (left fewer : Left) (hands : Allocation) → ((id : RuneId) → fewer id ≤ left id) → Fits left hands → Fits fewer hands
 fits_fewer left fewer hands le fits = record {
   given = λ place id. let e = fits.given place id in let l = le id in omega arith;

@@ -8,6 +8,8 @@ pub mod Handing
 pub mod Holders
 pub mod Ids
 pub mod LawLemmas
+pub mod Owing
+pub mod Sums
 pub mod PartLemmas
 pub mod Rests
 pub mod Sorting

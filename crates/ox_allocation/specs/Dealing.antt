@@ -1,6 +1,7 @@
 -- Gifts put into the hands of outputs one after the other, as the code does. What they come to is
 -- said by `Allocation`.
-use Rattle.std.specs.Prelude.{◌≡◌, ℕ, ◌+◌, ◌-◌, ◌^◌, ◌<◌, Bool, false, List, [], ◌∷◌, map}
+use Rattle.std.specs.Prelude.{◌≡◌, ℕ, ◌+◌, ◌-◌, ◌^◌, ◌<◌, Bool, false, List, [], ◌∷◌, ◌++◌, map}
+use Rattle.std.specs.Prelude.{length}
 use Rattle.std.specs.Prelude.{Option, Some, None, slice_get, slice_index_or, slice_set, replicate}
 use Rattle.std.specs.Prelude.{if◌then◌else◌}
 use Rattle.ox_block.specs.declared.block.TxOut.{TxOut}
@@ -11,7 +12,8 @@ use Rattle.ox_allocation.specs.declared.parts.Parts.TheVariants.{Even, Each}
 use Rattle.ox_allocation.specs.Allocation.{Allocation}
 use Rattle.ox_allocation.specs.Balances.{AreBalances, Balance, amount_in, ids_of, is_same}
 use Rattle.ox_allocation.specs.Balances.{with_more}
-use Rattle.ox_allocation.specs.Gifts.{Gift, Left, even_parts, holders, left_after, parts_while}
+use Rattle.ox_allocation.specs.Gifts.{Gift, Left, amount_given, even_parts, holders, left_after}
+use Rattle.ox_allocation.specs.Gifts.{parts_while}
 
 -- balances of which each amount is below 2 ^ 128
 pub record IsPool (balances : List Balance) : Type 0 where
@@ -56,6 +58,16 @@ abbrev pub gifts_for : ℕ → List Balance → List Gift
 gifts_for place balances =
     map (λ balance. record { output = place; id = balance.0; amount = balance.1 }) balances
 
+-- so much of a rune for each of these outputs
+abbrev pub same_to : RuneId → ℕ → List ℕ → List Gift
+same_to id amount places =
+    map (λ place. record { output = place; id = id; amount = amount }) places
+
+-- what each of these outputs is owed, as gifts
+unfoldable pub owed_to : List ℕ → List Balance → List Gift
+owed_to places [] = []
+owed_to places (balance ∷ owed) = same_to balance.0 balance.1 places ++ owed_to places owed
+
 -- balances with others added
 unfoldable pub with_all : List Balance → List Balance → List Balance
 with_all balances [] = balances
@@ -76,6 +88,15 @@ pub record Fits (left : Left) (hands : Allocation) : Type 0 where
   pub given : (place : ℕ) (id : RuneId) → amount_in (hand hands place) id + left id < 2 ^ 128
   pub burned : (id : RuneId) → amount_in hands.burned id + left id < 2 ^ 128
 
+-- hands hold balances
+pub record AreHands (hands : Allocation) : Type 0 where
+  pub given : (place : ℕ) → AreBalances (hand hands place)
+  pub burned : AreBalances hands.burned
+
+-- what is left of each rune, and what is owed of it
+abbrev pub with_owed : Left → List Gift → Left
+with_owed left owed id = left id + amount_given id owed
+
 -- outputs, and what they have been given
 pub record Held : Type 0 where
   pub outputs : List TxOut
@@ -87,11 +108,15 @@ pub record Stage : Type 0 where
   pub left : List Balance
   pub hands : Allocation
 
--- what is left fits with what was given, and these are the places of outputs that can
--- hold runes
-pub record IsDealt (left : Left) (held : Held) (places : List ℕ) : Type 0 where
-  pub fits : Fits left held.hands
-  pub can_hold : places ≡ holders held.outputs
+-- what is left and owed fits with what was given, these are the places of outputs that can hold
+-- runes, and what is held and owed are balances
+pub record IsDealt (left : Left) (held : Held) (places : List ℕ) (owed : List Balance) : Type 0
+  where
+    pub fits : Fits (with_owed left (owed_to places owed)) held.hands
+    pub can_hold : places ≡ holders held.outputs
+    pub counted : length held.hands.given ≡ length held.outputs
+    pub lawful : AreHands held.hands
+    pub owed_lawful : AreBalances owed
 
 -- gifts are given of what is left
 pub record Gives (old new : Stage) (gifts : List Gift) : Type 0 where

@@ -51,13 +51,18 @@ gifts_to id (place ∷ places) (part ∷ parts) =
     record { output = place; id = id; amount = part } ∷ gifts_to id places parts
 gifts_to id _ _ = []
 
+-- what an edict gives of a rune to all outputs that can hold runes
+abbrev pub gifts_of_all : List TxOut → RuneId → ℕ → ℕ → List Gift
+gifts_of_all outputs id amount left =
+    gifts_to id (holders outputs) (parts_of amount left (length (holders outputs)))
+
 -- what an edict gives of a rune: to the output that it names, with amount 0 all that is left, else
 -- so much or what is left; or, where it names the number of outputs, to all outputs that can hold
 -- runes
 abbrev pub gifts_of : List TxOut → RuneId → ℕ → ℕ → ℕ → List Gift
 gifts_of outputs id amount output left =
     if nat_lt output (length outputs) then gifts_to id (output ∷ []) (parts_of amount left 1)
-    else gifts_to id (holders outputs) (parts_of amount left (length (holders outputs)))
+    else gifts_of_all outputs id amount left
 
 -- the rune that an edict names: 0:0 is the one that is etched here, if any
 abbrev pub rune_of : Option RuneId → RuneId → Option RuneId

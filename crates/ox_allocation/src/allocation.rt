@@ -42,7 +42,7 @@ pub fn allocate(
         a.burned ≡ (allocation_of pool edicts.now etched pointer outputs.now).burned) }
 {
     let holders = holders_of(alloc, outputs)?;
-    let mut deal = Deal::new(pool, Hands::empty(alloc, outputs)?, &holders);
+    let mut deal = Deal::new(alloc, pool, Hands::empty(alloc, outputs)?, &holders);
     deal.follow_all(etched, edicts)?;
     let heir = match pointer {
         Some(place) => Some(place as usize),

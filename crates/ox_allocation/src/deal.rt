@@ -1,16 +1,16 @@
 //! A pool while it is dealt.
 
-ghost use Rattle.std.specs.Prelude.{◌≡◌, ◌≤◌, ◌<◌, [], ◌∷◌, length, OnOk, IfOk};
+ghost use Rattle.std.specs.Prelude.{◌≡◌, ◌≤◌, ◌<◌, ◌*◌, [], ◌∷◌, length, OnOk, IfOk};
 ghost use Rattle.std.specs.Option.{ForSome};
 ghost use Rattle.ox_allocation.specs.Balances.{amount_in};
 ghost use Rattle.std.specs.List.{AllByRecursion};
 ghost use Rattle.ox_allocation.specs.Dealing.{empty_hands, Gives, with_rest};
-ghost use Rattle.ox_allocation.specs.Gifts.{given_by, gifts_by, gifts_to, holders as holders_in};
-ghost use Rattle.ox_allocation.specs.Gifts.{parts_of, rune_of};
+ghost use Rattle.ox_allocation.specs.Gifts.{given_by, gifts_by, gifts_of_all, gifts_to};
+ghost use Rattle.ox_allocation.specs.Gifts.{holders as holders_in, parts_of, rune_of};
 
 use crate::balances::Pool;
 use crate::hands::Hands;
-use crate::parts::Parts;
+use crate::parts::{Parts, sum_for_each};
 use crate::rune_amounts::Amounts;
 use ox_block::TxOut;
 use ox_bytes::Memory;
@@ -43,34 +43,39 @@ fn rune_of(etched: Option<RuneId>, id: RuneId) -> Option<RuneId>
     }
 }
 
-/// A pool while it is dealt: what is left of each rune, what the outputs have been given, and the
-/// places of those that can hold runes. Contracts see the first two.
+/// A pool while it is dealt: what is left of each rune, what the outputs have been given, the places
+/// of those that can hold runes, and what each of these is owed. Contracts see the first two, as if
+/// all were paid.
 #[derive(Drop)]
 pub(crate) struct Deal<'a> {
     left: Amounts,
     hands: Hands<'a>,
     holders: &'a [usize],
+    /// So much is each output that can hold runes to be given, beside what is in its hand.
+    owed: Amounts,
 }
 
 impl<'a> Model for Deal<'a> {
     ghost use Rattle.std.specs.Prelude.{◌≡◌};
     ghost use Rattle.ox_allocation.specs.Balances.{amount_in};
-    ghost use Rattle.ox_allocation.specs.Dealing.{IsDealt, Stage};
+    ghost use Rattle.ox_allocation.specs.Dealing.{IsDealt, Stage, owed_to, with_gifts};
 
     ghost Value = { Stage };
 
     ghost view = { λ deal. record {
       outputs = deal.hands.outputs;
       left = deal.left;
-      hands = deal.hands.hands;
+      hands = with_gifts deal.hands.outputs deal.hands.hands
+          (owed_to deal.holders.now deal.owed);
     } };
 
-    ghost invariant = { λ deal. IsDealt (amount_in deal.left) deal.hands deal.holders.now };
+    ghost invariant = { λ deal.
+        IsDealt (amount_in deal.left) deal.hands deal.holders.now deal.owed };
 }
 
 impl<'a> Deal<'a> {
     /// A pool of which nothing has been given yet, for outputs of which these can hold runes.
-    pub(crate) fn new(pool: Pool, hands: Hands<'a>, holders: &'a [usize]) -> Deal<'a>
+    pub(crate) fn new(alloc: Global, pool: Pool, hands: Hands<'a>, holders: &'a [usize]) -> Deal<'a>
         requires hands { hands.hands ≡ empty_hands (length hands.outputs) }
         requires holders { holders.now ≡ holders_in hands.outputs }
         ensures outputs { result.outputs ≡ hands.entry.outputs }
@@ -81,6 +86,7 @@ impl<'a> Deal<'a> {
             left: pool.into_amounts(),
             hands,
             holders,
+            owed: Amounts::new(alloc),
         }
     }
 
@@ -122,6 +128,35 @@ impl<'a> Deal<'a> {
         Ok(())
     }
 
+    /// Deals a rune to all outputs that can hold runes: with amount 0 all that is left, evenly, else
+    /// so much to each while it lasts. Where it lasts for all, each is owed so much more, so that
+    /// outputs are gone over only where a rune runs out.
+    fn deal_to_all(&mut self, id: RuneId, amount: u128) -> Result<(), Memory>
+        ensures { OnOk result (Gives self.old self.new
+            (gifts_of_all self.old.outputs id amount (amount_in self.old.left id))) }
+    {
+        let holders = self.holders;
+        let left = self.left(id);
+        match sum_for_each(amount, holders.len(), left) {
+            Some(sum) => self.owe(id, amount, sum),
+            None if left == 0 => Ok(()),
+            None => self.deal(holders, id, amount),
+        }
+    }
+
+    /// Owes all outputs that can hold runes so much more of a rune, which comes to this sum.
+    fn owe(&mut self, id: RuneId, amount: u128, sum: u128) -> Result<(), Memory>
+        requires sum { sum ≡ length (holders_in self.old.outputs) * amount }
+        requires some { 0 < sum }
+        requires enough { sum ≤ amount_in self.old.left id }
+        ensures { OnOk result (Gives self.old self.new
+            (gifts_of_all self.old.outputs id amount (amount_in self.old.left id))) }
+    {
+        self.owed.add(id, amount)?;
+        self.left.spend(id, sum);
+        Ok(())
+    }
+
     /// Does what the edicts say, one after the other.
     pub(crate) fn follow_all(
         &mut self,
@@ -150,12 +185,12 @@ impl<'a> Deal<'a> {
         if output < self.hands.count() {
             self.deal(&[output], id, edict.amount)
         } else {
-            let holders = self.holders;
-            self.deal(holders, id, edict.amount)
+            self.deal_to_all(id, edict.amount)
         }
     }
 
-    /// Gives what is left to the output at the heir's place, or burns it where there is none.
+    /// Gives each output what it is owed, and what is left to the output at the heir's place, or burns
+    /// it where there is none.
     pub(crate) fn give_rest(self, heir: Option<usize>) -> Result<Hands<'a>, Memory>
         requires { ForSome heir (λ place. place < length self.outputs) }
         ensures { IfOk result (λ held.
@@ -164,8 +199,10 @@ impl<'a> Deal<'a> {
         let Deal {
             left,
             mut hands,
-            ..
+            holders,
+            owed,
         } = self;
+        hands.give_each(holders, owed)?;
         match heir {
             Some(place) => hands.give_all(place, left)?,
             None => hands.burn_all(left)?,

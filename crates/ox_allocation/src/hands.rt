@@ -2,8 +2,10 @@
 
 ghost use Rattle.std.specs.Prelude.{◌≡◌, ◌+◌, ◌^◌, ◌<◌, length, IfOk, OnOk, OnErr};
 ghost use Rattle.ox_allocation.specs.Balances.{amount_in};
-ghost use Rattle.ox_allocation.specs.Dealing.{empty_hands, Fits, gifts_for, hand, with_all};
-ghost use Rattle.ox_allocation.specs.Dealing.{with_gift, with_gifts};
+ghost use Rattle.std.specs.List.{AllByRecursion};
+ghost use Rattle.ox_allocation.specs.Dealing.{empty_hands, Fits, gifts_for, hand, owed_to};
+ghost use Rattle.ox_allocation.specs.Dealing.{same_to, with_all, with_gift, with_gifts};
+ghost use Rattle.ox_allocation.specs.Gifts.{amount_given};
 
 use crate::allocation::Allocated;
 use crate::balances::{Balances, Pool};
@@ -84,6 +86,36 @@ impl<'a> Hands<'a> {
         } else {
             self.given[place].add(id, amount)
         }
+    }
+
+    /// Gives so much of a rune to each of the outputs at these places.
+    fn give_same(&mut self, places: &[usize], id: RuneId, amount: u128) -> Result<(), Memory>
+        requires places { AllByRecursion (λ place. place < length self.old.outputs) places.now }
+        requires fits { Fits (λ rune. amount_given rune (same_to id amount places.now))
+            self.old.hands }
+        ensures { OnOk result (self.new ≡ record self.old {
+          hands = with_gifts self.old.outputs self.old.hands (same_to id amount places.now);
+        }) }
+    {
+        for place in places {
+            self.give(*place, id, amount)?;
+        }
+        Ok(())
+    }
+
+    /// Gives these runes to each of the outputs at these places.
+    pub(crate) fn give_each(&mut self, places: &[usize], mut runes: Amounts) -> Result<(), Memory>
+        requires places { AllByRecursion (λ place. place < length self.old.outputs) places.now }
+        requires fits { Fits (λ rune. amount_given rune (owed_to places.now runes))
+            self.old.hands }
+        ensures { OnOk result (self.new ≡ record self.old {
+          hands = with_gifts self.old.outputs self.old.hands (owed_to places.now runes);
+        }) }
+    {
+        while let Some((id, amount)) = runes.pop_first() {
+            self.give_same(places, id, amount)?;
+        }
+        Ok(())
     }
 
     /// Gives these runes to the output at a place.

@@ -1,6 +1,6 @@
 //! What holds of every allocation.
 
-ghost use Rattle.ox_allocation.specs.Asked.{EdictsGive};
+ghost use Rattle.ox_allocation.specs.Asked.{EdictsGive, EdictsToAllAddUp};
 ghost use Rattle.ox_allocation.specs.Laws.{NothingIsLostOrMade, ReturnsGetNothing, SplitsAreEven};
 
 /// Of each rune, all that outputs are given and all that is burned is together what there was,
@@ -24,4 +24,10 @@ pub fn returns_get_nothing()
 /// later edicts deal what that leaves (Runes specification, "Edicts").
 pub fn edicts_take_what_is_left()
     ensures { EdictsGive }
+{}
+
+/// Where there is enough of a rune for all, edicts to all outputs give each that can hold runes the
+/// sum of what they say: so much is owed, and dealt once.
+pub fn edicts_to_all_add_up()
+    ensures { EdictsToAllAddUp }
 {}

@@ -4,7 +4,8 @@
 pub use allocation::{Allocated, allocate};
 pub use balances::{Balances, Pool};
 pub use laws::{
-    edicts_take_what_is_left, nothing_is_lost_or_made, returns_get_nothing, splits_are_even,
+    edicts_take_what_is_left, edicts_to_all_add_up, nothing_is_lost_or_made, returns_get_nothing,
+    splits_are_even,
 };
 pub use ox_bytes::Memory;
 

@@ -1,6 +1,7 @@
 //! The parts in which an edict deals a rune.
 
-ghost use Rattle.std.specs.Prelude.{◌≡◌, ℕ, suc, ◌-◌, ◌^◌, ◌<◌, ◌∷◌, sum};
+ghost use Rattle.std.specs.Prelude.{◌≡◌, ℕ, suc, ◌-◌, ◌*◌, ◌^◌, ◌<◌, ◌≤◌, ◌∷◌, sum};
+ghost use Rattle.std.specs.Option.{ForSome};
 ghost use Rattle.ox_allocation.specs.Gifts.{even_parts, parts_of};
 ghost use Rattle.ox_allocation.specs.Dealing.{next_parts};
 
@@ -21,6 +22,20 @@ pub(crate) enum Parts {
         /// What is left.
         left: u128,
     },
+}
+
+/// What so much for each of so many comes to, where that is something, and there is enough of it.
+pub(crate) fn sum_for_each(amount: u128, count: usize, left: u128) -> Option<u128>
+    ensures sum { ForSome result (λ sum. sum ≡ count * amount) }
+    ensures some { ForSome result (λ sum. 0 < sum) }
+    ensures enough { ForSome result (λ sum. sum ≤ left) }
+{
+    let sum = amount.checked_mul(count as u128)?;
+    if 0 < sum && sum <= left {
+        Some(sum)
+    } else {
+        None
+    }
 }
 
 /// The next part of an even split: the share and one more, as long as some are to get one more.

@@ -4,8 +4,9 @@
 //! - `stone TIMES` deciphers the script on standard input so often
 //!   (bench/decipher_runestones.py);
 //! - `one EDICTS TIMES` and `all EDICTS TIMES` deal a pool of a thousand runes by so many edicts,
-//!   each for one output or for all, and `pool RUNES TIMES` gathers a pool of so many
-//!   (bench/allocation.py);
+//!   each for one output or for all, `each EDICTS TIMES` and `outputs OUTPUTS TIMES` one rune by
+//!   edicts to all outputs, of which there are 20,000 where no number is given, and `pool RUNES
+//!   TIMES` gathers a pool of so many (bench/allocation.py);
 //! - `runes TIMES LOOKS` does the blocks on standard input to the ledger of runes, the last of them
 //!   so often, and then looks up what outputs hold (bench/runes.py);
 //! - `look ROWS TIMES`, `number ROWS TIMES`, `check ROWS TIMES` and `mark ROWS TIMES` keep so many
@@ -47,6 +48,8 @@ fn task_of(name: &str) -> Option<Task> {
         "stone" => Some(Task::Stone),
         "one" => Some(Task::Deal(pools::Load::One)),
         "all" => Some(Task::Deal(pools::Load::All)),
+        "each" => Some(Task::Deal(pools::Load::Each)),
+        "outputs" => Some(Task::Deal(pools::Load::Outputs)),
         "pool" => Some(Task::Deal(pools::Load::Gather)),
         "runes" => Some(Task::Runes),
         "look" => Some(Task::Keep(rows::Load::Look)),
@@ -95,7 +98,10 @@ fn main(rt: HostRuntime) -> anyhow::Result<()> {
         None => None,
     };
     let Some(task) = task else {
-        bail!("stone, one, all, pool, runes, look, number, check, mark, reveal, spend or ask");
+        bail!(
+            "stone, one, all, each, outputs, pool, runes, look, number, check, mark, reveal, spend \
+             or ask"
+        );
     };
     let mut numbers = [0, 0];
     for (number, word) in numbers.iter_mut().zip(words) {

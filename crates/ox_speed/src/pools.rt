@@ -13,14 +13,44 @@ pub(crate) enum Load {
     One,
     /// Edicts for all outputs.
     All,
+    /// Edicts of one rune for all of many outputs.
+    Each,
+    /// Many edicts of one rune for all outputs.
+    Outputs,
     /// No edicts: a pool is gathered.
     Gather,
 }
 
-/// Ten outputs that can hold runes.
-fn ten_outputs(alloc: Global) -> anyhow::Result<Vec<TxOut>> {
+/// As many edicts or outputs as a block of 320 KB has.
+const MANY: u32 = 20_000;
+
+/// How much there is to be dealt.
+#[derive(Clone, Copy)]
+struct Size {
+    runes: u32,
+    edicts: u32,
+    outputs: u32,
+}
+
+/// What a load of so much deals.
+fn size_of(load: Load, count: u32) -> Size {
+    let (runes, edicts, outputs) = match load {
+        Load::One | Load::All => (1_000, count, 10),
+        Load::Each => (1, count, MANY),
+        Load::Outputs => (1, MANY, count),
+        Load::Gather => (count, 0, 10),
+    };
+    Size {
+        runes,
+        edicts,
+        outputs,
+    }
+}
+
+/// So many outputs that can hold runes.
+fn outputs_of(alloc: Global, count: u32) -> anyhow::Result<Vec<TxOut>> {
     let mut outputs = Vec::new(alloc);
-    for _ in 0..10 {
+    for _ in 0..count {
         outputs.push(TxOut {
             value: 546,
             script: Script::copy(alloc, &[]).ok().context("no memory")?,
@@ -37,28 +67,33 @@ fn rune_id(number: u32) -> RuneId {
     }
 }
 
-/// So many runes in a scattered order, a million of each.
+/// So many runes in a scattered order, of each enough for all edicts.
 fn pool_of(alloc: Global, runes: u32) -> Option<Pool> {
     let mut pool = Pool::new(alloc);
     for number in 0..runes {
         let id = rune_id(number);
         if pool.amount(id) == 0 {
-            pool.add(id, 1_000_000).ok()?;
+            pool.add(id, 10_000_000_000).ok()?;
         }
     }
     Some(pool)
 }
 
-/// So many edicts over the runes of a pool of a thousand, each for this output, or for outputs in
-/// turn.
-fn edicts_of(alloc: Global, count: u32, all: bool) -> anyhow::Result<Vec<Edict>> {
+/// The edict of this number: over one rune or the runes of a pool of a thousand, and for all outputs
+/// or for one of ten.
+fn edict_of(load: Load, size: Size, number: u32) -> Edict {
+    Edict {
+        id: rune_id(if size.runes == 1 { 0 } else { number % 1_000 }),
+        amount: 3,
+        output: if load == Load::One { number % 10 } else { size.outputs },
+    }
+}
+
+/// The edicts of a load.
+fn edicts_of(alloc: Global, load: Load, size: Size) -> anyhow::Result<Vec<Edict>> {
     let mut edicts = Vec::new(alloc);
-    for number in 0..count {
-        edicts.push(Edict {
-            id: rune_id(number % 1_000),
-            amount: 3,
-            output: if all { 10 } else { number % 10 },
-        })?;
+    for number in 0..size.edicts {
+        edicts.push(edict_of(load, size, number))?;
     }
     Ok(edicts)
 }
@@ -82,15 +117,12 @@ pub(crate) fn run(
     count: u32,
     times: u32,
 ) -> anyhow::Result<()> {
-    let outputs = ten_outputs(alloc)?;
-    let (runes, count) = match load {
-        Load::Gather => (count, 0),
-        Load::One | Load::All => (1_000, count),
-    };
-    let edicts = edicts_of(alloc, count, load == Load::All)?;
+    let size = size_of(load, count);
+    let outputs = outputs_of(alloc, size.outputs)?;
+    let edicts = edicts_of(alloc, load, size)?;
     let mut last = None;
     for _ in 0..times {
-        last = dealt(alloc, runes, &edicts, &outputs);
+        last = dealt(alloc, size.runes, &edicts, &outputs);
     }
     match last {
         Some(first) => println!(rt; "{first} runes at the first output")?,

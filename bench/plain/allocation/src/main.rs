@@ -1,4 +1,5 @@
-//! What crates/ox_speed does to pools of runes, in plain Rust: a map for each output.
+//! What crates/ox_speed does to pools of runes, in plain Rust: a map for each output, and one of
+//! what all outputs are owed.
 use std::collections::BTreeMap;
 
 type Id = (u64, u32);
@@ -10,6 +11,9 @@ struct Edict {
     output: usize,
 }
 
+// as many edicts or outputs as a block of 320 KB has
+const MANY: u32 = 20_000;
+
 fn id_of(turn: u32) -> Id {
     (840_000, turn.wrapping_mul(0x9e37_79b1))
 }
@@ -19,7 +23,7 @@ fn pool_of(runes: u32) -> BTreeMap<Id, u128> {
     for turn in 0..runes {
         let id = id_of(turn);
         if pool.get(&id).is_none() {
-            pool.insert(id, 1_000_000);
+            pool.insert(id, 10_000_000_000);
         }
     }
     pool
@@ -27,10 +31,21 @@ fn pool_of(runes: u32) -> BTreeMap<Id, u128> {
 
 fn deal(mut left: BTreeMap<Id, u128>, edicts: &[Edict], outputs: usize) -> Vec<Vec<(Id, u128)>> {
     let mut hands = vec![BTreeMap::<Id, u128>::new(); outputs];
+    let mut owed = BTreeMap::<Id, u128>::new();
     for edict in edicts {
         let Some(rest) = left.get_mut(&edict.id) else {
             continue;
         };
+        if edict.output >= outputs {
+            match edict.amount.checked_mul(outputs as u128) {
+                Some(sum) if 0 < sum && sum <= *rest => {
+                    *rest -= sum;
+                    *owed.entry(edict.id).or_insert(0) += edict.amount;
+                    continue;
+                }
+                _ => {}
+            }
+        }
         let places = if edict.output < outputs {
             edict.output..edict.output + 1
         } else {
@@ -55,6 +70,11 @@ fn deal(mut left: BTreeMap<Id, u128>, edicts: &[Edict], outputs: usize) -> Vec<V
             }
         }
     }
+    for (id, amount) in owed {
+        for hand in &mut hands {
+            *hand.entry(id).or_insert(0) += amount;
+        }
+    }
     for (id, amount) in left {
         if amount > 0 {
             *hands[0].entry(id).or_insert(0) += amount;
@@ -68,17 +88,22 @@ fn main() {
     let kind = words[1].as_str();
     let count: u32 = words[2].parse().expect("a number");
     let times: u32 = words[3].parse().expect("a number");
-    let edicts: Vec<Edict> = (0..if kind == "pool" { 0 } else { count })
+    let (runes, edicts, outputs) = match kind {
+        "pool" => (count, 0, 10),
+        "each" => (1, count, MANY),
+        "outputs" => (1, MANY, count),
+        _ => (1_000, count, 10),
+    };
+    let edicts: Vec<Edict> = (0..edicts)
         .map(|turn| Edict {
-            id: id_of(turn % 1_000),
+            id: id_of(turn % runes),
             amount: 3,
-            output: if kind == "all" { 10 } else { turn as usize % 10 },
+            output: if kind == "one" { turn % 10 } else { outputs } as usize,
         })
         .collect();
-    let runes = if kind == "pool" { count } else { 1_000 };
     let mut last = 0;
     for _ in 0..times {
-        last = deal(pool_of(runes), &edicts, 10)[0].len();
+        last = deal(pool_of(runes), &edicts, outputs as usize)[0].len();
     }
     println!("{last} runes at the first output");
 }
