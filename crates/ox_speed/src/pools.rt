@@ -85,7 +85,11 @@ fn edict_of(load: Load, size: Size, number: u32) -> Edict {
     Edict {
         id: rune_id(if size.runes == 1 { 0 } else { number % 1_000 }),
         amount: 3,
-        output: if load == Load::One { number % 10 } else { size.outputs },
+        output: if load == Load::One {
+            number % 10
+        } else {
+            size.outputs
+        },
     }
 }
 
