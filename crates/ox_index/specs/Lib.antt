@@ -7,5 +7,6 @@ pub mod Held
 pub mod Lengths
 pub mod Live
 pub mod Parts
+pub mod Promises
 pub mod Tables
 pub mod Tip

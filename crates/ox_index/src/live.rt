@@ -1,6 +1,6 @@
 //! The index in memory.
 
-ghost use Rattle.std.specs.Prelude.{◌≡◌, Some, None, Ok, IsSome, IfOk, IfErr, OnOk, OnErr};
+ghost use Rattle.std.specs.Prelude.{◌≡◌, Some, None, Ok, IsSome, IfOk, OnOk, OnErr};
 ghost use Rattle.std.specs.Prelude.{◌^◌, ◌≤◌, length, map, take};
 ghost use Rattle.std.specs.FinMap.{entries};
 ghost use Rattle.std.specs.Option.{ForSome};
@@ -60,7 +60,7 @@ impl Drop for Live {
 
 impl Live {
     ghost use Rattle.ox_sat.specs.Profiles.{IsProfile};
-    ghost use Rattle.ox_model.specs.Change.{IsChange, redone, undone};
+    ghost use Rattle.ox_model.specs.Change.{redone, undone};
     ghost use Rattle.ox_model.specs.Index.{no_blocks};
     ghost use Rattle.ox_block.specs.Hashes.{txid};
     ghost use Rattle.ox_block.specs.Spelling.{Lawful};
@@ -69,7 +69,7 @@ impl Live {
     ghost use Rattle.ox_model.specs.Replies.{ok_line};
     ghost use Rattle.ox_model.specs.Ends.{BeginsIn, EndsIn};
     ghost use Rattle.ox_index.specs.Live.{profile_in, index_in, marked_in};
-    ghost use Rattle.ox_rules.specs.Why.{Refuses};
+    ghost use Rattle.ox_index.specs.Promises.{BlockPromises};
     ghost use Rattle.ox_rules.specs.Text.{tip_line};
     ghost use Rattle.ox_index.specs.Tip.{tip_of};
 
@@ -111,15 +111,8 @@ impl Live {
     /// `Overclaim` in block order. `Memory` where there is none. After a refusal or `Memory` the
     /// index is as before; after Ok it goes back there by `cancel`.
     pub fn connect(&mut self, bytes: &[u8]) -> Result<Change, Why>
-        ensures ok { OnOk result
-            (step (profile_in self.old) (index_in self.old) bytes.now ≡ Ok (index_in self.new)) }
-        ensures change { IfOk result (IsChange (index_in self.old) (index_in self.new)) }
-        ensures refused { IfErr result
-            (λ fault. Refuses fault (step (profile_in self.old) (index_in self.old) bytes.now)) }
-        ensures err { OnErr result (index_in self.new ≡ index_in self.old) }
-        ensures mark { OnOk result (marked_in self.new ≡ Some (index_in self.old)) }
-        ensures no_mark { OnErr result (marked_in self.new ≡ None) }
-        ensures profile { profile_in self.new ≡ profile_in self.old }
+        ensures { BlockPromises result (step (profile_in self.old) (index_in self.old) bytes.now)
+            (profile_in self.old) (index_in self.old) self.new }
     {
         self.forget();
         self.read_in(bytes)
@@ -128,15 +121,8 @@ impl Live {
     /// Reads a block and takes it in, where no mark is left.
     fn read_in(&mut self, bytes: &[u8]) -> Result<Change, Why>
         requires none { self.old.marked ≡ None }
-        ensures ok { OnOk result
-            (step (profile_in self.old) (index_in self.old) bytes.now ≡ Ok (index_in self.new)) }
-        ensures change { IfOk result (IsChange (index_in self.old) (index_in self.new)) }
-        ensures refused { IfErr result
-            (λ fault. Refuses fault (step (profile_in self.old) (index_in self.old) bytes.now)) }
-        ensures err { OnErr result (index_in self.new ≡ index_in self.old) }
-        ensures mark { OnOk result (marked_in self.new ≡ Some (index_in self.old)) }
-        ensures no_mark { OnErr result (marked_in self.new ≡ None) }
-        ensures profile { profile_in self.new ≡ profile_in self.old }
+        ensures { BlockPromises result (step (profile_in self.old) (index_in self.old) bytes.now)
+            (profile_in self.old) (index_in self.old) self.new }
     {
         let block = read_block(self.alloc, bytes)?;
         let ids = admit(self.alloc, &self.parts.profile, self.hashes(), &block)?;
@@ -150,15 +136,9 @@ impl Live {
         requires ids { ids.now ≡ map txid block.now.txs }
         requires admitted { admission (profile_in self.old) (index_in self.old).hashes block.now
             ≡ Ok tt }
-        ensures ok { OnOk result (index_after (profile_in self.old) (index_in self.old) block.now
-            ≡ Ok (index_in self.new)) }
-        ensures change { IfOk result (IsChange (index_in self.old) (index_in self.new)) }
-        ensures refused { IfErr result (λ fault.
-            Refuses fault (index_after (profile_in self.old) (index_in self.old) block.now)) }
-        ensures err { OnErr result (index_in self.new ≡ index_in self.old) }
-        ensures mark { OnOk result (marked_in self.new ≡ Some (index_in self.old)) }
-        ensures no_mark { OnErr result (marked_in self.new ≡ None) }
-        ensures profile { profile_in self.new ≡ profile_in self.old }
+        ensures { BlockPromises result
+            (index_after (profile_in self.old) (index_in self.old) block.now)
+            (profile_in self.old) (index_in self.old) self.new }
     {
         self.forget();
         self.hashes.reserve(1)?;

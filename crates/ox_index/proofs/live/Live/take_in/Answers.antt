@@ -109,15 +109,14 @@ invariant_of-self-in-Ok-clause-mark c =
     (mark_right index c.push_reserved.new.self.items (held_in live.parts) c.join.new.self live.shown (mark_of c.take_in.new.self) c.in_ok-change.ensures.mark to p within sound) in
     λ x is. subst (λ (l : Lengths). IsMark c.take_in.new.self.profile c.push_reserved.new.self.items (mark_of c.take_in.new.self) c.join.new.self l) (some_same live.shown x is) mark
 
-pub returns-in-Ok-clause-ok : goal.returns-in-Ok-clause-ok
-returns-in-Ok-clause-ok c =
+pub returns-in-Ok : goal.returns-in-Ok
+returns-in-Ok c =
     let live = c.forget.new.self in
     let p = live.parts.profile in
     let index : Index = index_in c.args.self.now in
     let whole : Whole index live.hashes.items (held_in live.parts) live.lost live.shown = record { index_is = c.forget.ensures.index; undue = live.parts.undue; many = c.forget.ensures.blocks; few = c.forget.ensures.lost } in
     let sound : IsSound p index = subst (IsSound p) whole.index_is live.sound in
     let begun : admission p index.hashes c.args.block.now ≡ Ok tt = subst (λ (q : Profile). admission q index.hashes c.args.block.now ≡ Ok tt) (sym c.forget.ensures.profile) c.requires.admitted in
-    let few : length c.args.block.now.txs ≤ 2 ^ 32 = omega (arith, few_txs c.args.block.now c.requires.lawful) in
     let next = held_in c.take_in.new.self in
     let change = c.in_ok-change.change in
     let taken : IsTaken p (length index.hashes) c.args.block.now (held_of index) next change =
@@ -126,26 +125,16 @@ returns-in-Ok-clause-ok c =
     let to : index_to c.push_reserved.new.self.items next c.join.new.self c.with_block-self.result ≡ next_index p index c.args.block.now next change taken =
     more_to index live.hashes.items (held_in live.parts) live.lost live.shown whole next change.hash change.lost c.push_reserved.new.self.items c.join.new.self c.with_block-self.result items c.in-Ok.ensures.ok c.with_block-self.ensures in
     let grown = to ∙ is_grown p index c.args.block.now next change taken in
-    let after : Result Index Refusal = Ok (index_to c.push_reserved.new.self.items next c.join.new.self c.with_block-self.result) in
-    subst (λ (q : Profile). index_after q index c.args.block.now ≡ after) c.forget.ensures.profile (after_taken p index c.args.block.now taken.moved begun taken.moves ∙ ap Ok (sym grown))
-
-pub returns-in-Ok-clause-change : goal.returns-in-Ok-clause-change
-returns-in-Ok-clause-change c =
-    let live = c.forget.new.self in
-    let p = live.parts.profile in
-    let index : Index = index_in c.args.self.now in
-    let whole : Whole index live.hashes.items (held_in live.parts) live.lost live.shown = record { index_is = c.forget.ensures.index; undue = live.parts.undue; many = c.forget.ensures.blocks; few = c.forget.ensures.lost } in
-    let sound : IsSound p index = subst (IsSound p) whole.index_is live.sound in
-    let begun : admission p index.hashes c.args.block.now ≡ Ok tt = subst (λ (q : Profile). admission q index.hashes c.args.block.now ≡ Ok tt) (sym c.forget.ensures.profile) c.requires.admitted in
-    let few : length c.args.block.now.txs ≤ 2 ^ 32 = omega (arith, few_txs c.args.block.now c.requires.lawful) in
-    let next = held_in c.take_in.new.self in
-    let change = c.in_ok-change.change in
-    let taken : IsTaken p (length index.hashes) c.args.block.now (held_of index) next change =
-    taken_of p index c.args.block.now live.shown.blocks (held_in live.parts) next change (blocks_are index live.hashes.items (held_in live.parts) live.lost live.shown whole) (held_are index live.hashes.items (held_in live.parts) live.lost live.shown whole) c.in_ok-change.ensures.ok in
-    let items : c.push_reserved.new.self.items ≡ live.hashes.items ++ change.hash ∷ [] = c.push_reserved.ensures.items ∙ ap (λ (l : List (List ℕ)). l ++ change.hash ∷ []) c.reserve.ensures.items in
-    let to : index_to c.push_reserved.new.self.items next c.join.new.self c.with_block-self.result ≡ next_index p index c.args.block.now next change taken =
-    more_to index live.hashes.items (held_in live.parts) live.lost live.shown whole next change.hash change.lost c.push_reserved.new.self.items c.join.new.self c.with_block-self.result items c.in-Ok.ensures.ok c.with_block-self.ensures in
-    subst (λ (i : Index). IsChange index i change) (sym to) (change_right p index c.args.block.now next change taken)
+    let after : Result Index Refusal = Ok (index_to c.push_reserved.new.self.items next c.join.new.self c.with_block-self.result) in record {
+      ok = subst (λ (q : Profile). index_after q index c.args.block.now ≡ after) c.forget.ensures.profile (after_taken p index c.args.block.now taken.moved begun taken.moves ∙ ap Ok (sym grown));
+      change = subst (λ (i : Index). IsChange index i change) (sym to) (change_right p index c.args.block.now next change taken);
+      refused = tt;
+      err = tt;
+      mark = mark_shown index c.push_reserved.new.self.items (held_in live.parts) c.join.new.self live.shown (mark_of c.take_in.new.self) c.in_ok-change.ensures.mark
+          (marked_to index live.hashes.items (held_in live.parts) live.lost live.shown whole (change.hash ∷ []) change.lost c.push_reserved.new.self.items c.join.new.self items c.in-Ok.ensures.ok);
+      no_mark = tt;
+      profile = c.take_in.ensures.profile ∙ c.forget.ensures.profile;
+    }
 
 -- ---- where there is no memory for one hash more
 
@@ -159,79 +148,37 @@ invariant_of-self c =
       mark = λ lengths some. none_marked live.marked lengths c.forget.ensures.none some;
     }
 
-pub returns-in_err-reserve-clause-ok : goal.returns-in_err-reserve-clause-ok
-returns-in_err-reserve-clause-ok c =
-    let p = err_from_is_err_and c.from_residual.result c.from_residual.ensures.1 in
-    rw p.1 tt
-
-pub returns-in_err-reserve-clause-change : goal.returns-in_err-reserve-clause-change
-returns-in_err-reserve-clause-change c =
-    let p = err_from_is_err_and c.from_residual.result c.from_residual.ensures.1 in
-    rw p.1 tt
-
-pub returns-in_err-reserve-clause-refused : goal.returns-in_err-reserve-clause-refused
-returns-in_err-reserve-clause-refused c =
-    let p = err_from_is_err_and c.from_residual.result c.from_residual.ensures.1 in
-    rw (p.1, p.2) tt
-
-pub returns-in_err-reserve-clause-err : goal.returns-in_err-reserve-clause-err
-returns-in_err-reserve-clause-err c =
+pub returns-in_err-reserve : goal.returns-in_err-reserve
+returns-in_err-reserve c =
     let p = err_from_is_err_and c.from_residual.result c.from_residual.ensures.1 in
     let live = c.forget.new.self in
-    rw p.1 ((λ i. index_to (c.reserve.ensures.items i) (held_in live.parts) live.lost live.shown) ∙ c.forget.ensures.index)
-
-pub returns-in_err-reserve-clause-mark : goal.returns-in_err-reserve-clause-mark
-returns-in_err-reserve-clause-mark c =
-    let p = err_from_is_err_and c.from_residual.result c.from_residual.ensures.1 in
-    rw p.1 tt
-
-pub returns-in_err-reserve-clause-no_mark : goal.returns-in_err-reserve-clause-no_mark
-returns-in_err-reserve-clause-no_mark c =
-    let p = err_from_is_err_and c.from_residual.result c.from_residual.ensures.1 in
-    rw p.1 (none_shown _ c.forget.new.self.marked c.forget.ensures.none)
-
-pub returns-in_err-reserve-clause-profile : goal.returns-in_err-reserve-clause-profile
-returns-in_err-reserve-clause-profile c = c.forget.ensures.profile
+    rw (p.1, p.2) (record {
+      ok = tt;
+      change = tt;
+      refused = tt;
+      err = (λ i. index_to (c.reserve.ensures.items i) (held_in live.parts) live.lost live.shown) ∙ c.forget.ensures.index;
+      mark = tt;
+      no_mark = none_shown _ live.marked c.forget.ensures.none;
+      profile = c.forget.ensures.profile;
+    })
 
 -- ---- where the block's satoshis, or all else of it, can't be moved
 
-pub returns-in_err-change-clause-ok : goal.returns-in_err-change-clause-ok
-returns-in_err-change-clause-ok c =
-    let p = err_from_is_err_and c.from_residual-in_err-change.result c.from_residual-in_err-change.ensures.1 in
-    rw p.1 tt
-
-pub returns-in_err-change-clause-change : goal.returns-in_err-change-clause-change
-returns-in_err-change-clause-change c =
-    let p = err_from_is_err_and c.from_residual-in_err-change.result c.from_residual-in_err-change.ensures.1 in
-    rw p.1 tt
-
-pub returns-in_err-change-clause-refused : goal.returns-in_err-change-clause-refused
-returns-in_err-change-clause-refused c =
+pub returns-in_err-change : goal.returns-in_err-change
+returns-in_err-change c =
     let p = err_from_is_err_and c.from_residual-in_err-change.result c.from_residual-in_err-change.ensures.1 in
     let live = c.forget.new.self in
     let index : Index = index_in c.args.self.now in
     let whole : Whole index live.hashes.items (held_in live.parts) live.lost live.shown = record { index_is = c.forget.ensures.index; undue = live.parts.undue; many = c.forget.ensures.blocks; few = c.forget.ensures.lost } in
-    rw (p.1, p.2)
-    (unmoved_here live.parts.profile c.args.self.now.parts.profile index live.hashes.items (held_in live.parts) live.lost live.shown whole c.args.block.now c.in_err-change.field-0.0 c.forget.ensures.profile c.requires.admitted c.in_err-change.ensures.refused)
-
-pub returns-in_err-change-clause-err : goal.returns-in_err-change-clause-err
-returns-in_err-change-clause-err c =
-    let p = err_from_is_err_and c.from_residual-in_err-change.result c.from_residual-in_err-change.ensures.1 in
-    let live = c.forget.new.self in
-    rw p.1 ((λ i. index_to (c.reserve.ensures.items i) (c.in_err-change.ensures.err i) live.lost live.shown) ∙ c.forget.ensures.index)
-
-pub returns-in_err-change-clause-mark : goal.returns-in_err-change-clause-mark
-returns-in_err-change-clause-mark c =
-    let p = err_from_is_err_and c.from_residual-in_err-change.result c.from_residual-in_err-change.ensures.1 in
-    rw p.1 tt
-
-pub returns-in_err-change-clause-no_mark : goal.returns-in_err-change-clause-no_mark
-returns-in_err-change-clause-no_mark c =
-    let p = err_from_is_err_and c.from_residual-in_err-change.result c.from_residual-in_err-change.ensures.1 in
-    rw p.1 (none_shown _ c.forget.new.self.marked c.forget.ensures.none)
-
-pub returns-in_err-change-clause-profile : goal.returns-in_err-change-clause-profile
-returns-in_err-change-clause-profile c = c.take_in.ensures.profile ∙ c.forget.ensures.profile
+    rw (p.1, p.2) (record {
+      ok = tt;
+      change = tt;
+      refused = unmoved_here live.parts.profile c.args.self.now.parts.profile index live.hashes.items (held_in live.parts) live.lost live.shown whole c.args.block.now c.in_err-change.field-0.0 c.forget.ensures.profile c.requires.admitted c.in_err-change.ensures.refused;
+      err = (λ i. index_to (c.reserve.ensures.items i) (c.in_err-change.ensures.err i) live.lost live.shown) ∙ c.forget.ensures.index;
+      mark = tt;
+      no_mark = none_shown _ live.marked c.forget.ensures.none;
+      profile = c.take_in.ensures.profile ∙ c.forget.ensures.profile;
+    })
 
 -- ---- where there is no memory for the satoshis that it lost
 
@@ -248,19 +195,18 @@ invariant_of-self-in-Err c =
       mark = λ lengths some. none_marked live.marked lengths c.forget.ensures.none some;
     }
 
-pub returns-in-Err-clause-err : goal.returns-in-Err-clause-err
-returns-in-Err-clause-err c =
+pub returns-in-Err : goal.returns-in-Err
+returns-in-Err c =
     let live = c.forget.new.self in
-    let back = same_held (held_in c.cancel.new.self) (held_in live.parts) (c.cancel.ensures.held ∙ c.in_ok-change.ensures.mark) in
-    (λ i. index_to (c.reserve.ensures.items i) (back i) (c.in-Err.ensures.err i) live.shown) ∙ c.forget.ensures.index
-
-pub returns-in-Err-clause-no_mark : goal.returns-in-Err-clause-no_mark
-returns-in-Err-clause-no_mark c = none_shown _ c.forget.new.self.marked c.forget.ensures.none
-
-pub returns-in-Err-clause-profile : goal.returns-in-Err-clause-profile
-returns-in-Err-clause-profile c = c.cancel.ensures.profile ∙ c.take_in.ensures.profile ∙ c.forget.ensures.profile
-
--- ---- where it is taken in
+    let back = same_held (held_in c.cancel.new.self) (held_in live.parts) (c.cancel.ensures.held ∙ c.in_ok-change.ensures.mark) in record {
+      ok = tt;
+      change = tt;
+      refused = tt;
+      err = (λ i. index_to (c.reserve.ensures.items i) (back i) (c.in-Err.ensures.err i) live.shown) ∙ c.forget.ensures.index;
+      mark = tt;
+      no_mark = none_shown _ live.marked c.forget.ensures.none;
+      profile = c.cancel.ensures.profile ∙ c.take_in.ensures.profile ∙ c.forget.ensures.profile;
+    }
 
 pub invariant_of-self-in-Ok-clause-within : goal.invariant_of-self-in-Ok-clause-within
 invariant_of-self-in-Ok-clause-within c =
@@ -269,16 +215,3 @@ invariant_of-self-in-Ok-clause-within c =
     let whole : Whole index live.hashes.items (held_in live.parts) live.lost live.shown = record { index_is = c.forget.ensures.index; undue = live.parts.undue; many = c.forget.ensures.blocks; few = c.forget.ensures.lost } in
     let items : c.push_reserved.new.self.items ≡ live.hashes.items ++ c.in_ok-change.change.hash ∷ [] = c.push_reserved.ensures.items ∙ ap (λ (l : List (List ℕ)). l ++ c.in_ok-change.change.hash ∷ []) c.reserve.ensures.items in
     within_grown index live.hashes.items (held_in live.parts) live.lost live.shown whole c.in_ok-change.change.hash c.in_ok-change.change.lost c.push_reserved.new.self.items c.join.new.self c.with_block-self.result items c.in-Ok.ensures.ok c.with_block-self.ensures
-
-pub returns-in-Ok-clause-mark : goal.returns-in-Ok-clause-mark
-returns-in-Ok-clause-mark c =
-    let live = c.forget.new.self in
-    let index : Index = index_in c.args.self.now in
-    let whole : Whole index live.hashes.items (held_in live.parts) live.lost live.shown = record { index_is = c.forget.ensures.index; undue = live.parts.undue; many = c.forget.ensures.blocks; few = c.forget.ensures.lost } in
-    let change = c.in_ok-change.change in
-    let items : c.push_reserved.new.self.items ≡ live.hashes.items ++ change.hash ∷ [] = c.push_reserved.ensures.items ∙ ap (λ (l : List (List ℕ)). l ++ change.hash ∷ []) c.reserve.ensures.items in
-    mark_shown index c.push_reserved.new.self.items (held_in live.parts) c.join.new.self live.shown (mark_of c.take_in.new.self) c.in_ok-change.ensures.mark
-    (marked_to index live.hashes.items (held_in live.parts) live.lost live.shown whole (change.hash ∷ []) change.lost c.push_reserved.new.self.items c.join.new.self items c.in-Ok.ensures.ok)
-
-pub returns-in-Ok-clause-profile : goal.returns-in-Ok-clause-profile
-returns-in-Ok-clause-profile c = c.take_in.ensures.profile ∙ c.forget.ensures.profile
