@@ -77,7 +77,7 @@ impl Parts {
     }
 
     /// Takes in a block that is admitted at this height, and answers what it changed. The fault is
-    /// that of the first satoshis that can't be moved, or want of memory: nothing has changed then.
+    /// that of the first satoshis that can't be moved, or `Memory`: nothing has changed then.
     pub fn take_in(&mut self, block: &Block, ids: &Txids, height: u32) -> Result<Change, Why>
         requires lawful { Lawful block.now }
         requires ids { ids.now ≡ map txid block.now.txs }
