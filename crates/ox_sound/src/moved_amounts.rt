@@ -1,6 +1,6 @@
 //! How much of each rune comes and goes.
 
-ghost use Rattle.std.specs.Prelude.{◌≡◌, ◌+◌, IfOk, IfSome, IsTrue, if◌then◌else◌};
+ghost use Rattle.std.specs.Prelude.{◌≡◌, ◌+◌, IfOk, IsTrue, if◌then◌else◌};
 ghost use Rattle.std.specs.List.{list_all};
 ghost use Rattle.ox_runestone.specs.declared.stone.RuneId.{RuneId as Id};
 ghost use Rattle.ox_allocation.specs.Balances.{is_same};
@@ -77,140 +77,126 @@ fn add_placed(sums: &mut Sums, rows: &[(OutPoint, Balances)]) -> Result<bool, Me
     Ok(true)
 }
 
-/// Adds what of new runes was burned. `false` where a sum passes 128 bits. `Memory` where there is
-/// none for the sums.
-fn add_new_burned(sums: &mut Sums, appended: &[RuneRow]) -> Result<bool, Memory>
-    ensures { IfOk result (λ is. IsTrue is → (other : Id)
-        → amount_at sums.new other
-        ≡ amount_at sums.old other + sum_new (λ row. row.burned) appended.now other) }
+/// Adds so much of a rune to what comes, and so much to what goes. `false` where a sum passes 128
+/// bits. `Memory` where there is none for the sums.
+fn add_both(
+    coming: &mut Sums,
+    going: &mut Sums,
+    id: RuneId,
+    comes: u128,
+    goes: u128,
+) -> Result<bool, Memory>
+    ensures coming { IfOk result (λ is. IsTrue is → (other : Id) → amount_at coming.new other
+        ≡ amount_at coming.old other + (if is_same id other then comes else 0)) }
+    ensures going { IfOk result (λ is. IsTrue is → (other : Id) → amount_at going.new other
+        ≡ amount_at going.old other + (if is_same id other then goes else 0)) }
 {
-    for row in appended {
-        if !add_one(sums, row.id, row.burned)? {
-            return Ok(false);
-        }
+    if !add_one(coming, id, comes)? {
+        return Ok(false);
+    }
+    if !add_one(going, id, goes)? {
+        return Ok(false);
     }
     Ok(true)
 }
 
-/// Adds what etching and mints of new runes gave. `false` where a sum passes 128 bits. `Memory`
+/// Adds how much more was burned of a rune with changed counts to what comes, and how much more was
+/// minted to what goes, if the rune is there. `false` where that or a sum passes 128 bits. `Memory`
 /// where there is none for the sums.
-fn add_new_made(sums: &mut Sums, appended: &[RuneRow]) -> Result<bool, Memory>
+fn add_count(
+    coming: &mut Sums,
+    going: &mut Sums,
+    runes: &[RuneRow],
+    change: &CountChange,
+) -> Result<bool, Memory>
+    requires { IsTrue (count_keeps runes.now change.now) }
+    ensures coming { IfOk result (λ is. IsTrue is → (other : Id) → amount_at coming.new other
+        ≡ amount_at coming.old other + counted_of burned_more runes.now other change.now) }
+    ensures going { IfOk result (λ is. IsTrue is → (other : Id) → amount_at going.new other
+        ≡ amount_at going.old other + counted_of minted_more runes.now other change.now) }
+{
+    let Some(row) = runes.get(change.place as usize) else {
+        return Ok(true);
+    };
+    let burned = change.after.burned - change.before.burned;
+    let mints = change.after.mints - change.before.mints;
+    match mints.checked_mul(amount_of(row)) {
+        Some(minted) => add_both(coming, going, row.id, burned, minted),
+        None => Ok(false),
+    }
+}
+
+/// Adds what changed counts come to. `false` where a sum passes 128 bits. `Memory` where there is
+/// none for the sums.
+fn add_counts(
+    coming: &mut Sums,
+    going: &mut Sums,
+    runes: &[RuneRow],
+    counts: &[CountChange],
+) -> Result<bool, Memory>
+    requires { IsTrue (list_all (count_keeps runes.now) counts.now) }
+    ensures coming { IfOk result (λ is. IsTrue is → (other : Id) → amount_at coming.new other
+        ≡ amount_at coming.old other + sum_counted burned_more runes.now counts.now other) }
+    ensures going { IfOk result (λ is. IsTrue is → (other : Id) → amount_at going.new other
+        ≡ amount_at going.old other + sum_counted minted_more runes.now counts.now other) }
+{
+    for change in counts {
+        if !add_count(coming, going, runes, change)? {
+            return Ok(false);
+        }
+    }
+    Ok(true)
+}
+
+/// Adds what of new runes was burned to what comes, and what their etching and mints gave to what
+/// goes. `false` where a sum passes 128 bits. `Memory` where there is none for the sums.
+fn add_new(coming: &mut Sums, going: &mut Sums, appended: &[RuneRow]) -> Result<bool, Memory>
     requires { IsTrue (list_all is_bounded appended.now) }
-    ensures { IfOk result (λ is. IsTrue is → (other : Id)
-        → amount_at sums.new other
-        ≡ amount_at sums.old other + sum_new made_of appended.now other) }
+    ensures coming { IfOk result (λ is. IsTrue is → (other : Id) → amount_at coming.new other
+        ≡ amount_at coming.old other + sum_new (λ row. row.burned) appended.now other) }
+    ensures going { IfOk result (λ is. IsTrue is → (other : Id) → amount_at going.new other
+        ≡ amount_at going.old other + sum_new made_of appended.now other) }
 {
     for row in appended {
-        if !add_one(sums, row.id, made_of(row))? {
+        if !add_both(coming, going, row.id, row.burned, made_of(row))? {
             return Ok(false);
         }
     }
     Ok(true)
 }
 
-/// Adds how much more was burned of a rune with changed counts, if it is there. `false` where its
-/// sum passes 128 bits. `Memory` where there is none for it.
-fn add_burned_of(sums: &mut Sums, runes: &[RuneRow], change: &CountChange) -> Result<bool, Memory>
-    requires { IsTrue (count_keeps runes.now change.now) }
-    ensures { IfOk result (λ is. IsTrue is → (other : Id) → amount_at sums.new other
-        ≡ amount_at sums.old other + counted_of burned_more runes.now other change.now) }
-{
-    match runes.get(change.place as usize) {
-        Some(row) => add_one(sums, row.id, change.after.burned - change.before.burned),
-        None => Ok(true),
-    }
-}
-
-/// Adds how much more was burned of runes with changed counts. `false` where a sum passes 128 bits.
-/// `Memory` where there is none for the sums.
-fn add_burned(sums: &mut Sums, runes: &[RuneRow], counts: &[CountChange]) -> Result<bool, Memory>
-    requires { IsTrue (list_all (count_keeps runes.now) counts.now) }
-    ensures { IfOk result (λ is. IsTrue is → (other : Id) → amount_at sums.new other
-        ≡ amount_at sums.old other + sum_counted burned_more runes.now counts.now other) }
-{
-    for change in counts {
-        if !add_burned_of(sums, runes, change)? {
-            return Ok(false);
-        }
-    }
-    Ok(true)
-}
-
-/// Adds how much more was minted of a rune with changed counts, if it is there. `false` where that
-/// or its sum passes 128 bits. `Memory` where there is none for it.
-fn add_minted_of(sums: &mut Sums, runes: &[RuneRow], change: &CountChange) -> Result<bool, Memory>
-    requires { IsTrue (count_keeps runes.now change.now) }
-    ensures { IfOk result (λ is. IsTrue is → (other : Id) → amount_at sums.new other
-        ≡ amount_at sums.old other + counted_of minted_more runes.now other change.now) }
-{
-    match runes.get(change.place as usize) {
-        Some(row) => {
-            let mints = change.after.mints - change.before.mints;
-            match mints.checked_mul(amount_of(row)) {
-                Some(amount) => add_one(sums, row.id, amount),
-                None => Ok(false),
-            }
-        }
-        None => Ok(true),
-    }
-}
-
-/// Adds how much more was minted of runes with changed counts. `false` where a sum passes 128 bits.
-/// `Memory` where there is none for the sums.
-fn add_minted(sums: &mut Sums, runes: &[RuneRow], counts: &[CountChange]) -> Result<bool, Memory>
-    requires { IsTrue (list_all (count_keeps runes.now) counts.now) }
-    ensures { IfOk result (λ is. IsTrue is → (other : Id) → amount_at sums.new other
-        ≡ amount_at sums.old other + sum_counted minted_more runes.now counts.now other) }
-{
-    for change in counts {
-        if !add_minted_of(sums, runes, change)? {
-            return Ok(false);
-        }
-    }
-    Ok(true)
-}
-
-/// What comes of each rune and what is burned of it, if its sums are of 128 bits. `Memory` where
-/// there is none for them.
-fn sum_coming(alloc: Global, runes: &[RuneRow], part: &RunePart) -> Result<Option<Sums>, Memory>
-    requires { IsTrue (list_all (count_keeps runes.now) part.now.counts) }
-    ensures { IfOk result (λ found. IfSome found (λ sums. (id : Id) → amount_at sums id
-        ≡ amount_placed part.now.after id + sum_counted burned_more runes.now part.now.counts id
-        + sum_new (λ row. row.burned) part.now.appended id)) }
-{
-    let mut sums = BTreeMap::new(alloc);
-    if !add_placed(&mut sums, part.after.as_slice())? {
-        return Ok(None);
-    }
-    if !add_burned(&mut sums, runes, part.counts.as_slice())? {
-        return Ok(None);
-    }
-    if !add_new_burned(&mut sums, part.appended.as_slice())? {
-        return Ok(None);
-    }
-    Ok(Some(sums))
-}
-
-/// What goes of each rune, is minted and is etched, if its sums are of 128 bits. `Memory` where
-/// there is none for them.
-fn sum_going(alloc: Global, runes: &[RuneRow], part: &RunePart) -> Result<Option<Sums>, Memory>
+/// Adds what comes of each rune and is burned of it, and what goes, is minted and is etched.
+/// `false` where a sum passes 128 bits. `Memory` where there is none for the sums.
+fn add_all(
+    coming: &mut Sums,
+    going: &mut Sums,
+    runes: &[RuneRow],
+    part: &RunePart,
+) -> Result<bool, Memory>
     requires counts { IsTrue (list_all (count_keeps runes.now) part.now.counts) }
     requires bounded { IsTrue (list_all is_bounded part.now.appended) }
-    ensures { IfOk result (λ found. IfSome found (λ sums. (id : Id) → amount_at sums id
-        ≡ amount_placed part.now.before id + sum_counted minted_more runes.now part.now.counts id
-        + sum_new made_of part.now.appended id)) }
+    ensures coming { IfOk result (λ is. IsTrue is → (id : Id) → amount_at coming.new id
+        ≡ amount_at coming.old id + amount_placed part.now.after id
+        + sum_counted burned_more runes.now part.now.counts id
+        + sum_new (λ row. row.burned) part.now.appended id) }
+    ensures going { IfOk result (λ is. IsTrue is → (id : Id) → amount_at going.new id
+        ≡ amount_at going.old id + amount_placed part.now.before id
+        + sum_counted minted_more runes.now part.now.counts id
+        + sum_new made_of part.now.appended id) }
 {
-    let mut sums = BTreeMap::new(alloc);
-    if !add_placed(&mut sums, part.before.as_slice())? {
-        return Ok(None);
+    if !add_placed(coming, part.after.as_slice())? {
+        return Ok(false);
     }
-    if !add_minted(&mut sums, runes, part.counts.as_slice())? {
-        return Ok(None);
+    if !add_placed(going, part.before.as_slice())? {
+        return Ok(false);
     }
-    if !add_new_made(&mut sums, part.appended.as_slice())? {
-        return Ok(None);
+    if !add_counts(coming, going, runes, part.counts.as_slice())? {
+        return Ok(false);
     }
-    Ok(Some(sums))
+    if !add_new(coming, going, part.appended.as_slice())? {
+        return Ok(false);
+    }
+    Ok(true)
 }
 
 /// Whether two tables of sums are the same.
@@ -231,11 +217,7 @@ pub(crate) fn do_amounts_keep(
     requires bounded { IsTrue (list_all is_bounded part.now.appended) }
     ensures { IfOk result (λ keep. IsTrue keep → KeepsAmounts runes.now part.now) }
 {
-    let Some(came) = sum_coming(alloc, runes, part)? else {
-        return Ok(false);
-    };
-    let Some(gone) = sum_going(alloc, runes, part)? else {
-        return Ok(false);
-    };
-    Ok(are_same(&came, &gone))
+    let mut coming = BTreeMap::new(alloc);
+    let mut going = BTreeMap::new(alloc);
+    Ok(add_all(&mut coming, &mut going, runes, part)? && are_same(&coming, &going))
 }
