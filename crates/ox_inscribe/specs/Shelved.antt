@@ -1,17 +1,19 @@
 -- What a shelf of inscriptions shows, and the numbers that are kept by key.
-use Rattle.std.specs.Prelude.{◌≡◌, ℕ, ◌-◌, ◌^◌, ◌<◌, ◌≤◌, ◌==◌, Bool}
-use Rattle.std.specs.Prelude.{true, false, ◌&&◌, nat_lt, List, [], ◌∷◌, ◌++◌, length, take}
-use Rattle.std.specs.Prelude.{slice_get, Option, Some, None, unwrap_or, if◌then◌else◌, ◌⊎◌}
+use Rattle.std.specs.Prelude.{◌≡◌, ℕ, ◌+◌, ◌-◌, ◌*◌, ◌/◌, ◌^◌, ◌<◌, ◌≤◌, ◌==◌, Bool}
+use Rattle.std.specs.Prelude.{true, false, ◌&&◌, nat_lt, List, [], ◌∷◌, ◌++◌, length, take, drop}
+use Rattle.std.specs.Prelude.{map, count_by, slice_get, slice_index_or, Option, Some, None}
+use Rattle.std.specs.Prelude.{unwrap_or, if◌then◌else◌, ◌⊎◌}
 use Rattle.std.specs.List.{list_any}
 use Rattle.std.specs.Option.{option_map_or}
 use Rattle.std.specs.BTreeMap.{BTreeMap, get}
 use Rattle.std.specs.Ordering.{is_eq, nat_cmp, ordering_then}
 use Rattle.std.specs.declared.cmp.Ordering.{Ordering}
 use Rattle.std.specs.Cmp.Lexicographic.{slice_cmp}
+use Rattle.std.specs.Simd.Lanes.{mask_l}
 use Rattle.ox_envelope.specs.declared.id.InsId.{InsId}
 use Rattle.ox_inscribe.specs.Inscriptions.{find, has_parent, numbers_where, on}
 use Rattle.ox_inscribe.specs.Signed.{is_cursed}
-use Rattle.ox_inscribe.specs.declared.cursed.Cursed.{Cursed}
+use Rattle.ox_inscribe.specs.declared.cursed_bits.Cursed.{Cursed}
 use Rattle.ox_inscribe.specs.declared.keys.Keys.{Keys}
 use Rattle.ox_inscribe.specs.declared.row.InsRow.{InsRow}
 use Rattle.ox_shards.specs.Shards.{value_at}
@@ -125,9 +127,26 @@ pub record AreKeysUpTo (rows : List InsRow) (row : InsRow) (keys : Keys) : Type 
       (id : InsId) → IsEither (numbers_where (has_parent id) 0 rows)
       (numbers_where (has_parent id) 0 (rows ++ row ∷ [])) (at id_cmp keys.parents id)
 
--- the places of those of these rows that are cursed, rising
+-- the rows, of these, that the word with a number tells of: 64, and fewer at the end
+abbrev pub rows_of_word : List InsRow → ℕ → List InsRow
+rows_of_word rows n = take 64 (drop (n * 64) rows)
+
+-- each 64 rows have a word, and in it a bit for each that passes, the first row's the lowest; beside
+-- it stands how many rows before them pass
+pub record AreWordsOf (passes : InsRow → Bool) (rows : List InsRow) (words counts : List ℕ)
+    : Type 0 where
+  pub enough : length words ≡ (length rows + 63) / 64
+  pub each : length counts ≡ length words
+  pub bits :
+      (n : ℕ) → n < length words
+      → slice_index_or words n 0 ≡ mask_l (map passes (rows_of_word rows n))
+  pub before :
+      (n : ℕ) → n < length words → slice_index_or counts n 0 ≡ count_by passes (take (n * 64) rows)
+
+-- the words and counts say which of these rows are cursed
 abbrev pub AreCursed : List InsRow → Cursed → Type 0
-AreCursed rows cursed = cursed.places ≡ numbers_where (is_cursed cursed.jubilee) 0 rows
+AreCursed rows cursed =
+    AreWordsOf (is_cursed cursed.jubilee) rows cursed.words.items cursed.counts.items
 
 -- these rows are found by the maps and noted where they are cursed, and numbers of 32 bits tell of
 -- them

@@ -11,7 +11,7 @@ pub use shared::SharedRow;
 pub use shelf::Shelf;
 
 mod ahead;
-mod cursed;
+mod cursed_bits;
 mod keys;
 mod laws;
 mod numbers;

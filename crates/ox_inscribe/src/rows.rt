@@ -5,7 +5,7 @@ ghost use Rattle.std.specs.Prelude.{option_map, option_to_list, IsSome, OnOk, On
 ghost use Rattle.ox_inscribe.specs.Inscriptions.{find, has_parent, next_on, numbers_where, on};
 ghost use Rattle.ox_inscribe.specs.Signed.{number_at};
 
-use crate::cursed::Cursed;
+use crate::cursed_bits::Cursed;
 use crate::keys::Keys;
 use crate::numbers::numbers_below;
 use crate::row::InsRow;
@@ -71,7 +71,7 @@ impl Rows {
         self.list[place as usize].row()
     }
 
-    /// The signed number of the row at a place. It costs by the logarithm of how many are cursed.
+    /// The signed number of the row at a place. It reads no row.
     pub(crate) fn number(&self, place: u32) -> i64
         requires { place < length self.now.rows }
         ensures { number_at self.now.jubilee self.now.rows place ≡ Some result }

@@ -125,8 +125,7 @@ impl Shelf {
     }
 
     /// The signed number of the row with a sequence: of a cursed one -1 less the cursed ones before
-    /// it, of any other how many others stand before it. It costs by the logarithm of how many are
-    /// cursed.
+    /// it, of any other how many others stand before it. It reads no row.
     pub fn number(&self, n: u32) -> i64
         requires { n < length self.now.rows }
         ensures { number_at self.now.jubilee self.now.rows n ≡ Some result }
