@@ -14,3 +14,4 @@ mod tables;
 pub use index::Index;
 pub use laws::ends_are_tested;
 pub use step::other_end;
+pub use tables::has_row;

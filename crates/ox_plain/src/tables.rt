@@ -108,7 +108,7 @@ fn gave_way<X: Row>(stood: Option<&X>, came: &[(OutPoint, X)], at: &OutPoint, ro
 }
 
 /// Whether rows, by rising outpoint, have one at this outpoint. It costs a logarithm.
-fn has_row<X>(rows: &[(OutPoint, X)], at: &OutPoint) -> bool
+pub fn has_row<X>(rows: &[(OutPoint, X)], at: &OutPoint) -> bool
     requires { IsTrue (map.is_sorted outpoint_cmp rows.now) }
     ensures { result ≡ is_some (map.find outpoint_cmp at.now rows.now) }
 {

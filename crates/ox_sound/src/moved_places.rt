@@ -1,7 +1,7 @@
 //! What stands at outpoints after a change.
 
-ghost use Rattle.std.specs.Prelude.{◌≡◌, ◌&&◌, ◌||◌, Bool, not, IsTrue, is_some};
-ghost use Rattle.std.specs.FinMap.{find, get, is_sorted};
+ghost use Rattle.std.specs.Prelude.{◌≡◌, ◌&&◌, ◌||◌, not, IsTrue, is_some};
+ghost use Rattle.std.specs.FinMap.{get, is_sorted};
 ghost use Rattle.std.specs.List.{list_all};
 ghost use Rattle.ox_block.specs.declared.block.OutPoint.{OutPoint as At};
 ghost use Rattle.ox_rules.specs.Differences.{other_end};
@@ -16,30 +16,9 @@ ghost use Rattle.ox_sound.specs.Keeps.{has_runes_after, is_output_after, places_
 use ox_allocation::Balances;
 use ox_block::OutPoint;
 use ox_model::Change;
-use ox_plain::Index;
+use ox_plain::{Index, has_row};
 use ox_rules::OutRow;
-use std::cmp::Ordering;
 use std::collections::BTreeMap;
-
-/// Whether rows, by rising outpoint, have one at this outpoint. It costs a logarithm.
-fn has_row<X>(rows: &[(OutPoint, X)], at: &OutPoint) -> bool
-    requires { IsTrue (is_sorted outpoint_cmp rows.now) }
-    ensures { result ≡ is_some (find outpoint_cmp at.now rows.now) }
-{
-    let mut left = rows;
-    while !left.is_empty() {
-        let (front, back) = left.split_at(left.len() / 2);
-        let Some((row, rest)) = back.split_first() else {
-            return false;
-        };
-        match row.0.cmp(at) {
-            Ordering::Less => left = rest,
-            Ordering::Equal => return true,
-            Ordering::Greater => left = front,
-        }
-    }
-    false
-}
 
 /// Whether something is there after, where it came, or stood and didn't go.
 fn is_there(came: bool, stood: bool, went: bool) -> bool
