@@ -10,7 +10,7 @@ Gives (Ok block) read = read ≡ Ok block
 Gives (Err Memory) read = Unit {0}
 Gives (Err (Malformed place)) read = read ≡ Err place
 
--- The call tells this fault: none where it gives a block. Want of memory says nothing.
+-- The call reports this fault: none where it gives a block. Out of memory it says nothing.
 abbrev pub Tells : Result Block BlockFault → Option ℕ → Type 0
 Tells (Ok block) fault = fault ≡ None
 Tells (Err Memory) fault = Unit {0}

@@ -1,5 +1,5 @@
 -- Reading a block from left to right: the block, or the place of the first fault. Each reader but
--- the last tells a fault by the number of bytes left where the field at fault begins.
+-- the last reports a fault by the number of bytes left where the field at fault begins.
 use Rattle.std.specs.Prelude.{ℕ, zero, suc, ◌-◌, Bool, true, false, List, [], ◌∷◌, length, Result}
 use Rattle.std.specs.Prelude.{Ok, Err, nat_lt, ◌==◌, if◌then◌else◌}
 use Rattle.std.specs.Int.{w32, w64}

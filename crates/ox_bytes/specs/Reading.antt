@@ -95,7 +95,7 @@ abbrev pub Reads : {X Y F : Type 0} → (X → Y) → Result X F → Result Y F 
 Reads view (Ok x) read = read ≡ Ok (view x)
 Reads view (Err e) read = read ≡ Err e
 
--- The same of a function that tells the fault's place.
+-- The same of a function that reports the fault's place.
 abbrev pub Gives : {X Y : Type 0} → (X → Y) → Result X FieldFault → Result Y ℕ → Type 0
 Gives view (Ok x) read = read ≡ Ok (view x)
 Gives view (Err fault) read = read ≡ Err fault.left

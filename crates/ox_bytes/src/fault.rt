@@ -5,8 +5,8 @@ ghost use Rattle.ox_bytes.specs.declared.fault.ReadError.TheVariants.{Memory, Fa
 
 use std::alloc::{AllocError, AllocFailed};
 
-/// A field is at fault: the first one, from left to right. Its place is told from the end, so that
-/// no reader has to know what stands before it.
+/// A field is at fault: the first one, from left to right. Its place is reported from the end, so
+/// that no reader has to know what stands before it.
 #[derive(Clone, Copy, Debug, PartialEq, Eq)]
 pub struct FieldFault {
     /// How many bytes are left where the field begins.

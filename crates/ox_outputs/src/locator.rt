@@ -25,7 +25,7 @@ pub(crate) struct Locator {
     /// What stood at the numbers that changed since the mark, the oldest change first.
     changes: Vec<Before>,
     /// How many entries are left of runs that went since the mark. It says nothing, but where it is
-    /// 0 no entry is looked for that may be taken away. After want of memory an entry may be left
+    /// 0 no entry is looked for that may be taken away. Where memory ran out an entry may be left
     /// that isn't counted, and counts for nothing.
     gone: usize,
     ghost logged: { AreLogged changes.items starts.entries },

@@ -116,7 +116,7 @@ pub trait Site {
         ensures counted { CountsFile result (counts self.old) (counts self.new) }
         ensures call { OneCall told counts clock may_leave left_since self.old self.new };
 
-    /// After it, a crash leaves of this file what a read gives.
+    /// An `fsync`: after it, a crash leaves of this file what a read gives.
     fn sync(&mut self, file: Which) -> Result<(), Failed>
         ensures durable { OnOk result (
             Only file (file_of (seen self.old) file) (may_leave self.new)) }
@@ -175,7 +175,7 @@ pub trait Site {
             → Rose ((counts self.old).door_idles door) ((counts self.new).door_idles door) }
         ensures call { OneCall told counts clock may_leave left_since self.old self.new };
 
-    /// Says that a link met want of memory, once for each link. Where the log isn't told, it does
+    /// Says that memory ran out for a link, once for each link. Where the log isn't told, it does
     /// nothing.
     fn give_up(&mut self, channel: u32)
         requires channel { ForSome (log self.old) (λ log. IsTrue (is_open channel log)) }

@@ -1,5 +1,5 @@
--- What a call that connects or takes back answers against what the definition does. Want of memory
--- is free, and nothing else.
+-- What a call that connects or takes back answers against what the definition does. Running out of
+-- memory is free, and nothing else.
 use Rattle.std.specs.Prelude.{◌≡◌, Result, Err}
 use Rattle.ox_block.specs.declared.fault.BlockFault.{BlockFault}
 use Rattle.ox_block.specs.declared.fault.BlockFault.TheVariants.{Malformed as BadBlock}

@@ -9,8 +9,8 @@ use ox_bytes::{Bytes, Memory};
 use std::alloc::{AllocError, Global};
 
 /// Why a command is refused. Nothing changes then. Where several causes stand together, the first
-/// of this list is told, but that of `UnknownOutput`, `Overspend` and `Overclaim` the one of the
-/// earliest transaction comes first.
+/// of this list is reported, but that of `UnknownOutput`, `Overspend` and `Overclaim` the one of
+/// the earliest transaction comes first.
 #[derive(Clone, Copy, Debug, PartialEq, Eq)]
 pub enum Refusal {
     /// The line of the command is longer than that of any block.

@@ -1,4 +1,5 @@
--- What a call answers against what the definition does. Want of memory is free, and nothing else.
+-- What a call answers against what the definition does. Running out of memory is free, and nothing
+-- else.
 use Rattle.std.specs.Prelude.{◌≡◌, Result, Ok, Err}
 use Rattle.ox_rules.specs.declared.refusal.Refusal.{Refusal}
 use Rattle.ox_rules.specs.declared.why.Why.{Why}
