@@ -67,8 +67,8 @@ KINDS += (".sh", ".service", ".cfg", ".yml", ".json")
 
 # Numbers that restate a constant: where it stands in the code, and how documents say it.
 CONSTANTS = [
-    ("ox_block/src/read.rt", "MOST_BYTES: usize =", r"at most ([\d,]+) bytes in all"),
-    ("ox_block/src/read.rt", "MOST_BYTES: usize =", r"largest block, ([\d,]+) bytes"),
+    ("ox_bytes/src/limits.rt", "BLOCK_LIMIT: usize =", r"at most ([\d,]+) bytes in all"),
+    ("ox_bytes/src/limits.rt", "BLOCK_LIMIT: usize =", r"largest block, ([\d,]+) bytes"),
     ("ox_feed/src/held.rt", "LINE_LIMIT: usize =", r"line (?:of|has) more than ([\d,]+) bytes"),
     ("ox_app/src/subcommand.rt", "DEPTH_LIMIT: u64 =", r"taken back, from 1 to ([\d,]+)"),
     ("ox_app/src/fold.rt", "DEPTH: u16 =", r"`fold` keeps ([\d,]+)"),
@@ -424,6 +424,37 @@ def links(repository):
                     yield name, number, f"there is no section '{section}' here"
 
 
+def number_of(repository, source, constant):
+    """The number behind these words of a file of a crate, or None."""
+    there = repository.text(f"crates/{source}")
+    found = re.search(r"(?<!\w)" + re.escape(constant) + r"(?:: \w+ =)? ([^;,\]\n]+)", there)
+    return found and reckoned(repository, source.split("/")[0], found[1])
+
+
+def reckoned(repository, crate, text):
+    """A sum of products of numbers, and of constants of the crate or of one below it."""
+    total = 0
+    for term in text.split("+"):
+        product = 1
+        for factor in map(str.strip, term.split("*")):
+            if factor[:1].isdigit():
+                product *= int(factor, 0)
+            else:
+                product *= constant_of(repository, crate, factor)
+        total += product
+    return total
+
+
+def constant_of(repository, crate, name):
+    """The constant of this name, of the crate or of one below it."""
+    for lower in repository.below(crate):
+        for text in repository.sources(lower, "src"):
+            found = re.search(rf"\bconst {name}: \w+ = ([^;]+);", text)
+            if found:
+                return reckoned(repository, lower, found[1])
+    raise SystemExit(f"{crate} has no constant {name}")
+
+
 def sizes(repository):
     """Rule 6."""
     for name in repository.documents():
@@ -432,12 +463,11 @@ def sizes(repository):
         if most is not None and size > most:
             yield name, 1, f"it has {size} bytes, of at most {most}"
     for source, constant, said in CONSTANTS:
+        value = number_of(repository, source, constant)
         source = f"crates/{source}"
-        found = re.search(re.escape(constant) + r" ([\d_]+)", repository.text(source))
-        if found is None:
+        if value is None:
             yield source, 1, f"there is no `{constant}`"
             continue
-        value = int(found[1].replace("_", ""))
         for name in repository.documents():
             for number, line in repository.lines(name):
                 for text in re.findall(said, line):
@@ -464,13 +494,11 @@ def limits(repository):
             continue
         said = int(cells[2].replace(",", ""))
         for constant, source in re.findall(r"`([^`]+)` of `([^`]+)`", cells[3]):
-            there = repository.text(f"crates/{source}")
-            value = r"(?:: \w+ =)? (0x[\da-f_]+|\d[\d_]*)"
-            found = re.search(r"(?<!\w)" + re.escape(constant) + value, there)
-            if found is None:
+            value = number_of(repository, source, constant)
+            if value is None:
                 yield name, number, f"{source} has no `{constant}`"
-            elif int(found[1], 0) != said:
-                yield name, number, f"{said} is {int(found[1], 0)} in {source}"
+            elif value != said:
+                yield name, number, f"{said} is {value} in {source}"
 
 
 def groups(repository):

@@ -4,6 +4,7 @@ use Rattle.std.specs.Prelude.{◌≡◌, ℕ, ◌<◌, ◌≤◌, ◌^◌, Bool,
 use Rattle.std.specs.Prelude.{sum_by, if◌then◌else◌}
 use Rattle.std.specs.Int.{w32, w64, to_le_bytes}
 use Rattle.std.specs.List.{flat_map, AllByRecursion, list_any}
+use Rattle.ox_bytes.specs.Limits.{block_limit}
 use Rattle.ox_bytes.specs.Spelling.{compact, string}
 use Rattle.ox_block.specs.declared.block.OutPoint.{OutPoint}
 use Rattle.ox_block.specs.declared.block.TxIn.{TxIn}
@@ -73,7 +74,7 @@ most_value = 2100000000000000
 
 -- the most bytes of a block
 abbrev pub most_bytes : ℕ
-most_bytes = 4000000
+most_bytes = block_limit
 
 -- A byte string has a length that a compact size can tell.
 abbrev pub FitsString : List ℕ → Type 0

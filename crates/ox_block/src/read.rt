@@ -10,19 +10,16 @@ ghost use Rattle.ox_block.specs.Answer.{Gives, Tells};
 use crate::block::Block;
 use crate::fault::BlockFault;
 use crate::reading::whole_block;
-use ox_bytes::ReadError;
+use ox_bytes::{BLOCK_LIMIT, ReadError};
 use std::alloc::Global;
-
-/// The most bytes of a block.
-const MOST_BYTES: usize = 4_000_000;
 
 /// The block, or the place of the first fault.
 #[tactic(auto, unfolding(crate::specs::Reading::block_of))]
 fn block_or_place(alloc: Global, bytes: &[u8]) -> Result<Block, BlockFault>
     ensures { Gives result (block_of bytes.now) }
 {
-    if bytes.len() > MOST_BYTES {
-        return Err(BlockFault::Malformed { at: MOST_BYTES });
+    if bytes.len() > BLOCK_LIMIT {
+        return Err(BlockFault::Malformed { at: BLOCK_LIMIT });
     }
     match whole_block(alloc, bytes) {
         Ok(block) => Ok(block),

@@ -1,16 +1,17 @@
 -- A feed: the bytes of channel 0, cut into lines at line feeds.
-use Rattle.std.specs.Prelude.{◌≡◌, ℕ, ◌+◌, ◌-◌, ◌==◌, nat_le, Bool, true, false, ◌||◌, List, []}
-use Rattle.std.specs.Prelude.{◌∷◌, ◌++◌, length, All, IsTrue, Result, IfOk, if◌then◌else◌}
+use Rattle.std.specs.Prelude.{◌≡◌, ℕ, ◌+◌, ◌-◌, ◌*◌, ◌==◌, nat_le, Bool, true, false, ◌||◌, List}
+use Rattle.std.specs.Prelude.{[], ◌∷◌, ◌++◌, length, All, IsTrue, Result, IfOk, if◌then◌else◌}
 use Rattle.std.specs.List.{slice_split}
+use Rattle.ox_bytes.specs.Limits.{block_limit}
 use Rattle.ox_outside.specs.Event.{Event, Opened, Heard, Ended, Showed, Broke, GaveUp, Shut}
 use Rattle.ox_outside.specs.Event.{heard_bytes, has_ended}
 use Rattle.ox_feed.specs.declared.lines.Line.{Line}
 use Rattle.ox_feed.specs.declared.lines.Line.TheVariants.{Text, Long, End}
 use Rattle.ox_feed.specs.declared.lines.FeedFault.{FeedFault}
 
--- how many bytes a line may have
+-- how many bytes a line may have: `connect` and a blank, and two digits for each byte of a block
 abbrev pub line_limit : ℕ
-line_limit = 8000008
+line_limit = 8 + 2 * block_limit
 
 -- how many bytes a feed may have: one that hasn't ended by then is given up
 abbrev pub feed_limit : ℕ

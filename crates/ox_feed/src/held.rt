@@ -14,12 +14,13 @@ ghost use Rattle.ox_feed.specs.Held.{hearings_left, line_as};
 use crate::lines::{FeedFault, Line};
 use crate::piece::Piece;
 use memchr::memchr;
-use ox_bytes::{Bytes, Memory};
+use ox_bytes::{BLOCK_LIMIT, Bytes, Memory};
 use ox_outside::Site;
 use std::alloc::Global;
 use std::mem;
 
-const LINE_LIMIT: usize = 8_000_008;
+/// The most bytes of a line: `connect` and a blank, and two digits for each byte of a block.
+const LINE_LIMIT: usize = 8 + 2 * BLOCK_LIMIT;
 
 const FEED_LIMIT: u64 = 1 << 62;
 

@@ -13,6 +13,9 @@ use ox_outside::{Failed, Heard, Site};
 use std::alloc::{AllocError, Global};
 use std::marker::Model;
 
+/// The most bytes that one call hears.
+const ROOM: usize = 65_536;
+
 /// The bytes of the last hearing that haven't been looked at.
 #[derive(Drop)]
 pub struct Piece {
@@ -23,19 +26,20 @@ pub struct Piece {
 
 impl Model for Piece {
     ghost use Rattle.std.specs.Prelude.{◌≤◌, List, ℕ, take, drop, vec_len};
+    ghost use Rattle.ox_feed.specs.Feed.{room_size};
 
     ghost Value = { List ℕ };
 
     ghost view = { λ p. drop p.from (take p.to p.room.items) };
 
-    ghost invariant = { λ p. (p.from ≤ p.to) × (p.to ≤ vec_len p.room) × (vec_len p.room ≤ 65536) };
+    ghost invariant = { λ p. (p.from ≤ p.to) × (p.to ≤ vec_len p.room) × (vec_len p.room ≤ room_size) };
 }
 
 /// The room of a hearing.
 fn room(alloc: Global) -> Result<Vec<u8>, AllocError>
-    ensures { IfOk result (λ room. vec_len room ≡ 65536) }
+    ensures { IfOk result (λ room. vec_len room ≡ room_size) }
 {
-    vec![in alloc; 0u8; 65_536]
+    vec![in alloc; 0u8; ROOM]
 }
 
 impl Piece {

@@ -7,6 +7,7 @@ use Rattle.std.specs.Char.{is_ascii_digit}
 use Rattle.std.specs.Option.{option_map}
 use Rattle.std.specs.Str.{bytes_eq, str_eq_ignore_ascii_case}
 use Rattle.std.specs.Str.Parse.{digits_value}
+use Rattle.ox_bytes.specs.Limits.{block_limit}
 use Rattle.ox_http.specs.declared.Method.{Method}
 use Rattle.ox_http.specs.declared.Method.TheVariants.{Get, Post, Other}
 use Rattle.ox_http.specs.declared.Request.{Request}
@@ -37,9 +38,9 @@ pub data Front : Type 0 where
 abbrev pub head_limit : ℕ
 head_limit = 8192
 
--- the most bytes that a body may have
+-- the most bytes that a body may have: those of a block
 abbrev pub body_limit : ℕ
-body_limit = 4000000
+body_limit = block_limit
 
 -- the end of a line and an empty line
 abbrev pub blank_line : List ℕ

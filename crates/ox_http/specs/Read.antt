@@ -10,7 +10,7 @@ use Rattle.ox_http.specs.declared.reader.BodyLength.TheVariants.{Untold, Told, U
 use Rattle.ox_http.specs.declared.reader.StartLine.{StartLine}
 use Rattle.ox_http.specs.Head.{Head, NameAndValue}
 use Rattle.ox_http.specs.First.{are_one_length, length_told, Asked, Front, opens, waits, fails}
-use Rattle.ox_http.specs.First.{First, whole, more, fault}
+use Rattle.ox_http.specs.First.{First, whole, more, fault, body_limit, head_limit}
 
 -- what a head asks that was read
 abbrev pub asked_in : HeadRead → Asked
@@ -54,6 +54,6 @@ head_with line fields = record {
 
 -- a head that was read lies in so many bytes, and its body isn't too long
 abbrev pub IsBounded : HeadFound → ℕ → Type 0
-IsBounded (Opens read) n = (read.len ≤ n) × (read.len ≤ 8192) × (read.body_len ≤ 4000000)
+IsBounded (Opens read) n = (read.len ≤ n) × (read.len ≤ head_limit) × (read.body_len ≤ body_limit)
 IsBounded Waits n = ⊤
 IsBounded (Fails status) n = ⊤

@@ -19,14 +19,14 @@ use crate::{Method, Request};
 use httparse::Status;
 use httparse::spans::{EMPTY_HEADER_SPAN, HeaderSpan, RequestSpans, parse_request};
 use memchr::memmem;
-use ox_bytes::{Bytes, Memory};
+use ox_bytes::{BLOCK_LIMIT, Bytes, Memory};
 use std::alloc::Global;
 
 /// Among so many bytes the end of a head has to stand.
 pub const HEAD_LIMIT: usize = 8192;
 
-/// The most bytes that a body may have.
-pub const BODY_LIMIT: usize = 4_000_000;
+/// The most bytes that a body may have: those of a block, which a command to connect one has.
+pub const BODY_LIMIT: usize = BLOCK_LIMIT;
 
 /// A head without a fault, read. It borrows the path.
 #[derive(Clone, Copy, Debug)]
