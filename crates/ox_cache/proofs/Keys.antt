@@ -1,17 +1,22 @@
 -- The entries of the cache's map are those of its contracts.
-use Rattle.std.proofs.Common.{◌≡◌, refl, sym, ap, subst, ◌∙◌, ℕ, zero, suc, ◌+◌, ◌-◌, ◌^◌, min}
+use Rattle.std.proofs.Common.{◌≡◌, refl, sym, ap, subst, ◌∙◌, ℕ, zero, suc, ◌+◌, ◌-◌, ◌^◌}
+use Rattle.std.proofs.Common.{min, ◌&&◌}
 use Rattle.std.proofs.Common.{Bool, true, false, cond, List, [], ◌∷◌, map, take, Option, Some, None}
 use Rattle.std.proofs.Common.{option_map, nat_le, length}
+use Rattle.std.specs.List.{slice_get}
 use Rattle.std.specs.Option.{option_map_or, option_copied}
+use Rattle.std.specs.Str.{bytes_eq}
 use Rattle.std.specs.Map.{lookup, lookup_entry, remove_entry}
+use Rattle.std.proofs.lemmas.Bool.{eq-eqb}
+use Rattle.std.proofs.lemmas.Slice.Eq.{bytes_eq-Decides}
 use Rattle.lru.specs.LruCache.{LruCache, lru_cache, promoted, put_entries}
 use Rattle.ox_http.specs.declared.Reply.{Reply}
 use Rattle.ox_http.specs.declared.writer.ReplyParts.{ReplyParts}
 use Rattle.ox_http.specs.Written.{reply_of, written}
 use Rattle.ox_cache.specs.declared.Key.{Key}
-use Rattle.ox_cache.specs.Kept.{Answers, Entry, Hits, Kept, Peeked, after_miss, closing}
-use Rattle.ox_cache.specs.Kept.{entry_in, entry_of}
-use Rattle.ox_cache.specs.Kept.{kept_in, others}
+use Rattle.ox_cache.specs.Kept.{Answers, Entry, Hits, IsNewest, Kept, Peeked, after_hit, after_miss}
+use Rattle.ox_cache.specs.Kept.{IsReplyOf, closing, counted, entry_in, entry_of, kept_in}
+use Rattle.ox_cache.specs.Kept.{others}
 use Rattle.ox_cache.specs.contracts.KeyPartialEq.TheImpl as same
 
 -- the equality that is derived
@@ -112,6 +117,41 @@ module _ (key : Key) where
       (sym n)
       (promoted-hits old hits (lookup_entry (equal key) old.entries))))
 
+  put-hit : (old : LruCache Key Reply) (reply : Reply) (o : Option (Key × Reply))
+      → IsReplyOf reply (option_map entry_in o)
+      → option_map_or (λ e. (e.0, reply) ∷ remove_entry (equal key) old.entries) o
+      ((key, reply) ∷ take (old.cap - 1) old.entries)
+      ≡ option_map_or (λ e. e ∷ remove_entry (equal key) old.entries) o old.entries
+  put-hit old reply None never = absurd never
+  put-hit old reply (Some e) is = ap (λ r. (e.0, r) ∷ remove_entry (equal key) old.entries) is
+
+  -- an entry that is put again with its reply comes to the front
+  pub Hits-put : (old new : LruCache Key Reply) (reply : Reply) (hits count : ℕ)
+      → IsReplyOf reply (seen old.entries)
+      → new ≡ lru_cache (put_entries equal old key reply) old.cap
+      → count ≡ min (hits + 1) (2 ^ 64 - 1)
+      → Hits key.commands key.path.items (seen old.entries) (kept_in old hits) (kept_in new count)
+  Hits-put old new reply hits count is e n =
+      Hits-promoted old new hits count
+      (e ∙ ap (λ es. lru_cache es old.cap)
+      (put-hit old reply (lookup_entry (equal key) old.entries)
+      (subst (IsReplyOf reply) (seen-is old.entries) is)))
+      n
+
+  reply-of : (o : Option Entry) (reply kept : Reply)
+      → option_map (λ (e : Entry). e.reply) o ≡ Some kept → reply ≡ kept → IsReplyOf reply o
+  reply-of None reply kept is same = let e : None ≡ Some kept = is in cc e
+  reply-of (Some entry) reply kept is same =
+      let some : Some entry.reply ≡ Some kept = is in
+      let own : entry.reply ≡ kept = cc some in
+      same ∙ sym own
+
+  -- what is looked up is the reply of the entry
+  pub IsReplyOf-lookup : (entries : List (Key × Reply)) (reply kept : Reply)
+      → lookup (equal key) entries ≡ Some kept → reply ≡ kept → IsReplyOf reply (seen entries)
+  IsReplyOf-lookup entries reply kept looked same =
+      reply-of (seen entries) reply kept (sym (lookup-is entries) ∙ looked) same
+
   put-at : (old : LruCache Key Reply) (reply : Reply) (o : Option (Key × Reply))
       → option_map entry_in o ≡ None
       → option_map_or (λ e. (e.0, reply) ∷ remove_entry (equal key) old.entries) o
@@ -176,3 +216,48 @@ Answers-hit IsMade commands path close old bytes new (Some e) peeked hits = (cc,
 pub Peeked-none : (close : Bool) (o : Option Entry) → Peeked close None o → o ≡ None
 Peeked-none close None peeked = refl
 Peeked-none close (Some e) peeked = cc
+
+-- the map's first pair is the most recent entry
+pub newest-is : (commands : ℕ) (path : List ℕ) (close : Bool) (bytes : List ℕ) (key : Key)
+    (reply : Reply) (entries : List (Key × Reply)) → slice_get entries 0 ≡ Some (key, reply)
+    → key.commands ≡ commands → key.path.items ≡ path → bytes ≡ written (closing close reply)
+    → IsNewest commands path close bytes (map entry_in entries)
+newest-is commands path close bytes key reply [] first number text spelled = cc first
+newest-is commands path close bytes key reply (e ∷ entries) first number text spelled =
+    let same : e ≡ (key, reply) = let some : Some e ≡ Some (key, reply) = first in cc some in
+    record {
+      entry = entry_in (key, reply);
+      older = map entry_in entries;
+      first = ap (λ pair. entry_in pair ∷ map entry_in entries) same;
+      asked = ap (λ b. b && bytes_eq path key.path.items)
+          (eq-eqb commands key.commands (sym number))
+          ∙ (bytes_eq-Decides path key.path.items).1 (sym text);
+      spelled = spelled;
+    }
+
+-- the most recent entry stays where it is
+newest-stays : (commands : ℕ) (path : List ℕ) (close : Bool) (bytes : List ℕ) (old : Kept)
+    (newest : IsNewest commands path close bytes old.entries)
+    → counted old ≡ after_hit commands path newest.entry old
+newest-stays commands path close bytes old newest =
+    let front : old.entries ≡ newest.entry ∷ others commands path old.entries =
+    newest.first
+    ∙ sym (ap (λ es. newest.entry ∷ others commands path es) newest.first
+    ∙ ap (λ b. newest.entry ∷ cond b newest.older
+    (newest.entry ∷ others commands path newest.older)) newest.asked) in
+    λ i. record {
+      entries = front i;
+      room = old.room;
+      hits = min (old.hits + 1) (2 ^ 64 - 1);
+    }
+
+-- the most recent entry was the answer
+pub Answers-newest : (IsMade : Reply → Type 0) (commands : ℕ) (path : List ℕ) (close : Bool)
+    (old : Kept) (bytes : List ℕ) (new : Kept) → IsNewest commands path close bytes old.entries
+    → new ≡ counted old
+    → Answers IsMade commands path close old bytes new (entry_of commands path old.entries)
+Answers-newest IsMade commands path close old bytes new newest is =
+    subst (Answers IsMade commands path close old bytes new)
+    (sym (ap (entry_of commands path) newest.first
+    ∙ ap (λ b. cond b (Some newest.entry) (entry_of commands path newest.older)) newest.asked))
+    (newest.spelled, is ∙ newest-stays commands path close bytes old newest)

@@ -1,6 +1,6 @@
 -- What a cache of replies is seen as, and what an answer makes of it.
-use Rattle.std.specs.Prelude.{◌≡◌, ℕ, ◌+◌, ◌-◌, ◌^◌, ◌==◌, ◌&&◌, Bool, List, [], ◌∷◌, take}
-use Rattle.std.specs.Prelude.{Option, Some, None, if◌then◌else◌, nat_le, length, map, min, ⊤}
+use Rattle.std.specs.Prelude.{◌≡◌, ℕ, ◌+◌, ◌-◌, ◌^◌, ◌==◌, ◌&&◌, Bool, true, List, [], ◌∷◌}
+use Rattle.std.specs.Prelude.{Option, Some, None, if◌then◌else◌, nat_le, length, map, min, take, ⊤}
 use Rattle.std.specs.Str.{bytes_eq}
 use Rattle.lru.specs.LruCache.{LruCache}
 use Rattle.ox_http.specs.declared.Reply.{Reply}
@@ -55,6 +55,10 @@ after_hit commands path entry kept = record kept {
   hits = min (kept.hits + 1) (2 ^ 64 - 1);
 }
 
+-- one hit more is counted, up to the greatest number
+abbrev pub counted : Kept → Kept
+counted kept = record kept { hits = min (kept.hits + 1) (2 ^ 64 - 1) }
+
 -- A reply was made: one whose body isn't too long comes to the front, and past the room the last
 -- one falls off.
 abbrev pub after_miss : Entry → Kept → Kept
@@ -85,6 +89,20 @@ kept_in map_of hits =
 abbrev pub Peeked : Bool → Option (List ℕ) → Option Entry → Type 0
 Peeked close found None = found ≡ None
 Peeked close found (Some entry) = found ≡ Some (written (closing close entry.reply))
+
+-- the reply is that of an entry
+abbrev pub IsReplyOf : Reply → Option Entry → Type 0
+IsReplyOf reply None = ⊥
+IsReplyOf reply (Some entry) = reply ≡ entry.reply
+
+-- these are the bytes of the most recent entry, which is that of a number and a path
+pub record IsNewest (commands : ℕ) (path : List ℕ) (close : Bool) (bytes : List ℕ)
+    (entries : List Entry) : Type 0 where
+  pub entry : Entry
+  pub older : List Entry
+  pub first : entries ≡ entry ∷ older
+  pub asked : is_of commands path entry ≡ true
+  pub spelled : bytes ≡ written (closing close entry.reply)
 
 -- the entry was the answer, if there is one
 abbrev pub Hits : ℕ → List ℕ → Option Entry → Kept → Kept → Type 0

@@ -1,10 +1,11 @@
 //! Replies that are kept, so that a question asked again needs no answer made again.
 #![tactic(auto)]
 
-ghost use Rattle.std.specs.Prelude.{◌≡◌, Ok, None, IfOk, OnOk, OnErr};
+ghost use Rattle.std.specs.Prelude.{◌≡◌, Ok, None, IfOk, IfSome, OnOk, OnErr};
 ghost use Rattle.std.specs.NonZero.{non_zero_usize_get};
-ghost use Rattle.ox_cache.specs.Kept.{Answers, Hits, Peeked, after_miss, entry_in};
-ghost use Rattle.ox_cache.specs.Kept.{entry_of, none_kept};
+ghost use Rattle.ox_http.specs.Written.{written};
+ghost use Rattle.ox_cache.specs.Kept.{Answers, Hits, IsNewest, IsReplyOf, Peeked, after_miss};
+ghost use Rattle.ox_cache.specs.Kept.{closing, counted, entry_in, entry_of, none_kept};
 
 use lru::LruCache;
 use ox_bytes::{Bytes, Memory};
@@ -24,12 +25,81 @@ struct Key {
     path: Vec<u8>,
 }
 
+/// A reply as it is kept: once it was a hit, with its bytes where the link goes on, so that these
+/// are copied from then on and not written again. Contracts see the reply.
+struct KeptReply {
+    reply: Reply,
+    bytes: Option<Bytes>,
+}
+
+/// By hand, so that whoever drops one makes one call.
+impl Drop for KeptReply {
+    fn drop(self) {
+        let KeptReply {
+            reply: _reply,
+            bytes: _bytes,
+        } = self;
+    }
+}
+
+impl Model for KeptReply {
+    ghost use Rattle.std.specs.Prelude.{◌≡◌, false, IfSome};
+    ghost use Rattle.ox_http.specs.declared.Reply.{Reply};
+    ghost use Rattle.ox_http.specs.Written.{written};
+    ghost use Rattle.ox_cache.specs.Kept.{closing};
+
+    ghost Value = { Reply };
+
+    ghost view = { λ kept. kept.reply };
+
+    ghost invariant = { λ kept.
+        IfSome kept.bytes (λ bytes. bytes ≡ written (closing false kept.reply)) };
+}
+
+/// A copy of an encoding. `Memory` where there is none for it.
+fn copy_encoding(alloc: Global, encoding: &Option<Bytes>) -> Result<Option<Bytes>, Memory>
+    ensures { IfOk result (λ copied. copied ≡ encoding.now) }
+{
+    match encoding {
+        Some(encoding) => Ok(Some(Bytes::copy(alloc, encoding.as_slice())?)),
+        None => Ok(None),
+    }
+}
+
+impl KeptReply {
+    /// A copy of the reply, with its bytes. `Memory` where there is none for them.
+    fn written(&self, alloc: Global) -> Result<KeptReply, Memory>
+        ensures { IfOk result (λ kept. kept ≡ self.now) }
+    {
+        let bytes = Some(write_parts(alloc, self.reply.parts(), false)?);
+        let reply = Reply {
+            status: self.reply.status,
+            kind: Bytes::copy(alloc, self.reply.kind.as_slice())?,
+            encoding: copy_encoding(alloc, &self.reply.encoding)?,
+            body: Bytes::copy(alloc, self.reply.body.as_slice())?,
+            close: self.reply.close,
+        };
+        Ok(KeptReply { reply, bytes })
+    }
+
+    /// The reply's bytes, with which the link ends where `close` is so. `Memory` where there is
+    /// none for them.
+    fn bytes(&self, alloc: Global, close: bool) -> Result<Bytes, Memory>
+        ensures { IfOk result (λ bytes. bytes ≡ written (closing close self.now)) }
+    {
+        match &self.bytes {
+            Some(bytes) if !close => Bytes::copy(alloc, bytes.as_slice()),
+            _ => write_parts(alloc, self.reply.parts(), close),
+        }
+    }
+}
+
 /// Replies by the number of commands and the path that they answer. Contracts see a cache as
 /// `Kept`: its entries, the most recent first, how many there may be, and the hits.
 #[derive(Drop)]
 pub struct Cache {
     alloc: Global,
-    replies: LruCache<Key, Reply>,
+    replies: LruCache<Key, KeptReply>,
     hits: u64,
 }
 
@@ -54,24 +124,77 @@ impl Cache {
         })
     }
 
+    /// The bytes of the most recent reply, where it is that of this number and this path, and was a
+    /// hit before. No path is copied for it, and nothing is hashed.
+    fn newest(&self, commands: u64, path: &[u8], close: bool) -> Result<Option<Bytes>, Memory>
+        ensures { IfOk result (λ found. IfSome found (λ bytes.
+            IsNewest commands path.now close bytes self.now.entries)) }
+    {
+        match self.replies.peek_mru() {
+            Some((key, kept))
+                if kept.bytes.is_some()
+                    && key.commands == commands
+                    && key.path.as_slice() == path => { Ok(Some(kept.bytes(self.alloc, close)?)) }
+            _ => Ok(None),
+        }
+    }
+
     /// The bytes of the reply that is kept for a key, if there is one.
     fn peek(&self, key: &Key, close: bool) -> Result<Option<Bytes>, Memory>
         ensures { IfOk result (λ found. Peeked close found
             (entry_of key.now.commands key.now.path.items self.now.entries)) }
     {
         match self.replies.peek(key) {
-            Some(reply) => Ok(Some(write_parts(self.alloc, reply.parts(), close)?)),
+            Some(kept) => Ok(Some(kept.bytes(self.alloc, close)?)),
             None => Ok(None),
         }
     }
 
-    /// The reply that is kept for the key was the answer.
-    fn hit(&mut self, key: &Key)
-        ensures { Hits key.now.commands key.now.path.items
-            (entry_of key.now.commands key.now.path.items self.old.entries) self.old self.new }
+    /// A reply that is kept was the answer.
+    fn count(&mut self)
+        ensures { self.new ≡ counted self.old }
     {
-        self.replies.promote(key);
         self.hits = self.hits.saturating_add(1);
+    }
+
+    /// The reply that is kept for a key with its bytes, where it was no hit yet. `Memory` where
+    /// there is none for it.
+    fn first_hit(&self, key: &Key) -> Result<Option<KeptReply>, Memory>
+        ensures { IfOk result (λ found. IfSome found (λ kept. IsReplyOf kept
+            (entry_of key.now.commands key.now.path.items self.now.entries))) }
+    {
+        match self.replies.peek(key) {
+            Some(kept) if kept.bytes.is_none() => Ok(Some(kept.written(self.alloc)?)),
+            _ => Ok(None),
+        }
+    }
+
+    /// The reply that is kept for a key was the answer for the first time, and is kept with its
+    /// bytes from then on. `Memory` where there is none for it: nothing has changed then.
+    fn keep_hit(&mut self, key: Key, kept: KeptReply) -> Result<(), Memory>
+        requires { IsReplyOf kept (entry_of key.commands key.path.items self.old.entries) }
+        ensures ok { OnOk result (Hits key.commands key.path.items
+            (entry_of key.commands key.path.items self.old.entries) self.old self.new) }
+        ensures err { OnErr result (self.new ≡ self.old) }
+    {
+        self.replies.put(key, kept)?;
+        self.count();
+        Ok(())
+    }
+
+    /// The reply that is kept for the key was the answer. `Memory` where there is none to keep its
+    /// bytes, at the first time: nothing has changed then.
+    fn hit(&mut self, key: Key) -> Result<(), Memory>
+        ensures ok { OnOk result (Hits key.commands key.path.items
+            (entry_of key.commands key.path.items self.old.entries) self.old self.new) }
+        ensures err { OnErr result (self.new ≡ self.old) }
+    {
+        if let Some(kept) = self.first_hit(&key)? {
+            return self.keep_hit(key, kept);
+        }
+        self.replies.promote(&key);
+        self.count();
+        Ok(())
     }
 
     /// Keeps a reply that was made, unless its body is too long. `Memory` where there is none for
@@ -82,7 +205,7 @@ impl Cache {
         ensures err { OnErr result (self.new ≡ self.old) }
     {
         if reply.body.len() <= BODY_KEPT {
-            self.replies.put(key, reply)?;
+            self.replies.put(key, KeptReply { reply, bytes: None })?;
         }
         Ok(())
     }
@@ -104,12 +227,16 @@ impl Cache {
             self.new (entry_of commands path.now self.old.entries)) }
         ensures err { OnErr result (self.new ≡ self.old) }
     {
+        if let Some(bytes) = self.newest(commands, path, close)? {
+            self.count();
+            return Ok(bytes);
+        }
         let key = Key {
             commands,
             path: Vec::from_slice(self.alloc, path)?,
         };
         if let Some(bytes) = self.peek(&key, close)? {
-            self.hit(&key);
+            self.hit(key)?;
             return Ok(bytes);
         }
         let reply = make()?;

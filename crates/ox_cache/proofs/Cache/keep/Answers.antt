@@ -4,7 +4,7 @@ use Rattle.std.proofs.lemmas.Bool.{le-leb}
 use Rattle.ox_cache.specs.Kept.{after_miss, entry_in, entry_of, kept_in}
 use Rattle.ox_cache.proofs.Keys.{after_miss-put}
 use Rattle.ox_cache.proofs.Cache.keep.Goals as goal
-use Rattle.ox_cache.proofs.Cache.keep.Goals.{in-Some-2, in-None-3}
+use Rattle.ox_cache.proofs.Cache.keep.Goals.{in-Some-2, in-None-2}
 
 pub returns-in_ok-put-clause-ok : goal.returns-in_ok-put-clause-ok
 returns-in_ok-put-clause-ok c =
@@ -22,5 +22,5 @@ returns-in_ok-put-clause-ok c =
     ∙ ap (after_miss (entry_in (key, c.args.reply))) c.self.view_is in
     elim c.match-branch-2.branch [
       | in-Some-2 w ↦ w.self-is ∙ is
-      | in-None-3 w ↦ w.self-is ∙ is
+      | in-None-2 w ↦ w.self-is ∙ is
     ]
