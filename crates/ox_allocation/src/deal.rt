@@ -43,9 +43,9 @@ fn rune_of(etched: Option<RuneId>, id: RuneId) -> Option<RuneId>
     }
 }
 
-/// A pool while it is dealt: what is left of each rune, what the outputs have been given, the places
-/// of those that can hold runes, and what each of these is owed. Contracts see the first two, as if
-/// all were paid.
+/// A pool while it is dealt: what is left of each rune, what the outputs have been given, the
+/// places of those that can hold runes, and what each of these is owed. Contracts see the first
+/// two, as if all were paid.
 #[derive(Drop)]
 pub(crate) struct Deal<'a> {
     left: Amounts,
@@ -128,9 +128,9 @@ impl<'a> Deal<'a> {
         Ok(())
     }
 
-    /// Deals a rune to all outputs that can hold runes: with amount 0 all that is left, evenly, else
-    /// so much to each while it lasts. Where it lasts for all, each is owed so much more, so that
-    /// outputs are gone over only where a rune runs out.
+    /// Deals a rune to all outputs that can hold runes: with amount 0 all that is left, evenly,
+    /// else so much to each while it lasts. Where it lasts for all, each is owed so much more, so
+    /// that outputs are gone over only where a rune runs out.
     fn deal_to_all(&mut self, id: RuneId, amount: u128) -> Result<(), Memory>
         ensures { OnOk result (Gives self.old self.new
             (gifts_of_all self.old.outputs id amount (amount_in self.old.left id))) }
@@ -189,8 +189,8 @@ impl<'a> Deal<'a> {
         }
     }
 
-    /// Gives each output what it is owed, and what is left to the output at the heir's place, or burns
-    /// it where there is none.
+    /// Gives each output what it is owed, and what is left to the output at the heir's place, or
+    /// burns it where there is none.
     pub(crate) fn give_rest(self, heir: Option<usize>) -> Result<Hands<'a>, Memory>
         requires { ForSome heir (λ place. place < length self.outputs) }
         ensures { IfOk result (λ held.

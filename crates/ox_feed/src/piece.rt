@@ -32,7 +32,8 @@ impl Model for Piece {
 
     ghost view = { λ p. drop p.from (take p.to p.room.items) };
 
-    ghost invariant = { λ p. (p.from ≤ p.to) × (p.to ≤ vec_len p.room) × (vec_len p.room ≤ room_size) };
+    ghost invariant = { λ p.
+        (p.from ≤ p.to) × (p.to ≤ vec_len p.room) × (vec_len p.room ≤ room_size) };
 }
 
 /// The room of a hearing.

@@ -131,8 +131,8 @@ pub record AreKeysUpTo (rows : List InsRow) (row : InsRow) (keys : Keys) : Type 
 abbrev pub rows_of_word : List InsRow → ℕ → List InsRow
 rows_of_word rows n = take 64 (drop (n * 64) rows)
 
--- each 64 rows have a word, and in it a bit for each that passes, the first row's the lowest; beside
--- it stands how many rows before them pass
+-- each 64 rows have a word, and in it a bit for each that passes, the first row's the lowest;
+-- beside it stands how many rows before them pass
 pub record AreWordsOf (passes : InsRow → Bool) (rows : List InsRow) (words counts : List ℕ)
     : Type 0 where
   pub enough : length words ≡ (length rows + 63) / 64

@@ -79,8 +79,8 @@ fn pool_of(alloc: Global, runes: u32) -> Option<Pool> {
     Some(pool)
 }
 
-/// The edict of this number: over one rune or the runes of a pool of a thousand, and for all outputs
-/// or for one of ten.
+/// The edict of this number: over one rune or the runes of a pool of a thousand, and for all
+/// outputs or for one of ten.
 fn edict_of(load: Load, size: Size, number: u32) -> Edict {
     Edict {
         id: rune_id(if size.runes == 1 { 0 } else { number % 1_000 }),

@@ -21,8 +21,8 @@ impl Store {
     ghost use Rattle.ox_files.specs.Stands.{stands};
 
     /// Opens two files of version 2 or 3: reads the checkpoint, and makes the changes of the
-    /// records again. It begins with a sync (`fsync`) of both files, and changes nothing: at no moment does
-    /// a crash leave anything that it didn't leave before.
+    /// records again. It begins with a sync (`fsync`) of both files, and changes nothing: at no
+    /// moment does a crash leave anything that it didn't leave before.
     ///
     /// `NotStore` exactly where the files stand for nothing, with the file and the place of the
     /// first test that fails; `DiskFault` only where a call on a file failed; `Memory` where there
