@@ -96,6 +96,7 @@ PAGE = [
     "a kept reply, /status",
     "a reply made anew, /blockhash",
     "replies as of 100 blocks back, beside `walk`",
+    "replies without runes as of 100 blocks back, beside `walk`",
     "a block posted, beside `apply`",
     "/status served, 1,000 blocks, processor time",
 ]

@@ -35,7 +35,7 @@ BACK = [0, 1, 10, 100, 1_000]
 LEAST_SECONDS = 2
 SEARCHES = ["walk", "heights"]
 # as kept_blocks.py tells the paths
-KINDS = ["replies", "replies that tell of no rune"]
+KINDS = ["replies", "replies without runes"]
 
 
 def often(paths, times):
