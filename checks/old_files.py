@@ -3,8 +3,8 @@ docs/FORMATS.md: over the plain index of plain_index."""
 
 from chain import record_of
 from plain_index import Refused
-from store_files import BODY_AT, BYTES, CLOSED, GREATEST, OPEN, OTHER, NoStore, Store, Tail
-from store_files import current, empty, is_shut, number, number_in, records
+from store_files import BODY_AT, BYTES, CLOSED, GREATEST, OPEN, NoStore, Store
+from store_files import current, empty, number, number_in, records, tail_of
 
 VERSION = 1
 
@@ -49,7 +49,7 @@ def old_stands(files, refusals=()):
             raise Old(f"{count} {refused}")
     if not ends:
         raise NoStore(f"{file} at {gate}")
-    return stack, len(found), Tail(file, generation, len(found), gate, is_shut(files[OTHER[file]]))
+    return stack, len(found), tail_of(files, file, len(found), gate)
 
 
 def obey(stack, command, refusals):

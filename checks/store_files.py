@@ -5,14 +5,16 @@ the library. `files_of` has the files of a store that heard these commands.
 
     python3 checks/store_files.py
 
-looks whether it writes the bytes of three stores that are told here by hand.
+looks whether it writes the bytes of stores that are told here by hand.
 """
 
 import functools
+from collections.abc import Callable
+from hashlib import sha256
 from typing import NamedTuple
 
 import plain_index
-from chain import DISCONNECT, GENESIS, chain, payload_of, record_of
+from chain import DISCONNECT, GENESIS, chain, payload_of
 from plain_index import Refused, after_block
 from row_ends import change_between, is_sound, other_end
 from row_forms import SPELLED, Change, Fault, Index, Reader
@@ -20,7 +22,9 @@ from row_forms import SPELLED, Change, Fault, Index, Reader
 from tools.words import no_words
 
 BYTES = {"mainnet": 0, "regtest": 1, "lab": 2}
-VERSION = 2
+# what a store is made in, and the one with sums
+VERSION, SUMMED = 2, 3
+# where a body of version 1 or 2 begins
 BODY_AT = 26
 # how many records a file has at the least when the other one takes its place
 MOST_RECORDS = 64
@@ -35,6 +39,63 @@ def number(value, size):
 
 def number_in(data, at, size):
     return int.from_bytes(data[at : at + size], "little")
+
+
+def sum_of(*parts):
+    return sha256(b"".join(parts)).digest()
+
+
+# ---- what differs from version to version
+
+
+class Layout(NamedTuple):
+    """The letters, where the body begins, how many bytes tell a payload's length, and what stands
+    before a body, by the front before that and by the body; and before a payload, by generation,
+    place, length and payload."""
+
+    letters: bytes
+    body_at: int
+    size: int
+    sums: Callable[[bytes, bytes], bytes]
+    record_sum: Callable[..., bytes]
+
+    @property
+    def before_payload(self):
+        """How many bytes stand before a payload, from its gate on."""
+        return 1 + self.size + len(self.record_sum())
+
+
+def sums(front, body):
+    """That of the body, and that of the front with it."""
+    return sum_of(body) + sum_of(front, sum_of(body))
+
+
+def nothing(*_):
+    return b""
+
+
+PLAIN = Layout(b"oxidx", BODY_AT, 4, nothing, nothing)
+LAYOUTS = {1: PLAIN, 2: PLAIN, SUMMED: Layout(b"oxid3", 90, 8, sums, sum_of)}
+
+
+def layout_in(data):
+    """By the version that a file tells."""
+    return LAYOUTS[data[6]]
+
+
+def body_of_file(data):
+    """Where a file's body begins and ends."""
+    begun = layout_in(data).body_at
+    return begun, begun + number_in(data, 18, 8)
+
+
+def record_at(version, generation, place, payload):
+    """A record but for its gate, which stands at this place: its length, its sum and the payload,
+    and a closed gate behind it."""
+    layout = LAYOUTS[version]
+    size = number(len(payload), layout.size)
+    told = layout.record_sum(number(generation, 8), number(place, 8), size, payload)
+    return size + told + payload + CLOSED
 
 
 # ---- what files stand for
@@ -139,17 +200,25 @@ class NoStore(Exception):
     """The file and the place."""
 
 
-def is_lawful(head):
-    """Whether a head keeps to the form."""
-    depth, generation = number_in(head, 8, 2), number_in(head, 10, 8)
+def is_lawful(data):
+    """Whether the head of a file keeps to the form."""
+    depth, generation = number_in(data, 8, 2), number_in(data, 10, 8)
+    if len(data) < BODY_AT or data[6] not in LAYOUTS:
+        return False
+    layout = layout_in(data)
     return (
-        len(head) == BODY_AT
-        and head[1:6] == b"oxidx"
-        and head[6] in (1, 2)
-        and head[7] in BYTES.values()
+        len(data) >= layout.body_at
+        and data[1:6] == layout.letters
+        and data[7] in BYTES.values()
         and 1 <= depth <= 1000
         and generation != 0
+        and (layout is PLAIN or data[58:90] == sum_of(data[1:58]))
     )
+
+
+def is_as_summed(data, body):
+    """Whether a body is as the sum in its file's head says."""
+    return layout_in(data) is PLAIN or data[BODY_AT:58] == sum_of(body)
 
 
 def is_shut(data):
@@ -166,7 +235,7 @@ def current(files):
             raise NoStore(f"{file} at 0")
     still_open = [file for file in "AB" if file not in closed]
     for file in still_open:
-        if not is_lawful(files[file][:BODY_AT]):
+        if not is_lawful(bytes(files[file])):
             raise NoStore(f"{file} at 1")
     generations = [number_in(files[file], 10, 8) for file in still_open]
     if len(generations) == 2 and generations[0] == generations[1]:
@@ -176,14 +245,18 @@ def current(files):
 
 def records(data, place):
     """The records from a place on, each with its place; the place of the gate behind them; and
-    whether it is there and closed, or else is missing or has a record that is cut."""
-    found = []
+    whether it is there and closed, or else is missing or has a record that is cut or not as its sum
+    says."""
+    data, layout, found = bytes(data), layout_in(data), []
     while place < len(data) and data[place]:
-        length = number_in(data, place + 1, 4)
-        if len(data) < place + 5 + length:
+        begun = place + layout.before_payload
+        end = begun + number_in(data, place + 1, layout.size)
+        payload = data[begun:end]
+        told = record_at(data[6], number_in(data, 10, 8), place, payload)
+        if len(data) < end or data[place + 1 : end] != told[:-1]:
             return found, place, False
-        found.append((place, data[place + 5 : place + 5 + length]))
-        place += 5 + length
+        found.append((place, payload))
+        place = end
     return found, place, place < len(data)
 
 
@@ -191,14 +264,15 @@ def stands(files):
     """The stack that two files stand for, and the tail of their records."""
     file = current(files)
     data = bytes(files[file])
-    if data[6] != VERSION:
+    if data[6] not in (VERSION, SUMMED):
         raise NoStore(f"{file} at 6")
-    end = BODY_AT + number_in(data, 18, 8)
+    begun, end = body_of_file(data)
+    body = data[begun:end]
     (profile,) = [name for name, byte in BYTES.items() if byte == data[7]]
-    whole = len(data) >= end
-    stack = read_body(profile, number_in(data, 8, 2), data[BODY_AT:end]) if whole else None
+    is_whole = len(data) >= end and is_as_summed(data, body)
+    stack = read_body(profile, number_in(data, 8, 2), body) if is_whole else None
     if stack is None:
-        raise NoStore(f"{file} at {BODY_AT}")
+        raise NoStore(f"{file} at {begun}")
     found, gate, ends = records(data, end)
     for place, payload in found:
         stack = with_payload(stack, payload)
@@ -206,46 +280,59 @@ def stands(files):
             raise NoStore(f"{file} at {place}")
     if not ends:
         raise NoStore(f"{file} at {gate}")
-    generation = number_in(data, 10, 8)
-    return stack, Tail(file, generation, len(found), gate, is_shut(files[OTHER[file]]))
+    return stack, tail_of(files, file, len(found), gate)
+
+
+def tail_of(files, file, count, gate):
+    """The tail of a current file with so many records and this last gate."""
+    data = files[file]
+    is_other_shut = is_shut(files[OTHER[file]])
+    return Tail(file, number_in(data, 10, 8), count, gate, is_other_shut, data[6])
 
 
 # ---- what is written
 
 
-def front_of(profile, depth, generation, size):
-    """A head and a body's length, but for the gate before them."""
-    numbers = number(depth, 2) + number(generation, 8) + number(size, 8)
-    return b"oxidx" + bytes([VERSION, BYTES[profile]]) + numbers
+def front_of(profile, depth, generation, body, version=VERSION):
+    """What stands before a body, but for the gate before that."""
+    layout = LAYOUTS[version]
+    numbers = number(depth, 2) + number(generation, 8) + number(len(body), 8)
+    front = layout.letters + bytes([version, BYTES[profile]]) + numbers
+    return front + layout.sums(front, body)
 
 
-def file_of(profile, depth, body, payloads=(), generation=1):
+def file_of(profile, depth, body, payloads=(), generation=1, version=VERSION):
     """An open file of this body, with records of these payloads behind it."""
-    whole = OPEN + front_of(profile, depth, generation, len(body)) + body
-    return whole + b"".join(OPEN + record_of(payload)[:-1] for payload in payloads) + CLOSED
+    whole = OPEN + front_of(profile, depth, generation, body, version) + body
+    for payload in payloads:
+        whole += OPEN + record_at(version, generation, len(whole), payload)[:-1]
+    return whole + CLOSED
 
 
 class Tail(NamedTuple):
     """Where the next record comes: the current file, its generation, how many records it has, and
-    the place of its last gate; and whether the other file is closed."""
+    the place of its last gate; whether the other file is closed; and the version."""
 
     file: str
     generation: int
     records: int
     gate: int
     is_other_shut: bool
+    version: int = VERSION
 
     def must_turn(self):
-        return self.records >= MOST_RECORDS and self.generation != GREATEST
+        is_full = self.records >= MOST_RECORDS and self.generation != GREATEST
+        return is_full and self.version == VERSION
 
 
 def fill(disk, file, stack, generation):
     """Writes a file but for its gate, and answers the place of its last one."""
     body = stack.body()
-    disk.write(file, 1, front_of(stack.profile, stack.depth, generation, len(body)))
-    disk.write(file, BODY_AT, body + CLOSED)
+    front = OPEN + front_of(stack.profile, stack.depth, generation, body)
+    disk.write(file, 1, front[1:])
+    disk.write(file, len(front), body + CLOSED)
     disk.sync(file)
-    return BODY_AT + len(body)
+    return len(front) + len(body)
 
 
 def set_gate(disk, file, gate, at=0):
@@ -272,8 +359,8 @@ class Store:
         self.stack = stack
 
     def append(self, payload):
-        file, _, count, gate, _ = self.tail
-        record = record_of(payload)
+        file, generation, count, gate, _, version = self.tail
+        record = record_at(version, generation, gate, payload)
         self.disk.write(file, gate + 1, record)
         self.disk.sync(file)
         set_gate(self.disk, file, OPEN, gate)
@@ -320,6 +407,18 @@ def store_of(commands, profile="regtest", depth=100):
     return store
 
 
+def summed_store_of(commands, profile="regtest", depth=100, generation=1):
+    """The same of version 3, whose body has no block."""
+    body = empty(profile, depth).body()
+    disk = Disk()
+    disk.write("A", 0, file_of(profile, depth, body, (), generation, SUMMED))
+    disk.write("B", 0, CLOSED)
+    store = Store(disk, *stands(disk.files))
+    for command in commands:
+        store.carry_out(command)
+    return store
+
+
 def bytes_in(store):
     """The bytes of its two files."""
     return tuple(bytes(store.disk.files[file]) for file in "AB")
@@ -349,6 +448,38 @@ def file_a(blocks):
 
 
 EMPTY = "016f786964780201640001000000000000001c00000000000000" + 29 * "00"
+# of version 3, with the sums that the body of 28 bytes and the 57 bytes behind the gate have by
+# `sha256sum`; and that of the record of a disconnect right behind them
+EMPTY_SUMMED = (
+    "016f786964330301640001000000000000001c00000000000000"
+    "3addfb141cd7c9c4c6543a82191a3707ac29c7a041217782e61d4d91c691aee8"
+    "2ab056ae49ff10f2ec6fb11efc096fc45235e9de78d41ea7055a7b8d86b8b6c4" + 29 * "00"
+)
+BACK_SUM = "55eb3594414e75ea026edc376e241ba93316168e5042460344838055e1ee8e75"
+
+
+def test_summed():
+    """The bytes of an empty store of version 3, of a record behind it, and of more than 64."""
+    empty_file = bytes.fromhex(EMPTY_SUMMED)
+    assert bytes_in(summed_store_of([])) == (empty_file, b"\0") and len(empty_file) == 119
+    back = "010100000000000000" + BACK_SUM + "0000"
+    file = file_of("regtest", 100, bytes(28), [DISCONNECT], version=SUMMED)
+    assert file == empty_file[:-1] + bytes.fromhex(back)
+    assert records(file, 118) == ([(118, DISCONNECT)], 160, True)
+    # with another place, generation, length or payload, or a byte too few
+    for place, other in (
+        (117, file[:90] + file[91:]),
+        (118, file[:10] + b"\2" + file[11:]),
+        (118, file[:119] + b"\0" + file[120:]),
+        (118, file[:159] + b"\1" + file[160:]),
+        (118, file[:159]),
+    ):
+        assert records(other, place) == ([], place, False)
+    commands = [payload_of(block) for block in chain(70)[0]]
+    a, b = bytes_in(summed_store_of(commands))
+    assert (len(records(a, 118)[0]), b) == (70, b"\0")
+    stack, tail = stands({"A": a, "B": b})
+    assert (len(stack.hashes()), tail.records, tail.version) == (70, 70, SUMMED)
 
 
 def test():
@@ -372,4 +503,5 @@ def test():
 if __name__ == "__main__":
     no_words(__doc__)
     test()
+    test_summed()
     print("passed")

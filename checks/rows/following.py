@@ -8,7 +8,8 @@ before, and what stands before a body or a payload is shown by a call of its own
 
 from rows.desk_rows import ROOM
 from rows.frame_rows import base, first, have, level, step
-from store_files import BODY_AT, BYTES, current, number_in, read_body, records, with_payload
+from store_files import BODY_AT, BYTES, VERSION, current, number_in, read_body, records
+from store_files import with_payload
 
 BASE, STEP, HAVE, LEVEL = 1, 2, 3, 4
 # how many bytes stand before a body, and before a payload
@@ -40,6 +41,12 @@ def frames(world, over):
             held, ended = held + (piece or b""), piece is None
 
 
+def demand_plain(tail):
+    """Files of version 3 aren't led or followed."""
+    if tail.version != VERSION:
+        raise Ended(3)
+
+
 class Leader:
     """What stands in the current file."""
 
@@ -64,8 +71,9 @@ class Leader:
         return [self.answer(self.generation, n) for n in range(len(self.payloads) + 1)]
 
 
-def lead(world):
+def lead(world, store):
     """Answers the Haves that channel 0 says, by the files that were opened."""
+    demand_plain(store.tail)
     leader = Leader(world.site.files)
     for frame in frames(world, 0):
         if frame[8] != HAVE:
@@ -102,6 +110,7 @@ def take(store, frame):
 
 def follow(world, store):
     """Shows a Have of where a store stands, and one behind each frame that channel 0 says."""
+    demand_plain(store.tail)
     world.show(have(store.tail.generation, store.tail.records))
     for frame in frames(world, 13):
         take(store, frame)

@@ -4,14 +4,15 @@ Its own are runs of each subcommand but `serve`, `lead` and `follow`, whole, wit
 stopped, and over a site of short calls; and lines, hearings, showings and links of a site by
 themselves. Those that serve links are those of serve_rows, those that ask one desk those of
 desk_rows, of which holder_rows has those that ask for addresses, those that make and open a store
-those of store_rows, and those of a leader or a follower those of follow_rows. What a run does is
-told by worlds, which shares nothing with the library.
+those of store_rows, those over files of version 3 those of summed_rows, and those of a leader or a
+follower those of follow_rows. What a run does is told by worlds, which shares nothing with the
+library.
 """
 
 import old_files
 import store_files
 from chain import DISCONNECT, GENESIS, SHORT, line, payload_of
-from rows import desk_rows, follow_rows, holder_rows, serve_rows, store_rows
+from rows import desk_rows, follow_rows, holder_rows, serve_rows, store_rows, summed_rows
 from rows.desk_rows import compact, printed
 from rows.store_rows import ALL
 from rows.worlds import CUTS_NOTHING, NONE, PORTIONS, SATOSHI, Runs, bytes_of
@@ -577,7 +578,8 @@ def made():
     for part in (feeds, hearings, links):
         part(rows)
     parts = serve_rows.served, desk_rows.desks, holder_rows.holders, store_rows.stores
-    for others in (part() for part in (*parts, follow_rows.follows)):
+    parts += summed_rows.stores, summed_rows.runs, follow_rows.follows
+    for others in (part() for part in parts):
         rows.stdin += others.stdin
         rows.stdout += others.stdout
     return rows.stdin, rows.stdout

@@ -252,8 +252,7 @@ class World:
         elif words == ("migrate",):
             return self.migrate()
         elif words == ("lead",):
-            self.opened()
-            following.lead(self)
+            following.lead(self, self.opened())
         elif words == ("follow",):
             following.follow(self, self.opened())
         else:
