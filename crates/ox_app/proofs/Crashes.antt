@@ -14,7 +14,7 @@ use Rattle.ox_feed.specs.declared.lines.FeedFault.{FeedFault}
 use Rattle.ox_feed.specs.declared.lines.Line.{Line}
 use Rattle.ox_feed.specs.declared.lines.Line.TheVariants.{Text, Long, End}
 use Rattle.ox_gated.specs.Layout.{is_closed}
-use Rattle.ox_gated.specs.Reading.{reading}
+use Rattle.ox_gated.specs.Reading.{is_any, reading}
 use Rattle.ox_gated.specs.Tail.{Keeps, Kept}
 use Rattle.ox_model.specs.Replies.{after_on, after_turn, index_on, replies_on, reply_by}
 use Rattle.ox_model.specs.Stack.{Stack, turn_on}
@@ -127,7 +127,7 @@ module _ {S : Type 0} (means : Meanings S) where
         q.2 ∙ holds.settled q.0 q.1 ∙ sym files.files;
     some_a = subst (λ (f : Files). 1 ≤ length f.a) (sym files.files) holds.some_a;
     some_b = subst (λ (f : Files). 1 ≤ length f.b) (sym files.files) holds.some_b;
-    keeps = subst (λ (f : Files). Keeps tail (reading tail.head.version f)) (sym files.files) holds.keeps;
+    keeps = subst (λ (f : Files). Keeps tail (reading is_any f)) (sym files.files) holds.keeps;
     closed = subst (λ (f : Files). tail.other_closed ≡ is_closed (file_of f (other tail.file))) (sym files.files) holds.closed;
   }
 

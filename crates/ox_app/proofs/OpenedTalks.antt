@@ -10,11 +10,11 @@ use Rattle.ox_outside.specs.Log.{Grows}
 use Rattle.ox_outside.specs.declared.site.Site.{Ghosts as Meanings}
 use Rattle.ox_outside.proofs.Counts.{stops_as}
 use Rattle.ox_outside.proofs.Log.{grows_none}
-use Rattle.ox_files.specs.Stands.{Misfit, stands}
+use Rattle.ox_files.specs.Stands.{Misfit}
 use Rattle.ox_follow.specs.World.{Leader, stood}
 use Rattle.ox_model.specs.Stack.{Stack}
 use Rattle.ox_pieces.proofs.StoodFiles.{stands_for_stood}
-use Rattle.ox_pieces.specs.Stood.{leader_in}
+use Rattle.ox_pieces.specs.Stood.{leader_in, led_stands}
 use Rattle.ox_store.specs.Fault.{IsMisfit}
 use Rattle.ox_store.specs.declared.fault.OpenFault.{OpenFault}
 use Rattle.ox_store.specs.declared.fault.OpenFault.TheVariants as opens
@@ -93,13 +93,13 @@ unopened_talk party fault log = grows_none (RunsTalk party (open_status fault)) 
   too_much = λ is. absurd (open_bounded fault is);
 })
 
--- files that stand for a stack are a store
+-- files that stand for a stack aren't at fault
 pub no_misfit_there : (standing : Result Stack Misfit) (stack : Stack) (fault : OpenFault) → standing ≡ Ok stack → IsMisfit standing fault → open_status fault ≡ ends.NotStore → ⊥
 no_misfit_there standing stack (opens.NotStore file at) is misfit e = cc (sym is ∙ misfit)
 no_misfit_there standing stack opens.DiskFault is misfit e = ends_apart ends.DiskFault ends.NotStore refl e
 no_misfit_there standing stack opens.Memory is misfit e = ends_apart ends.Memory ends.NotStore refl e
 
-pub leader_stands : (files : Files) (leader : Leader Stack) → leader_in files ≡ Some leader → stands files ≡ Ok leader.state
+pub leader_stands : (files : Files) (leader : Leader Stack) → leader_in files ≡ Some leader → led_stands files ≡ Ok leader.state
 leader_stands files leader is = stands_for_stood files (stood leader) (ap (option_map stood) is)
 
 pub same_some : {A : Type 0} (found : Option A) (a b : A) → found ≡ Some a → found ≡ Some b → a ≡ b

@@ -3,6 +3,7 @@
 use Rattle.std.specs.Prelude.{◌≡◌, ◌≢◌, ◌⊎◌, ℕ, IsTrue, List}
 use Rattle.ox_outside.specs.Log.{Grows}
 use Rattle.ox_outside.specs.declared.site.Site.{Ghosts as Meanings}
+use Rattle.ox_files.specs.Stands.{Misfit}
 use Rattle.ox_follow.specs.World.{Leader, Stood}
 use Rattle.ox_model.specs.Machine.{Machine, empty_machine, stack_of}
 use Rattle.ox_model.specs.Stack.{Stack}
@@ -21,8 +22,8 @@ use Rattle.ox_app.specs.Stacks.{SurvivesOn, SurvivesServingOn}
 use Rattle.ox_app.specs.Show.{DiskFails, EndsDone, HearFails, ShowFails, ShowsText}
 use Rattle.ox_app.specs.Status.{IsApplyStatus, IsDone, IsFoldStatus, IsFollowStatus, IsInitStatus}
 use Rattle.ox_app.specs.Status.{IsLeadStatus, IsQueryStatus, IsServeStatus, IsSparing, IsUnopened}
-use Rattle.ox_app.specs.Talks.{EndsTalk, StandsAsLeader, StandsThere, Talks, follower_party}
-use Rattle.ox_app.specs.Talks.{leader_party}
+use Rattle.ox_app.specs.Talks.{EndsTalk, StandsAsLeader, StandsNowhere, StandsThere, Talks}
+use Rattle.ox_app.specs.Talks.{follower_party, leader_party}
 use Rattle.ox_app.specs.declared.status.Status.{Status}
 use Rattle.ox_app.specs.declared.status.Status.TheVariants.{Done, Memory, NotEmpty, NotStore}
 use Rattle.ox_app.specs.declared.status.Status.TheVariants.{ShowFault}
@@ -123,6 +124,14 @@ pub record Serves {S : Type 0} (means : Meanings S) (turns : ℕ) (status : Stat
       → ¬ DiskFails means old new → ¬ DoorFails means old new → ¬ ShowFails means old new
       → IsDone status
 
+-- any word that opens a store, on files that stand for no stack: the first test that fails is
+-- shown, and nothing else, by `lead` and `follow` nothing at all; and the files are spared
+pub record Unopened {S : Type 0} (means : Meanings S) (status : Status) (old new : S)
+    : Type 0 where
+  pub unopened : IsUnopened status
+  pub unsaid : status ≢ NotStore → means.log new ≡ means.log old
+  pub opens_nothing : AddsNoImage means old new
+
 -- `lead`
 pub record Leads {S : Type 0} (means : Meanings S) (status : Status) (old new : S)
     : Type 0 where
@@ -130,6 +139,9 @@ pub record Leads {S : Type 0} (means : Meanings S) (status : Status) (old new : 
   -- and is all of them where frames or the end of channel 0 ended the run, as the status says
   pub leads : (leader : Leader Stack) → StandsAsLeader means old leader
       → (status ≢ NotStore) × Talks means (leader_party leader) status old new
+  -- on files that are no store, or have version 3: nothing is done
+  pub lead_unopened : (misfit : Misfit) → StandsNowhere means old misfit
+      → Unopened means status old new
   -- no line is shown where they stand for none
   pub lead_unsaid : status ≡ NotStore → means.log new ≡ means.log old
   pub lead_status : IsLeadStatus status
@@ -149,16 +161,10 @@ pub record Follows {S : Type 0} (means : Meanings S) (status : Status) (old new 
   -- them
   pub follow_in_turn : (mine : Stood Stack) → StandsThere means old mine
       → IsFollowInTurn means old new
+  pub follow_unopened : (misfit : Misfit) → StandsNowhere means old misfit
+      → Unopened means status old new
   pub follow_unsaid : status ≡ NotStore → means.log new ≡ means.log old
   pub follow_status : IsFollowStatus status
   pub follow_completes : (mine : Stood Stack) → StandsThere means old mine
       → ¬ DiskFails means old new → ¬ HearFails means old new → ¬ ShowFails means old new
       → Grows (EndsTalk status) (means.log old) (means.log new)
-
--- any word that opens a store, on files that stand for no stack: the first test that fails is
--- shown, and nothing else, by `lead` and `follow` nothing at all; and the files are spared
-pub record Unopened {S : Type 0} (means : Meanings S) (status : Status) (old new : S)
-    : Type 0 where
-  pub unopened : IsUnopened status
-  pub unsaid : status ≢ NotStore → means.log new ≡ means.log old
-  pub opens_nothing : AddsNoImage means old new

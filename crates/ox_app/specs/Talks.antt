@@ -2,20 +2,21 @@
 -- hears and how these end it stands in ox_follow; the rules of a store's records and bodies and the
 -- place where its files stand, in ox_pieces.
 use Rattle.std.specs.Prelude.{◌≡◌, ◌⊎◌, ℕ, ◌≤◌, Bool, true, false, IsTrue}
-use Rattle.std.specs.Prelude.{List, ◌∷◌, length, map, Option, Some}
+use Rattle.std.specs.Prelude.{List, ◌∷◌, length, map, Option, Some, Err}
 use Rattle.std.specs.List.{concat}
 use Rattle.ox_outside.specs.Event.{Event, heard_bytes, shown_bytes, has_ended}
 use Rattle.ox_outside.specs.Log.{Grows}
 use Rattle.ox_outside.specs.Shown.{IsFrontOf}
 use Rattle.ox_outside.specs.declared.site.Site.{Ghosts as Meanings}
 use Rattle.ox_feed.specs.Feed.{feed_limit}
+use Rattle.ox_files.specs.Stands.{Misfit}
 use Rattle.ox_follow.specs.Frame.{Frame, Have, spelled}
 use Rattle.ox_follow.specs.Talk.{End, Done, EndedEarly, Led, Followed, led, followed, end_by}
 use Rattle.ox_follow.specs.World.{Leader, Stood}
 use Rattle.ox_follow.specs.declared.frame.Position.{Position}
 use Rattle.ox_model.specs.Stack.{Stack}
 use Rattle.ox_pieces.specs.Frames.{frames_in}
-use Rattle.ox_pieces.specs.Stood.{leader_in, rules_of, stood_in}
+use Rattle.ox_pieces.specs.Stood.{leader_in, led_stands, rules_of, stood_in}
 use Rattle.ox_app.specs.Headline.{OnlyOwn}
 use Rattle.ox_app.specs.Status.{IsTalkDone, end_status}
 use Rattle.ox_app.specs.declared.status.Status.{Status}
@@ -34,6 +35,13 @@ pub record StandsThere {S : Type 0} (means : Meanings S) (site : S) (mine : Stoo
     : Type 0 where
   pub told : IsTrue (means.told site)
   pub stands : stood_in (means.seen site) ≡ Some mine
+
+-- the site tells its files, and they are no store, or have version 3: this test is the first that
+-- fails
+pub record StandsNowhere {S : Type 0} (means : Meanings S) (site : S) (misfit : Misfit)
+    : Type 0 where
+  pub told : IsTrue (means.told site)
+  pub fails : led_stands (means.seen site) ≡ Err misfit
 
 -- ---- what is shown, and how a run ends
 

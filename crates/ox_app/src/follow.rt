@@ -11,8 +11,8 @@ ghost use Rattle.ox_follow.specs.World.{Stood};
 ghost use Rattle.ox_gated.specs.Tail.{Holds};
 ghost use Rattle.ox_gated.specs.Writes.{OnlyWrites};
 ghost use Rattle.ox_model.specs.Stack.{Stack};
-ghost use Rattle.ox_files.specs.Stands.{Misfit, stands};
-ghost use Rattle.ox_pieces.specs.Stood.{stood_in};
+ghost use Rattle.ox_files.specs.Stands.{Misfit};
+ghost use Rattle.ox_pieces.specs.Stood.{led_stands, stood_in};
 ghost use Rattle.ox_app.specs.Follow.{LeavesFollowing, SurvivesFrames};
 ghost use Rattle.ox_app.specs.Headline.{AddsNoImage};
 ghost use Rattle.ox_app.specs.OneFrame.{DuringFrame, EndsBy, Faults, FollowsOn, LeavesAt};
@@ -119,7 +119,7 @@ fn follow_frames<S: Site>(alloc: Global, follower: Follower, site: &mut S) -> St
 
 /// Opens the store, shows a Have of where it stands, and takes what the frames of channel 0 bring,
 /// with a Have behind each, until a Level says that nothing is behind it. Each Have is shown once
-/// what it says is on the disk. It shows nothing where the files are no store.
+/// what it says is on the disk. It shows nothing where the files are no store, or have version 3.
 pub fn follow<S: Site>(alloc: Global, site: &mut S) -> Status
     // On files that stand for a stack.
     ensures follows { IsTrue (S.told site.old) → (mine : Stood Stack)
@@ -132,12 +132,12 @@ pub fn follow<S: Site>(alloc: Global, site: &mut S) -> Status
         Grows (LeavesFollowing S.may_leave site.old mine r.files)
         (S.log site.old) (Some r.log)) }
 
-    // On files that stand for none.
+    // On files that stand for none, or have version 3.
     ensures unopened { IsTrue (S.told site.old) → (misfit : Misfit)
-        → stands (S.seen site.old) ≡ Err misfit
+        → led_stands (S.seen site.old) ≡ Err misfit
         → IsUnopened result × (S.log site.new ≡ S.log site.old) }
     ensures looks { IsTrue (S.told site.old) → (misfit : Misfit)
-        → stands (S.seen site.old) ≡ Err misfit
+        → led_stands (S.seen site.old) ≡ Err misfit
         → AddsNoImage S.Site site.old site.new }
     ensures not_store { result ≡ ends.NotStore
         → AddsNoImage S.Site site.old site.new × (S.log site.new ≡ S.log site.old) }

@@ -6,9 +6,9 @@ ghost use Rattle.ox_outside.specs.Runs.{Calls, OnlyTalks};
 ghost use Rattle.ox_feed.specs.Feed.{bytes_left, feed_limit};
 ghost use Rattle.ox_follow.specs.World.{Leader as LeaderContents};
 ghost use Rattle.ox_model.specs.Stack.{Stack};
-ghost use Rattle.ox_files.specs.Stands.{Misfit, stands};
+ghost use Rattle.ox_files.specs.Stands.{Misfit};
 ghost use Rattle.ox_pieces.specs.Frames.{is_ready};
-ghost use Rattle.ox_pieces.specs.Stood.{leader_in};
+ghost use Rattle.ox_pieces.specs.Stood.{leader_in, led_stands};
 ghost use Rattle.ox_app.specs.Fold.{Anything};
 ghost use Rattle.ox_app.specs.Headline.{AddsNoImage};
 ghost use Rattle.ox_app.specs.OneFrame.{AnswersInFront, Faults, RunFaults, TalksOn};
@@ -71,7 +71,7 @@ fn answer_frames<S: Site>(alloc: Global, leader: &Leader, site: &mut S) -> Statu
 
 /// Opens the store, and answers each Have of channel 0 by what stands behind that position: the
 /// record there, the whole current file, or a Level where there is nothing. It writes no file, and
-/// shows nothing where the files are no store.
+/// shows nothing where the files are no store, or have version 3.
 pub fn lead<S: Site>(alloc: Global, site: &mut S) -> Status
     // On files that stand for a stack.
     ensures leads { IsTrue (S.told site.old) → (leader : LeaderContents Stack)
@@ -79,9 +79,9 @@ pub fn lead<S: Site>(alloc: Global, site: &mut S) -> Status
         → (result ≢ ends.NotStore)
         × Talks S.Site (leader_party leader) result site.old site.new }
 
-    // On files that stand for none.
+    // On files that stand for none, or have version 3.
     ensures unopened { IsTrue (S.told site.old) → (misfit : Misfit)
-        → stands (S.seen site.old) ≡ Err misfit
+        → led_stands (S.seen site.old) ≡ Err misfit
         → IsUnopened result × (S.log site.new ≡ S.log site.old) }
     ensures not_store { result ≡ ends.NotStore → S.log site.new ≡ S.log site.old }
 

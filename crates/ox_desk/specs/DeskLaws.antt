@@ -11,7 +11,7 @@ use Rattle.ox_http.specs.Written.{written}
 use Rattle.ox_http.specs.declared.Reply.{Reply}
 use Rattle.ox_http.specs.declared.Request.{Request}
 use Rattle.ox_gated.specs.Layout.{is_closed}
-use Rattle.ox_gated.specs.Reading.{reading}
+use Rattle.ox_gated.specs.Reading.{is_any, reading}
 use Rattle.ox_gated.specs.Tail.{Holds, Keeps, Kept}
 use Rattle.ox_turns.specs.Desk.{IsHttp}
 use Rattle.ox_rules.specs.declared.refusal.Refusal.{Refusal}
@@ -62,7 +62,7 @@ module _ {S : Type 0} (means : Meanings S) where
         before.2 ∙ holds.settled before.0 before.1 ∙ same;
     some_a = subst (λ (f : Files). 1 ≤ length f.a) same holds.some_a;
     some_b = subst (λ (f : Files). 1 ≤ length f.b) same holds.some_b;
-    keeps = subst (λ (f : Files). Keeps tail (reading tail.head.version f)) same holds.keeps;
+    keeps = subst (λ (f : Files). Keeps tail (reading is_any f)) same holds.keeps;
     closed =
         subst (λ (f : Files). tail.other_closed ≡ is_closed (file_of f (other tail.file))) same
         holds.closed;

@@ -5,7 +5,7 @@ use Rattle.std.specs.Result.{result_ok}
 use Rattle.std.proofs.lemmas.Bool.{and_parts, eq-eqb, eqb-true, false≢true, lt-ltb, ne_eqb}
 use Rattle.std.proofs.lemmas.Option.{same_Some}
 use Rattle.ox_gated.specs.Layout.{Whole, is_lawful}
-use Rattle.ox_gated.specs.Tail.{Kept}
+use Rattle.ox_gated.specs.Tail.{Framing, Kept}
 use Rattle.ox_gated.specs.declared.head.Head.{Head}
 use Rattle.ox_sat.specs.Profiles.{name_at, profile_named}
 use Rattle.ox_model.specs.Change.{redone}
@@ -140,7 +140,7 @@ with_last false last last' is some = absurd (false≢true is)
 
 pub lawful_later : (head : Head) (generation : ℕ) → is_lawful head ≡ true → head.generation < generation → is_lawful (record head { generation = generation }) ≡ true
 lawful_later head generation is greater =
-    with_last ((head.version == 1 || head.version == 2) && nat_lt head.profile 3 && nat_le 1 head.depth && nat_le head.depth 1000) (not (head.generation == 0)) (not (generation == 0)) is
+    with_last ((head.version == 1 || head.version == 2 || head.version == 3) && nat_lt head.profile 3 && nat_le 1 head.depth && nat_le head.depth 1000) (not (head.generation == 0)) (not (generation == 0)) is
     (ap not (ne_eqb generation 0 (λ none. omega (arith, greater, none))))
 
 pub names_later : (old new : Head) (stack : Stack) → IsLater old new → Names old stack → Names new stack
@@ -220,8 +220,8 @@ same_position one other is =
     λ i. record { generation = eqb-true one.generation other.generation both.0 i; place = eqb-true one.place other.place both.1 i }
 
 -- a step of the follower's own position is taken where its payload is accepted
-pub step_taken : (follower : FollowerContents) (tail : Kept) (before after : Stack) (at : Position) (payload framed : List ℕ) → held tail before ≡ follower → is_same at follower.mine.at ≡ true
-    → payload_step before payload ≡ Some after → framed ≡ payload → IsTaken follower (Step at payload) (record { next = stood_behind tail after (Append framed); tail = tail; writing = Append framed })
+pub step_taken : (follower : FollowerContents) (tail : Kept) (before after : Stack) (at : Position) (payload : List ℕ) (framed : Framing) → held tail before ≡ follower → is_same at follower.mine.at ≡ true
+    → payload_step before payload ≡ Some after → framed.payload ≡ payload → IsTaken follower (Step at payload) (record { next = stood_behind tail after (Append framed); tail = tail; writing = Append framed })
 step_taken follower tail before after at payload framed is own leads written =
     let here : is_same at (position_of tail) ≡ true = ap (λ (f : FollowerContents). is_same at f.mine.at) is ∙ own in
     let there : at ≡ position_of tail = same_position at (position_of tail) here in

@@ -86,15 +86,15 @@ byte_named (suc (suc (suc byte))) few = absurd (omega (arith, few))
 
 low_profile : (head : Head) → is_lawful head ≡ true → head.profile < 3
 low_profile head is =
-    let all = and_parts ((head.version == 1 || head.version == 2) && nat_lt head.profile 3 && nat_le 1 head.depth && nat_le head.depth 1000) (not (head.generation == 0)) is in
-    let three = and_parts ((head.version == 1 || head.version == 2) && nat_lt head.profile 3 && nat_le 1 head.depth) (nat_le head.depth 1000) all.0 in
-    let two = and_parts ((head.version == 1 || head.version == 2) && nat_lt head.profile 3) (nat_le 1 head.depth) three.0 in
-    ltb-true head.profile 3 (and_parts (head.version == 1 || head.version == 2) (nat_lt head.profile 3) two.0).1
+    let all = and_parts ((head.version == 1 || head.version == 2 || head.version == 3) && nat_lt head.profile 3 && nat_le 1 head.depth && nat_le head.depth 1000) (not (head.generation == 0)) is in
+    let three = and_parts ((head.version == 1 || head.version == 2 || head.version == 3) && nat_lt head.profile 3 && nat_le 1 head.depth) (nat_le head.depth 1000) all.0 in
+    let two = and_parts ((head.version == 1 || head.version == 2 || head.version == 3) && nat_lt head.profile 3) (nat_le 1 head.depth) three.0 in
+    ltb-true head.profile 3 (and_parts (head.version == 1 || head.version == 2 || head.version == 3) (nat_lt head.profile 3) two.0).1
 
 pub low_depth : (head : Head) → is_lawful head ≡ true → head.depth < 2 ^ 16
 low_depth head is =
-    let all = and_parts ((head.version == 1 || head.version == 2) && nat_lt head.profile 3 && nat_le 1 head.depth && nat_le head.depth 1000) (not (head.generation == 0)) is in
-    let most : head.depth ≤ 1000 = leb-true head.depth 1000 (and_parts ((head.version == 1 || head.version == 2) && nat_lt head.profile 3 && nat_le 1 head.depth) (nat_le head.depth 1000) all.0).1 in
+    let all = and_parts ((head.version == 1 || head.version == 2 || head.version == 3) && nat_lt head.profile 3 && nat_le 1 head.depth && nat_le head.depth 1000) (not (head.generation == 0)) is in
+    let most : head.depth ≤ 1000 = leb-true head.depth 1000 (and_parts ((head.version == 1 || head.version == 2 || head.version == 3) && nat_lt head.profile 3 && nat_le 1 head.depth) (nat_le head.depth 1000) all.0).1 in
     omega (arith, most)
 
 -- a stack that stands under a lawful head has the byte of its profile, and its depth

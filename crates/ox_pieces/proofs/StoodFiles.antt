@@ -1,25 +1,30 @@
 -- Where files stand, before a piece and after it.
-use Rattle.std.proofs.Common.{◌≡◌, ◌∙◌, inl, inr, ⊎_elim, ℕ, suc, ◌+◌, List, [], ◌∷◌, ◌++◌, length, refl, sym, ap, subst, arith}
-use Rattle.std.specs.Prelude.{Option, Some, Result, Ok, Err}
+use Rattle.std.proofs.Common.{◌≡◌, ◌∙◌, inl, inr, ⊎_elim, ℕ, suc, ◌+◌, ◌==◌, Bool, true, false, List, [], ◌∷◌, ◌++◌, length, refl, sym, ap, subst, arith}
+use Rattle.std.specs.Prelude.{not, Option, Some, Result, Ok, Err, if◌then◌else◌}
 use Rattle.std.specs.Option.{option_map}
 use Rattle.std.specs.Result.{result_ok}
+use Rattle.std.proofs.lemmas.Bool.{ne_eqb}
 use Rattle.std.proofs.lemmas.List.{length-map}
 use Rattle.std.proofs.lemmas.Option.{same_Some}
-use Rattle.ox_outside.specs.Files.{Files}
+use Rattle.ox_outside.specs.Files.{Files, file_of}
 use Rattle.ox_outside.specs.declared.site.Which.{Which}
-use Rattle.ox_gated.specs.Layout.{Whole}
-use Rattle.ox_gated.specs.OtherFile.{IsOldOrNew, ReadsNew}
-use Rattle.ox_gated.specs.Reading.{Found, Fault, reading, with_payload}
-use Rattle.ox_gated.specs.Tail.{IsBeforeOrAfter, Keeps, Kept}
+use Rattle.ox_gated.specs.Layout.{Whole, layout_of, version_at}
+use Rattle.ox_gated.specs.Opened.{IsFault}
+use Rattle.ox_gated.specs.OtherFile.{IsOldOrNew, ReadsNew, found_in}
+use Rattle.ox_gated.specs.Pick.{Choice, choice_of}
+use Rattle.ox_gated.specs.Reading.{Found, Fault, ReadsMore, body_reading, fault_at, gate_behind, is_any, is_present, reading, reading_by, with_payload}
+use Rattle.ox_gated.specs.Tail.{IsBeforeOrAfter, Keeps, KeepsFound, Kept}
+use Rattle.ox_gated.specs.declared.fault.GateFault.{GateFault}
+use Rattle.ox_gated.specs.declared.fault.GateFault.TheVariants as gates
 use Rattle.ox_gated.specs.declared.records.Record.{Record}
 use Rattle.ox_model.specs.Stack.{Stack}
 use Rattle.ox_files.specs.Payload.{payload_step}
-use Rattle.ox_files.specs.Stands.{in_file, stack_in, stack_in_file, stands}
+use Rattle.ox_files.specs.Stands.{Misfit, in_file, stack_in, stack_in_file, stands}
 use Rattle.ox_files.proofs.FilesOfStacks.{stands_more}
 use Rattle.ox_follow.specs.Position.{next_place, start_of}
 use Rattle.ox_follow.specs.World.{Stood, stood}
 use Rattle.ox_pieces.specs.Follower.{position_of}
-use Rattle.ox_pieces.specs.Stood.{leader_by, leader_of, payloads_of, stood_in}
+use Rattle.ox_pieces.specs.Stood.{leader_by, leader_of, led_found, led_reading, led_stands, payloads_of, stood_in}
 use Rattle.ox_pieces.specs.Writing.{StandsEither}
 
 abbrev stood_by : Result Found Fault → Option (Stood Stack)
@@ -49,23 +54,86 @@ stood_so found stack is =
     ap (of_stack found) is
     ∙ (λ i. Some (record { at = record { generation = found.head.generation; place = length-map found.records (λ (one : Record). one.payload) i }; state = stack }))
 
-pub led_so : (found : Found) (stack : Stack) → stack_in_file found.head found.body found.records ≡ Ok stack → leader_by (Ok found) ≡ Some (leader_of found.head found.body found.records stack)
-led_so found stack is = ap (λ (r : Result Stack ℕ). option_map (leader_of found.head found.body found.records) (result_ok r)) is
-
 -- where it stands, and what for
 stood_of : (found : Result Found Fault) (mine : Stood Stack) → stood_by found ≡ Some mine → stack_in found ≡ Ok mine.state
 stood_of (Err fault) mine is = absurd (cc is)
 stood_of (Ok found) mine is = ap (in_file found.file) (same_stood found (stack_in_file found.head found.body found.records) mine is).0
 
 -- what stands for something somewhere stands for it
-pub stands_for_stood : (files : Files) (mine : Stood Stack) → stood_in files ≡ Some mine → stands files ≡ Ok mine.state
-stands_for_stood files mine is = stood_of (reading 2 files) mine is
+pub stands_for_stood : (files : Files) (mine : Stood Stack) → stood_in files ≡ Some mine → led_stands files ≡ Ok mine.state
+stands_for_stood files mine is = stood_of (led_reading files) mine is
 
-stands_at : (tail : Kept) (found : Result Found Fault) (mine : Stood Stack) → Keeps tail found → stood_by found ≡ Some mine → mine.at ≡ position_of tail
-stands_at tail (Err fault) mine keeps is = absurd keeps
-stands_at tail (Ok found) mine keeps is =
-    (same_stood found (stack_in_file found.head found.body found.records) mine is).1
-    ∙ (λ i. record { generation = (sym keeps.head i).generation; place = sym keeps.records i })
+-- ---- the version
+
+abbrev by_version : Bool → Found → Result Found Fault
+by_version two found = if two then Ok found else fault_at found.file version_at
+
+-- what stands somewhere is led as it is read
+all_led : (read : Result Found Fault) (mine : Stood Stack) → stood_by (led_found read) ≡ Some mine → led_found read ≡ read
+all_led (Err fault) mine is = refl
+all_led (Ok found) mine is = of_version (found.head.version == 2) is
+  where
+    of_version : (two : Bool) → stood_by (by_version two found) ≡ Some mine → by_version two found ≡ Ok found
+    of_version true is = refl
+    of_version false is = absurd (cc is)
+
+-- a fault is that of what is led
+pub led_fault : (read : Result Found Fault) (fault : GateFault) → IsFault read fault → IsFault (led_found read) fault
+led_fault read gates.DiskFault is = tt
+led_fault read (gates.NotStore file at before) is = ap led_found is
+led_fault read gates.Memory is = tt
+
+pub led_so : (found : Found) → found.head.version ≡ 2 → led_found (Ok found) ≡ Ok found
+led_so found two = ap (λ (v : ℕ). by_version (v == 2) found) two
+
+pub not_led : (found : Found) → (found.head.version ≡ 2 → ⊥) → led_found (Ok found) ≡ fault_at found.file version_at
+not_led found other = ap (λ (two : Bool). by_version two found) (ne_eqb found.head.version 2 other)
+
+-- what stands for nothing isn't led
+pub none_led : (files : Files) (misfit : Misfit) → stands files ≡ Err misfit → (other : Misfit) × (led_stands files ≡ Err other)
+none_led files misfit = by_read (reading is_present files)
+  where
+    of_version : (two : Bool) (found : Found) → stack_in (Ok found) ≡ Err misfit → (other : Misfit) × (stack_in (by_version two found) ≡ Err other)
+    of_version true found is = (misfit, is)
+    of_version false found is = (record { file = found.file; at = version_at }, refl)
+
+    by_read : (read : Result Found Fault) → stack_in read ≡ Err misfit → (other : Misfit) × (stack_in (led_found read) ≡ Err other)
+    by_read (Err fault) is = (misfit, is)
+    by_read (Ok found) is = of_version (found.head.version == 2) found is
+
+-- ---- the tail
+
+behind_version : (read : Bool) (file : Which) (body : Result Found Fault) (found : Found) → (if not read then fault_at file version_at else body) ≡ Ok found → body ≡ Ok found
+behind_version true file body found is = is
+behind_version false file body found is = absurd (cc is)
+
+-- what is read of these versions is read whichever they are
+read_as_any : (files : Files) (found : Found) → reading is_present files ≡ Ok found → reading is_any files ≡ Ok found
+read_as_any files found is = by (choice_of files.a files.b) is
+  where
+    by : (choice : Choice) → reading_by is_present files choice ≡ Ok found → reading_by is_any files choice ≡ Ok found
+    by (Err fault) is = absurd (cc is)
+    by (Ok choice) is = behind_version (is_present choice.1.head.version) choice.0 (body_reading choice.0 (file_of files choice.0) choice.1) found is
+
+at_found : (tail : Kept) (files : Files) (mine : Stood Stack) (read : Result Found Fault) → reading is_present files ≡ read → Keeps tail (reading is_any files) → stood_by (led_found read) ≡ Some mine
+    → mine.at ≡ position_of tail
+at_found tail files mine (Err fault) same keeps is = absurd (cc is)
+at_found tail files mine (Ok found) same keeps is =
+    let kept : KeepsFound tail found = subst (λ (r : Result Found Fault). Keeps tail r) (read_as_any files found same) keeps in
+    (same_stood found (stack_in_file found.head found.body found.records) mine (ap stood_by (sym (all_led (Ok found) mine is)) ∙ is)).1
+    ∙ (λ i. record { generation = (sym kept.head i).generation; place = sym kept.records i })
+
+stands_at : (tail : Kept) (files : Files) (mine : Stood Stack) → Keeps tail (reading is_any files) → stood_in files ≡ Some mine → mine.at ≡ position_of tail
+stands_at tail files mine keeps is = at_found tail files mine (reading is_present files) refl keeps is
+
+-- files that are opened, which stay as they are
+pub opened_there : (tail : Kept) (old new : Files) (found : Found) (stack : Stack) (mine : Stood Stack) → new ≡ old → Keeps tail (reading is_any new) → led_reading old ≡ Ok found
+    → stack_in_file found.head found.body found.records ≡ Ok stack → mine.at ≡ position_of tail → mine.state ≡ stack → stood_in old ≡ Some mine
+opened_there tail old new found stack mine same keeps is stands at state =
+    let there : Stood Stack = record { at = record { generation = found.head.generation; place = length found.records }; state = stack } in
+    let stood : stood_in old ≡ Some there = ap stood_by is ∙ stood_so found stack stands in
+    let here : there.at ≡ mine.at = stands_at tail old there (subst (λ (f : Files). Keeps tail (reading is_any f)) same keeps) stood ∙ sym at in
+    stood ∙ (λ i. Some (record { at = here i; state = sym state i }))
 
 -- ---- one record more
 
@@ -77,16 +145,33 @@ one_more : (records : List Record) (one : Record) → length (records ++ one ∷
 one_more [] one = refl
 one_more (first ∷ records) one = ap suc (one_more records one)
 
-stood_more : (payload : List ℕ) (found : Result Found Fault) (before : Stood Stack) (after : Stack) → stood_by found ≡ Some before → payload_step before.state payload ≡ Some after
-    → stood_by (with_payload payload found) ≡ Some (record { at = next_place before.at; state = after })
-stood_more payload (Err fault) before after is leads = absurd (cc is)
-stood_more payload (Ok found) before after is leads =
+-- a file of version 2 with one record more
+found_more : (payload : List ℕ) (found : Found) (before : Stood Stack) (after : Stack) → stood_by (Ok found) ≡ Some before → payload_step before.state payload ≡ Some after
+    → stood_by (with_payload payload (Ok found)) ≡ Some (record { at = next_place before.at; state = after })
+found_more payload found before after is leads =
     let one : Record = record { place = found.gate; payload = payload } in
-    let more : Found = record found { records = found.records ++ one ∷ []; gate = found.gate + (5 + length payload) } in
+    let more : Found = record found { records = found.records ++ one ∷ []; gate = gate_behind (layout_of found.head.version) found.gate payload } in
     let at = (same_stood found (stack_in_file found.head found.body found.records) before is).1 in
     stood_so more after (in_file_ok found.file (stack_in_file found.head found.body (found.records ++ one ∷ [])) after (stands_more (Ok found) payload before.state after (stood_of (Ok found) before is) leads))
     ∙ (λ i. Some (record { at = record { generation = found.head.generation; place = one_more found.records one i }; state = after }))
     ∙ (λ i. Some (record { at = next_place (sym at i); state = after }))
+
+led_more : (payload : List ℕ) (found : Found) → led_found (Ok found) ≡ Ok found → led_found (with_payload payload (Ok found)) ≡ with_payload payload (Ok found)
+led_more payload found = of_version (found.head.version == 2)
+  where
+    more : Found
+    more = record found { records = found.records ++ record { place = found.gate; payload = payload } ∷ []; gate = gate_behind (layout_of found.head.version) found.gate payload }
+
+    of_version : (two : Bool) → by_version two found ≡ Ok found → by_version two more ≡ Ok more
+    of_version true is = refl
+    of_version false is = absurd (cc is)
+
+stood_more : (payload : List ℕ) (read : Result Found Fault) (before : Stood Stack) (after : Stack) → stood_by (led_found read) ≡ Some before → payload_step before.state payload ≡ Some after
+    → stood_by (led_found (with_payload payload read)) ≡ Some (record { at = next_place before.at; state = after })
+stood_more payload (Err fault) before after is leads = absurd (cc is)
+stood_more payload (Ok found) before after is leads =
+    let led = all_led (Ok found) before is in
+    ap stood_by (led_more payload found led) ∙ found_more payload found before after (ap stood_by (sym led) ∙ is) leads
 
 pub next_position : (old new : Kept) → new.head ≡ old.head → new.records ≡ old.records + 1 → position_of new ≡ next_place (position_of old)
 next_position old new head records =
@@ -96,30 +181,31 @@ next_position old new head records =
 -- ---- a piece
 
 -- a step behind the files of a tail
-pub appended : (tail : Kept) (payload : List ℕ) (old new : Files) (before : Stood Stack) (after : Stack) → tail.head.version ≡ 2 → Keeps tail (reading tail.head.version old) → stood_in old ≡ Some before
-    → payload_step before.state payload ≡ Some after → reading tail.head.version new ≡ with_payload payload (reading tail.head.version old)
+pub appended : (tail : Kept) (payload : List ℕ) (old new : Files) (before : Stood Stack) (after : Stack) → Keeps tail (reading is_any old) → stood_in old ≡ Some before
+    → payload_step before.state payload ≡ Some after → ReadsMore payload old new
     → stood_in new ≡ Some (record { at = next_place (position_of tail); state = after })
-appended tail payload old new before after two keeps is leads reads =
-    let at : before.at ≡ position_of tail = stands_at tail (reading 2 old) before (subst (λ (v : ℕ). Keeps tail (reading v old)) two keeps) is in
-    ap stood_by (subst (λ (v : ℕ). reading v new ≡ with_payload payload (reading v old)) two reads)
-    ∙ stood_more payload (reading 2 old) before after is leads
+appended tail payload old new before after keeps is leads more =
+    let at : before.at ≡ position_of tail = stands_at tail old before keeps is in
+    ap (λ (r : Result Found Fault). stood_by (led_found r)) (more is_present)
+    ∙ stood_more payload (reading is_present old) before after is leads
     ∙ (λ i. Some (record { at = next_place (at i); state = after }))
 
-pub appended_or_not : (tail : Kept) (payload : List ℕ) (old image : Files) (before : Stood Stack) (after : Stack) → tail.head.version ≡ 2 → Keeps tail (reading tail.head.version old) → stood_in old ≡ Some before
-    → payload_step before.state payload ≡ Some after → IsBeforeOrAfter tail.head.version payload old image → StandsEither before (record { at = next_place (position_of tail); state = after }) image
-appended_or_not tail payload old image before after two keeps is leads = ⊎_elim
-    (λ unchanged. inl (ap stood_by (subst (λ (v : ℕ). reading v image ≡ reading v old) two unchanged) ∙ is))
-    (λ more. inr (appended tail payload old image before after two keeps is leads more))
+pub appended_or_not : (tail : Kept) (payload : List ℕ) (old image : Files) (before : Stood Stack) (after : Stack) → Keeps tail (reading is_any old) → stood_in old ≡ Some before
+    → payload_step before.state payload ≡ Some after → IsBeforeOrAfter payload old image → StandsEither before (record { at = next_place (position_of tail); state = after }) image
+appended_or_not tail payload old image before after keeps is leads = ⊎_elim
+    (λ alike. inl (ap (λ (r : Result Found Fault). stood_by (led_found r)) (alike is_present) ∙ is))
+    (λ more. inr (appended tail payload old image before after keeps is leads more))
 
 -- a base in place of the current file
 pub turned : (file : Which) (whole : Whole) (new : Files) (after : Stack) → whole.head.version ≡ 2 → stack_in_file whole.head whole.body [] ≡ Ok after → ReadsNew file whole new
     → stood_in new ≡ Some (record { at = start_of whole.head.generation; state = after })
 turned file whole new after two leads reads =
-    ap (λ (v : ℕ). stood_by (reading v new)) (sym two) ∙ ap stood_by reads
+    ap (λ (r : Result Found Fault). stood_by (led_found r)) (reads is_present (ap is_present two))
+    ∙ ap stood_by (led_so (found_in file whole) two)
     ∙ ap (λ (r : Result Stack ℕ). option_map stood (option_map (leader_of whole.head whole.body []) (result_ok r))) leads
 
 pub turned_or_not : (file : Which) (whole : Whole) (old image : Files) (before : Stood Stack) (after : Stack) → whole.head.version ≡ 2 → stood_in old ≡ Some before → stack_in_file whole.head whole.body [] ≡ Ok after
     → IsOldOrNew file whole old image → StandsEither before (record { at = start_of whole.head.generation; state = after }) image
 turned_or_not file whole old image before after two is leads = ⊎_elim
-    (λ alike. inl (ap stood_by (alike 2) ∙ is))
+    (λ alike. inl (ap (λ (r : Result Found Fault). stood_by (led_found r)) (alike is_present) ∙ is))
     (λ new. inr (turned file whole image after two leads new))

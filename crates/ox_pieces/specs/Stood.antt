@@ -1,18 +1,34 @@
--- What two files hand out, where a store stands that has them, and the rules by which it goes on.
-use Rattle.std.specs.Prelude.{ℕ, List, map, Option, None, Result, Ok, Err}
+-- What two files of version 2 hand out, where a store stands that has them, and the rules by which
+-- it goes on.
+use Rattle.std.specs.Prelude.{ℕ, ◌==◌, List, map, Option, None, Result, Ok, Err, if◌then◌else◌}
 use Rattle.std.specs.Option.{option_map}
 use Rattle.std.specs.Result.{result_ok}
 use Rattle.ox_outside.specs.Files.{Files}
-use Rattle.ox_gated.specs.Reading.{Found, Fault, reading}
+use Rattle.ox_gated.specs.Layout.{version_at}
+use Rattle.ox_gated.specs.Reading.{Found, Fault, fault_at, is_present, reading}
 use Rattle.ox_gated.specs.declared.head.Head.{Head}
 use Rattle.ox_gated.specs.declared.records.Record.{Record}
 use Rattle.ox_model.specs.Stack.{Stack}
 use Rattle.ox_files.specs.Body.{stack_in_body}
 use Rattle.ox_files.specs.Payload.{payload_step}
-use Rattle.ox_files.specs.Stands.{stack_in_file}
+use Rattle.ox_files.specs.Stands.{Misfit, stack_in, stack_in_file}
 use Rattle.ox_follow.specs.World.{Leader, Rules, Stood, stood}
 
 -- ---- files
+
+-- a file of another version is at fault there, once its parts are read
+abbrev pub led_found : Result Found Fault → Result Found Fault
+led_found (Err fault) = Err fault
+led_found (Ok found) =
+    if found.head.version == 2 then Ok found else fault_at found.file version_at
+
+-- what is read of two files
+abbrev pub led_reading : Files → Result Found Fault
+led_reading files = led_found (reading is_present files)
+
+-- the stack that they stand for, or the file and the place of the first test that fails
+abbrev pub led_stands : Files → Result Stack Misfit
+led_stands files = stack_in (led_reading files)
 
 abbrev pub payloads_of : List Record → List (List ℕ)
 payloads_of records = map (λ one. one.payload) records
@@ -34,7 +50,7 @@ leader_by (Ok found) =
 
 -- the current file of two, if they stand for a stack
 abbrev pub leader_in : Files → Option (Leader Stack)
-leader_in files = leader_by (reading 2 files)
+leader_in files = leader_by (led_reading files)
 
 -- where a store with these files stands, and what they stand for
 abbrev pub stood_in : Files → Option (Stood Stack)

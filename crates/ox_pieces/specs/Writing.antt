@@ -2,7 +2,7 @@
 use Rattle.std.specs.Prelude.{◌≡◌, ◌⊎◌, ◌<◌, ℕ, List, [], length, Option, Some, None, Ok}
 use Rattle.ox_outside.specs.Files.{Files}
 use Rattle.ox_gated.specs.Layout.{Whole}
-use Rattle.ox_gated.specs.Tail.{Fits, Kept}
+use Rattle.ox_gated.specs.Tail.{Fits, IsFramedBehind, Kept}
 use Rattle.ox_gated.specs.declared.head.Head.{Head}
 use Rattle.ox_sat.specs.Profiles.{name_at, profile_named}
 use Rattle.ox_model.specs.Stack.{Stack}
@@ -22,15 +22,15 @@ pub record IsLater (old new : Head) : Type 0 where
   pub greater : old.generation < new.generation
   pub same : new ≡ record old { generation = new.generation }
 
--- It can be written behind this tail: the record fits, however many there are, or the file is of a
--- greater generation.
+-- It can be written behind this tail: the record is spelled for it and fits, however many there are,
+-- or the file is of a greater generation.
 abbrev pub CanFollow : Kept → Writing → Type 0
-CanFollow tail (Append payload) = Fits tail (length payload)
+CanFollow tail (Append framed) = IsFramedBehind tail framed × Fits tail (length framed.payload)
 CanFollow tail (Turn whole) = IsLater tail.head whole.head
 
 -- where files with this tail stand then
 abbrev pub position_behind : Kept → Writing → Position
-position_behind tail (Append payload) = next_place (position_of tail)
+position_behind tail (Append framed) = next_place (position_of tail)
 position_behind tail (Turn whole) = start_of whole.head.generation
 
 -- and that they stand for this stack
@@ -39,7 +39,7 @@ stood_behind tail stack writing = record { at = position_behind tail writing; st
 
 -- It leads from one stack to another: the payload does, or the file stands for the latter.
 abbrev pub LeadsTo : Stack → Stack → Writing → Type 0
-LeadsTo before after (Append payload) = payload_step before payload ≡ Some after
+LeadsTo before after (Append framed) = payload_step before framed.payload ≡ Some after
 LeadsTo before after (Turn whole) = stack_in_file whole.head whole.body [] ≡ Ok after
 
 -- the files stand where they stood, or where they stand once it is written

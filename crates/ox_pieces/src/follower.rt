@@ -5,8 +5,9 @@ ghost use Rattle.ox_outside.specs.Counts.{Rose, StopsAtFault};
 ghost use Rattle.ox_outside.specs.Runs.{OnlyLooks};
 ghost use Rattle.ox_gated.specs.Layout.{is_lawful};
 ghost use Rattle.ox_gated.specs.Tail.{Holds, IsSettled};
-ghost use Rattle.ox_files.specs.Stands.{stack_in_file, stands};
+ghost use Rattle.ox_files.specs.Stands.{stack_in_file};
 ghost use Rattle.ox_store.specs.Fault.{IsMisfit};
+ghost use Rattle.ox_pieces.specs.Stood.{led_stands};
 ghost use Rattle.ox_pieces.specs.Follower.{position_of};
 
 use crate::open::{Current, open_files};
@@ -43,8 +44,7 @@ impl Drop for Follower {
 impl Model for Follower {
     ghost use Rattle.std.specs.Coded.{codes};
     ghost use Rattle.std.specs.FinMap as map;
-    ghost use Rattle.ox_store.specs.Heads.{Names};
-    ghost use Rattle.ox_pieces.specs.Follower.{FollowerContents, position_of};
+    ghost use Rattle.ox_pieces.specs.Follower.{FollowerContents, NamesLed, position_of};
 
     ghost Value = { FollowerContents };
 
@@ -56,7 +56,7 @@ impl Model for Follower {
           tail = f.tail;
         } };
 
-    ghost invariant = { λ f. Names f.tail.head f.standing };
+    ghost invariant = { λ f. NamesLed f.tail.head f.standing };
 }
 
 /// Why a frame isn't taken.
@@ -93,15 +93,15 @@ impl Follower {
     /// does a crash leave anything that it didn't leave before.
     ///
     /// `NotStore` exactly where the files stand for nothing, with the file and the place of the
-    /// first test that fails; `DiskFault` only where a call on a file failed; `Memory` where there
-    /// is none for what the files hold.
+    /// first test that fails, or have version 3, with the place 6; `DiskFault` only where a call on
+    /// a file failed; `Memory` where there is none for what the files hold.
     pub fn open<S: Site>(alloc: Global, site: &mut S) -> Result<Follower, OpenFault>
         ensures stood { IsTrue (S.told site.old)
             → IfOk result (λ follower. stood_in (S.seen site.old) ≡ Some follower.mine) }
         ensures holds { IsTrue (S.told site.old)
             → IfOk result (λ follower. Holds S.Site follower.tail site.new) }
         ensures not_store { IsTrue (S.told site.old)
-            → IfErr result (IsMisfit (stands (S.seen site.old))) }
+            → IfErr result (IsMisfit (led_stands (S.seen site.old))) }
         ensures failed { IsErrOf result OpenFault.DiskFault
             → Rose (S.counts site.old).disk (S.counts site.new).disk }
         ensures counted { StopsAtFault (IsErrOf result OpenFault.DiskFault) ⊥ ⊥

@@ -7,9 +7,9 @@ ghost use Rattle.ox_outside.specs.Counts.{Rose, StopsAtFault};
 ghost use Rattle.ox_outside.specs.Runs.{OnlyLooks};
 ghost use Rattle.ox_gated.specs.Layout.{is_lawful};
 ghost use Rattle.ox_gated.specs.Tail.{IsSettled};
-ghost use Rattle.ox_files.specs.Stands.{stack_in_file, stands};
+ghost use Rattle.ox_files.specs.Stands.{stack_in_file};
 ghost use Rattle.ox_store.specs.Fault.{IsMisfit};
-ghost use Rattle.ox_pieces.specs.Stood.{leader_of as leader_as};
+ghost use Rattle.ox_pieces.specs.Stood.{leader_of as leader_as, led_stands};
 
 use crate::open::{Current, open_files};
 use crate::writing::LONGEST;
@@ -58,14 +58,14 @@ impl Leader {
     /// it didn't leave before.
     ///
     /// `NotStore` exactly where the files stand for nothing, with the file and the place of the
-    /// first test that fails; `DiskFault` only where a call on a file failed; `Memory` where there
-    /// is none for what the files hold, and where the body is 2^32 bytes or longer, which no store
-    /// writes.
+    /// first test that fails, or have version 3, with the place 6; `DiskFault` only where a call on
+    /// a file failed; `Memory` where there is none for what the files hold, and where the body is
+    /// 2^32 bytes or longer, which no store writes.
     pub fn open<S: Site>(alloc: Global, site: &mut S) -> Result<Leader, OpenFault>
         ensures leads { IsTrue (S.told site.old)
             → IfOk result (λ leader. leader_in (S.seen site.old) ≡ Some leader) }
         ensures not_store { IsTrue (S.told site.old)
-            → IfErr result (IsMisfit (stands (S.seen site.old))) }
+            → IfErr result (IsMisfit (led_stands (S.seen site.old))) }
         ensures failed { IsErrOf result OpenFault.DiskFault
             → Rose (S.counts site.old).disk (S.counts site.new).disk }
         ensures counted { StopsAtFault (IsErrOf result OpenFault.DiskFault) ⊥ ⊥

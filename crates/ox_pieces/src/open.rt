@@ -5,10 +5,10 @@ ghost use Rattle.ox_outside.specs.Counts.{Rose, StopsAtFault};
 ghost use Rattle.ox_outside.specs.Runs.{OnlyLooks};
 ghost use Rattle.ox_gated.specs.Layout.{is_lawful};
 ghost use Rattle.ox_gated.specs.Opened.{found_of};
-ghost use Rattle.ox_gated.specs.Reading.{reading};
 ghost use Rattle.ox_gated.specs.Tail.{Holds, IsSettled};
-ghost use Rattle.ox_files.specs.Stands.{stack_in, stack_in_file, stands};
+ghost use Rattle.ox_files.specs.Stands.{stack_in, stack_in_file};
 ghost use Rattle.ox_store.specs.Fault.{IsMisfit};
+ghost use Rattle.ox_pieces.specs.Stood.{led_found, led_reading, led_stands};
 
 use ox_checkpoint::{Standing, stand};
 use ox_gated::{Opened, Tail};
@@ -26,7 +26,7 @@ pub(crate) struct Current {
 /// Opens two files of version 2 and tests what they hold: see `Follower::open`.
 pub(crate) fn open_files<S: Site>(alloc: Global, site: &mut S) -> Result<Current, OpenFault>
     ensures found { IsTrue (S.told site.old)
-        → IfOk result (λ c. reading 2 (S.seen site.old) ≡ Ok (found_of c.opened)) }
+        → IfOk result (λ c. led_reading (S.seen site.old) ≡ Ok (found_of c.opened)) }
     ensures stack { IfOk result (λ c.
         stack_in_file c.opened.head c.opened.body c.opened.records ≡ Ok c.standing) }
     ensures head { IfOk result (λ c.
@@ -35,7 +35,7 @@ pub(crate) fn open_files<S: Site>(alloc: Global, site: &mut S) -> Result<Current
     ensures holds { IsTrue (S.told site.old)
         → IfOk result (λ c. Holds S.Site c.opened.tail site.new) }
     ensures not_store { IsTrue (S.told site.old)
-        → IfErr result (IsMisfit (stands (S.seen site.old))) }
+        → IfErr result (IsMisfit (led_stands (S.seen site.old))) }
     ensures failed { IsErrOf result OpenFault.DiskFault
         → Rose (S.counts site.old).disk (S.counts site.new).disk }
     ensures counted { StopsAtFault (IsErrOf result OpenFault.DiskFault) ⊥ ⊥
@@ -49,15 +49,30 @@ pub(crate) fn open_files<S: Site>(alloc: Global, site: &mut S) -> Result<Current
     }
 }
 
-/// What files that were read stand for.
+/// The version whose pieces are handed out and taken.
+const LED: u8 = 2;
+
+/// Where a file tells its version.
+const VERSION_AT: u64 = 6;
+
+/// What files that were read stand for, where their version is 2.
 fn judged(alloc: Global, opened: Opened) -> Result<Current, OpenFault>
     requires { IsTrue (is_lawful opened.head) }
     ensures opened { IfOk result (λ c. c.opened ≡ opened) }
+    ensures led { IfOk result (λ c.
+        (led_found (Ok (found_of opened)) ≡ Ok (found_of c.opened))
+        × (c.opened.head.version ≡ 2)) }
     ensures stack { IfOk result (λ c.
         stack_in_file opened.head opened.body opened.records ≡ Ok c.standing) }
-    ensures misfit { IfErr result (IsMisfit (stack_in (Ok (found_of opened)))) }
+    ensures misfit { IfErr result (IsMisfit (stack_in (led_found (Ok (found_of opened))))) }
     ensures not_disk { IsErrOf result OpenFault.DiskFault → ⊥ }
 {
+    if opened.head.version != LED {
+        return Err(OpenFault::NotStore {
+            file: opened.file,
+            at: VERSION_AT,
+        });
+    }
     match stand(alloc, &opened.head, &opened.body, &opened.records) {
         Ok(standing) => Ok(Current { opened, standing }),
         Err(unjudged) => Err(OpenFault::in_file(opened.file, unjudged)),

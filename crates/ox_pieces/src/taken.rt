@@ -27,7 +27,7 @@ pub struct Taken {
 impl Model for Taken {
     ghost use Rattle.std.specs.Coded.{codes};
     ghost use Rattle.std.specs.FinMap as map;
-    ghost use Rattle.ox_store.specs.Heads.{Names};
+    ghost use Rattle.ox_pieces.specs.Follower.{NamesLed};
     ghost use Rattle.ox_pieces.specs.Taken.{TakenPiece};
     ghost use Rattle.ox_pieces.specs.Writing.{CanFollow, stood_behind};
 
@@ -42,7 +42,7 @@ impl Model for Taken {
           writing = t.writing;
         } };
 
-    ghost invariant = { λ t. CanFollow t.tail t.writing × Names t.tail.head t.standing };
+    ghost invariant = { λ t. CanFollow t.tail t.writing × NamesLed t.tail.head t.standing };
 }
 
 impl Taken {

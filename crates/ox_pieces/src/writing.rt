@@ -4,12 +4,11 @@ ghost use Rattle.std.specs.Prelude.{◌≡◌, Some, IsTrue, IfOk, OnOk, OnErr, 
 ghost use Rattle.ox_outside.specs.Counts.{IsFailure, Rose, StopsAtFault};
 ghost use Rattle.ox_outside.specs.Runs.{LeavesOnly};
 ghost use Rattle.ox_gated.specs.Layout.{is_lawful};
-ghost use Rattle.ox_gated.specs.Tail.{Fits, Holds};
+ghost use Rattle.ox_gated.specs.Tail.{Fits, Holds, IsFramedBehind};
 ghost use Rattle.ox_gated.specs.Writes.{OnlyWrites};
 ghost use Rattle.ox_model.specs.Stack.{Stack};
 ghost use Rattle.ox_follow.specs.World.{Stood};
-ghost use Rattle.ox_store.specs.Heads.{Names};
-ghost use Rattle.ox_pieces.specs.Follower.{position_of};
+ghost use Rattle.ox_pieces.specs.Follower.{NamesLed, position_of};
 ghost use Rattle.ox_pieces.specs.Stood.{stood_in};
 ghost use Rattle.ox_pieces.specs.Writing.{CanFollow, IsFileOf, LeadsTo, StandsEither};
 ghost use Rattle.ox_pieces.specs.Writing.{position_behind, stood_behind};
@@ -17,15 +16,15 @@ ghost use Rattle.ox_pieces.specs.Writing.{position_behind, stood_behind};
 use ox_bytes::{Bytes, Memory};
 use ox_checkpoint::Standing;
 use ox_files::profile_of_head;
-use ox_gated::{Checkpoint, DiskFault, Framed, Head, Tail, checkpoint_of, frame};
+use ox_gated::{Checkpoint, DiskFault, Framed, Head, Tail, checkpoint_of};
 use ox_outside::Site;
 use std::alloc::Global;
 
 /// The greatest length of a body and of a payload.
 pub(crate) const LONGEST: usize = 0xffff_ffff;
 
-/// What is written of a piece. Contracts see the payload of the record, or the head and the body of
-/// the file.
+/// What is written of a piece. Contracts see the payload of the record and its bytes, or the head
+/// and the body of the file.
 #[derive(Drop)]
 pub(crate) enum Writing {
     /// A record behind those of the current file, however many they are.
@@ -43,8 +42,8 @@ impl Writing {
         requires version { tail.head.version ≡ 2 }
         requires holds { IsTrue (S.told site.old) → Holds S.Site tail site.old }
         ensures position { IfOk result (λ new. position_of new ≡ position_behind tail self.now) }
-        ensures names { (stack : Stack) → Names tail.head stack
-            → IfOk result (λ new. Names new.head stack) }
+        ensures names { (stack : Stack) → NamesLed tail.head stack
+            → IfOk result (λ new. NamesLed new.head stack) }
         ensures holds { IsTrue (S.told site.old)
             → IfOk result (λ new. Holds S.Site new site.new) }
         ensures stood { IsTrue (S.told site.old)
@@ -68,16 +67,17 @@ impl Writing {
     }
 }
 
-/// The record of a payload. `Memory` where it is too long for one, where the file has no room for
-/// it, and where there is none.
+/// The record of a payload, as the tail's file has it. `Memory` where it is too long for one, where
+/// the file has no room for it, and where there is none.
 pub(crate) fn record_of(alloc: Global, tail: &Tail, payload: &[u8]) -> Result<Framed, Memory>
-    ensures payload { IfOk result (λ framed. framed ≡ payload.now) }
-    ensures fits { IfOk result (λ framed. Fits tail.now (length framed)) }
+    ensures payload { IfOk result (λ framed. framed.payload ≡ payload.now) }
+    ensures framed { IfOk result (IsFramedBehind tail.now) }
+    ensures fits { IfOk result (λ framed. Fits tail.now (length framed.payload)) }
 {
-    if payload.len() > LONGEST || !tail.fits(payload.len() as u64) {
+    if !tail.fits(payload.len() as u64) {
         return Err(Memory);
     }
-    frame(alloc, payload)
+    tail.frame(alloc, &[], payload)
 }
 
 /// What a body stands for under this head, and the file of the two, without records; `None` exactly

@@ -1,5 +1,4 @@
 use Rattle.std.proofs.Common.{◌≡◌, ◌∙◌, List, Option, ap, inl, inr, refl, subst, sym}
-use Rattle.ox_files.specs.Stands.{stands}
 use Rattle.ox_follow.specs.World.{Stood}
 use Rattle.ox_model.specs.Stack.{Stack}
 use Rattle.ox_outside.proofs.Calls.{calls_then, leaves_weaker}
@@ -7,7 +6,7 @@ use Rattle.ox_outside.proofs.Log.{grows_same}
 use Rattle.ox_outside.specs.Log.{Grows}
 use Rattle.ox_outside.specs.Runs.{LeavesOnly}
 use Rattle.ox_pieces.proofs.StoodFiles.{stands_for_stood}
-use Rattle.ox_pieces.specs.Stood.{stood_in}
+use Rattle.ox_pieces.specs.Stood.{led_stands, stood_in}
 use Rattle.ox_app.specs.OneFrame.{RunFaults}
 use Rattle.ox_app.specs.Status.{IsFollowStatus, IsUnopened, open_status}
 use Rattle.ox_app.specs.Talks.{RunsTalk, follower_party}
@@ -40,8 +39,8 @@ returns-in-Ok g c =
           let stood = c.in-Ok.ensures.stood told in
           subst (λ (m : Stood Stack). LeavesOnly means old new (LeavesFrom means m old)) (same_some (stood_in (means.seen old)) began mine stood opened)
           (opened_then_survived means g.met.S.Site.logs_now began old mid new looks (talk.survives (looks.calls.as_told ∙ told) (ap stood_in looks.nothing.files ∙ stood)));
-      unopened = λ told misfit failed. no_misfit_stands (stands (means.seen old)) began.state misfit (stands_for_stood (means.seen old) began (c.in-Ok.ensures.stood told)) failed;
-      looks = λ told misfit failed. no_misfit_stands (stands (means.seen old)) began.state misfit (stands_for_stood (means.seen old) began (c.in-Ok.ensures.stood told)) failed;
+      unopened = λ told misfit failed. no_misfit_stands (led_stands (means.seen old)) began.state misfit (stands_for_stood (means.seen old) began (c.in-Ok.ensures.stood told)) failed;
+      looks = λ told misfit failed. no_misfit_stands (led_stands (means.seen old)) began.state misfit (stands_for_stood (means.seen old) began (c.in-Ok.ensures.stood told)) failed;
       not_store = λ is. absurd (follow_opened c.follow_frames.result talk.status is);
       status = inr talk.status;
       faults = faults_after means _ old mid new (opened_well c.in-Ok.follower _ _ c.in-Ok.ensures.counted) looks.calls.none_fell talk.faults;
@@ -57,7 +56,7 @@ returns-in-Err g c =
     let looks = c.open.ensures.looks in
     let is = sym c.from.ensures in record {
       follows = λ told mine opened. (
-        subst (λ (s : Status). s ≡ ends.NotStore → ⊥) is (no_misfit_there (stands (means.seen old)) mine.state c.in-Err.fault (stands_for_stood (means.seen old) mine opened) (c.in-Err.ensures.not_store told)),
+        subst (λ (s : Status). s ≡ ends.NotStore → ⊥) is (no_misfit_there (led_stands (means.seen old)) mine.state c.in-Err.fault (stands_for_stood (means.seen old) mine opened) (c.in-Err.ensures.not_store told)),
         subst (λ (s : Status). Grows (RunsTalk (follower_party mine) s) (log old) (log mid)) is
             (grows_same (RunsTalk (follower_party mine) (open_status c.in-Err.fault)) (log old) (log old) (log mid) (unopened_talk (follower_party mine) c.in-Err.fault (log old)) looks.nothing.as_logged),
       );

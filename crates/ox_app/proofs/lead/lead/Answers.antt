@@ -1,11 +1,10 @@
 use Rattle.std.proofs.Common.{◌≡◌, ◌∙◌, List, Option, ap, inl, inr, refl, subst, sym}
-use Rattle.ox_files.specs.Stands.{stands}
 use Rattle.ox_follow.specs.World.{Leader}
 use Rattle.ox_model.specs.Stack.{Stack}
 use Rattle.ox_outside.proofs.Calls.{calls_then}
 use Rattle.ox_outside.proofs.Log.{grows_same}
 use Rattle.ox_outside.specs.Log.{Grows}
-use Rattle.ox_pieces.specs.Stood.{leader_in}
+use Rattle.ox_pieces.specs.Stood.{leader_in, led_stands}
 use Rattle.ox_app.specs.Fold.{Anything}
 use Rattle.ox_app.specs.OneFrame.{RunFaults}
 use Rattle.ox_app.specs.Status.{IsLeadStatus, IsUnopened, open_status}
@@ -32,7 +31,7 @@ returns-in-Ok g c =
         subst (λ (l : Leader Stack). Grows (RunsTalk (leader_party l) c.answer_frames.result) (log old) (log new)) (same_some (leader_in (g.S.Site.seen old)) c.in-Ok.leader leader (c.in-Ok.ensures.leads told) opened)
             (grows_from (RunsTalk (leader_party c.in-Ok.leader) c.answer_frames.result) (log old) (log mid) (log new) looks.nothing.as_logged talk.told),
       );
-      unopened = λ told misfit failed. no_misfit_stands (stands (g.S.Site.seen old)) c.in-Ok.leader.state misfit (leader_stands (g.S.Site.seen old) c.in-Ok.leader (c.in-Ok.ensures.leads told)) failed;
+      unopened = λ told misfit failed. no_misfit_stands (led_stands (g.S.Site.seen old)) c.in-Ok.leader.state misfit (leader_stands (g.S.Site.seen old) c.in-Ok.leader (c.in-Ok.ensures.leads told)) failed;
       not_store = λ is. absurd (lead_opened c.answer_frames.result talk.status is);
       status = inr talk.status;
       faults = faults_after g.S.Site _ old mid new (opened_well c.in-Ok.leader _ _ c.in-Ok.ensures.counted) looks.calls.none_fell talk.faults;
@@ -48,7 +47,7 @@ returns-in-Err g c =
     let looks = c.open.ensures.looks in
     let is = sym c.from.ensures in record {
       leads = λ told leader opened. (
-        subst (λ (s : Status). s ≡ ends.NotStore → ⊥) is (no_misfit_there (stands (g.S.Site.seen old)) leader.state c.in-Err.fault (leader_stands (g.S.Site.seen old) leader opened) (c.in-Err.ensures.not_store told)),
+        subst (λ (s : Status). s ≡ ends.NotStore → ⊥) is (no_misfit_there (led_stands (g.S.Site.seen old)) leader.state c.in-Err.fault (leader_stands (g.S.Site.seen old) leader opened) (c.in-Err.ensures.not_store told)),
         subst (λ (s : Status). Grows (RunsTalk (leader_party leader) s) (log old) (log mid)) is
             (grows_same (RunsTalk (leader_party leader) (open_status c.in-Err.fault)) (log old) (log old) (log mid) (unopened_talk (leader_party leader) c.in-Err.fault (log old)) looks.nothing.as_logged),
       );

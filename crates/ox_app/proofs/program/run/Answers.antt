@@ -7,6 +7,7 @@ use Rattle.ox_model.specs.Replies.{after_on, replies, replies_on}
 use Rattle.ox_sat.specs.Profiles.{profile_named}
 use Rattle.ox_sat.specs.declared.profiles.Profile.{Profile}
 use Rattle.ox_sat.specs.declared.profiles.ProfileName.{ProfileName}
+use Rattle.ox_pieces.proofs.StoodFiles.{none_led}
 use Rattle.ox_app.specs.Drill.{RunsDrill, told_line}
 use Rattle.ox_app.specs.Fold.{fold_depth}
 use Rattle.ox_app.specs.Headline.{RunsFeed, StopsBefore, stack_after}
@@ -465,6 +466,8 @@ returns-in-Lead g c = record {
   door_fault = λ is. absurd ((not_talk c.lead.result (lead_otherwise c.lead.result c.lead.ensures.status)).door is);
   leads = λ words. record {
     leads = λ leader there. c.lead.ensures.leads there.told leader there.leads;
+    lead_unopened = λ misfit none. let opens = c.lead.ensures.unopened none.told misfit none.fails in
+        record { unopened = opens.0; unsaid = λ isnt. opens.1; opens_nothing = c.lead.ensures.looks };
     lead_unsaid = c.lead.ensures.not_store;
     lead_status = c.lead.ensures.status;
     lead_completes = λ leader there no_disk no_hear no_show.
@@ -474,7 +477,9 @@ returns-in-Lead g c = record {
   };
   follows = λ words. absurd (other_words words c.in-Lead.ensures refl);
   follow_survives = λ words. absurd (other_words words c.in-Lead.ensures refl);
-  unopened = λ opening misfit stood. let opens = c.lead.ensures.unopened stood.told misfit stood.fails in
+  unopened = λ opening misfit stood.
+      let none = none_led (g.S.Site.seen c.args.site.now) misfit stood.fails in
+      let opens = c.lead.ensures.unopened stood.told none.0 none.1 in
       record { unopened = opens.0; unsaid = λ isnt. opens.1; opens_nothing = c.lead.ensures.looks };
   not_store = λ no_migrate no_lead no_follow is. absurd (no_lead c.in-Lead.ensures);
   usage = λ unknown. absurd (unknown.no_lead c.in-Lead.ensures);
@@ -518,6 +523,8 @@ returns-in-Follow g c = record {
   follows = λ words. record {
     follows = λ mine there. c.follow.ensures.follows there.told mine there.stands;
     follow_in_turn = λ mine there. follows_in_turn g.S.Site mine c.args.site.now c.follow.new.site there.stands (c.follow.ensures.survives there.told mine there.stands);
+    follow_unopened = λ misfit none. let opens = c.follow.ensures.unopened none.told misfit none.fails in
+        record { unopened = opens.0; unsaid = λ isnt. opens.1; opens_nothing = c.follow.ensures.looks none.told misfit none.fails };
     follow_unsaid = λ is. (c.follow.ensures.not_store is).1;
     follow_status = c.follow.ensures.status;
     follow_completes = λ mine there no_disk no_hear no_show.
@@ -526,8 +533,10 @@ returns-in-Follow g c = record {
         (follow_done g.S.Site (follower_party mine) c.follow.result c.args.site.now c.follow.new.site follows.0 c.follow.ensures.faults no_disk no_hear no_show c.follow.ensures.status) follows.1;
   };
   follow_survives = λ words mine there. c.follow.ensures.survives there.told mine there.stands;
-  unopened = λ opening misfit stood. let opens = c.follow.ensures.unopened stood.told misfit stood.fails in
-      record { unopened = opens.0; unsaid = λ isnt. opens.1; opens_nothing = c.follow.ensures.looks stood.told misfit stood.fails };
+  unopened = λ opening misfit stood.
+      let none = none_led (g.S.Site.seen c.args.site.now) misfit stood.fails in
+      let opens = c.follow.ensures.unopened stood.told none.0 none.1 in
+      record { unopened = opens.0; unsaid = λ isnt. opens.1; opens_nothing = c.follow.ensures.looks stood.told none.0 none.1 };
   not_store = λ no_migrate no_lead no_follow is. absurd (no_follow c.in-Follow.ensures);
   usage = λ unknown. absurd (unknown.no_follow c.in-Follow.ensures);
   usage_status = λ unknown. absurd (unknown.no_follow c.in-Follow.ensures);

@@ -6,7 +6,8 @@ pub invariant_of-result : goal.invariant_of-result
 invariant_of-result c =
     let i = c.self.inside in
     let made = rw c.in-Accepted.is at c.in_ok-standing.ensures in
-    (c.in_ok-framed-in-Accepted.ensures.fits, names_step i.tail.head i.standing c.in-Accepted.standing c.args.payload.now c.self.invariant made)
+    let framed = c.in_ok-framed-in-Accepted.ensures in
+    ((framed.framed, framed.fits), record { version = c.self.invariant.version; names = names_step i.tail.head i.standing c.in-Accepted.standing c.args.payload.now c.self.invariant.names made })
 
 pub returns-in_ok-framed-in-Accepted-clause-taken : goal.returns-in_ok-framed-in-Accepted-clause-taken
 returns-in_ok-framed-in-Accepted-clause-taken c =
