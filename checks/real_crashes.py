@@ -4,14 +4,14 @@ leave of them at each moment, and has the program open it.
 
 The headline is proved of sites that keep a model of a disk. That the real site makes the calls that
 the model speaks of, in that order, on those files, no proof says. So this records, by strace, the
-calls of an `init`, an `apply`, also where the files turn, a `migrate`, a `drill` and a `serve`, and
-looks whether they keep the order that the proof is about (`faults_in`). Then it builds states of
-both files by docs/FORMATS.md, 'What a crash leaves of a file' (`Disk`), opens each, and compares
-what `/status` and `/audit` tell with the plain index (plain_index) of the lines that were answered,
-or of one more; some take a disconnect and a connect besides. Each sync and write of an `apply`
-fails once, by strace too, or is cut short. And records are altered: a sync is left out, a gate and
-its record are one write, an answer comes first, the other file is written or synced. Each has to be
-found, by its order and by its states.
+calls of an `init`, an `apply`, also where the files turn or have version 3, a `migrate`, a `drill`
+and a `serve`, and looks whether they keep the order that the proof is about (`faults_in`). Then it
+builds states of both files by docs/FORMATS.md, 'What a crash leaves of a file' (`Disk`), opens
+each, and compares what `/status` and `/audit` tell with the plain index (plain_index) of the lines
+that were answered, or of one more; some take a disconnect and a connect besides. Each sync and
+write of an `apply` fails once, by strace too, or is cut short. And records are altered: a sync is
+left out, a gate and its record are one write, an answer comes first, the other file is written or
+synced. Each has to be found, by its order and by its states.
 
 No real disk is tried, no sectors and no cache of a controller: what a disk does beyond the model
 isn't seen. strace is Debian's package, which is installed where it is missing; where that can't be
@@ -585,6 +585,21 @@ def making(trial):
     trial.wants([behind[0]._replace(answered=0)], lambda it: trial.opener.look(it, empty))
 
 
+def wants_applied(trial, stacks, commands, first, before):
+    """An `apply` of the commands behind so many first ones, over these files, keeps the order and
+    answers, and each state opens. How many whole files it writes."""
+    lines = commands[first : first + LINES]
+    # one that is refused
+    lines[3:3] = commands[:1]
+    code, told, calls = trial.recorder(before).run("apply", feed=b"".join(map(line_of, lines)))
+    wanted = b"".join(map(answer_of, stacks.all[first + 1 : first + LINES + 1]))
+    told = b"".join(line for line in told.splitlines(True) if line.startswith(b"ok"))
+    demand((code, told) == (0, wanted), f"it ended with {code} and {told}")
+    trial.wants_order(calls, before)
+    trial.wants(states_of(calls, before, trial.chance), trial.looks(stacks.since(first)))
+    return sum(call.what == "write" and call.at == 1 for call in calls)
+
+
 @every.check("an `apply` keeps the order, also where the files turn, and each state opens")
 def applying(trial):
     blocks = made_blocks.chain(110)
@@ -592,19 +607,19 @@ def applying(trial):
     stacks, turns = Stacks(commands, blocks), 0
     # from an empty store on, past the 65th command, and past the 130th, which fills the first file
     for first in (0, MOST_RECORDS - 4, 2 * MOST_RECORDS - 3):
-        lines = commands[first : first + LINES]
-        # one that is refused
-        lines[3:3] = commands[:1]
         before = files_of(commands[:first], "regtest", DEPTH)
-        ran = trial.recorder(before).run("apply", feed=b"".join(map(line_of, lines)))
-        wanted = b"".join(map(answer_of, stacks.all[first + 1 : first + LINES + 1]))
-        code, told, calls = ran
-        told = b"".join(line for line in told.splitlines(True) if line.startswith(b"ok"))
-        demand((code, told) == (0, wanted), f"it ended with {code} and {told}")
-        trial.wants_order(calls, before)
-        turns += sum(call.what == "write" and call.at == 1 for call in calls)
-        trial.wants(states_of(calls, before, trial.chance), trial.looks(stacks.since(first)))
+        turns += wants_applied(trial, stacks, commands, first, before)
     demand(turns == 2, f"the files turned {turns} times")
+
+
+@every.check("an `apply` of version 3 keeps the order behind 64 records too, and each state opens")
+def appending(trial):
+    blocks = made_blocks.chain(60)
+    commands, first = commands_on(blocks), MOST_RECORDS - 4
+    store = store_files.summed_store_of(commands[:first], "regtest", DEPTH)
+    before = store_files.bytes_in(store)
+    turns = wants_applied(trial, Stacks(commands, blocks), commands, first, before)
+    demand(not turns, "a whole file was written")
 
 
 @every.check("a `migrate` keeps the order, and each state is the old store or the new one")

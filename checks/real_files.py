@@ -55,6 +55,8 @@ LITTLE = 64_000_000
 # the bytes of a regtest store of depth 100 without a block, written out
 EMPTY_A = bytes.fromhex("016f786964780201640001000000000000001c00000000000000" + 29 * "00")
 EMPTY_B = bytes.fromhex("00")
+# the same of version 3
+EMPTY_SUMMED = bytes.fromhex(store_files.EMPTY_SUMMED)
 
 
 class Ox:
@@ -268,6 +270,30 @@ def turned(ox):
     ox.status_is(65, tips[64])
     ox.write(a, b"\0" + b[1:])
     ox.status_is(64, tips[63])
+
+
+@every.check("files of version 3 get record behind record, and one changed byte is no store")
+def summed(ox):
+    blocks, tips = chain(70)
+    ox.write(EMPTY_SUMMED, EMPTY_B)
+    for first, last in ((0, 3), (3, 70)):
+        wanted = b"".join(answer(height, tips) for height in range(first, last))
+        ox.wants((0, wanted), "apply", feed=b"".join(map(line, blocks[first:last])))
+        ox.has(*bytes_in(store_files.summed_store_of(map(payload_of, blocks[:last]))))
+        ox.status_is(last, tips[last - 1])
+    a, b = ox.files()
+    first = len(EMPTY_SUMMED) - 1
+    places = (1, 1), (6, 1), (10, 1), (25, 1), (26, 1), (58, 1), (89, 1), (90, 90), (first - 1, 90)
+    places += tuple((first + behind, first) for behind in (1, 8, 9, 40, 41, 100))
+    for at, told in places:
+        ox.write(a[:at] + bytes([a[at] ^ 4]) + a[at + 1 :], b)
+        for words in (("apply",), ("query", "/status")):
+            ox.wants((3, f"not a store a {told}\n".encode()), *words)
+    ox.write(a, b)
+    for word in ("lead", "follow"):
+        ox.wants((3, b""), word, feed=have(1, 0))
+    ox.wants((3, b"not a store a 6\n"), "migrate")
+    ox.has(a, b)
 
 
 @every.check("a block of nearly four million bytes is kept")
