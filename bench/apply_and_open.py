@@ -16,10 +16,11 @@ each for a block, and for each 65th those of a whole file. The two take turns, f
 that others who use the disk slow both; printed are all times, the least and the middle ones as
 commands a second, and the ratio. The files that were applied have to have the bytes that
 docs/FORMATS.md says. In the same way, sixty times, it times the 64 blocks between two whole files
-alone, which one `apply` hears. Then it times `query /status` five times over a store of OPENED
-blocks (10,000 without a word), over one of a tenth of them, and over an empty one. PROGRAM is
-crates/ox_main/out/ox_main without a word. Nothing here is proved. bench/all.py builds both
-programs.
+alone, which one `apply` hears. Beside a store of version 2 it times one of version 3: the feed, and
+the opening of 1,000,000 outputs, each in turns. Then it times `query /status` five times over a
+store of OPENED blocks (10,000 without a word), over one of a tenth of them, and over an empty one.
+PROGRAM is crates/ox_main/out/ox_main without a word. Nothing here is proved. bench/all.py builds
+both programs.
 """
 
 import array
@@ -42,7 +43,9 @@ sys.path.append(str(TOP / "checks"))
 
 from chain import SHORT, chain, line, payload_of  # noqa: E402
 from row_forms import Change, Index, Output  # noqa: E402
-from store_files import Disk, body_of, bytes_in, file_of, make, payload_on  # noqa: E402
+from store_files import CLOSED, SUMMED, VERSION, Disk, body_of, bytes_in  # noqa: E402
+from store_files import empty, file_of, files_of, make, payload_on  # noqa: E402
+from store_files import summed_store_of  # noqa: E402
 from tools.bitcoin import SUBSIDY, twice  # noqa: E402
 from tools.words import words_of
 
@@ -61,6 +64,8 @@ SMALL_TURNS, SMALL_GOAL = 60, 0.9
 # the seconds after which it looks again whether lines are answered
 LOOK = 0.0002
 GOAL, MOST_MEMORY, MOST_GROWTH = 0.5, 1.5, 1.3
+# how fast commands should be applied at version 3 by version 2, and how long an opening may take
+SUMMED_GOAL, SUMMED_MOST = 0.95, 1.4
 
 
 class Calls(Disk):
@@ -107,6 +112,13 @@ def time_run(command, **streams):
     if child.returncode:
         sys.exit(f"{command} ended with {child.returncode}")
     return seconds, usage.ru_utime + usage.ru_stime
+
+
+def make_summed(program, folder):
+    """The same of version 3."""
+    make_empty(program, folder)
+    body = empty(depth=DEPTH).body()
+    (folder / "a.ox").write_bytes(file_of("regtest", DEPTH, body, version=SUMMED))
 
 
 def time_apply(program, folder, feed, count, files):
@@ -236,6 +248,78 @@ def compare(program, top, count):
     print(f"apply took {1000 * min(works) / count:.3f} ms of processor time a command")
 
 
+def applying(program, folder):
+    """An `apply` that waits for lines."""
+    command = [program, folder, "apply"]
+    return subprocess.Popen(command, stdin=subprocess.PIPE, stdout=subprocess.PIPE)
+
+
+def compare_versions(program, top):
+    """Applies blocks to stores of both versions, some at a time in turns, so that both meet the
+    same disk: at version 2 one of each turn writes a whole file."""
+    blocks, tips = chain(TURN * SMALL_TURNS)
+    commands, folders = [*map(payload_of, blocks)], {}
+    for version, make_store in ((VERSION, make_empty), (SUMMED, make_summed)):
+        folders[version] = top / f"version {version}"
+        make_store(program, folders[version])
+    children = {version: applying(program, folder) for version, folder in folders.items()}
+    taken = {version: [] for version in children}
+    for first in range(0, len(blocks), TURN):
+        lines = [line(block) for block in blocks[first : first + TURN]]
+        told = (f"ok {at} {tips[at]}\n".encode() for at in range(first, first + TURN))
+        answers = b"".join(told)
+        for version, child in children.items():
+            taken[version].append(seconds_of_lines(child, lines, answers))
+    works = {}
+    for version, child in children.items():
+        child.stdin.close()
+        works[version] = os.wait4(child.pid, 0)[2]
+        child.returncode = 0
+    left = {VERSION: files_of(commands), SUMMED: bytes_in(summed_store_of(commands))}
+    for version, folder in folders.items():
+        if tuple((folder / name).read_bytes() for name in ("a.ox", "b.ox")) != left[version]:
+            sys.exit("the files aren't what docs/FORMATS.md says")
+    for which, of in ("least", min), ("all", statistics.mean), ("middle", statistics.median):
+        ours, plain = (TURN / of(taken[version]) for version in (SUMMED, VERSION))
+        print(
+            f"{which}: {ours:.0f} commands a second at version 3, {plain:.0f} at 2:"
+            f" {ours / plain:.2f} and at least {SUMMED_GOAL}",
+            flush=True,
+        )
+    size = f"{len(blocks):,} commands"
+    report("commands, version 3", size, "commands a second", ours, plain, SUMMED_GOAL)
+    for version, usage in works.items():
+        each = 1000 * (usage.ru_utime + usage.ru_stime) / len(blocks)
+        print(f"{each:.3f} ms of processor time a command at version {version}")
+
+
+def compare_openings(program, top):
+    """Opens a large store at both versions, in turns."""
+    outputs, kept, records = OUTPUTS[-1], KEPT[0], RECORDS[-1]
+    size, folders = f"{outputs:,} outputs, {kept:,} kept, {records} records", {}
+    for version in (VERSION, SUMMED):
+        folders[version] = folder = top / f"opened at {version}"
+        folder.mkdir()
+        given = folder / "a.ox", outputs, kept, records, version
+        made = in_another_process(large_stores.write_store, *given)
+        (folder / "b.ox").write_bytes(CLOSED)
+    taken = {version: [] for version in folders}
+    for _ in range(OPENINGS):
+        for version, folder in folders.items():
+            seconds, memory, shown = run([program, folder, "query", "/status"])
+            taken[version].append((seconds, memory))
+            if told_by("ox", shown) != made:
+                sys.exit(f"version {version} told {shown}")
+    (ours, memory), (plain, held) = (min(taken[version]) for version in (SUMMED, VERSION))
+    print(
+        f"{size}: version 3 {ours:.2f} s, version 2 {plain:.2f} s: {ours / plain:.2f} times and at"
+        f" most {SUMMED_MOST}; {memory / 1e6:.0f} and {held / 1e6:.0f} MB",
+        flush=True,
+    )
+    work = "a large store opened, version 3"
+    report(work, size, "ms", 1000 * ours, 1000 * plain, 1 / SUMMED_MOST)
+
+
 def time_query(program, folder, count, tip):
     """Opens the store some times and shows the middle times."""
     shown = folder / "shown"
@@ -357,7 +441,9 @@ def main():
         print(f"{program}, {os.cpu_count()} processors with a load of {load:.1f}, {kind}")
         # first, since a child's greatest memory is never below this one's
         open_all_large(program, top)
+        compare_openings(program, top)
         compare(program, top, applied)
+        compare_versions(program, top)
         compare_small(program, top)
         open_stores(program, top, opened)
 

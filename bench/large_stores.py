@@ -9,7 +9,7 @@ from tools.programs import TOP
 sys.path.append(str(TOP / "checks"))
 
 from row_forms import SPELLED, Change, Index, Output, number, outpoint, output  # noqa: E402
-from store_files import body_of, file_of, payload_on  # noqa: E402
+from store_files import VERSION, body_of, file_of, payload_on  # noqa: E402
 
 # how many outputs each of the first blocks has
 MANY = 50_000
@@ -53,7 +53,7 @@ def spelled(pair):
     return outpoint(at) + output(row)
 
 
-def write_store(path, outputs, kept, records):
+def write_store(path, outputs, kept, records, version=VERSION):
     """A file with a checkpoint of so many outputs, so many kept small blocks, and records of so
     many further ones. How many blocks there are, and the newest."""
     chance = random.Random(5)
@@ -67,5 +67,6 @@ def write_store(path, outputs, kept, records):
     came = [row for change in changes[:kept] for row in change.came]
     body = index_rows(hashes, sorted(map(spelled, rows[kept:] + came)))
     body += kept_rows(changes[:kept][::-1])
-    path.write_bytes(file_of("regtest", kept, body, map(payload_on, changes[kept:])))
+    payloads = map(payload_on, changes[kept:])
+    path.write_bytes(file_of("regtest", kept, body, payloads, version=version))
     return first + len(changes), changes[-1].hash[::-1].hex()
