@@ -5,12 +5,14 @@ import functools
 import os
 import pathlib
 import re
+import resource
 import shutil
+import signal
 import subprocess
 import sys
 import tempfile
 from collections.abc import Callable
-from typing import NamedTuple
+from typing import Any, NamedTuple
 
 from tools import children, kit
 from tools.build import Unbuilt, build
@@ -19,8 +21,11 @@ from tools.steps import Steps
 
 # how much memory one build may take, in bytes
 OF_A_BUILD = 2 << 30
-# how long one program may take over its rows, and one test, in seconds
-SECONDS = 120
+# how much of the processor one program may take over its rows, in seconds, and how long it and a
+# test may be at it where others work beside it
+SECONDS, CLOCK = 120, 900
+# what a try says to the address sanitizer: an index that `fold` leaves to its end is no fault
+SANITIZER = "detect_leaks=0:abort_on_error=1:allocator_may_return_null=1"
 # what `mypy --strict` looks at
 TYPED = ["ox", "tools", "service"]
 
@@ -106,18 +111,26 @@ def first_difference(got: bytes, wanted: bytes) -> str:
     return f"there are {len(left)} lines, and have to be {len(right)}"
 
 
+def limit() -> None:
+    """What a program over rows may take (`preexec_fn`)."""
+    resource.setrlimit(resource.RLIMIT_CPU, (SECONDS, SECONDS + 1))
+
+
 def fault_of_rows(name: str, program: pathlib.Path) -> str:
     """Why a program's rows fail; nothing where they pass."""
     crate = CRATES / name
     args = (crate / "args").read_text().split() if (crate / "args").exists() else []
     feed = str(crate / "stdin") if (crate / "stdin").exists() else os.devnull
+    how: dict[str, Any] = {"stdout": subprocess.PIPE, "timeout": CLOCK, "preexec_fn": limit}
     with tempfile.TemporaryDirectory() as folder, open(feed, "rb") as given:
         try:
             ran = subprocess.run(
-                [program, *args], cwd=folder, stdin=given, stdout=subprocess.PIPE, timeout=SECONDS
+                [program, *args], cwd=folder, stdin=given, env={"ASAN_OPTIONS": SANITIZER}, **how
             )
         except subprocess.TimeoutExpired:
-            return f"it took more than {SECONDS} seconds"
+            return f"it took more than {CLOCK} seconds"
+    if ran.returncode == -signal.SIGXCPU:
+        return f"it took more than {SECONDS} seconds of the processor"
     if ran.returncode:
         return f"it ended with {ran.returncode}"
     wanted = (crate / "stdout").read_bytes()
@@ -145,8 +158,8 @@ def tests_of(name: str, steps: Steps) -> Count:
         steps.tell(f"tests of {name}: {cause}")
         return Count(0, 1)
     runner = str(kit.place() / "bin" / "rattle-test")
-    words = [runner, "--seconds", str(SECONDS), str(quick_program(name))]
-    status, told = children.run(words)
+    words = [runner, "--seconds", str(CLOCK), str(quick_program(name))]
+    status, told = children.run(words, env={**os.environ, "ASAN_OPTIONS": SANITIZER})
     found = re.search(r"^test result: .*?(\d+) passed; (\d+) failed;", told, re.M)
     count = Count(int(found[1]), int(found[2])) if found else Count(0, 1)
     if status and not count.failed:
