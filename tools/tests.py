@@ -188,7 +188,14 @@ def weight(name: str) -> int:
 def beside_each_other(works: list[Work]) -> list[Count]:
     """What these count, several at once."""
     with concurrent.futures.ThreadPoolExecutor(at_once()) as pool:
-        return [one.result() for one in [pool.submit(work) for work in works]]
+        begun = [pool.submit(work) for work in works]
+        try:
+            return [one.result() for one in begun]
+        except BaseException:
+            # a signal, say: what is under way ends, and nothing else begins
+            pool.shutdown(wait=False, cancel_futures=True)
+            children.end_all()
+            raise
 
 
 def run(program: pathlib.Path) -> int:
