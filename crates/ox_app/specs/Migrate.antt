@@ -8,7 +8,7 @@ use Rattle.ox_outside.specs.Files.{Files}
 use Rattle.ox_outside.specs.Log.{Grows}
 use Rattle.ox_outside.specs.Runs.{LeavesOnly}
 use Rattle.ox_outside.specs.declared.site.Site.{Ghosts as Meanings}
-use Rattle.ox_gated.specs.OtherFile.{ReadsAlike}
+use Rattle.ox_gated.specs.Reading.{ReadsAlike}
 use Rattle.ox_gated.specs.Tail.{IsSettled}
 use Rattle.ox_rules.specs.Text.{refusal_line}
 use Rattle.ox_rules.specs.declared.refusal.Refusal.{Refusal}

@@ -3,7 +3,6 @@ use Rattle.std.proofs.Common.{◌≡◌, ◌∙◌, inl, inr, ⊎_elim, ℕ, suc
 use Rattle.std.specs.Prelude.{not, Option, Some, Result, Ok, Err, if◌then◌else◌}
 use Rattle.std.specs.Option.{option_map}
 use Rattle.std.specs.Result.{result_ok}
-use Rattle.std.proofs.lemmas.Bool.{ne_eqb}
 use Rattle.std.proofs.lemmas.List.{length-map}
 use Rattle.std.proofs.lemmas.Option.{same_Some}
 use Rattle.ox_outside.specs.Files.{Files, file_of}
@@ -83,11 +82,8 @@ led_fault read gates.DiskFault is = tt
 led_fault read (gates.NotStore file at before) is = ap led_found is
 led_fault read gates.Memory is = tt
 
-pub led_so : (found : Found) → found.head.version ≡ 2 → led_found (Ok found) ≡ Ok found
+led_so : (found : Found) → found.head.version ≡ 2 → led_found (Ok found) ≡ Ok found
 led_so found two = ap (λ (v : ℕ). by_version (v == 2) found) two
-
-pub not_led : (found : Found) → (found.head.version ≡ 2 → ⊥) → led_found (Ok found) ≡ fault_at found.file version_at
-not_led found other = ap (λ (two : Bool). by_version two found) (ne_eqb found.head.version 2 other)
 
 -- what stands for nothing isn't led
 pub none_led : (files : Files) (misfit : Misfit) → stands files ≡ Err misfit → (other : Misfit) × (led_stands files ≡ Err other)
