@@ -583,7 +583,7 @@ WRONG = {
         "crates/ox_sat/README.md",
         "\n| Promise | Carried by |\n|---|---|\n| a | `first`: `minted` |",
     ),
-    commands: ("docs/OPERATING.md", "Try `rt run -- out follow regtest`."),
+    commands: ("docs/OPERATING.md", "Try `rt run -- out obey regtest`."),
     links: ("docs/OPERATING.md", "See docs/FORMATS.md, 'Nothing of the kind'."),
     limits: (
         "docs/FORMATS.md",
@@ -617,6 +617,7 @@ PAGES = ["README.md", "docs/OPERATING.md", "service/README.md"]
 # the first words of lines that aren't run, and why
 NOT_RUN = [
     ("git clone ", "it wants an address"),
+    ("mkfifo |ox_main LEADER ", "it wants two stores: checks/real_files.py joins them"),
     ("./ox demo", "the gate runs it"),
     ("./ox test", "it runs this"),
     ("python3 service/ox_feed.py ", "it wants a node"),
