@@ -617,7 +617,6 @@ PAGES = ["README.md", "docs/OPERATING.md", "service/README.md"]
 # the first words of lines that aren't run, and why
 NOT_RUN = [
     ("git clone ", "it wants an address"),
-    ("mkfifo |ox_main LEADER ", "it wants two stores: checks/real_files.py joins them"),
     ("./ox demo", "the gate runs it"),
     ("./ox test", "it runs this"),
     ("python3 service/ox_feed.py ", "it wants a node"),
