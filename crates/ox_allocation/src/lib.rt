@@ -16,4 +16,3 @@ mod hands;
 mod laws;
 mod parts;
 mod rune_amounts;
-mod whole;
