@@ -24,10 +24,9 @@ pub struct OutPoint {
 /// By parts of the transaction's id, and the index.
 impl Sharded for OutPoint {
     ghost use Rattle.ox_block.specs.Keys.{outpoint_shard, outpoint_tag};
-    ghost use Rattle.ox_shards.specs.Keys.{id_shards};
     ghost use Rattle.ox_shards.specs.Laws.{ids_alike, ids_tagged};
 
-    ghost SHARDS = { id_shards };
+    ghost SHARDS = { 65536 };
 
     const SHARDS: usize = ID_SHARDS;
 

@@ -22,10 +22,10 @@ pub struct InsId {
 
 /// By parts of the id of the transaction that revealed the inscription, and the index.
 impl Sharded for InsId {
-    ghost use Rattle.ox_shards.specs.Keys.{id_shards, shard_of, tag_of};
+    ghost use Rattle.ox_shards.specs.Keys.{shard_of, tag_of};
     ghost use Rattle.ox_shards.specs.Laws.{ids_alike, ids_tagged};
 
-    ghost SHARDS = { id_shards };
+    ghost SHARDS = { 65536 };
 
     const SHARDS: usize = ID_SHARDS;
 

@@ -3,7 +3,6 @@ use Rattle.std.specs.Prelude.{◌≡◌, ◌<◌, ℕ, ◌==◌, ◌&&◌, Bool,
 use Rattle.std.specs.List.{list_any}
 use Rattle.std.specs.Option.{option_map_or}
 use Rattle.smallvec.specs.SmallVec.{SmallVec}
-use Rattle.ox_shards.specs.Keys.{id_shards}
 use Rattle.ox_outputs.specs.declared.entry.Entry.{Entry}
 
 -- the list with this index, or an empty one
@@ -12,7 +11,7 @@ items_at lists index = option_map_or (λ list. list.items) (slice_get lists inde
 
 -- there are no lists, or as many as shards of outpoints
 abbrev pub NoneOrAll : List (SmallVec Entry) → Type 0
-NoneOrAll lists = 0 < length lists → length lists ≡ id_shards
+NoneOrAll lists = 0 < length lists → length lists ≡ 65536
 
 -- whether a place stands in a list with this tag
 abbrev pub is_in : List Entry → ℕ → ℕ → Bool

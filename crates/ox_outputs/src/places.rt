@@ -3,7 +3,6 @@
 ghost use Rattle.std.specs.Prelude.{◌≡◌, ◌≢◌, ◌⊎◌, ℕ, Some, None, IfSome, IfNone, OnOk, OnErr};
 ghost use Rattle.std.specs.Prelude.{true, false, if◌then◌else◌, length};
 ghost use Rattle.std.specs.BTreeMap.{is_at};
-ghost use Rattle.ox_shards.specs.Keys.{id_shards};
 ghost use Rattle.ox_rules.specs.Outputs.{outpoint_cmp};
 ghost use Rattle.ox_block.specs.declared.block.OutPoint.{OutPoint};
 ghost use Rattle.ox_block.specs.Keys.{outpoint_tag};
@@ -189,7 +188,7 @@ fn drop_entries(list: &mut List, place: u32)
 fn ensure_lists(lists: &mut Vec<List>, alloc: Global) -> Result<(), Memory>
     requires shards { NoneOrAll lists.old.items }
     ensures shards { NoneOrAll lists.new.items }
-    ensures all { OnOk result (length lists.new.items ≡ id_shards) }
+    ensures all { OnOk result (length lists.new.items ≡ 65536) }
     ensures same { (index : ℕ) → items_at lists.new.items index
         ≡ items_at lists.old.items index }
 {

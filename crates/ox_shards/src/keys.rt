@@ -3,7 +3,7 @@
 ghost use Rattle.std.specs.Prelude.{◌≡◌, ℕ, ◌<◌, true};
 ghost use Rattle.std.specs.Ordering.{is_eq};
 ghost use Rattle.std.proofs.Common.{refl};
-ghost use Rattle.ox_shards.specs.Keys.{id_shards, shard_of, tag_of};
+ghost use Rattle.ox_shards.specs.Keys.{shard_of, tag_of};
 
 /// A key that says in which of so many shards of a map it stands.
 pub trait Sharded: Ord + Copy {
@@ -48,7 +48,7 @@ pub const ID_MOST: usize = 64;
 /// that what belongs to one transaction stands in as many shards.
 pub fn shard_of(id: &[u8; 32], index: u32) -> usize
     ensures value { result ≡ shard_of id.now index }
-    ensures in_range { result < id_shards }
+    ensures in_range { result < 65536 }
 {
     (usize::from(id[0]) * 256 + usize::from(id[1]) + index as usize) % ID_SHARDS
 }
