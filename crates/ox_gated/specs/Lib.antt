@@ -10,4 +10,5 @@ pub mod RecordLayout
 pub mod Spelled
 pub mod Tail
 pub mod Writes
+pub mod WritesOn
 pub mod Written

@@ -5,7 +5,8 @@ use Rattle.ox_gated.proofs.AppendKeepsTail.{first_within, fits_behind, framed_at
 use Rattle.std.proofs.lemmas.Result.{err_from_is_err_and}
 use Rattle.ox_outside.proofs.Counts.{no_fault_then, stops_after, stops_at_none, then_rose}
 use Rattle.ox_gated.proofs.OneWrite.{if_none, on_failed, on_none}
-use Rattle.ox_gated.proofs.Writing.{all_worked, ends_failed, writes_then}
+use Rattle.ox_gated.proofs.Writing.{all_worked, ends_failed}
+use Rattle.ox_gated.specs.WritesOn.{writes_then}
 use Rattle.ox_gated.proofs.tail.Tail.append.Goals as goal
 
 pub write_synced-requires : goal.write_synced-requires

@@ -8,7 +8,8 @@ use Rattle.ox_gated.specs.declared.head.Head.{Head}
 use Rattle.ox_gated.proofs.NewFiles.{stands_made, made_is, first_b, made_settled, made_keeps}
 use Rattle.std.proofs.lemmas.Result.{err_from_is_err_and}
 use Rattle.ox_outside.proofs.Counts.{file_call, no_fault_then, none_fell_then, stops_after, stops_at_none, then_rose}
-use Rattle.ox_gated.proofs.Writing.{writes_then, writes_call, all_worked, ends_failed}
+use Rattle.ox_gated.proofs.Writing.{writes_call, all_worked, ends_failed}
+use Rattle.ox_gated.specs.WritesOn.{writes_then}
 use Rattle.ox_gated.proofs.OneWrite.{file_worked, if_none, on_failed, on_none}
 use Rattle.ox_gated.proofs.tail.Tail.make.Goals as goal
 
