@@ -49,7 +49,7 @@ shut_parts (gate ∷ rest) some closed = (rest, ap (λ (g : ℕ). g ∷ rest) (e
 
 -- a tail beside which the other file is closed keeps the rest
 keeps_closed : (tail : Kept) (r : Result Found Fault) → Keeps tail r → Keeps (record tail { other_closed = true }) r
-keeps_closed tail (Ok found) keeps = record { file = keeps.file; head = keeps.head; records = keeps.records; gate = keeps.gate }
+keeps_closed tail (Ok found) keeps = record { file = keeps.file; head = keeps.head; first = keeps.first; records = keeps.records; gate = keeps.gate }
 keeps_closed tail (Err fault) keeps = absurd keeps
 
 -- of a write into this file that is synced
@@ -272,7 +272,7 @@ module _ {S : Type 0} (means : Meanings S) (both : KeptBoth) (body : List ℕ) (
           settled = settled_after were next _ (means.may_leave old) (means.may_leave new) (means.seen new) opened_is holds.current.settled wrote_next.durable wrote_next.others;
           some_a = some.0;
           some_b = some.1;
-          keeps = subst (Keeps (tail_of_other both.tail.file both.head both.gate)) (sym (open_reads is_any refl)) (record { file = refl; head = refl; records = refl; gate = holds.filled.gate_is });
+          keeps = subst (Keeps (tail_of_other both.tail.file both.head both.gate)) (sym (open_reads is_any refl)) (record { file = refl; head = refl; first = holds.filled.gate_is; records = refl; gate = holds.filled.gate_is });
           closed = sym (ap is_closed was ∙ now.why.opened);
         }
 

@@ -6,7 +6,8 @@ ghost use Rattle.ox_outside.specs.Counts.{IsFailure, Rose, StopsAtFault};
 ghost use Rattle.ox_outside.specs.Files.{file_of, other};
 ghost use Rattle.ox_outside.specs.Runs.{LeavesOnly};
 ghost use Rattle.ox_gated.specs.OtherFile.{BeginsShut, HoldsBoth, IsOldOrNew, IsSpared, ReadsNew};
-ghost use Rattle.ox_gated.specs.OtherFile.{MustTurn, filled_with, first_gate_at, tail_of_other};
+ghost use Rattle.ox_gated.specs.OtherFile.{MayTurn, MustTurn};
+ghost use Rattle.ox_gated.specs.OtherFile.{filled_with, first_gate_at, tail_of_other};
 ghost use Rattle.ox_gated.specs.Reading.{ReadsAlike};
 ghost use Rattle.ox_gated.specs.Tail.{Holds};
 ghost use Rattle.ox_gated.specs.Writes.{OnlyWrites};
@@ -14,6 +15,7 @@ ghost use Rattle.ox_gated.specs.Written.{with_open_gate};
 
 use crate::framed::Checkpoint;
 use crate::head::Head;
+use crate::layout::SUMMED_BODY_AT;
 use crate::tail::{DiskFault, Tail};
 use crate::two_pieces::write_pieces_synced;
 use crate::writes::write_synced;
@@ -49,8 +51,7 @@ pub struct Filled {
 
 impl Model for Filled {
     ghost use Rattle.std.specs.Prelude.{◌+◌, ◌<◌, ◌^◌, IsTrue};
-    ghost use Rattle.ox_gated.specs.Layout.{is_lawful, layout_of};
-    ghost use Rattle.ox_gated.specs.OtherFile.{KeptBoth};
+        ghost use Rattle.ox_gated.specs.OtherFile.{KeptBoth};
 
     ghost Value = { KeptBoth };
 
@@ -82,6 +83,19 @@ impl Tail {
         ensures { IsTrue result ↔ MustTurn self.now }
     {
         self.records() >= MOST_RECORDS && self.head().generation != u64::MAX
+    }
+
+    /// Whether it pays to put the other file in place of the current one, of version 3: that one has
+    /// 64 records or a multiple of that, which take at least half as many bytes as the body, gates
+    /// and sums among them, and its generation isn't the greatest.
+    pub fn is_turn_due(&self) -> bool
+        ensures { IsTrue result ↔ MayTurn self.now }
+    {
+        let body = self.first().saturating_sub(SUMMED_BODY_AT as u64);
+        let behind = self.gate().saturating_sub(self.first());
+        self.must_turn()
+            && self.records() % MOST_RECORDS == 0
+            && body.saturating_sub(behind) <= behind
     }
 
     /// Closes the other file, unless it is closed: then no call is made. At any moment of it each
@@ -222,6 +236,6 @@ impl Filled {
     {
         let file = other_file(self.tail.file());
         write_synced(site, file, 0, &[1])?;
-        Ok(Tail::at(file, self.head, 0, self.gate, false))
+        Ok(Tail::at(file, self.head, self.gate, 0, self.gate, false))
     }
 }
