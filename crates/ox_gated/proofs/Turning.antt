@@ -23,7 +23,7 @@ use Rattle.ox_gated.proofs.WholeFile.{opening, head_whole, body_whole}
 
 -- ---- the two files
 
-at_other : (files : Files) (file : Which) → file_of files (other (other file)) ≡ file_of files file
+pub at_other : (files : Files) (file : Which) → file_of files (other (other file)) ≡ file_of files file
 at_other files A = refl
 at_other files B = refl
 
@@ -31,7 +31,7 @@ stays_beside : (files : Files) (file : Which) (bytes : List ℕ) → file_of (wi
 stays_beside files A bytes = refl
 stays_beside files B bytes = refl
 
-both_some : (files : Files) (file : Which) → 1 ≤ length (file_of files file) → 1 ≤ length (file_of files (other file)) → (1 ≤ length files.a) × (1 ≤ length files.b)
+pub both_some : (files : Files) (file : Which) → 1 ≤ length (file_of files file) → 1 ≤ length (file_of files (other file)) → (1 ≤ length files.a) × (1 ≤ length files.b)
 both_some files A this that = (this, that)
 both_some files B this that = (that, this)
 

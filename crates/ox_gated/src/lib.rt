@@ -3,6 +3,7 @@
 #![tactic(auto)]
 
 mod fault;
+mod filling;
 mod framed;
 mod head;
 mod laws;
@@ -17,6 +18,7 @@ mod two_pieces;
 mod writes;
 
 pub use fault::{Before, GateFault, Halt};
+pub use filling::Filling;
 pub use framed::{Checkpoint, Framed, checkpoint_of, frame, frame_parts};
 pub use head::Head;
 pub use laws::{

@@ -5,6 +5,7 @@ ghost use Rattle.std.specs.Prelude.{IsTrue, IfOk, OnOk, OnErr};
 ghost use Rattle.ox_outside.specs.Counts.{IsFailure, Rose, StopsAtFault};
 ghost use Rattle.ox_outside.specs.Files.{file_of, other};
 ghost use Rattle.ox_outside.specs.Runs.{LeavesOnly};
+ghost use Rattle.ox_gated.specs.Layout.{is_lawful, layout_of};
 ghost use Rattle.ox_gated.specs.OtherFile.{BeginsShut, HoldsBoth, IsOldOrNew, IsSpared, ReadsNew};
 ghost use Rattle.ox_gated.specs.OtherFile.{MayTurn, MustTurn};
 ghost use Rattle.ox_gated.specs.OtherFile.{filled_with, first_gate_at, tail_of_other};
@@ -51,7 +52,8 @@ pub struct Filled {
 
 impl Model for Filled {
     ghost use Rattle.std.specs.Prelude.{◌+◌, ◌<◌, ◌^◌, IsTrue};
-        ghost use Rattle.ox_gated.specs.OtherFile.{KeptBoth};
+    ghost use Rattle.ox_gated.specs.Layout.{is_lawful, layout_of};
+    ghost use Rattle.ox_gated.specs.OtherFile.{KeptBoth};
 
     ghost Value = { KeptBoth };
 
@@ -67,7 +69,7 @@ impl Model for Filled {
 const MOST_RECORDS: u64 = 64;
 
 /// The file that isn't this one.
-fn other_file(file: Which) -> Which
+pub(crate) fn other_file(file: Which) -> Which
     ensures { result ≡ other file }
 {
     match file {
@@ -161,6 +163,14 @@ impl Tail {
 }
 
 impl Closed {
+    /// The tail.
+    pub(crate) fn into_tail(self) -> Tail
+        ensures tail { result ≡ self }
+        ensures closed { result.other_closed ≡ true }
+    {
+        self.tail
+    }
+
     /// Writes a file of this head and body, without records, behind the other file's closed gate,
     /// and syncs it. What an older, longer file had behind it stays there. At any moment of the
     /// call each crash leaves files that stand for what they stood for, whichever versions are
@@ -203,6 +213,17 @@ impl Closed {
 }
 
 impl Filled {
+    /// A tail beside which the other file is filled with this head, and a body that ends at this
+    /// gate.
+    pub(crate) fn beside(tail: Tail, head: Head, gate: u64) -> Filled
+        requires lawful { IsTrue (is_lawful head) }
+        requires generation { tail.head.generation < head.generation }
+        requires gate { gate < 2 ^ 63 + (layout_of head.version).body_at }
+        ensures { result ≡ record { tail = tail; head = head; gate = gate } }
+    {
+        Filled { tail, head, gate }
+    }
+
     /// Opens the other file, in a write of its own, and syncs it: it is current then, without a
     /// record. At any moment of the call each crash leaves files that stand for what they stood
     /// for, whichever versions are read, or for what the other file was filled with, where its
