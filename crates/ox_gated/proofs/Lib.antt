@@ -1,5 +1,4 @@
 mod AppendKeepsTail
-mod BehindGate
 mod Chain
 mod ChangedFiles
 mod ChangedRecords
@@ -7,7 +6,6 @@ mod ChoiceByFronts
 mod CurrentByFront
 mod CurrentRead
 mod CutRecords
-mod FilledByPieces
 mod LayoutLaws
 mod NewFiles
 pub mod OldReading
@@ -19,8 +17,6 @@ mod Picking
 mod Pieces
 mod RecordWrites
 mod Stands
-mod TakenPieces
 mod Turning
-mod TwoParts
 mod WholeFile
 pub mod Writing
