@@ -24,6 +24,7 @@ both programs.
 """
 
 import array
+import contextlib
 import fcntl
 import json
 import os
@@ -93,6 +94,22 @@ def kind_of_disk(folder):
         if inside and len(place) >= len(best[0]):
             best = (place, kind)
     return best[1]
+
+
+@contextlib.contextmanager
+def folder_on_disk(program):
+    """A new folder on a disk, for a program that is there: says on what it all runs."""
+    if not program.exists():
+        sys.exit(f"{program} isn't built")
+    out = TOP / "bench" / "out"
+    out.mkdir(exist_ok=True)
+    with tempfile.TemporaryDirectory(dir=out) as folder:
+        kind = kind_of_disk(folder)
+        if kind in ("tmpfs", "ramfs"):
+            sys.exit(f"{folder} is in memory, and not on a disk")
+        load = os.getloadavg()[0]
+        print(f"{program}, {os.cpu_count()} processors with a load of {load:.1f}, {kind}")
+        yield pathlib.Path(folder)
 
 
 def make_empty(program, folder):
@@ -428,17 +445,7 @@ def main():
     words.add_argument("program", nargs="?", type=pathlib.Path, default=PROGRAM)
     said = words.parse_args()
     applied, opened, program = said.applied, said.opened, said.program.resolve()
-    if not program.exists():
-        sys.exit(f"{program} isn't built")
-    out = TOP / "bench" / "out"
-    out.mkdir(exist_ok=True)
-    with tempfile.TemporaryDirectory(dir=out) as folder:
-        top = pathlib.Path(folder)
-        kind = kind_of_disk(top)
-        if kind in ("tmpfs", "ramfs"):
-            sys.exit(f"{top} is in memory, and not on a disk")
-        load = os.getloadavg()[0]
-        print(f"{program}, {os.cpu_count()} processors with a load of {load:.1f}, {kind}")
+    with folder_on_disk(program) as top:
         # first, since a child's greatest memory is never below this one's
         open_all_large(program, top)
         compare_openings(program, top)

@@ -22,11 +22,10 @@ import pathlib
 import shutil
 import subprocess
 import sys
-import tempfile
 import time
 
 import large_stores
-from apply_and_open import change_of, files_with, kind_of_disk, seconds_of_calls
+from apply_and_open import change_of, files_with, folder_on_disk, seconds_of_calls
 from fold_blocks import write_chain
 from runs import RUNS, in_another_process, report, run
 from tools.programs import TOP, proved_program
@@ -221,17 +220,7 @@ def main():
     words.add_argument("program", nargs="?", type=pathlib.Path, default=PROGRAM)
     said = words.parse_args()
     program = said.program.resolve()
-    if not program.exists():
-        sys.exit(f"{program} isn't built")
-    out = TOP / "bench" / "out"
-    out.mkdir(exist_ok=True)
-    with tempfile.TemporaryDirectory(dir=out) as folder:
-        top = pathlib.Path(folder)
-        kind = kind_of_disk(top)
-        if kind in ("tmpfs", "ramfs"):
-            sys.exit(f"{top} is in memory, and not on a disk")
-        load = os.getloadavg()[0]
-        print(f"{program}, {os.cpu_count()} processors with a load of {load:.1f}, {kind}")
+    with folder_on_disk(program) as top:
         # first, since a child's greatest memory is never below this one's
         follow_base(program, top, said.outputs)
         follow_blocks(program, top, said.blocks)
