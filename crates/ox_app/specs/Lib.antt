@@ -5,9 +5,9 @@
 -- leaves of it, Drill the same of a drill, and Migrate of a migration. Talks is of runs that hear
 -- and show frames, and Follow of what a crash leaves of a follower. Stacks says of any stack what
 -- Headline and Serve say of a machine's, and AnyRuns joins runs one after the other. For the
--- functions below `run`, Fold and Apply are of single lines, Carry of what a line asks for, OneFrame
--- of single frames, Turns of a server's turns over any desk, and Along of how that desk goes along
--- their answers.
+-- functions below `run`, Fold and Apply are of single lines, Carry of what a line asks for,
+-- OneFrame of single frames, Turns of a server's turns over any desk, and Along of how that desk
+-- goes along their answers.
 pub mod Headline
 pub mod Promises
 pub mod Subcommands

@@ -1,6 +1,6 @@
 -- What two files of version 1 stand for, where a file of a later version is to take the place of
--- the current one: the stack that their commands lead to, and how many they are; or the file and the
--- place of the first test that fails; or a command that the present rules refuse. The body is
+-- the current one: the stack that their commands lead to, and how many they are; or the file and
+-- the place of the first test that fails; or a command that the present rules refuse. The body is
 -- empty, and a record's payload is that of a command.
 use Rattle.std.specs.Prelude.{ℕ, ◌+◌, ◌==◌, List, [], ◌∷◌, length, Option, Some, None}
 use Rattle.std.specs.Prelude.{Result, Ok, Err, if◌then◌else◌}

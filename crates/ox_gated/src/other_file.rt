@@ -76,8 +76,8 @@ fn other_file(file: Which) -> Which
 }
 
 impl Tail {
-    /// Whether the next record has to come into the other file: the current one has 64 records or
-    /// more, and its generation isn't the greatest.
+    /// Whether the current file has 64 records or more, and its generation isn't the greatest: at
+    /// version 2 the next record has to come into the other file then.
     pub fn must_turn(&self) -> bool
         ensures { IsTrue result ↔ MustTurn self.now }
     {

@@ -22,8 +22,8 @@ pub record IsLater (old new : Head) : Type 0 where
   pub greater : old.generation < new.generation
   pub same : new ≡ record old { generation = new.generation }
 
--- It can be written behind this tail: the record is spelled for it and fits, however many there are,
--- or the file is of a greater generation.
+-- It can be written behind this tail: the record is spelled for it and fits, however many there
+-- are, or the file is of a greater generation.
 abbrev pub CanFollow : Kept → Writing → Type 0
 CanFollow tail (Append framed) = IsFramedBehind tail framed × Fits tail (length framed.payload)
 CanFollow tail (Turn whole) = IsLater tail.head whole.head
