@@ -3,6 +3,7 @@ pub mod BalanceLemmas
 pub mod Counting
 pub mod Dealt
 pub mod FormLemmas
+pub mod Gathering
 pub mod Giving
 pub mod Handing
 pub mod Holders
@@ -10,6 +11,7 @@ pub mod Ids
 pub mod LawLemmas
 pub mod Owing
 pub mod Sums
+pub mod Unasked
 pub mod PartLemmas
 pub mod Rests
 pub mod Sorting

@@ -78,6 +78,14 @@ abbrev pub with_rest : List TxOut → Allocation → Option ℕ → List Balance
 with_rest outputs hands (Some place) left = with_gifts outputs hands (gifts_for place left)
 with_rest outputs hands None left = record hands { burned = with_all hands.burned left }
 
+-- all of a pool in the hand of an heir's output, or burned where that has OP_RETURN or there is none
+abbrev pub whole_of : List TxOut → Option ℕ → List Balance → Allocation
+whole_of outputs None pool = record { given = replicate (length outputs) []; burned = pool }
+whole_of outputs (Some place) pool =
+    if burns (slice_get outputs place)
+    then record { given = replicate (length outputs) []; burned = pool }
+    else record { given = slice_set (replicate (length outputs) []) place pool; burned = [] }
+
 -- what is left of each rune without so much of one
 abbrev pub less : List Balance → RuneId → ℕ → Left
 less left id amount other =

@@ -7,6 +7,7 @@ ghost use Rattle.ox_allocation.specs.Allocation.{allocation_of};
 use crate::balances::{Balances, Pool};
 use crate::deal::{Deal, holders_of};
 use crate::hands::Hands;
+use crate::whole::{give_whole, heir_of};
 use ox_block::TxOut;
 use ox_bytes::{List, Memory};
 use ox_runestone::{Edict, RuneId};
@@ -41,8 +42,13 @@ pub fn allocate(
     ensures burned { IfOk result (λ a.
         a.burned ≡ (allocation_of pool edicts.now etched pointer outputs.now).burned) }
 {
+    if edicts.is_empty() {
+        let heir = heir_of(alloc, pointer, outputs)?;
+        return give_whole(alloc, pool, heir, outputs);
+    }
     let holders = holders_of(alloc, outputs)?;
-    let mut deal = Deal::new(alloc, pool, Hands::empty(alloc, outputs)?, &holders);
+    let left = pool.into_amounts(alloc)?;
+    let mut deal = Deal::new(alloc, left, Hands::empty(alloc, outputs)?, &holders);
     deal.follow_all(etched, edicts)?;
     let heir = match pointer {
         Some(place) => Some(place as usize),

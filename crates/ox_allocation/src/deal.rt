@@ -4,11 +4,10 @@ ghost use Rattle.std.specs.Prelude.{◌≡◌, ◌≤◌, ◌<◌, ◌*◌, [], 
 ghost use Rattle.std.specs.Option.{ForSome};
 ghost use Rattle.ox_allocation.specs.Balances.{amount_in};
 ghost use Rattle.std.specs.List.{AllByRecursion};
-ghost use Rattle.ox_allocation.specs.Dealing.{empty_hands, Gives, with_rest};
+ghost use Rattle.ox_allocation.specs.Dealing.{empty_hands, Gives, IsPool, with_rest};
 ghost use Rattle.ox_allocation.specs.Gifts.{given_by, gifts_by, gifts_of_all, gifts_to};
 ghost use Rattle.ox_allocation.specs.Gifts.{holders as holders_in, parts_of, rune_of};
 
-use crate::balances::Pool;
 use crate::hands::Hands;
 use crate::parts::{Parts, sum_for_each};
 use crate::rune_amounts::Amounts;
@@ -75,15 +74,21 @@ impl<'a> Model for Deal<'a> {
 
 impl<'a> Deal<'a> {
     /// A pool of which nothing has been given yet, for outputs of which these can hold runes.
-    pub(crate) fn new(alloc: Global, pool: Pool, hands: Hands<'a>, holders: &'a [usize]) -> Deal<'a>
+    pub(crate) fn new(
+        alloc: Global,
+        left: Amounts,
+        hands: Hands<'a>,
+        holders: &'a [usize],
+    ) -> Deal<'a>
+        requires left { IsPool left }
         requires hands { hands.hands ≡ empty_hands (length hands.outputs) }
         requires holders { holders.now ≡ holders_in hands.outputs }
         ensures outputs { result.outputs ≡ hands.entry.outputs }
-        ensures left { result.left ≡ pool }
+        ensures left { result.left ≡ left }
         ensures hands { result.hands ≡ hands.entry.hands }
     {
         Deal {
-            left: pool.into_amounts(),
+            left,
             hands,
             holders,
             owed: Amounts::new(alloc),

@@ -16,3 +16,4 @@ mod hands;
 mod laws;
 mod parts;
 mod rune_amounts;
+mod whole;
