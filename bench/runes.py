@@ -7,7 +7,8 @@ makes etchings whose premine goes to 10,000 outputs each until as many outputs h
 number says (100,000 and 1,000,000 without a word), and then a block of 2,000 transactions that each
 spend one of those: all with a runestone that gives a part to another output, all with a cenotaph,
 or without either; a block of 2,000 transactions that spend none of them; and one of an etching
-whose tapscript has 3,900,000 pushes. `ox_speed` and the plain program, which has hash maps and a
+whose tapscript has 3,900,000 pushes. Blocks of 1,500 and 15,000 etchings, each of which spends what
+the last one left, so that its output holds a rune more, are done over no others. `ox_speed` and the plain program, which has hash maps and a
 list of changes to go back by, run in turn, three times; each does the block and takes it back, as
 often as it is told. It prints the processor time of a block and of a look-up, and the memory that
 an output with runes takes. Nothing here is proved. bench/all.py builds both programs.
@@ -27,6 +28,7 @@ EACH = 10_000
 IN_A_BLOCK = 10
 LEAST_BLOCKS = 8
 SPENDS = 2_000
+ETCHINGS = 1_500, 15_000
 LOOKS = 5
 KINDS = {
     "runestones": 200,
@@ -105,37 +107,62 @@ def write_feeds(folder, outputs):
     return len(filled)
 
 
+def write_etchings(path, count):
+    """A block of so many etchings, each of which spends what the last one left."""
+    chance = random.Random(5)
+    txs, origin = [], (chance.randbytes(32), 0)
+    for _ in range(count):
+        body, txid = worthless(origin, [key(chance), runestone(2, 1, 6, 1)])
+        txs.append(body)
+        origin = txid, 0
+    with open(path, "wb") as feed:
+        put_block(feed, chance, txs)
+
+
 def measure(feed, times, looks):
     """The seconds and memory of each program."""
     counts = [str(times), str(looks)]
     return least({name: [*words, *counts] for name, words in PROGRAMS.items()}, feed)
 
 
-def tell(what, outputs, unit, values):
+def tell(what, size, unit, values):
     ox, plain = (values[name] for name in ("ox", "plain"))
     print(
         f"    {what}: {ox:.2f} {unit}, plain Rust {plain:.2f} {unit}, {ox / plain:.2f} times",
         flush=True,
     )
-    report(what, f"{outputs:,} outputs", unit, ox, plain)
+    report(what, size, unit, ox, plain)
+
+
+def tell_etchings():
+    for count in ETCHINGS:
+        with tempfile.TemporaryDirectory() as folder:
+            feed = pathlib.Path(folder) / "feed"
+            write_etchings(feed, count)
+            base, done = measure(feed, 0, 0), measure(feed, 1, 0)
+        print(f"{count:,} etchings")
+        took = {name: done[name][0] - base[name][0] for name in PROGRAMS}
+        tell("a block of runes: etchings in turn", f"{count:,} etchings", "s", took)
 
 
 def main():
+    tell_etchings()
     for outputs in numbers(__doc__, "OUTPUTS", [100_000, 1_000_000], "outputs with runes"):
         with tempfile.TemporaryDirectory() as folder:
             folder = pathlib.Path(folder)
             filled = in_another_process(write_feeds, folder, outputs)
-            print(f"{outputs:,} outputs hold runes")
+            size = f"{outputs:,} outputs"
+            print(f"{size} hold runes")
             for kind, times in KINDS.items():
                 base, done = measure(folder / kind, 0, 0), measure(folder / kind, times, 0)
                 took = {name: (done[name][0] - base[name][0]) / times * 1e3 for name in PROGRAMS}
-                tell(f"a block of runes: {kind}", outputs, "ms", took)
+                tell(f"a block of runes: {kind}", size, "ms", took)
             looked, base = (measure(folder / "no runes", 0, looks) for looks in (LOOKS, 0))
             each = LOOKS * outputs / 1e6
             took = {name: (looked[name][0] - base[name][0]) / each for name in PROGRAMS}
-            tell("a look-up of balances", outputs, "microseconds", took)
+            tell("a look-up of balances", size, "microseconds", took)
             memory = {name: (base[name][1] - filled) / outputs for name in PROGRAMS}
-            tell("the most memory an output with runes", outputs, "bytes", memory)
+            tell("the most memory an output with runes", size, "bytes", memory)
 
 
 if __name__ == "__main__":
