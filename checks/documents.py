@@ -534,9 +534,9 @@ def logic(repository):
         for said in re.findall(r"logic `([0-9a-f]+)`", line):
             if said != there:
                 yield "README.md", number, f"the kit's logic is {there}, and no {said}"
-        for said in re.findall(r"`(rattle-kit-\w+)`", line):
-            if said != kit:
-                print(f"note: README.md names {said}, and {kit} is here")
+        named = re.findall(r"`(rattle-kit-\w+)`", line)
+        if named and kit not in named:
+            print(f"note: README.md names {' and '.join(named)}, and {kit} is here")
 
 
 def columns(repository):

@@ -4,8 +4,8 @@ import os
 import pathlib
 import shutil
 
-# the kit that the recipe of tools/build.py was tried with
-TRIED = "rattle-kit-13f"
+# the kits that the recipe of tools/build.py was tried with
+TRIED = "rattle-kit-13b", "rattle-kit-13f"
 
 
 class NoKit(Exception):
@@ -17,8 +17,8 @@ def place() -> pathlib.Path:
     found = shutil.which("rt")
     if found is None:
         raise NoKit(
-            f"there is no `rt` here: install Rattle's kit ({TRIED}), put its folder bin/ into PATH,"
-            " and begin again"
+            f"there is no `rt` here: install Rattle's kit ({TRIED[-1]}), put its folder bin/ into"
+            " PATH, and begin again"
         )
     return pathlib.Path(os.path.realpath(found)).parents[1]
 
@@ -29,11 +29,11 @@ def identity() -> str:
 
 
 def usable(any_kit: bool) -> pathlib.Path:
-    """The kit's folder, where it is the one that the recipe was tried with, or any will do."""
+    """The kit's folder, where it is one that the recipe was tried with, or any will do."""
     folder, name = place(), identity().split()[0]
-    if name != TRIED and not any_kit:
+    if name not in TRIED and not any_kit:
         raise NoKit(
-            f"`rt` is of {name}, and this build was tried with {TRIED}: install that one, or try"
-            " `./ox build --any-kit`, or make the proved program by `./ox prove`"
+            f"`rt` is of {name}, and this build was tried with {' and '.join(TRIED)}: install one"
+            " of these, or try `./ox build --any-kit`, or make the proved program by `./ox prove`"
         )
     return folder
