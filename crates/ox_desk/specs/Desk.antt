@@ -47,6 +47,7 @@ no_store = record {
   tail = record {
     file = A;
     head = first_head Mainnet 1;
+    first = 0;
     records = 0;
     gate = 0;
     other_closed = false;

@@ -9,7 +9,8 @@ use Rattle.ox_outside.proofs.Calls.{leaves_at_first, looks_none}
 use Rattle.ox_outside.proofs.Counts.{no_fault_yet, stops_after, stops_as, stops_at_none, then_rose, went_on}
 use Rattle.ox_feed.specs.declared.command.Command.{Command}
 use Rattle.ox_gated.specs.Writes.{OnlyWrites}
-use Rattle.ox_gated.proofs.Writing.{writes_looking, writes_then}
+use Rattle.ox_gated.proofs.Writing.{writes_looking}
+use Rattle.ox_gated.specs.WritesOn.{writes_then}
 use Rattle.ox_rules.specs.declared.refusal.Refusal.{Refusal}
 use Rattle.ox_model.specs.Machine.{stack_of}
 use Rattle.ox_model.specs.Replies.{after_by, after_commands_on, after_turn}

@@ -144,6 +144,7 @@ keeps_ok payload tail now found size k size_is is =
     record {
       file = k.file;
       head = k.head;
+      first = k.first;
       records = ap (λ (n : ℕ). n + 1) k.records ∙ sym (length_push found.records (record { place = found.gate; payload = payload }));
       gate = λ i. k.gate i + size_is i;
     }

@@ -1,4 +1,5 @@
 mod AppendKeepsTail
+mod BehindGate
 mod Chain
 mod ChangedFiles
 mod ChangedRecords
@@ -6,6 +7,7 @@ mod ChoiceByFronts
 mod CurrentByFront
 mod CurrentRead
 mod CutRecords
+mod FilledByPieces
 mod LayoutLaws
 mod NewFiles
 pub mod OldReading
@@ -17,6 +19,8 @@ mod Picking
 mod Pieces
 mod RecordWrites
 mod Stands
+mod TakenPieces
 mod Turning
+mod TwoParts
 mod WholeFile
 pub mod Writing

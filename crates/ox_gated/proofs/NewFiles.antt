@@ -60,5 +60,5 @@ made_settled m1 m2 m3 m4 s1 s4 only_b follows others3 others4 only_a same r left
     let a : r.files.a ≡ s4.a = only_a r left in
     λ i. record { a = a i; b = b i }
 
-pub made_keeps : (head : Head) (body : List ℕ) (size : ℕ) → size ≡ first_gate_at head body → KeepsFound (record { file = A; head = head; records = 0; gate = size; other_closed = true }) (new_found (record { head = head; body = body }))
-made_keeps head body size is = record { file = refl; head = refl; records = refl; gate = is }
+pub made_keeps : (head : Head) (body : List ℕ) (size : ℕ) → size ≡ first_gate_at head body → KeepsFound (record { file = A; head = head; first = size; records = 0; gate = size; other_closed = true }) (new_found (record { head = head; body = body }))
+made_keeps head body size is = record { file = refl; head = refl; first = is; records = refl; gate = is }

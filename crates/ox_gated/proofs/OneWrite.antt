@@ -9,7 +9,7 @@ use Rattle.ox_outside.specs.Runs.{LeavesOnly, OnlyLooks}
 use Rattle.ox_outside.specs.declared.site.Site.{Ghosts as Meanings}
 use Rattle.ox_outside.specs.declared.site.Which.{Which}
 use Rattle.ox_outside.specs.declared.site.Which.TheVariants.{A, B}
-use Rattle.ox_outside.proofs.Calls.{no_call, one_call, leaves_at_first, leaves_on, looks_call, looks_none}
+use Rattle.ox_outside.proofs.Calls.{one_call, leaves_at_first, leaves_on, looks_call, looks_none}
 use Rattle.ox_outside.proofs.Counts.{file_call, stops_as, then_rose, went_on}
 use Rattle.ox_gated.specs.declared.fault.Halt.{Halt}
 use Rattle.ox_gated.specs.declared.fault.Halt.TheVariants as halts
@@ -58,15 +58,7 @@ pub durable_then : {T E : Type 0} (result : Result T E) (file : Which) (may_leav
 durable_then result file may_leave mid new same durable = subst (λ (f : Files). OnOk result (Only file (file_of f file) may_leave)) (sym same) durable
 
 module _ {S : Type 0} (means : Meanings S) (only_now : (site : S) (r : Remains) → means.left_since site (means.clock site) r → means.may_leave site r) where
-  -- before the first call of a run that only writes
-  pub writes_none : (logs_now : (site : S) (r : Remains) → means.may_leave site r → means.log site ≡ Some r.log) (site : S) → OnlyWrites means site site
-  writes_none logs_now site = record {
-    calls = no_call means site;
-    as_logged = refl;
-    moments = leaves_at_first means site _ (λ r left. logs_now site r (only_now site r left));
-  }
-
-  -- and after it
+  -- a run of one call that only writes
   pub writes_one : (logs_now : (site : S) (r : Remains) → means.may_leave site r → means.log site ≡ Some r.log) (old new : S) → means.log new ≡ means.log old → OneCall means.told means.counts means.clock means.may_leave means.left_since old new → OnlyWrites means old new
   writes_one logs_now old new same call = record {
     calls = one_call means old new call;

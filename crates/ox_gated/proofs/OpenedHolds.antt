@@ -38,7 +38,7 @@ module _ (files : Files) (file : Which) (opening : Opening) (picks : choice_of f
       let some = choice_some files.a files.b (file, opening) picks in
       let reads : reading is_any files ≡ Ok (found_of o) = reading_is ∙ is in
       let of = (current_ok file (file_of files file) opening (found_of o) is).same_file in
-      let keeps : Keeps (tail_of o other_closed) (reading is_any files) = subst (Keeps (tail_of o other_closed)) (sym reads) (record { file = refl; head = refl; records = refl; gate = refl }) in
+      let keeps : Keeps (tail_of o other_closed) (reading is_any files) = subst (Keeps (tail_of o other_closed)) (sym reads) (record { file = refl; head = refl; first = refl; records = refl; gate = refl }) in
       subst (λ t. Holds means t site) (sym tail) (
       record {
         settled = settled;

@@ -23,7 +23,7 @@ use Rattle.ox_gated.proofs.WholeFile.{opening, head_whole, body_whole}
 
 -- ---- the two files
 
-at_other : (files : Files) (file : Which) → file_of files (other (other file)) ≡ file_of files file
+pub at_other : (files : Files) (file : Which) → file_of files (other (other file)) ≡ file_of files file
 at_other files A = refl
 at_other files B = refl
 
@@ -31,7 +31,7 @@ stays_beside : (files : Files) (file : Which) (bytes : List ℕ) → file_of (wi
 stays_beside files A bytes = refl
 stays_beside files B bytes = refl
 
-both_some : (files : Files) (file : Which) → 1 ≤ length (file_of files file) → 1 ≤ length (file_of files (other file)) → (1 ≤ length files.a) × (1 ≤ length files.b)
+pub both_some : (files : Files) (file : Which) → 1 ≤ length (file_of files file) → 1 ≤ length (file_of files (other file)) → (1 ≤ length files.a) × (1 ≤ length files.b)
 both_some files A this that = (this, that)
 both_some files B this that = (that, this)
 
@@ -49,7 +49,7 @@ shut_parts (gate ∷ rest) some closed = (rest, ap (λ (g : ℕ). g ∷ rest) (e
 
 -- a tail beside which the other file is closed keeps the rest
 keeps_closed : (tail : Kept) (r : Result Found Fault) → Keeps tail r → Keeps (record tail { other_closed = true }) r
-keeps_closed tail (Ok found) keeps = record { file = keeps.file; head = keeps.head; records = keeps.records; gate = keeps.gate }
+keeps_closed tail (Ok found) keeps = record { file = keeps.file; head = keeps.head; first = keeps.first; records = keeps.records; gate = keeps.gate }
 keeps_closed tail (Err fault) keeps = absurd keeps
 
 -- of a write into this file that is synced
@@ -272,7 +272,7 @@ module _ {S : Type 0} (means : Meanings S) (both : KeptBoth) (body : List ℕ) (
           settled = settled_after were next _ (means.may_leave old) (means.may_leave new) (means.seen new) opened_is holds.current.settled wrote_next.durable wrote_next.others;
           some_a = some.0;
           some_b = some.1;
-          keeps = subst (Keeps (tail_of_other both.tail.file both.head both.gate)) (sym (open_reads is_any refl)) (record { file = refl; head = refl; records = refl; gate = holds.filled.gate_is });
+          keeps = subst (Keeps (tail_of_other both.tail.file both.head both.gate)) (sym (open_reads is_any refl)) (record { file = refl; head = refl; first = holds.filled.gate_is; records = refl; gate = holds.filled.gate_is });
           closed = sym (ap is_closed was ∙ now.why.opened);
         }
 

@@ -5,7 +5,7 @@ use Rattle.ox_outside.specs.Counts.{Counts, IsFailure, StopsAtFault, NoFault}
 use Rattle.ox_outside.specs.Crash.{Remains, OneCall}
 use Rattle.ox_outside.specs.Runs.{OnlyLooks}
 use Rattle.ox_outside.specs.declared.site.Site.{Ghosts as Meanings}
-use Rattle.ox_outside.proofs.Calls.{calls_then, then_call, leaves_then, leaves_on, leaves_weaker}
+use Rattle.ox_outside.proofs.Calls.{then_call, leaves_on, leaves_weaker}
 use Rattle.ox_outside.proofs.Counts.{stops_as, went_on}
 use Rattle.ox_gated.specs.Writes.{OnlyWrites}
 
@@ -18,14 +18,6 @@ module _ {S : Type 0} (means : Meanings S) (logs_now : (site : S) (r : Remains) 
     calls = looks.calls;
     as_logged = looks.nothing.as_logged;
     moments = leaves_weaker means old new _ _ (λ r left. logs_now old r left) looks.moments;
-  }
-
-  pub writes_then : (old mid new : S) → OnlyWrites means old mid → OnlyWrites means mid new → OnlyWrites means old new
-  writes_then old mid new first then_ = record {
-    calls = calls_then means old mid new first.calls then_.calls;
-    as_logged = then_.as_logged ∙ first.as_logged;
-    moments = leaves_then means old mid new _ first.moments
-        (leaves_weaker means mid new _ _ (λ r is. sym first.as_logged ∙ is) then_.moments);
   }
 
   -- one call more

@@ -1,13 +1,16 @@
 pub mod Changed
+pub mod Filling
 pub mod Gate
 pub mod Layout
 pub mod OldReading
 pub mod Opened
 pub mod OtherFile
 pub mod Pick
+pub mod Pouring
 pub mod Reading
 pub mod RecordLayout
 pub mod Spelled
 pub mod Tail
 pub mod Writes
+pub mod WritesOn
 pub mod Written

@@ -1,7 +1,7 @@
 -- What the opening of two files gives, in the words of what they stand for.
-use Rattle.std.specs.Prelude.{◌≡◌, ℕ, Bool, IsTrue, List, length, take, Option, Some, None, Result}
-use Rattle.std.specs.Prelude.{Err}
-use Rattle.ox_gated.specs.Layout.{is_lawful, summed_body_at}
+use Rattle.std.specs.Prelude.{◌≡◌, ℕ, ◌+◌, Bool, IsTrue, List, length, take, Option, Some, None}
+use Rattle.std.specs.Prelude.{Result, Err}
+use Rattle.ox_gated.specs.Layout.{is_lawful, layout_of, summed_body_at}
 use Rattle.ox_gated.specs.Pick.{Choice}
 use Rattle.ox_gated.specs.Reading.{Found, Fault, IntactPart}
 use Rattle.ox_gated.specs.Tail.{Kept}
@@ -61,6 +61,7 @@ abbrev pub tail_of : Opened → Bool → Kept
 tail_of opened other_closed = record {
   file = opened.file;
   head = opened.head;
+  first = (layout_of opened.head.version).body_at + length opened.body;
   records = length opened.records;
   gate = opened.tail.gate;
   other_closed = other_closed;

@@ -1,11 +1,11 @@
 -- A whole file in place of the current one: the other file is closed, filled behind its closed
 -- gate, and opened; and when it is time for that.
-use Rattle.std.specs.Prelude.{◌≡◌, ◌≢◌, ◌⊎◌, ℕ, ◌+◌, ◌≤◌, Bool, false, IsTrue, List, [], ◌∷◌, ◌++◌}
-use Rattle.std.specs.Prelude.{length, Ok}
+use Rattle.std.specs.Prelude.{◌≡◌, ◌≢◌, ◌⊎◌, ℕ, ◌+◌, ◌-◌, ◌*◌, ◌%◌, ◌≤◌, Bool, false}
+use Rattle.std.specs.Prelude.{IsTrue, List, [], ◌∷◌, ◌++◌, length, Ok}
 use Rattle.ox_outside.specs.Files.{Files, file_of, other}
 use Rattle.ox_outside.specs.declared.site.Site.{Ghosts as Meanings}
 use Rattle.ox_outside.specs.declared.site.Which.{Which}
-use Rattle.ox_gated.specs.Layout.{Whole, checkpoint_bytes, layout_of}
+use Rattle.ox_gated.specs.Layout.{Whole, checkpoint_bytes, layout_of, summed_body_at}
 use Rattle.ox_gated.specs.Reading.{Found, ReadsAlike, reading}
 use Rattle.ox_gated.specs.Tail.{Kept, Holds}
 use Rattle.ox_gated.specs.declared.head.Head.{Head}
@@ -72,6 +72,7 @@ abbrev pub tail_of_other : Which → Head → ℕ → Kept
 tail_of_other file head gate = record {
   file = other file;
   head = head;
+  first = gate;
   records = 0;
   gate = gate;
   other_closed = false;
@@ -90,3 +91,10 @@ last_generation = 18446744073709551615
 -- There are so many records, and there is a generation that can follow.
 abbrev pub MustTurn : Kept → Type 0
 MustTurn tail = (most_records ≤ tail.records) × (tail.head.generation ≢ last_generation)
+
+-- The file is of version 3; there are so many records or a multiple of that, with gates and sums at
+-- least half as long as the body, and there is a generation that can follow.
+abbrev pub MayTurn : Kept → Type 0
+MayTurn tail =
+    (tail.head.version ≡ 3) × MustTurn tail × (tail.records % most_records ≡ 0)
+    × (tail.first - summed_body_at ≤ 2 * (tail.gate - tail.first))

@@ -10,11 +10,12 @@ use Rattle.ox_gated.specs.Layout.{Whole, is_closed, checkpoint_bytes, layout_of}
 use Rattle.ox_gated.specs.Reading.{Found, Fault, ReadsAlike, ReadsMore, is_any, reading}
 use Rattle.ox_gated.specs.declared.head.Head.{Head}
 
--- which file is current, its head, its number of records, the place of its last gate, and whether
--- the other file's first byte is 00
+-- which file is current, its head, the place of the gate behind its body, its number of records,
+-- the place of its last gate, and whether the other file's first byte is 00
 pub record Kept : Type 0 where
   pub file : Which
   pub head : Head
+  pub first : ℕ
   pub records : ℕ
   pub gate : ℕ
   pub other_closed : Bool
@@ -22,6 +23,7 @@ pub record Kept : Type 0 where
 pub record KeepsFound (tail : Kept) (found : Found) : Type 0 where
   pub file : tail.file ≡ found.file
   pub head : tail.head ≡ found.head
+  pub first : tail.first ≡ (layout_of found.head.version).body_at + length found.body
   pub records : tail.records ≡ length found.records
   pub gate : tail.gate ≡ found.gate
 

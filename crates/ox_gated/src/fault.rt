@@ -4,6 +4,7 @@ ghost use Rattle.std.specs.Prelude.{◌≡◌};
 
 use crate::head::Head;
 use crate::records::Records;
+use crate::tail::DiskFault;
 use ox_bytes::{Bytes, Memory};
 use ox_outside::{Failed, Which};
 use std::alloc::AllocError;
@@ -80,6 +81,16 @@ impl From<Failed> for Halt {
     ghost from_gives = { λ _ e. e ≡ halts.Disk };
 
     fn from(_failed: Failed) -> Halt {
+        Halt::Disk
+    }
+}
+
+impl From<DiskFault> for Halt {
+    ghost use Rattle.ox_gated.specs.declared.fault.Halt.TheVariants as halts;
+
+    ghost from_gives = { λ _ e. e ≡ halts.Disk };
+
+    fn from(_fault: DiskFault) -> Halt {
         Halt::Disk
     }
 }

@@ -3,6 +3,7 @@
 #![tactic(auto)]
 
 mod fault;
+mod filling;
 mod framed;
 mod head;
 mod laws;
@@ -11,11 +12,13 @@ mod open;
 mod other_file;
 mod pick;
 mod records;
+mod sink;
 mod tail;
 mod two_pieces;
 mod writes;
 
 pub use fault::{Before, GateFault, Halt};
+pub use filling::Filling;
 pub use framed::{Checkpoint, Framed, checkpoint_of, frame, frame_parts};
 pub use head::Head;
 pub use laws::{
@@ -26,4 +29,5 @@ pub use layout::BODY_AT;
 pub use open::Opened;
 pub use other_file::{Closed, Filled};
 pub use records::{Record, Records};
+pub use sink::Sink;
 pub use tail::{DiskFault, Tail};

@@ -179,6 +179,7 @@ fn found_or_fault(
 ) -> Result<Opened, GateFault>
     requires fits { let e = examined.now in
         (layout_of e.opening.head.version).body_at + e.opening.size + length rest.now < 2 ^ 64 }
+    requires size { length body.items ≡ examined.now.opening.size }
     requires lawful { IsTrue (is_lawful examined.now.opening.head) }
     ensures found { let e = examined.now in
         IfOk result (λ o.
@@ -195,13 +196,15 @@ fn found_or_fault(
 {
     let Opening { head, size } = examined.opening;
     let file = examined.file;
-    let Walk { records, end } = walk_from(alloc, &head, head.body_at() + size, rest)?;
+    let first = head.body_at() + size;
+    let Walk { records, end } = walk_from(alloc, &head, first, rest)?;
     let body = Bytes::from_vec(body);
     match end {
         Ok(gate) => Ok(Opened {
             tail: Tail::at(
                 file,
                 head,
+                first,
                 records.len() as u64,
                 gate,
                 examined.other_closed,

@@ -5,8 +5,10 @@ ghost use Rattle.std.specs.Prelude.{IsTrue, IfOk, OnOk, OnErr};
 ghost use Rattle.ox_outside.specs.Counts.{IsFailure, Rose, StopsAtFault};
 ghost use Rattle.ox_outside.specs.Files.{file_of, other};
 ghost use Rattle.ox_outside.specs.Runs.{LeavesOnly};
+ghost use Rattle.ox_gated.specs.Layout.{is_lawful, layout_of};
 ghost use Rattle.ox_gated.specs.OtherFile.{BeginsShut, HoldsBoth, IsOldOrNew, IsSpared, ReadsNew};
-ghost use Rattle.ox_gated.specs.OtherFile.{MustTurn, filled_with, first_gate_at, tail_of_other};
+ghost use Rattle.ox_gated.specs.OtherFile.{MayTurn, MustTurn};
+ghost use Rattle.ox_gated.specs.OtherFile.{filled_with, first_gate_at, tail_of_other};
 ghost use Rattle.ox_gated.specs.Reading.{ReadsAlike};
 ghost use Rattle.ox_gated.specs.Tail.{Holds};
 ghost use Rattle.ox_gated.specs.Writes.{OnlyWrites};
@@ -14,6 +16,7 @@ ghost use Rattle.ox_gated.specs.Written.{with_open_gate};
 
 use crate::framed::Checkpoint;
 use crate::head::Head;
+use crate::layout::SUMMED_BODY_AT;
 use crate::tail::{DiskFault, Tail};
 use crate::two_pieces::write_pieces_synced;
 use crate::writes::write_synced;
@@ -66,7 +69,7 @@ impl Model for Filled {
 const MOST_RECORDS: u64 = 64;
 
 /// The file that isn't this one.
-fn other_file(file: Which) -> Which
+pub(crate) fn other_file(file: Which) -> Which
     ensures { result ≡ other file }
 {
     match file {
@@ -82,6 +85,21 @@ impl Tail {
         ensures { IsTrue result ↔ MustTurn self.now }
     {
         self.records() >= MOST_RECORDS && self.head().generation != u64::MAX
+    }
+
+    /// Whether the other file is due to take the place of the current one, as the same stack without
+    /// records: that one is of version 3 and has 64 records or a multiple of that, which take at
+    /// least half as many bytes as the body, gates and sums among them, and its generation isn't the
+    /// greatest.
+    pub fn is_turn_due(&self) -> bool
+        ensures { IsTrue result ↔ MayTurn self.now }
+    {
+        let body = self.first().saturating_sub(SUMMED_BODY_AT as u64);
+        let behind = self.gate().saturating_sub(self.first());
+        self.head().version == 3
+            && self.must_turn()
+            && self.records() % MOST_RECORDS == 0
+            && body.saturating_sub(behind) <= behind
     }
 
     /// Closes the other file, unless it is closed: then no call is made. At any moment of it each
@@ -147,6 +165,14 @@ impl Tail {
 }
 
 impl Closed {
+    /// The tail.
+    pub(crate) fn into_tail(self) -> Tail
+        ensures tail { result ≡ self }
+        ensures closed { result.other_closed ≡ true }
+    {
+        self.tail
+    }
+
     /// Writes a file of this head and body, without records, behind the other file's closed gate,
     /// and syncs it. What an older, longer file had behind it stays there. At any moment of the
     /// call each crash leaves files that stand for what they stood for, whichever versions are
@@ -189,6 +215,17 @@ impl Closed {
 }
 
 impl Filled {
+    /// A tail beside which the other file is filled with this head, and a body that ends at this
+    /// gate.
+    pub(crate) fn beside(tail: Tail, head: Head, gate: u64) -> Filled
+        requires lawful { IsTrue (is_lawful head) }
+        requires generation { tail.head.generation < head.generation }
+        requires gate { gate < 2 ^ 63 + (layout_of head.version).body_at }
+        ensures { result ≡ record { tail = tail; head = head; gate = gate } }
+    {
+        Filled { tail, head, gate }
+    }
+
     /// Opens the other file, in a write of its own, and syncs it: it is current then, without a
     /// record. At any moment of the call each crash leaves files that stand for what they stood
     /// for, whichever versions are read, or for what the other file was filled with, where its
@@ -222,6 +259,6 @@ impl Filled {
     {
         let file = other_file(self.tail.file());
         write_synced(site, file, 0, &[1])?;
-        Ok(Tail::at(file, self.head, 0, self.gate, false))
+        Ok(Tail::at(file, self.head, self.gate, 0, self.gate, false))
     }
 }

@@ -28,13 +28,14 @@ impl From<Failed> for DiskFault {
 pub struct Tail {
     file: Which,
     head: Head,
+    first: u64,
     records: u64,
     gate: u64,
     other_closed: bool,
 }
 
 impl Model for Tail {
-    ghost use Rattle.std.specs.Prelude.{◌≤◌};
+    ghost use Rattle.std.specs.Prelude.{◌≤◌, ◌+◌};
     ghost use Rattle.ox_gated.specs.Tail.{Kept};
 
     ghost Value = { Kept };
@@ -42,12 +43,13 @@ impl Model for Tail {
     ghost view = { λ t. record {
       file = t.file;
       head = t.head;
+      first = t.first;
       records = t.records;
       gate = t.gate;
       other_closed = t.other_closed;
     } };
 
-    ghost invariant = { λ t. t.records ≤ t.gate };
+    ghost invariant = { λ t. t.first + t.records ≤ t.gate };
 }
 
 impl Tail {
@@ -57,11 +59,19 @@ impl Tail {
     ghost use Rattle.ox_gated.specs.Tail.{Holds, IsBeforeOrAfter, IsFramedBehind, Fits, new_files};
 
     /// The tail of files that were read.
-    pub(crate) fn at(file: Which, head: Head, records: u64, gate: u64, other_closed: bool) -> Tail
-        requires { records ≤ gate }
+    pub(crate) fn at(
+        file: Which,
+        head: Head,
+        first: u64,
+        records: u64,
+        gate: u64,
+        other_closed: bool,
+    ) -> Tail
+        requires { first + records ≤ gate }
         ensures { result ≡ record {
           file = file;
           head = head;
+          first = first;
           records = records;
           gate = gate;
           other_closed = other_closed;
@@ -70,6 +80,7 @@ impl Tail {
         Tail {
             file,
             head,
+            first,
             records,
             gate,
             other_closed,
@@ -88,6 +99,13 @@ impl Tail {
         ensures { result ≡ self.now.head }
     {
         self.head
+    }
+
+    /// The place of the gate behind the body of the current file, where the first record comes.
+    pub(crate) fn first(&self) -> u64
+        ensures { result ≡ self.now.first }
+    {
+        self.first
     }
 
     /// How many records the current file has.
@@ -195,11 +213,13 @@ impl Tail {
         site.write(Which::A, 0, &[0])?;
         write_pieces_synced(site, Which::A, 1, front, behind)?;
         write_synced(site, Which::A, 0, &[1])?;
+        let gate = front.len() as u64 + behind.len() as u64;
         Ok(Tail {
             file: Which::A,
             head: checkpoint.head(),
+            first: gate,
             records: 0,
-            gate: front.len() as u64 + behind.len() as u64,
+            gate,
             other_closed: true,
         })
     }

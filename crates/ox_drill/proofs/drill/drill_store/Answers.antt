@@ -1,6 +1,6 @@
 use Rattle.std.proofs.Common.{◌∙◌, length, ap}
 use Rattle.std.proofs.lemmas.Result.{err_from_is_err_and}
-use Rattle.ox_gated.proofs.Writing.{writes_then}
+use Rattle.ox_gated.specs.WritesOn.{writes_then}
 use Rattle.ox_model.specs.Stack.{Stack}
 use Rattle.ox_drill.specs.Chain.{drill_commands}
 use Rattle.ox_drill.proofs.Parts.{drilled_all, drills_all, fault_behind}

@@ -48,7 +48,7 @@ returns-clause-holds g c told =
     let new = c.write_synced.new.site in
     let h : HoldsBoth g.S.Site both body c.args.site.now = subst (λ (b : KeptBoth). HoldsBoth g.S.Site b body c.args.site.now) (sym c.self.view_is) filled.1 in
     let file_is = c.other_file-file.ensures ∙ ap other c.file.ensures in
-    subst (λ (t : Kept). Holds g.S.Site t new) (sym (c.at.ensures ∙ (λ i'. record { file = file_is i'; head = i.head; records = 0; gate = i.gate; other_closed = Rattle.std.proofs.Common.false })))
+    subst (λ (t : Kept). Holds g.S.Site t new) (sym (c.at.ensures ∙ (λ i'. record { file = file_is i'; head = i.head; first = i.gate; records = 0; gate = i.gate; other_closed = Rattle.std.proofs.Common.false })))
     (open_holds g.S.Site both body c.args.site.now h v.0 v.1 v.2 v.3 v.4 c.other_file-file.result file_is new (record { written = e.written told; durable = e.durable; others = e.others }))
 
 pub returns-clause-spared : goal.returns-clause-spared

@@ -5,13 +5,14 @@ use Rattle.ox_gated.proofs.AppendKeepsTail.{first_within, fits_behind, framed_at
 use Rattle.std.proofs.lemmas.Result.{err_from_is_err_and}
 use Rattle.ox_outside.proofs.Counts.{no_fault_then, stops_after, stops_at_none, then_rose}
 use Rattle.ox_gated.proofs.OneWrite.{if_none, on_failed, on_none}
-use Rattle.ox_gated.proofs.Writing.{all_worked, ends_failed, writes_then}
+use Rattle.ox_gated.proofs.Writing.{all_worked, ends_failed}
+use Rattle.ox_gated.specs.WritesOn.{writes_then}
 use Rattle.ox_gated.proofs.tail.Tail.append.Goals as goal
 
 pub write_synced-requires : goal.write_synced-requires
 write_synced-requires g c told =
     let i = c.self.inside in
-    let tail : Kept = record { file = i.file; head = i.head; records = i.records; gate = i.gate; other_closed = i.other_closed } in
+    let tail : Kept = record { file = i.file; head = i.head; first = i.first; records = i.records; gate = i.gate; other_closed = i.other_closed } in
     let f = framed_at tail c.args.self c.args.framed.now c.as_slice-bytes.result.now c.self.view_is c.as_slice-bytes.ensures c.requires.framed in
     let h : Holds g.S.Site tail c.args.site.now = subst (λ (t : Kept). Holds g.S.Site t c.args.site.now) (sym c.self.view_is) (c.requires.holds told) in
     first_within c.args.framed.now.payload c.as_slice-bytes.result.now (g.S.Site.seen c.args.site.now) tail h.keeps f
@@ -21,7 +22,7 @@ write_synced-requires-2 g c told_mid =
     let first = c.in_ok-write_synced.ensures in
     let told = sym first.writes.calls.as_told ∙ told_mid in
     let i = c.self.inside in
-    let tail : Kept = record { file = i.file; head = i.head; records = i.records; gate = i.gate; other_closed = i.other_closed } in
+    let tail : Kept = record { file = i.file; head = i.head; first = i.first; records = i.records; gate = i.gate; other_closed = i.other_closed } in
     let f = framed_at tail c.args.self c.args.framed.now c.as_slice-bytes.result.now c.self.view_is c.as_slice-bytes.ensures c.requires.framed in
     let h : Holds g.S.Site tail c.args.site.now = subst (λ (t : Kept). Holds g.S.Site t c.args.site.now) (sym c.self.view_is) (c.requires.holds told) in
     staged_within g.S.Site c.args.framed.now.payload c.as_slice-bytes.result.now tail f c.args.site.now c.write_synced.new.site h (first.written told)
@@ -29,7 +30,7 @@ write_synced-requires-2 g c told_mid =
 pub overflow_add-result-2 : goal.overflow_add-result-2
 overflow_add-result-2 g c =
     let i = c.self.inside in
-    let tail : Kept = record { file = i.file; head = i.head; records = i.records; gate = i.gate; other_closed = i.other_closed } in
+    let tail : Kept = record { file = i.file; head = i.head; first = i.first; records = i.records; gate = i.gate; other_closed = i.other_closed } in
     let fits = fits_behind tail c.args.self c.args.framed.now c.as_slice-bytes.result.now c.self.view_is c.as_slice-bytes.ensures c.requires.framed c.requires.fits in
     omega (arith, fits)
 
@@ -43,7 +44,7 @@ returns-in_err-write_synced g c =
       kept = if_none result p.0 p.1 _;
       any_moment = λ told.
           let i = c.self.inside in
-          let tail : Kept = record { file = i.file; head = i.head; records = i.records; gate = i.gate; other_closed = i.other_closed } in
+          let tail : Kept = record { file = i.file; head = i.head; first = i.first; records = i.records; gate = i.gate; other_closed = i.other_closed } in
           let f = framed_at tail c.args.self c.args.framed.now c.as_slice-bytes.result.now c.self.view_is c.as_slice-bytes.ensures c.requires.framed in
           let h : Holds g.S.Site tail c.args.site.now = subst (λ (t : Kept). Holds g.S.Site t c.args.site.now) (sym c.self.view_is) (c.requires.holds told) in
           moments_first g.S.Site c.args.framed.now.payload c.as_slice-bytes.result.now tail f c.args.site.now c.write_synced.new.site h (c.write_synced.ensures.moments h.settled);
@@ -62,7 +63,7 @@ returns-in_err-write_synced-2 g c =
       kept = if_none result p.0 p.1 _;
       any_moment = λ told.
           let i = c.self.inside in
-          let tail : Kept = record { file = i.file; head = i.head; records = i.records; gate = i.gate; other_closed = i.other_closed } in
+          let tail : Kept = record { file = i.file; head = i.head; first = i.first; records = i.records; gate = i.gate; other_closed = i.other_closed } in
           let f = framed_at tail c.args.self c.args.framed.now c.as_slice-bytes.result.now c.self.view_is c.as_slice-bytes.ensures c.requires.framed in
           let h : Holds g.S.Site tail c.args.site.now = subst (λ (t : Kept). Holds g.S.Site t c.args.site.now) (sym c.self.view_is) (c.requires.holds told) in
           let first = c.in_ok-write_synced.ensures in
@@ -77,7 +78,7 @@ pub returns : goal.returns
 returns g c = record {
   holds = λ told.
       let i = c.self.inside in
-      let tail : Kept = record { file = i.file; head = i.head; records = i.records; gate = i.gate; other_closed = i.other_closed } in
+      let tail : Kept = record { file = i.file; head = i.head; first = i.first; records = i.records; gate = i.gate; other_closed = i.other_closed } in
       let f = framed_at tail c.args.self c.args.framed.now c.as_slice-bytes.result.now c.self.view_is c.as_slice-bytes.ensures c.requires.framed in
       let h : Holds g.S.Site tail c.args.site.now = subst (λ (t : Kept). Holds g.S.Site t c.args.site.now) (sym c.self.view_is) (c.requires.holds told) in
       let first = c.in_ok-write_synced.ensures in
@@ -87,7 +88,7 @@ returns g c = record {
       holds_after g.S.Site c.args.framed.now.payload c.as_slice-bytes.result.now tail f c.args.site.now c.write_synced.new.site h c.write_synced-2.new.site (first.written told) (second.written told_mid) settled second.durable second.others;
   appended = λ told.
       let i = c.self.inside in
-      let tail : Kept = record { file = i.file; head = i.head; records = i.records; gate = i.gate; other_closed = i.other_closed } in
+      let tail : Kept = record { file = i.file; head = i.head; first = i.first; records = i.records; gate = i.gate; other_closed = i.other_closed } in
       let f = framed_at tail c.args.self c.args.framed.now c.as_slice-bytes.result.now c.self.view_is c.as_slice-bytes.ensures c.requires.framed in
       let h : Holds g.S.Site tail c.args.site.now = subst (λ (t : Kept). Holds g.S.Site t c.args.site.now) (sym c.self.view_is) (c.requires.holds told) in
       let first = c.in_ok-write_synced.ensures in
@@ -103,7 +104,7 @@ returns g c = record {
   kept = (ap (λ (t : Kept). t.file) c.self.view_is, ap (λ (t : Kept). t.head) c.self.view_is, ap (λ (t : Kept). t.records + 1) c.self.view_is);
   any_moment = λ told.
       let i = c.self.inside in
-      let tail : Kept = record { file = i.file; head = i.head; records = i.records; gate = i.gate; other_closed = i.other_closed } in
+      let tail : Kept = record { file = i.file; head = i.head; first = i.first; records = i.records; gate = i.gate; other_closed = i.other_closed } in
       let f = framed_at tail c.args.self c.args.framed.now c.as_slice-bytes.result.now c.self.view_is c.as_slice-bytes.ensures c.requires.framed in
       let h : Holds g.S.Site tail c.args.site.now = subst (λ (t : Kept). Holds g.S.Site t c.args.site.now) (sym c.self.view_is) (c.requires.holds told) in
       let first = c.in_ok-write_synced.ensures in

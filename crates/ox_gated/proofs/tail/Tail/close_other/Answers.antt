@@ -6,7 +6,8 @@ use Rattle.ox_gated.proofs.Turning.{close_moments, close_shuts, close_alike, clo
 use Rattle.std.proofs.lemmas.Result.{err_from_is_err_and}
 use Rattle.ox_outside.proofs.Calls.{leaves_at_first}
 use Rattle.ox_outside.proofs.Counts.{no_fault_yet, stops_at_none}
-use Rattle.ox_gated.proofs.OneWrite.{if_none, on_failed, on_none, writes_none}
+use Rattle.ox_gated.proofs.OneWrite.{if_none, on_failed, on_none}
+use Rattle.ox_gated.specs.WritesOn.{writes_none}
 use Rattle.ox_gated.proofs.Writing.{all_worked, ends_failed}
 use Rattle.ox_gated.proofs.tail.Tail.close_other.Goals as goal
 

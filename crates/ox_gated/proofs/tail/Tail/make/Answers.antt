@@ -8,7 +8,8 @@ use Rattle.ox_gated.specs.declared.head.Head.{Head}
 use Rattle.ox_gated.proofs.NewFiles.{stands_made, made_is, first_b, made_settled, made_keeps}
 use Rattle.std.proofs.lemmas.Result.{err_from_is_err_and}
 use Rattle.ox_outside.proofs.Counts.{file_call, no_fault_then, none_fell_then, stops_after, stops_at_none, then_rose}
-use Rattle.ox_gated.proofs.Writing.{writes_then, writes_call, all_worked, ends_failed}
+use Rattle.ox_gated.proofs.Writing.{writes_call, all_worked, ends_failed}
+use Rattle.ox_gated.specs.WritesOn.{writes_then}
 use Rattle.ox_gated.proofs.OneWrite.{file_worked, if_none, on_failed, on_none}
 use Rattle.ox_gated.proofs.tail.Tail.make.Goals as goal
 
@@ -95,7 +96,7 @@ returns g c = record {
       let last = made_is pieces _ _ _ _ (g.S.Site.seen c.write_synced-2.new.site) (c.requires.empty told) (c.in_ok-write_synced.ensures.written told) (c.in_ok-write.ensures.written told1) (c.in_ok-write_pieces_synced.ensures.written told2) (c.in_ok-write_synced-2.ensures.written told3) in
       let is : g.S.Site.seen c.write_synced-2.new.site ≡ new_files w = last ∙ ap (λ (l : List ℕ). record { a = 1 ∷ l; b = 0 ∷ [] }) bytes_are in
       let b_same = first_b _ _ (c.requires.empty told) (c.in_ok-write_synced.ensures.written told) ∙ sym (ap (λ (f : Files). f.b) last) in
-      let tail : Kept = record { file = A; head = w.head; records = 0; gate = length c.front-front.result.now + length c.behind-behind.result.now; other_closed = true } in
+      let tail : Kept = record { file = A; head = w.head; first = length c.front-front.result.now + length c.behind-behind.result.now; records = 0; gate = length c.front-front.result.now + length c.behind-behind.result.now; other_closed = true } in
       let keeps : Keeps tail (reading is_any (g.S.Site.seen c.write_synced-2.new.site)) =
       subst (Keeps tail) (sym (ap (reading is_any) is ∙ stands_made w.head w.body b.lawful b.depth b.generation (omega (arith, b.small)) is_any refl)) (made_keeps w.head w.body _ (omega (arith, c.front-front.ensures.size, b.size))) in
       subst (λ (h : Head). Holds g.S.Site (record tail { head = h }) c.write_synced-2.new.site) (sym c.head.ensures) (

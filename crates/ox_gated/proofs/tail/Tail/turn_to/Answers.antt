@@ -11,7 +11,8 @@ use Rattle.std.proofs.lemmas.Result.{err_from_is_err_and}
 use Rattle.ox_outside.proofs.Counts.{no_fault_then, none_fell_then, stops_after, then_rose}
 use Rattle.ox_gated.proofs.OneWrite.{if_none, on_failed, on_none, rose_after}
 use Rattle.ox_gated.proofs.Turning.{turn_closing}
-use Rattle.ox_gated.proofs.Writing.{all_worked, ends_failed, writes_then}
+use Rattle.ox_gated.proofs.Writing.{all_worked, ends_failed}
+use Rattle.ox_gated.specs.WritesOn.{writes_then}
 use Rattle.ox_gated.proofs.tail.Tail.turn_to.Goals as goal
 
 pub returns-in_err-closed : goal.returns-in_err-closed

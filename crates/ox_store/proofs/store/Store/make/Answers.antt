@@ -6,7 +6,8 @@ use Rattle.ox_outside.specs.Counts.{IsFailure}
 use Rattle.ox_outside.proofs.Counts.{no_fault_then, stops_after, stops_as, stops_at_none, then_rose}
 use Rattle.ox_outside.specs.declared.site.Which.TheVariants.{A}
 use Rattle.ox_gated.specs.declared.head.Head.{Head}
-use Rattle.ox_gated.proofs.Writing.{all_worked, writes_looking, writes_then}
+use Rattle.ox_gated.proofs.Writing.{all_worked, writes_looking}
+use Rattle.ox_gated.specs.WritesOn.{writes_then}
 use Rattle.ox_index.specs.Chain.{stack_in}
 use Rattle.ox_model.specs.Machine.{empty_machine, stack_of}
 use Rattle.ox_sat.specs.declared.profiles.Profile.{Profile}

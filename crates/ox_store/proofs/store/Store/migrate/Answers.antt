@@ -7,7 +7,8 @@ use Rattle.ox_outside.proofs.Calls.{leaves_weaker}
 use Rattle.ox_outside.proofs.Counts.{no_fault_then, stops_after, stops_as, stops_at_none, then_rose}
 use Rattle.ox_gated.specs.OtherFile.{first_gate_at}
 use Rattle.ox_gated.specs.declared.head.Head.{Head}
-use Rattle.ox_gated.proofs.Writing.{all_worked, writes_looking, writes_then}
+use Rattle.ox_gated.proofs.Writing.{all_worked, writes_looking}
+use Rattle.ox_gated.specs.WritesOn.{writes_then}
 use Rattle.ox_index.specs.Chain.{stack_in}
 use Rattle.ox_store.specs.Migrate.{IsOldOrMigrated}
 use Rattle.ox_store.proofs.Exits.{no_fault, no_value, not_both}
