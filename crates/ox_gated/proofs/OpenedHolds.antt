@@ -1,6 +1,6 @@
 -- What is opened holds.
-use Rattle.std.proofs.Common.{◌≡◌, ◌∙◌, ◌≤◌, Bool, length, refl, sym, ap, subst}
-use Rattle.std.specs.Prelude.{Result, Ok, Err, IfOk}
+use Rattle.std.proofs.Common.{◌≡◌, ◌∙◌, ◌≤◌, ℕ, Bool, length, refl, sym, ap, subst}
+use Rattle.std.specs.Prelude.{Result, Ok, Err, IfOk, Option}
 use Rattle.ox_outside.specs.Files.{Files, file_of, other}
 use Rattle.ox_outside.specs.declared.site.Site.{Ghosts as Meanings}
 use Rattle.ox_outside.specs.declared.site.Which.{Which}
@@ -19,15 +19,15 @@ use Rattle.ox_gated.proofs.OldReading.{as_current}
 use Rattle.ox_gated.proofs.Stands.{current_ok, judged_ok}
 
 -- the fault of the choice is that of the files
-pub unpicked_fault : (old : Bool) (files : Files) (fault : GateFault) → IsUnpicked (choice_of files.a files.b) fault → IsFault (reading_as old files) fault
-unpicked_fault old files gates.DiskFault is = tt
-unpicked_fault old files gates.Memory is = tt
-unpicked_fault old files (gates.NotStore file at before) is =
-    subst (λ b. IsFault (reading_as old files) (gates.NotStore file at b)) (sym is.1) (ap (of_picked (current_as old) files) is.0)
+pub unpicked_fault : (only : Option ℕ) (files : Files) (fault : GateFault) → IsUnpicked (choice_of files.a files.b) fault → IsFault (reading_as only files) fault
+unpicked_fault only files gates.DiskFault is = tt
+unpicked_fault only files gates.Memory is = tt
+unpicked_fault only files (gates.NotStore file at before) is =
+    subst (λ b. IsFault (reading_as only files) (gates.NotStore file at b)) (sym is.1) (ap (of_picked (current_as only) files) is.0)
 
 module _ (files : Files) (file : Which) (opening : Opening) (picks : choice_of files.a files.b ≡ Ok (file, opening)) where
-  pub as_is : (old : Bool) → reading_as old files ≡ current_as old file (file_of files file) opening
-  as_is old = ap (of_picked (current_as old) files) picks
+  pub as_is : (only : Option ℕ) → reading_as only files ≡ current_as only file (file_of files file) opening
+  as_is only = ap (of_picked (current_as only) files) picks
 
   reading_is : reading is_any files ≡ body_reading file (file_of files file) opening
   reading_is = ap (reading_by is_any files) picks
@@ -49,14 +49,14 @@ module _ (files : Files) (file : Which) (opening : Opening) (picks : choice_of f
       }
       )
 
-  -- of an old store or a present one
-  body_is : (old : Bool) (o : Opened) → current_as old file (file_of files file) opening ≡ Ok (found_of o) → body_reading file (file_of files file) opening ≡ Ok (found_of o)
-  body_is old o is =
-      let current : current_reading (is_read old) file (file_of files file) opening ≡ Ok (found_of o) = as_current old file (file_of files file) opening (found_of o) is in
-      (judged_ok (is_read old opening.head.version) file (body_reading file (file_of files file) opening) (found_of o) current).1
+  -- of a present store, or one of this version only
+  body_is : (only : Option ℕ) (o : Opened) → current_as only file (file_of files file) opening ≡ Ok (found_of o) → body_reading file (file_of files file) opening ≡ Ok (found_of o)
+  body_is only o is =
+      let current : current_reading (is_read only) file (file_of files file) opening ≡ Ok (found_of o) = as_current only file (file_of files file) opening (found_of o) is in
+      (judged_ok (is_read only opening.head.version) file (body_reading file (file_of files file) opening) (found_of o) current).1
 
   pub all_hold : {S : Type 0} (means : Meanings S) (site : S) → means.seen site ≡ files → IsSettled means site
-      → (old : Bool) (result : Result Opened GateFault) (other_closed : Bool) → other_closed ≡ is_closed (file_of files (other file)) → IfOk result (λ o. o.tail ≡ tail_of o other_closed) → IfOk result (λ o. current_as old file (file_of files file) opening ≡ Ok (found_of o))
+      → (only : Option ℕ) (result : Result Opened GateFault) (other_closed : Bool) → other_closed ≡ is_closed (file_of files (other file)) → IfOk result (λ o. o.tail ≡ tail_of o other_closed) → IfOk result (λ o. current_as only file (file_of files file) opening ≡ Ok (found_of o))
       → IfOk result (λ o. Holds means o.tail site)
-  all_hold means site same settled old (Ok o) other_closed closed tail is = holds_opened means site same settled o other_closed closed tail (body_is old o is)
-  all_hold means site same settled old (Err e) other_closed closed tail is = is
+  all_hold means site same settled only (Ok o) other_closed closed tail is = holds_opened means site same settled o other_closed closed tail (body_is only o is)
+  all_hold means site same settled only (Err e) other_closed closed tail is = is

@@ -8,7 +8,8 @@ ghost use Rattle.ox_outside.specs.Counts.{IsFailure, Rose, StopsAtFault};
 ghost use Rattle.ox_outside.specs.Files.{Files, file_of, other};
 ghost use Rattle.ox_outside.specs.Runs.{OnlyLooks};
 ghost use Rattle.ox_gated.specs.Layout.{is_closed, is_lawful, layout_of, summed_body_at};
-ghost use Rattle.ox_gated.specs.OldReading.{current_as, is_read, reading_as, old_reading};
+ghost use Rattle.ox_gated.specs.OldReading.{current_as, growing_reading, is_followed, is_read};
+ghost use Rattle.ox_gated.specs.OldReading.{old_reading, reading_as};
 ghost use Rattle.ox_gated.specs.Opened.{IsBehindLawful, IsFault, IsFrontOf, IsUnpicked};
 ghost use Rattle.ox_gated.specs.Opened.{found_of, tail_of};
 ghost use Rattle.ox_gated.specs.OtherFile.{last_generation};
@@ -226,12 +227,12 @@ fn found_or_fault(
     }
 }
 
-/// Reads the body and the records of the current file. Its version has to be one that is read; and
-/// its generation not the greatest, in an old store, which another file is to follow.
+/// Reads the body and the records of the current file. Its version has to be one that is read: 2 or
+/// 3, or only this one; and then its generation isn't the greatest, since another file is to follow.
 pub fn read_current<S: Site>(
     alloc: Global,
     site: &mut S,
-    old: bool,
+    only: Option<u8>,
     examined: &Examined,
 ) -> Result<Opened, GateFault>
     requires front { IsTrue (S.told site.old)
@@ -242,15 +243,16 @@ pub fn read_current<S: Site>(
     ensures found { let e = examined.now in
         IsTrue (S.told site.old)
         → IfOk result (λ o.
-        current_as old e.file (file_of (S.seen site.old) e.file) e.opening ≡ Ok (found_of o)) }
+        current_as only e.file (file_of (S.seen site.old) e.file) e.opening ≡ Ok (found_of o)) }
     ensures tail { IfOk result (λ o. o.tail ≡ tail_of o examined.now.other_closed) }
     ensures head { IfOk result (λ o. o.head ≡ examined.now.opening.head) }
-    ensures version { IfOk result (λ o. IsTrue (is_read old o.head.version)) }
-    ensures generation { IsTrue old → IfOk result (λ o. o.head.generation ≢ last_generation) }
+    ensures version { IfOk result (λ o. IsTrue (is_read only o.head.version)) }
+    ensures generation { IsTrue (is_followed only)
+        → IfOk result (λ o. o.head.generation ≢ last_generation) }
     ensures fault { let e = examined.now in
         IsTrue (S.told site.old)
         → IfErr result
-        (IsFault (current_as old e.file (file_of (S.seen site.old) e.file) e.opening)) }
+        (IsFault (current_as only e.file (file_of (S.seen site.old) e.file) e.opening)) }
     ensures behind { IfErr result IsBehindLawful }
     ensures looks { OnlyLooks S.Site site.old site.new }
     ensures failed { IsErrOf result GateFault.DiskFault
@@ -260,10 +262,10 @@ pub fn read_current<S: Site>(
 {
     let file = examined.file;
     let Opening { head, size } = examined.opening;
-    if !is_read(head.version, old) {
+    if !is_read(head.version, only) {
         return Err(refused_at(file, VERSION_AT as u64));
     }
-    if is_unfollowed(&head, old) {
+    if is_unfollowed(&head, only) {
         return Err(refused_at(file, GENERATION_AT as u64));
     }
     let body_at = head.body_at();
@@ -279,22 +281,22 @@ pub fn read_current<S: Site>(
     found_or_fault(alloc, examined, body, &rest)
 }
 
-/// Whether files of this version are read, in an old store or a present one.
-fn is_read(version: u8, old: bool) -> bool
-    ensures { result ≡ is_read old version }
+/// Whether files of this version are read: 2 and 3, or only one.
+fn is_read(version: u8, only: Option<u8>) -> bool
+    ensures { result ≡ is_read only version }
 {
-    if old {
-        version == 1
-    } else {
-        version == 2 || version == 3
+    match only {
+        Some(only) => version == only,
+        None => version == 2 || version == 3,
     }
 }
 
-/// Whether another file is to follow one with this head, as in an old store, and can't.
-fn is_unfollowed(head: &Head, old: bool) -> bool
-    ensures { result ≡ (old && head.now.generation == last_generation) }
+/// Whether another file is to follow one with this head, as where one version only is read, and
+/// can't.
+fn is_unfollowed(head: &Head, only: Option<u8>) -> bool
+    ensures { result ≡ (is_followed only && head.now.generation == last_generation) }
 {
-    old && head.generation == u64::MAX
+    only.is_some() && head.generation == u64::MAX
 }
 
 /// Whether a file of this length is too short for a body of this one that begins at this place.
@@ -314,17 +316,23 @@ fn refused_at(file: Which, at: u64) -> GateFault
     }
 }
 
-/// Opens two files, of an old store or a present one: see `Tail::open_old` and `Tail::open`.
-pub fn open_files<S: Site>(alloc: Global, site: &mut S, old: bool) -> Result<Opened, GateFault>
+/// Opens two files, of a present store or one of this version only: see `Tail::open`,
+/// `Tail::open_old` and `Tail::open_growing`.
+pub fn open_files<S: Site>(
+    alloc: Global,
+    site: &mut S,
+    only: Option<u8>,
+) -> Result<Opened, GateFault>
     ensures found { IsTrue (S.told site.old)
-        → IfOk result (λ o. reading_as old (S.seen site.old) ≡ Ok (found_of o)) }
+        → IfOk result (λ o. reading_as only (S.seen site.old) ≡ Ok (found_of o)) }
     ensures holds { IsTrue (S.told site.old) → IfOk result (λ o. Holds S.Site o.tail site.new) }
     ensures head { IfOk result (λ o.
-        (o.tail.head ≡ o.head) × IsTrue (is_read old o.head.version)) }
-    ensures generation { IsTrue old → IfOk result (λ o. o.head.generation ≢ last_generation) }
+        (o.tail.head ≡ o.head) × IsTrue (is_read only o.head.version)) }
+    ensures generation { IsTrue (is_followed only)
+        → IfOk result (λ o. o.head.generation ≢ last_generation) }
     ensures lawful { IfOk result (λ o. IsTrue (is_lawful o.head)) }
     ensures not_store { IsTrue (S.told site.old)
-        → IfErr result (IsFault (reading_as old (S.seen site.old))) }
+        → IfErr result (IsFault (reading_as only (S.seen site.old))) }
     ensures behind { IfErr result IsBehindLawful }
     ensures failed { IsErrOf result GateFault.DiskFault
         → Rose (S.counts site.old).disk (S.counts site.new).disk }
@@ -338,7 +346,7 @@ pub fn open_files<S: Site>(alloc: Global, site: &mut S, old: bool) -> Result<Ope
         Ok(examined) => examined,
         Err(fault) => return Err(fault),
     };
-    read_current(alloc, site, old, &examined)
+    read_current(alloc, site, only, &examined)
 }
 
 impl Tail {
@@ -367,7 +375,7 @@ impl Tail {
         ensures settled { ¬ IsErrOf result GateFault.DiskFault → IsSettled S.Site site.new }
         ensures looks { OnlyLooks S.Site site.old site.new }
     {
-        open_files(alloc, site, false)
+        open_files(alloc, site, None)
     }
 
     /// Opens two files of version 1, so that a checkpoint of a later version can follow. Of the
@@ -397,6 +405,34 @@ impl Tail {
         ensures settled { ¬ IsErrOf result GateFault.DiskFault → IsSettled S.Site site.new }
         ensures looks { OnlyLooks S.Site site.old site.new }
     {
-        open_files(alloc, site, true)
+        open_files(alloc, site, Some(1))
+    }
+
+    /// Opens two files of version 2, so that a file of version 3 can follow. All is as with
+    /// `open_old`, but for the version: of the tests it makes one more than `open`, between that of
+    /// the version and that of the body, so that what is opened has a lawful head of version 2 and
+    /// of a generation that another can follow, whatever the site tells.
+    ///
+    /// It begins with a sync of both files and changes nothing. `NotStore` comes exactly by the
+    /// first test that fails, `DiskFault` only where a call on a file failed, and `Memory` where
+    /// there is none for what the files hold.
+    pub fn open_growing<S: Site>(alloc: Global, site: &mut S) -> Result<Opened, GateFault>
+        ensures found { IsTrue (S.told site.old)
+            → IfOk result (λ o. growing_reading (S.seen site.old) ≡ Ok (found_of o)) }
+        ensures holds { IsTrue (S.told site.old) → IfOk result (λ o. Holds S.Site o.tail site.new) }
+        ensures head { IfOk result (λ o. (o.tail.head ≡ o.head) × (o.head.version ≡ 2)) }
+        ensures generation { IfOk result (λ o. o.head.generation ≢ last_generation) }
+        ensures lawful { IfOk result (λ o. IsTrue (is_lawful o.head)) }
+        ensures not_store { IsTrue (S.told site.old)
+            → IfErr result (IsFault (growing_reading (S.seen site.old))) }
+        ensures behind { IfErr result IsBehindLawful }
+        ensures failed { IsErrOf result GateFault.DiskFault
+            → Rose (S.counts site.old).disk (S.counts site.new).disk }
+        ensures counted { StopsAtFault (IsErrOf result GateFault.DiskFault) ⊥ ⊥
+            (S.counts site.old) (S.counts site.new) }
+        ensures settled { ¬ IsErrOf result GateFault.DiskFault → IsSettled S.Site site.new }
+        ensures looks { OnlyLooks S.Site site.old site.new }
+    {
+        open_files(alloc, site, Some(2))
     }
 }

@@ -166,7 +166,7 @@ impl Tail {
 
 impl Closed {
     /// The tail.
-    pub(crate) fn into_tail(self) -> Tail
+    pub fn into_tail(self) -> Tail
         ensures tail { result ≡ self }
         ensures closed { result.other_closed ≡ true }
     {

@@ -21,8 +21,8 @@ returns-then-not-is_body-clause-fault g c told =
     let bytes = file_of (g.S.Site.seen c.args.site.now) e.file in
     let body = c.deref-2.ensures.value ∙ c.in_ok-body.ensures.bytes told in
     let wrong = current_wrong e.opening c.body_at-body_at.result c.body_at-body_at.ensures e.front (sym c.is_cut.ensures ∙ c.if-is_cut.false) e.file bytes c.deref.result.now c.deref-2.result.now (c.requires.front told) c.deref.ensures.value body (sym c.is_body.ensures ∙ c.if-not-is_body.true) in
-    let same = sym (as_body c.args.old e.file bytes e.opening (sym c.is_read.ensures ∙ c.if-not-is_read.false) (sym c.is_unfollowed.ensures ∙ c.if-is_unfollowed.false)) ∙ wrong in
-    subst (λ (f : GateFault). IsFault (current_as c.args.old e.file bytes e.opening) f) (sym c.refused_at-then-not-is_body.ensures) same
+    let same = sym (as_body c.args.only e.file bytes e.opening (sym c.is_read.ensures ∙ c.if-not-is_read.false) (sym c.is_unfollowed.ensures ∙ c.if-is_unfollowed.false)) ∙ wrong in
+    subst (λ (f : GateFault). IsFault (current_as c.args.only e.file bytes e.opening) f) (sym c.refused_at-then-not-is_body.ensures) same
 
 pub returns-clause-found : goal.returns-clause-found
 returns-clause-found g c told =
@@ -34,7 +34,7 @@ returns-clause-found g c told =
     let bytes = file_of (g.S.Site.seen c.args.site.now) e.file in
     let right = subst (λ (l : List ℕ). (layout_of e.opening.head.version).is_body (take (layout_of e.opening.head.version).body_at c.deref.result.now) l ≡ true) c.deref-2.ensures.value (sym c.is_body.ensures ∙ c.if-not-is_body.false) in
     let same = current_right e.opening at c.body_at-body_at.ensures e.front (sym c.is_cut.ensures ∙ c.if-is_cut.false) e.file bytes c.deref.result.now c.in_ok-body.body.items (c.requires.front told) c.deref.ensures.value (c.in_ok-body.ensures.bytes told) right c.deref-3.result.now rest
-    ∙ as_body c.args.old e.file bytes e.opening (sym c.is_read.ensures ∙ c.if-not-is_read.false) (sym c.is_unfollowed.ensures ∙ c.if-is_unfollowed.false) in
+    ∙ as_body c.args.only e.file bytes e.opening (sym c.is_read.ensures ∙ c.if-not-is_read.false) (sym c.is_unfollowed.ensures ∙ c.if-is_unfollowed.false) in
     subst (λ (r : Result Found Fault). IfOk c.found_or_fault.result (λ o. r ≡ Ok (found_of o))) same c.found_or_fault.ensures.found
 
 pub returns-clause-fault : goal.returns-clause-fault
@@ -47,5 +47,5 @@ returns-clause-fault g c told =
     let bytes = file_of (g.S.Site.seen c.args.site.now) e.file in
     let right = subst (λ (l : List ℕ). (layout_of e.opening.head.version).is_body (take (layout_of e.opening.head.version).body_at c.deref.result.now) l ≡ true) c.deref-2.ensures.value (sym c.is_body.ensures ∙ c.if-not-is_body.false) in
     let same = current_right e.opening at c.body_at-body_at.ensures e.front (sym c.is_cut.ensures ∙ c.if-is_cut.false) e.file bytes c.deref.result.now c.in_ok-body.body.items (c.requires.front told) c.deref.ensures.value (c.in_ok-body.ensures.bytes told) right c.deref-3.result.now rest
-    ∙ as_body c.args.old e.file bytes e.opening (sym c.is_read.ensures ∙ c.if-not-is_read.false) (sym c.is_unfollowed.ensures ∙ c.if-is_unfollowed.false) in
+    ∙ as_body c.args.only e.file bytes e.opening (sym c.is_read.ensures ∙ c.if-not-is_read.false) (sym c.is_unfollowed.ensures ∙ c.if-is_unfollowed.false) in
     subst (λ (r : Result Found Fault). IfErr c.found_or_fault.result (IsFault r)) same c.found_or_fault.ensures.fault
