@@ -1,6 +1,6 @@
 -- Writes behind the closed gate beside a tail's file, and the sync that ends them.
 use Rattle.std.proofs.Common.{◌≡◌, ◌∙◌, ◌≤◌, ◌+◌, ℕ, zero, suc, true, false, List, [], ◌∷◌, ◌++◌, length, take, drop, refl, sym, ap, subst, arith, length-append, append_assoc, take-append-drop}
-use Rattle.std.proofs.lemmas.List.{take_at, drop_at, length-take, append-nil}
+use Rattle.std.proofs.lemmas.List.{take_at, length-take, append-nil}
 use Rattle.std.specs.Prelude.{IsTrue, Result, Ok, Err, OnOk, OnErr, Some}
 use Rattle.ox_outside.proofs.Calls.{leaves_at_first, leaves_on}
 use Rattle.ox_outside.specs.Crash.{AddsNothing, Follows, OneCall, Only, Remains, Tears}

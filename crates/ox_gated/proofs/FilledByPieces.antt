@@ -1,5 +1,5 @@
 -- What stands in the other file once the last gate and the head are written around a body.
-use Rattle.std.proofs.Common.{◌≡◌, ◌∙◌, ◌≤◌, ◌+◌, ℕ, List, [], ◌∷◌, ◌++◌, length, take, drop, sym, ap, subst, arith, append_assoc}
+use Rattle.std.proofs.Common.{◌≡◌, ◌∙◌, ◌+◌, ℕ, List, [], ◌∷◌, ◌++◌, length, take, drop, sym, ap, subst, arith, append_assoc}
 use Rattle.std.proofs.lemmas.List.{drop_at}
 use Rattle.ox_outside.specs.Files.{Files, file_of, other, with_bytes}
 use Rattle.ox_outside.specs.declared.site.Site.{Ghosts as Meanings}

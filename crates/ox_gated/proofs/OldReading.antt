@@ -3,7 +3,7 @@ use Rattle.std.proofs.Common.{◌≡◌, ◌∙◌, ℕ, Bool, true, false, List
 use Rattle.std.specs.Prelude.{Result, Ok, Err, Option, Some, None}
 use Rattle.ox_outside.specs.Files.{Files, file_of}
 use Rattle.ox_outside.specs.declared.site.Which.{Which}
-use Rattle.ox_gated.specs.OldReading.{followed_reading, followed_where, growing_reading, is_followed, is_growing, is_read, old_reading, current_as}
+use Rattle.ox_gated.specs.OldReading.{followed_where, growing_reading, is_followed, is_growing, is_read, old_reading, current_as}
 use Rattle.ox_gated.specs.OtherFile.{last_generation}
 use Rattle.ox_gated.specs.Pick.{Choice, choice_of}
 use Rattle.ox_gated.specs.Reading.{Found, Fault, fault_at, body_reading, current_reading, is_old, is_present, of_picked, reading_by, reading}

@@ -1,5 +1,5 @@
 -- One write and its sync, and what is answered where a call failed.
-use Rattle.std.proofs.Common.{◌≡◌, ◌∙◌, ℕ, refl, sym, ap, subst}
+use Rattle.std.proofs.Common.{◌≡◌, ◌∙◌, ℕ, sym, ap, subst}
 use Rattle.std.specs.Prelude.{Result, Ok, Err, IfOk, OnOk, OnErr, IsErrOf, Some}
 use Rattle.std.proofs.lemmas.Result.{on_err_weaker, on_ok_weaker}
 use Rattle.ox_outside.specs.Counts.{Counts, CountsFile, IsFailure, Rose, StopsAtFault, NoFault, NoneFell}

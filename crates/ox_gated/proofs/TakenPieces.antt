@@ -3,8 +3,7 @@ use Rattle.std.proofs.Common.{◌≡◌, ◌∙◌, ◌≤◌, ◌<◌, ◌+◌,
 use Rattle.std.proofs.lemmas.List.{length-take}
 use Rattle.std.specs.Prelude.{IsTrue}
 use Rattle.ox_outside.proofs.Counts.{no_fault_yet, stops_at_none}
-use Rattle.ox_outside.specs.Crash.{Remains}
-use Rattle.ox_outside.specs.Files.{Files, file_of, other, with_bytes}
+use Rattle.ox_outside.specs.Files.{file_of, other, with_bytes}
 use Rattle.ox_outside.specs.declared.site.Site.{Ghosts as Meanings}
 use Rattle.ox_outside.specs.declared.site.Which.{Which}
 use Rattle.sha2.specs.Hashers.{Holds256}
@@ -12,7 +11,6 @@ use Rattle.sha2.specs.declared.Sha256.{Sha256}
 use Rattle.ox_gated.specs.Filling.{HasTaken, Poured, PoursOn, PoursUntil, StaysShut}
 use Rattle.ox_gated.specs.Tail.{Kept}
 use Rattle.ox_gated.specs.Written.{with_write}
-use Rattle.ox_gated.specs.declared.fault.Halt.{Halt}
 use Rattle.ox_gated.specs.declared.fault.Halt.TheVariants as halts
 use Rattle.ox_gated.proofs.BehindGate.{some_shut, stands_none, stands_on, stands_within}
 use Rattle.ox_gated.proofs.FilledByPieces.{now_written}

@@ -228,7 +228,7 @@ fn found_or_fault(
 }
 
 /// Reads the body and the records of the current file. Its version has to be one that is read: 2 or
-/// 3, or only this one; and then its generation isn't the greatest, since another file is to follow.
+/// 3, or only this one, where another file is to follow; then its generation isn't the greatest.
 pub fn read_current<S: Site>(
     alloc: Global,
     site: &mut S,

@@ -87,10 +87,10 @@ impl Tail {
         self.records() >= MOST_RECORDS && self.head().generation != u64::MAX
     }
 
-    /// Whether the other file is due to take the place of the current one, as the same stack without
-    /// records: that one is of version 3 and has 64 records or a multiple of that, which take at
-    /// least half as many bytes as the body, gates and sums among them, and its generation isn't the
-    /// greatest.
+    /// Whether the other file is due to take the place of the current one, as the same stack
+    /// without records: that one is of version 3 and has 64 records or a multiple of that, which
+    /// take at least half as many bytes as the body, gates and sums among them, and its generation
+    /// isn't the greatest.
     pub fn is_turn_due(&self) -> bool
         ensures { IsTrue result ↔ MayTurn self.now }
     {

@@ -1,6 +1,5 @@
-use Rattle.std.proofs.Common.{◌≡◌, sym, subst}
+use Rattle.std.proofs.Common.{sym, subst}
 use Rattle.ox_gated.specs.Filling.{Poured, PoursOn, StaysShut}
-use Rattle.ox_gated.specs.Tail.{Kept, Holds}
 use Rattle.ox_gated.proofs.BehindGate.{holds_again}
 use Rattle.ox_gated.proofs.filling.Filling.give_up.Goals as goal
 

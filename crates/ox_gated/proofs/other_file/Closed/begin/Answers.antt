@@ -1,7 +1,7 @@
-use Rattle.std.proofs.Common.{◌≡◌, refl, subst, sym}
+use Rattle.std.proofs.Common.{refl, subst, sym}
 use Rattle.std.specs.Prelude.{IsTrue}
 use Rattle.ox_outside.specs.Files.{file_of, other}
-use Rattle.ox_gated.specs.Filling.{HasTaken, PoursOn, StaysShut}
+use Rattle.ox_gated.specs.Filling.{PoursOn, StaysShut}
 use Rattle.ox_gated.specs.Tail.{Kept, Holds}
 use Rattle.ox_gated.proofs.BehindGate.{shut_beside, some_shut}
 use Rattle.ox_gated.proofs.TakenPieces.{begun}
