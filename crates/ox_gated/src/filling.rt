@@ -2,16 +2,16 @@
 
 ghost use Rattle.std.specs.Prelude.{◌≡◌, ◌+◌, ◌≤◌, ◌<◌, ◌^◌, ◌++◌, ℕ, List, [], length};
 ghost use Rattle.std.specs.Prelude.{IsTrue, IfOk, OnOk, OnErr};
-ghost use Rattle.sha2.specs.Sha256.{sha256};
 ghost use Rattle.ox_outside.specs.Counts.{IsFailure, Rose, StopsAtFault};
 ghost use Rattle.ox_outside.specs.Files.{file_of, other};
 ghost use Rattle.ox_gated.specs.Filling.{HasTaken, PoursOn, StaysShut};
-ghost use Rattle.ox_gated.specs.Layout.{head_front, is_lawful};
+ghost use Rattle.ox_gated.specs.Layout.{is_lawful};
 ghost use Rattle.ox_gated.specs.OtherFile.{HoldsBoth, first_gate_at};
 ghost use Rattle.ox_gated.specs.Tail.{Holds, IsSettled};
 ghost use Rattle.ox_gated.specs.Written.{with_write};
 
 use crate::fault::Halt;
+use crate::front::summed_front;
 use crate::head::Head;
 use crate::layout::SUMMED_BODY_AT;
 use crate::other_file::{Closed, Filled, other_file};
@@ -204,72 +204,7 @@ impl Filling {
         ensures counted { StopsAtFault (IsFailure result) ⊥ ⊥
             (S.counts site.old) (S.counts site.new) }
     {
-        let tail = self.tail;
-        settle_beside(site, &tail)?;
-        Ok(tail)
+        settle_beside(site, &self.tail)?;
+        Ok(self.tail)
     }
-}
-
-/// What stands before a body of so many bytes with this sum, in a file of version 3: all but the
-/// first gate.
-fn summed_front(head: &Head, size: u64, body_sum: &[u8; 32]) -> [u8; 89]
-    requires { head.now.version ≡ 3 }
-    ensures { let message = head_front head.now size ++ body_sum.now in
-        result ≡ message ++ sha256 message }
-{
-    let message = head_message(head, size, body_sum);
-    let sum = Sha256::digest(&message[..]);
-    let mut front = [0; 89];
-    front[..57].copy_from_slice(&message);
-    front[57..].copy_from_slice(&sum);
-    front
-}
-
-/// What the sum of the head is of.
-fn head_message(head: &Head, size: u64, body_sum: &[u8; 32]) -> [u8; 57]
-    requires { head.now.version ≡ 3 }
-    ensures { result ≡ head_front head.now size ++ body_sum.now }
-{
-    let mut message = [0; 57];
-    message[..25].copy_from_slice(&plain_front(head, size));
-    message[25..].copy_from_slice(body_sum);
-    message
-}
-
-/// The head of version 3, and the length of its body.
-#[tactic(auto, unfolding(crate::specs::Layout::layout_of))]
-fn plain_front(head: &Head, size: u64) -> [u8; 25]
-    requires { head.now.version ≡ 3 }
-    ensures { result ≡ head_front head.now size }
-{
-    let depth = head.depth.to_le_bytes();
-    let generation = head.generation.to_le_bytes();
-    let size = size.to_le_bytes();
-    [
-        b'o',
-        b'x',
-        b'i',
-        b'd',
-        b'3',
-        head.version,
-        head.profile,
-        depth[0],
-        depth[1],
-        generation[0],
-        generation[1],
-        generation[2],
-        generation[3],
-        generation[4],
-        generation[5],
-        generation[6],
-        generation[7],
-        size[0],
-        size[1],
-        size[2],
-        size[3],
-        size[4],
-        size[5],
-        size[6],
-        size[7],
-    ]
 }

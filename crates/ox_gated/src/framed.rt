@@ -1,12 +1,13 @@
 //! What is written: a record with the closed gate behind it, and a file without records.
 
 ghost use Rattle.std.specs.Prelude.{◌≡◌, ◌+◌, ◌≤◌, ◌<◌, ◌^◌, ◌++◌, ◌∷◌, [], length, IsTrue, IfOk};
-ghost use Rattle.ox_gated.specs.Layout.{head_bytes, head_front, is_lawful, layout_of};
+ghost use Rattle.ox_gated.specs.Layout.{head_bytes, is_lawful, layout_of};
 ghost use Rattle.ox_gated.specs.RecordLayout.{plain_record, summed_record};
 ghost use Rattle.ox_gated.specs.Tail.{IsFramedBehind};
 
+use crate::front::{plain_front, summed_front};
 use crate::head::Head;
-use crate::layout::{SUMMED_BODY_AT, record_sum};
+use crate::layout::record_sum;
 use crate::tail::Tail;
 use ox_bytes::{Bytes, Memory};
 use sha2::{Digest, Sha256};
@@ -215,26 +216,10 @@ pub fn checkpoint_of(alloc: Global, head: &Head, body: Bytes) -> Result<Checkpoi
 fn front_of(alloc: Global, head: &Head, body: &[u8]) -> Result<Bytes, Memory>
     ensures { IfOk result (λ front. front ≡ head_bytes head.now body.now) }
 {
-    let mut front = plain_front(alloc, head, body.len() as u64)?;
+    let size = body.len() as u64;
     if head.is_summed() {
-        let body_sum = Sha256::digest(body);
-        front.extend_from_slice(&body_sum)?;
-        let head_sum = Sha256::digest(&front[..]);
-        front.extend_from_slice(&head_sum)?;
+        Bytes::copy(alloc, &summed_front(head, size, &Sha256::digest(body)))
+    } else {
+        Bytes::copy(alloc, &plain_front(head, size))
     }
-    Ok(Bytes::from_vec(front))
-}
-
-/// What stands between the first gate and the sums of the body and of the head, with room for
-/// these.
-fn plain_front(alloc: Global, head: &Head, size: u64) -> Result<Vec<u8>, Memory>
-    ensures { IfOk result (λ front. front.items ≡ head_front head.now size) }
-{
-    let mut bytes = Vec::with_capacity(alloc, SUMMED_BODY_AT - 1)?;
-    bytes.extend_from_slice(head.letters())?;
-    bytes.extend_from_slice(&[head.version, head.profile])?;
-    bytes.extend_from_slice(&head.depth.to_le_bytes())?;
-    bytes.extend_from_slice(&head.generation.to_le_bytes())?;
-    bytes.extend_from_slice(&size.to_le_bytes())?;
-    Ok(bytes)
 }

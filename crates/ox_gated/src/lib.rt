@@ -5,6 +5,7 @@
 mod fault;
 mod filling;
 mod framed;
+mod front;
 mod head;
 mod laws;
 mod layout;

@@ -2,7 +2,7 @@ use Rattle.std.proofs.Common.{◌≡◌, ◌∙◌, ◌++◌, length, refl, ap, 
 use Rattle.sha2.specs.Sha256.{sha256}
 use Rattle.ox_gated.specs.Layout.{head_front}
 use Rattle.ox_gated.proofs.TwoParts.{two_parts}
-use Rattle.ox_gated.proofs.filling.summed_front.Goals as goal
+use Rattle.ox_gated.proofs.front.summed_front.Goals as goal
 
 pub returns : goal.returns
 returns c =

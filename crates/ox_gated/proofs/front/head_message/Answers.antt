@@ -1,7 +1,7 @@
 use Rattle.std.proofs.Common.{◌≡◌, ◌∙◌, ◌++◌, length, refl, arith}
 use Rattle.ox_gated.specs.Layout.{head_front}
 use Rattle.ox_gated.proofs.TwoParts.{two_parts}
-use Rattle.ox_gated.proofs.filling.head_message.Goals as goal
+use Rattle.ox_gated.proofs.front.head_message.Goals as goal
 
 pub returns : goal.returns
 returns c =
