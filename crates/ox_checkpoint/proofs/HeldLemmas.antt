@@ -1,6 +1,6 @@
 -- What unspent outputs hold of runes, output by output, is all that there is of balances.
 use Rattle.std.proofs.Common.{◌≡◌, ◌≢◌, ◌∙◌, ℕ, ◌+◌, ◌≤◌, Bool, true, false, cond, T, List, [], ◌∷◌, ◌++◌, length, take, refl, sym, ap, subst, arith, Option, Some, None}
-use Rattle.std.specs.Prelude.{◌==◌, IsSome, is_some, slice_get, unwrap_or, if◌then◌else◌}
+use Rattle.std.specs.Prelude.{All, ◌==◌, IsSome, is_some, slice_get, unwrap_or, if◌then◌else◌}
 use Rattle.std.specs.FinMap.{entries, entries_sorted, find, get, get-entries, is_sorted}
 use Rattle.std.specs.FinMap.Entries.{below_all, same_entries}
 use Rattle.std.specs.List.{flat_map}
@@ -8,6 +8,7 @@ use Rattle.std.specs.Ordering.{eq_by_cmp, is_lt}
 use Rattle.std.proofs.lemmas.Bool.{and_from, and_parts, ne_eqb}
 use Rattle.std.proofs.lemmas.List.{append-nil, length-append}
 use Rattle.std.proofs.lemmas.List.Concat.{flat_map-append}
+use Rattle.std.proofs.lemmas.List.Elements.{All-append, All-head, All-nil, All-tail}
 use Rattle.ox_block.specs.Spelling.{outpoint}
 use Rattle.ox_block.specs.declared.block.OutPoint.{OutPoint}
 use Rattle.ox_sat.specs.declared.profiles.Profile.{Profile}
@@ -18,7 +19,7 @@ use Rattle.ox_allocation.specs.Balances.{Balance}
 use Rattle.ox_ledger.specs.Runes.{BalanceMap, Placement, balances_at}
 use Rattle.ox_model.specs.Index.{Index}
 use Rattle.ox_model.specs.Sound.{IsSound}
-use Rattle.ox_rows.specs.RowFits.{AreHeld}
+use Rattle.ox_rows.specs.RowFits.{AreHeld, FitsPlacement}
 use Rattle.ox_rows.specs.RowSpelling.{balance, placement}
 use Rattle.ox_rows.specs.Spelling.{list}
 use Rattle.ox_index.proofs.Emptying.{same_key}
@@ -121,12 +122,25 @@ placed_rows at (one ∷ more) some = append-nil (outpoint at ++ list balance (on
 
 -- ---- gone through by places
 
-pub held_next : (bal : BalanceMap) (order : List (OutPoint × OutRow)) (n : ℕ) (placed : OutPoint × OutRow) → slice_get order n ≡ Some placed
+held_next : (bal : BalanceMap) (order : List (OutPoint × OutRow)) (n : ℕ) (placed : OutPoint × OutRow) → slice_get order n ≡ Some placed
     → held_by bal (take (n + 1) order) ≡ held_by bal (take n order) ++ held_at bal placed
 held_next bal order n placed there =
     ap (held_by bal) (take_next order n placed there)
     ∙ flat_map-append (held_at bal) (take n order) (placed ∷ [])
     ∙ ap (λ (l : List Placement). held_by bal (take n order) ++ l) (append-nil (held_at bal placed))
+
+-- the rows of what each output holds are those of what all hold
+pub held_rows : (bal : BalanceMap) (order : List (OutPoint × OutRow)) → flat_map (λ (placed : OutPoint × OutRow). flat_map placement (held_at bal placed)) order ≡ flat_map placement (held_by bal order)
+held_rows bal [] = refl
+held_rows bal (placed ∷ order) =
+    ap (λ (l : List ℕ). flat_map placement (held_at bal placed) ++ l) (held_rows bal order)
+    ∙ sym (flat_map-append placement (held_at bal placed) (held_by bal order))
+
+pub held_fit : (bal : BalanceMap) (order : List (OutPoint × OutRow)) → All (λ (placed : OutPoint × OutRow). All FitsPlacement (held_at bal placed)) order → All FitsPlacement (held_by bal order)
+held_fit bal [] fit = All-nil FitsPlacement
+held_fit bal (placed ∷ order) fit =
+    All-append FitsPlacement (held_at bal placed) (held_by bal order) (All-head (λ (one : OutPoint × OutRow). All FitsPlacement (held_at bal one)) placed order fit)
+    (held_fit bal order (All-tail (λ (one : OutPoint × OutRow). All FitsPlacement (held_at bal one)) placed order fit))
 
 -- so many of the outputs before a place hold runes
 pub record HoldSome (bal : BalanceMap) (order : List (OutPoint × OutRow)) (n count : ℕ) : Type 0 where

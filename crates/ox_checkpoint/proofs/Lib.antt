@@ -3,6 +3,7 @@ pub mod RowLemmas
 pub mod KeepLemmas
 pub mod AgainLemmas
 pub mod PutLemmas
+pub mod PutsLemmas
 pub mod HeldLemmas
 pub mod LostLemmas
 pub mod ReadLemmas

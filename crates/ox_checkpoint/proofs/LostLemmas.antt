@@ -62,13 +62,11 @@ one_whole runs count n whole left so_far less fits =
 
 -- ---- put
 
-pub runs_put : (old counted front bytes : List ℕ) (whole : List Run) (part : Option Run) (count : ℕ) → count ≡ length (whole ++ option_to_list part) → counted ≡ old ++ to_le_bytes w32 count
-    → front ≡ counted ++ flat_map run whole → bytes ≡ front ++ flat_map run (option_to_list part) → bytes ≡ old ++ list run (whole ++ option_to_list part)
-runs_put old counted front bytes whole part count long first second third =
+pub runs_spelled : (whole : List Run) (part : Option Run) (count : ℕ) → count ≡ length (whole ++ option_to_list part)
+    → to_le_bytes w32 count ++ flat_map run whole ++ flat_map run (option_to_list part) ≡ list run (whole ++ option_to_list part)
+runs_spelled whole part count long =
     let number = to_le_bytes w32 (length (whole ++ option_to_list part)) in
     let last = flat_map run (option_to_list part) in
-    third
-    ∙ ap (λ (b : List ℕ). b ++ last) (second ∙ ap (λ (b : List ℕ). b ++ flat_map run whole) (first ∙ ap (λ (n : ℕ). old ++ to_le_bytes w32 n) long))
-    ∙ append_assoc (old ++ number) (flat_map run whole) last
-    ∙ append_assoc old number (flat_map run whole ++ last)
-    ∙ ap (λ (r : List ℕ). old ++ (number ++ r)) (sym (flat_map-append run whole (option_to_list part)))
+    ap (λ (n : ℕ). to_le_bytes w32 n ++ flat_map run whole ++ last) long
+    ∙ append_assoc number (flat_map run whole) last
+    ∙ ap (λ (r : List ℕ). number ++ r) (sym (flat_map-append run whole (option_to_list part)))

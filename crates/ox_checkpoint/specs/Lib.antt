@@ -1,4 +1,5 @@
 pub mod Held
 pub mod Standing
 pub mod Judgement
+pub mod Putting
 pub mod Unjudged

@@ -10,6 +10,6 @@ mod restoring;
 mod standing;
 
 pub use laws::{sound_data_can_be_put, what_is_spelled_stands};
-pub use put::put_body;
+pub use put::{PutFault, put_body};
 pub use restoring::{Unjudged, earliest, restore, stand};
 pub use standing::{Judgement, Standing};

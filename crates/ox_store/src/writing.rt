@@ -18,7 +18,7 @@ ghost use Rattle.ox_store.specs.Ready.{StandsForEither};
 ghost use Rattle.ox_store.specs.Writing.{HasOneMore, HasTurned, IsDue, IsFileDue, LeadsTo};
 
 use ox_bytes::{Bytes, Memory};
-use ox_checkpoint::put_body;
+use ox_checkpoint::{PutFault, put_body};
 use ox_feed::Command;
 use ox_files::{CONNECT, DISCONNECT};
 use ox_gated::{Checkpoint, DiskFault, Framed, Head, Tail, checkpoint_of};
@@ -142,8 +142,10 @@ fn body_of(alloc: Global, chain: &Chain) -> Result<Bytes, Memory>
         IfOk result (λ body. stack_in_body stack.profile stack.depth body ≡ Some stack) }
 {
     let mut body = Bytes::empty(alloc);
-    put_body(&mut body, chain.live(), chain.changes())?;
-    Ok(body)
+    match put_body(alloc, &mut body, &mut (), chain.live(), chain.changes()) {
+        Ok(()) => Ok(body),
+        Err(PutFault::Memory | PutFault::Sink(Memory)) => Err(Memory),
+    }
 }
 
 /// The record of the command that has led to this chain: 01 and the rows of the newest block's

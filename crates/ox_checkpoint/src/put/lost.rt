@@ -1,40 +1,65 @@
 //! Lost satoshis, put from where they are in memory.
 
-ghost use Rattle.std.specs.Prelude.{◌≡◌, ◌==◌, ◌+◌, ◌<◌, ◌≤◌, ◌++◌, length, take, OnOk};
-ghost use Rattle.std.specs.Prelude.{None, Some, if◌then◌else◌, option_to_list};
+ghost use Rattle.std.specs.Prelude.{◌≡◌, ◌==◌, ◌+◌, ◌<◌, ◌≤◌, ◌++◌, ℕ, List, length, take};
+ghost use Rattle.std.specs.Prelude.{OnOk, IfErr, None, Some, if◌then◌else◌, option_to_list};
 ghost use Rattle.std.specs.List.{flat_map};
 ghost use Rattle.ox_range.specs.Runs.{front_of, numbers_of, run_at, runs_of};
 ghost use Rattle.ox_index.specs.Live.{index_in};
 ghost use Rattle.ox_rows.specs.Fits.{AreSats, FitsSats};
 ghost use Rattle.ox_rows.specs.Spelling.{run, sats};
+ghost use Rattle.ox_checkpoint.specs.Putting.{Ended, Puts};
 
+use super::buffer::{Buffer, PutFault, Rows, put_rows};
 use ox_bytes::{Bytes, Memory, put_u64le};
+use ox_gated::Sink;
 use ox_index::Live;
 use ox_range::{Ranges, Run};
 use ox_rows::put_count;
 
 /// Puts the satoshis that no output holds any more, in the order in which they were lost.
-pub(super) fn put_lost(bytes: &mut Bytes, live: &Live) -> Result<(), Memory>
-    requires { AreSats (index_in live.now).lost }
-    ensures ok { OnOk result (bytes.new ≡ bytes.old ++ sats (index_in live.now).lost) }
+pub(super) fn put_lost<W, K: Sink<W>>(
+    sink: &mut K,
+    world: &mut W,
+    buffer: &mut Buffer,
+    live: &Live,
+) -> Result<(), PutFault<K::Fault>>
+    requires taken { (bytes : List ℕ) × K.holds sink.old world.old bytes }
+    requires sats { AreSats (index_in live.now).lost }
+    ensures put { OnOk result
+        (Puts K.holds K.went (sats (index_in live.now).lost)
+        sink.old world.old buffer.old.rows sink.new world.new buffer.new.rows) }
     ensures fits { OnOk result (FitsSats (index_in live.now).lost) }
+    ensures ended { IfErr result (λ fault.
+        Ended K.went K.ended sink.old world.old fault sink.new world.new) }
 {
     let (lost, count) = live.lost_sats();
-    put_first(bytes, lost, count)
+    put_first(sink, world, buffer, lost, count)
 }
 
 /// Puts the first of some satoshis, so many: how many maximal runs these have, in 4 bytes, and of
 /// each its first number and its count.
-fn put_first(bytes: &mut Bytes, ranges: &Ranges, count: u64) -> Result<(), Memory>
+fn put_first<W, K: Sink<W>>(
+    sink: &mut K,
+    world: &mut W,
+    buffer: &mut Buffer,
+    ranges: &Ranges,
+    count: u64,
+) -> Result<(), PutFault<K::Fault>>
+    requires taken { (bytes : List ℕ) × K.holds sink.old world.old bytes }
     requires within { count ≤ length ranges.now }
     requires sats { AreSats (take count ranges.now) }
-    ensures ok { OnOk result (bytes.new ≡ bytes.old ++ sats (take count ranges.now)) }
+    ensures put { OnOk result
+        (Puts K.holds K.went (sats (take count ranges.now))
+        sink.old world.old buffer.old.rows sink.new world.new buffer.new.rows) }
     ensures fits { OnOk result (FitsSats (take count ranges.now)) }
+    ensures ended { IfErr result (λ fault.
+        Ended K.went K.ended sink.old world.old fault sink.new world.new) }
 {
     let (whole, part) = first_runs(ranges, count);
-    put_count(bytes, count_of(whole, &part))?;
-    put_runs(bytes, whole)?;
-    put_part(bytes, part)
+    put_count(&mut buffer.rows, count_of(whole, &part))?;
+    put_rows(sink, world, buffer, &Runs(whole))?;
+    put_part(&mut buffer.rows, part)?;
+    Ok(())
 }
 
 /// How many runs these are.
@@ -47,14 +72,34 @@ fn count_of(whole: &[Run], part: &Option<Run>) -> usize
     }
 }
 
-/// Puts each run, without a count.
-fn put_runs(bytes: &mut Bytes, runs: &[Run]) -> Result<(), Memory>
-    ensures { OnOk result (bytes.new ≡ bytes.old ++ flat_map run runs.now) }
-{
-    for one in runs {
-        put_run(bytes, *one)?;
+/// Maximal runs.
+#[derive(Drop)]
+struct Runs<'a>(&'a [Run]);
+
+impl<'a> Rows for Runs<'a> {
+    ghost use Rattle.ox_range.specs.declared.runs.Run.{Run};
+    ghost use Rattle.ox_rows.specs.Spelling.{run};
+
+    ghost Item = { Run };
+
+    ghost items = { λ s. s.0.now };
+
+    ghost spelling = { λ s one. run one };
+
+    ghost fits = { λ s one. Unit {0} };
+
+    ghost keeps = { λ s. Unit {0} };
+
+    fn len(&self) -> usize {
+        self.0.len()
     }
-    Ok(())
+
+    fn put_row(&self, n: usize, bytes: &mut Bytes) -> Result<(), Memory> {
+        match self.0.get(n) {
+            Some(one) => put_run(bytes, *one),
+            None => Ok(()),
+        }
+    }
 }
 
 /// Puts a run: its first number and its count.

@@ -1,40 +1,49 @@
 //! Unspent outputs, put from where they are in memory.
 
 ghost use Rattle.std.specs.Prelude.{◌≡◌, ◌++◌, OnOk};
-ghost use Rattle.std.specs.List.{All, flat_map};
-ghost use Rattle.ox_rows.specs.Fits.{AreSats, FitsList};
+ghost use Rattle.ox_rows.specs.Fits.{AreSats};
 ghost use Rattle.ox_rows.specs.RowFits.{FitsOutput};
 ghost use Rattle.ox_rows.specs.RowSpelling.{output};
-ghost use Rattle.ox_rows.specs.Spelling.{list};
 
+use super::buffer::Rows;
 use ox_block::OutPoint;
 use ox_bytes::{Bytes, Memory};
 use ox_outputs::InOrder;
-use ox_rows::{Writable, put_count};
+use ox_rows::Writable;
 use ox_rules::OutRow;
 
-/// Puts outputs in their order: how many in 4 bytes, and each with its outpoint.
-pub(super) fn put_outputs(bytes: &mut Bytes, order: &InOrder<'_>) -> Result<(), Memory>
-    requires { All (λ placed. AreSats placed.1.sats) order.now }
-    ensures ok { OnOk result (bytes.new ≡ bytes.old ++ list output order.now) }
-    ensures fits { OnOk result (FitsList FitsOutput order.now) }
-{
-    put_count(bytes, order.len())?;
-    put_each(bytes, order)
-}
+/// Outputs in their order.
+#[derive(Drop)]
+pub(super) struct Outputs<'a>(pub(super) &'a InOrder<'a>);
 
-/// Puts each output, without a count.
-fn put_each(bytes: &mut Bytes, order: &InOrder<'_>) -> Result<(), Memory>
-    requires { All (λ placed. AreSats placed.1.sats) order.now }
-    ensures ok { OnOk result (bytes.new ≡ bytes.old ++ flat_map output order.now) }
-    ensures fits { OnOk result (All FitsOutput order.now) }
-{
-    for n in 0..order.len() {
-        if let Some((at, row)) = order.get(n) {
-            put_output(bytes, at, row)?;
+impl<'a> Rows for Outputs<'a> {
+    ghost use Rattle.std.specs.List.{All};
+    ghost use Rattle.ox_block.specs.declared.block.OutPoint.{OutPoint};
+    ghost use Rattle.ox_rules.specs.declared.rows.OutRow.{OutRow};
+    ghost use Rattle.ox_rows.specs.Fits.{AreSats};
+    ghost use Rattle.ox_rows.specs.RowFits.{FitsOutput};
+    ghost use Rattle.ox_rows.specs.RowSpelling.{output};
+
+    ghost Item = { OutPoint × OutRow };
+
+    ghost items = { λ s. s.0.now };
+
+    ghost spelling = { λ s placed. output placed };
+
+    ghost fits = { λ s placed. FitsOutput placed };
+
+    ghost keeps = { λ s. All (λ placed. AreSats placed.1.sats) s.0.now };
+
+    fn len(&self) -> usize {
+        self.0.len()
+    }
+
+    fn put_row(&self, n: usize, bytes: &mut Bytes) -> Result<(), Memory> {
+        match self.0.get(n) {
+            Some((at, row)) => put_output(bytes, at, row),
+            None => Ok(()),
         }
     }
-    Ok(())
 }
 
 /// Puts an output with its outpoint.

@@ -1,56 +1,102 @@
-//! Inscriptions and runes, put from where they are in memory.
+//! Hashes, inscriptions and runes, put from where they are in memory.
 
-ghost use Rattle.std.specs.Prelude.{◌≡◌, ◌++◌, OnOk};
-ghost use Rattle.std.specs.List.{All, flat_map};
-ghost use Rattle.ox_index.specs.Live.{index_in};
-ghost use Rattle.ox_rows.specs.Fits.{FitsList};
-ghost use Rattle.ox_rows.specs.RowFits.{FitsInscription, FitsRune};
-ghost use Rattle.ox_rows.specs.RowSpelling.{inscription, rune};
-ghost use Rattle.ox_rows.specs.Spelling.{list};
-
+use super::buffer::Rows;
 use ox_bytes::{Bytes, Memory};
 use ox_index::Live;
 use ox_model::View;
-use ox_rows::{Writable, put_count};
+use ox_rows::Writable;
 
-/// Puts the inscriptions by their sequences: how many in 4 bytes, and the row of each.
-pub(super) fn put_inscriptions(bytes: &mut Bytes, live: &Live) -> Result<(), Memory>
-    ensures ok { OnOk result
-        (bytes.new ≡ bytes.old ++ list inscription (index_in live.now).inscriptions) }
-    ensures fits { OnOk result (FitsList FitsInscription (index_in live.now).inscriptions) }
-{
-    put_count(bytes, live.inscriptions() as usize)?;
-    put_each_inscription(bytes, live)
-}
+/// The blocks' hashes.
+#[derive(Drop)]
+pub(super) struct Hashes<'a>(pub(super) &'a [[u8; 32]]);
 
-/// Puts the row of each inscription, without a count.
-fn put_each_inscription(bytes: &mut Bytes, live: &Live) -> Result<(), Memory>
-    ensures ok { OnOk result
-        (bytes.new ≡ bytes.old ++ flat_map inscription (index_in live.now).inscriptions) }
-    ensures fits { OnOk result (All FitsInscription (index_in live.now).inscriptions) }
-{
-    for n in 0..live.inscriptions() {
-        live.inscription(n).put(bytes)?;
+impl<'a> Rows for Hashes<'a> {
+    ghost use Rattle.std.specs.Prelude.{List, ℕ};
+    ghost use Rattle.ox_rows.specs.Fits.{IsHash};
+    ghost use Rattle.ox_rows.specs.Spelling.{hash};
+
+    ghost Item = { List ℕ };
+
+    ghost items = { λ s. s.0.now };
+
+    ghost spelling = { λ s one. hash one };
+
+    ghost fits = { λ s one. IsHash one };
+
+    ghost keeps = { λ s. Unit {0} };
+
+    fn len(&self) -> usize {
+        self.0.len()
     }
-    Ok(())
-}
 
-/// Puts the runes by their etchings: how many in 4 bytes, and the row of each.
-pub(super) fn put_runes(bytes: &mut Bytes, live: &Live) -> Result<(), Memory>
-    ensures ok { OnOk result (bytes.new ≡ bytes.old ++ list rune (index_in live.now).runes) }
-    ensures fits { OnOk result (FitsList FitsRune (index_in live.now).runes) }
-{
-    put_count(bytes, live.runes() as usize)?;
-    put_each_rune(bytes, live)
-}
-
-/// Puts the row of each rune, without a count.
-fn put_each_rune(bytes: &mut Bytes, live: &Live) -> Result<(), Memory>
-    ensures ok { OnOk result (bytes.new ≡ bytes.old ++ flat_map rune (index_in live.now).runes) }
-    ensures fits { OnOk result (All FitsRune (index_in live.now).runes) }
-{
-    for n in 0..live.runes() {
-        live.rune(n).put(bytes)?;
+    fn put_row(&self, n: usize, bytes: &mut Bytes) -> Result<(), Memory> {
+        match self.0.get(n) {
+            Some(hash) => hash.put(bytes),
+            None => Ok(()),
+        }
     }
-    Ok(())
+}
+
+/// The inscriptions by their sequences.
+#[derive(Drop)]
+pub(super) struct Inscriptions<'a>(pub(super) &'a Live);
+
+impl<'a> Rows for Inscriptions<'a> {
+    ghost use Rattle.ox_inscribe.specs.declared.row.InsRow.{InsRow};
+    ghost use Rattle.ox_index.specs.Live.{index_in};
+    ghost use Rattle.ox_rows.specs.RowFits.{FitsInscription};
+    ghost use Rattle.ox_rows.specs.RowSpelling.{inscription};
+
+    ghost Item = { InsRow };
+
+    ghost items = { λ s. (index_in s.0.now).inscriptions };
+
+    ghost spelling = { λ s row. inscription row };
+
+    ghost fits = { λ s row. FitsInscription row };
+
+    ghost keeps = { λ s. Unit {0} };
+
+    fn len(&self) -> usize {
+        self.0.inscriptions() as usize
+    }
+
+    fn put_row(&self, n: usize, bytes: &mut Bytes) -> Result<(), Memory> {
+        match u32::try_from(n) {
+            Ok(n) => self.0.inscription(n).put(bytes),
+            Err(_) => Err(Memory),
+        }
+    }
+}
+
+/// The runes by their etchings.
+#[derive(Drop)]
+pub(super) struct Runes<'a>(pub(super) &'a Live);
+
+impl<'a> Rows for Runes<'a> {
+    ghost use Rattle.ox_etching.specs.declared.row.RuneRow.{RuneRow};
+    ghost use Rattle.ox_index.specs.Live.{index_in};
+    ghost use Rattle.ox_rows.specs.RowFits.{FitsRune};
+    ghost use Rattle.ox_rows.specs.RowSpelling.{rune};
+
+    ghost Item = { RuneRow };
+
+    ghost items = { λ s. (index_in s.0.now).runes };
+
+    ghost spelling = { λ s row. rune row };
+
+    ghost fits = { λ s row. FitsRune row };
+
+    ghost keeps = { λ s. Unit {0} };
+
+    fn len(&self) -> usize {
+        self.0.runes() as usize
+    }
+
+    fn put_row(&self, n: usize, bytes: &mut Bytes) -> Result<(), Memory> {
+        match u32::try_from(n) {
+            Ok(n) => self.0.rune(n).put(bytes),
+            Err(_) => Err(Memory),
+        }
+    }
 }
