@@ -1,7 +1,7 @@
 //! Lists of satoshis, by steps.
 
 use crate::print::{Page, put, put_line};
-use ox_range::Ranges;
+use ox_range::{Growing, Ranges};
 use std::alloc::Global;
 use std::mem;
 
@@ -45,13 +45,22 @@ fn cut(lists: &mut Lists, place: u64) -> bool {
     }
 }
 
-/// Keeps what stands before a place.
-fn keep(list: &mut Ranges, place: u64) -> bool {
+/// Keeps what stands before a place, by a list that grows.
+fn keep(alloc: Global, list: &mut Ranges, place: u64) -> bool {
     if place > list.len() {
         return false;
     }
-    list.truncate(place);
-    true
+    let Ok(mut growing) = Growing::of(alloc, list) else {
+        return false;
+    };
+    growing.truncate(place);
+    match growing.front(place) {
+        Ok(front) => {
+            *list = front;
+            true
+        }
+        Err(_) => false,
+    }
 }
 
 /// Keeps a copy of the list beside it.
@@ -69,7 +78,7 @@ fn copy(alloc: Global, lists: &mut Lists) -> bool {
 fn change(alloc: Global, lists: &mut Lists, word: &str, number: u64) -> bool {
     match word {
         "cut" => cut(lists, number),
-        "keep" => keep(&mut lists.list, number),
+        "keep" => keep(alloc, &mut lists.list, number),
         "copy" => copy(alloc, lists),
         "join" => join(&mut lists.list, &lists.beside),
         "swap" => {

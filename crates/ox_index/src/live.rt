@@ -20,7 +20,7 @@ use ox_block::{Block, OutPoint, Txids, read_block};
 use ox_bytes::{Bytes, Memory, Room};
 use ox_model::{Audit, Change, InsId, InsRow, OutRow, OutTable, Place, RuneId, RuneRow, View};
 use ox_outputs::InOrder;
-use ox_range::Ranges;
+use ox_range::Growing;
 use ox_rules::{LONGEST_OK, Why, ok_line_in};
 use ox_sat::{Profile, first};
 use std::alloc::Global;
@@ -32,7 +32,7 @@ pub struct Live {
     alloc: Global,
     hashes: Vec<[u8; 32]>,
     parts: Parts,
-    lost: Ranges,
+    lost: Growing,
     /// So much of the lists counts.
     shown: Lengths,
     /// And so much did before the last command, where it can be gone back to.
@@ -81,11 +81,11 @@ impl Live {
         ensures index { IfOk result (λ live. index_in live ≡ no_blocks p.now) }
     {
         let parts = Parts::new(alloc, p)?;
-        Ok(Live::unmarked(alloc, Vec::new(alloc), parts, Ranges::empty(alloc)))
+        Ok(Live::unmarked(alloc, Vec::new(alloc), parts, Growing::empty(alloc)))
     }
 
     /// The index of these parts and of all of these lists. It has to be sound. There is no mark.
-    fn unmarked(alloc: Global, hashes: Vec<[u8; 32]>, parts: Parts, lost: Ranges) -> Live
+    fn unmarked(alloc: Global, hashes: Vec<[u8; 32]>, parts: Parts, lost: Growing) -> Live
         requires { IsSound parts.profile (index_of_parts hashes.items (held_in parts) lost) }
         ensures profile { profile_in result ≡ parts.profile }
         ensures index { index_in result ≡ index_of_parts hashes.items (held_in parts) lost }
@@ -237,7 +237,7 @@ impl Live {
 
     /// The satoshis that no output holds any more, in the order in which they were lost, and how
     /// many of these count: those behind were lost by a block that was taken back.
-    pub fn lost_sats(&self) -> (&Ranges, u64)
+    pub fn lost_sats(&self) -> (&Growing, u64)
         ensures count { result.1 ≤ length result.0.now }
         ensures first { take result.1 result.0.now ≡ (index_in self.now).lost }
     {

@@ -19,6 +19,8 @@ mod marked_list;
 #[cfg(test)]
 mod outputs;
 #[cfg(test)]
+mod ranges;
+#[cfg(test)]
 mod shards;
 #[cfg(test)]
 mod turns;

@@ -2,34 +2,35 @@
 
 ghost use Rattle.std.specs.Prelude.{◌≡◌, ◌+◌, ◌^◌, ◌<◌, ◌≤◌, ◌∷◌, [], ◌++◌, length};
 ghost use Rattle.std.specs.Prelude.{take, drop, IfOk, OnOk, OnErr};
-ghost use Rattle.ox_range.specs.Few.{runs_in, IsCompact};
-ghost use Rattle.ox_range.specs.Runs.{numbers_of, AreMaximal, run_at, end_of, front_of, rest_of};
+ghost use Rattle.ox_range.specs.Few.{count_in, runs_in, IsKept};
+ghost use Rattle.ox_range.specs.Runs.{numbers_of, AreMaximal, AreRunsOf};
+ghost use Rattle.ox_range.specs.Runs.{run_at, end_of, front_of, rest_of};
 
-use crate::few::Runs;
+use crate::few::{Long, Runs};
 use crate::runs::Run;
 use std::alloc::{AllocError, Global};
+use std::mem;
+use std::rc::Rc;
 
-/// Keeps the runs of the numbers before this place, and gives those of the others. Of one run it
-/// takes no memory.
-pub(crate) fn split(
-    alloc: Global,
-    runs: &mut Runs,
-    len: u64,
-    place: u64,
-) -> Result<Runs, AllocError>
-    requires maximal { AreMaximal (runs_in runs.old) }
-    requires len { length (numbers_of (runs_in runs.old)) ≡ len }
-    requires within { place ≤ len }
+/// Keeps the runs of the numbers before this place, and gives those of the others. Of one run, and
+/// at the end of several, it takes no memory.
+pub(crate) fn split(alloc: Global, runs: &mut Runs, place: u64) -> Result<Runs, AllocError>
+    requires kept { IsKept runs.old }
+    requires within { place ≤ count_in runs.old }
     ensures front { OnOk result (
         numbers_of (runs_in runs.new) ≡ take place (numbers_of (runs_in runs.old))) }
     ensures rest { IfOk result (λ rest.
         numbers_of (runs_in rest) ≡ drop place (numbers_of (runs_in runs.old))) }
-    ensures front_maximal { AreMaximal (runs_in runs.new) }
-    ensures rest_maximal { IfOk result (λ rest. AreMaximal (runs_in rest)) }
-    ensures compact { IsCompact runs.new }
-    ensures rest_compact { IfOk result IsCompact }
+    ensures kept { IsKept runs.new }
+    ensures rest_kept { IfOk result IsKept }
     ensures err { OnErr result (runs_in runs.new ≡ runs_in runs.old) }
 {
+    if place == runs.len() {
+        return Ok(Runs::Empty);
+    }
+    if place == 0 {
+        return take_all(alloc, runs);
+    }
     match runs {
         Runs::Empty => Ok(Runs::Empty),
         Runs::One(run) => {
@@ -37,60 +38,103 @@ pub(crate) fn split(
             *runs = Runs::from_numbers(first, place);
             Ok(Runs::from_numbers(first + place, count - place))
         }
-        Runs::Many(many) => {
-            let rest = split_many(alloc, many, len, place);
+        Runs::Many(long) => {
+            let rest = split_own(alloc, long, place)?;
             runs.settle();
-            rest
+            Ok(rest)
         }
     }
 }
 
-/// Keeps the runs of the numbers before this place. It takes no memory.
-pub(crate) fn shorten(runs: &mut Runs, len: u64, place: u64)
-    requires maximal { AreMaximal (runs_in runs.old) }
-    requires len { length (numbers_of (runs_in runs.old)) ≡ len }
-    requires within { place ≤ len }
-    ensures front { numbers_of (runs_in runs.new) ≡ take place (numbers_of (runs_in runs.old)) }
-    ensures maximal { AreMaximal (runs_in runs.new) }
-    ensures compact { IsCompact runs.new }
+/// Takes all runs out. They are moved, or copied where memory would be left over that was taken for
+/// others.
+fn take_all(alloc: Global, runs: &mut Runs) -> Result<Runs, AllocError>
+    requires { IsKept runs.old }
+    ensures none { OnOk result (runs_in runs.new ≡ []) }
+    ensures all { IfOk result (λ all. runs_in all ≡ runs_in runs.old) }
+    ensures kept { IsKept runs.new }
+    ensures all_kept { IfOk result IsKept }
+    ensures err { OnErr result (runs_in runs.new ≡ runs_in runs.old) }
 {
-    match runs {
-        Runs::Empty => {}
-        Runs::One(run) => {
-            let first = run.first;
-            *runs = Runs::from_numbers(first, place);
-        }
-        Runs::Many(many) => {
-            shorten_many(many, len, place);
-            runs.settle();
-        }
+    if runs.is_snug() {
+        return Ok(mem::replace(runs, Runs::Empty));
+    }
+    let all = Runs::from_slice(alloc, runs.as_slice(), runs.len())?;
+    *runs = Runs::Empty;
+    Ok(all)
+}
+
+/// Keeps the runs of the numbers before this place, and gives those of the others. The list is cut
+/// in place where no other shares it, and a copy of it where one does.
+fn split_own(alloc: Global, long: &mut Rc<Long>, place: u64) -> Result<Runs, AllocError>
+    requires kept { AreRunsOf long.old.value.runs.items long.old.value.len }
+    requires within { place ≤ long.old.value.len }
+    ensures front { OnOk result (numbers_of long.new.value.runs.items ≡
+        take place (numbers_of long.old.value.runs.items)) }
+    ensures rest { IfOk result (λ rest.
+        numbers_of (runs_in rest) ≡ drop place (numbers_of long.old.value.runs.items)) }
+    ensures kept { AreRunsOf long.new.value.runs.items long.new.value.len }
+    ensures rest_kept { IfOk result IsKept }
+    ensures err { OnErr result (long.new.value.runs.items ≡ long.old.value.runs.items) }
+{
+    let own = Rc::make_mut(long)?;
+    own.split_off(alloc, place)
+}
+
+impl Long {
+    /// Keeps the runs of the numbers before this place, and gives those of the others.
+    fn split_off(&mut self, alloc: Global, place: u64) -> Result<Runs, AllocError>
+        requires kept { AreRunsOf self.old.runs.items self.old.len }
+        requires within { place ≤ self.old.len }
+        ensures front { OnOk result (
+            numbers_of self.new.runs.items ≡ take place (numbers_of self.old.runs.items)) }
+        ensures rest { IfOk result (λ rest.
+            numbers_of (runs_in rest) ≡ drop place (numbers_of self.old.runs.items)) }
+        ensures kept { AreRunsOf self.new.runs.items self.new.len }
+        ensures rest_kept { IfOk result IsKept }
+        ensures err { OnErr result (self.new.runs.items ≡ self.old.runs.items) }
+    {
+        let rest = split_many(alloc, &mut self.runs, self.len, place)?;
+        self.len = place;
+        Ok(rest)
+    }
+
+    /// Keeps the runs of the numbers before this place. It takes no memory.
+    pub(crate) fn truncate(&mut self, place: u64)
+        requires kept { AreRunsOf self.old.runs.items self.old.len }
+        requires within { place ≤ self.old.len }
+        ensures front { numbers_of self.new.runs.items ≡
+            take place (numbers_of self.old.runs.items) }
+        ensures kept { AreRunsOf self.new.runs.items self.new.len }
+    {
+        shorten(&mut self.runs, self.len, place);
+        self.len = place;
     }
 }
 
 /// Keeps the runs of the numbers before this place, and gives those of the others.
 fn split_many(alloc: Global, runs: &mut Vec<Run>, len: u64, place: u64) -> Result<Runs, AllocError>
-    requires maximal { AreMaximal runs.old.items }
-    requires len { length (numbers_of runs.old.items) ≡ len }
+    requires kept { AreRunsOf runs.old.items len }
     requires within { place ≤ len }
     ensures front { OnOk result (
         numbers_of runs.new.items ≡ take place (numbers_of runs.old.items)) }
     ensures rest { IfOk result (λ rest.
         numbers_of (runs_in rest) ≡ drop place (numbers_of runs.old.items)) }
     ensures front_maximal { AreMaximal runs.new.items }
-    ensures rest_maximal { IfOk result (λ rest. AreMaximal (runs_in rest)) }
-    ensures compact { IfOk result IsCompact }
+    ensures rest_kept { IfOk result IsKept }
     ensures err { OnErr result (runs.new.items ≡ runs.old.items) }
 {
     let (index, before) = cut_at(runs, len, place);
+    let count = len - place;
     if before < place {
-        split_within(alloc, runs, index, place - before)
+        split_within(alloc, runs, index, place - before, count)
     } else {
-        split_between(alloc, runs, index)
+        split_between(alloc, runs, index, count)
     }
 }
 
 /// Keeps the runs of the numbers before this place.
-fn shorten_many(runs: &mut Vec<Run>, len: u64, place: u64)
+fn shorten(runs: &mut Vec<Run>, len: u64, place: u64)
     requires maximal { AreMaximal runs.old.items }
     requires len { length (numbers_of runs.old.items) ≡ len }
     requires within { place ≤ len }
@@ -137,35 +181,44 @@ fn cut_within(runs: &mut Vec<Run>, index: usize, keep: u64)
     runs.truncate(index + 1);
 }
 
-/// Takes the runs from this index on out of the list.
-fn split_between(alloc: Global, runs: &mut Vec<Run>, index: usize) -> Result<Runs, AllocError>
-    requires { index ≤ length runs.old.items }
+/// Takes the runs from this index on out of the list. They have `count` numbers.
+fn split_between(
+    alloc: Global,
+    runs: &mut Vec<Run>,
+    index: usize,
+    count: u64,
+) -> Result<Runs, AllocError>
+    requires index { index ≤ length runs.old.items }
+    requires rest { AreRunsOf (drop index runs.old.items) count }
     ensures front { OnOk result (runs.new.items ≡ take index runs.old.items) }
     ensures rest { IfOk result (λ rest. runs_in rest ≡ drop index runs.old.items) }
-    ensures compact { IfOk result IsCompact }
+    ensures kept { IfOk result IsKept }
     ensures err { OnErr result (runs.new.items ≡ runs.old.items) }
 {
-    let rest = Runs::from_slice(alloc, &runs[index..])?;
+    let rest = Runs::from_slice(alloc, &runs[index..], count)?;
     runs.truncate(index);
     Ok(rest)
 }
 
 /// Cuts the run at this index, keeps so many of its numbers, and takes what is behind out of the
-/// list.
+/// list, which has `count` numbers.
 fn split_within(
     alloc: Global,
     runs: &mut Vec<Run>,
     index: usize,
     keep: u64,
+    count: u64,
 ) -> Result<Runs, AllocError>
     requires index { index < length runs.old.items }
     requires keep { keep < (run_at runs.old.items index).count }
     requires fits { end_of (run_at runs.old.items index) < 2 ^ 64 }
+    requires rest { AreRunsOf
+        (rest_of keep (run_at runs.old.items index) ∷ drop (index + 1) runs.old.items) count }
     ensures front { OnOk result (runs.new.items ≡
         take index runs.old.items ++ front_of keep (run_at runs.old.items index) ∷ []) }
     ensures rest { IfOk result (λ rest. runs_in rest ≡
         rest_of keep (run_at runs.old.items index) ∷ drop (index + 1) runs.old.items) }
-    ensures compact { IfOk result IsCompact }
+    ensures kept { IfOk result IsKept }
     ensures err { OnErr result (runs.new.items ≡ runs.old.items) }
 {
     let run = runs[index];
@@ -173,15 +226,16 @@ fn split_within(
         first: run.first + keep,
         count: run.count - keep,
     };
-    let rest = run_in_front(alloc, first, &runs[index + 1..])?;
+    let rest = run_in_front(alloc, first, &runs[index + 1..], count)?;
     cut_within(runs, index, keep);
     Ok(rest)
 }
 
-/// A run, and others behind it. Alone it takes no memory.
-fn run_in_front(alloc: Global, run: Run, behind: &[Run]) -> Result<Runs, AllocError>
+/// A run, and others behind it, which have `count` numbers together. Alone it takes no memory.
+fn run_in_front(alloc: Global, run: Run, behind: &[Run], count: u64) -> Result<Runs, AllocError>
+    requires { AreRunsOf (run ∷ behind.now) count }
     ensures same { IfOk result (λ runs. runs_in runs ≡ run ∷ behind.now) }
-    ensures compact { IfOk result IsCompact }
+    ensures kept { IfOk result IsKept }
 {
     if behind.is_empty() {
         return Ok(Runs::One(run));
@@ -189,5 +243,5 @@ fn run_in_front(alloc: Global, run: Run, behind: &[Run]) -> Result<Runs, AllocEr
     let mut runs = Vec::with_capacity(alloc, 1 + behind.len())?;
     runs.push_reserved(run);
     runs.extend_from_slice(behind)?;
-    Ok(Runs::Many(runs))
+    Ok(Runs::Many(Rc::new(alloc, Long { runs, len: count })?))
 }

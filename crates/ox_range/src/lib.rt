@@ -3,7 +3,7 @@
 //! An output holds satoshis in an order: the first of a block's subsidy may stand beside those that
 //! came from far away. A list of them is seen as the list of its numbers, and kept as its maximal
 //! runs, so that five billion numbers cost as much as one. Nearly all lists are one run, which is
-//! kept in the list itself.
+//! kept in the list itself; longer ones are shared by their copies.
 #![tactic(auto)]
 
 ghost use Rattle.std.specs.Prelude.{◌≡◌, ℕ, ◌+◌, ◌^◌, ◌<◌, ◌≤◌, ◌==◌, ◌↔◌, List, [], ◌++◌, length};
@@ -11,7 +11,7 @@ ghost use Rattle.std.specs.Prelude.{take, drop, slice_index, position, IsTrue, I
 ghost use Rattle.ox_range.specs.Numbers.{numbers_from};
 ghost use Rattle.ox_range.specs.Runs.{numbers_of, AreMaximal, runs_of};
 
-use cuts::{shorten, split};
+use cuts::split;
 use few::Runs;
 use joins::append;
 use runs::{number_at, place_among};
@@ -20,19 +20,21 @@ use std::marker::Model;
 
 mod cuts;
 mod few;
+mod growing;
 mod joins;
 mod runs;
 
+pub use growing::Growing;
 pub use ox_bytes::Memory;
 pub use runs::{Run, runs_are_determined, runs_have_their_numbers};
 
 /// A list of satoshi numbers, kept as its maximal runs of consecutive numbers. Only several runs
-/// take memory of their own.
+/// take memory of their own, which copies share; a list that is changed is written in place where
+/// no other shares it, and into a copy where one does.
 #[derive(Debug)]
 pub struct Ranges {
     alloc: Global,
     runs: Runs,
-    len: u64,
 }
 
 /// By hand, so that whoever drops a list makes one call, and proves nothing of its runs.
@@ -41,7 +43,6 @@ impl Drop for Ranges {
         let Ranges {
             alloc: _alloc,
             runs: _runs,
-            len: _len,
         } = self;
     }
 }
@@ -55,7 +56,7 @@ impl Model for Ranges {
 
     ghost view = { λ r. numbers_of (runs_in r.runs) };
 
-    ghost invariant = { λ r. IsKept r.runs r.len };
+    ghost invariant = { λ r. IsKept r.runs };
 }
 
 impl Ranges {
@@ -66,7 +67,6 @@ impl Ranges {
         Ranges {
             alloc,
             runs: Runs::Empty,
-            len: 0,
         }
     }
 
@@ -79,7 +79,6 @@ impl Ranges {
         Ok(Ranges {
             alloc,
             runs: Runs::from_numbers(first, count),
-            len: count,
         })
     }
 
@@ -87,14 +86,14 @@ impl Ranges {
     pub fn len(&self) -> u64
         ensures { result ≡ length self.now }
     {
-        self.len
+        self.runs.len()
     }
 
     /// Whether there is no number.
     pub fn is_empty(&self) -> bool
         ensures { IsTrue result ↔ (self.now ≡ []) }
     {
-        self.len == 0
+        self.runs.len() == 0
     }
 
     /// The number at this place, from 0 on. It costs by the runs before it.
@@ -112,59 +111,41 @@ impl Ranges {
         place_among(self.runs.as_slice(), sat)
     }
 
-    /// The same numbers once more. It costs by their runs. `Memory` where there is none left, which
-    /// is so for two runs or more alone.
+    /// The same numbers once more. Two runs or more are shared, so it takes no memory. `Memory`
+    /// where they are shared more often than can be counted.
     pub fn copy(&self, alloc: Global) -> Result<Ranges, Memory>
         ensures { IfOk result (λ copy. copy ≡ self.now) }
     {
-        let runs = self.runs.copy(alloc)?;
-        Ok(Ranges {
-            alloc,
-            runs,
-            len: self.len,
-        })
+        let runs = self.runs.copy()?;
+        Ok(Ranges { alloc, runs })
     }
 
-    /// Puts the numbers of `tail` behind. It costs by the runs of `tail`, in the long run. `Memory`
-    /// where there is none left, which is so for two runs or more alone, and then nothing has
-    /// changed.
+    /// Puts the numbers of `tail` behind; behind none its runs are shared. It costs by the runs of
+    /// `tail`, in the long run, and by its own too where they are shared. `Memory` where there is
+    /// none left, which is so for two runs or more alone, and then nothing has changed.
     pub fn join(&mut self, tail: &Ranges) -> Result<(), Memory>
         requires { length self.old + length tail.now < 2 ^ 64 }
         ensures ok { OnOk result (self.new ≡ self.old ++ tail.now) }
         ensures err { OnErr result (self.new ≡ self.old) }
     {
-        append(self.alloc, &mut self.runs, tail.runs.as_slice())?;
-        self.len += tail.len;
+        append(self.alloc, &mut self.runs, &tail.runs)?;
         Ok(())
     }
 
     /// Keeps the numbers before this place and gives the others. It costs by the runs that it
-    /// gives. `Memory` where there is none left, which is so where it gives two runs or more alone,
-    /// and then nothing has changed.
+    /// gives, and by all where they are shared; at the list's end, it costs nothing. `Memory` where
+    /// there is none left, which is so for two runs or more alone, and then nothing has changed.
     pub fn split_off(&mut self, place: u64) -> Result<Ranges, Memory>
         requires { place ≤ length self.old }
         ensures front { OnOk result (self.new ≡ take place self.old) }
         ensures rest { IfOk result (λ rest. rest ≡ drop place self.old) }
         ensures err { OnErr result (self.new ≡ self.old) }
     {
-        let runs = split(self.alloc, &mut self.runs, self.len, place)?;
-        let rest = Ranges {
+        let runs = split(self.alloc, &mut self.runs, place)?;
+        Ok(Ranges {
             alloc: self.alloc,
             runs,
-            len: self.len - place,
-        };
-        self.len = place;
-        Ok(rest)
-    }
-
-    /// Keeps the numbers before this place and drops the others. It takes no memory, and costs by
-    /// the runs that it drops.
-    pub fn truncate(&mut self, len: u64)
-        requires { len ≤ length self.old }
-        ensures { self.new ≡ take len self.old }
-    {
-        shorten(&mut self.runs, self.len, len);
-        self.len = len;
+        })
     }
 
     /// The maximal runs of consecutive numbers, in order.

@@ -13,7 +13,7 @@ use super::buffer::{Buffer, PutFault, Rows, put_rows};
 use ox_bytes::{Bytes, Memory, put_u64le};
 use ox_gated::Sink;
 use ox_index::Live;
-use ox_range::{Ranges, Run};
+use ox_range::{Growing, Run};
 use ox_rows::put_count;
 
 /// Puts the satoshis that no output holds any more, in the order in which they were lost.
@@ -42,7 +42,7 @@ fn put_first<W, K: Sink<W>>(
     sink: &mut K,
     world: &mut W,
     buffer: &mut Buffer,
-    ranges: &Ranges,
+    ranges: &Growing,
     count: u64,
 ) -> Result<(), PutFault<K::Fault>>
     requires taken { (bytes : List ℕ) × K.holds sink.old world.old bytes }
@@ -122,7 +122,7 @@ fn put_part(bytes: &mut Bytes, part: Option<Run>) -> Result<(), Memory>
 
 /// The maximal runs of the first of some satoshis, so many: those that are there whole, and what is
 /// there of the one behind, if anything is.
-fn first_runs(ranges: &Ranges, count: u64) -> (&[Run], Option<Run>)
+fn first_runs(ranges: &Growing, count: u64) -> (&[Run], Option<Run>)
     requires { count ≤ length ranges.now }
     ensures { result.0.now ++ option_to_list result.1 ≡ runs_of (take count ranges.now) }
 {

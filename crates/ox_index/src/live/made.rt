@@ -23,7 +23,7 @@ use ox_ledger::{Ledger, Placement, RunePart};
 use ox_model::{OutTable, RuneRow};
 use ox_outputs::Outputs;
 use ox_plain::Index;
-use ox_range::Ranges;
+use ox_range::Growing;
 use ox_rules::OutRow;
 use ox_sat::Profile;
 use std::alloc::Global;
@@ -36,9 +36,9 @@ impl Live {
     ghost use Rattle.ox_index.specs.Live.{index_in, marked_in, profile_in};
 
     /// The index in memory that stands as this plain data, of a chain that counts by this profile;
-    /// it has to be sound. There is no mark. Hashes, outputs and lost satoshis are moved,
-    /// inscriptions shared, balances and runes copied, and each table of the plain data is dropped
-    /// once it is read. `Memory` where there is none, or where there are 2^32 inscriptions.
+    /// it has to be sound. There is no mark. Hashes and outputs are moved, inscriptions shared,
+    /// lost satoshis, balances and runes copied, and each table of the plain data is dropped once
+    /// it is read. `Memory` where there is none, or where there are 2^32 inscriptions.
     pub fn of(alloc: Global, p: &Profile, index: Index) -> Result<Live, Memory>
         requires known { IsProfile p.now }
         requires sound { IsSound p.now (stands index) }
@@ -48,7 +48,7 @@ impl Live {
     {
         let mut index = index;
         let hashes = mem::replace(&mut index.hashes, List::new(alloc));
-        let lost = mem::replace(&mut index.lost, Ranges::empty(alloc));
+        let lost = Growing::of(alloc, &index.lost)?;
         let parts = parts_of(alloc, p, index)?;
         Ok(Live::unmarked(alloc, hashes.into_vec(), parts, lost))
     }

@@ -1,6 +1,6 @@
 //! The index in memory as plain data.
 
-ghost use Rattle.std.specs.Prelude.{◌≡◌, ◌≤◌, IsTrue, IsSome, IfOk, OnOk, length, take};
+ghost use Rattle.std.specs.Prelude.{◌≡◌, IsTrue, IsSome, IfOk, OnOk};
 ghost use Rattle.std.specs.BTreeMap.{insert_entry};
 ghost use Rattle.std.specs.FinMap.{find, from_entries, get, is_sorted};
 ghost use Rattle.ox_block.specs.declared.block.OutPoint.{OutPoint};
@@ -54,7 +54,7 @@ impl Live {
         ensures hashes { IfOk result (λ lists. lists.0 ≡ (shown self.now).hashes) }
         ensures lost { IfOk result (λ lists. lists.1 ≡ (shown self.now).lost) }
     {
-        let lost = first_of(self.alloc, &self.lost, self.shown.lost)?;
+        let lost = self.lost.front(self.shown.lost)?;
         let hashes = Vec::from_slice(self.alloc, self.hashes())?;
         Ok((List::from_vec(hashes), lost))
     }
@@ -77,16 +77,6 @@ fn tables_of(
     let outs = table_of(alloc, &order)?;
     let bal = balances_of(alloc, &order, ledger)?;
     Ok((outs, bal))
-}
-
-/// The first of some satoshis, so many. `Memory` where there is none for them.
-fn first_of(alloc: Global, sats: &Ranges, len: u64) -> Result<Ranges, Memory>
-    requires { len ≤ length sats.now }
-    ensures { IfOk result (λ first. first ≡ take len sats.now) }
-{
-    let mut first = sats.copy(alloc)?;
-    first.truncate(len);
-    Ok(first)
 }
 
 /// Rows by rising outpoint as a table. `Memory` where there is none for it.

@@ -1,20 +1,27 @@
-use Rattle.std.proofs.Common.{◌∷◌, [], ◌≡◌, ◌≤◌, ◌∙◌, sym, ap, arith, length, take}
-use Rattle.ox_range.specs.Runs.{numbers_of}
-use Rattle.ox_range.proofs.RunLemmas.{numbers-none}
-use Rattle.ox_range.proofs.CutLemmas.{run_alone, length-one, one_cut, take_none}
+use Rattle.std.proofs.Common.{◌-◌, arith}
+use Rattle.ox_range.proofs.RunLemmas.{zero_run, maximal-take}
+use Rattle.ox_range.proofs.CutLemmas.{cut_between, cut_within, front_maximal}
 use Rattle.ox_range.proofs.cuts.shorten.Goals as goal
 
-pub from_numbers-requires : goal.from_numbers-requires
-from_numbers-requires c =
-    let run = run_alone c.in-One.run' (rw c.in-One.is at c.requires.maximal) in
-    let len : length (numbers_of (c.in-One.run' ∷ [])) ≡ c.args.len = rw c.in-One.is at c.requires.len in
-    omega (arith, run, len, length-one c.in-One.run', c.requires.within)
+pub returns-then-before-place-clause-front : goal.returns-then-before-place-clause-front
+returns-then-before-place-clause-front c =
+    let inside = rw c.deref.ensures.value at (c.cut_at-index.ensures.inside c.if-before-place.true) in
+    let before = rw c.deref.ensures.value at c.cut_at-index.ensures.before in
+    let cut = cut_within c.args.runs.now.items c.cut_at-index.result.0 (c.args.place - c.cut_at-index.result.1) c.args.place zero_run inside.0 (omega (arith, inside.1, c.if-before-place.true)) (omega (arith, before, c.if-before-place.true)) in
+    rw c.cut_within.ensures cut.0
 
-pub returns-in-Empty-clause-front : goal.returns-in-Empty-clause-front
-returns-in-Empty-clause-front c = rw c.in-Empty.is (numbers-none ∙ sym (ap (take c.args.place) numbers-none ∙ take_none c.args.place))
+pub returns-then-before-place-clause-maximal : goal.returns-then-before-place-clause-maximal
+returns-then-before-place-clause-maximal c =
+    let inside = rw c.deref.ensures.value at (c.cut_at-index.ensures.inside c.if-before-place.true) in
+    let maximal = front_maximal c.args.runs.now.items c.cut_at-index.result.0 (c.args.place - c.cut_at-index.result.1) zero_run c.requires.maximal inside.0 (omega (arith, c.if-before-place.true)) (omega (arith, inside.1, c.if-before-place.true)) in
+    rw c.cut_within.ensures maximal
 
-pub returns-in-One-clause-front : goal.returns-in-One-clause-front
-returns-in-One-clause-front c =
-    let len : length (numbers_of (c.in-One.run' ∷ [])) ≡ c.args.len = rw c.in-One.is at c.requires.len in
-    let within : c.args.place ≤ c.in-One.run'.count = omega (arith, len, length-one c.in-One.run', c.requires.within) in
-    rw c.in-One.is (c.from_numbers.ensures.numbers ∙ (one_cut c.in-One.run' c.args.place within).0)
+pub returns-else-before-place-clause-front : goal.returns-else-before-place-clause-front
+returns-else-before-place-clause-front c =
+    let before = rw c.deref.ensures.value at c.cut_at-index.ensures.before in
+    let cut = cut_between c.args.runs.now.items c.cut_at-index.result.0 c.args.place (omega (arith, before, c.cut_at-index.ensures.from, c.if-before-place.false)) in
+    rw c.truncate.ensures.items cut.0
+
+pub returns-else-before-place-clause-maximal : goal.returns-else-before-place-clause-maximal
+returns-else-before-place-clause-maximal c =
+    rw c.truncate.ensures.items (maximal-take c.cut_at-index.result.0 c.args.runs.now.items c.requires.maximal)

@@ -1,46 +1,46 @@
-use Rattle.std.proofs.Common.{◌∷◌, [], ◌≡◌, ◌≤◌, ◌∙◌, sym, ap, arith, length, take, drop}
-use Rattle.ox_range.specs.Runs.{numbers_of}
+use Rattle.std.proofs.Common.{◌∷◌, [], ◌≤◌, ◌∙◌, sym, arith}
+use Rattle.std.proofs.lemmas.List.{drop_all}
+use Rattle.ox_range.specs.Few.{runs_in}
+use Rattle.ox_range.specs.Runs.{numbers_of, AreRunsOf}
 use Rattle.ox_range.proofs.RunLemmas.{numbers-none}
-use Rattle.ox_range.proofs.CutLemmas.{run_alone, length-one, one_cut, take_none, drop_none}
+use Rattle.ox_range.proofs.CutLemmas.{run_alone, one_cut}
+use Rattle.ox_range.proofs.KeptLemmas.{kept_empty}
 use Rattle.ox_range.proofs.cuts.split.Goals as goal
+
+pub returns-then-place-len-clause-rest : goal.returns-then-place-len-clause-rest
+returns-then-place-len-clause-rest c =
+    numbers-none ∙ sym (drop_all c.args.place (numbers_of (runs_in c.args.runs.now)) (omega (arith, c.requires.kept.are_runs.len, c.if-place-len.true, c.len.ensures)))
+
+pub returns-then-place-len-clause-rest_kept : goal.returns-then-place-len-clause-rest_kept
+returns-then-place-len-clause-rest_kept c = kept_empty
 
 pub from_numbers-requires : goal.from_numbers-requires
 from_numbers-requires c =
-    let run = run_alone c.in-One.run' (rw c.in-One.is at c.requires.maximal) in
-    let len : length (numbers_of (c.in-One.run' ∷ [])) ≡ c.args.len = rw c.in-One.is at c.requires.len in
-    omega (arith, run, len, length-one c.in-One.run', c.requires.within)
+    let kept : AreRunsOf (c.in-One.run' ∷ []) c.in-One.run'.count = rw c.in-One.is at c.requires.kept.are_runs in
+    let within : c.args.place ≤ c.in-One.run'.count = rw c.in-One.is at c.requires.within in
+    let run = run_alone c.in-One.run' kept.maximal in
+    omega (arith, run, within)
 
 pub overflow_add-first : goal.overflow_add-first
 overflow_add-first c =
-    let run = run_alone c.in-One.run' (rw c.in-One.is at c.requires.maximal) in
-    let len : length (numbers_of (c.in-One.run' ∷ [])) ≡ c.args.len = rw c.in-One.is at c.requires.len in
-    omega (arith, run, len, length-one c.in-One.run', c.requires.within)
-
-pub overflow_sub-count : goal.overflow_sub-count
-overflow_sub-count c =
-    let len : length (numbers_of (c.in-One.run' ∷ [])) ≡ c.args.len = rw c.in-One.is at c.requires.len in
-    omega (arith, len, length-one c.in-One.run', c.requires.within)
+    let kept : AreRunsOf (c.in-One.run' ∷ []) c.in-One.run'.count = rw c.in-One.is at c.requires.kept.are_runs in
+    let within : c.args.place ≤ c.in-One.run'.count = rw c.in-One.is at c.requires.within in
+    let run = run_alone c.in-One.run' kept.maximal in
+    omega (arith, run, within)
 
 pub from_numbers-requires-in-One : goal.from_numbers-requires-in-One
 from_numbers-requires-in-One c =
-    let run = run_alone c.in-One.run' (rw c.in-One.is at c.requires.maximal) in
-    let len : length (numbers_of (c.in-One.run' ∷ [])) ≡ c.args.len = rw c.in-One.is at c.requires.len in
-    omega (arith, run, len, length-one c.in-One.run', c.requires.within)
-
-pub returns-in-Empty-clause-front : goal.returns-in-Empty-clause-front
-returns-in-Empty-clause-front c = rw c.in-Empty.is (numbers-none ∙ sym (ap (take c.args.place) numbers-none ∙ take_none c.args.place))
-
-pub returns-in-Empty-clause-rest : goal.returns-in-Empty-clause-rest
-returns-in-Empty-clause-rest c = rw c.in-Empty.is (numbers-none ∙ sym (ap (drop c.args.place) numbers-none ∙ drop_none c.args.place))
+    let kept : AreRunsOf (c.in-One.run' ∷ []) c.in-One.run'.count = rw c.in-One.is at c.requires.kept.are_runs in
+    let within : c.args.place ≤ c.in-One.run'.count = rw c.in-One.is at c.requires.within in
+    let run = run_alone c.in-One.run' kept.maximal in
+    omega (arith, run, within)
 
 pub returns-in-One-clause-front : goal.returns-in-One-clause-front
 returns-in-One-clause-front c =
-    let len : length (numbers_of (c.in-One.run' ∷ [])) ≡ c.args.len = rw c.in-One.is at c.requires.len in
-    let within : c.args.place ≤ c.in-One.run'.count = omega (arith, len, length-one c.in-One.run', c.requires.within) in
+    let within : c.args.place ≤ c.in-One.run'.count = rw c.in-One.is at c.requires.within in
     rw c.in-One.is (c.from_numbers.ensures.numbers ∙ (one_cut c.in-One.run' c.args.place within).0)
 
 pub returns-in-One-clause-rest : goal.returns-in-One-clause-rest
 returns-in-One-clause-rest c =
-    let len : length (numbers_of (c.in-One.run' ∷ [])) ≡ c.args.len = rw c.in-One.is at c.requires.len in
-    let within : c.args.place ≤ c.in-One.run'.count = omega (arith, len, length-one c.in-One.run', c.requires.within) in
+    let within : c.args.place ≤ c.in-One.run'.count = rw c.in-One.is at c.requires.within in
     rw c.in-One.is (c.from_numbers-in-One.ensures.numbers ∙ (one_cut c.in-One.run' c.args.place within).1)

@@ -16,8 +16,8 @@ parts_of-requires-clause-balanced c = c.requires.sound.runes.balanced
 
 pub unmarked-requires : goal.unmarked-requires
 unmarked-requires c =
-    let index : Index = index_of_parts c.into_vec.result.items (held_in c.in_ok-parts.parts) c.replace-lost.result in
-    let is : index ≡ stands c.args.index = λ i. index_of_parts ((c.into_vec.ensures ∙ c.replace-hashes.ensures.value) i) (c.in_ok-parts.ensures.held i) (c.replace-lost.ensures.value i) in
+    let index : Index = index_of_parts c.into_vec.result.items (held_in c.in_ok-parts.parts) c.in_ok-lost.lost in
+    let is : index ≡ stands c.args.index = λ i. index_of_parts ((c.into_vec.ensures ∙ c.replace-hashes.ensures.value) i) (c.in_ok-parts.ensures.held i) (c.in_ok-lost.ensures i) in
     subst (λ (q : Profile). IsSound q index) (sym c.in_ok-parts.ensures.profile) (subst (IsSound c.args.p.now) (sym is) c.requires.sound)
 
 pub returns-clause-profile : goal.returns-clause-profile
@@ -26,7 +26,7 @@ returns-clause-profile c = c.unmarked.ensures.profile ∙ c.in_ok-parts.ensures.
 pub returns-clause-index : goal.returns-clause-index
 returns-clause-index c =
     c.unmarked.ensures.index
-    ∙ (λ i. index_of_parts ((c.into_vec.ensures ∙ c.replace-hashes.ensures.value) i) (c.in_ok-parts.ensures.held i) (c.replace-lost.ensures.value i))
+    ∙ (λ i. index_of_parts ((c.into_vec.ensures ∙ c.replace-hashes.ensures.value) i) (c.in_ok-parts.ensures.held i) (c.in_ok-lost.ensures i))
 
 pub returns-clause-no_mark : goal.returns-clause-no_mark
 returns-clause-no_mark c = c.unmarked.ensures.no_mark
