@@ -1,7 +1,8 @@
 -- What holds where a call has a value, where it has a fault, and where a `?` returns.
 use Rattle.std.proofs.Common.{◌≡◌, ◌∙◌, sym}
 use Rattle.std.specs.Prelude.{Result, Ok, Err}
-use Rattle.std.specs.Result.{IfOk}
+use Rattle.std.specs.Result.{IfOk, OnErr, OnOk}
+use Rattle.ox_outside.specs.Counts.{IsFailure}
 
 pub no_value : {T E : Type 0} (r : Result T E) (e : E) (P : T → Type 0) → r ≡ Err e → IfOk r P
 no_value (Ok x) e P is = absurd (cc is)
@@ -15,3 +16,17 @@ same_fault e f is = cc is
 
 pub not_both : {T E : Type 0} (r : Result T E) (x : T) (e : E) → r ≡ Ok x → r ≡ Err e → ⊥
 not_both r x e ok err = no_fault x e (sym ok ∙ err)
+
+-- what holds anyway holds where a call worked
+pub on_ok : {T E P : Type 0} (r : Result T E) → P → OnOk r P
+on_ok (Ok x) holds = holds
+on_ok (Err e) holds = tt
+
+-- a call failed, and so this holds
+pub rose_at : {T E : Type 0} (r : Result T E) (P : Type 0) → IsFailure r → OnErr r P → P
+rose_at (Ok x) P failed holds = absurd failed
+rose_at (Err e) P failed holds = holds
+
+pub on_ok_later : {T E A : Type 0} (P : Type 0) (r : Result T E) → (A → OnOk r P) → OnOk r (A → P)
+on_ok_later P (Ok x) holds = holds
+on_ok_later P (Err e) holds = tt

@@ -7,3 +7,4 @@ pub mod MakeFaults
 pub mod MigrateFaults
 pub mod OldStores
 pub mod WritingLemmas
+pub mod TurningLemmas

@@ -4,4 +4,5 @@ pub mod Make
 pub mod Migrate
 pub mod Ready
 pub mod Store
+pub mod Turning
 pub mod Writing

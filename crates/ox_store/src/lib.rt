@@ -7,6 +7,7 @@ mod migrate;
 mod open;
 mod ready;
 mod store;
+mod turning;
 mod writing;
 
 pub use fault::{Kept, MakeFault, MigrateFault, OpenFault};

@@ -7,6 +7,7 @@ ghost use Rattle.ox_gated.specs.Tail.{Holds};
 ghost use Rattle.ox_gated.specs.Writes.{OnlyWrites};
 
 use crate::store::Store;
+use crate::turning::turn_where_due;
 use crate::writing::Writing;
 use ox_gated::{DiskFault, Tail};
 use ox_index::Chain;
@@ -69,6 +70,7 @@ impl Ready {
     ghost use Rattle.ox_files.specs.Stands.{stands};
     ghost use Rattle.ox_store.specs.Ready.{Leads, Moves, StandsForEither};
     ghost use Rattle.ox_index.specs.Tip.{tip_of};
+    ghost use Rattle.ox_store.specs.Turning.{HasGoneOn};
     ghost use Rattle.ox_store.specs.Writing.{HasOneMore, HasTurned, IsFileDue};
 
     /// The newest block's height and its hash in serialized order, as the command leaves them;
@@ -97,20 +99,28 @@ impl Ready {
 
     /// Writes the command's record; where the current file is of version 2, has 64 records or more,
     /// and its generation isn't the greatest, it writes the whole store into the other file, which
-    /// takes the current one's place. At `Ok` it is on the disk: each crash then leaves files that
-    /// have it. At any moment of the call a crash leaves files that stand for the stack before the
-    /// command or for the one after it. No event of a channel is logged. `DiskFault` only where a
-    /// call on a file failed; the store is gone then.
+    /// takes the current one's place. At version 3 it writes the record, and where that makes 64
+    /// records or a multiple, at least half as long as the body, the whole store after it into the
+    /// other file, in pieces; where there is no memory for this the store goes on as it is.
+    ///
+    /// At `Ok` the command is on the disk: each crash then leaves files that have it. At any moment
+    /// of the call a crash leaves files that stand for the stack before the command or for the one
+    /// after it. No event of a channel is logged. `DiskFault` only where a call on a file failed; the
+    /// store is gone then.
     pub fn commit<S: Site>(self, site: &mut S) -> Result<Store, DiskFault>
         requires { IsTrue (S.told site.old) → Holds S.Site self.tail site.old }
         ensures stack { IfOk result (λ store. store.stack ≡ self.stack) }
         ensures one_more { IfOk result (λ store. store.commands ≡ self.commands + 1) }
-        // The same file is current, with one record more.
-        ensures appended { ¬ IsFileDue self.tail
+        // At version 2 the same file is current, with one record more.
+        ensures appended { self.tail.head.version ≡ 2 → ¬ IsFileDue self.tail
             → IfOk result (λ store. HasOneMore self.tail store.tail) }
         // The other file is current, with the next generation and no record.
         ensures turned { IsFileDue self.tail
             → IfOk result (λ store. HasTurned self.tail store.tail) }
+        // At version 3 the same file with one record more; or, where a turn pays behind that record,
+        // the other file, with the next generation and no record.
+        ensures went_on { self.tail.head.version ≡ 3
+            → IfOk result (λ store. HasGoneOn self.tail store.tail) }
         ensures holds { IsTrue (S.told site.old)
             → IfOk result (λ store. Holds S.Site store.tail site.new) }
         ensures stands { IsTrue (S.told site.old)
@@ -132,7 +142,8 @@ impl Ready {
             commands,
             writing,
         } = self;
-        let tail = writing.write(tail, site)?;
+        let written = writing.write(tail, site)?;
+        let tail = turn_where_due(alloc, &chain, written, site)?;
         Ok(Store {
             alloc,
             chain,

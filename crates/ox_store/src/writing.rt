@@ -114,11 +114,18 @@ pub(crate) fn next_file(alloc: Global, chain: &Chain, head: &Head) -> Result<Che
     ensures stack { IfOk result (λ whole.
         stack_in_file whole.head whole.body [] ≡ Ok (stack_in chain.now)) }
 {
-    let next = Head {
+    file_of(alloc, chain, &following(head))
+}
+
+/// The head of the file that takes the place of one with this head.
+pub(crate) fn following(head: &Head) -> Head
+    requires { head.now.generation ≢ last_generation }
+    ensures { result ≡ next_head head.now }
+{
+    Head {
         generation: head.generation + 1,
         ..*head
-    };
-    file_of(alloc, chain, &next)
+    }
 }
 
 /// The file of a chain, without records, under this head. `Memory` where there is none for it, and
