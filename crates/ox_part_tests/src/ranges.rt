@@ -144,7 +144,7 @@ fn a_long_list_is_shared_and_cut(rt: HostRuntime) {
 fn grown(rt: &impl Abort, alloc: Global, list: &Ranges) -> Growing {
     let mut grown = Growing::of(alloc, list).expect(rt, "memory");
     let ten = Ranges::one(alloc, 210, 10).expect(rt, "memory");
-    assert!(rt; grown.len() < 1000);
+    assert!(rt; ten.len() <= u64::MAX - grown.len());
     grown.join(&ten).expect(rt, "memory");
     grown
 }
