@@ -1,12 +1,9 @@
 //! Which replies tell of runes, and the view that a reply needs.
 
-ghost use Rattle.std.specs.Prelude.{◌≡◌, ◌<◌, ◌≤◌, ◌^◌, IfOk, Some, [], false, length, take};
+ghost use Rattle.std.specs.Prelude.{◌≡◌, ◌≤◌, IfOk, [], false, length, take};
 ghost use Rattle.std.specs.Bool.{OnFalse};
-ghost use Rattle.std.specs.Option.{IfSome};
 ghost use Rattle.ox_ledger.specs.Runes.{balances_at};
 ghost use Rattle.ox_model.specs.Ends.{AllEnd};
-ghost use Rattle.ox_query.specs.Sides.{Sides};
-ghost use Rattle.ox_replies.specs.Texts.{number_in, outpoint_in};
 ghost use Rattle.ox_routes.specs.declared.route.Route.TheVariants.{Output};
 ghost use Rattle.ox_asof.specs.Shown.{TellsNoRune};
 ghost use Rattle.ox_asof.specs.Undone.{undone_by};
@@ -15,49 +12,13 @@ use crate::past::{Past, past_of, past_without_runes};
 use crate::said::{Said, oldest_said};
 use crate::undone::Undone;
 use ox_allocation::Balances;
-use ox_block::{OutPoint, Txid};
+use ox_block::OutPoint;
 use ox_bytes::Memory;
 use ox_index::Changes;
 use ox_model::{RuneId, View};
-use ox_query::hash;
+use ox_query::outpoint;
 use ox_routes::{Found, Route};
-use ox_sat::read_number;
 use std::alloc::Global;
-
-/// What stands on both sides of the colon behind 64 bytes, if there is one.
-fn sides(part: &[u8]) -> Option<(&[u8], &[u8])>
-    ensures { IfSome result (λ x. Sides part.now x.0.now x.1.now) }
-{
-    match part.get(64) {
-        Some(b':') => Some((&part[..64], &part[65..])),
-        _ => None,
-    }
-}
-
-/// The number of 32 bits that a text spells, if any.
-fn index_of(text: &[u8]) -> Option<u32>
-    ensures told { IfSome result (λ index. Some index ≡ number_in text.now) }
-    ensures small { IfSome result (λ index. index < 2 ^ 32) }
-{
-    let Ok(text) = str::from_utf8(text) else {
-        return None;
-    };
-    let number = read_number(text)?;
-    match u32::try_from(number) {
-        Ok(index) => Some(index),
-        Err(_) => None,
-    }
-}
-
-/// The outpoint that a part spells, if any.
-fn outpoint_of(part: &[u8]) -> Option<OutPoint>
-    ensures { IfSome result (λ at. Some at ≡ outpoint_in part.now) }
-{
-    let (digits, rest) = sides(part)?;
-    let txid = Txid(hash(digits)?);
-    let index = index_of(rest)?;
-    Some(OutPoint { txid, index })
-}
 
 /// The runes of an output before undone changes, ids rising. It costs a few logarithms a change.
 pub(crate) fn balance_before<'a, V: View>(
@@ -81,7 +42,7 @@ fn has_runes<V: View>(view: &V, undone: &Undone<'_>, part: &[u8]) -> bool
     ensures { OnFalse result
         (TellsNoRune (undone_by (V.index view.now) undone.now) Output part.now) }
 {
-    match outpoint_of(part) {
+    match outpoint(part) {
         Some(at) => !balance_before(view, undone, &at).is_empty(),
         None => true,
     }
