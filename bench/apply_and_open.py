@@ -17,7 +17,9 @@ that others who use the disk slow both; printed are all times, the least and the
 commands a second, and the ratio. The files that were applied have to have the bytes that
 docs/FORMATS.md says. In the same way, sixty times, it times the 64 blocks between two whole files
 alone, which one `apply` hears. Beside a store of version 2 it times one of version 3: the feed, and
-the opening of 1,000,000 outputs, each in turns. Then it times `query /status` five times over a
+the opening of 1,000,000 outputs, each in turns. Of stores of version 3 that begin with nothing, of
+depth 100 and 1,000, it counts how many bytes an `apply` of 10,000 blocks writes for one of their
+records, these among them. Then it times `query /status` five times over a
 store of OPENED blocks (10,000 without a word), over one of a tenth of them, and over an empty one.
 PROGRAM is crates/ox_main/out/ox_main without a word. Nothing here is proved. bench/all.py builds
 both programs.
@@ -29,6 +31,7 @@ import fcntl
 import json
 import os
 import pathlib
+import re
 import statistics
 import subprocess
 import sys
@@ -44,7 +47,7 @@ sys.path.append(str(TOP / "checks"))
 
 from chain import SHORT, chain, line, payload_of  # noqa: E402
 from row_forms import Change, Index, Output  # noqa: E402
-from store_files import CLOSED, SUMMED, VERSION, Disk, body_of, bytes_in  # noqa: E402
+from store_files import CLOSED, LAYOUTS, SUMMED, VERSION, Disk, body_of, bytes_in  # noqa: E402
 from store_files import empty, file_of, files_of, make, payload_on  # noqa: E402
 from store_files import summed_store_of  # noqa: E402
 from tools.bitcoin import SUBSIDY, twice  # noqa: E402
@@ -67,6 +70,8 @@ LOOK = 0.0002
 GOAL, MOST_MEMORY, MOST_GROWTH = 0.5, 1.5, 1.3
 # how fast commands should be applied at version 3 by version 2, and how long an opening may take
 SUMMED_GOAL, SUMMED_MOST = 0.95, 1.4
+# over how many blocks, at which depths, at most so many bytes are written for one of records
+WRITTEN, DEPTHS, MOST_WRITTEN = 10_000, (100, 1_000), 5
 
 
 class Calls(Disk):
@@ -112,10 +117,10 @@ def folder_on_disk(program):
         yield pathlib.Path(folder)
 
 
-def make_empty(program, folder):
+def make_empty(program, folder, depth=DEPTH):
     """An empty store in a new folder."""
     folder.mkdir()
-    words = [program, folder, "init", "regtest", str(DEPTH)]
+    words = [program, folder, "init", "regtest", str(depth)]
     subprocess.run(words, check=True, stdout=subprocess.DEVNULL)
 
 
@@ -131,11 +136,11 @@ def time_run(command, **streams):
     return seconds, usage.ru_utime + usage.ru_stime
 
 
-def make_summed(program, folder):
+def make_summed(program, folder, depth=DEPTH):
     """The same of version 3."""
-    make_empty(program, folder)
-    body = empty(depth=DEPTH).body()
-    (folder / "a.ox").write_bytes(file_of("regtest", DEPTH, body, version=SUMMED))
+    make_empty(program, folder, depth)
+    body = empty(depth=depth).body()
+    (folder / "a.ox").write_bytes(file_of("regtest", depth, body, version=SUMMED))
 
 
 def time_apply(program, folder, feed, count, files):
@@ -310,6 +315,40 @@ def compare_versions(program, top):
         print(f"{each:.3f} ms of processor time a command at version {version}")
 
 
+def written_by(child):
+    """How many bytes a process has written."""
+    told = pathlib.Path(f"/proc/{child.pid}/io").read_text()
+    return int(re.search(r"^wchar: (\d+)$", told, re.M)[1])
+
+
+def count_written(program, top):
+    """Counts what stores of version 3 write of records and of whole files."""
+    blocks, tips = chain(WRITTEN)
+    payloads = (payload_on(change_of(block, at)) for at, block in enumerate(blocks))
+    records = sum(LAYOUTS[SUMMED].before_payload + len(payload) for payload in payloads)
+    for depth in DEPTHS:
+        folder = top / f"written at {depth}"
+        make_summed(program, folder, depth)
+        with applying(program, folder) as child:
+            shown = 0
+            for first in range(0, len(blocks), TURN):
+                lines = [line(block) for block in blocks[first : first + TURN]]
+                told = (f"ok {at} {tips[at]}\n" for at in range(first, first + len(lines)))
+                answers = "".join(told).encode()
+                seconds_of_lines(child, lines, answers)
+                shown += len(answers)
+            written = written_by(child) - shown
+            child.stdin.close()
+        print(
+            f"{WRITTEN:,} blocks, depth {depth:,}: {written:,} bytes written, {records:,} of"
+            f" records: {written / records:.2f} for one and at most {MOST_WRITTEN}",
+            flush=True,
+        )
+        size = f"{WRITTEN:,} blocks, depth {depth:,}"
+        rate = written / records
+        report("written for a byte of records", size, "bytes", rate, 1, 1 / MOST_WRITTEN)
+
+
 def compare_openings(program, top):
     """Opens a large store at both versions, in turns."""
     outputs, kept, records = OUTPUTS[-1], KEPT[0], RECORDS[-1]
@@ -451,6 +490,7 @@ def main():
         compare_openings(program, top)
         compare(program, top, applied)
         compare_versions(program, top)
+        count_written(program, top)
         compare_small(program, top)
         open_stores(program, top, opened)
 

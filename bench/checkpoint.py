@@ -11,7 +11,9 @@ script. Printed are, for both, how long the commands take that write the whole i
 65th, the 130th and the 195th, and the median of the other small ones, each the least of three runs;
 the same in processor time, for which the disk doesn't matter; the ratios; and how much memory the
 last of these commands took above what there was before it. Both have to give the same answers and
-to leave the same files. Nothing here is proved. bench/all.py builds both programs.
+to leave the same files. Then the same program hears the first 65 lines over stores of both
+versions, of which that of version 3 turns with the 64th: printed are the two turns, in all and of
+the processor, and the memory above. Nothing here is proved. bench/all.py builds both programs.
 """
 
 import pathlib
@@ -30,6 +32,7 @@ from tools.words import numbers
 sys.path.append(str(TOP / "checks"))
 
 from chain import block_of, coinbase_to, line  # noqa: E402
+from store_files import MOST_RECORDS, SUMMED, empty, file_of  # noqa: E402
 
 PROGRAMS = {"ox": proved_program("ox_main"), "plain": plain_program("checkpoint")}
 SIZES = 100_000, 1_000_000
@@ -38,6 +41,11 @@ DEPTH = 10
 MANY, SMALL = 50_000, 200
 TURN = 65
 GOAL = 0.6
+# how much longer a turn of version 3 may take than one of version 2, and how much memory above: so
+# much for each output, and so much besides
+SUMMED_MOST, OF_AN_OUTPUT, BESIDES = 2.5, 16, 4_000_000
+# the program over a store of version 3
+OVER_SUMMED = "ox at version 3"
 
 
 def scripts(height, count):
@@ -61,9 +69,12 @@ def made(name, folder):
     """The command that hears a feed over a new store in a folder."""
     if name == "plain":
         return [PROGRAMS[name], folder, str(DEPTH)]
-    words = [PROGRAMS[name], folder, "init", "regtest", str(DEPTH)]
+    words = [PROGRAMS["ox"], folder, "init", "regtest", str(DEPTH)]
     subprocess.run(words, check=True, stdout=subprocess.DEVNULL)
-    return [PROGRAMS[name], folder, "apply"]
+    if name == OVER_SUMMED:
+        body = empty(depth=DEPTH).body()
+        (folder / "a.ox").write_bytes(file_of("regtest", DEPTH, body, version=SUMMED))
+    return [PROGRAMS["ox"], folder, "apply"]
 
 
 def memory(child, field):
@@ -82,10 +93,9 @@ def processor_time(child):
     return int(pathlib.Path(f"/proc/{child.pid}/schedstat").read_text().split()[0]) / 1e9
 
 
-def run(name, lines, top):
+def run(name, lines, top, last):
     """How long each line takes, and how much processor time; what there was of memory before the
-    last turn, and how much this took above it; what was answered, and the files."""
-    last = max(filter(is_turn, range(len(lines))))
+    line of the last turn, and how much this took above it; what was answered, and the files."""
     with tempfile.TemporaryDirectory(dir=top) as folder:
         folder = pathlib.Path(folder)
         times, works, answers = [], [], []
@@ -132,11 +142,11 @@ def told(all_seconds):
 def compare(outputs, top):
     """Prints both programs' times, and answers those of the turns by the program's name."""
     lines = feed(outputs)
-    first = len(lines) - SMALL
+    first, last = len(lines) - SMALL, max(filter(is_turn, range(len(lines))))
     least, memories, left = {}, {}, []
     for _ in range(RUNS):
         for name in PROGRAMS:
-            taken, memories[name], rest = run(name, lines, top)
+            taken, memories[name], rest = run(name, lines, top, last)
             both = zip(taken, least.get(name, taken))
             least[name] = [list(map(min, now, before)) for now, before in both]
             left.append(rest)
@@ -169,7 +179,40 @@ def compare(outputs, top):
     report(f"{name}, memory above", size, "MB", *above)
     small = [1000 * others[of] for of in ("ox", "plain")]
     report("a small block, else", size, "ms", *small)
+    compare_versions(outputs, lines[:TURN], top)
     return max(turns["ox"]), max(works["ox"])
+
+
+def compare_versions(outputs, lines, top):
+    """Prints how long a turn of each version takes, and its memory, over an index of so many
+    outputs."""
+    turns = {"ox": TURN - 1, OVER_SUMMED: MOST_RECORDS - 1}
+    least, above = {}, {}
+    for _ in range(RUNS):
+        for name, last in turns.items():
+            taken, memories, (answers, files) = run(name, lines, top, last)
+            if not all(answer.startswith(b"ok ") for answer in answers):
+                sys.exit("not each block was accepted")
+            if files[1][10:18] != (2).to_bytes(8, "little"):
+                sys.exit("file B wasn't turned to")
+            now = [times[last] for times in taken]
+            least[name] = [*map(min, now, least.get(name, now))]
+            above[name] = min(memories[1], above.get(name, memories[1]))
+    (ours, ours_work), (plain, plain_work) = least[OVER_SUMMED], least["ox"]
+    most = OF_AN_OUTPUT * outputs + BESIDES
+    print(
+        f"{outputs:,} outputs, a turn of version 3: {1000 * ours:.0f} ms, {1000 * ours_work:.0f} of"
+        f" processor time; of version 2 {1000 * plain:.0f} and {1000 * plain_work:.0f}:"
+        f" {ours / plain:.2f} and {ours_work / plain_work:.2f} times and at most {SUMMED_MOST};"
+        f" {above[OVER_SUMMED] / 1e6:.1f} MB above and at most {most / 1e6:.1f}",
+        flush=True,
+    )
+    name, size = "the whole index written, version 3", f"{outputs:,} outputs"
+    report(name, size, "ms", 1000 * ours, 1000 * plain, 1 / SUMMED_MOST)
+    works = [1000 * work for work in (ours_work, plain_work)]
+    report(f"{name}, processor time", size, "ms", *works, 1 / SUMMED_MOST)
+    memories = [above[name] / 1e6 for name in (OVER_SUMMED, "ox")]
+    report(f"{name}, memory above", size, "MB", *memories, memories[1] / (most / 1e6))
 
 
 def main():

@@ -15,6 +15,8 @@ crates/ox_main, and `rt run < stdin` in crates/ox_index_rows.
   nothing was shown, and to have shown whole lines in front of those of an undisturbed run. The
   lines behind them are then applied with all memory, and have to be answered by the others and to
   leave the files as they should be.
+- `apply` of a line that turns files of version 3: where the turn lacks memory the line is answered
+  with status 0, and the files stand for what they should.
 - `init`, `query`, `drill 2` and `migrate` of the same program: each has to end so too, and to show
   its line whole or nothing. After 8 the files are as before, but of a drill, which leaves those of
   some of its first commands; and with all memory each is carried out then.
@@ -54,7 +56,8 @@ from rows import address_rows, hash_text, plain, reveal
 from rows.holder_rows import FIRST, address_tree
 from rows.index_rows import Full, Held, Indexes, runes_of_mainnet
 from rows.scenarios import ETCHES, MINTS_AND_BURNS
-from store_files import CLOSED, files_after_each, files_of
+from store_files import CLOSED, MOST_RECORDS, bytes_in, files_after_each, files_of, stands
+from store_files import summed_store_of
 from tools.bitcoin import SUBSIDY, twice
 from tools.programs import TOP, proved_program
 from tools.words import words_of
@@ -180,6 +183,40 @@ def apply_in_turn(program, memory, top, heard, lines):
     shutil.rmtree(first)
     shutil.rmtree(whole)
     print(f"apply of {len(lines)} lines behind {len(heard)}: {count} allocations")
+
+
+def turn_in_turn(program, memory, top):
+    """Each allocation of an `apply` fails in turn whose line turns files of version 3."""
+    blocks, tips = chain(MOST_RECORDS)
+    commands = [*map(payload_of, blocks)]
+    before, after = (summed_store_of(commands[:count]) for count in (MOST_RECORDS - 1, None))
+    first = top / "first"
+    first.mkdir()
+    for name, data in zip(("a.ox", "b.ox"), bytes_in(before)):
+        (first / name).write_bytes(data)
+    whole = copy(first, top / "whole")
+    feed, told = line(blocks[-1]), f"ok {len(blocks) - 1} {tips[-1]}\n".encode()
+    ran, count = memory.run([program, whole, "apply"], 0, feed)
+    demand((ran.returncode, ran.stdout) == (0, told), f"{ran.returncode}: {ran.stdout}")
+    demand(files(whole) == bytes_in(after), "the files didn't turn")
+    lacked = 0
+    for fails in range(1, count + 1):
+        folder, what = copy(first, top / str(fails)), f"a turn, allocation {fails}"
+        ran, _ = memory.run([program, folder, "apply"], fails, feed)
+        ended, left = (ran.returncode, ran.stdout), files(folder)
+        if ran.returncode == 0:
+            demand(ran.stdout == told, f"{what}: {ended}")
+            stack, _ = stands(dict(zip("AB", left)))
+            demand(stack.body() == after.stack.body(), f"{what}: the files stand for another stack")
+            lacked += left != bytes_in(after)
+        else:
+            demand(ended in ((8, b""), (4, b"")), f"{what}: {ended}")
+            demand(left == bytes_in(before), f"{what}: the files are others")
+        shutil.rmtree(folder)
+    demand(lacked, "no turn lacked memory")
+    shutil.rmtree(first)
+    shutil.rmtree(whole)
+    print(f"a turn of version 3: {count} allocations; of these the turn lacked {lacked}")
 
 
 # ---- other subcommands
@@ -547,6 +584,7 @@ def main():
         apply_in_turn(program, memory, top, [], lab_chain())
         long = long_chain()
         apply_in_turn(program, memory, top, long[:62], long[62:])
+        turn_in_turn(program, memory, top)
         others_in_turn(program, memory, top)
         serve_in_turn(program, memory, top)
         addresses_in_turn(program, memory, top)

@@ -303,6 +303,13 @@ def opens_gate(disk, on, at, data):
     return len(data) == 1 and data != CLOSED and disk[on].synced[at : at + 1] == CLOSED
 
 
+def is_behind(synced, at):
+    """Whether a place is right behind the last gate of an open file, where an older one's bytes may
+    still be."""
+    _, end = store_files.body_of_file(synced)
+    return store_files.records(synced, end)[1] == at - 1
+
+
 # ---- what a record has to keep to
 
 
@@ -328,13 +335,17 @@ def faults_in(calls, before=(b"", b""), gates=1):
             synced = disk[on].synced
             if on in over:
                 yield f"a write into {on} before the sync of its gate"
-            if at < len(synced) and len(data) != 1 and (at == 0 or synced[:1] != CLOSED):
+            # behind a file's closed gate nothing is read, so no byte of it is a gate
+            is_read = at == 0 or synced[:1] != CLOSED
+            if at < len(synced) and len(data) != 1 and is_read and not is_behind(synced, at):
                 yield f"a write over a synced byte of {on}, at {at}"
-            if at < len(synced) and len(data) == 1:
+            if at < len(synced) and len(data) == 1 and is_read:
                 over[on] = at
                 if disk[on].writes:
                     yield f"a gate of {on}, at {at}, before the sync of what it opens"
-                opens += opens_gate(disk, on, at, data)
+                # a turn of version 3 opens its file behind the gate of the line's own record
+                turns_on = at == 0 and opens and synced[6] == store_files.SUMMED
+                opens += opens_gate(disk, on, at, data) and not turns_on
             disk[on].write(at, data)
         elif what == "show":
             if not folder:
@@ -612,14 +623,18 @@ def applying(trial):
     demand(turns == 2, f"the files turned {turns} times")
 
 
-@every.check("an `apply` of version 3 keeps the order behind 64 records too, and each state opens")
-def appending(trial):
-    blocks = made_blocks.chain(60)
-    commands, first = commands_on(blocks), MOST_RECORDS - 4
-    store = store_files.summed_store_of(commands[:first], "regtest", DEPTH)
-    before = store_files.bytes_in(store)
-    turns = wants_applied(trial, Stacks(commands, blocks), commands, first, before)
-    demand(not turns, "a whole file was written")
+@every.check("an `apply` of version 3 keeps the order, also where the files turn; each state opens")
+def turning(trial):
+    blocks = made_blocks.chain(110)
+    commands = commands_on(blocks)
+    stacks = Stacks(commands, blocks)
+    # beside a closed file, and beside one that is open
+    for first in (MOST_RECORDS - 4, 2 * MOST_RECORDS - 4):
+        store = store_files.summed_store_of(commands[:first], "regtest", DEPTH)
+        before = store_files.bytes_in(store)
+        heads = wants_applied(trial, stacks, commands, first, before)
+        # the head's place is filled with zeros, and then with the head
+        demand(heads == 2, f"{heads} heads were written")
 
 
 @every.check("a `migrate` keeps the order, and each state is the old store or the new one")

@@ -14,6 +14,7 @@ minutes.
 """
 
 import collections
+import itertools
 import json
 import os
 import pathlib
@@ -32,7 +33,7 @@ import store_faults
 import store_files
 from chain import DISCONNECT, SHORT, block_of, block_with, chain, coinbase, commitment, committing
 from chain import envelope, id_value, line, line_of, payload_of, reveal_into
-from kills import kill_often
+from kills import Moment, apply_and_kill, begins_with, kill_often, writes_of
 from old_files import old_file_of
 from rows.frame_rows import have, level
 from store_files import MOST_RECORDS, bytes_in, file_a, files_of, payload_on, store_of
@@ -219,11 +220,12 @@ def line_by_line(ox):
         )
 
 
-def walk(chance, depth, count=200):
-    """So many commands: made blocks, and disconnects of one in five."""
-    blocks, height, kept = made_blocks.chain(count), 0, 0
+def walk(chance, depth, count=200, odds=5, blocks=None):
+    """So many commands: made blocks, as many as a chain may have, and disconnects of one in five, or
+    by other odds."""
+    blocks, height, kept = made_blocks.chain(blocks or count), 0, 0
     for _ in range(count):
-        if kept and chance.randrange(5) == 0:
+        if kept and chance.randrange(odds) == 0:
             yield DISCONNECT
             height, kept = height - 1, kept - 1
         else:
@@ -272,15 +274,21 @@ def turned(ox):
     ox.status_is(64, tips[63])
 
 
-@every.check("files of version 3 get record behind record, and one changed byte is no store")
+@every.check("files of version 3 get records, turn at 64, and one changed byte is no store")
 def summed(ox):
     blocks, tips = chain(70)
     ox.write(EMPTY_SUMMED, EMPTY_B)
-    for first, last in ((0, 3), (3, 70)):
+    for first, last in ((0, 3), (3, 63), (63, 64), (64, 70)):
         wanted = b"".join(answer(height, tips) for height in range(first, last))
         ox.wants((0, wanted), "apply", feed=b"".join(map(line, blocks[first:last])))
         ox.has(*bytes_in(store_files.summed_store_of(map(payload_of, blocks[:last]))))
         ox.status_is(last, tips[last - 1])
+        if last == 63:
+            changed_bytes(ox)
+
+
+def changed_bytes(ox):
+    """One changed byte of file A of version 3 is told where it is, or where what has it begins."""
     a, b = ox.files()
     first = len(EMPTY_SUMMED) - 1
     places = (1, 1), (6, 1), (10, 1), (25, 1), (26, 1), (58, 1), (89, 1), (90, 90), (first - 1, 90)
@@ -294,6 +302,81 @@ def summed(ox):
         ox.wants((3, b""), word, feed=have(1, 0))
     ox.wants((3, b"not a store a 6\n"), "migrate")
     ox.has(a, b)
+
+
+TURNS, TURN_KILLS = 10, 20
+
+
+@every.check(
+    f"a store of version 3 turns {TURNS} times, is killed {TURN_KILLS} times in and around that,"
+    " and loses no line that was answered"
+)
+def killed_turns(ox):
+    chance = random.Random(SEED)
+    commands = list(walk(chance, 100, 6 * TURNS * MOST_RECORDS, odds=2, blocks=300))
+    store = store_files.summed_store_of([])
+    ox.write(*bytes_in(store))
+    heard = kills = 0
+    while store.tail.generation <= TURNS or kills < TURN_KILLS:
+        demand(heard < len(commands), f"the feed has ended behind {kills} kills")
+        lines = lines_to_turn(store, commands[heard:]) - 1
+        # the line that turns the files, and two behind it
+        feed = FeedFile(ox.folder / "feed", commands[heard : heard + lines + 3])
+        when = Moment(lines, chance.random() < 0.3, chance.uniform(0, 0.001))
+        shown, was_killed = apply_and_kill(ox.program, ox.folder, feed, 0, when)
+        kills += was_killed
+        answered = shown.count(b"\n")
+        made = made_of(store, commands[heard:], answered, ox.files())
+        demand(made is not None, f"the files have other bytes behind {heard + answered} lines")
+        heard += made
+        store = opened(*ox.files())
+        status = json.loads(ox.run("query", "/status")[1])
+        told = status["blocks"], status["kept"], status["tip"]
+        tip = store.stack.tip()[::-1].hex() if store.stack.hashes() else None
+        demand(told == (len(store.stack.hashes()), len(store.stack.kept), tip), f"it told {told}")
+
+
+class FeedFile:
+    """A feed in a file, and where each of its lines begins."""
+
+    def __init__(self, path, commands):
+        lines = [line_of(command) for command in commands]
+        path.write_bytes(b"".join(lines))
+        self.path, self.places = path, [0, *itertools.accumulate(map(len, lines))]
+
+
+def opened(a, b):
+    """The store that two files are."""
+    disk = store_files.Disk()
+    disk.files = {"A": bytearray(a), "B": bytearray(b)}
+    return store_files.Store(disk, *store_files.stands(disk.files))
+
+
+def lines_to_turn(store, commands):
+    """How many commands it is until the files turn, that one among them."""
+    trial = opened(*bytes_in(store))
+    for count, command in enumerate(commands, 1):
+        trial.carry_out(command)
+        if trial.tail.generation != store.tail.generation:
+            return count
+    return len(commands)
+
+
+def made_of(store, commands, answered, files):
+    """How many of these commands the files have, where each write of those that were answered is
+    there, and of the next one's the first ones, the last of them maybe in part; or None."""
+    got, disk = dict(zip("AB", files)), store.disk
+    for command in commands[:answered]:
+        store.carry_out(command)
+    if disk.files == got:
+        return answered
+    for file, at, data in writes_of(store, commands[answered]):
+        same = all(disk.files[other] == got[other] for other in "AB" if other != file)
+        if same and begins_with(got[file], bytes(disk.files[file]), at, data):
+            stack, _ = store_files.stands(got)
+            return answered + (stack.body() != store.stack.body())
+        disk.write(file, at, data)
+    return answered + 1 if disk.files == got else None
 
 
 @every.check("a block of nearly four million bytes is kept")

@@ -133,7 +133,8 @@ def fields(*writers):
 
 outpoint = inscription_id = pair(bytes, number(4))
 rune_id = pair(number(8), number(4))
-sats = listed(pair(number(8), number(8)))
+run = pair(number(8), number(8))
+sats = listed(run)
 output = fields(text, number(4), sats)
 inscription = fields(
     inscription_id,
@@ -159,9 +160,10 @@ rune = fields(
     bytes,
 )
 count = fields(number(4), *4 * [number(16)])
-outputs = listed(pair(outpoint, output))
-held = listed(pair(rune_id, number(16)))
-balances = listed(pair(outpoint, held))
+output_row = pair(outpoint, output)
+outputs = listed(output_row)
+balances_row = pair(outpoint, listed(pair(rune_id, number(16))))
+balances = listed(balances_row)
 
 SPELLED = {
     "index": fields(listed(bytes), outputs, sats, listed(inscription), balances, listed(rune)),
@@ -177,6 +179,24 @@ SPELLED = {
         listed(rune),
     ),
 }
+
+
+def counted(item, items):
+    """A list, its count and each of its items by itself."""
+    yield number(4)(len(items))
+    yield from map(item, items)
+
+
+def row_by_row(index, changes):
+    """The rows of an index and of the list of these changes, one by one, and the count of each list
+    before those of it."""
+    yield from counted(bytes, index.hashes)
+    yield from counted(output_row, index.outputs)
+    yield from counted(run, index.lost)
+    yield from counted(inscription, index.inscriptions)
+    yield from counted(balances_row, index.balances)
+    yield from counted(rune, index.runes)
+    yield from counted(SPELLED["change"], changes)
 
 
 # ---- read

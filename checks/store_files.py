@@ -17,7 +17,7 @@ import plain_index
 from chain import DISCONNECT, GENESIS, chain, payload_of
 from plain_index import Refused, after_block
 from row_ends import change_between, is_sound, other_end
-from row_forms import SPELLED, Change, Fault, Index, Reader
+from row_forms import SPELLED, Change, Fault, Index, Reader, row_by_row
 
 from tools.words import no_words
 
@@ -26,8 +26,14 @@ BYTES = {"mainnet": 0, "regtest": 1, "lab": 2}
 VERSION, SUMMED = 2, 3
 # where a body of version 1 or 2 begins
 BODY_AT = 26
-# how many records a file has at the least when the other one takes its place
+# how many records a file has when the other one takes its place: at version 2 at the least, at
+# version 3 a multiple of that
 MOST_RECORDS = 64
+# where the body of a file of version 3 begins
+SUMMED_BODY_AT = 90
+# a body is written in pieces: what is spelled of it goes once it has so many bytes, and the rest at
+# its end
+PIECE = 1 << 20
 GREATEST = (1 << 64) - 1
 CLOSED, OPEN = b"\0", b"\1"
 OTHER = {"A": "B", "B": "A"}
@@ -75,7 +81,7 @@ def nothing(*_):
 
 
 PLAIN = Layout(b"oxidx", BODY_AT, 4, nothing, nothing)
-LAYOUTS = {1: PLAIN, 2: PLAIN, SUMMED: Layout(b"oxid3", 90, 8, sums, sum_of)}
+LAYOUTS = {1: PLAIN, 2: PLAIN, SUMMED: Layout(b"oxid3", SUMMED_BODY_AT, 8, sums, sum_of)}
 
 
 def layout_in(data):
@@ -139,14 +145,33 @@ class Stack:
         change = change_between(self.index, index)
         return self.on(change, index), payload_on(change)
 
+    def changes(self):
+        return [kept.change for kept in self.kept]
+
     def body(self):
-        return body_of(self.index, [kept.change for kept in self.kept])
+        return body_of(self.index, self.changes())
+
+    def pieces(self):
+        """The body as a file of version 3 gets it, piece by piece."""
+        return pieces_of(row_by_row(self.index, self.changes()))
 
 
 def body_of(index, changes):
     """The body of a file with this index and these kept changes."""
     spelled = b"".join(map(SPELLED["change"], changes))
     return SPELLED["index"](index) + number(len(changes), 4) + spelled
+
+
+def pieces_of(rows):
+    """Rows in pieces: each ends with the row by which it has so many bytes, and the last one, which
+    may have none, where the rows do."""
+    piece = b""
+    for row in rows:
+        piece += row
+        if len(piece) >= PIECE:
+            yield piece
+            piece = b""
+    yield piece
 
 
 def empty(profile="regtest", depth=100):
@@ -287,7 +312,8 @@ def tail_of(files, file, count, gate):
     """The tail of a current file with so many records and this last gate."""
     data = files[file]
     is_other_shut = is_shut(files[OTHER[file]])
-    return Tail(file, number_in(data, 10, 8), count, gate, is_other_shut, data[6])
+    _, first = body_of_file(data)
+    return Tail(file, number_in(data, 10, 8), count, gate, is_other_shut, data[6], first)
 
 
 # ---- what is written
@@ -311,18 +337,27 @@ def file_of(profile, depth, body, payloads=(), generation=1, version=VERSION):
 
 class Tail(NamedTuple):
     """Where the next record comes: the current file, its generation, how many records it has, and
-    the place of its last gate; whether the other file is closed; and the version."""
+    the place of its last gate; whether the other file is closed; the version; and the place of the
+    first record's gate."""
 
     file: str
     generation: int
     records: int
     gate: int
     is_other_shut: bool
-    version: int = VERSION
+    version: int
+    first: int
 
     def must_turn(self):
+        """Whether the next record has to come into the other file, at version 2."""
         is_full = self.records >= MOST_RECORDS and self.generation != GREATEST
         return is_full and self.version == VERSION
+
+    def is_turn_due(self):
+        """Whether behind its newest record the other file takes its place, at version 3."""
+        is_full = self.records and self.records % MOST_RECORDS == 0
+        is_long = 2 * (self.gate - self.first) >= self.first - SUMMED_BODY_AT
+        return is_full and is_long and self.generation != GREATEST and self.version == SUMMED
 
 
 def fill(disk, file, stack, generation):
@@ -333,6 +368,20 @@ def fill(disk, file, stack, generation):
     disk.write(file, len(front), body + CLOSED)
     disk.sync(file)
     return len(front) + len(body)
+
+
+def fill_summed(disk, file, stack, generation):
+    """The same of version 3: zeros where the head and the sums come, the body piece by piece, the
+    last gate and then the head."""
+    disk.write(file, 1, bytes(SUMMED_BODY_AT - 1))
+    gate = SUMMED_BODY_AT
+    for piece in stack.pieces():
+        disk.write(file, gate, piece)
+        gate += len(piece)
+    disk.write(file, gate, CLOSED)
+    disk.write(file, 1, front_of(stack.profile, stack.depth, generation, stack.body(), SUMMED))
+    disk.sync(file)
+    return gate
 
 
 def set_gate(disk, file, gate, at=0):
@@ -356,24 +405,42 @@ class Store:
             self.turn_to(stack)
         else:
             self.append(payload)
+            if self.tail.is_turn_due():
+                self.turn_summed(stack)
         self.stack = stack
 
     def append(self, payload):
-        file, generation, count, gate, _, version = self.tail
-        record = record_at(version, generation, gate, payload)
+        file, generation, gate = self.tail.file, self.tail.generation, self.tail.gate
+        record = record_at(self.tail.version, generation, gate, payload)
         self.disk.write(file, gate + 1, record)
         self.disk.sync(file)
         set_gate(self.disk, file, OPEN, gate)
-        self.tail = self.tail._replace(records=count + 1, gate=gate + len(record))
+        self.tail = self.tail._replace(records=self.tail.records + 1, gate=gate + len(record))
 
     def turn_to(self, stack, generation=None):
-        """Puts a whole file in place of the current one, of this generation or the next one."""
-        file, generation = OTHER[self.tail.file], generation or self.tail.generation + 1
+        """Puts a whole file of version 2 in place of the current one, of this generation or the
+        next one."""
+        file, generation = self.shut_other(), generation or self.tail.generation + 1
+        gate = fill(self.disk, file, stack, generation)
+        self.open_other(Tail(file, generation, 0, gate, False, VERSION, gate))
+
+    def turn_summed(self, stack):
+        """The same of version 3, whose body is written piece by piece."""
+        file, generation = self.shut_other(), self.tail.generation + 1
+        gate = fill_summed(self.disk, file, stack, generation)
+        self.open_other(Tail(file, generation, 0, gate, False, SUMMED, gate))
+
+    def shut_other(self):
+        """The other file, which is shut from then on."""
+        file = OTHER[self.tail.file]
         if not self.tail.is_other_shut:
             set_gate(self.disk, file, CLOSED)
-        gate = fill(self.disk, file, stack, generation)
-        set_gate(self.disk, file, OPEN)
-        self.tail = Tail(file, generation, 0, gate, False)
+        return file
+
+    def open_other(self, tail):
+        """Opens the other file, in which this tail is, and is current."""
+        set_gate(self.disk, tail.file, OPEN)
+        self.tail = tail
 
 
 def make(disk, profile="regtest", depth=100):
@@ -383,7 +450,7 @@ def make(disk, profile="regtest", depth=100):
     disk.write("A", 0, CLOSED)
     gate = fill(disk, "A", stack, 1)
     set_gate(disk, "A", OPEN)
-    return Store(disk, stack, Tail("A", 1, 0, gate, True))
+    return Store(disk, stack, Tail("A", 1, 0, gate, True, VERSION, gate))
 
 
 class Disk:
@@ -459,7 +526,7 @@ BACK_SUM = "55eb3594414e75ea026edc376e241ba93316168e5042460344838055e1ee8e75"
 
 
 def test_summed():
-    """The bytes of an empty store of version 3, of a record behind it, and of more than 64."""
+    """The bytes of an empty store of version 3, and of a record behind it."""
     empty_file = bytes.fromhex(EMPTY_SUMMED)
     assert bytes_in(summed_store_of([])) == (empty_file, b"\0") and len(empty_file) == 119
     back = "010100000000000000" + BACK_SUM + "0000"
@@ -475,11 +542,36 @@ def test_summed():
         (118, file[:159]),
     ):
         assert records(other, place) == ([], place, False)
-    commands = [payload_of(block) for block in chain(70)[0]]
-    a, b = bytes_in(summed_store_of(commands))
-    assert (len(records(a, 118)[0]), b) == (70, b"\0")
+
+
+def test_turns():
+    """Which records turn a store of version 3, and a body's pieces."""
+    commands = [payload_of(block) for block in chain(66)[0]]
+    a, b = bytes_in(summed_store_of(commands[:63]))
+    assert (len(records(a, 118)[0]), b) == (63, CLOSED)
+    a, b = bytes_in(summed_store_of(commands[:64]))
+    assert (len(records(a, 118)[0]), a[0], b[0], b[10:18]) == (64, 1, 1, number(2, 8))
     stack, tail = stands({"A": a, "B": b})
-    assert (len(stack.hashes()), tail.records, tail.version) == (70, 70, SUMMED)
+    assert tail == Tail("B", 2, 0, len(b) - 1, False, SUMMED, len(b) - 1)
+    # of each block a hash, an output of 65 bytes and a change, beside the counts of seven lists
+    assert len(b) == 90 + 28 + 64 * (32 + 65 + 32 + 65 + 32) + 1
+    assert file_of("regtest", 100, stack.body(), (), 2, SUMMED) == b
+    # 64 records of half the body's bytes are due, one byte below that they aren't
+    for size, is_due in ((2000, True), (2001, False)):
+        due = tail._replace(records=64, first=90 + size, gate=90 + size + 1000)
+        assert due.is_turn_due() == is_due and due._replace(records=128).is_turn_due() == is_due
+        for count in (0, 63, 65):
+            assert not due._replace(records=count).is_turn_due()
+        for other in (due._replace(generation=GREATEST), due._replace(version=VERSION)):
+            assert not other.is_turn_due()
+    for sizes, pieces in (
+        ([], [0]),
+        ([PIECE - 1], [PIECE - 1]),
+        ([PIECE], [PIECE, 0]),
+        ([PIECE - 1, 5, 3, PIECE, 1], [PIECE + 4, PIECE + 3, 1]),
+    ):
+        assert [*map(len, pieces_of(map(bytes, sizes)))] == pieces
+    assert b"".join(row_by_row(stack.index, stack.changes())) == stack.body()
 
 
 def test():
@@ -504,4 +596,5 @@ if __name__ == "__main__":
     no_words(__doc__)
     test()
     test_summed()
+    test_turns()
     print("passed")

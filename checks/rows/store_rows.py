@@ -109,20 +109,22 @@ class Site:
         """What a crash leaves of a file: bytes that were written since the last sync, and all
         behind the length at it, are filled, and the length is `keep` as far as it may be."""
         seen = synced = self.first[file]
-        covered, longest = set(), len(seen)
+        written, longest = [], len(seen)
         for named, at, data in self.steps[:moment]:
             if named != file:
                 continue
             if at is None:
-                synced, covered, longest = seen, set(), len(seen)
+                synced, written, longest = seen, [], len(seen)
                 continue
             size = data if isinstance(data, int) else len(data)
             if not isinstance(data, int):
                 seen = seen[:at] + data + seen[at + size :]
-            covered.update(range(at, at + size))
+            written.append((at, at + size))
             longest = max(longest, at + size)
-        left = bytes(fill if place in covered else byte for place, byte in enumerate(synced))
-        return left + bytes([fill]) * (min(keep, longest) - len(left))
+        left = bytearray(synced)
+        for at, end in written:
+            left[at:end] = bytes([fill]) * len(left[at:end])
+        return bytes(left) + bytes([fill]) * (min(keep, longest) - len(left))
 
     def crash(self, moment, fill, keep):
         """The site that a crash leaves."""
@@ -601,10 +603,12 @@ def goes_on(rows):
 FILLS = 0x00, 0x07, 0xFF
 
 
-def each_call(rows, command, calls):
+def each_call(rows, command, calls, gate=None):
     """Each call of an opening and of a command of so many calls fails, and the store is opened
-    again."""
+    again. The command counts from the call that writes its gate, and that is synced by the next
+    one: the last two, where it isn't said."""
     rows.settle()
+    gate = LOOKS + (calls - 2 if gate is None else gate)
     before = len(stands(rows.site.files)[0].hashes())
     for call in range(LOOKS + calls + 1):
         rows.restart(0, 0, ALL)
@@ -614,19 +618,21 @@ def each_call(rows, command, calls):
         for fill in (0x00, 0x07):
             rows.reopen(len(rows.site.steps), fill, ALL)
             blocks = int(rows.stdout[-1].split()[0])
-            # the last two are the gate's write and its sync
-            assert abs(blocks - before) == (call >= LOOKS + calls - (2 if fill else 0))
+            assert abs(blocks - before) == (call >= gate + (0 if fill else 2))
         if call < LOOKS + calls:
             rows.open()
             blocks = int(rows.stdout[-1].split()[0])
             # what a write that failed was to put isn't read, and what wasn't synced is
-            assert abs(blocks - before) == (call == LOOKS + calls - 1)
+            assert abs(blocks - before) == (call > gate)
     rows.restart(0, 0, ALL)
 
 
-def each_moment(rows, command, calls):
-    """A stop at each moment of a command of so many calls, from its opening on."""
+def each_moment(rows, command, calls, gate=None):
+    """A stop at each moment of a command of so many calls, from its opening on. The command counts
+    by the gate that `each_call` tells of."""
     rows.settle()
+    # an opening has two moments
+    gate = 2 + (calls - 2 if gate is None else gate)
     before = len(stands(rows.site.files)[0].hashes())
     rows.open([command])
     after = len(stands(rows.site.files)[0].hashes())
@@ -638,8 +644,8 @@ def each_moment(rows, command, calls):
                 rows.reopen(moment, fill, keep)
                 blocks = int(rows.stdout[-1].split()[0])
                 assert blocks in (before, after)
-                assert moment < 2 + calls or blocks == after
-                assert moment > calls or blocks == before
+                assert moment < gate + 2 or blocks == after
+                assert moment > gate or blocks == before
 
 
 def turns(rows):

@@ -1,7 +1,11 @@
 """The rows of crates/ox_run_rows over files of version 3 and over pairs of which one has it, and
 what has to be printed for them: see store_files, store_rows and worlds, which share nothing with
-the library. A file of version 3 is put there byte for byte."""
+the library. A file of version 3 is put there byte for byte.
 
+What a turn writes docs/FORMATS.md has; what it doesn't say and the rows go by: the body goes in
+pieces, as `pieces_of` cuts it."""
+
+import made_blocks
 import old_files
 import store_faults
 import store_files
@@ -9,11 +13,11 @@ from chain import DISCONNECT, chain, line, payload_of
 from plain_index import NO_BLOCK
 from rows.frame_rows import have, level
 from rows.serve_rows import post
-from rows.store_rows import APPENDED, FILLS, LOOKS, TURNED, Stores, block_on, each_call
+from rows.store_rows import ALL, APPENDED, FILLS, LOOKS, TURNED, Stores, block_on, each_call
 from rows.store_rows import each_moment, marks, not_at
-from rows.worlds import CUTS_NOTHING, Runs
-from store_files import BODY_AT, CLOSED, GREATEST, OPEN, SUMMED, VERSION, bytes_in, number
-from store_files import record_at, records, sum_of, summed_store_of
+from rows.worlds import CUTS_NOTHING, PORTIONS, Runs
+from store_files import BODY_AT, CLOSED, GREATEST, OPEN, PIECE, SUMMED, VERSION, bytes_in, number
+from store_files import record_at, records, stands, sum_of, summed_store_of
 
 EMPTY = bytes.fromhex(store_files.EMPTY_SUMMED)
 BODY = store_files.empty().body()
@@ -62,17 +66,127 @@ def opens(rows):
     assert rows.stdout[-1] == "not a store: A at 6"
 
 
-def more_than_64(rows):
-    rows.heading("seventy records go behind a body of version 3, and the other file stays")
-    commands, _ = marks(1, 71)
-    rows.put(EMPTY)
-    rows.open(commands[:70])
+# ---- turns
+
+# the writes and syncs of a turn beside a closed file, whose body is one piece: zeros in its head's
+# place, the piece, the last gate, the head, a sync, the gate and a sync
+TURNED_ON = 7
+
+
+def payloads_of(commands, stack=None):
+    """What the records of these commands hold, on an empty chain or from this one on."""
+    stack, payloads = stack or store_files.empty(), []
+    for command in commands:
+        stack, payload = stack.obey(command)
+        payloads.append(payload)
+    return payloads
+
+
+def turns_on(rows):
+    commands, _ = marks(1, 64)
+    payloads = payloads_of(commands)
+    older = summed(90 * [DISCONNECT], bytes(9000))
+    for beside, a, b, generation in (
+        ("a closed file", b"", CLOSED, 1),
+        ("a longer open one", older, b"", 2),
+    ):
+        rows.heading(f"the 64th record of a file of version 3 turns it, beside {beside}")
+        current = summed(payloads[:63], generation=generation)
+        rows.put(a or current, b or current)
+        rows.open()
+        calls = APPENDED + TURNED_ON + (2 if a else 0)
+        each_call(rows, commands[63], calls, gate=2)
+        each_moment(rows, commands[63], calls, gate=2)
+        rows.file("A" if a else "B")
+        rows.open(3 * [DISCONNECT])
+        assert rows.stdout[-1].startswith("61 blocks, 61 of 100 kept")
+        rows.file("A" if a else "B", len(current))
+
+
+def halves(rows):
+    rows.heading("64 records, or 128, turn a file where they are half its body's length or longer")
+    # of a block that is connected and taken back, and of a body of one block, which isn't kept and
+    # whose output has no script
+    pair = len(summed(payloads_of([*marks(1, 1)[0], DISCONNECT]))) - len(summed())
+    least = len(body_with(0)[1])
+    for long, turning in ((64 * pair, 64), (64 * pair + 1, 128), (128 * pair + 1, None)):
+        stack, body = body_with(long - least)
+        assert len(body) == long
+        commands = 65 * [*marks(2, 1, stack.tip())[0], DISCONNECT]
+        rows.put(summed([], body))
+        for first, last in ((0, 63), (63, 64), (64, 65), (65, 127), (127, 128), (128, 129)):
+            if first == 0 or turning != 64 or last < 66:
+                rows.open(commands[first:last])
+                rows.now()
+                assert (rows.site.files["B"] != CLOSED) == (last >= (turning or 999))
+        rows.file("A", len(summed([], body)) - 1)
+        rows.file("B", 90 + long - 1000 if turning else 0)
+    rows.heading("a file of the greatest generation is turned to, and turns no more")
+    commands, _ = marks(1, 66)
+    payloads = payloads_of(commands)
+    for generation in (GREATEST - 1, GREATEST):
+        rows.put(summed(payloads[:63], generation=generation))
+        rows.open(commands[63:])
+        rows.file("B", 10)
+    rows.put(summed(), summed(payloads[:63], generation=GREATEST))
+    rows.open(commands[63:])
     rows.file("A")
-    assert len(records(rows.site.files["A"], GATE)[0]) == 70 and rows.site.files["B"] == CLOSED
-    each_call(rows, commands[70], APPENDED)
-    each_moment(rows, commands[70], APPENDED)
-    rows.open([DISCONNECT])
-    rows.file("A", GATE)
+
+
+def body_with(size):
+    """A chain of one block that isn't kept, whose output has a script of so many bytes, and the
+    body of its file."""
+    block, _ = block_on(NO_BLOCK, 1, target=size * bytes([0x51]))
+    index = store_files.empty().obey(payload_of(block))[0].index
+    return store_files.Stack("regtest", 100, index), store_files.body_of(index, [])
+
+
+def others_turn(rows):
+    rows.heading("a disconnect turns a file of version 3 too")
+    commands = [*marks(1, 63)[0], DISCONNECT]
+    rows.put(summed(payloads_of(commands[:63])))
+    rows.open(commands[63:])
+    rows.file("B", 90)
+    rows.open(62 * [DISCONNECT])
+    assert rows.stdout[-1].startswith("0 blocks, 0 of 100 kept")
+    rows.heading("made blocks over a turn: inscriptions, runes and what is held of them")
+    commands = made_blocks.drill_commands(12)
+    commands += 17 * [DISCONNECT, commands[-1]]
+    rows.put(EMPTY)
+    rows.open(commands[:64])
+    rows.file("B")
+    rows.open(commands[64:66])
+    rows.open(13 * [DISCONNECT])
+    assert rows.stdout[-2] == "refused 11"
+    rows.heading("a file of depth 1 turns behind each 64 records, one over the other")
+    rows.put(*bytes_in(summed_store_of([], "regtest", 1)))
+    rows.open(marks(1, 200)[0])
+    rows.file("A")
+    rows.file("B")
+    assert [rows.site.files[file][10] for file in "AB"] == [3, 4]
+
+
+def long_pieces(rows):
+    rows.heading("a body that is written in five pieces turns a file of version 3")
+    # two outputs of more than a piece, and the changes with them; the last of these is another one
+    long = lambda previous, mark: block_on(previous, mark, target=PIECE * bytes([0x51]))
+    first, tip = block_on(NO_BLOCK, 1)
+    second, tip = long(tip, 2)
+    commands, tip = marks(3, 61, tip)
+    commands = [*map(payload_of, (first, second)), *commands, payload_of(long(tip, 64)[0])]
+    rows.put(EMPTY)
+    rows.open(commands[:63])
+    rows.settle()
+    # behind the third piece, and whole
+    for call in (LOOKS + APPENDED + 4, ALL):
+        rows.restart(0, 0, ALL)
+        rows.fail(call)
+        rows.open(commands[63:])
+        rows.reopen(len(rows.site.steps), 0xFF, ALL)
+        assert rows.stdout[-1].startswith("64 blocks, 64 of 100 kept")
+    rows.now()
+    assert rows.stdout[-1] == f"moment {2 + APPENDED + TURNED_ON + 4}"
+    assert len(rows.site.files["B"]) > 4 * PIECE
 
 
 # ---- pairs
@@ -274,24 +388,40 @@ class Rows(Runs):
 
     def store(self, *parts):
         """An empty one and what channel 0 says, whose calls and moments are counted from now."""
-        self.fresh()
-        self.overwrite("A", 0, EMPTY)
-        self.overwrite("B", 0, CLOSED)
-        # a run syncs them
-        self.ends(("query", ""), 0, b'{"error":404}')
-        self.restart(self.world.now(), 0, CUTS_NOTHING)
+        self.put(EMPTY)
         self.feed(*parts)
+
+    def put(self, a, b=CLOSED):
+        """Two files, whose calls and moments are counted from now."""
+        self.fresh()
+        for file, data in zip("AB", (a, b)):
+            if data:
+                self.overwrite(file, 0, data)
+        # a run syncs them
+        self.run("query", "")
+        self.restart(self.world.now(), 0, CUTS_NOTHING)
+
+    def again(self, *parts):
+        """The files that were put, and what channel 0 says."""
+        self.restart(0, 0, CUTS_NOTHING)
+        self.feed(*parts)
+
+    def blocks(self, count):
+        """A query of the status has to tell so many."""
+        status, told = self.run("query", "/status")
+        assert status == 0 and f'"blocks":{count},'.encode() in told
 
 
 def applies(rows):
-    rows.heading("an apply of seventy commands over version 3, and queries of what they leave")
+    rows.heading("an apply of seventy commands over version 3, which turns, and queries")
     blocks, tips = chain(67)
     back = 3 * b"disconnect\n"
     rows.store(b"".join(map(line, blocks)), back)
     told = [f"ok {height} {tip}\n".encode() for height, tip in enumerate(tips)]
     rows.ends(("apply",), 0, b"".join([*told, *told[-2:-5:-1]]))
     commands = [*map(payload_of, blocks), *3 * [DISCONNECT]]
-    rows.files(bytes_in(summed_store_of(commands))[0])
+    rows.files(*bytes_in(summed_store_of(commands)))
+    assert len(records(rows.world.site.files["B"], 90 + 28 + 64 * 226)[0]) == 6
     for path in ("/status", "/blockhash/63", f"/status?at={tips[60]}"):
         rows.ends(("query", path), 0, rows.world.reply(path))
     rows.feed(line(blocks[64]))
@@ -310,6 +440,23 @@ def applies(rows):
         for fill in FILLS:
             led, last = rows.crash(moment, fill, CUTS_NOTHING, ("apply",), ("query", "/status"))
             assert led[0] == last[0] == 0 and b'"blocks":1' in last[1]
+    rows.heading("a call of a turn that fails leaves the line unanswered, and its command there")
+    full = summed(payloads_of(map(payload_of, blocks[:63])))
+    rows.put(full)
+    for call in range(LOOKS + 1 + APPENDED, LOOKS + 1 + APPENDED + TURNED_ON + 1):
+        rows.again(line(blocks[63]))
+        rows.fail(call)
+        ended = rows.run("apply")
+        # behind the turn the answer is shown
+        assert ended == ((4, b"") if call < LOOKS + 1 + APPENDED + TURNED_ON else (6, b""))
+        rows.blocks(64)
+    rows.heading("a write of a turn that fails halfway")
+    rows.put(full)
+    for portion in PORTIONS:
+        for writes in range(2, 7):
+            rows.again(line(blocks[63]))
+            assert rows.short(portion, writes, "apply") == (4, b"", 1)
+            rows.blocks(64)
 
 
 def others(rows):
@@ -340,7 +487,9 @@ def others(rows):
 def stores():
     """The rows of stores, and what has to be printed for them."""
     rows = Stores()
-    for part in (opens, more_than_64, pairs, turns, heads, places, wrong_rows, changes):
+    for part in (opens, turns_on, halves, others_turn, long_pieces, pairs, turns):
+        part(rows)
+    for part in (heads, places, wrong_rows, changes):
         part(rows)
     return rows
 

@@ -66,7 +66,7 @@ fn tip_of(store: &Store) -> Option<(u32, [u8; 32])> {
 /// `None` where there is no memory for it.
 fn body_sum(alloc: Global, store: &Store) -> Option<u64> {
     let mut body = Bytes::empty(alloc);
-    put_body(&mut body, store.live(), store.changes()).ok()?;
+    put_body(alloc, &mut body, &mut (), store.live(), store.changes()).ok()?;
     Some(sum_of(body.as_slice()))
 }
 
