@@ -221,7 +221,7 @@ def line_by_line(ox):
 
 
 def walk(chance, depth, count=200, odds=5, blocks=None):
-    """So many commands: made blocks, as many as a chain may have, and disconnects of one in five, or
+    """So many commands: made blocks, at most so many, and disconnects of one in five, or
     by other odds."""
     blocks, height, kept = made_blocks.chain(blocks or count), 0, 0
     for _ in range(count):
