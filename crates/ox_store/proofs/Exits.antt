@@ -1,5 +1,5 @@
 -- What holds where a call has a value, where it has a fault, and where a `?` returns.
-use Rattle.std.proofs.Common.{◌≡◌, ◌∙◌, sym}
+use Rattle.std.proofs.Common.{◌≡◌, ◌∙◌, sym, ap}
 use Rattle.std.specs.Prelude.{Result, Ok, Err}
 use Rattle.std.specs.Result.{IfOk, OnErr, OnOk}
 use Rattle.ox_outside.specs.Counts.{IsFailure}
@@ -30,3 +30,10 @@ rose_at (Err e) P failed holds = holds
 pub on_ok_later : {T E A : Type 0} (P : Type 0) (r : Result T E) → (A → OnOk r P) → OnOk r (A → P)
 on_ok_later P (Ok x) holds = holds
 on_ok_later P (Err e) holds = tt
+
+-- the fault of a call whose fault is passed on
+pub passed_on : {T X F : Type 0} (r : Result T F) (e f g : F) → r ≡ Err e → e ≡ f → r ≡ Err g → ◌≡◌ {A = Result X F} (Err f) (Err g)
+passed_on r e f g is same other = ap Err (sym same ∙ same_fault e g (sym is ∙ other))
+
+pub passed_so : {T X F : Type 0} (r : Result T F) (e f g : F) → r ≡ Err e → e ≡ f → ◌≡◌ {A = Result X F} (Err f) (Err g) → r ≡ Err g
+passed_so r e f g is same other = is ∙ ap Err (same ∙ same_fault f g other)

@@ -2,9 +2,10 @@ pub mod CommandsInMemory
 pub mod EmptyFiles
 pub mod Exits
 pub mod FilesOfStores
+pub mod GrowFaults
+pub mod GrowingFiles
 pub mod HeadLemmas
 pub mod MakeFaults
-pub mod MigrateFaults
 pub mod OldStores
 pub mod WritingLemmas
 pub mod TurningLemmas

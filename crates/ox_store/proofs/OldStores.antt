@@ -34,7 +34,7 @@ use Rattle.ox_store.proofs.FilesOfStores.{after_turn}
 
 -- ---- the head
 
-first_for : (a b c d e f : Bool) → (a && b && c && d && e) ≡ true → f ≡ true → (f && b && c && d && e) ≡ true
+pub first_for : (a b c d e f : Bool) → (a && b && c && d && e) ≡ true → f ≡ true → (f && b && c && d && e) ≡ true
 first_for true b c d e true is first = is
 first_for true b c d e false is first = absurd (false≢true first)
 first_for false b c d e f is first = absurd (false≢true is)

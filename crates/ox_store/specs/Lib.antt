@@ -1,4 +1,5 @@
 pub mod Fault
+pub mod Grow
 pub mod Heads
 pub mod Make
 pub mod Migrate

@@ -1,11 +1,11 @@
-//! Why a store isn't made or opened, and why a command isn't prepared.
+//! Why a store isn't made, opened or grown, and why a command isn't prepared.
 
 ghost use Rattle.std.specs.Prelude.{◌≡◌};
 
 use crate::store::Store;
 use ox_bytes::Memory;
 use ox_checkpoint::{Unjudged, earliest};
-use ox_gated::{DiskFault, GateFault};
+use ox_gated::{DiskFault, GateFault, Halt};
 use ox_model::Refusal;
 use ox_outside::{Failed, Which};
 use ox_rules::Why;
@@ -147,6 +147,45 @@ impl From<Memory> for MigrateFault {
 
     fn from(_memory: Memory) -> MigrateFault {
         MigrateFault::Memory
+    }
+}
+
+/// Why a store isn't made one of version 3.
+#[derive(Clone, Copy, Debug, PartialEq, Eq)]
+pub enum GrowFault {
+    /// The files are no store of version 2 which another file can follow.
+    NotStore {
+        /// The file in which the first test fails.
+        file: Which,
+        /// The place in the file that this test is of.
+        at: u64,
+    },
+    /// A call on a file failed, or there was no memory.
+    Halt(Halt),
+}
+
+impl From<DiskFault> for GrowFault {
+    ghost use Rattle.ox_gated.specs.declared.fault.Halt.TheVariants as halts;
+    ghost use Rattle.ox_store.specs.declared.fault.GrowFault.TheVariants as faults;
+
+    ghost from_gives = { λ _ e. e ≡ faults.Halt halts.Disk };
+
+    fn from(_fault: DiskFault) -> GrowFault {
+        GrowFault::Halt(Halt::Disk)
+    }
+}
+
+impl From<OpenFault> for GrowFault {
+    ghost use Rattle.ox_store.specs.Grow.{grow_fault};
+
+    ghost from_gives = { λ fault e. e ≡ grow_fault fault };
+
+    fn from(fault: OpenFault) -> GrowFault {
+        match fault {
+            OpenFault::NotStore { file, at } => GrowFault::NotStore { file, at },
+            OpenFault::DiskFault => GrowFault::Halt(Halt::Disk),
+            OpenFault::Memory => GrowFault::Halt(Halt::Memory),
+        }
     }
 }
 

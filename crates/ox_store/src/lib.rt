@@ -3,6 +3,7 @@
 #![tactic(auto)]
 
 mod fault;
+mod grow;
 mod migrate;
 mod open;
 mod ready;
@@ -10,7 +11,7 @@ mod store;
 mod turning;
 mod writing;
 
-pub use fault::{Kept, MakeFault, MigrateFault, OpenFault};
+pub use fault::{GrowFault, Kept, MakeFault, MigrateFault, OpenFault};
 pub use ox_index::Changes;
 pub use ox_model::About;
 pub use ox_rules::Why;

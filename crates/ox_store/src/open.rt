@@ -51,7 +51,7 @@ impl Store {
 }
 
 /// The store of files that were read.
-fn store_of(alloc: Global, opened: Opened) -> Result<Store, OpenFault>
+pub(crate) fn store_of(alloc: Global, opened: Opened) -> Result<Store, OpenFault>
     requires head { (opened.tail.head ≡ opened.head)
         × IsTrue (is_present opened.head.version) }
     requires lawful { IsTrue (is_lawful opened.head) }

@@ -162,6 +162,21 @@ impl Store {
         self.commands
     }
 
+    /// Its chain and its tail.
+    pub(crate) fn into_parts(self) -> (Chain, Tail)
+        ensures stack { stack_in result.0 ≡ self.stack }
+        ensures tail { result.1 ≡ self.tail }
+        ensures names { Names result.1.head (stack_in result.0) }
+    {
+        let Store {
+            alloc: _alloc,
+            chain,
+            tail,
+            commands: _commands,
+        } = self;
+        (chain, tail)
+    }
+
     /// Carries a command out in memory and takes all the memory of what is written of it: its
     /// record, or the whole file where one of version 2 has to turn. Nothing is written yet.
     /// `Refused` exactly where the command is refused; `Memory` where there is none for it, and

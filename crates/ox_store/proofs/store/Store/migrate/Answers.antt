@@ -11,9 +11,8 @@ use Rattle.ox_gated.proofs.Writing.{all_worked, writes_looking}
 use Rattle.ox_gated.specs.WritesOn.{writes_then}
 use Rattle.ox_index.specs.Chain.{stack_in}
 use Rattle.ox_store.specs.Migrate.{IsOldOrMigrated}
-use Rattle.ox_store.proofs.Exits.{no_fault, no_value, not_both}
+use Rattle.ox_store.proofs.Exits.{no_fault, no_value, not_both, passed_on, passed_so}
 use Rattle.ox_store.proofs.FilesOfStores.{after_turn}
-use Rattle.ox_store.proofs.MigrateFaults.{passed_on, passed_so}
 use Rattle.ox_store.proofs.OldStores.{any_moment, has_migrated, none_failed, spared_other}
 use Rattle.ox_store.specs.declared.fault.MigrateFault.TheVariants.{DiskFault}
 use Rattle.ox_store.proofs.store.Store.migrate.Goals as goal
