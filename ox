@@ -17,6 +17,7 @@ Every other first word is a store's folder, and the words behind it are the prog
     ./ox FOLDER drill BLOCKS             makes a store of so many made blocks
     ./ox FOLDER lead, follow             a store hands its pieces to another one, by two pipes
     ./ox FOLDER migrate                  makes a store of version 1 one of version 2
+    ./ox FOLDER grow                     makes a store of version 2 one of version 3, with sums
     ./ox FOLDER fold PROFILE < FEED      answers a feed with an index that is gone at the end
 
 A profile is mainnet, regtest or lab. A folder of the name of a command is written ./demo. The

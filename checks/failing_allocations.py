@@ -17,6 +17,8 @@ crates/ox_main, and `rt run < stdin` in crates/ox_index_rows.
   leave the files as they should be.
 - `apply` of a line that turns files of version 3: where the turn lacks memory the line is answered
   with status 0, and the files stand for what they should.
+- `grow`: the run has to end with 0, or with 8 or 4 and nothing shown; and the files stand for what
+  they stood for, until with all memory they grow.
 - `init`, `query`, `drill 2` and `migrate` of the same program: each has to end so too, and to show
   its line whole or nothing. After 8 the files are as before, but of a drill, which leaves those of
   some of its first commands; and with all memory each is carried out then.
@@ -217,6 +219,30 @@ def turn_in_turn(program, memory, top):
     shutil.rmtree(first)
     shutil.rmtree(whole)
     print(f"a turn of version 3: {count} allocations; of these the turn lacked {lacked}")
+
+
+def grow_in_turn(program, memory, top):
+    """Each allocation of a `grow` fails in turn."""
+    first = made(program, top / "first", lab_chain())
+    stack, _ = stands(dict(zip("AB", files(first))))
+    whole = copy(first, top / "whole")
+    ran, count = memory.run([program, whole, "grow"], 0)
+    demand((ran.returncode, ran.stdout) == (0, b"ok grown\n"), f"{ran.returncode}: {ran.stdout}")
+    for fails in range(1, count + 1):
+        folder, what = copy(first, top / str(fails)), f"grow, allocation {fails}"
+        ran, _ = memory.run([program, folder, "grow"], fails)
+        ended = ran.returncode, ran.stdout
+        demand(ended in ((0, b"ok grown\n"), (8, b""), (4, b"")), f"{what}: {ended}")
+        left, _ = stands(dict(zip("AB", files(folder))))
+        demand(left.body() == stack.body(), f"{what}: the files stand for another stack")
+        if ran.returncode:
+            ran = subprocess.run([program, folder, "grow"], stdout=subprocess.PIPE)
+            demand((ran.returncode, ran.stdout) == (0, b"ok grown\n"), f"after {what}: {ran}")
+        demand(files(folder) == files(whole), f"after {what}: the files are others")
+        shutil.rmtree(folder)
+    shutil.rmtree(first)
+    shutil.rmtree(whole)
+    print(f"grow: {count} allocations")
 
 
 # ---- other subcommands
@@ -585,6 +611,7 @@ def main():
         long = long_chain()
         apply_in_turn(program, memory, top, long[:62], long[62:])
         turn_in_turn(program, memory, top)
+        grow_in_turn(program, memory, top)
         others_in_turn(program, memory, top)
         serve_in_turn(program, memory, top)
         addresses_in_turn(program, memory, top)

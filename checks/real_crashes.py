@@ -4,14 +4,14 @@ leave of them at each moment, and has the program open it.
 
 The headline is proved of sites that keep a model of a disk. That the real site makes the calls that
 the model speaks of, in that order, on those files, no proof says. So this records, by strace, the
-calls of an `init`, an `apply`, also where the files turn or have version 3, a `migrate`, a `drill`
-and a `serve`, and looks whether they keep the order that the proof is about (`faults_in`). Then it
-builds states of both files by docs/FORMATS.md, 'What a crash leaves of a file' (`Disk`), opens
-each, and compares what `/status` and `/audit` tell with the plain index (plain_index) of the lines
-that were answered, or of one more; some take a disconnect and a connect besides. Each sync and
-write of an `apply` fails once, by strace too, or is cut short. And records are altered: a sync is
-left out, a gate and its record are one write, an answer comes first, the other file is written or
-synced. Each has to be found, by its order and by its states.
+calls of an `init`, an `apply`, also where the files turn or have version 3, a `migrate`, a `grow`,
+a `drill` and a `serve`, and looks whether they keep the order that the proof is about
+(`faults_in`). Then it builds states of both files by docs/FORMATS.md, 'What a crash leaves of a
+file' (`Disk`), opens each, and compares what `/status` and `/audit` tell with the plain index
+(plain_index) of the lines that were answered, or of one more; some take a disconnect and a connect
+besides. Each sync and write of an `apply` fails once, by strace too, or is cut short. And records
+are altered: a sync is left out, a gate and its record are one write, an answer comes first, the
+other file is written or synced. Each has to be found, by its order and by its states.
 
 No real disk is tried, no sectors and no cache of a controller: what a disk does beyond the model
 isn't seen. strace is Debian's package, which is installed where it is missing; where that can't be
@@ -654,6 +654,27 @@ def migrating(trial):
         done = got in ((3, b"not a store a 6\n"), (3, b"not a store b 6\n"))
         demand(done or got == (0, line) and not state.answered, f"`migrate` ended with {got}")
         demand(trial.opener.told(folder) == told_of(stacks.all[-1]), "it is another store")
+
+    trial.wants(states_of(calls, before, trial.chance, 40), look)
+
+
+@every.check("a `grow` keeps the order, and each state is the store at one version or the other")
+def growing(trial):
+    blocks = made_blocks.chain(12)
+    commands = [payload_of(block) for block, _, _ in blocks] + [DISCONNECT]
+    stacks = Stacks(commands, blocks)
+    before = files_of(commands, "regtest", DEPTH)
+    code, told, calls = trial.recorder(before).run("grow")
+    demand((code, told) == (0, b"ok grown\n"), f"it ended with {code} and {told}")
+    trial.wants_order(calls, before)
+
+    def look(state):
+        folder = trial.opener.folder(state)
+        demand(trial.opener.told(folder) == told_of(stacks.all[-1]), "it is another store")
+        got = trial.opener.run(folder, "grow")
+        done = got == (3, b"not a store b 6\n")
+        demand(done or got == (0, told) and not state.answered, f"`grow` ended with {got}")
+        demand(trial.opener.told(folder) == told_of(stacks.all[-1]), "it is another store then")
 
     trial.wants(states_of(calls, before, trial.chance, 40), look)
 

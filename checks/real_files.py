@@ -300,7 +300,8 @@ def changed_bytes(ox):
     ox.write(a, b)
     for word in ("lead", "follow"):
         ox.wants((3, b""), word, feed=have(1, 0))
-    ox.wants((3, b"not a store a 6\n"), "migrate")
+    for word in ("migrate", "grow"):
+        ox.wants((3, b"not a store a 6\n"), word)
     ox.has(a, b)
 
 
@@ -950,6 +951,65 @@ def old_commands(ox):
         ox.has(a, EMPTY_B)
 
 
+# Stores of version 2, which `grow` takes.
+
+GROWN = 200
+
+
+def store_to_grow():
+    """The files of a store that heard made blocks, and those that a growing leaves of them."""
+    store = store_of(walk(random.Random(SEED), 100, GROWN))
+    before = bytes_in(store)
+    store_files.grown(store.disk)
+    return before, bytes_in(store)
+
+
+@every.check(f"a store of {GROWN} lines grows to version 3, and replies and goes back as before")
+def grown(ox):
+    before, after = store_to_grow()
+    ox.write(*before)
+    replies = [(path, ox.run("query", path)) for path in asked_paths(ox)]
+    back = 101 * b"disconnect\n"
+    told = ox.run("apply", feed=back)
+    ox.write(*before)
+    ox.wants((0, b"ok grown\n"), "grow")
+    ox.has(*after)
+    letter = "ab"[after[0][0] == 0]
+    ox.wants((3, f"not a store {letter} 6\n".encode()), "grow")
+    ox.has(*after)
+    for path, reply in replies:
+        ox.wants(reply, "query", path)
+    ox.wants(told, "apply", feed=back)
+
+
+@every.check("kills of a `grow` leave the store at one version or the other")
+def killed_growings(ox):
+    before, after = store_to_grow()
+    letter = "ab"[after[0][0] == 0]
+    back = 101 * b"disconnect\n"
+    ox.write(*before)
+    status, told = ox.run("query", "/status"), ox.run("apply", feed=back)
+    chance, took = random.Random(SEED), 1.0
+    for kill in range(21):
+        ox.write(*before)
+        begun = time.perf_counter()
+        child = subprocess.Popen([ox.program, ox.folder, "grow"], stdout=subprocess.DEVNULL)
+        try:
+            child.wait(took * chance.uniform(0.2, 1.1) if kill else SECONDS)
+        except subprocess.TimeoutExpired:
+            child.kill()
+            child.wait()
+        # the first isn't killed, and tells how long one takes
+        took = took if kill else time.perf_counter() - begun
+        ox.wants(status, "query", "/status")
+        got = ox.run("grow")
+        wanted = (0, b"ok grown\n"), (3, f"not a store {letter} 6\n".encode())
+        demand(got in wanted, f"`grow` ended with {value_text(got)} then")
+        ox.wants(status, "query", "/status")
+        # a stop may leave the older file open; what is appended goes behind the newer one
+        ox.wants(told, "apply", feed=back)
+
+
 # A leader and a follower.
 
 FOLLOWED = 200
@@ -1099,6 +1159,10 @@ def not_store(ox):
         ox.has(a, b)
 
 
+# the words that open a store, but for `query`
+OPENING = "apply", "grow", "migrate", "lead", "follow"
+
+
 def lying_files():
     """Files A whose counts and lengths lie, and the place that is told."""
     (block,), _ = chain(1)
@@ -1117,7 +1181,7 @@ def lying_files():
 def lying_in_files(ox):
     for a, place in lying_files():
         ox.write(a, EMPTY_B)
-        for words in (("query", "/status"), ("apply",), ("migrate",), ("lead",), ("follow",)):
+        for words in (("query", "/status"), *((word,) for word in OPENING)):
             if words == ("migrate",):
                 wanted = (3, b"not a store a 6\n")
             elif words in (("lead",), ("follow",)):

@@ -285,12 +285,15 @@ def records(data, place):
     return found, place, place < len(data)
 
 
-def stands(files):
-    """The stack that two files stand for, and the tail of their records."""
+def stands(files, grows=False):
+    """The stack that two files stand for, and the tail of their records; where they are to grow, as
+    a store of version 2 that another file can follow."""
     file = current(files)
     data = bytes(files[file])
-    if data[6] not in (VERSION, SUMMED):
+    if data[6] not in ((VERSION,) if grows else (VERSION, SUMMED)):
         raise NoStore(f"{file} at 6")
+    if grows and number_in(data, 10, 8) == GREATEST:
+        raise NoStore(f"{file} at 10")
     begun, end = body_of_file(data)
     body = data[begun:end]
     (profile,) = [name for name, byte in BYTES.items() if byte == data[7]]
@@ -442,6 +445,12 @@ class Store:
         set_gate(self.disk, tail.file, OPEN)
         self.tail = tail
 
+    def grow(self):
+        """Becomes one of version 3, and shuts the file of version 2."""
+        self.turn_summed(self.stack)
+        self.shut_other()
+        self.tail = self.tail._replace(is_other_shut=True)
+
 
 def make(disk, profile="regtest", depth=100):
     """Makes two empty files a store."""
@@ -451,6 +460,13 @@ def make(disk, profile="regtest", depth=100):
     gate = fill(disk, "A", stack, 1)
     set_gate(disk, "A", OPEN)
     return Store(disk, stack, Tail("A", 1, 0, gate, True, VERSION, gate))
+
+
+def grown(disk):
+    """Makes a disk's store of version 2 one of version 3; answers it."""
+    store = Store(disk, *stands(disk.files, grows=True))
+    store.grow()
+    return store
 
 
 class Disk:
@@ -516,11 +532,16 @@ def file_a(blocks):
 
 EMPTY = "016f786964780201640001000000000000001c00000000000000" + 29 * "00"
 # of version 3, with the sums that the body of 28 bytes and the 57 bytes behind the gate have by
-# `sha256sum`; and that of the record of a disconnect right behind them
+# `sha256sum`; the same of generation 2; and the sum of the record of a disconnect behind the first
 EMPTY_SUMMED = (
     "016f786964330301640001000000000000001c00000000000000"
     "3addfb141cd7c9c4c6543a82191a3707ac29c7a041217782e61d4d91c691aee8"
     "2ab056ae49ff10f2ec6fb11efc096fc45235e9de78d41ea7055a7b8d86b8b6c4" + 29 * "00"
+)
+GROWN = (
+    "016f786964330301640002000000000000001c00000000000000"
+    "3addfb141cd7c9c4c6543a82191a3707ac29c7a041217782e61d4d91c691aee8"
+    "e74bd24f6d6565c6cc2c64752f27ba376b84df82135efe7176b6479d2b366f48" + 29 * "00"
 )
 BACK_SUM = "55eb3594414e75ea026edc376e241ba93316168e5042460344838055e1ee8e75"
 
@@ -545,7 +566,7 @@ def test_summed():
 
 
 def test_turns():
-    """Which records turn a store of version 3, and a body's pieces."""
+    """Which records turn a store of version 3, the bytes of one that grew, and a body's pieces."""
     commands = [payload_of(block) for block in chain(66)[0]]
     a, b = bytes_in(summed_store_of(commands[:63]))
     assert (len(records(a, 118)[0]), b) == (63, CLOSED)
@@ -564,6 +585,9 @@ def test_turns():
             assert not due._replace(records=count).is_turn_due()
         for other in (due._replace(generation=GREATEST), due._replace(version=VERSION)):
             assert not other.is_turn_due()
+    store = store_of([])
+    grown(store.disk)
+    assert bytes_in(store) == (CLOSED + bytes.fromhex(EMPTY)[1:], bytes.fromhex(GROWN))
     for sizes, pieces in (
         ([], [0]),
         ([PIECE - 1], [PIECE - 1]),

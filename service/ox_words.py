@@ -9,6 +9,7 @@
     ox FOLDER drill BLOCKS             makes a store of so many made blocks
     ox FOLDER lead, follow             a store hands its pieces to another one, by two pipes
     ox FOLDER migrate                  makes a store of version 1 one of version 2
+    ox FOLDER grow                     makes a store of version 2 one of version 3, with sums
     ox FOLDER fold PROFILE < FEED      answers a feed with an index that is gone at the end
 
 A profile is mainnet, regtest or lab. `serve` makes 18,446,744,073,709,551,615 turns at

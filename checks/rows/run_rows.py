@@ -171,6 +171,7 @@ def usage(rows):
         ("query",),
         ("lead", "x"),
         ("follow", ""),
+        ("grow", "3"),
     ):
         rows.fresh()
         rows.feed(b"connect \n")

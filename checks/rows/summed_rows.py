@@ -1,6 +1,6 @@
 """The rows of crates/ox_run_rows over files of version 3 and over pairs of which one has it, and
 what has to be printed for them: see store_files, store_rows and worlds, which share nothing with
-the library. A file of version 3 is put there byte for byte.
+the library. A file of version 3 is put there byte for byte, or `grow` makes it.
 
 What a turn writes docs/FORMATS.md has; what it doesn't say and the rows go by: the body goes in
 pieces, as `pieces_of` cuts it."""
@@ -384,7 +384,7 @@ def changes(rows):
 
 
 class Rows(Runs):
-    """The rows so far, of stores of version 3."""
+    """The rows so far, of stores of version 3 and of those that become ones."""
 
     def store(self, *parts):
         """An empty one and what channel 0 says, whose calls and moments are counted from now."""
@@ -470,6 +470,7 @@ def others(rows):
         (("init", "regtest", "100"), 2, b"not empty\n"),
         (("drill", "2"), 2, b"not empty\n"),
         (("migrate",), 3, b"not a store a 6\n"),
+        (("grow",), 3, b"not a store a 6\n"),
         (("lead",), 3, b""),
         (("follow",), 3, b""),
     ):
@@ -482,6 +483,122 @@ def others(rows):
             rows.store()
             rows.fail(call)
             rows.ends((words,), 4, b"")
+
+
+# ---- stores that become ones of version 3
+
+# the writes and syncs of it beside a closed file: those of a turn, and two of the old file's gate
+GROWN = TURNED_ON + 2
+
+
+def plain(count, generation=2):
+    """A file of version 2 with so many records."""
+    return file_of(VERSION, generation, payloads_of(marks(1, count)[0]))
+
+
+def grows(rows):
+    rows.heading("stores of 0, 2 and 64 records grow, whichever file is current")
+    for count in (0, 2, 64):
+        for older in (CLOSED, summed(9 * [CONNECTED])):
+            a, b = (plain(count), older) if older == CLOSED else (older, plain(count))
+            rows.put(a, b)
+            stack, tail = stands(rows.world.site.files)
+            rows.ends(("grow",), 0, b"ok grown\n")
+            new, grown = store_files.OTHER[tail.file], summed([], stack.body(), 3)
+            rows.file(new)
+            assert rows.world.site.files[new][: len(grown)] == grown
+            if count < 64:
+                rows.file(tail.file)
+            assert rows.world.site.files[tail.file] == CLOSED + plain(count)[1:]
+            rows.blocks(count)
+            rows.ends(("grow",), 3, f"not a store {new.lower()} 6\n".encode())
+            rows.feed(line(block_on(stack.tip(), 99)[0]) + count * b"disconnect\n")
+            assert rows.run("apply")[0] == 0
+            rows.blocks(1)
+    rows.heading("one that is newer than a file of version 3 grows into the last generation")
+    rows.put(plain(1, GREATEST - 1), summed())
+    rows.ends(("grow",), 0, b"ok grown\n")
+    body = stands(rows.world.site.files)[0].body()
+    rows.files(CLOSED + plain(1, GREATEST - 1)[1:], summed([], body, GREATEST))
+
+
+def grows_not(rows):
+    rows.heading("the tests of a store that is to grow come in their order")
+    a, last = plain(2), plain(2, GREATEST)
+    gate, size = 26 + len(BODY), (len(a) - 1 - 26 - len(BODY)) // 2
+    with_size = lambda file, size: file[:18] + number(size, 8) + file[26:]
+    broken = a[:gate] + OPEN + record_at(VERSION, 2, gate, b"\2")
+    for a, b, place in (
+        (CLOSED, CLOSED, "a 0"),
+        (CLOSED, b"", "a 0"),
+        (a, b"", "b 0"),
+        (a[:25], CLOSED, "a 1"),
+        (a, a[:1] + b"p" + a[2:], "b 1"),
+        (a, plain(1), "b 10"),
+        (a, summed(generation=2), "b 10"),
+        (old(1), CLOSED, "a 6"),
+        (old(GREATEST), CLOSED, "a 6"),
+        (EMPTY, CLOSED, "a 6"),
+        (summed(generation=GREATEST), CLOSED, "a 6"),
+        (a, summed(generation=3), "b 6"),
+        (a, old(3), "b 6"),
+        (last, CLOSED, "a 10"),
+        (summed(), last, "b 10"),
+        (with_size(last, 3), CLOSED, "a 10"),
+        (with_size(a, len(a)), CLOSED, "a 26"),
+        (with_size(broken, len(BODY) - 1), CLOSED, "a 26"),
+        (a[:gate], CLOSED, f"a {gate}"),
+        (broken, CLOSED, f"a {gate}"),
+        (a[:-1], CLOSED, f"a {gate + 2 * size}"),
+        (a[:-2], CLOSED, f"a {gate + size}"),
+    ):
+        rows.put(a, b)
+        rows.ends(("grow",), 3, f"not a store {place}\n".encode())
+        assert rows.world.site.files == {"A": a, "B": b}
+
+
+# beside what a store grows, and how many calls that has in all
+BESIDE = (CLOSED, LOOKS + GROWN), (summed(9 * [CONNECTED]), LOOKS + GROWN + 2)
+
+
+def grow_faults(rows):
+    rows.heading("each call of a growing fails, and a stop afterwards")
+    for older, calls in BESIDE:
+        rows.put(plain(2), older)
+        for call in range(calls + 1):
+            rows.again()
+            rows.fail(call)
+            status, _ = rows.run("grow")
+            assert status == (4 if call < calls else 6 if call == calls else 0)
+            for fill in (0x00, 0x07):
+                rows.reopen(rows.world.now(), fill, CUTS_NOTHING)
+                assert rows.stdout[-1].startswith("2 blocks, 2 of 100 kept")
+            # from the gate's write on the new file is current
+            further = (3, b"not a store b 6\n") if call > calls - 4 else (0, b"ok grown\n")
+            assert rows.run("grow") == further
+            rows.blocks(2)
+    rows.heading("a write of a growing fails halfway")
+    rows.put(plain(2))
+    for portion in PORTIONS:
+        for writes in range(6):
+            rows.again()
+            assert rows.short(portion, writes, "grow") == (4, b"", 1)
+            rows.file("B")
+            rows.blocks(2)
+
+
+def grow_stops(rows):
+    rows.heading("a stop at each moment of a growing")
+    for older, _ in BESIDE:
+        rows.put(plain(2), older)
+        rows.ends(("grow",), 0, b"ok grown\n")
+        for moment in range(rows.world.now() + 1):
+            for fill in FILLS:
+                for keep in (0, CUTS_NOTHING):
+                    words = ("grow",), ("query", "/status")
+                    grown, asked = rows.crash(moment, fill, keep, *words)
+                    assert grown in ((0, b"ok grown\n"), (3, b"not a store b 6\n"))
+                    assert asked[0] == 0 and b'"blocks":2,' in asked[1]
 
 
 def stores():
@@ -497,6 +614,6 @@ def stores():
 def runs():
     """The rows of runs, and what has to be printed for them."""
     rows = Rows()
-    for part in (applies, others):
+    for part in (applies, others, grows, grows_not, grow_faults, grow_stops):
         part(rows)
     return rows

@@ -251,6 +251,8 @@ class World:
             return self.drill(int(words[1]))
         elif words == ("migrate",):
             return self.migrate()
+        elif words == ("grow",):
+            self.grow()
         elif words == ("lead",):
             following.lead(self, self.opened())
         elif words == ("follow",):
@@ -266,9 +268,9 @@ class World:
         for _ in range(4):
             self.site.look()
 
-    def opened(self):
+    def opened(self, grows=False):
         self.look_at_fronts()
-        found = stands(self.site.files)
+        found = stands(self.site.files, grows)
         self.site.look()
         self.site.look()
         return store_files.Store(self.disk, *found)
@@ -333,6 +335,10 @@ class World:
         store_files.Store(self.disk, stack, tail).turn_to(stack)
         self.show(f"ok {count}\n".encode())
         return 0
+
+    def grow(self):
+        self.opened(grows=True).grow()
+        self.show(b"ok grown\n")
 
     def visit(self, door, rooms):
         """Takes the link that waits at a door, hears it, gives it up and shuts it."""

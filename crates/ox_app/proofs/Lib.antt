@@ -19,6 +19,7 @@ pub mod FrameCrashes
 pub mod FrameTalks
 pub mod FreshIndexing
 pub mod FrontAnswers
+pub mod Growing
 pub mod Images
 pub mod Migrating
 pub mod MoreTurns

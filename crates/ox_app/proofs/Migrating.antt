@@ -24,7 +24,7 @@ pub same_made : (standing : Result (Stack × ℕ) (OldFault Misfit)) (made made'
 same_made standing made made' e f = cc (sym e ∙ f)
 
 module _ {S : Type 0} (means : Meanings S) where
-  leaves_both : (old new : S) (P Q : Remains → Type 0) → LeavesOnly means old new P → LeavesOnly means old new Q → LeavesOnly means old new (λ r. P r × Q r)
+  pub leaves_both : (old new : S) (P Q : Remains → Type 0) → LeavesOnly means old new P → LeavesOnly means old new Q → LeavesOnly means old new (λ r. P r × Q r)
   leaves_both old new P Q first second = record {
     later = first.later;
     each = λ r left. (first.each r left, second.each r left);

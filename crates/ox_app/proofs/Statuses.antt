@@ -56,17 +56,18 @@ not_apply status (inr (inr (inr (inr (inr (inl is)))))) = record { usage = ended
 not_apply status (inr (inr (inr (inr (inr (inr is)))))) = record { usage = ended_otherwise status ends.TooMuch ends.Usage refl is; not_empty = ended_otherwise status ends.TooMuch ends.NotEmpty refl is; door = ended_otherwise status ends.TooMuch ends.DoorFault refl is; old = ended_otherwise status ends.TooMuch ends.OldCommand refl is }
 
 pub record NotQuery (status : Status) : Type 0 where
+  pub usage : status ≡ ends.Usage → ⊥
   pub not_empty : status ≡ ends.NotEmpty → ⊥
   pub hear : status ≡ ends.HearFault → ⊥
   pub door : status ≡ ends.DoorFault → ⊥
   pub old : status ≡ ends.OldCommand → ⊥
 
 pub not_query : (status : Status) → IsQueryStatus status → NotQuery status
-not_query status (inl is) = record { not_empty = ended_otherwise status ends.Done ends.NotEmpty refl is; hear = ended_otherwise status ends.Done ends.HearFault refl is; door = ended_otherwise status ends.Done ends.DoorFault refl is; old = ended_otherwise status ends.Done ends.OldCommand refl is }
-not_query status (inr (inl is)) = record { not_empty = ended_otherwise status ends.NotStore ends.NotEmpty refl is; hear = ended_otherwise status ends.NotStore ends.HearFault refl is; door = ended_otherwise status ends.NotStore ends.DoorFault refl is; old = ended_otherwise status ends.NotStore ends.OldCommand refl is }
-not_query status (inr (inr (inl is))) = record { not_empty = ended_otherwise status ends.DiskFault ends.NotEmpty refl is; hear = ended_otherwise status ends.DiskFault ends.HearFault refl is; door = ended_otherwise status ends.DiskFault ends.DoorFault refl is; old = ended_otherwise status ends.DiskFault ends.OldCommand refl is }
-not_query status (inr (inr (inr (inl is)))) = record { not_empty = ended_otherwise status ends.ShowFault ends.NotEmpty refl is; hear = ended_otherwise status ends.ShowFault ends.HearFault refl is; door = ended_otherwise status ends.ShowFault ends.DoorFault refl is; old = ended_otherwise status ends.ShowFault ends.OldCommand refl is }
-not_query status (inr (inr (inr (inr is)))) = record { not_empty = ended_otherwise status ends.Memory ends.NotEmpty refl is; hear = ended_otherwise status ends.Memory ends.HearFault refl is; door = ended_otherwise status ends.Memory ends.DoorFault refl is; old = ended_otherwise status ends.Memory ends.OldCommand refl is }
+not_query status (inl is) = record { usage = ended_otherwise status ends.Done ends.Usage refl is; not_empty = ended_otherwise status ends.Done ends.NotEmpty refl is; hear = ended_otherwise status ends.Done ends.HearFault refl is; door = ended_otherwise status ends.Done ends.DoorFault refl is; old = ended_otherwise status ends.Done ends.OldCommand refl is }
+not_query status (inr (inl is)) = record { usage = ended_otherwise status ends.NotStore ends.Usage refl is; not_empty = ended_otherwise status ends.NotStore ends.NotEmpty refl is; hear = ended_otherwise status ends.NotStore ends.HearFault refl is; door = ended_otherwise status ends.NotStore ends.DoorFault refl is; old = ended_otherwise status ends.NotStore ends.OldCommand refl is }
+not_query status (inr (inr (inl is))) = record { usage = ended_otherwise status ends.DiskFault ends.Usage refl is; not_empty = ended_otherwise status ends.DiskFault ends.NotEmpty refl is; hear = ended_otherwise status ends.DiskFault ends.HearFault refl is; door = ended_otherwise status ends.DiskFault ends.DoorFault refl is; old = ended_otherwise status ends.DiskFault ends.OldCommand refl is }
+not_query status (inr (inr (inr (inl is)))) = record { usage = ended_otherwise status ends.ShowFault ends.Usage refl is; not_empty = ended_otherwise status ends.ShowFault ends.NotEmpty refl is; hear = ended_otherwise status ends.ShowFault ends.HearFault refl is; door = ended_otherwise status ends.ShowFault ends.DoorFault refl is; old = ended_otherwise status ends.ShowFault ends.OldCommand refl is }
+not_query status (inr (inr (inr (inr is)))) = record { usage = ended_otherwise status ends.Memory ends.Usage refl is; not_empty = ended_otherwise status ends.Memory ends.NotEmpty refl is; hear = ended_otherwise status ends.Memory ends.HearFault refl is; door = ended_otherwise status ends.Memory ends.DoorFault refl is; old = ended_otherwise status ends.Memory ends.OldCommand refl is }
 
 pub record NotServe (status : Status) : Type 0 where
   pub usage : status ≡ ends.Usage → ⊥
@@ -116,6 +117,13 @@ serve_refuses status a (inl e) = absurd ((not_serve status a).usage e)
 serve_refuses status a (inr (inl e)) = absurd ((not_serve status a).not_empty e)
 serve_refuses status a (inr (inr (inl e))) = e
 serve_refuses status a (inr (inr (inr e))) = absurd ((not_serve status a).old e)
+
+-- how a growing ends that does: it ends as a query may
+pub query_refuses : (status : Status) → IsQueryStatus status → IsRefusal status → status ≡ ends.NotStore
+query_refuses status a (inl e) = absurd ((not_query status a).usage e)
+query_refuses status a (inr (inl e)) = absurd ((not_query status a).not_empty e)
+query_refuses status a (inr (inr (inl e))) = e
+query_refuses status a (inr (inr (inr e))) = absurd ((not_query status a).old e)
 
 -- how a migration ends that does; `migrate` says of running out of memory what it says of these
 pub migrate_refuses : (status : Status) → IsMigrateStatus status → IsRefusal status → (status ≡ ends.NotStore) ⊎ (status ≡ ends.OldCommand) ⊎ (status ≡ ends.Memory)

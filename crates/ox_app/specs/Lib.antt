@@ -2,12 +2,12 @@
 -- has what it promises of each subcommand, Subcommands the words of the command line, Status how a
 -- run ends, Show what is said of shown lines and of faults, Init and Unopened the lines of a making
 -- and of files that are no store, Query what a query shows, Serve what a server logs and a crash
--- leaves of it, Drill the same of a drill, and Migrate of a migration. Talks is of runs that hear
--- and show frames, and Follow of what a crash leaves of a follower. Stacks says of any stack what
--- Headline and Serve say of a machine's, and AnyRuns joins runs one after the other. For the
--- functions below `run`, Fold and Apply are of single lines, Carry of what a line asks for,
--- OneFrame of single frames, Turns of a server's turns over any desk, and Along of how that desk
--- goes along their answers.
+-- leaves of it, Drill the same of a drill, Migrate of a migration, and Grow of a growing. Talks is
+-- of runs that hear and show frames, and Follow of what a crash leaves of a follower. Stacks says
+-- of any stack what Headline and Serve say of a machine's, and AnyRuns joins runs one after the
+-- other. For the functions below `run`, Fold and Apply are of single lines, Carry of what a line
+-- asks for, OneFrame of single frames, Turns of a server's turns over any desk, and Along of how
+-- that desk goes along their answers.
 pub mod Headline
 pub mod Promises
 pub mod Subcommands
@@ -21,6 +21,7 @@ pub mod Stacks
 pub mod AnyRuns
 pub mod Drill
 pub mod Migrate
+pub mod Grow
 pub mod Talks
 pub mod Follow
 pub mod Fold

@@ -11,6 +11,8 @@ use Rattle.ox_sat.specs.Profiles.{profile_named}
 use Rattle.ox_sat.specs.declared.profiles.ProfileName.{ProfileName}
 use Rattle.ox_store.specs.Make.{no_files}
 use Rattle.ox_app.specs.Fold.{fold_depth}
+use Rattle.ox_app.specs.Grow.{GrowsFirst, IsGrown, SaysNoGrowing, StandsForGrowing}
+use Rattle.ox_app.specs.Grow.{StandsForNoGrowing, grown_line}
 use Rattle.ox_app.specs.Headline.{AddsNoImage, AnswersFeed, IsRunInTurn, StandsFor, StopsAtLine}
 use Rattle.ox_app.specs.Init.{IsMade, MakesFirst, made_line}
 use Rattle.ox_app.specs.AnyRuns.{IsServedInTurn}
@@ -21,7 +23,8 @@ use Rattle.ox_app.specs.Stacks.{FeedsOn, FeedsSome, ServesOn, ServesSome, StopsO
 use Rattle.ox_app.specs.Stacks.{SurvivesOn, SurvivesServingOn}
 use Rattle.ox_app.specs.Show.{DiskFails, EndsDone, HearFails, ShowFails, ShowsText}
 use Rattle.ox_app.specs.Status.{IsApplyStatus, IsDone, IsFoldStatus, IsFollowStatus, IsInitStatus}
-use Rattle.ox_app.specs.Status.{IsLeadStatus, IsQueryStatus, IsServeStatus, IsSparing, IsUnopened}
+use Rattle.ox_app.specs.Status.{IsGrowStatus, IsLeadStatus, IsQueryStatus, IsServeStatus, IsSparing}
+use Rattle.ox_app.specs.Status.{IsUnopened}
 use Rattle.ox_app.specs.Talks.{EndsTalk, StandsAsLeader, StandsNowhere, StandsThere, Talks}
 use Rattle.ox_app.specs.Talks.{follower_party, leader_party}
 use Rattle.ox_app.specs.declared.status.Status.{Status}
@@ -168,3 +171,25 @@ pub record Follows {S : Type 0} (means : Meanings S) (status : Status) (old new 
   pub follow_completes : (mine : Stood Stack) → StandsThere means old mine
       → ¬ DiskFails means old new → ¬ HearFails means old new → ¬ ShowFails means old new
       → Grows (EndsTalk status) (means.log old) (means.log new)
+
+-- `grow`
+pub record GrowsStore {S : Type 0} (means : Meanings S) (status : Status) (old new : S)
+    : Type 0 where
+  -- on files that stand for a stack at version 2, with a generation that another file can follow:
+  -- the line is shown, and nothing is heard
+  pub grows : (stack : Stack) → StandsForGrowing means old stack
+      → (status ≢ NotStore) × ShowsText means grown_line status old new
+  -- and only once the files are of version 3
+  pub grown : (stack : Stack) → StandsForGrowing means old stack
+      → (status ≡ Done) ⊎ (status ≡ ShowFault) → IsGrown means stack new
+  -- whenever the run stops, the files stand for that stack
+  pub grow_survives : (stack : Stack) → StandsForGrowing means old stack
+      → GrowsFirst means stack old new
+  -- on files that stand for none so: the first test that fails is shown, and nothing else; and they
+  -- are spared
+  pub ungrown : (misfit : Misfit) → StandsForNoGrowing means old misfit
+      → Unopened means status old new
+  pub no_growing : status ≡ NotStore → SaysNoGrowing means old new
+  pub grow_status : IsGrowStatus status
+  pub grow_completes : (stack : Stack) → StandsForGrowing means old stack
+      → ¬ DiskFails means old new → ¬ ShowFails means old new → IsDone status

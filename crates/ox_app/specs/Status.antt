@@ -115,6 +115,10 @@ IsMigrateStatus status =
     (status ≡ Done) ⊎ (status ≡ NotStore) ⊎ (status ≡ DiskFault) ⊎ (status ≡ ShowFault)
     ⊎ (status ≡ Memory) ⊎ (status ≡ OldCommand)
 
+-- how `grow` may end: as `query`
+abbrev pub IsGrowStatus : Status → Type 0
+IsGrowStatus status = IsQueryStatus status
+
 -- how a run may end that doesn't open its files
 abbrev pub IsUnopened : Status → Type 0
 IsUnopened status = (status ≡ NotStore) ⊎ (status ≡ DiskFault) ⊎ (status ≡ Memory)

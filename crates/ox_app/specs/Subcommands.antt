@@ -6,7 +6,7 @@ use Rattle.ox_sat.specs.declared.profiles.ProfileName.{ProfileName}
 use Rattle.ox_app.specs.declared.subcommand.Subcommand.{Subcommand}
 use Rattle.ox_app.specs.declared.subcommand.Subcommand.TheVariants.{Fold, Init, Apply, Query}
 use Rattle.ox_app.specs.declared.subcommand.Subcommand.TheVariants.{Serve, Drill, Migrate, Lead}
-use Rattle.ox_app.specs.declared.subcommand.Subcommand.TheVariants.{Follow, Unknown}
+use Rattle.ox_app.specs.declared.subcommand.Subcommand.TheVariants.{Follow, Grow, Unknown}
 
 -- a run over a feed, by its profile
 abbrev pub fold_words : ProfileName → List (List ℕ)
@@ -44,6 +44,10 @@ lead_words = codes "lead" ∷ []
 abbrev pub follow_words : List (List ℕ)
 follow_words = codes "follow" ∷ []
 
+-- the growing of a store of version 2
+abbrev pub grow_words : List (List ℕ)
+grow_words = codes "grow" ∷ []
+
 -- a number from 1 to this one
 pub record IsUpTo (most n : ℕ) : Type 0 where
   pub some : 1 ≤ n
@@ -72,6 +76,7 @@ pub record IsUnknown (words : List (List ℕ)) : Type 0 where
   pub no_migrate : words ≢ migrate_words
   pub no_lead : words ≢ lead_words
   pub no_follow : words ≢ follow_words
+  pub no_grow : words ≢ grow_words
 
 -- the words are this subcommand
 abbrev pub IsSubcommand : List (List ℕ) → Subcommand → Type 0
@@ -84,6 +89,7 @@ IsSubcommand words (Drill n) = IsDrillLength n × (words ≡ drill_words n)
 IsSubcommand words Migrate = words ≡ migrate_words
 IsSubcommand words Lead = words ≡ lead_words
 IsSubcommand words Follow = words ≡ follow_words
+IsSubcommand words Grow = words ≡ grow_words
 IsSubcommand words Unknown = IsUnknown words
 
 -- the words of a run that opens files

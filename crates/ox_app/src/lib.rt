@@ -7,6 +7,7 @@ mod carry;
 mod drill;
 mod fold;
 mod follow;
+mod grow;
 mod init;
 mod laws;
 mod lead;

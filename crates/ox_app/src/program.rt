@@ -15,8 +15,8 @@ ghost use Rattle.ox_app.specs.Init.{not_empty_line};
 ghost use Rattle.ox_app.specs.Migrate.{IsMigrated, IsUnmigrated, MigratesFirst, SaysNoOldStore};
 ghost use Rattle.ox_app.specs.Migrate.{SaysOldCommand, StandsForNoOld, StandsForOld};
 ghost use Rattle.ox_app.specs.Migrate.{migrated_line};
-ghost use Rattle.ox_app.specs.Promises.{Applies, Folds, Follows, Inits, Leads, Queries, Serves};
-ghost use Rattle.ox_app.specs.Promises.{Unopened};
+ghost use Rattle.ox_app.specs.Promises.{Applies, Folds, Follows, GrowsStore, Inits, Leads};
+ghost use Rattle.ox_app.specs.Promises.{Queries, Serves, Unopened};
 ghost use Rattle.ox_outside.specs.Runs.{Calls};
 ghost use Rattle.ox_app.specs.Serve.{DoorFails};
 ghost use Rattle.ox_app.specs.Show.{DiskFails, EndsAtFault, HearFails, Says};
@@ -24,8 +24,8 @@ ghost use Rattle.ox_app.specs.Show.{ShowFails, ShowsText, usage_line};
 ghost use Rattle.ox_app.specs.Status.{IsDone, IsDrillStatus, IsMigrateStatus, IsRefusal};
 ghost use Rattle.ox_app.specs.Subcommands.{IsDepth, IsDrillLength, IsOpening, IsReading};
 ghost use Rattle.ox_app.specs.Subcommands.{IsTurns, IsUnknown, apply_words, drill_words};
-ghost use Rattle.ox_app.specs.Subcommands.{fold_words, follow_words, init_words, lead_words};
-ghost use Rattle.ox_app.specs.Subcommands.{migrate_words, query_words, serve_words};
+ghost use Rattle.ox_app.specs.Subcommands.{fold_words, follow_words, grow_words, init_words};
+ghost use Rattle.ox_app.specs.Subcommands.{lead_words, migrate_words, query_words, serve_words};
 ghost use Rattle.ox_app.specs.Talks.{StandsThere};
 ghost use Rattle.ox_app.specs.Unopened.{SaysNotStore};
 ghost use Rattle.ox_app.specs.declared.status.Status.TheVariants as ends;
@@ -34,6 +34,7 @@ use crate::apply::apply;
 use crate::drill::drill;
 use crate::fold::fold;
 use crate::follow::follow;
+use crate::grow::grow;
 use crate::init::init;
 use crate::lead::lead;
 use crate::migrate::migrate;
@@ -67,6 +68,7 @@ use std::alloc::Global;
 /// | | again, and shows what the index then counts. From 1 to 100,000 blocks. |
 /// | `migrate` | Makes a store of version 1 one of version 2, by the present rules, and shows |
 /// | | how many commands were carried out: `ok <commands>`. |
+/// | `grow` | Makes a store of version 2 one of version 3, and shows `ok grown`. |
 /// | `lead` | Opens the store and answers each Have of channel 0 by a frame: the record behind |
 /// | | that position, the whole current file, or a Level where there is nothing. |
 /// | `follow` | Opens the store, shows a Have of where it stands, takes the bases and steps of |
@@ -84,8 +86,8 @@ use std::alloc::Global;
 /// | `Usage` | exactly where the words are no subcommand | `usage` |
 /// | `NotEmpty` | of `init` and `drill`, exactly where a file isn't empty | `not empty` |
 /// | `NotStore` | exactly where the files are no store; in `migrate`, none | `not a store`, the |
-/// | | of version 1 that another file can follow | file's letter and the place of the first |
-/// | | | test that fails; in `lead` and `follow`, nothing |
+/// | | of version 1 that another file can follow; in `grow`, none of | file's letter and the |
+/// | | version 2 | place of the first test that fails; in `lead` and `follow`, nothing |
 /// | `DiskFault` | only where a call on a file failed in this run | nothing further |
 /// | `HearFault` | only where hearing on channel 0 failed in this run | nothing further |
 /// | `ShowFault` | only where showing on channel 0 failed in this run | nothing further |
@@ -106,7 +108,8 @@ use std::alloc::Global;
 /// alone, and in `serve` a command that runs out of memory is answered 503 and changes nothing;
 /// `Memory` comes before the first turn. If showing the line of `Usage`, `NotEmpty`, `NotStore` or
 /// `OldCommand` fails, the status stays. In `apply`, `Memory` leaves the line at which memory ran
-/// out undone; in `migrate` it comes before the first write.
+/// out undone; in `migrate` it comes before the first write, and in `grow` the files stand for what
+/// they stood for.
 pub fn run<S: Site>(alloc: Global, words: &[Bytes], site: &mut S) -> Status
     // ---- `fold`
 
@@ -193,6 +196,11 @@ pub fn run<S: Site>(alloc: Global, words: &[Bytes], site: &mut S) -> Status
         → ¬ DiskFails S.Site site.old site.new → ¬ ShowFails S.Site site.old site.new
         → IsDone result }
 
+    // ---- `grow`
+
+    // The line is shown once the files are of version 3, and stand for what they stood for.
+    ensures grows { words.now ≡ grow_words → GrowsStore S.Site result site.old site.new }
+
     // ---- `query`
 
     // The body of the reply is shown, by the stack for which the files stand.
@@ -225,8 +233,8 @@ pub fn run<S: Site>(alloc: Global, words: &[Bytes], site: &mut S) -> Status
     ensures unopened { IsOpening words.now → (misfit : Misfit)
         → StandsForNone S.Site site.old misfit
         → Unopened S.Site result site.old site.new }
-    ensures not_store { words.now ≢ migrate_words → words.now ≢ lead_words
-        → words.now ≢ follow_words → result ≡ ends.NotStore
+    ensures not_store { words.now ≢ migrate_words → words.now ≢ grow_words
+        → words.now ≢ lead_words → words.now ≢ follow_words → result ≡ ends.NotStore
         → SaysNotStore S.Site site.old site.new }
 
     // ---- any words
@@ -255,6 +263,7 @@ pub fn run<S: Site>(alloc: Global, words: &[Bytes], site: &mut S) -> Status
         Subcommand::Migrate => migrate(alloc, site),
         Subcommand::Lead => lead(alloc, site),
         Subcommand::Follow => follow(alloc, site),
+        Subcommand::Grow => grow(alloc, site),
         Subcommand::Unknown => {
             say(site, b"usage\n");
             Status::Usage

@@ -27,6 +27,8 @@ pub enum Subcommand<'a> {
     Lead,
     /// A store that takes those of another one.
     Follow,
+    /// The growing of a store of version 2.
+    Grow,
     /// The words are no subcommand.
     Unknown,
 }
@@ -69,6 +71,7 @@ pub fn subcommand_of(words: &[Bytes]) -> Subcommand<'_>
         [first] if first.as_slice() == b"migrate".as_slice() => Subcommand::Migrate,
         [first] if first.as_slice() == b"lead".as_slice() => Subcommand::Lead,
         [first] if first.as_slice() == b"follow".as_slice() => Subcommand::Follow,
+        [first] if first.as_slice() == b"grow".as_slice() => Subcommand::Grow,
         [first, path] if first.as_slice() == b"query".as_slice() => Subcommand::Query(
             path.as_slice(),
         ),

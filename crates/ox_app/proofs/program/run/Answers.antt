@@ -29,7 +29,7 @@ use Rattle.ox_app.proofs.Opening.{ends_run}
 use Rattle.ox_app.proofs.OtherWords.{no_opening, no_reading, other_words, unknown_opens}
 use Rattle.ox_app.proofs.Serving.{grows_of_machine, serving_of_machine, turns_same}
 use Rattle.ox_app.proofs.Settled.{said_of_each}
-use Rattle.ox_app.proofs.Statuses.{apply_refuses, ends_apart, init_refuses, migrate_done, migrate_refuses, not_apply, not_init, not_migrate, not_query, not_serve, serve_done, serve_refuses}
+use Rattle.ox_app.proofs.Statuses.{apply_refuses, ends_apart, init_refuses, migrate_done, migrate_refuses, not_apply, not_init, not_migrate, not_query, not_serve, query_refuses, serve_done, serve_refuses}
 use Rattle.ox_app.proofs.Stops.{said_stops, status_stops}
 use Rattle.ox_app.proofs.TalkEnds.{follow_done, follow_otherwise, follows_in_turn, lead_done, lead_otherwise, not_talk, talk_refuses, talk_stops}
 use Rattle.ox_app.specs.declared.status.Status.TheVariants as ends
@@ -75,6 +75,7 @@ returns-in-Fold g c = record {
   migrate_memory = λ words. absurd (other_words c.in-Fold.ensures words refl);
   migrate_status = λ words. absurd (other_words c.in-Fold.ensures words refl);
   migrate_completes = λ words. absurd (other_words c.in-Fold.ensures words refl);
+  grows = λ words. absurd (other_words words c.in-Fold.ensures refl);
   queries = λ path words. absurd (other_words c.in-Fold.ensures words refl);
   serves = λ turns fits words. absurd (other_words c.in-Fold.ensures words refl);
   door_fault = λ is. absurd ((not_folded c.fold.result c.status.result c.status.ensures c.fold.ensures.no_disk_fault).door is);
@@ -82,7 +83,7 @@ returns-in-Fold g c = record {
   follows = λ words. absurd (other_words words c.in-Fold.ensures refl);
   follow_survives = λ words. absurd (other_words words c.in-Fold.ensures refl);
   unopened = λ opening. absurd (no_opening c.in-Fold.ensures (refl, refl, refl, refl, refl) opening);
-  not_store = λ no_migrate no_lead no_follow is. absurd ((not_folded c.fold.result c.status.result c.status.ensures c.fold.ensures.no_disk_fault).not_store is);
+  not_store = λ no_migrate no_grow no_lead no_follow is. absurd ((not_folded c.fold.result c.status.result c.status.ensures c.fold.ensures.no_disk_fault).not_store is);
   usage = λ unknown. absurd (unknown.no_fold c.in-Fold.name c.in-Fold.ensures);
   usage_status = λ unknown. absurd (unknown.no_fold c.in-Fold.name c.in-Fold.ensures);
   no_image = λ either. talked_old g.S.Site _ c.args.site.now c.fold.new.site c.fold.ensures.talks;
@@ -135,6 +136,7 @@ returns-in-Init g c = record {
   migrate_memory = λ words. absurd (other_words c.in-Init.ensures.1 words refl);
   migrate_status = λ words. absurd (other_words c.in-Init.ensures.1 words refl);
   migrate_completes = λ words. absurd (other_words c.in-Init.ensures.1 words refl);
+  grows = λ words. absurd (other_words words c.in-Init.ensures.1 refl);
   queries = λ path words. absurd (other_words c.in-Init.ensures.1 words refl);
   serves = λ turns fits words. absurd (other_words c.in-Init.ensures.1 words refl);
   door_fault = λ is. absurd ((not_init c.init.result c.init.ensures.status).door is);
@@ -142,7 +144,7 @@ returns-in-Init g c = record {
   follows = λ words. absurd (other_words words c.in-Init.ensures.1 refl);
   follow_survives = λ words. absurd (other_words words c.in-Init.ensures.1 refl);
   unopened = λ opening. absurd (no_opening c.in-Init.ensures.1 (refl, refl, refl, refl, refl) opening);
-  not_store = λ no_migrate no_lead no_follow is. absurd ((not_init c.init.result c.init.ensures.status).not_store is);
+  not_store = λ no_migrate no_grow no_lead no_follow is. absurd ((not_init c.init.result c.init.ensures.status).not_store is);
   usage = λ unknown. absurd (unknown.no_init c.in-Init.name c.in-Init.depth c.in-Init.ensures.0 c.in-Init.ensures.1);
   usage_status = λ unknown. absurd (unknown.no_init c.in-Init.name c.in-Init.depth c.in-Init.ensures.0 c.in-Init.ensures.1);
   no_image = ⊎_elim (λ reading. absurd (no_reading c.in-Init.ensures.1 (refl, refl, refl) reading))
@@ -204,6 +206,7 @@ returns-in-Apply g c = record {
   migrate_memory = λ words. absurd (other_words c.in-Apply.ensures words refl);
   migrate_status = λ words. absurd (other_words c.in-Apply.ensures words refl);
   migrate_completes = λ words. absurd (other_words c.in-Apply.ensures words refl);
+  grows = λ words. absurd (other_words words c.in-Apply.ensures refl);
   queries = λ path words. absurd (other_words c.in-Apply.ensures words refl);
   serves = λ turns fits words. absurd (other_words c.in-Apply.ensures words refl);
   door_fault = λ is. absurd ((not_apply c.apply.result c.apply.ensures.status).door is);
@@ -215,7 +218,7 @@ returns-in-Apply g c = record {
     unsaid = c.apply.ensures.unsaid stood.told misfit stood.fails;
     opens_nothing = c.apply.ensures.looks stood.told misfit stood.fails;
   };
-  not_store = λ no_migrate no_lead no_follow is. c.apply.ensures.not_store is;
+  not_store = λ no_migrate no_grow no_lead no_follow is. c.apply.ensures.not_store is;
   usage = λ unknown. absurd (unknown.no_apply c.in-Apply.ensures);
   usage_status = λ unknown. absurd (unknown.no_apply c.in-Apply.ensures);
   no_image = ⊎_elim (λ reading. absurd (no_reading c.in-Apply.ensures (refl, refl, refl) reading))
@@ -251,6 +254,7 @@ returns-in-Query g c = record {
   migrate_memory = λ words. absurd (other_words words c.in-Query.ensures refl);
   migrate_status = λ words. absurd (other_words words c.in-Query.ensures refl);
   migrate_completes = λ words. absurd (other_words words c.in-Query.ensures refl);
+  grows = λ words. absurd (other_words words c.in-Query.ensures refl);
   queries = λ path words. let same = path_same c.in-Query.path.now path (sym c.in-Query.ensures ∙ words) in
       record {
         queries = λ stack opened.
@@ -271,7 +275,7 @@ returns-in-Query g c = record {
     unsaid = c.query.ensures.unsaid stood.told misfit stood.fails;
     opens_nothing = c.query.ensures.looks;
   };
-  not_store = λ no_migrate no_lead no_follow is. c.query.ensures.not_store is;
+  not_store = λ no_migrate no_grow no_lead no_follow is. c.query.ensures.not_store is;
   usage = λ unknown. absurd (unknown.no_query c.in-Query.path.now c.in-Query.ensures);
   usage_status = λ unknown. absurd (unknown.no_query c.in-Query.path.now c.in-Query.ensures);
   no_image = λ either. c.query.ensures.looks;
@@ -306,6 +310,7 @@ returns-in-Serve g c = record {
   migrate_memory = λ words. absurd (other_words words c.in-Serve.ensures.1 refl);
   migrate_status = λ words. absurd (other_words words c.in-Serve.ensures.1 refl);
   migrate_completes = λ words. absurd (other_words words c.in-Serve.ensures.1 refl);
+  grows = λ words. absurd (other_words words c.in-Serve.ensures.1 refl);
   queries = λ path words. absurd (other_words words c.in-Serve.ensures.1 refl);
   serves = λ turns fits words.
       let site = g.S.Site in
@@ -336,7 +341,7 @@ returns-in-Serve g c = record {
     unsaid = c.serve.ensures.unsaid stood.told misfit stood.fails;
     opens_nothing = c.serve.ensures.looks stood.told misfit stood.fails;
   };
-  not_store = λ no_migrate no_lead no_follow is. c.serve.ensures.not_store is;
+  not_store = λ no_migrate no_grow no_lead no_follow is. c.serve.ensures.not_store is;
   usage = λ unknown. absurd (unknown.no_serve c.in-Serve.turns c.in-Serve.ensures.0 c.in-Serve.ensures.1);
   usage_status = λ unknown. absurd (unknown.no_serve c.in-Serve.turns c.in-Serve.ensures.0 c.in-Serve.ensures.1);
   no_image = ⊎_elim (λ reading. absurd (no_reading c.in-Serve.ensures.1 (refl, refl, refl) reading))
@@ -374,6 +379,7 @@ returns-in-Drill g c = record {
   migrate_memory = λ words. absurd (other_words c.in-Drill.ensures.1 words refl);
   migrate_status = λ words. absurd (other_words c.in-Drill.ensures.1 words refl);
   migrate_completes = λ words. absurd (other_words c.in-Drill.ensures.1 words refl);
+  grows = λ words. absurd (other_words words c.in-Drill.ensures.1 refl);
   queries = λ path words. absurd (other_words c.in-Drill.ensures.1 words refl);
   serves = λ turns fits words. absurd (other_words c.in-Drill.ensures.1 words refl);
   door_fault = λ is. absurd ((not_init c.drill.result c.drill.ensures.status).door is);
@@ -381,7 +387,7 @@ returns-in-Drill g c = record {
   follows = λ words. absurd (other_words words c.in-Drill.ensures.1 refl);
   follow_survives = λ words. absurd (other_words words c.in-Drill.ensures.1 refl);
   unopened = λ opening. absurd (no_opening c.in-Drill.ensures.1 (refl, refl, refl, refl, refl) opening);
-  not_store = λ no_migrate no_lead no_follow is. absurd ((not_init c.drill.result c.drill.ensures.status).not_store is);
+  not_store = λ no_migrate no_grow no_lead no_follow is. absurd ((not_init c.drill.result c.drill.ensures.status).not_store is);
   usage = λ unknown. absurd (unknown.no_drill c.in-Drill.n c.in-Drill.ensures.0 c.in-Drill.ensures.1);
   usage_status = λ unknown. absurd (unknown.no_drill c.in-Drill.n c.in-Drill.ensures.0 c.in-Drill.ensures.1);
   no_image = ⊎_elim (λ reading. absurd (no_reading c.in-Drill.ensures.1 (refl, refl, refl) reading))
@@ -418,6 +424,7 @@ returns-in-Migrate g c = record {
   migrate_status = λ words. c.migrate.ensures.status;
   migrate_completes = λ words stack commands opened no_disk no_show. let shows = c.migrate.ensures.shows opened.told stack commands opened.stands_for in
       migrate_done c.migrate.result (DiskFails g.S.Site c.args.site.now c.migrate.new.site) (ShowFails g.S.Site c.args.site.now c.migrate.new.site) c.migrate.ensures.status shows.0 shows.1 c.migrate.ensures.disk_fault c.migrate.ensures.show_fault no_disk no_show;
+  grows = λ words. absurd (other_words words c.in-Migrate.ensures refl);
   queries = λ path words. absurd (other_words c.in-Migrate.ensures words refl);
   serves = λ turns fits words. absurd (other_words c.in-Migrate.ensures words refl);
   door_fault = λ is. absurd ((not_migrate c.migrate.result c.migrate.ensures.status).door is);
@@ -425,7 +432,7 @@ returns-in-Migrate g c = record {
   follows = λ words. absurd (other_words words c.in-Migrate.ensures refl);
   follow_survives = λ words. absurd (other_words words c.in-Migrate.ensures refl);
   unopened = λ opening. absurd (no_opening c.in-Migrate.ensures (refl, refl, refl, refl, refl) opening);
-  not_store = λ no_migrate no_lead no_follow is. absurd (no_migrate c.in-Migrate.ensures);
+  not_store = λ no_migrate no_grow no_lead no_follow is. absurd (no_migrate c.in-Migrate.ensures);
   usage = λ unknown. absurd (unknown.no_migrate c.in-Migrate.ensures);
   usage_status = λ unknown. absurd (unknown.no_migrate c.in-Migrate.ensures);
   no_image = ⊎_elim (λ reading. absurd (no_reading c.in-Migrate.ensures (refl, refl, refl) reading))
@@ -435,6 +442,50 @@ returns-in-Migrate g c = record {
   show_fault = λ is. c.migrate.ensures.show_fault is;
   stops = c.migrate.ensures.stops;
   calls = c.migrate.ensures.calls;
+}
+
+-- ---- `grow`
+pub returns-in-Grow : goal.returns-in-Grow
+returns-in-Grow g c = record {
+  folds = λ name words. absurd (other_words words c.in-Grow.ensures refl);
+  applies = λ words. absurd (other_words words c.in-Grow.ensures refl);
+  survives = λ words. absurd (other_words words c.in-Grow.ensures refl);
+  inits = λ name depth fits words. absurd (other_words words c.in-Grow.ensures refl);
+  not_empty = λ is. absurd ((not_query c.grow.result c.grow.ensures.grows.grow_status).not_empty is);
+  only_files = λ told is. absurd ((not_query c.grow.result c.grow.ensures.grows.grow_status).not_empty is);
+  drills = λ n fits words. absurd (other_words words c.in-Grow.ensures refl);
+  drill_survives = λ told n fits words. absurd (other_words words c.in-Grow.ensures refl);
+  drill_status = λ n fits words. absurd (other_words words c.in-Grow.ensures refl);
+  drill_completes = λ told n fits words. absurd (other_words words c.in-Grow.ensures refl);
+  migrates = λ words. absurd (other_words words c.in-Grow.ensures refl);
+  migrated = λ words. absurd (other_words words c.in-Grow.ensures refl);
+  migrate_survives = λ words. absurd (other_words words c.in-Grow.ensures refl);
+  unmigrated = λ words. absurd (other_words words c.in-Grow.ensures refl);
+  migrate_unsaid = λ words. absurd (other_words words c.in-Grow.ensures refl);
+  migrates_nothing = λ words. absurd (other_words words c.in-Grow.ensures refl);
+  no_old_store = λ words. absurd (other_words words c.in-Grow.ensures refl);
+  old_command = λ is. absurd ((not_query c.grow.result c.grow.ensures.grows.grow_status).old is);
+  migrate_memory = λ words. absurd (other_words words c.in-Grow.ensures refl);
+  migrate_status = λ words. absurd (other_words words c.in-Grow.ensures refl);
+  migrate_completes = λ words. absurd (other_words words c.in-Grow.ensures refl);
+  grows = λ words. c.grow.ensures.grows;
+  queries = λ path words. absurd (other_words c.in-Grow.ensures words refl);
+  serves = λ turns fits words. absurd (other_words c.in-Grow.ensures words refl);
+  door_fault = λ is. absurd ((not_query c.grow.result c.grow.ensures.grows.grow_status).door is);
+  leads = λ words. absurd (other_words words c.in-Grow.ensures refl);
+  follows = λ words. absurd (other_words words c.in-Grow.ensures refl);
+  follow_survives = λ words. absurd (other_words words c.in-Grow.ensures refl);
+  unopened = λ opening. absurd (no_opening c.in-Grow.ensures (refl, refl, refl, refl, refl) opening);
+  not_store = λ no_migrate no_grow no_lead no_follow is. absurd (no_grow c.in-Grow.ensures);
+  usage = λ unknown. absurd (unknown.no_grow c.in-Grow.ensures);
+  usage_status = λ unknown. absurd (unknown.no_grow c.in-Grow.ensures);
+  no_image = ⊎_elim (λ reading. absurd (no_reading c.in-Grow.ensures (refl, refl, refl) reading))
+      (λ refuses. c.grow.ensures.looks (query_refuses c.grow.result c.grow.ensures.grows.grow_status refuses));
+  disk_fault = λ is. c.grow.ensures.disk_fault is;
+  hear_fault = λ is. absurd ((not_query c.grow.result c.grow.ensures.grows.grow_status).hear is);
+  show_fault = λ is. c.grow.ensures.show_fault is;
+  stops = c.grow.ensures.stops;
+  calls = c.grow.ensures.calls;
 }
 
 -- ---- `lead`
@@ -461,6 +512,7 @@ returns-in-Lead g c = record {
   migrate_memory = λ words. absurd (other_words words c.in-Lead.ensures refl);
   migrate_status = λ words. absurd (other_words words c.in-Lead.ensures refl);
   migrate_completes = λ words. absurd (other_words words c.in-Lead.ensures refl);
+  grows = λ words. absurd (other_words words c.in-Lead.ensures refl);
   queries = λ path words. absurd (other_words words c.in-Lead.ensures refl);
   serves = λ turns fits words. absurd (other_words words c.in-Lead.ensures refl);
   door_fault = λ is. absurd ((not_talk c.lead.result (lead_otherwise c.lead.result c.lead.ensures.status)).door is);
@@ -481,7 +533,7 @@ returns-in-Lead g c = record {
       let none = none_led (g.S.Site.seen c.args.site.now) misfit stood.fails in
       let opens = c.lead.ensures.unopened stood.told none.0 none.1 in
       record { unopened = opens.0; unsaid = λ isnt. opens.1; opens_nothing = c.lead.ensures.looks };
-  not_store = λ no_migrate no_lead no_follow is. absurd (no_lead c.in-Lead.ensures);
+  not_store = λ no_migrate no_grow no_lead no_follow is. absurd (no_lead c.in-Lead.ensures);
   usage = λ unknown. absurd (unknown.no_lead c.in-Lead.ensures);
   usage_status = λ unknown. absurd (unknown.no_lead c.in-Lead.ensures);
   no_image = λ either. c.lead.ensures.looks;
@@ -516,6 +568,7 @@ returns-in-Follow g c = record {
   migrate_memory = λ words. absurd (other_words words c.in-Follow.ensures refl);
   migrate_status = λ words. absurd (other_words words c.in-Follow.ensures refl);
   migrate_completes = λ words. absurd (other_words words c.in-Follow.ensures refl);
+  grows = λ words. absurd (other_words words c.in-Follow.ensures refl);
   queries = λ path words. absurd (other_words words c.in-Follow.ensures refl);
   serves = λ turns fits words. absurd (other_words words c.in-Follow.ensures refl);
   door_fault = λ is. absurd ((not_talk c.follow.result (follow_otherwise c.follow.result c.follow.ensures.status)).door is);
@@ -537,7 +590,7 @@ returns-in-Follow g c = record {
       let none = none_led (g.S.Site.seen c.args.site.now) misfit stood.fails in
       let opens = c.follow.ensures.unopened stood.told none.0 none.1 in
       record { unopened = opens.0; unsaid = λ isnt. opens.1; opens_nothing = c.follow.ensures.looks stood.told none.0 none.1 };
-  not_store = λ no_migrate no_lead no_follow is. absurd (no_follow c.in-Follow.ensures);
+  not_store = λ no_migrate no_grow no_lead no_follow is. absurd (no_follow c.in-Follow.ensures);
   usage = λ unknown. absurd (unknown.no_follow c.in-Follow.ensures);
   usage_status = λ unknown. absurd (unknown.no_follow c.in-Follow.ensures);
   no_image = ⊎_elim (λ reading. absurd (no_reading c.in-Follow.ensures (refl, refl, refl) reading))
@@ -573,6 +626,7 @@ returns-in-Unknown g c = record {
   migrate_memory = λ words. absurd (c.in-Unknown.ensures.no_migrate words);
   migrate_status = λ words. absurd (c.in-Unknown.ensures.no_migrate words);
   migrate_completes = λ words. absurd (c.in-Unknown.ensures.no_migrate words);
+  grows = λ words. absurd (c.in-Unknown.ensures.no_grow words);
   queries = λ path words. absurd (c.in-Unknown.ensures.no_query path words);
   serves = λ turns fits words. absurd (c.in-Unknown.ensures.no_serve turns fits words);
   door_fault = λ is. absurd (ends_apart ends.Usage ends.DoorFault refl is);
@@ -580,7 +634,7 @@ returns-in-Unknown g c = record {
   follows = λ words. absurd (c.in-Unknown.ensures.no_follow words);
   follow_survives = λ words. absurd (c.in-Unknown.ensures.no_follow words);
   unopened = λ opening. absurd (unknown_opens c.args.words.now c.in-Unknown.ensures opening);
-  not_store = λ no_migrate no_lead no_follow is. absurd (ends_apart ends.Usage ends.NotStore refl is);
+  not_store = λ no_migrate no_grow no_lead no_follow is. absurd (ends_apart ends.Usage ends.NotStore refl is);
   usage = λ unknown. c.say.ensures.says;
   usage_status = λ unknown. refl;
   no_image = λ either. talked_old g.S.Site _ c.args.site.now c.say.new.site c.say.ensures.talks;

@@ -29,23 +29,29 @@ returns-in-len1-4 c =
     one_word c.args.words.now c.first-item-then-words-lt2-3.result (codes "follow") c.in-len1.len_at_least c.in-len1.len_below c.first-item-then-words-lt2-3.is
     ((bytes_eq-Decides c.first-item-then-words-lt2-3.result (codes "follow")).0 (sym first))
 
+pub returns-in-len1-5 : goal.returns-in-len1-5
+returns-in-len1-5 c =
+    let first = rw (c.as_slice-then-words-lt2-8.ensures, c.as_slice-then-words-lt2-9.ensures) at c.if-eq-5.ensures in
+    one_word c.args.words.now c.first-item-then-words-lt2-4.result (codes "grow") c.in-len1.len_at_least c.in-len1.len_below c.first-item-then-words-lt2-4.is
+    ((bytes_eq-Decides c.first-item-then-words-lt2-4.result (codes "grow")).0 (sym first))
+
 pub returns-in-len2 : goal.returns-in-len2
 returns-in-len2 c =
-    let first = rw (c.as_slice-then-words-lt3.ensures, c.as_slice-then-words-lt3-2.ensures) at c.if-eq-5.ensures in
+    let first = rw (c.as_slice-then-words-lt3.ensures, c.as_slice-then-words-lt3-2.ensures) at c.if-eq-6.ensures in
     two_words c.args.words.now c.first-item-then-words-lt3.result c.path-item.result (codes "query") c.as_slice-in-len2.result.now
     c.in-len2.len_at_least c.in-len2.len_below c.first-item-then-words-lt3.is c.path-item.is
     ((bytes_eq-Decides c.first-item-then-words-lt3.result (codes "query")).0 (sym first)) (sym c.as_slice-in-len2.ensures)
 
 pub returns-in-Some : goal.returns-in-Some
 returns-in-Some c =
-    let first = rw (c.as_slice-then-words-lt3-3.ensures, c.as_slice-then-words-lt3-4.ensures) at c.if-eq-6.ensures in
+    let first = rw (c.as_slice-then-words-lt3-3.ensures, c.as_slice-then-words-lt3-4.ensures) at c.if-eq-7.ensures in
     two_words c.args.words.now c.first-item-then-words-lt3-2.result c.profile-item.result (codes "fold") (profile_word c.in-Some.name)
     c.in-len2.len_at_least c.in-len2.len_below c.first-item-then-words-lt3-2.is c.profile-item.is
     ((bytes_eq-Decides c.first-item-then-words-lt3-2.result (codes "fold")).0 (sym first)) (sym c.as_slice-in-len2-2.ensures ∙ c.in-Some.ensures.found)
 
 pub returns-in-Some-Some : goal.returns-in-Some-Some
 returns-in-Some-Some c =
-    let first = rw (c.as_slice-then-words-lt4.ensures, c.as_slice-then-words-lt4-2.ensures) at c.if-eq-9.ensures in
+    let first = rw (c.as_slice-then-words-lt4.ensures, c.as_slice-then-words-lt4-2.ensures) at c.if-eq-10.ensures in
     let depth = c.in-Some-Some.ensures'.found in (
       depth.0,
       three_words c.args.words.now c.first-item-then-words-lt4.result c.profile-item-then-words-lt4.result c.depth-item.result
@@ -56,7 +62,7 @@ returns-in-Some-Some c =
 
 pub returns-in-Some-number_in : goal.returns-in-Some-number_in
 returns-in-Some-number_in c =
-    let first = rw (c.as_slice-then-words-lt3-5.ensures, c.as_slice-then-words-lt3-6.ensures) at c.if-eq-7.ensures in
+    let first = rw (c.as_slice-then-words-lt3-5.ensures, c.as_slice-then-words-lt3-6.ensures) at c.if-eq-8.ensures in
     let turns = c.in-Some-number_in.ensures.found in (
       turns.0,
       two_words c.args.words.now c.first-item-then-words-lt3-3.result c.turns-item.result (codes "serve") (decimal c.in-Some-number_in.turns)
@@ -66,7 +72,7 @@ returns-in-Some-number_in c =
 
 pub returns-in-Some-number_in-2 : goal.returns-in-Some-number_in-2
 returns-in-Some-number_in-2 c =
-    let first = rw (c.as_slice-then-words-lt3-7.ensures, c.as_slice-then-words-lt3-8.ensures) at c.if-eq-8.ensures in
+    let first = rw (c.as_slice-then-words-lt3-7.ensures, c.as_slice-then-words-lt3-8.ensures) at c.if-eq-9.ensures in
     let length = c.in-Some-number_in-2.ensures.found in (
       length.0,
       two_words c.args.words.now c.first-item-then-words-lt3-4.result c.length-item.result (codes "drill") (decimal c.in-Some-number_in-2.n)
