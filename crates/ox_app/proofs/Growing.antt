@@ -13,6 +13,7 @@ use Rattle.ox_outside.specs.declared.site.Which.{Which}
 use Rattle.ox_outside.proofs.Calls.{leaves_then, leaves_weaker}
 use Rattle.ox_outside.proofs.Counts.{stops_as, went_on}
 use Rattle.ox_outside.proofs.Log.{grows_none, grows_same, grows_weaker}
+use Rattle.ox_gated.specs.OldReading.{growing_reading}
 use Rattle.ox_gated.specs.OtherFile.{BeginsShut}
 use Rattle.ox_gated.specs.Reading.{Found, Fault, IntactPart, is_any, reading}
 use Rattle.ox_gated.specs.Tail.{Holds, IsSettled, Keeps, Kept, KeepsFound}
@@ -21,7 +22,7 @@ use Rattle.ox_gated.specs.declared.fault.Halt.TheVariants as halts
 use Rattle.ox_gated.specs.declared.head.Head.{Head}
 use Rattle.ox_model.specs.Stack.{Stack}
 use Rattle.ox_files.specs.Stands.{Misfit, in_file, place_of_cut, stack_in, stack_in_file, stands}
-use Rattle.ox_store.specs.Grow.{HasGrown, StandsAsGrown, growing, growing_reading}
+use Rattle.ox_store.specs.Grow.{HasGrown, StandsAsGrown, growing}
 use Rattle.ox_store.specs.declared.fault.GrowFault.{GrowFault}
 use Rattle.ox_store.specs.declared.fault.GrowFault.TheVariants as grows
 use Rattle.ox_store.specs.declared.fault.OpenFault.TheVariants as opens
@@ -93,9 +94,9 @@ module _ {S : Type 0} (means : Meanings S) (stack : Stack) where
   either_store old r stood (inl left) = inl (r, left, refl)
   either_store old r stood (inr (made, is, grown)) = inr (grown ∙ ap Ok (same_stack (growing (means.seen old)) made stack is stood))
 
-  logged_any : (old : S) (files : Files) (events : List Event) → stands files ≡ Ok stack → LeavesGrowing means old stack files events
-  logged_any old files [] stood = inr stood
-  logged_any old files (event ∷ events) stood = stood
+  logged_any : (old : S) (files : Files) (events : List Event) → stands files ≡ Ok stack → HasGrownFiles files → LeavesGrowing means old stack files events
+  logged_any old files [] stood version = inr stood
+  logged_any old files (event ∷ events) stood version = (stood, version)
 
   -- while the store grows
   pub while_grown : (old mid : S) → growing (means.seen old) ≡ Ok stack → LeavesOnly means old mid (λ r. means.may_leave old r ⊎ StandsAsGrown (means.seen old) r.files) → OnlyWrites means old mid
@@ -104,15 +105,17 @@ module _ {S : Type 0} (means : Meanings S) (stack : Stack) where
       leaves_weaker means old mid _ _ (λ r both. unlogged old r (either_store old r stood both.0) both.1) (leaves_both means old mid _ _ moments writes.moments)
 
   -- and then its line is shown
-  pub grown_told : (line : List ℕ) (old mid new : S) → growing (means.seen old) ≡ Ok stack → stands (means.seen mid) ≡ Ok stack → IsSettled means mid
+  pub grown_told : (line : List ℕ) (old mid new : S) → growing (means.seen old) ≡ Ok stack → stands (means.seen mid) ≡ Ok stack → HasGrownFiles (means.seen mid) → IsSettled means mid
       → LeavesOnly means old mid (λ r. means.may_leave old r ⊎ StandsAsGrown (means.seen old) r.files) → OnlyWrites means old mid → OnlyTalks means (ShowsFront line) mid new
       → LeavesOnly means old new (LeavesFrom old)
-  grown_told line old mid new stood stands_now settled moments writes talks =
+  grown_told line old mid new stood stands_now version settled moments writes talks =
       leaves_then means old mid new (LeavesFrom old) (while_grown old mid stood moments writes)
       (leaves_weaker means mid new _ _ (λ r talked.
       grows_from (LeavesGrowing means old stack r.files) (means.log old) (means.log mid) (Some r.log) writes.as_logged
       (grows_weaker (ShowsFront line) (LeavesGrowing means old stack r.files) (means.log mid) (Some r.log)
-      (λ events shows. logged_any old r.files events (ap stands (talked.files.2 ∙ settled talked.files.0 talked.files.1) ∙ stands_now)) talked.grown)) talks.moments)
+      (λ events shows.
+      let same = talked.files.2 ∙ settled talked.files.0 talked.files.1 in
+      logged_any old r.files events (ap stands same ∙ stands_now) (subst HasGrownFiles (sym same) version)) talked.grown)) talks.moments)
 
 -- ---- statuses
 

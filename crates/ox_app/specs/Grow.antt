@@ -58,12 +58,14 @@ pub record IsGrown {S : Type 0} (means : Meanings S) (stack : Stack) (site : S) 
   pub version : HasGrownFiles (means.seen site)
   pub settled : IsSettled means site
 
--- What a crash leaves when these events are logged: files that stand for the stack. Before the
--- first of them it may also be what it might have left before the run.
+-- What a crash leaves when these events are logged: files that stand for the stack, and with an
+-- event alone those of version 3. Before the first of them it may also be what it might have left
+-- before the run.
 abbrev pub LeavesGrowing : {S : Type 0} → Meanings S → S → Stack → Files → List Event → Type 0
 LeavesGrowing means site stack files [] =
     MayLeaveFiles means.may_leave site files ⊎ (stands files ≡ Ok stack)
-LeavesGrowing means site stack files (event ∷ events) = stands files ≡ Ok stack
+LeavesGrowing means site stack files (event ∷ events) =
+    (stands files ≡ Ok stack) × HasGrownFiles files
 
 -- so it is at each moment of a run
 abbrev pub GrowsFirst : {S : Type 0} → Meanings S → Stack → S → S → Type 0

@@ -86,8 +86,8 @@ use std::alloc::Global;
 /// | `Usage` | exactly where the words are no subcommand | `usage` |
 /// | `NotEmpty` | of `init` and `drill`, exactly where a file isn't empty | `not empty` |
 /// | `NotStore` | exactly where the files are no store; in `migrate`, none | `not a store`, the |
-/// | | of version 1 that another file can follow; in `grow`, none of | file's letter and the |
-/// | | version 2 | place of the first test that fails; in `lead` and `follow`, nothing |
+/// | | of version 1, and in `grow`, none of version 2, that another | file's letter and the |
+/// | | file can follow | place of the first test that fails; in `lead` and `follow`, nothing |
 /// | `DiskFault` | only where a call on a file failed in this run | nothing further |
 /// | `HearFault` | only where hearing on channel 0 failed in this run | nothing further |
 /// | `ShowFault` | only where showing on channel 0 failed in this run | nothing further |

@@ -3,10 +3,11 @@ use Rattle.std.specs.Prelude.{Err, IsTrue, Ok}
 use Rattle.ox_outside.proofs.Calls.{calls_then}
 use Rattle.ox_outside.proofs.Counts.{stops_at_none, then_rose}
 use Rattle.ox_files.specs.Stands.{stands}
+use Rattle.ox_model.specs.Stack.{Stack}
 use Rattle.ox_store.specs.Grow.{IsGrowFault, growing}
 use Rattle.ox_store.specs.declared.fault.GrowFault.TheVariants as grows
 use Rattle.ox_store.specs.declared.fault.OpenFault.TheVariants as opens
-use Rattle.ox_app.specs.Grow.{HasGrownFiles}
+use Rattle.ox_app.specs.Grow.{HasGrownFiles, StandsForGrowing}
 use Rattle.ox_app.specs.Show.{DiskFails, ShowFails}
 use Rattle.ox_app.specs.declared.status.Status.TheVariants as ends
 use Rattle.ox_app.proofs.Done.{text_done}
@@ -22,8 +23,13 @@ pub returns-in-Ok : goal.returns-in-Ok
 returns-in-Ok g c =
     let only = only_told_grown c.tell.result c.tell.ensures.status in
     let counts = g.S.Site.counts in
-    let show_fault = λ is.
+    let show_fault = λ (is : c.tell.result ≡ ends.ShowFault).
     then_rose ((counts c.args.site.now).show 0) ((counts c.grow.new.site).show 0) ((counts c.tell.new.site).show 0) (c.grow.ensures.writes.calls.none_fell.show 0) (c.tell.ensures.failed is) in
+    let same = λ (stack : Stack) (opened : StandsForGrowing g.S.Site c.args.site.now stack).
+    same_stack (growing (g.S.Site.seen c.args.site.now)) c.in-Ok._store.stack stack (c.in-Ok.ensures.grown opened.told) opened.stands_for in
+    let version = λ (stack : Stack) (opened : StandsForGrowing g.S.Site c.args.site.now stack).
+    grown_files (g.S.Site.seen c.args.site.now) (g.S.Site.seen c.grow.new.site) stack c.in-Ok._store.tail opened.stands_for (c.in-Ok.ensures.turned opened.told)
+    (c.in-Ok.ensures.holds opened.told).keeps (c.in-Ok.ensures.shut opened.told) in
     record {
       grows = record {
         grows = λ stack opened. (
@@ -32,17 +38,13 @@ returns-in-Ok g c =
         );
         grown = λ stack opened is.
             let talks = c.tell.ensures.talks in
-            let holds = c.in-Ok.ensures.holds opened.told in
-            let same = same_stack (growing (g.S.Site.seen c.args.site.now)) c.in-Ok._store.stack stack (c.in-Ok.ensures.grown opened.told) opened.stands_for in
             record {
-              stands_for = ap stands talks.files.files ∙ c.in-Ok.ensures.stands opened.told ∙ ap Ok same;
-              version = subst HasGrownFiles (sym talks.files.files)
-                  (grown_files (g.S.Site.seen c.args.site.now) (g.S.Site.seen c.grow.new.site) stack c.in-Ok._store.tail opened.stands_for (c.in-Ok.ensures.turned opened.told) holds.keeps (c.in-Ok.ensures.shut opened.told));
-              settled = settled_talking g.S.Site c.grow.new.site c.tell.new.site talks.files holds.settled;
+              stands_for = ap stands talks.files.files ∙ c.in-Ok.ensures.stands opened.told ∙ ap Ok (same stack opened);
+              version = subst HasGrownFiles (sym talks.files.files) (version stack opened);
+              settled = settled_talking g.S.Site c.grow.new.site c.tell.new.site talks.files (c.in-Ok.ensures.holds opened.told).settled;
             };
         grow_survives = λ stack opened.
-            let same = same_stack (growing (g.S.Site.seen c.args.site.now)) c.in-Ok._store.stack stack (c.in-Ok.ensures.grown opened.told) opened.stands_for in
-            grown_told g.S.Site stack _ c.args.site.now c.grow.new.site c.tell.new.site opened.stands_for (c.in-Ok.ensures.stands opened.told ∙ ap Ok same)
+            grown_told g.S.Site stack _ c.args.site.now c.grow.new.site c.tell.new.site opened.stands_for (c.in-Ok.ensures.stands opened.told ∙ ap Ok (same stack opened)) (version stack opened)
             (c.in-Ok.ensures.holds opened.told).settled (c.grow.ensures.any_moment opened.told) c.grow.ensures.writes c.tell.ensures.talks;
         ungrown = λ misfit opened. not_grown (growing (g.S.Site.seen c.args.site.now)) c.in-Ok._store.stack misfit (c.in-Ok.ensures.grown opened.told) opened.fails;
         no_growing = λ is. absurd (only.store is);
@@ -62,7 +64,7 @@ pub returns-in-Err-NotStore : goal.returns-in-Err-NotStore
 returns-in-Err-NotStore g c =
     let standing = growing (g.S.Site.seen c.args.site.now) in
     let fails : IsTrue (g.S.Site.told c.args.site.now) → IsGrowFault standing (grows.NotStore c.in-Err-NotStore.file c.in-Err-NotStore.at) =
-        λ told. subst (IsGrowFault standing) c.in-Err-NotStore.field-0-is (c.in-Err-NotStore.ensures.fault told) in
+    λ told. subst (IsGrowFault standing) c.in-Err-NotStore.field-0-is (c.in-Err-NotStore.ensures.fault told) in
     let says = rw (c.in-Err-NotStore.file-is, c.in-Err-NotStore.at-is) at c.explain.ensures.says in
     record {
       grows = record {
@@ -101,17 +103,17 @@ returns-in-Err-Halt-Disk g c = record {
     };
     no_growing = λ is. absurd (ends_apart ends.DiskFault ends.NotStore refl is);
     grow_status = inr (inr (inl refl));
-    grow_completes = λ stack opened no_disk no_show. absurd (no_disk (c.in-Err-Halt-Disk.ensures.failed (ap Err c.in-Err-Halt-Disk.field-0-is)));
+    grow_completes = λ stack opened no_disk no_show. absurd (no_disk (c.in-Err-Halt-Disk.ensures.failed (ap Err (c.in-Err-Halt-Disk.field-0-is ∙ ap grows.Halt c.in-Err-Halt-Disk.field-0-0-is))));
   };
   looks = λ is. absurd (ends_apart ends.DiskFault ends.NotStore refl is);
-  disk_fault = λ is. c.in-Err-Halt-Disk.ensures.failed (ap Err c.in-Err-Halt-Disk.field-0-is);
+  disk_fault = λ is. c.in-Err-Halt-Disk.ensures.failed (ap Err (c.in-Err-Halt-Disk.field-0-is ∙ ap grows.Halt c.in-Err-Halt-Disk.field-0-0-is));
   show_fault = λ is. absurd (ends_apart ends.DiskFault ends.ShowFault refl is);
   stops = disk_stops_growing c.in-Err-Halt-Disk.field-0 _ _ c.in-Err-Halt-Disk.ensures.counted;
   calls = c.grow.ensures.writes.calls;
 }
 
-pub returns : goal.returns
-returns g c = record {
+pub returns-in-Err-Halt-Memory : goal.returns-in-Err-Halt-Memory
+returns-in-Err-Halt-Memory g c = record {
   grows = record {
     grows = λ stack opened. (ends_apart ends.Memory ends.NotStore refl, reply_none _ ends.Memory (g.S.Site.log c.args.site.now) (g.S.Site.log c.grow.new.site) memory_undone c.grow.ensures.writes.as_logged);
     grown = λ stack opened is. absurd (⊎_elim memory_undone (ends_apart ends.Memory ends.ShowFault refl) is);
@@ -128,6 +130,6 @@ returns g c = record {
   looks = λ is. absurd (ends_apart ends.Memory ends.NotStore refl is);
   disk_fault = λ is. absurd (ends_apart ends.Memory ends.DiskFault refl is);
   show_fault = λ is. absurd (ends_apart ends.Memory ends.ShowFault refl is);
-  stops = stops_at_none _ _ _ _ _ (not_disk_grown c.in-Err-Halt.field-0 _ _ (memory_isnt_disk c.in-Err-Halt.field-0 c.in-Err-Halt.field-0-is) c.in-Err-Halt.ensures.counted);
+  stops = stops_at_none _ _ _ _ _ (not_disk_grown c.in-Err-Halt-Memory.field-0 _ _ (memory_isnt_disk c.in-Err-Halt-Memory.field-0 (c.in-Err-Halt-Memory.field-0-is ∙ ap grows.Halt c.in-Err-Halt-Memory.field-0-0-is)) c.in-Err-Halt-Memory.ensures.counted);
   calls = c.grow.ensures.writes.calls;
 }
