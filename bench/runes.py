@@ -8,10 +8,11 @@ number says (100,000 and 1,000,000 without a word), and then a block of 2,000 tr
 spend one of those: all with a runestone that gives a part to another output, all with a cenotaph,
 or without either; a block of 2,000 transactions that spend none of them; and one of an etching
 whose tapscript has 3,900,000 pushes. Blocks of 1,500 and 15,000 etchings, each of which spends what
-the last one left, so that its output holds a rune more, are done over no others. `ox_speed` and the plain program, which has hash maps and a
-list of changes to go back by, run in turn, three times; each does the block and takes it back, as
-often as it is told. It prints the processor time of a block and of a look-up, and the memory that
-an output with runes takes. Nothing here is proved. bench/all.py builds both programs.
+the last one left, so that its output holds a rune more, are done over no others. `ox_speed` and the
+plain program, which has hash maps and a list of changes to go back by, run in turn, three times;
+each does the block and takes it back, as often as it is told. It prints the processor time of a
+block and of a look-up, and the memory that an output with runes takes. Nothing here is proved.
+bench/all.py builds both programs.
 """
 
 import pathlib
