@@ -310,6 +310,7 @@ class Stores:
     def file(self, file, start=0):
         self.row("file", file, start)
         data = self.site.files[file]
+        assert start <= len(data)
         self.stdout.append(f"{len(data)} bytes: {data[start:].hex()}")
 
     def overwrite(self, file, at, data):

@@ -127,7 +127,7 @@ def halves(rows):
     for generation in (GREATEST - 1, GREATEST):
         rows.put(summed(payloads[:63], generation=generation))
         rows.open(commands[63:])
-        rows.file("B", 10)
+        rows.file("B")
     rows.put(summed(), summed(payloads[:63], generation=GREATEST))
     rows.open(commands[63:])
     rows.file("A")
