@@ -16,7 +16,7 @@ crates/ox_main, and `rt run < stdin` in crates/ox_index_rows.
   lines behind them are then applied with all memory, and have to be answered by the others and to
   leave the files as they should be.
 - `apply` of a line that turns files of version 3: where the turn lacks memory the line is answered
-  with status 0, and the files stand for what they should.
+  with status 0, and the files stand for what they should; the 64th line behind it turns them.
 - `grow`: the run has to end with 0, or with 8 or 4 and nothing shown; and the files stand for what
   they stood for, until with all memory they grow.
 - `init`, `query`, `drill 2` and `migrate` of the same program: each has to end so too, and to show
@@ -189,15 +189,15 @@ def apply_in_turn(program, memory, top, heard, lines):
 
 def turn_in_turn(program, memory, top):
     """Each allocation of an `apply` fails in turn whose line turns files of version 3."""
-    blocks, tips = chain(MOST_RECORDS)
-    commands = [*map(payload_of, blocks)]
-    before, after = (summed_store_of(commands[:count]) for count in (MOST_RECORDS - 1, None))
+    blocks, tips = chain(2 * MOST_RECORDS)
+    last, commands = MOST_RECORDS - 1, [*map(payload_of, blocks[:MOST_RECORDS])]
+    before, after = (summed_store_of(commands[:count]) for count in (last, None))
     first = top / "first"
     first.mkdir()
     for name, data in zip(("a.ox", "b.ox"), bytes_in(before)):
         (first / name).write_bytes(data)
     whole = copy(first, top / "whole")
-    feed, told = line(blocks[-1]), f"ok {len(blocks) - 1} {tips[-1]}\n".encode()
+    feed, told = line(blocks[last]), f"ok {last} {tips[last]}\n".encode()
     ran, count = memory.run([program, whole, "apply"], 0, feed)
     demand((ran.returncode, ran.stdout) == (0, told), f"{ran.returncode}: {ran.stdout}")
     demand(files(whole) == bytes_in(after), "the files didn't turn")
@@ -210,7 +210,9 @@ def turn_in_turn(program, memory, top):
             demand(ran.stdout == told, f"{what}: {ended}")
             stack, _ = stands(dict(zip("AB", left)))
             demand(stack.body() == after.stack.body(), f"{what}: the files stand for another stack")
-            lacked += left != bytes_in(after)
+            if left != bytes_in(after):
+                lacked += 1
+                tries_again(program, folder, blocks[MOST_RECORDS:])
         else:
             demand(ended in ((8, b""), (4, b"")), f"{what}: {ended}")
             demand(left == bytes_in(before), f"{what}: the files are others")
@@ -219,6 +221,16 @@ def turn_in_turn(program, memory, top):
     shutil.rmtree(first)
     shutil.rmtree(whole)
     print(f"a turn of version 3: {count} allocations; of these the turn lacked {lacked}")
+
+
+def tries_again(program, folder, blocks):
+    """Behind a turn that lacked memory the last of so many records turns the files."""
+    for some, turns in ((blocks[:-1], False), (blocks[-1:], True)):
+        feed = b"".join(map(line, some))
+        ran = subprocess.run([program, folder, "apply"], input=feed, stdout=subprocess.PIPE)
+        demand(ran.returncode == 0, f"{folder}: status {ran.returncode}")
+        _, tail = stands(dict(zip("AB", files(folder))))
+        demand((tail.records == 0) == turns, f"{folder}: {tail} behind {len(some)} lines")
 
 
 def grow_in_turn(program, memory, top):
