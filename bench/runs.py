@@ -16,12 +16,12 @@ RESULTS = "OX_RESULTS"
 def report(work, size, unit, ox, plain=None, goal=None):
     """A row of bench/results.tsv: of this work at this size the program came to so much, and the
     plain program beside it. The ratio says how much faster, or smaller, the program is: what is
-    counted a second should be much, and all else little. The goal is the least ratio wanted."""
+    counted a second should be much, and all else little. The goal is the least ratio wanted. Where
+    nothing was taken, as of memory that was there before, there is no ratio."""
     if RESULTS not in os.environ:
         return
-    ratio = None
-    if plain is not None:
-        ratio = ox / plain if unit.endswith("a second") else plain / ox
+    above, below = (ox, plain) if unit.endswith("a second") else (plain, ox)
+    ratio = above / below if plain is not None and below else None
     ratios = ("" if number is None else f"{number:.2f}" for number in (ratio, goal))
     row = [pathlib.Path(sys.argv[0]).stem, work, size, unit, figure(ox), figure(plain), *ratios]
     with open(os.environ[RESULTS], "a") as rows:
