@@ -16,7 +16,7 @@ use Rattle.ox_outside.proofs.Log.{grows_none, grows_same, grows_weaker}
 use Rattle.ox_gated.specs.OldReading.{growing_reading}
 use Rattle.ox_gated.specs.OtherFile.{BeginsShut}
 use Rattle.ox_gated.specs.Reading.{Found, Fault, IntactPart, is_any, reading}
-use Rattle.ox_gated.specs.Tail.{Holds, IsSettled, Keeps, Kept, KeepsFound}
+use Rattle.ox_gated.specs.Tail.{IsSettled, Keeps, Kept, KeepsFound}
 use Rattle.ox_gated.specs.Writes.{OnlyWrites}
 use Rattle.ox_gated.specs.declared.fault.Halt.TheVariants as halts
 use Rattle.ox_gated.specs.declared.head.Head.{Head}
