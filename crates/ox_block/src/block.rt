@@ -4,7 +4,7 @@ use crate::lists::{Inputs, Outs, Txs};
 use crate::script::Script;
 use crate::witness::Witness;
 use ox_bytes::Bytes;
-use ox_shards::{ID_MOST, ID_SHARDS, Sharded, shard_of, tag_of};
+use ox_shards::{Sharded, spread_of, tag_of};
 
 /// What names a transaction: SHA-256 twice over its form without witnesses, in serialized order. It
 /// is shown in reversed order. Ids are ordered by their bytes.
@@ -23,19 +23,13 @@ pub struct OutPoint {
 
 /// By parts of the transaction's id, and the index.
 impl Sharded for OutPoint {
-    ghost use Rattle.ox_block.specs.Keys.{outpoint_shard, outpoint_tag};
+    ghost use Rattle.ox_block.specs.Keys.{outpoint_spread, outpoint_tag};
     ghost use Rattle.ox_shards.specs.Laws.{ids_alike, ids_tagged};
 
-    ghost SHARDS = { 65536 };
+    ghost spread = { outpoint_spread };
 
-    const SHARDS: usize = ID_SHARDS;
-
-    const MOST: usize = ID_MOST;
-
-    ghost shard = { outpoint_shard };
-
-    fn shard(&self) -> usize {
-        shard_of(&self.txid.0, self.index)
+    fn spread(&self) -> u64 {
+        spread_of(&self.txid.0, self.index)
     }
 
     ghost alike = { λ a b. ids_alike a.txid.0 b.txid.0 a.index b.index };

@@ -1,12 +1,12 @@
 //! The places of slots, by outpoint.
 
-ghost use Rattle.std.specs.Prelude.{◌≡◌, ◌≢◌, ◌⊎◌, ℕ, Some, None, IfSome, IfNone, OnOk, OnErr};
+ghost use Rattle.std.specs.Prelude.{◌≡◌, ◌≢◌, ◌⊎◌, ◌<◌, ℕ, Some, None, IfSome, IfNone, OnOk, OnErr};
 ghost use Rattle.std.specs.Prelude.{true, false, if◌then◌else◌, length};
 ghost use Rattle.std.specs.BTreeMap.{is_at};
 ghost use Rattle.ox_rules.specs.Outputs.{outpoint_cmp};
 ghost use Rattle.ox_block.specs.declared.block.OutPoint.{OutPoint};
 ghost use Rattle.ox_block.specs.Keys.{outpoint_tag};
-ghost use Rattle.ox_outputs.specs.Lists.{items_at, is_in, NoneOrAll};
+ghost use Rattle.ox_outputs.specs.Lists.{items_at, is_in, outpoint_list, NoneOrAll};
 ghost use Rattle.ox_outputs.specs.Slots.{outpoint_at};
 
 use crate::entry::Entry;
@@ -18,6 +18,9 @@ use smallvec::SmallVec;
 use std::alloc::Global;
 use std::collections::BTreeMap;
 
+/// So many lists there are.
+const LISTS: usize = 65_536;
+
 /// So many places stand in one list at most.
 const MOST: usize = 1_024;
 
@@ -27,8 +30,8 @@ const INSIDE: usize = 2;
 /// Places with a part of their outpoints.
 type List = SmallVec<Entry, INSIDE>;
 
-/// The places of slots, in as many lists as there are shards of outpoints. The outpoints stand in
-/// the slots alone: a look-up goes through the tags of one list, and to the slot whose tag is the
+/// The places of slots, in lists by what outpoints are spread by. The outpoints stand in the slots
+/// alone: a look-up goes through the tags of one list, and to the slot whose tag is the
 /// same. Ids are hashes, so the lists are of about one length. Whoever makes transactions can
 /// choose ids that fill one list; when it has 1,024 places, those of further outpoints stand in an
 /// ordered map. So a look-up costs no more than a list and one in that map, whatever the ids. Up to
@@ -61,7 +64,7 @@ impl Places {
     fn list_of(&self, at: &OutPoint) -> &[Entry]
         ensures { result.now ≡ list_at self.now at.now }
     {
-        match self.lists.get(at.shard()) {
+        match self.lists.get(index_of(at)) {
             Some(list) => list.as_slice(),
             None => &[],
         }
@@ -115,7 +118,7 @@ impl Places {
             × (other_at self.new q ≡ other_at self.old q)) }
     {
         ensure_lists(&mut self.lists, self.alloc)?;
-        let list = &mut self.lists[at.shard()];
+        let list = &mut self.lists[index_of(&at)];
         if list.len() < MOST {
             let tag = at.tag();
             list.push(Entry { tag, place })?;
@@ -133,9 +136,17 @@ impl Places {
         ensures others { (q : OutPoint) → other_at self.new q
             ≡ (if is_at (outpoint_cmp at.now) q then None else other_at self.old q) }
     {
-        take_out(&mut self.lists, at.shard(), place);
+        take_out(&mut self.lists, index_of(at), place);
         self.others.remove(at);
     }
+}
+
+/// The index of the list in which an outpoint's place may stand.
+fn index_of(at: &OutPoint) -> usize
+    ensures value { result ≡ outpoint_list at.now }
+    ensures in_range { result < 65536 }
+{
+    (at.spread() % LISTS as u64) as usize
 }
 
 /// The place, of these, of the slot of an outpoint.
@@ -193,8 +204,8 @@ fn ensure_lists(lists: &mut Vec<List>, alloc: Global) -> Result<(), Memory>
         ≡ items_at lists.old.items index }
 {
     if lists.is_empty() {
-        lists.reserve_exact(OutPoint::SHARDS)?;
-        while lists.len() < OutPoint::SHARDS {
+        lists.reserve_exact(LISTS)?;
+        while lists.len() < LISTS {
             lists.push_reserved(SmallVec::new(alloc));
         }
     }
