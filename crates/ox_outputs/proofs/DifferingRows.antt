@@ -4,7 +4,7 @@ use Rattle.std.specs.Prelude.{◌⊎◌, ◌&&◌, ◌==◌, All, IsTrue, is_som
 use Rattle.std.specs.Prelude.{Result, Ok, Err, IfOk}
 use Rattle.std.specs.Bool.{Decides}
 use Rattle.std.specs.List.{AllByRecursion, dedup, dedup_from, filter, position_from}
-use Rattle.std.specs.List.Sorted.{IsSorted, IsStable, IsStrictlySortedBy}
+use Rattle.std.specs.List.Sorted.{IsSorted, IsStrictlySortedBy}
 use Rattle.std.specs.Map.{keys_of, lookup}
 use Rattle.std.specs.BTreeMap.{is_at}
 use Rattle.std.specs.Ordering.{is_eq, is_lt}
@@ -66,17 +66,11 @@ found_numbered at n [] = refl
 found_numbered at n (spot ∷ changed) = ap (cond (is_same at spot.at) (Some n)) (found_numbered at (n + 1) changed)
 
 -- no order between outpoints that are the same
-ties_same : (at k : OutPoint) → is_same at k ≡ true → (not (is_lt (outpoint_cmp at k)) && not (is_lt (outpoint_cmp k at))) ≡ true
+pub ties_same : (at k : OutPoint) → is_same at k ≡ true → (not (is_lt (outpoint_cmp at k)) && not (is_lt (outpoint_cmp k at))) ≡ true
 ties_same at k same =
     let here : outpoint_cmp at k ≡ Equal = equal _ same in
     let back : outpoint_cmp k at ≡ Equal = equal _ ((eq_by_cmp_equiv outpoints_total).symm k at ∙ same) in
     λ i. not (is_lt (here i)) && not (is_lt (back i))
-
--- the first at an outpoint stays the first where those of one outpoint keep their order
-pub found_sorted : (xs ys : List (OutPoint × ℕ)) → IsStable (λ a b. outpoint_cmp a.0 b.0) xs ys → (at : OutPoint) → lookup (is_at (outpoint_cmp at)) ys ≡ lookup (is_at (outpoint_cmp at)) xs
-found_sorted xs ys stable at = sym (kept ys) ∙ ap (lookup (is_at (outpoint_cmp at))) (stable (at, 0)) ∙ kept xs where
-  kept : (es : List (OutPoint × ℕ)) → lookup (is_at (outpoint_cmp at)) (filter (λ e. not (is_lt (outpoint_cmp at e.0)) && not (is_lt (outpoint_cmp e.0 at))) es) ≡ lookup (is_at (outpoint_cmp at)) es
-  kept es = lookup-filter-keys (is_at (outpoint_cmp at)) (λ k. not (is_lt (outpoint_cmp at k)) && not (is_lt (outpoint_cmp k at))) true (ties_same at) es
 
 -- whether two have one outpoint
 abbrev pub have_one : OutPoint × ℕ → OutPoint × ℕ → Bool

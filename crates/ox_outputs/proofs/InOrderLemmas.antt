@@ -200,20 +200,3 @@ sorted_entries slots rows rows' apart is moved sorted =
     let shuffled : IsPermutation (entries_in slots) (map entry_of rows') = subst (λ (es : Entries). IsPermutation es (map entry_of rows')) is (IsPermutation-map entry_of rows rows' moved) in
     let differ : IsDistinct is_same (keys_of (map entry_of rows')) = still_distinct (eq_by_cmp_equiv outpoints_total) no_outpoint (entries_in slots) (map entry_of rows') shuffled (distinct_in slots apart) in
     in_their_order slots (map entry_of rows') apart shuffled (sorted_rises entry_of rows' sorted differ)
-
--- ---- the fronts of ids
-
-decided : (r s t : Ordering) → t ≡ r → (r ≡ Equal → ⊥) → r ≡ ordering_then t s
-decided Less s t is other = sym (ap (λ (u : Ordering). ordering_then u s) is)
-decided Equal s t is other = absurd (other refl)
-decided Greater s t is other = sym (ap (λ (u : Ordering). ordering_then u s) is)
-
--- fronts that differ decide
-pub fronts_lead : (a b : Ranked) → (a.front ≡ b.front → ⊥) → nat_cmp a.front b.front ≡ outpoint_cmp a.slot.now.at b.slot.now.at
-fronts_lead a b apart =
-    let us = a.slot.now.at.txid.0 in
-    let vs = b.slot.now.at.txid.0 in
-    let by_bytes : slice_cmp nat_cmp us vs ≡ nat_cmp a.front b.front =
-    fronts_decide 8 0 us vs a.long b.long a.bytes b.bytes (λ e. apart (a.front_is ∙ e ∙ sym b.front_is))
-    ∙ (λ i. nat_cmp (sym a.front_is i) (sym b.front_is i)) in
-    decided (nat_cmp a.front b.front) (nat_cmp a.slot.now.at.index b.slot.now.at.index) (slice_cmp nat_cmp us vs) by_bytes (λ tie. apart (nat_cmp-IsAntisymmetric a.front b.front tie))

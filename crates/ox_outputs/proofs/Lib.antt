@@ -1,4 +1,5 @@
 pub mod DifferingRows
+pub mod FrontLemmas
 pub mod OutputsLemmas
 pub mod InOrderLemmas
 pub mod ListLemmas

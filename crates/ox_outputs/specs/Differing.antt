@@ -1,11 +1,14 @@
 -- The rows in which two tables differ, of some outpoints.
 use Rattle.std.specs.Prelude.{◌≡◌, ℕ, ◌+◌, ◌≤◌, Bool, List, [], ◌∷◌, ◌++◌, All, Option, Some, None}
-use Rattle.std.specs.Prelude.{bytes_eq, ◌==◌, ◌&&◌, if◌then◌else◌}
+use Rattle.std.specs.Prelude.{bytes_eq, ◌==◌, ◌&&◌, if◌then◌else◌, map, slice_get}
+use Rattle.std.specs.Option.{option_map}
 use Rattle.std.specs.FinMap.{get}
 use Rattle.ox_block.specs.declared.block.OutPoint.{OutPoint}
 use Rattle.ox_rules.specs.declared.rows.OutRow.{OutRow}
 use Rattle.ox_rules.specs.Outputs.{Outputs, sats_held, times}
+use Rattle.ox_outputs.specs.declared.fronted.Fronted.{Fronted}
 use Rattle.ox_outputs.specs.declared.slot_of.SlotOf.{SlotOf}
+use Rattle.ox_outputs.specs.Fronts.{pair_of}
 
 -- whether two rows are the same
 abbrev pub is_same_row : OutRow → OutRow → Bool
@@ -18,6 +21,14 @@ row_unless None other = None
 row_unless (Some row) None = Some row
 row_unless (Some row) (Some other) =
     if is_same_row row other then None else Some row
+
+-- the outpoint of the change at a place
+abbrev pub outpoint_in : List SlotOf → ℕ → Option OutPoint
+outpoint_in changed place = option_map (λ spot. spot.at) (slice_get changed place)
+
+-- the outpoints of changes, each with the change's place, where places of changes stand
+abbrev pub pairs_in : List SlotOf → List Fronted → List (OutPoint × ℕ)
+pairs_in changed places = map (pair_of (outpoint_in changed)) places
 
 -- the outpoints of spots, numbered from here on
 abbrev pub numbered_from : ℕ → List SlotOf → List (OutPoint × ℕ)

@@ -1,25 +1,29 @@
 //! The rows in which a table differs from itself at its mark, and the way from one to the other.
 
-ghost use Rattle.std.specs.Prelude.{◌≡◌, ◌++◌, ◌↔◌, length, slice_index_or, None};
+ghost use Rattle.std.specs.Prelude.{◌≡◌, ◌++◌, ◌↔◌, All, length, slice_index_or, None};
 ghost use Rattle.std.specs.Prelude.{IsTrue, IfOk, OnOk};
 ghost use Rattle.std.specs.Option.{option_copied};
 ghost use Rattle.std.specs.List.{dedup, position_from};
-ghost use Rattle.std.specs.List.Sorted.{IsSorted, IsStable, IsStrictlySortedBy};
+ghost use Rattle.std.specs.List.Sorted.{IsPermutation, IsSorted, IsStable, IsStrictlySortedBy};
 ghost use Rattle.std.specs.Ordering.{eq_by_cmp};
 ghost use Rattle.std.specs.BTreeMap.{is_at};
 ghost use Rattle.std.specs.Map.{keys_of, lookup};
 ghost use Rattle.ox_block.specs.declared.block.OutPoint.{OutPoint};
 ghost use Rattle.ox_rules.specs.Differences.{Differ, with_rows};
 ghost use Rattle.ox_rules.specs.Outputs.{Outputs, outpoint_cmp};
-ghost use Rattle.ox_outputs.specs.Differing.{numbered_from, row_at, row_unless, FitIn};
+ghost use Rattle.ox_outputs.specs.Differing.{numbered_from, outpoint_in, pairs_in};
+ghost use Rattle.ox_outputs.specs.Differing.{row_at, row_unless, FitIn};
+ghost use Rattle.ox_outputs.specs.Fronts.{IsFronted, fronted_cmp};
 ghost use Rattle.ox_outputs.specs.Slots.{rows_of, undone, AreSpots};
 
+use crate::fronted::Fronted;
 use crate::slot_of::SlotOf;
 use crate::slots::Slots;
 use ox_block::OutPoint;
 use ox_range::Ranges;
 use ox_rules::{Memory, OutRow, OutTable, TableRows};
 use std::alloc::Global;
+use std::cmp::Ordering;
 
 /// The rows that stood before some changes, of which the oldest comes first, and don't stand so
 /// now, and the other way round, each by rising outpoint. `Memory` where there is none for them.
@@ -39,11 +43,12 @@ pub(crate) fn differing(
     let (stood, stand) = counts(slots, changed, before, &places);
     let mut gone = TableRows::from_vec(Vec::with_capacity(alloc, stood)?);
     let mut came = TableRows::from_vec(Vec::with_capacity(alloc, stand)?);
-    for (at, place) in &places {
-        let stood = row_before(before, *place);
-        let stands = slots.row(changed[*place].place);
-        push_unless(alloc, &mut gone, at, stood, stands)?;
-        push_unless(alloc, &mut came, at, stands, stood)?;
+    for one in &places {
+        let spot = &changed[one.place];
+        let stood = row_before(before, one.place);
+        let stands = slots.row(spot.place);
+        push_unless(alloc, &mut gone, &spot.at, stood, stands)?;
+        push_unless(alloc, &mut came, &spot.at, stands, stood)?;
     }
     Ok((gone, came))
 }
@@ -54,13 +59,13 @@ fn counts(
     slots: &Slots,
     changed: &[SlotOf],
     before: &[Option<OutRow>],
-    places: &[(OutPoint, usize)],
+    places: &[Fronted],
 ) -> (usize, usize) {
     let mut stood = 0usize;
     let mut stand = 0usize;
-    for (_, place) in places {
-        stood = stood.wrapping_add(usize::from(row_before(before, *place).is_some()));
-        stand = stand.wrapping_add(usize::from(stands(slots, changed, *place)));
+    for one in places {
+        stood = stood.wrapping_add(usize::from(row_before(before, one.place).is_some()));
+        stand = stand.wrapping_add(usize::from(stands(slots, changed, one.place)));
     }
     (stood, stand)
 }
@@ -84,53 +89,73 @@ fn row_before(before: &[Option<OutRow>], place: usize) -> Option<&OutRow>
 }
 
 /// The place of the oldest change at each outpoint, by rising outpoint.
-fn oldest(alloc: Global, changed: &[SlotOf]) -> Result<Vec<(OutPoint, usize)>, Memory>
+fn oldest(alloc: Global, changed: &[SlotOf]) -> Result<Vec<Fronted>, Memory>
     ensures places { IfOk result (λ places. (at : OutPoint)
-        → lookup (is_at (outpoint_cmp at)) places.items
+        → lookup (is_at (outpoint_cmp at)) (pairs_in changed.now places.items)
         ≡ position_from (λ spot. eq_by_cmp outpoint_cmp at spot.at) 0 changed.now) }
-    ensures ordered { IfOk result
-        (λ places. IsStrictlySortedBy outpoint_cmp (keys_of places.items)) }
+    ensures ordered { IfOk result (λ places.
+        IsStrictlySortedBy outpoint_cmp (keys_of (pairs_in changed.now places.items))) }
 {
     let mut places = numbered(alloc, changed)?;
-    sort(&mut places)?;
-    keep_first(&mut places);
+    sort(changed, &mut places)?;
+    keep_first(changed, &mut places);
     Ok(places)
 }
 
-/// The outpoint of each change, with its place.
-fn numbered(alloc: Global, changed: &[SlotOf]) -> Result<Vec<(OutPoint, usize)>, Memory>
-    ensures { IfOk result (λ places. places.items ≡ numbered_from 0 changed.now) }
+/// The place of each change, with the front of its outpoint.
+fn numbered(alloc: Global, changed: &[SlotOf]) -> Result<Vec<Fronted>, Memory>
+    ensures pairs { IfOk result (λ places.
+        pairs_in changed.now places.items ≡ numbered_from 0 changed.now) }
+    ensures fronts { IfOk result (λ places.
+        All (IsFronted (outpoint_in changed.now)) places.items) }
 {
     let mut places = Vec::with_capacity(alloc, changed.len())?;
     for spot in changed {
         let place = places.len();
-        places.push_reserved((spot.at, place));
+        places.push_reserved(Fronted::new(&spot.at, place));
     }
     Ok(places)
 }
 
-/// Sorts these by outpoint. Those of one outpoint keep their order.
-fn sort(places: &mut Vec<(OutPoint, usize)>) -> Result<(), Memory>
-    ensures sorted { OnOk result (IsSorted (λ a b. outpoint_cmp a.0 b.0) places.new.items) }
+/// Sorts places of changes by outpoint. Those of one outpoint keep their order.
+fn sort(changed: &[SlotOf], places: &mut Vec<Fronted>) -> Result<(), Memory>
+    ensures permutation { IsPermutation places.old.items places.new.items }
+    ensures sorted { OnOk result
+        (IsSorted (fronted_cmp (outpoint_in changed.now)) places.new.items) }
     ensures stable { OnOk result
-        (IsStable (λ a b. outpoint_cmp a.0 b.0) places.old.items places.new.items) }
+        (IsStable (fronted_cmp (outpoint_in changed.now)) places.old.items places.new.items) }
 {
-    Ok(places.sort_by(|a, b| a.0.cmp(&b.0))?)
+    Ok(places.sort_by(|a, b| order_of(changed, a, b))?)
 }
 
-/// Keeps the first of those that stand side by side and have one outpoint.
-fn keep_first(places: &mut Vec<(OutPoint, usize)>)
+/// Keeps the first of those that stand side by side and are of one outpoint.
+fn keep_first(changed: &[SlotOf], places: &mut Vec<Fronted>)
     ensures { places.new.items
-        ≡ dedup (λ a b. eq_by_cmp outpoint_cmp a.0 b.0) places.old.items }
+        ≡ dedup (eq_by_cmp (fronted_cmp (outpoint_in changed.now))) places.old.items }
 {
-    places.dedup_by(|later, kept| have_one(later, kept));
+    places.dedup_by(|later, kept| order_of(changed, later, kept).is_eq());
 }
 
-/// Whether two have one outpoint.
-fn have_one(a: &(OutPoint, usize), b: &(OutPoint, usize)) -> bool
-    ensures { result ≡ eq_by_cmp outpoint_cmp a.now.0 b.now.0 }
+/// The order of two changes, by their places: by the fronts of their outpoints, and by the
+/// outpoints where these are equal.
+fn order_of(changed: &[SlotOf], a: &Fronted, b: &Fronted) -> Ordering
+    ensures { result ≡ fronted_cmp (outpoint_in changed.now) a.now b.now }
 {
-    a.0.cmp(&b.0).is_eq()
+    if a.front == b.front {
+        outpoint_in(changed, a.place).cmp(&outpoint_in(changed, b.place))
+    } else {
+        a.front.cmp(&b.front)
+    }
+}
+
+/// The outpoint of the change at this place, if there is one.
+fn outpoint_in(changed: &[SlotOf], place: usize) -> Option<&OutPoint>
+    ensures { option_copied result ≡ outpoint_in changed.now place }
+{
+    match changed.get(place) {
+        Some(spot) => Some(&spot.at),
+        None => None,
+    }
 }
 
 /// Puts a row behind the others, where there is one and the other one isn't the same.

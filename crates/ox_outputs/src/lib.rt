@@ -6,6 +6,7 @@ mod ahead;
 mod changes;
 mod differing;
 mod entry;
+mod fronted;
 mod held;
 mod in_order;
 mod locator;

@@ -4,6 +4,7 @@ ghost use Rattle.std.specs.Prelude.{◌≡◌, ◌≤◌, IsSome, length};
 ghost use Rattle.ox_rules.specs.Outputs.{outpoint_cmp};
 ghost use Rattle.ox_outputs.specs.Fronts.{AreBytes, front_of};
 
+use crate::fronted::front;
 use crate::held::Slot;
 use ox_block::OutPoint;
 use ox_rules::OutRow;
@@ -44,15 +45,6 @@ pub(crate) fn rank(slot: &Slot) -> Ranked<'_>
         front: front(&slot.at.txid.0),
         slot,
     }
-}
-
-/// The first eight bytes of an id as one number, the first byte the highest.
-fn front(id: &[u8]) -> u64
-    requires { 8 ≤ length id.now }
-    ensures number { result ≡ front_of id.now }
-    ensures bytes { AreBytes id.now }
-{
-    u64::from_be_bytes([id[0], id[1], id[2], id[3], id[4], id[5], id[6], id[7]])
 }
 
 /// The order of two slots' outpoints.
