@@ -1,30 +1,30 @@
 -- The rows of slots in the order of their outpoints.
-use Rattle.std.proofs.Common.{◌≡◌, ◌∙◌, ◌+◌, ℕ, zero, suc, Bool, true, false, cond, T, List, [], ◌∷◌, ◌++◌, map, refl, sym, ap, subst, arith, Option, Some, None, Ordering, inl, inr}
-use Rattle.std.specs.Prelude.{◌⊎◌, ◌&&◌, is_some, unwrap_or}
+use Rattle.std.proofs.Common.{◌≡◌, ◌∙◌, ◌+◌, ◌<◌, ◌≤◌, ℕ, zero, suc, Bool, true, false, cond, T, List, [], ◌∷◌, ◌++◌, map, length, drop, get_or, refl, sym, ap, subst, arith, Option, Some, None, Ordering, inl, inr}
+use Rattle.std.specs.Prelude.{◌⊎◌, ◌&&◌, IsSome, unwrap_or}
+use Rattle.std.specs.Option.{option_and_then, option_map}
 use Rattle.std.specs.List.{All, AllByRecursion, AllPairs, IsDistinct}
 use Rattle.std.specs.List.Sorted.{IsPermutation, IsSorted}
 use Rattle.std.specs.Map.{keys_of, lookup}
-use Rattle.std.specs.Ordering.{is_eq, is_lt, nat_cmp, ordering_reverse, ordering_then}
-use Rattle.std.specs.Cmp.Lexicographic.{slice_cmp}
+use Rattle.std.specs.Ordering.{is_eq, is_lt, ordering_reverse}
 use Rattle.std.specs.Cmp.{eq_by_cmp_equiv}
-use Rattle.std.specs.FinMap.{entries, entries_sorted, find, get, get-empty, get-entries, is_sorted, nat_cmp-IsAntisymmetric}
+use Rattle.std.specs.FinMap.{entries, entries_sorted, find, get, get-empty, get-entries, is_sorted}
 use Rattle.std.specs.FinMap.Entries.{below_all, same_entries}
 use Rattle.std.specs.declared.cmp.Ordering.TheVariants.{Less, Equal, Greater}
-use Rattle.std.proofs.lemmas.List.{append_assoc, append-nil, map-append}
-use Rattle.std.proofs.lemmas.List.Elements.{All-head, All-tail}
-use Rattle.std.proofs.lemmas.List.Sorted.{IsPermutation-map, ranks_by, sorted_far}
-use Rattle.slab.specs.Slab.{entries_from}
+use Rattle.std.proofs.lemmas.List.{append_assoc, append-nil, drop_all, drop_more, map-append}
+use Rattle.std.proofs.lemmas.List.Elements.{All-get_or, All-head, All-tail}
+use Rattle.std.proofs.lemmas.List.Sorted.{All-permutation, IsPermutation-map, ranks_by, sorted_far}
 use Rattle.ox_block.specs.declared.block.OutPoint.{OutPoint}
-use Rattle.ox_block.proofs.FrontsDecideOrder.{fronts_decide}
 use Rattle.ox_rules.specs.declared.rows.OutRow.{OutRow}
 use Rattle.ox_rules.specs.Outputs.{Outputs, outpoint_cmp}
 use Rattle.ox_rules.proofs.Orders.{outpoints_total, outpoints_exact}
 use Rattle.ox_shards.proofs.ListLemmas.{same_value, still_distinct}
 use Rattle.ox_outputs.specs.Differing.{row_at}
-use Rattle.ox_outputs.specs.InOrder.{entries_in, entry_in, entry_of, no_row}
-use Rattle.ox_outputs.specs.Slots.{SlotList, rows_of}
-use Rattle.ox_outputs.specs.declared.held.Slot.{Slot}
-use Rattle.ox_outputs.specs.declared.ranked.Ranked.{Ranked}
+use Rattle.ox_outputs.specs.Fronts.{IsFront, fronted_cmp, no_outpoint, pair_of}
+use Rattle.ox_outputs.specs.InOrder.{IsEntry, entries_in, entry_at, entry_of}
+use Rattle.ox_outputs.specs.Slots.{SlotList, no_row, outpoint_at, rows_of, slot_at}
+use Rattle.ox_outputs.specs.Slots.{Slot}
+use Rattle.ox_outputs.specs.declared.fronted.Fronted.{Fronted}
+use Rattle.ox_outputs.proofs.FrontLemmas.{fronted_as}
 use Rattle.ox_outputs.proofs.PlaceLemmas.{AreApart, IsNowhere, get-nowhere, is_same, same_itself, same_or_not}
 use Rattle.ox_outputs.proofs.SlotLemmas.{get-put_slot}
 
@@ -144,59 +144,90 @@ in_their_order slots es apart moved sorted =
 
 -- ---- the slots that hold rows, one by one
 
--- the rows of the slots that are left
-abbrev pub entries_left : List (ℕ × Slot) → Entries
-entries_left [] = []
-entries_left (e ∷ es) = row_at e.1.at e.1.row ++ entries_left es
+-- what a slot holds, with its outpoint
+abbrev entry_from : Option Slot → Option (OutPoint × OutRow)
+entry_from slot = option_and_then (λ s. option_map (λ row. (s.at, row)) s.row) slot
 
-pub left_all : (key : ℕ) (slots : SlotList) → entries_left (entries_from key slots) ≡ entries_in slots
-left_all key [] = refl
-left_all key (None ∷ slots) = left_all (key + 1) slots
-left_all key (Some s ∷ slots) = ap (λ (es : Entries). row_at s.at s.row ++ es) (left_all (key + 1) slots)
+-- a slot that holds a row is one entry more
+one_entry : (slot : Option Slot) (slots : SlotList) (e : OutPoint × OutRow) → entry_from slot ≡ Some e → entries_in (slot ∷ slots) ≡ e ∷ entries_in slots
+one_entry None slots e is = absurd (cc is)
+one_entry (Some s) slots e is = by_row s.row is where
+  by_row : (row : Option OutRow) → option_map (λ row. (s.at, row)) row ≡ Some e → row_at s.at row ++ entries_in slots ≡ e ∷ entries_in slots
+  by_row None is = absurd (cc is)
+  by_row (Some row) is = ap (λ (o : Option (OutPoint × OutRow)). unwrap_or o e ∷ entries_in slots) is
 
-one_row : (slot : Slot) (es : Entries) → is_some slot.row ≡ true → row_at slot.at slot.row ++ es ≡ entry_in slot ∷ es
-one_row slot es some = by_row slot.row some where
-  by_row : (row : Option OutRow) → is_some row ≡ true → row_at slot.at row ++ es ≡ (slot.at, unwrap_or row no_row) ∷ es
-  by_row (Some row) some = refl
-  by_row None some = absurd (cc some)
-
-no_entry : (slot : Slot) (es : Entries) → is_some slot.row ≡ false → row_at slot.at slot.row ++ es ≡ es
-no_entry slot es none = by_row slot.row none where
-  by_row : (row : Option OutRow) → is_some row ≡ false → row_at slot.at row ++ es ≡ es
-  by_row (Some row) none = absurd (cc none)
+-- any other counts for nothing
+no_entry : (slot : Option Slot) (slots : SlotList) → entry_from slot ≡ None → entries_in (slot ∷ slots) ≡ entries_in slots
+no_entry None slots none = refl
+no_entry (Some s) slots none = by_row s.row none where
+  by_row : (row : Option OutRow) → option_map (λ row. (s.at, row)) row ≡ None → row_at s.at row ++ entries_in slots ≡ entries_in slots
   by_row None none = refl
+  by_row (Some row) none = absurd (cc none)
 
--- one that holds a row comes behind the others
-pub one_more_row : (rows rows' : List Ranked) (one : Ranked) (slot : Slot) (key : ℕ) (left rest : List (ℕ × Slot)) (all : Entries) → rows' ≡ rows ++ one ∷ [] → one.slot.now ≡ slot → is_some slot.row ≡ true
-    → left ≡ (key, slot) ∷ rest → map entry_of rows ++ entries_left left ≡ all → map entry_of rows' ++ entries_left rest ≡ all
-one_more_row rows rows' one slot key left rest all pushed same some steps so_far =
-    ap (λ (l : List Ranked). map entry_of l ++ entries_left rest) pushed
-    ∙ ap (λ (l : Entries). l ++ entries_left rest) (map-append entry_of rows (one ∷ []))
-    ∙ append_assoc (map entry_of rows) (entry_of one ∷ []) (entries_left rest)
-    ∙ ap (λ (s : Slot). map entry_of rows ++ entry_in s ∷ entries_left rest) same
-    ∙ ap (λ (es : Entries). map entry_of rows ++ es) (sym (one_row slot (entries_left rest) some))
-    ∙ ap (λ (l : List (ℕ × Slot)). map entry_of rows ++ entries_left l) (sym steps) ∙ so_far
+-- the outpoint of an entry is that of its slot
+outpoint_from : (slot : Option Slot) (e : OutPoint × OutRow) → entry_from slot ≡ Some e → option_map (λ s. s.at) slot ≡ Some e.0
+outpoint_from None e is = absurd (cc is)
+outpoint_from (Some s) e is = by_row s.row is where
+  by_row : (row : Option OutRow) → option_map (λ row. (s.at, row)) row ≡ Some e → ◌≡◌ {A = Option OutPoint} (Some s.at) (Some e.0)
+  by_row None is = absurd (cc is)
+  by_row (Some row) is = ap (λ (o : Option (OutPoint × OutRow)). option_map (λ x. x.0) o) is
 
--- and an empty one counts for nothing
-pub none_more_row : (rows : List Ranked) (slot : Slot) (key : ℕ) (left rest : List (ℕ × Slot)) (all : Entries) → is_some slot.row ≡ false
-    → left ≡ (key, slot) ∷ rest → map entry_of rows ++ entries_left left ≡ all → map entry_of rows ++ entries_left rest ≡ all
-none_more_row rows slot key left rest all none steps so_far =
-    ap (λ (es : Entries). map entry_of rows ++ es) (sym (no_entry slot (entries_left rest) none))
-    ∙ ap (λ (l : List (ℕ × Slot)). map entry_of rows ++ entries_left l) (sym steps) ∙ so_far
+module _ (slots : SlotList) where
+  -- the place of an entry
+  pub entry_here : (one : Fronted) (k : ℕ) (e : OutPoint × OutRow) → entry_at slots k ≡ Some e → one.place ≡ k → IsFront one.front e.0 → IsEntry slots one
+  entry_here one k e is place front = record {
+    fronted = record { outpoint = e.0; there = ap (outpoint_at slots) place ∙ outpoint_from (slot_at slots k) e is; front = front };
+    row = subst IsSome (sym (ap (entry_at slots) place ∙ is)) refl;
+  }
 
--- all of them, where none is left
-pub all_of_them : (rows : List Ranked) (left : List (ℕ × Slot)) (all : Entries) → left ≡ [] → map entry_of rows ++ entries_left left ≡ all → map entry_of rows ≡ all
-all_of_them rows left all none so_far =
-    sym (append-nil (map entry_of rows)) ∙ ap (λ (l : List (ℕ × Slot)). map entry_of rows ++ entries_left l) (sym none) ∙ so_far
+  -- one that holds a row comes behind the others
+  pub one_more_row : (rows rows' : List Fronted) (one : Fronted) (k : ℕ) (e : OutPoint × OutRow) (all : Entries) → k < length slots → entry_at slots k ≡ Some e → one.place ≡ k → rows' ≡ rows ++ one ∷ []
+      → map (entry_of slots) rows ++ entries_in (drop k slots) ≡ all → map (entry_of slots) rows' ++ entries_in (drop (k + 1) slots) ≡ all
+  one_more_row rows rows' one k e all low is place pushed so_far =
+      ap (λ (l : List Fronted). map (entry_of slots) l ++ entries_in (drop (k + 1) slots)) pushed
+      ∙ ap (λ (l : Entries). l ++ entries_in (drop (k + 1) slots)) (map-append (entry_of slots) rows (one ∷ []))
+      ∙ append_assoc (map (entry_of slots) rows) (entry_of slots one ∷ []) (entries_in (drop (k + 1) slots))
+      ∙ ap (λ (x : Option (OutPoint × OutRow)). map (entry_of slots) rows ++ unwrap_or x (no_outpoint, no_row) ∷ entries_in (drop (k + 1) slots)) (ap (entry_at slots) place ∙ is)
+      ∙ ap (λ (es : Entries). map (entry_of slots) rows ++ es) (sym (ap entries_in (drop_more slots k None low) ∙ one_entry (slot_at slots k) (drop (k + 1) slots) e is))
+      ∙ so_far
 
--- ---- the order
+  -- and a place without one counts for nothing
+  pub none_more_row : (rows : List Fronted) (k : ℕ) (all : Entries) → k < length slots → entry_at slots k ≡ None
+      → map (entry_of slots) rows ++ entries_in (drop k slots) ≡ all → map (entry_of slots) rows ++ entries_in (drop (k + 1) slots) ≡ all
+  none_more_row rows k all low none so_far =
+      ap (λ (es : Entries). map (entry_of slots) rows ++ es) (sym (ap entries_in (drop_more slots k None low) ∙ no_entry (slot_at slots k) (drop (k + 1) slots) none))
+      ∙ so_far
 
-no_outpoint : OutPoint
-no_outpoint = record { txid = record { 0 = [] }; index = 0 }
+  -- all of them, where none is left
+  pub all_of_them : (rows : List Fronted) (k : ℕ) (all : Entries) → length slots ≤ k → map (entry_of slots) rows ++ entries_in (drop k slots) ≡ all → map (entry_of slots) rows ≡ all
+  all_of_them rows k all high so_far =
+      sym (append-nil (map (entry_of slots) rows)) ∙ sym (ap (λ (l : SlotList). map (entry_of slots) rows ++ entries_in l) (drop_all slots k high)) ∙ so_far
 
-pub sorted_entries : (slots : SlotList) (rows rows' : List Ranked) → AreApart slots → map entry_of rows ≡ entries_in slots → IsPermutation rows rows' → IsSorted (λ a b. outpoint_cmp a.slot.now.at b.slot.now.at) rows'
-    → map entry_of rows' ≡ entries (rows_of slots)
-sorted_entries slots rows rows' apart is moved sorted =
-    let shuffled : IsPermutation (entries_in slots) (map entry_of rows') = subst (λ (es : Entries). IsPermutation es (map entry_of rows')) is (IsPermutation-map entry_of rows rows' moved) in
-    let differ : IsDistinct is_same (keys_of (map entry_of rows')) = still_distinct (eq_by_cmp_equiv outpoints_total) no_outpoint (entries_in slots) (map entry_of rows') shuffled (distinct_in slots apart) in
-    in_their_order slots (map entry_of rows') apart shuffled (sorted_rises entry_of rows' sorted differ)
+  -- ---- the order
+
+  entry_outpoint : (one : Fronted) → IsEntry slots one → (pair_of (outpoint_at slots) one).0 ≡ (entry_of slots one).0
+  entry_outpoint one is = by_entry (slot_at slots one.place) is.row where
+    by_entry : (slot : Option Slot) → IsSome (entry_from slot) → unwrap_or (option_map (λ s. s.at) slot) no_outpoint ≡ (unwrap_or (entry_from slot) (no_outpoint, no_row)).0
+    by_entry None some = absurd (cc some)
+    by_entry (Some s) some = by_row s.row some where
+      by_row : (row : Option OutRow) → IsSome (option_map {T = OutRow} (λ row. (s.at, row)) row) → s.at ≡ (unwrap_or (option_map (λ row. (s.at, row)) row) (no_outpoint, no_row)).0
+      by_row None some = absurd (cc some)
+      by_row (Some row) some = refl
+
+  outpoints_sorted : (rows : List Fronted) → All (IsEntry slots) rows → IsSorted (fronted_cmp (outpoint_at slots)) rows → IsSorted (λ a b. outpoint_cmp (entry_of slots a).0 (entry_of slots b).0) rows
+  outpoints_sorted rows all sorted k d low high =
+      let a = get_or rows (k + 1) d in
+      let b = get_or rows k d in
+      let p : IsEntry slots a = All-get_or (IsEntry slots) rows (k + 1) d high all in
+      let q : IsEntry slots b = All-get_or (IsEntry slots) rows k d (omega (arith, high)) all in
+      (λ i. is_lt (outpoint_cmp (sym (entry_outpoint a p) i) (sym (entry_outpoint b q) i)))
+      ∙ ap is_lt (sym (fronted_as (outpoint_at slots) a b p.fronted q.fronted))
+      ∙ sorted k d low high
+
+  pub sorted_entries : (rows rows' : List Fronted) → AreApart slots → map (entry_of slots) rows ≡ entries_in slots → All (IsEntry slots) rows → IsPermutation rows rows' → IsSorted (fronted_cmp (outpoint_at slots)) rows'
+      → map (entry_of slots) rows' ≡ entries (rows_of slots)
+  sorted_entries rows rows' apart is all moved sorted =
+      let shuffled : IsPermutation (entries_in slots) (map (entry_of slots) rows') = subst (λ (es : Entries). IsPermutation es (map (entry_of slots) rows')) is (IsPermutation-map (entry_of slots) rows rows' moved) in
+      let differ : IsDistinct is_same (keys_of (map (entry_of slots) rows')) = still_distinct (eq_by_cmp_equiv outpoints_total) no_outpoint (entries_in slots) (map (entry_of slots) rows') shuffled (distinct_in slots apart) in
+      let still : All (IsEntry slots) rows' = All-permutation (IsEntry slots) rows rows' moved all in
+      in_their_order slots (map (entry_of slots) rows') apart shuffled (sorted_rises (entry_of slots) rows' (outpoints_sorted rows' still sorted) differ)

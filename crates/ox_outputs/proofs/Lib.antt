@@ -4,6 +4,7 @@ pub mod OutputsLemmas
 pub mod InOrderLemmas
 pub mod ListLemmas
 pub mod NextLemmas
+pub mod PieceLemmas
 pub mod PlaceLemmas
 pub mod RowLemmas
 pub mod SlotLemmas

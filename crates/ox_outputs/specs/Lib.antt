@@ -8,5 +8,7 @@ pub mod Starts
 pub mod Table
 pub mod Differing
 pub mod Fronts
+pub mod Held
 pub mod InOrder
 pub mod Next
+pub mod Pieces

@@ -10,13 +10,15 @@ ghost use Rattle.ox_outputs.specs.Slots.{KeepRows};
 ghost use Rattle.ox_outputs.specs.Located.{place_held, begins_in, counted};
 ghost use Rattle.ox_outputs.specs.Next.{next_of};
 
-use crate::held::{Held, begins_at, exchange_in, give_out, locate_in, row_in, take_back, vacate};
+use crate::held::{
+    Held, begins_at, count, empty_in, exchange_in, give_out, glance_in, locate_in, nothing_held,
+    row_in, take_back,
+};
 use crate::in_order::{InOrder, in_order};
 use crate::next::next_in;
 use crate::places::Places;
 use ox_block::OutPoint;
 use ox_rules::{Memory, OutRow, Place, Unplaced};
-use slab::Slab;
 use std::alloc::Global;
 use std::marker::Model;
 
@@ -47,13 +49,13 @@ impl Slots {
     {
         Slots {
             places: Places::new(alloc),
-            held: Slab::new(alloc),
+            held: nothing_held(alloc),
         }
     }
 
     /// How many slots there are, by which reading ahead is decided. It costs one step.
     pub(crate) fn len(&self) -> usize {
-        self.held.len()
+        count(&self.held)
     }
 
     /// The place of the slot at this outpoint. Where there is none, no row stands there.
@@ -95,7 +97,7 @@ impl Slots {
         ensures { (at : OutPoint) → outpoint_at self.now place ≡ Some at
             → option_copied result ≡ map.get (rows_of self.now) at }
     {
-        row_in(&self.held, place)
+        row_in(&self.held, place as usize)
     }
 
     /// Where a satoshi is in the row of the slot at this place. `None` where the row doesn't hold
@@ -138,10 +140,7 @@ impl Slots {
 
     /// Reads a part of the slot at this place.
     pub(crate) fn glance(&self, place: u32) -> u32 {
-        match self.held.get(place as usize) {
-            Some(slot) => slot.at.index.wrapping_add(part_of(slot.row.as_ref())),
-            None => 0,
-        }
+        glance_in(&self.held, place)
     }
 
     /// Changes what the slot at this place holds, and answers what it held.
@@ -163,13 +162,9 @@ impl Slots {
         ensures others { (p : ℕ) → p ≢ place → slot_at self.new p ≡ slot_at self.old p }
         ensures filled { KeepRows self.old self.new }
     {
-        let Some(slot) = self.held.get(place as usize) else {
-            return;
-        };
-        if slot.row.is_none() {
-            let at = slot.at;
+        if let Some(at) = empty_in(&self.held, place) {
             self.places.remove(&at, place);
-            vacate(&mut self.held, place);
+            let _none = take_back(&mut self.held, place);
         }
     }
 
@@ -203,13 +198,5 @@ impl Slots {
                 None => unreachable!(),
             },
         }
-    }
-}
-
-/// A part of what is read of a row.
-fn part_of(row: Option<&OutRow>) -> u32 {
-    match row {
-        Some(row) => row.height.wrapping_add(u32::from(row.sats.is_empty())),
-        None => 0,
     }
 }

@@ -1,5 +1,5 @@
 use Rattle.std.proofs.Common.{rules, refl, ◌≡◌, ◌∙◌, ap, Some}
-use Rattle.ox_outputs.specs.declared.held.Slot.{Slot}
+use Rattle.ox_outputs.specs.Slots.{Slot}
 use Rattle.ox_outputs.specs.Slots.{SlotList, outpoint_at, put_slot, rows_of}
 use Rattle.ox_outputs.proofs.PlaceLemmas.{IsNowhere, exchanged, made, given_back, row_with, rows_put, rows_alike, outpoints_stay, placed_same, found_so}
 use Rattle.ox_outputs.proofs.slots.Slots.fill.Goals as goal
