@@ -1,0 +1,7 @@
+//! Lab.
+#![tactic(auto)]
+
+mod cell;
+mod cells;
+
+pub use cells::Cells;
