@@ -1,26 +1,21 @@
-//! What `/inscription/{id}` and `/inscriptions/{page}` say.
+//! What `/inscription/{id}` says.
 
-ghost use Rattle.std.specs.Prelude.{◌≡◌, ◌<◌, ◌≤◌, IfOk, IfSome, Some, length, map, option_map};
+ghost use Rattle.std.specs.Prelude.{◌≡◌, ◌<◌, IfOk, IfSome, Some, length, map, option_map};
 ghost use Rattle.std.specs.Prelude.{slice_get};
 ghost use Rattle.std.specs.Option.{option_and_then};
 ghost use Rattle.serde_json.specs.Data.{array};
 ghost use Rattle.serde_json.specs.View.{items_of};
 ghost use Rattle.serde_json.specs.Written.{compact_text};
 ghost use Rattle.ox_replies.specs.Ask.{inscription_at};
-ghost use Rattle.ox_replies.specs.Inscriptions.{id_tree, inscription_id, inscription_tree};
+ghost use Rattle.ox_replies.specs.Inscriptions.{id_tree, inscription_tree};
 ghost use Rattle.ox_replies.specs.Named.{inscription_named};
-ghost use Rattle.ox_replies.specs.Pages.{page_tree};
-ghost use Rattle.ox_replies.specs.Texts.{number_in};
 ghost use Rattle.ox_replies.specs.Values.{count, hex, or_null, text_or_null};
 ghost use Rattle.ox_model.specs.Where.{where_is};
-ghost use Rattle.ox_query.specs.Paged.{rows_between};
 ghost use Rattle.ox_query.specs.Written.{Adds, tokens_of};
 
 use crate::bodies::Body;
 use crate::ids::{write_children, write_id};
 use crate::marks::write_marks;
-use crate::pages::{page_of, write_page_end};
-use crate::parts::number;
 use crate::sat::write_place;
 use crate::values::{write_count_or_null, write_hex};
 use ox_bytes::{Bytes, Memory};
@@ -170,60 +165,6 @@ pub(crate) fn inscription_body<V: View>(
 {
     match number_named(live, part) {
         Some(n) => Ok(Some(row_body(alloc, live, n, live.inscription(n))?)),
-        None => Ok(None),
-    }
-}
-
-/// Writes the ids of the inscriptions from one up to another, without that.
-fn write_row_ids<V: View>(out: &mut Body, live: &V, first: u32, end: u32)
-    requires rising { first ≤ end }
-    requires there { end ≤ length (V.index live.now).inscriptions }
-    ensures { Adds out.old out.new (tokens_of (array (items_of
-        (map inscription_id (rows_between (V.index live.now).inscriptions first end))))) }
-{
-    out.begin_array();
-    for n in first..end {
-        write_id(out, &live.inscription(n).id);
-    }
-    out.end_array();
-}
-
-/// Writes a page of inscriptions.
-fn write_page<V: View>(out: &mut Body, live: &V, page: u64)
-    ensures { Adds out.old out.new
-        (tokens_of (page_tree inscription_id (V.index live.now).inscriptions page)) }
-{
-    let rows = page_of(page, live.inscriptions());
-    out.begin_object();
-    out.key("ids");
-    write_row_ids(out, live, rows.first, rows.end);
-    write_page_end(out, rows.more, page);
-    out.end_object();
-}
-
-/// The body of a page of inscriptions.
-fn page_body<V: View>(alloc: Global, live: &V, page: u64) -> Result<Bytes, Memory>
-    ensures { IfOk result (λ body. body
-        ≡ compact_text (page_tree inscription_id (V.index live.now).inscriptions page)) }
-{
-    let mut out = Body::new(alloc);
-    write_page(&mut out, live, page);
-    out.into_bytes()
-}
-
-/// The page of inscriptions whose number a part spells, if any. `Memory` where there is none for
-/// it.
-pub(crate) fn inscription_page_body<V: View>(
-    alloc: Global,
-    live: &V,
-    part: &[u8],
-) -> Result<Option<Bytes>, Memory>
-    ensures { IfOk result (λ body. body ≡ option_map compact_text
-        (option_map (page_tree inscription_id (V.index live.now).inscriptions)
-        (number_in part.now))) }
-{
-    match number(part) {
-        Some(page) => Ok(Some(page_body(alloc, live, page)?)),
         None => Ok(None),
     }
 }

@@ -9,6 +9,7 @@ mod bodies;
 mod content;
 mod ids;
 mod inscription;
+mod inscription_page;
 mod marks;
 mod output;
 mod pages;
