@@ -26,5 +26,5 @@ mod values;
 
 pub use address::answer_address;
 pub use ox_bytes::Memory;
-pub use parts::hash;
+pub use parts::{hash, outpoint};
 pub use replies::{answer, answer_by, error_reply};

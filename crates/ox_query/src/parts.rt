@@ -76,7 +76,7 @@ fn sides(part: &[u8]) -> Option<(&[u8], &[u8])>
 
 /// The outpoint that a part spells, if any: its transaction's id as it is printed, a colon, and
 /// its index.
-pub(crate) fn outpoint(part: &[u8]) -> Option<OutPoint>
+pub fn outpoint(part: &[u8]) -> Option<OutPoint>
     ensures { result ≡ outpoint_in part.now }
 {
     let (digits, rest) = sides(part)?;
