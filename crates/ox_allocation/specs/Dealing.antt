@@ -78,7 +78,7 @@ abbrev pub with_rest : List TxOut → Allocation → Option ℕ → List Balance
 with_rest outputs hands (Some place) left = with_gifts outputs hands (gifts_for place left)
 with_rest outputs hands None left = record hands { burned = with_all hands.burned left }
 
--- all of a pool in the hand of an heir's output, or burned where that has OP_RETURN or there is none
+-- all of a pool in the hand of an heir's output, or burned where it has OP_RETURN or there is none
 abbrev pub whole_of : List TxOut → Option ℕ → List Balance → Allocation
 whole_of outputs None pool = record { given = replicate (length outputs) []; burned = pool }
 whole_of outputs (Some place) pool =

@@ -37,19 +37,19 @@ const GROWN: u8 = 3;
 impl Store {
     ghost use Rattle.ox_files.specs.Stands.{stands};
 
-    /// Makes a store of version 2 one of version 3: its stack is written into the other file, of the
-    /// next generation, in pieces; that takes the place of the current one, and the gate of that one
+    /// Makes a store of version 2 one of version 3: its stack goes into the other file, of the
+    /// next generation, in pieces; that takes the current one's place, and the gate of that one
     /// is closed. At `Ok` it is on the disk: each crash then leaves files of version 3 that stand
     /// for the stack. Nothing leads back.
     ///
     /// It begins with a sync (`fsync`) of both files. At any moment of the call a crash leaves what
-    /// it might have left before it, or files that stand for the stack that they stood for. No event
+    /// it might have left before, or files that stand for the stack that they stood for. No event
     /// of a channel is logged.
     ///
     /// Where the files are no store of version 2 which another file can follow the first test that
     /// fails decides: `NotStore`, with the file and the place of that test. These are the tests of
     /// `open`, with one more between that of the version, at 6, and that of the body: at 10 the
-    /// generation may not be the greatest. Nothing was written then. `Halt` with `Disk` only where a
+    /// generation may not be the greatest. Nothing is written then. `Halt` with `Disk` only where a
     /// call on a file failed, and with `Memory` where there is none for the store.
     pub fn grow<S: Site>(alloc: Global, site: &mut S) -> Result<Store, GrowFault>
         ensures grown { IsTrue (S.told site.old)
@@ -115,7 +115,7 @@ fn open_growing<S: Site>(alloc: Global, site: &mut S) -> Result<Store, OpenFault
     }
 }
 
-/// Turns a chain and its tail, whose generation another one can follow, to version 3, and closes the
+/// Turns a chain and its tail, whose generation another can follow, to version 3, and closes the
 /// file that was current. At any moment of the call a crash leaves files that stand for the chain.
 fn turn_grown<S: Site>(
     alloc: Global,
@@ -161,7 +161,7 @@ fn grown(head: &Head) -> Head
     }
 }
 
-/// Closes the file that was current before a turn. `Halt` with `Memory` where there was none for the
+/// Closes the file that was current before a turn. `Halt` with `Memory` where there is none for the
 /// turn.
 fn shut_old<S: Site>(turned: Turned, site: &mut S) -> Result<Tail, GrowFault>
     requires { IsTrue (S.told site.old) → Holds S.Site (tail_in turned) site.old }

@@ -105,7 +105,7 @@ impl Ready {
     ///
     /// At `Ok` the command is on the disk: each crash then leaves files that have it. At any moment
     /// of the call a crash leaves files that stand for the stack before the command or for the one
-    /// after it. No event of a channel is logged. `DiskFault` only where a call on a file failed; the
+    /// after it. No channel's event is logged. `DiskFault` only where a call on a file failed; the
     /// store is gone then.
     pub fn commit<S: Site>(self, site: &mut S) -> Result<Store, DiskFault>
         requires { IsTrue (S.told site.old) → Holds S.Site self.tail site.old }
@@ -117,7 +117,7 @@ impl Ready {
         // The other file is current, with the next generation and no record.
         ensures turned { IsFileDue self.tail
             → IfOk result (λ store. HasTurned self.tail store.tail) }
-        // At version 3 the same file with one record more; or, where a turn pays behind that record,
+        // At version 3 the same file with one record more; or, where a turn pays behind that one,
         // the other file, with the next generation and no record.
         ensures went_on { self.tail.head.version ≡ 3
             → IfOk result (λ store. HasGoneOn self.tail store.tail) }

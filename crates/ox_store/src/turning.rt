@@ -33,7 +33,7 @@ pub(crate) enum Turned {
 
 /// Writes the stack of this chain, which the files stand for, into the other file where that pays.
 /// At any moment of the call a crash leaves files that stand for it. Where there is no memory for
-/// it the current file stays. `DiskFault` only where a call on a file failed; the tail is gone then.
+/// it the current file stays. `DiskFault` only where a call on a file failed; the tail is gone.
 pub(crate) fn turn_where_due<S: Site>(
     alloc: Global,
     chain: &Chain,

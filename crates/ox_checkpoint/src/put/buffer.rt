@@ -62,7 +62,7 @@ pub(crate) trait Rows {
     fn len(&self) -> usize
         ensures { result ≡ length (items self.now) };
 
-    /// Puts the row at this place, from 0 on, behind bytes. `Memory` where there is none for it, and
+    /// Puts the row at this place, from 0 on, behind bytes. `Memory` where there is none, and
     /// where a list in it has more items than 4 bytes can count.
     fn put_row(&self, n: usize, bytes: &mut Bytes) -> Result<(), Memory>
         requires within { n < length (items self.now) }
