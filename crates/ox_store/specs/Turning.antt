@@ -70,4 +70,5 @@ MayHaveTurned old new = IsSameFile old new ⊎ (MayTurn old × HasTurned old new
 -- the next generation and no record
 abbrev pub HasGoneOn : Kept → Kept → Type 0
 HasGoneOn old new =
-    HasOneMore old new ⊎ ((after : Kept) × HasOneMore old after × MayTurn after × HasTurned after new)
+    HasOneMore old new
+    ⊎ ((after : Kept) × HasOneMore old after × MayTurn after × HasTurned after new)
