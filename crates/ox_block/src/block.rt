@@ -4,7 +4,7 @@ use crate::lists::{Inputs, Outs, Txs};
 use crate::script::Script;
 use crate::witness::Witness;
 use ox_bytes::Bytes;
-use ox_shards::{ID_MOST, ID_SHARDS, Sharded, shard_of, tag_of};
+use ox_shards::{Sharded, spread_of, tag_of};
 
 /// What names a transaction: SHA-256 twice over its form without witnesses, in serialized order. It
 /// is shown in reversed order. Ids are ordered by their bytes.
@@ -23,19 +23,13 @@ pub struct OutPoint {
 
 /// By parts of the transaction's id, and the index.
 impl Sharded for OutPoint {
-    ghost use Rattle.ox_block.specs.Keys.{outpoint_shard, outpoint_tag};
+    ghost use Rattle.ox_block.specs.Keys.{outpoint_spread, outpoint_tag};
     ghost use Rattle.ox_shards.specs.Laws.{ids_alike, ids_tagged};
 
-    ghost SHARDS = { 65536 };
+    ghost spread = { outpoint_spread };
 
-    const SHARDS: usize = ID_SHARDS;
-
-    const MOST: usize = ID_MOST;
-
-    ghost shard = { outpoint_shard };
-
-    fn shard(&self) -> usize {
-        shard_of(&self.txid.0, self.index)
+    fn spread(&self) -> u64 {
+        spread_of(&self.txid.0, self.index)
     }
 
     ghost alike = { λ a b. ids_alike a.txid.0 b.txid.0 a.index b.index };
@@ -50,7 +44,7 @@ impl Sharded for OutPoint {
 }
 
 /// An input: the output that it spends, and what allows it to.
-#[derive(Debug, Drop)]
+#[derive(Drop)]
 pub struct TxIn {
     /// The output that is spent.
     pub from: OutPoint,
@@ -63,7 +57,7 @@ pub struct TxIn {
 }
 
 /// An output: satoshis, and the script that locks them.
-#[derive(Debug, Drop)]
+#[derive(Drop)]
 pub struct TxOut {
     /// How many satoshis.
     pub value: u64,
@@ -72,7 +66,6 @@ pub struct TxOut {
 }
 
 /// A transaction.
-#[derive(Debug)]
 pub struct Tx {
     /// The version.
     pub version: u32,
@@ -100,7 +93,7 @@ impl Drop for Tx {
 }
 
 /// The 80 bytes of a block's header, field by field. Hashes are in serialized order.
-#[derive(Clone, Copy, Debug, PartialEq, Eq)]
+#[derive(Clone, Copy, PartialEq, Eq)]
 pub struct Header {
     /// The version.
     pub version: u32,
@@ -117,7 +110,6 @@ pub struct Header {
 }
 
 /// A block: a header and its transactions, the coinbase first.
-#[derive(Debug)]
 pub struct Block {
     /// The header.
     pub header: Header,

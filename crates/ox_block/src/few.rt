@@ -14,7 +14,6 @@ const ROOM: usize = 4;
 
 /// Values in an order, of which one or two take no memory of their own. Contracts see the list of
 /// them.
-#[derive(Debug)]
 pub struct Few<T> {
     alloc: Global,
     pub(crate) form: Form<T>,
@@ -31,7 +30,7 @@ impl<T: Drop> Drop for Few<T> {
 }
 
 /// What values are kept as.
-#[derive(Debug, Drop)]
+#[derive(Drop)]
 pub(crate) enum Form<T> {
     /// No value.
     Empty,

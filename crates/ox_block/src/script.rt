@@ -12,13 +12,13 @@ const ROOM: usize = 36;
 
 /// The script that locks an output. Contracts see it as the list of its bytes. One of up to 36
 /// bytes, as nearly all are, takes no memory of its own.
-#[derive(Debug, Drop)]
+#[derive(Drop)]
 pub struct Script {
     form: Form,
 }
 
 /// What a script is kept as.
-#[derive(Debug, Drop)]
+#[derive(Drop)]
 enum Form {
     /// So many bytes, the first of these.
     Inside(u8, [u8; ROOM]),

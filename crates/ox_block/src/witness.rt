@@ -14,7 +14,7 @@ use std::marker::Model;
 
 /// A witness stack: an input's byte strings. Contracts see the list of them. However many there
 /// are, they stand in one piece of memory, each behind its length, as they stand in the block.
-#[derive(Debug, Drop)]
+#[derive(Drop)]
 pub struct Witness {
     count: usize,
     bytes: Vec<u8>,

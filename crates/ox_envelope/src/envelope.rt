@@ -9,7 +9,7 @@ use std::marker::Model;
 
 /// What an envelope has between its opening and its OP_ENDIF. Four pushes take no memory of their
 /// own: most envelopes have a content type alone, and a body of one push.
-#[derive(Debug, Drop)]
+#[derive(Drop)]
 pub struct Envelope<'a> {
     items: SmallVec<&'a [u8], 4>,
     numbered: bool,
@@ -75,7 +75,7 @@ impl<'a> Envelope<'a> {
 }
 
 /// The envelopes of a script, from the first to the last. Contracts see the list of them.
-#[derive(Debug, Drop)]
+#[derive(Drop)]
 pub struct Envelopes<'a> {
     items: Vec<Envelope<'a>>,
 }

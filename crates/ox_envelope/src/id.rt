@@ -8,11 +8,11 @@ ghost use Rattle.ox_script.specs.Script.{little_endian};
 ghost use Rattle.ox_envelope.specs.Id.{is_index, is_number, id_of_value, id_of_text, id_text};
 
 use itoa::Buffer;
-use ox_shards::{ID_MOST, ID_SHARDS, Sharded, shard_of, tag_of};
+use ox_shards::{Sharded, spread_of, tag_of};
 
 /// The id of an inscription: the transaction that revealed it, and which of that transaction's
 /// envelopes it is.
-#[derive(Clone, Copy, Debug, PartialEq, Eq, PartialOrd, Ord)]
+#[derive(Clone, Copy, PartialEq, Eq, PartialOrd, Ord)]
 pub struct InsId {
     /// The transaction's id in serialized byte order, the reverse of what is printed.
     pub txid: [u8; 32],
@@ -22,19 +22,13 @@ pub struct InsId {
 
 /// By parts of the id of the transaction that revealed the inscription, and the index.
 impl Sharded for InsId {
-    ghost use Rattle.ox_shards.specs.Keys.{shard_of, tag_of};
+    ghost use Rattle.ox_shards.specs.Keys.{spread_of, tag_of};
     ghost use Rattle.ox_shards.specs.Laws.{ids_alike, ids_tagged};
 
-    ghost SHARDS = { 65536 };
+    ghost spread = { λ id. spread_of id.txid id.index };
 
-    const SHARDS: usize = ID_SHARDS;
-
-    const MOST: usize = ID_MOST;
-
-    ghost shard = { λ id. shard_of id.txid id.index };
-
-    fn shard(&self) -> usize {
-        shard_of(&self.txid, self.index)
+    fn spread(&self) -> u64 {
+        spread_of(&self.txid, self.index)
     }
 
     ghost alike = { λ a b. ids_alike a.txid b.txid a.index b.index };

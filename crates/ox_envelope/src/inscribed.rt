@@ -16,7 +16,7 @@ use std::alloc::Global;
 pub type Ids = List<InsId>;
 
 /// What an envelope says: its fields by their tags, and its body.
-#[derive(Debug, Drop)]
+#[derive(Drop)]
 pub struct Inscribed {
     /// Tag 1, the first value.
     pub content_type: Option<Bytes>,

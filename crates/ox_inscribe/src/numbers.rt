@@ -14,7 +14,7 @@ use std::collections::BTreeMap;
 use std::marker::Model;
 
 /// Numbers in an order. One takes no memory of its own. Contracts see the list.
-#[derive(Debug, Drop)]
+#[derive(Drop)]
 pub(crate) struct Numbers {
     items: SmallVec<u32, 1>,
 }

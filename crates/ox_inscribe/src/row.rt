@@ -8,7 +8,6 @@ use ox_envelope::{Ids, InsId};
 
 /// An inscription: what its envelope says, and where it was made. Its sequence is its place among
 /// all rows, from 0.
-#[derive(Debug)]
 pub struct InsRow {
     /// The transaction that revealed it, and how many of that transaction's envelopes come before.
     pub id: InsId,

@@ -10,7 +10,7 @@ use std::rc::Rc;
 
 /// A row with one or more owners in one thread, in memory once. Contracts see the row, so that a
 /// list of shared rows is a list of rows.
-#[derive(Debug, Drop)]
+#[derive(Drop)]
 pub struct SharedRow {
     row: Rc<InsRow>,
 }

@@ -13,7 +13,7 @@ use ox_script::tapscript_place;
 use std::alloc::Global;
 
 /// An envelope, and where it stands.
-#[derive(Debug, Drop)]
+#[derive(Drop)]
 pub(crate) struct Sighting {
     pub(crate) says: Inscribed,
     /// The place of its input.

@@ -1,6 +1,6 @@
 //! What a runestone says.
 
-ghost use Rattle.std.specs.Prelude.{refl};
+ghost use Rattle.std.specs.Prelude.{◌+◌, ◌*◌, ◌%◌, ◌^◌};
 
 use ox_bytes::List;
 use ox_shards::Sharded;
@@ -15,29 +15,29 @@ pub struct RuneId {
     pub tx: u32,
 }
 
-/// Runes are few: one shard, all of them in the ordered map.
+/// By the place of the transaction and the height.
 impl Sharded for RuneId {
-    ghost SHARDS = { 1 };
+    ghost use Rattle.ox_shards.specs.Laws.{numbers_alike};
 
-    const SHARDS: usize = 1;
+    ghost spread = { λ id. (id.block * 2 ^ 12 % 2 ^ 64 + id.tx) % 2 ^ 64 };
 
-    const MOST: usize = 0;
-
-    ghost shard = { λ _. 0 };
-
-    fn shard(&self) -> usize {
-        0
+    fn spread(&self) -> u64 {
+        self.block
+            .wrapping_mul(4_096)
+            .wrapping_add(u64::from(self.tx))
     }
 
-    ghost alike = { λ _ _ _. refl };
+    ghost alike = { λ a b. numbers_alike
+        (λ block tx. (block * 2 ^ 12 % 2 ^ 64 + tx) % 2 ^ 64) a.block b.block a.tx b.tx };
 
-    ghost tag = { λ _. 0 };
+    ghost tag = { λ id. id.block % 2 ^ 32 };
 
     fn tag(&self) -> u32 {
-        0
+        (self.block % (1 << 32)) as u32
     }
 
-    ghost same_tag = { λ _ _ _. refl };
+    ghost same_tag = { λ a b. numbers_alike (λ block _. block % 2 ^ 32)
+        a.block b.block a.tx b.tx };
 }
 
 /// The terms on which a rune is minted.

@@ -1,3 +1,5 @@
+pub mod LineLemmas
 pub mod ListLemmas
 pub mod ShardLemmas
+pub mod SplitLemmas
 pub mod TagLemmas

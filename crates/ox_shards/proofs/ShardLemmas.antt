@@ -1,6 +1,6 @@
 -- What lists and the ordered map behind them have at a key.
-use Rattle.std.proofs.Common.{◌≡◌, ◌≢◌, ◌∙◌, ℕ, zero, suc, ◌<◌, Bool, true, false, cond, List, [], ◌∷◌, ◌++◌, length, length-set, slice_set, get_or, Option, Some, None, Ordering, refl, sym, ap, subst, true≢false, inl, inr, arith}
-use Rattle.std.specs.Prelude.{◌⊎◌, IsSome, OnOk, OnErr}
+use Rattle.std.proofs.Common.{◌≡◌, ◌≢◌, ◌∙◌, ℕ, zero, suc, ◌<◌, ◌≤◌, Bool, true, false, cond, List, [], ◌∷◌, ◌++◌, length, length-set, slice_set, get_or, Option, Some, None, Ordering, refl, sym, ap, subst, true≢false, inl, inr, arith}
+use Rattle.std.specs.Prelude.{◌⊎◌, IsSome, IsOk, is_err, OnOk, OnErr}
 use Rattle.std.specs.declared.result.Result.{Result}
 use Rattle.std.specs.declared.result.Result.TheVariants.{Ok, Err}
 use Rattle.std.specs.Ordering.{is_eq}
@@ -9,33 +9,26 @@ use Rattle.std.specs.List.{IsDistinct}
 use Rattle.std.specs.BTreeMap.{is_at}
 use Rattle.std.proofs.lemmas.Bool.{cases_eq}
 use Rattle.ox_shards.specs.Shards.{Entries, value_at, value_with, joined, entries_of, items_at, IsSound, Changes, AreShards}
+use Rattle.ox_shards.proofs.LineLemmas.{side}
 use Rattle.ox_shards.proofs.ListLemmas.{at-append, or_none, none_or}
 
 -- ---- many lists
 
-pub no_items : {X : Type 0} (xs : List X) → length xs ≡ 0 → xs ≡ []
-no_items [] none = refl
-no_items (x ∷ xs) none = absurd (cc none)
-
-both_none : {X : Type 0} (a b : List X) → a ++ b ≡ [] → (a ≡ []) × (b ≡ [])
-both_none [] b is = (refl, is)
-both_none (x ∷ a) b is = absurd (cc is)
-
 module _ {K V : Type 0} where
   -- the list that has changed, and another one
-  set_here : (lists : List (Entries K V)) (i : ℕ) (n : Entries K V) → i < length lists → items_at (slice_set lists i n) i ≡ n
+  pub set_here : (lists : List (Entries K V)) (i : ℕ) (n : Entries K V) → i < length lists → items_at (slice_set lists i n) i ≡ n
   set_here [] i n low = absurd (omega arith)
   set_here (l ∷ lists) zero n low = refl
   set_here (l ∷ lists) (suc i) n low = set_here lists i n (omega arith)
 
-  set_elsewhere : (lists : List (Entries K V)) (i j : ℕ) (n : Entries K V) → i ≢ j → items_at (slice_set lists i n) j ≡ items_at lists j
+  pub set_elsewhere : (lists : List (Entries K V)) (i j : ℕ) (n : Entries K V) → i ≢ j → items_at (slice_set lists i n) j ≡ items_at lists j
   set_elsewhere [] i j n other = refl
   set_elsewhere (l ∷ lists) zero zero n other = absurd (other refl)
   set_elsewhere (l ∷ lists) zero (suc j) n other = refl
   set_elsewhere (l ∷ lists) (suc i) zero n other = refl
   set_elsewhere (l ∷ lists) (suc i) (suc j) n other = set_elsewhere lists i j n (λ same. other (ap suc same))
 
-  items_there : (lists : List (Entries K V)) (i : ℕ) (p : Entries K V) → i < length lists → p ≡ get_or lists i p → items_at lists i ≡ p
+  pub items_there : (lists : List (Entries K V)) (i : ℕ) (p : Entries K V) → i < length lists → p ≡ get_or lists i p → items_at lists i ≡ p
   items_there [] i p low is = absurd (omega arith)
   items_there (l ∷ lists) zero p low is = sym is
   items_there (l ∷ lists) (suc i) p low is = items_there lists i p (omega arith) is
@@ -46,13 +39,30 @@ module _ {K V : Type 0} where
   same_joined (l ∷ lists) zero p n low there same = ap (λ (es : Entries K V). es ++ joined lists) (same ∙ there)
   same_joined (l ∷ lists) (suc i) p n low there same = ap (λ (es : Entries K V). l ++ es) (same_joined lists i p n (omega arith) there same)
 
-  -- each of lists that have no entries has none
-  pub nothing_at : (lists : List (Entries K V)) (i : ℕ) → joined lists ≡ [] → items_at lists i ≡ []
-  nothing_at [] i empty = refl
-  nothing_at (l ∷ lists) zero empty = (both_none l (joined lists) empty).0
-  nothing_at (l ∷ lists) (suc i) empty = nothing_at lists i (both_none l (joined lists) empty).1
+  -- an empty list behind them
+  pub joined_more : (lists : List (Entries K V)) (new : Entries K V) → new ≡ [] → joined (lists ++ new ∷ []) ≡ joined lists
+  joined_more [] new is = ap (λ (es : Entries K V). es ++ []) is
+  joined_more (l ∷ lists) new is = ap (λ (es : Entries K V). l ++ es) (joined_more lists new is)
+
+  pub items_more : (lists : List (Entries K V)) (new : Entries K V) → new ≡ [] → (i : ℕ) → items_at (lists ++ new ∷ []) i ≡ items_at lists i
+  items_more [] new is zero = is
+  items_more [] new is (suc i) = refl
+  items_more (l ∷ lists) new is zero = refl
+  items_more (l ∷ lists) new is (suc i) = items_more lists new is i
 
 -- ---- what they have at a key
+
+-- what is made without memory where it is there fails only where it isn't
+pub too_few : {A E : Type 0} (r : Result A E) (n count : ℕ) → (count ≤ n → IsOk r) → is_err r ≡ true → n < count
+too_few r n count present failed = by (side n count) where
+  no : {A E : Type 0} (r : Result A E) → IsOk r → is_err r ≡ true → ⊥
+  no (Ok x) ok is = true≢false (sym is)
+  no (Err e) ok is = true≢false (sym ok)
+
+  by : (n < count) ⊎ ((n ≡ count) ⊎ (count < n)) → n < count
+  by (inl less) = less
+  by (inr (inl same)) = absurd (no r (present (omega (arith, same))) failed)
+  by (inr (inr more)) = absurd (no r (present (omega (arith, more))) failed)
 
 some_or_none : {V : Type 0} (o : Option V) → (o ≡ None) ⊎ IsSome o
 some_or_none None = inl refl
@@ -93,12 +103,12 @@ module _ {K V : Type 0} (cmp : K → K → Ordering) where
   nothing_sound = record { distinct = tt; apart = λ key some. refl }
 
   module _ (shard : K → ℕ) (count : ℕ) where
-    pub no_shards : (lists : List (Entries K V)) (others : Entries K V) → lists ≡ [] → others ≡ [] → AreShards cmp shard count lists others
-    no_shards lists others none nor =
+    pub no_shards : (lists : List (Entries K V)) (others : Entries K V) → count ≡ 1 → lists ≡ [] → others ≡ [] → AreShards cmp shard count lists others
+    no_shards lists others one none nor =
         subst (λ (ls : List (Entries K V)). AreShards cmp shard count ls others) (sym none)
         (subst (λ (es : Entries K V). AreShards cmp shard count [] es) (sym nor)
         (record {
-          all = λ some. absurd (omega (arith, some));
+          made = λ more. absurd (omega (arith, more, one));
           none = λ is. refl;
           own = λ index key some. absurd (true≢false (sym some));
           sound = λ index. nothing_sound;
@@ -106,16 +116,25 @@ module _ {K V : Type 0} (cmp : K → K → Ordering) where
 
     module _ (lists : List (Entries K V)) (others : Entries K V) (are : AreShards cmp shard count lists others) where
       -- what they have at a key is what its list has, or else the ordered map
-      at_shard : (q : K) → value_at cmp (entries_of lists others) q ≡ value_with cmp (items_at lists (shard q)) others q
+      pub at_shard : (q : K) → value_at cmp (entries_of lists others) q ≡ value_with cmp (items_at lists (shard q)) others q
       at_shard q =
           at-append (is_at (cmp q)) (joined lists) others
           ∙ ap (λ v. option_or v (value_at cmp others q)) (at_list lists (shard q) q (λ i some. are.own i q some))
 
+      -- while fewer lists are made than there are, nothing stands anywhere
+      pub nothing_there : length lists < count → entries_of lists others ≡ []
+      nothing_there few = by lists refl where
+        by : (ls : List (Entries K V)) → lists ≡ ls → entries_of lists others ≡ []
+        by [] is = ap (λ (l : List (Entries K V)). joined l ++ others) is ∙ are.none (ap length is)
+        by (l ∷ ls) is =
+            let some : 0 < length lists = subst (λ (l : List (Entries K V)). 0 < length l) (sym is) (omega arith) in
+            absurd (omega (arith, few, are.made (omega (arith, few, some))))
+
       -- lists that are alike, number by number
-      pub same_shards : (new : List (Entries K V)) → length new ≡ count → 0 < length new → ((i : ℕ) → items_at new i ≡ items_at lists i) → AreShards cmp shard count new others
-      same_shards new whole some same = record {
-        all = λ _. whole;
-        none = λ is. absurd (omega (arith, is, some));
+      pub same_shards : (new : List (Entries K V)) → length lists ≤ length new → ((i : ℕ) → items_at new i ≡ items_at lists i) → AreShards cmp shard count new others
+      same_shards new kept same = record {
+        made = λ more. omega (arith, kept, are.made more);
+        none = λ is. are.none (omega (arith, is, kept));
         own = λ i q is. are.own i q (subst (λ (es : Entries K V). IsSome (value_at cmp es q)) (same i) is);
         sound = λ i. subst (λ (es : Entries K V). IsSound cmp es others) (sym (same i)) (are.sound i);
       }
@@ -142,16 +161,16 @@ module _ {K V : Type 0} (cmp : K → K → Ordering) where
         pub held_at : (v : Option V) → v ≡ value_with cmp p others key → v ≡ value_at cmp es key
         held_at = its_value es stand key p (sym its_items)
 
-        whole : length (slice_set lists index n) ≡ count
-        whole = length-set lists index n ∙ are.all (omega (arith, low))
+        as_many : length lists ≤ length (slice_set lists index n)
+        as_many = omega (arith, length-set lists index n)
 
         some_lists : 0 < length (slice_set lists index n)
-        some_lists = subst (λ (l : ℕ). 0 < l) (sym (length-set lists index n)) (omega (arith, low))
+        some_lists = omega (arith, length-set lists index n, low)
 
         -- The list and the ordered map are as they were.
         module _ (new_others : Entries K V) (same : n ≡ p) (too : new_others ≡ others) where
           pub unchanged_shards : AreShards cmp shard count (slice_set lists index n) new_others
-          unchanged_shards = subst (λ (es : Entries K V). AreShards cmp shard count (slice_set lists index n) es) (sym too) (same_shards (slice_set lists index n) whole some_lists (λ i. by i (cases_eq index i))) where
+          unchanged_shards = subst (λ (es : Entries K V). AreShards cmp shard count (slice_set lists index n) es) (sym too) (same_shards (slice_set lists index n) as_many (λ i. by i (cases_eq index i))) where
             by : (i : ℕ) → (index ≡ i) ⊎ (index ≢ i) → items_at (slice_set lists index n) i ≡ items_at lists i
             by i (inl at) =
                 ap (items_at (slice_set lists index n)) (sym at) ∙ set_here lists index n low ∙ same
@@ -194,7 +213,7 @@ module _ {K V : Type 0} (cmp : K → K → Ordering) where
 
           pub changed_shards : AreShards cmp shard count (slice_set lists index n) new_others
           changed_shards = record {
-            all = λ _. whole;
+            made = λ more. omega (arith, as_many, are.made more);
             none = λ none. absurd (omega (arith, none, some_lists));
             own = λ i q some. own_at i q (cases_eq index i) some;
             sound = λ i. sound_at i (cases_eq index i);

@@ -40,7 +40,7 @@ module _ {K V : Type 0} (tag : K → ℕ) where
   tag_low tags es seen i are is low = omega (arith, low, ap length is, ap length are, length-map es (λ (e : K × V). tag e.0))
 
   module _ (tags : List ℕ) (es : Entries K V) (are : tags ≡ tags_of es) where
-    as_many : length tags ≡ length es
+    pub as_many : length tags ≡ length es
     as_many = ap length are ∙ length-map es (λ (e : K × V). tag e.0)
 
     -- a key stands where its tag does, and the other way round

@@ -4,7 +4,7 @@ use Rattle.std.specs.Ordering.{is_eq, nat_cmp, ordering_then}
 use Rattle.std.specs.declared.cmp.Ordering.TheVariants.{Less, Equal, Greater}
 use Rattle.std.specs.Cmp.Lexicographic.{slice_cmp}
 use Rattle.std.specs.FinMap.{nat_cmp-IsAntisymmetric, slice_cmp-IsAntisymmetric}
-use Rattle.ox_shards.specs.Keys.{shard_of, tag_of}
+use Rattle.ox_shards.specs.Keys.{spread_of, tag_of}
 
 -- the order of a transaction's id and an index: by the bytes of the id, and then by the index
 abbrev pub order : List ℕ → List ℕ → ℕ → ℕ → Ordering
@@ -29,12 +29,23 @@ same f a b i j equal =
     ap (λ id. f id i) (slice_cmp-IsAntisymmetric nat_cmp-IsAntisymmetric a b (left_tie _ _ equal))
     ∙ ap (f b) (nat_cmp-IsAntisymmetric i j (right_tie _ _ equal))
 
--- such keys that are equal stand in one shard
+-- such keys that are equal are spread by one number
 pub ids_alike : (a b : List ℕ) (i j : ℕ) → is_eq (order a b i j) ≡ true
-    → shard_of a i ≡ shard_of b j
-ids_alike a b i j = same shard_of a b i j
+    → spread_of a i ≡ spread_of b j
+ids_alike a b i j = same spread_of a b i j
 
 -- such keys that are equal have one tag
 pub ids_tagged : (a b : List ℕ) (i j : ℕ) → is_eq (order a b i j) ≡ true
     → tag_of a i ≡ tag_of b j
 ids_tagged a b i j = same tag_of a b i j
+
+-- what two numbers give is the same where they compare equal, one by one
+pub numbers_alike : (f : ℕ → ℕ → ℕ) (a b i j : ℕ)
+    → is_eq (ordering_then (nat_cmp a b) (nat_cmp i j)) ≡ true → f a i ≡ f b j
+numbers_alike f a b i j equal =
+    ap (λ n. f n i) (nat_cmp-IsAntisymmetric a b (left_tie _ _ equal))
+    ∙ ap (f b) (nat_cmp-IsAntisymmetric i j (right_tie _ _ equal))
+
+-- what a number gives is the same where it compares equal
+pub number_alike : (f : ℕ → ℕ) (a b : ℕ) → is_eq (nat_cmp a b) ≡ true → f a ≡ f b
+number_alike f a b equal = ap f (nat_cmp-IsAntisymmetric a b (right_tie Equal _ equal))

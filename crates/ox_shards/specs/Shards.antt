@@ -1,10 +1,10 @@
 -- A map in shards.
-use Rattle.std.specs.Prelude.{◌≡◌, ℕ, ◌<◌, true, false, List, [], ◌++◌, flat_map, length}
+use Rattle.std.specs.Prelude.{◌≡◌, ◌≢◌, ℕ, ◌<◌, ◌≤◌, Bool, true, false, not, List, [], ◌++◌, flat_map, length}
 use Rattle.std.specs.Prelude.{Option, None, IsSome, slice_get, unwrap_or}
 use Rattle.std.specs.declared.cmp.Ordering.{Ordering}
 use Rattle.std.specs.Ordering.{is_eq, eq_by_cmp}
 use Rattle.std.specs.Option.{option_or}
-use Rattle.std.specs.List.{IsDistinct}
+use Rattle.std.specs.List.{IsDistinct, filter}
 use Rattle.std.specs.Map.{lookup, keys_of}
 use Rattle.std.specs.BTreeMap.{is_at}
 
@@ -28,10 +28,6 @@ entries_of lists others = joined lists ++ others
 abbrev pub items_at : {K V : Type 0} → List (Entries K V) → ℕ → Entries K V
 items_at lists index = unwrap_or (slice_get lists index) []
 
--- there are no lists, or `count` of them
-abbrev pub NoneOrAll : {K V : Type 0} → ℕ → List (Entries K V) → Type 0
-NoneOrAll count lists = 0 < length lists → length lists ≡ count
-
 module _ {K V : Type 0} (cmp : K → K → Ordering) where
   -- the value at a key in a list, or else in the ordered map
   abbrev pub value_with : Entries K V → Entries K V → K → Option V
@@ -52,12 +48,27 @@ module _ {K V : Type 0} (cmp : K → K → Ordering) where
     pub in_others : (q : K) → is_eq (cmp key q) ≡ false
         → value_at cmp new_others q ≡ value_at cmp others q
 
-  -- There are no lists yet, and nothing in the ordered map, or `count` lists, and each has only
-  -- keys that stand in it, and none twice.
+  -- There are no lists yet, and nothing in the ordered map, or `count` lists at least, and each has
+  -- only keys that stand in it, and none twice.
   module _ (shard : K → ℕ) (count : ℕ) where
     pub record AreShards (lists : List (Entries K V)) (others : Entries K V) : Type 0 where
-      pub all : NoneOrAll count lists
+      pub made : 1 < count → count ≤ length lists
       pub none : length lists ≡ 0 → others ≡ []
       pub own : (index : ℕ) (key : K) → IsSome (value_at cmp (items_at lists index) key)
           → shard key ≡ index
       pub sound : (index : ℕ) → IsSound (items_at lists index) others
+
+module _ {K V : Type 0} (goes : K → Bool) where
+  -- the entries whose keys go, or stay
+  abbrev pub going : Entries K V → Entries K V
+  going list = filter (λ entry. goes entry.0) list
+
+  abbrev pub staying : Entries K V → Entries K V
+  staying list = filter (λ entry. not (goes entry.0)) list
+
+  -- From one list those entries whose keys go have moved to another.
+  pub record IsSplit (from last : ℕ) (old new : List (Entries K V)) : Type 0 where
+    pub stay : items_at new from ≡ staying (items_at old from)
+    pub go : items_at new last ≡ going (items_at old from)
+    pub rest : (index : ℕ) → index ≢ from → index ≢ last → items_at new index ≡ items_at old index
+    pub room : last < length new

@@ -1,10 +1,13 @@
-//! A hash table whose keys are hashes already: a key says in which of many short lists it stands.
-//! Those that find their list full stand in one ordered map.
+//! A hash table whose keys are hashes already: by a number of its own a key is led to one of many
+//! short lines, and the lines grow in number with the keys. Those that find their line full stand
+//! in one ordered map.
 #![tactic(auto)]
 
 mod keys;
+mod lines;
 mod shard;
 mod shards;
 
-pub use keys::{ID_MOST, ID_SHARDS, Sharded, shard_of, tag_of};
+pub use keys::{Sharded, spread_of, tag_of};
+pub use lines::Lines;
 pub use shards::Shards;

@@ -1,26 +1,28 @@
-//! One list of a map in shards.
+//! One line of a map.
 
-ghost use Rattle.std.specs.Prelude.{◌≡◌, ◌<◌, ℕ, [], ◌∷◌, ◌++◌, Some, OnOk, OnErr, IfErr, IfSome};
+ghost use Rattle.std.specs.Prelude.{◌≡◌, ◌<◌, ◌≤◌, ◌+◌, ℕ, [], ◌∷◌, ◌++◌, Some, OnOk, OnErr, IfErr, IfSome};
 ghost use Rattle.std.specs.Prelude.{length, map, option_map, slice_get, slice_index_or, slice_set};
 ghost use Rattle.std.specs.Prelude.{IsPermutation, vec_len, vec_capacity};
 ghost use Rattle.std.specs.List.{position};
 ghost use Rattle.std.specs.Option.{option_copied};
 ghost use Rattle.std.specs.BTreeMap.{is_at};
-ghost use Rattle.ox_shards.specs.Shards.{Entries, value_at};
+ghost use Rattle.ox_shards.specs.Lines.{is_last};
+ghost use Rattle.ox_shards.specs.Shards.{Entries, value_at, going, staying};
 
 use crate::keys::Sharded;
+use crate::lines::Lines;
 use smallvec::SmallVec;
 use std::alloc::{AllocError, AllocFailed, Global};
 use std::marker::Model;
 use std::mem;
 
-/// So many tags stand in the shard itself.
+/// So many tags stand in the line itself.
 const INSIDE: usize = 6;
 
 /// Keys with their values. The tags of the keys stand in front, so that a look-up reads four bytes
 /// of each key, and the whole of those keys alone whose tag is the same. The tags of up to six
-/// keys stand in the shard itself, so that a look-up that finds no such tag reads nothing else. A
-/// shard that has had more keys keeps its tags in memory of their own.
+/// keys stand in the line itself, so that a look-up that finds no such tag reads nothing else. A
+/// line that has had more keys keeps its tags in memory of their own.
 #[derive(Drop)]
 pub(crate) struct Shard<K: Sharded, V> {
     tags: SmallVec<u32, INSIDE>,
@@ -125,6 +127,57 @@ impl<K: Sharded, V> Shard<K, V> {
     {
         self.tags.swap_remove(place);
         self.entries.swap_remove(place).1
+    }
+
+    /// Moves the entries whose keys lead to the last line there. `AllocError` where there is no
+    /// memory for them: both lines are as they were.
+    pub(crate) fn part(&mut self, last: &mut Shard<K, V>, lines: &Lines) -> Result<(), AllocError>
+        requires { last.old ≡ [] }
+        ensures stay { OnOk result
+            (self.new ≡ staying (λ key. is_last lines.now (K.spread key)) self.old) }
+        ensures go { OnOk result
+            (last.new ≡ going (λ key. is_last lines.now (K.spread key)) self.old) }
+        ensures err { OnErr result ((self.new ≡ self.old) × (last.new ≡ [])) }
+    {
+        let most = self.tags.len();
+        last.tags.reserve_exact(most)?;
+        last.entries.reserve_exact(most)?;
+        deal(&mut self.entries, &mut last.entries, lines);
+        write_tags(&mut self.tags, &self.entries);
+        write_tags(&mut last.tags, &last.entries);
+        self.entries.shrink_to_fit();
+        last.entries.shrink_to_fit();
+        Ok(())
+    }
+}
+
+/// Moves the entries whose keys lead to the last line behind its own, where there is room for them.
+fn deal<K: Sharded, V>(from: &mut Vec<(K, V)>, last: &mut Vec<(K, V)>, lines: &Lines)
+    requires { vec_len last.old + vec_len from.old ≤ vec_capacity last.old }
+    ensures stay { from.new.items
+        ≡ staying (λ key. is_last lines.now (K.spread key)) from.old.items }
+    ensures go { last.new.items
+        ≡ last.old.items ++ going (λ key. is_last lines.now (K.spread key)) from.old.items }
+    ensures both { vec_len from.new + vec_len last.new ≡ vec_len from.old + vec_len last.old }
+{
+    let mut place = 0;
+    while place < from.len() {
+        if lines.is_last(from[place].0.spread()) {
+            last.push_reserved(from.remove(place));
+        } else {
+            place += 1;
+        }
+    }
+}
+
+/// Writes the tags of keys, in order, where there is room for them.
+fn write_tags<K: Sharded, V>(tags: &mut SmallVec<u32, INSIDE>, entries: &[(K, V)])
+    requires { length entries.now ≤ tags.old.capacity }
+    ensures { tags.new.items ≡ map (λ entry. K.tag entry.0) entries.now }
+{
+    tags.clear();
+    for entry in entries {
+        tags.push_reserved(entry.0.tag());
     }
 }
 

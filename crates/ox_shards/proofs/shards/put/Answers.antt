@@ -16,11 +16,11 @@ returns-in-Some-clause-ok g c =
     subst (λ l. Changes g.K.Ord.cmp c.args.list.now c.args.others.now.entries l c.args.others.now.entries c.args.key (Some c.args.value)) (sym (c.replace.ensures.replaced (c.args.key, c.args.value)))
     (changed_in_list g.met.K.Ord.total c.args.list.now c.args.others.now.entries c.requires c.args.key c.in-Some.place (c.args.key, c.args.value) c.args.value (sym c.in-Some.ensures))
 
-pub returns-then-len-MOST-clause-displaced : goal.returns-then-len-MOST-clause-displaced
-returns-then-len-MOST-clause-displaced g c = IfOk-weaker c.insert.result _ _ (λ v has. has ∙ sym (none_or _ _ (not_found (is_at (g.K.Ord.cmp c.args.key)) c.args.list.now (sym c.in_default.ensures)))) c.insert.ensures.old
+pub returns-then-len-ge-MOST-clause-displaced : goal.returns-then-len-ge-MOST-clause-displaced
+returns-then-len-ge-MOST-clause-displaced g c = IfOk-weaker c.insert.result _ _ (λ v has. has ∙ sym (none_or _ _ (not_found (is_at (g.K.Ord.cmp c.args.key)) c.args.list.now (sym c.in_default.ensures)))) c.insert.ensures.old
 
-pub returns-then-len-MOST-clause-ok : goal.returns-then-len-MOST-clause-ok
-returns-then-len-MOST-clause-ok g c = IfOk-weaker c.insert.result _ _ (λ _ has. changed_in_others g.met.K.Ord.total c.args.list.now c.args.others.now.entries c.requires c.args.key (not_found (is_at (g.K.Ord.cmp c.args.key)) c.args.list.now (sym c.in_default.ensures)) c.insert.new.self.entries (Some c.args.value) has.0) c.insert.ensures.updates
+pub returns-then-len-ge-MOST-clause-ok : goal.returns-then-len-ge-MOST-clause-ok
+returns-then-len-ge-MOST-clause-ok g c = IfOk-weaker c.insert.result _ _ (λ _ has. changed_in_others g.met.K.Ord.total c.args.list.now c.args.others.now.entries c.requires c.args.key (not_found (is_at (g.K.Ord.cmp c.args.key)) c.args.list.now (sym c.in_default.ensures)) c.insert.new.self.entries (Some c.args.value) has.0) c.insert.ensures.updates
 
 pub returns-clause-displaced : goal.returns-clause-displaced
 returns-clause-displaced g c =
@@ -34,8 +34,8 @@ returns-clause-ok g c =
     (not_found (is_at (g.K.Ord.cmp c.args.key)) c.args.list.now (sym c.in_default.ensures)) c.args.value
     (not_some (value_at g.K.Ord.cmp c.args.others.now.entries c.args.key) (search rules)))
 
-pub returns-then-len-MOST-clause-present : goal.returns-then-len-MOST-clause-present
-returns-then-len-MOST-clause-present g c = λ some.
+pub returns-then-len-ge-MOST-clause-present : goal.returns-then-len-ge-MOST-clause-present
+returns-then-len-ge-MOST-clause-present g c = λ some.
     ok_there c.insert.result (value_at g.K.Ord.cmp c.args.others.now.entries c.args.key) c.insert.ensures.absent
     (subst IsSome (none_or _ _ (not_found (is_at (g.K.Ord.cmp c.args.key)) c.args.list.now (sym c.in_default.ensures))) some)
 

@@ -1,12 +1,13 @@
-use Rattle.std.proofs.Common.{rules, arith, None}
+use Rattle.std.proofs.Common.{rules, arith, ◌∙◌, ap, None}
+use Rattle.ox_shards.specs.Lines.{line_of}
 use Rattle.ox_shards.proofs.ShardLemmas.{held_at, changed_shards, changed_at}
 use Rattle.ox_shards.proofs.shards.Shards.remove.Goals as goal
 
 pub invariant_of-self : goal.invariant_of-self
-invariant_of-self g c = changed_shards g.K.Ord.cmp g.K.Sharded.shard g.K.Sharded.SHARDS c.self.inside.lists.items c.self.inside.others.entries c.self.invariant _ c.self.view_is c.args.key.now c.shard-index.result c.shard-index.ensures.value c.index_mut.result.now c.take.new.list (search (rules, arith)) c.index_mut.ensures.value g.met.K.Sharded.alike c.take.new.others.entries None c.take.ensures.left
+invariant_of-self g c = changed_shards g.K.Ord.cmp (λ key. line_of c.self.inside.lines (g.K.Sharded.spread key)) c.self.inside.lines.count c.self.inside.lists.items c.self.inside.others.entries c.self.invariant _ c.self.view_is c.args.key.now c.line_of-index.result (c.line_of-index.ensures.value ∙ ap (line_of c.self.inside.lines) c.spread.ensures) c.index_mut.result.now c.take-taken.new.list (search (rules, arith)) c.index_mut.ensures.value (λ a b same. ap (line_of c.self.inside.lines) (g.met.K.Sharded.alike a b same)) c.take-taken.new.others.entries None c.take-taken.ensures.left
 
-pub returns-then-index-len-clause-taken : goal.returns-then-index-len-clause-taken
-returns-then-index-len-clause-taken g c = held_at g.K.Ord.cmp g.K.Sharded.shard g.K.Sharded.SHARDS c.self.inside.lists.items c.self.inside.others.entries c.self.invariant _ c.self.view_is c.args.key.now c.shard-index.result c.shard-index.ensures.value c.index_mut.result.now c.take.new.list (search (rules, arith)) c.index_mut.ensures.value c.take.result c.take.ensures.taken
+pub returns-clause-taken : goal.returns-clause-taken
+returns-clause-taken g c = held_at g.K.Ord.cmp (λ key. line_of c.self.inside.lines (g.K.Sharded.spread key)) c.self.inside.lines.count c.self.inside.lists.items c.self.inside.others.entries c.self.invariant _ c.self.view_is c.args.key.now c.line_of-index.result (c.line_of-index.ensures.value ∙ ap (line_of c.self.inside.lines) c.spread.ensures) c.index_mut.result.now c.take-taken.new.list (search (rules, arith)) c.index_mut.ensures.value c.take-taken.result c.take-taken.ensures.taken
 
-pub returns-then-index-len-clause-left : goal.returns-then-index-len-clause-left
-returns-then-index-len-clause-left g c = changed_at g.K.Ord.cmp g.K.Sharded.shard g.K.Sharded.SHARDS c.self.inside.lists.items c.self.inside.others.entries c.self.invariant _ c.self.view_is c.args.key.now c.shard-index.result c.shard-index.ensures.value c.index_mut.result.now c.take.new.list (search (rules, arith)) c.index_mut.ensures.value g.met.K.Sharded.alike c.take.new.others.entries None c.take.ensures.left
+pub returns-clause-left : goal.returns-clause-left
+returns-clause-left g c = changed_at g.K.Ord.cmp (λ key. line_of c.self.inside.lines (g.K.Sharded.spread key)) c.self.inside.lines.count c.self.inside.lists.items c.self.inside.others.entries c.self.invariant _ c.self.view_is c.args.key.now c.line_of-index.result (c.line_of-index.ensures.value ∙ ap (line_of c.self.inside.lines) c.spread.ensures) c.index_mut.result.now c.take-taken.new.list (search (rules, arith)) c.index_mut.ensures.value (λ a b same. ap (line_of c.self.inside.lines) (g.met.K.Sharded.alike a b same)) c.take-taken.new.others.entries None c.take-taken.ensures.left
