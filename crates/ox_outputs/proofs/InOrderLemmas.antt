@@ -1,30 +1,30 @@
 -- The rows of slots in the order of their outpoints.
-use Rattle.std.proofs.Common.{◌≡◌, ◌∙◌, ◌+◌, ℕ, zero, suc, Bool, true, false, cond, T, List, [], ◌∷◌, ◌++◌, map, refl, sym, ap, subst, arith, Option, Some, None, Ordering, inl, inr}
-use Rattle.std.specs.Prelude.{◌⊎◌, ◌&&◌, is_some, unwrap_or}
+use Rattle.std.proofs.Common.{get_or, ◌≡◌, ◌∙◌, ◌+◌, ◌<◌, ◌≤◌, ℕ, drop, length, zero, suc, Bool, true, false, cond, T, List, [], ◌∷◌, ◌++◌, map, refl, sym, ap, subst, arith, Option, Some, None, Ordering, inl, inr}
+use Rattle.std.specs.Prelude.{◌⊎◌, ◌&&◌, unwrap_or}
+use Rattle.std.specs.Option.{option_map}
 use Rattle.std.specs.List.{All, AllByRecursion, AllPairs, IsDistinct}
 use Rattle.std.specs.List.Sorted.{IsPermutation, IsSorted}
 use Rattle.std.specs.Map.{keys_of, lookup}
-use Rattle.std.specs.Ordering.{is_eq, is_lt, nat_cmp, ordering_reverse, ordering_then}
-use Rattle.std.specs.Cmp.Lexicographic.{slice_cmp}
+use Rattle.std.specs.Ordering.{is_eq, is_lt, ordering_reverse}
 use Rattle.std.specs.Cmp.{eq_by_cmp_equiv}
-use Rattle.std.specs.FinMap.{entries, entries_sorted, find, get, get-empty, get-entries, is_sorted, nat_cmp-IsAntisymmetric}
+use Rattle.std.specs.FinMap.{entries, entries_sorted, find, get, get-empty, get-entries, is_sorted}
 use Rattle.std.specs.FinMap.Entries.{below_all, same_entries}
 use Rattle.std.specs.declared.cmp.Ordering.TheVariants.{Less, Equal, Greater}
-use Rattle.std.proofs.lemmas.List.{append_assoc, append-nil, map-append}
-use Rattle.std.proofs.lemmas.List.Elements.{All-head, All-tail}
+use Rattle.std.proofs.lemmas.List.{append_assoc, append-nil, drop_all, drop_more, map-append}
+use Rattle.std.proofs.lemmas.List.Elements.{All-get_or, All-head, All-push, All-tail}
 use Rattle.std.proofs.lemmas.List.Sorted.{IsPermutation-map, ranks_by, sorted_far}
-use Rattle.slab.specs.Slab.{entries_from}
 use Rattle.ox_block.specs.declared.block.OutPoint.{OutPoint}
-use Rattle.ox_block.proofs.FrontsDecideOrder.{fronts_decide}
 use Rattle.ox_rules.specs.declared.rows.OutRow.{OutRow}
 use Rattle.ox_rules.specs.Outputs.{Outputs, outpoint_cmp}
 use Rattle.ox_rules.proofs.Orders.{outpoints_total, outpoints_exact}
 use Rattle.ox_shards.proofs.ListLemmas.{same_value, still_distinct}
 use Rattle.ox_outputs.specs.Differing.{row_at}
-use Rattle.ox_outputs.specs.InOrder.{entries_in, entry_in, entry_of, no_row}
-use Rattle.ox_outputs.specs.Slots.{SlotList, rows_of}
-use Rattle.ox_outputs.specs.declared.held.Slot.{Slot}
-use Rattle.ox_outputs.specs.declared.ranked.Ranked.{Ranked}
+use Rattle.ox_outputs.specs.Fronts.{IsFront, IsFronted, fronted_cmp, no_outpoint, pair_of}
+use Rattle.ox_outputs.specs.InOrder.{IsFilled, entries_in, entry_of, no_entry}
+use Rattle.ox_outputs.specs.SlotCells.{entry_from}
+use Rattle.ox_outputs.specs.Slots.{Slot, SlotList, outpoint_at, rows_of, slot_at}
+use Rattle.ox_outputs.specs.declared.fronted.Fronted.{Fronted}
+use Rattle.ox_outputs.proofs.FrontLemmas.{fronted_as}
 use Rattle.ox_outputs.proofs.PlaceLemmas.{AreApart, IsNowhere, get-nowhere, is_same, same_itself, same_or_not}
 use Rattle.ox_outputs.proofs.SlotLemmas.{get-put_slot}
 
@@ -144,59 +144,93 @@ in_their_order slots es apart moved sorted =
 
 -- ---- the slots that hold rows, one by one
 
--- the rows of the slots that are left
-abbrev pub entries_left : List (ℕ × Slot) → Entries
-entries_left [] = []
-entries_left (e ∷ es) = row_at e.1.at e.1.row ++ entries_left es
+-- a slot that holds a row is one entry more
+one_entry : (slot : Option Slot) (slots : SlotList) (e : OutPoint × OutRow) → Some e ≡ entry_from slot → entries_in (slot ∷ slots) ≡ e ∷ entries_in slots
+one_entry None slots e is = absurd (cc is)
+one_entry (Some s) slots e is = by_row s.row is where
+  by_row : (row : Option OutRow) → Some e ≡ option_map (λ row. (s.at, row)) row → row_at s.at row ++ entries_in slots ≡ e ∷ entries_in slots
+  by_row None is = absurd (cc is)
+  by_row (Some row) is = ap (λ (o : Option (OutPoint × OutRow)). unwrap_or o e ∷ entries_in slots) (sym is)
 
-pub left_all : (key : ℕ) (slots : SlotList) → entries_left (entries_from key slots) ≡ entries_in slots
-left_all key [] = refl
-left_all key (None ∷ slots) = left_all (key + 1) slots
-left_all key (Some s ∷ slots) = ap (λ (es : Entries). row_at s.at s.row ++ es) (left_all (key + 1) slots)
-
-one_row : (slot : Slot) (es : Entries) → is_some slot.row ≡ true → row_at slot.at slot.row ++ es ≡ entry_in slot ∷ es
-one_row slot es some = by_row slot.row some where
-  by_row : (row : Option OutRow) → is_some row ≡ true → row_at slot.at row ++ es ≡ (slot.at, unwrap_or row no_row) ∷ es
-  by_row (Some row) some = refl
-  by_row None some = absurd (cc some)
-
-no_entry : (slot : Slot) (es : Entries) → is_some slot.row ≡ false → row_at slot.at slot.row ++ es ≡ es
-no_entry slot es none = by_row slot.row none where
-  by_row : (row : Option OutRow) → is_some row ≡ false → row_at slot.at row ++ es ≡ es
-  by_row (Some row) none = absurd (cc none)
+-- any other counts for nothing
+no_entry_there : (slot : Option Slot) (slots : SlotList) → None ≡ entry_from slot → entries_in (slot ∷ slots) ≡ entries_in slots
+no_entry_there None slots none = refl
+no_entry_there (Some s) slots none = by_row s.row none where
+  by_row : (row : Option OutRow) → None ≡ option_map {T = OutRow} {U = OutPoint × OutRow} (λ row. (s.at, row)) row → row_at s.at row ++ entries_in slots ≡ entries_in slots
   by_row None none = refl
+  by_row (Some row) none = absurd (cc none)
+
+-- what stands at the place of a slot that holds a row
+entry_is : (slots : SlotList) (one : Fronted) (k : ℕ) (e : OutPoint × OutRow) → Some e ≡ entry_from (slot_at slots k) → one.place ≡ k → entry_of slots one ≡ e
+entry_is slots one k e is at = ap (λ (n : ℕ). unwrap_or (entry_from (slot_at slots n)) no_entry) at ∙ sym (ap (λ (o : Option (OutPoint × OutRow)). unwrap_or o no_entry) is)
 
 -- one that holds a row comes behind the others
-pub one_more_row : (rows rows' : List Ranked) (one : Ranked) (slot : Slot) (key : ℕ) (left rest : List (ℕ × Slot)) (all : Entries) → rows' ≡ rows ++ one ∷ [] → one.slot.now ≡ slot → is_some slot.row ≡ true
-    → left ≡ (key, slot) ∷ rest → map entry_of rows ++ entries_left left ≡ all → map entry_of rows' ++ entries_left rest ≡ all
-one_more_row rows rows' one slot key left rest all pushed same some steps so_far =
-    ap (λ (l : List Ranked). map entry_of l ++ entries_left rest) pushed
-    ∙ ap (λ (l : Entries). l ++ entries_left rest) (map-append entry_of rows (one ∷ []))
-    ∙ append_assoc (map entry_of rows) (entry_of one ∷ []) (entries_left rest)
-    ∙ ap (λ (s : Slot). map entry_of rows ++ entry_in s ∷ entries_left rest) same
-    ∙ ap (λ (es : Entries). map entry_of rows ++ es) (sym (one_row slot (entries_left rest) some))
-    ∙ ap (λ (l : List (ℕ × Slot)). map entry_of rows ++ entries_left l) (sym steps) ∙ so_far
+pub one_more_row : (slots : SlotList) (places places' : List Fronted) (one : Fronted) (e : OutPoint × OutRow) (k : ℕ) (all : Entries) → k < length slots → Some e ≡ entry_from (slot_at slots k) → one.place ≡ k → places' ≡ places ++ one ∷ []
+    → map (entry_of slots) places ++ entries_in (drop k slots) ≡ all → map (entry_of slots) places' ++ entries_in (drop (k + 1) slots) ≡ all
+one_more_row slots places places' one e k all low is at pushed so_far =
+    ap (λ (l : List Fronted). map (entry_of slots) l ++ entries_in (drop (k + 1) slots)) pushed
+    ∙ ap (λ (l : Entries). l ++ entries_in (drop (k + 1) slots)) (map-append (entry_of slots) places (one ∷ []))
+    ∙ append_assoc (map (entry_of slots) places) (entry_of slots one ∷ []) (entries_in (drop (k + 1) slots))
+    ∙ ap (λ (x : OutPoint × OutRow). map (entry_of slots) places ++ x ∷ entries_in (drop (k + 1) slots)) (entry_is slots one k e is at)
+    ∙ ap (λ (es : Entries). map (entry_of slots) places ++ es) (sym (ap entries_in (drop_more slots k None low) ∙ one_entry (slot_at slots k) (drop (k + 1) slots) e is))
+    ∙ so_far
 
--- and an empty one counts for nothing
-pub none_more_row : (rows : List Ranked) (slot : Slot) (key : ℕ) (left rest : List (ℕ × Slot)) (all : Entries) → is_some slot.row ≡ false
-    → left ≡ (key, slot) ∷ rest → map entry_of rows ++ entries_left left ≡ all → map entry_of rows ++ entries_left rest ≡ all
-none_more_row rows slot key left rest all none steps so_far =
-    ap (λ (es : Entries). map entry_of rows ++ es) (sym (no_entry slot (entries_left rest) none))
-    ∙ ap (λ (l : List (ℕ × Slot)). map entry_of rows ++ entries_left l) (sym steps) ∙ so_far
+-- and stands there with its front
+pub one_more_filled : (slots : SlotList) (places places' : List Fronted) (one : Fronted) (e : OutPoint × OutRow) (k : ℕ) → Some e ≡ entry_from (slot_at slots k) → one.place ≡ k → IsFront one.front e.0 → places' ≡ places ++ one ∷ []
+    → All (IsFilled slots) places → All (IsFilled slots) places'
+one_more_filled slots places places' one e k is at front pushed all =
+    let here : IsFilled slots one = record { entry = e; there = ap (λ (n : ℕ). entry_from (slot_at slots n)) at ∙ sym is; front = front } in
+    subst (All (IsFilled slots)) (sym pushed) (All-push (IsFilled slots) places one all here)
+
+-- and a place without one counts for nothing
+pub none_more_row : (slots : SlotList) (places : List Fronted) (k : ℕ) (all : Entries) → k < length slots → None ≡ entry_from (slot_at slots k)
+    → map (entry_of slots) places ++ entries_in (drop k slots) ≡ all → map (entry_of slots) places ++ entries_in (drop (k + 1) slots) ≡ all
+none_more_row slots places k all low none so_far =
+    ap (λ (es : Entries). map (entry_of slots) places ++ es) (sym (ap entries_in (drop_more slots k None low) ∙ no_entry_there (slot_at slots k) (drop (k + 1) slots) none))
+    ∙ so_far
 
 -- all of them, where none is left
-pub all_of_them : (rows : List Ranked) (left : List (ℕ × Slot)) (all : Entries) → left ≡ [] → map entry_of rows ++ entries_left left ≡ all → map entry_of rows ≡ all
-all_of_them rows left all none so_far =
-    sym (append-nil (map entry_of rows)) ∙ ap (λ (l : List (ℕ × Slot)). map entry_of rows ++ entries_left l) (sym none) ∙ so_far
+pub all_of_them : (slots : SlotList) (places : List Fronted) (k : ℕ) (all : Entries) → length slots ≤ k → map (entry_of slots) places ++ entries_in (drop k slots) ≡ all → map (entry_of slots) places ≡ all
+all_of_them slots places k all high so_far =
+    sym (append-nil (map (entry_of slots) places)) ∙ sym (ap (λ (l : SlotList). map (entry_of slots) places ++ entries_in l) (drop_all k slots high)) ∙ so_far
 
 -- ---- the order
 
-no_outpoint : OutPoint
-no_outpoint = record { txid = record { 0 = [] }; index = 0 }
+-- the outpoint of a slot that holds a row
+outpoint_from : (slot : Option Slot) (e : OutPoint × OutRow) → entry_from slot ≡ Some e → option_map (λ s. s.at) slot ≡ Some e.0
+outpoint_from None e is = absurd (cc is)
+outpoint_from (Some s) e is = by_row s.row is where
+  by_row : (row : Option OutRow) → option_map {T = OutRow} {U = OutPoint × OutRow} (λ row. (s.at, row)) row ≡ Some e → ◌≡◌ {A = Option OutPoint} (Some s.at) (Some e.0)
+  by_row None is = absurd (cc is)
+  by_row (Some row) is = ap (λ (o : Option (OutPoint × OutRow)). Some (unwrap_or o e).0) is
 
-pub sorted_entries : (slots : SlotList) (rows rows' : List Ranked) → AreApart slots → map entry_of rows ≡ entries_in slots → IsPermutation rows rows' → IsSorted (λ a b. outpoint_cmp a.slot.now.at b.slot.now.at) rows'
-    → map entry_of rows' ≡ entries (rows_of slots)
-sorted_entries slots rows rows' apart is moved sorted =
-    let shuffled : IsPermutation (entries_in slots) (map entry_of rows') = subst (λ (es : Entries). IsPermutation es (map entry_of rows')) is (IsPermutation-map entry_of rows rows' moved) in
-    let differ : IsDistinct is_same (keys_of (map entry_of rows')) = still_distinct (eq_by_cmp_equiv outpoints_total) no_outpoint (entries_in slots) (map entry_of rows') shuffled (distinct_in slots apart) in
-    in_their_order slots (map entry_of rows') apart shuffled (sorted_rises entry_of rows' sorted differ)
+module _ (slots : SlotList) where
+  fronted_here : (one : Fronted) → IsFilled slots one → IsFronted (outpoint_at slots) one
+  fronted_here one filled = record {
+    outpoint = filled.entry.0;
+    there = outpoint_from (slot_at slots one.place) filled.entry filled.there;
+    front = filled.front;
+  }
+
+  outpoint_here : (one : Fronted) → IsFilled slots one → (pair_of (outpoint_at slots) one).0 ≡ (entry_of slots one).0
+  outpoint_here one filled =
+      ap (λ (o : Option OutPoint). unwrap_or o no_outpoint) (outpoint_from (slot_at slots one.place) filled.entry filled.there)
+      ∙ sym (ap (λ (o : Option (OutPoint × OutRow)). (unwrap_or o no_entry).0) filled.there)
+
+  -- the order of two places is that of the outpoints there
+  order_is : (a b : Fronted) → IsFilled slots a → IsFilled slots b → fronted_cmp (outpoint_at slots) a b ≡ outpoint_cmp (entry_of slots a).0 (entry_of slots b).0
+  order_is a b p q =
+      fronted_as (outpoint_at slots) a b (fronted_here a p) (fronted_here b q)
+      ∙ (λ i. outpoint_cmp (outpoint_here a p i) (outpoint_here b q i))
+
+  sorted_there : (places : List Fronted) → All (IsFilled slots) places → IsSorted (fronted_cmp (outpoint_at slots)) places → IsSorted (λ a b. outpoint_cmp (entry_of slots a).0 (entry_of slots b).0) places
+  sorted_there places all sorted k d low high =
+      ap is_lt (sym (order_is (get_or places (k + 1) d) (get_or places k d) (All-get_or (IsFilled slots) places (k + 1) d high all) (All-get_or (IsFilled slots) places k d (omega (arith, high)) all)))
+      ∙ sorted k d low high
+
+  pub sorted_entries : (places places' : List Fronted) → AreApart slots → map (entry_of slots) places ≡ entries_in slots → All (IsFilled slots) places' → IsPermutation places places' → IsSorted (fronted_cmp (outpoint_at slots)) places'
+      → map (entry_of slots) places' ≡ entries (rows_of slots)
+  sorted_entries places places' apart is filled moved sorted =
+      let shuffled : IsPermutation (entries_in slots) (map (entry_of slots) places') = subst (λ (es : Entries). IsPermutation es (map (entry_of slots) places')) is (IsPermutation-map (entry_of slots) places places' moved) in
+      let differ : IsDistinct is_same (keys_of (map (entry_of slots) places')) = still_distinct (eq_by_cmp_equiv outpoints_total) no_outpoint (entries_in slots) (map (entry_of slots) places') shuffled (distinct_in slots apart) in
+      in_their_order slots (map (entry_of slots) places') apart shuffled (sorted_rises (entry_of slots) places' (sorted_there places' filled sorted) differ)

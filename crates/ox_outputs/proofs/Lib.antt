@@ -1,9 +1,15 @@
+pub mod AddedLemmas
+pub mod CellLemmas
+pub mod CellsLemmas
 pub mod DifferingRows
 pub mod FrontLemmas
 pub mod OutputsLemmas
+pub mod PartLemmas
 pub mod InOrderLemmas
 pub mod ListLemmas
 pub mod NextLemmas
+pub mod OffsetLemmas
+pub mod PieceLemmas
 pub mod PlaceLemmas
 pub mod RowLemmas
 pub mod SlotLemmas

@@ -1,7 +1,7 @@
 -- Lists of places: what an entry more, and places fewer, leave.
-use Rattle.std.proofs.Common.{rules, tests, ◌≡◌, ◌≢◌, ◌∙◌, ℕ, zero, suc, ◌+◌, ◌-◌, ◌<◌, ◌≤◌, Bool, true, false, List, [], ◌∷◌, ◌++◌, length, get_or, slice_set, swap_remove, refl, sym, ap, inl, inr, ⊎_elim, arith}
+use Rattle.std.proofs.Common.{rules, tests, ◌≡◌, ◌≢◌, ◌∙◌, ℕ, zero, suc, ◌+◌, ◌-◌, ◌<◌, ◌≤◌, Bool, true, false, List, [], ◌∷◌, ◌++◌, length, get_or, slice_set, swap_remove, refl, sym, ap, inl, inr, ⊎_elim, true≢false, arith}
 use Rattle.std.specs.Prelude.{◌⊎◌, ◌==◌, ◌&&◌, ◌||◌}
-use Rattle.smallvec.specs.SmallVec.{SmallVec}
+use Rattle.std.specs.Global.{Vec}
 use Rattle.std.proofs.lemmas.Bool.{cases_eq, ne_eqb}
 use Rattle.std.proofs.lemmas.Grind.{get_or-set_at}
 use Rattle.std.proofs.lemmas.List.{get_or-take, get_or-set_other}
@@ -12,21 +12,21 @@ use Rattle.ox_outputs.specs.Lists.{items_at, is_in}
 -- ---- many lists
 
 -- the list that has changed, and another one
-pub set_here : (lists : List (SmallVec Entry)) (i : ℕ) (v : SmallVec Entry) → i < length lists → items_at (slice_set lists i v) i ≡ v.items
+pub set_here : (lists : List (Vec Entry)) (i : ℕ) (v : Vec Entry) → i < length lists → items_at (slice_set lists i v) i ≡ v.items
 set_here [] i v low = absurd (omega arith)
 set_here (l ∷ lists) zero v low = refl
 set_here (l ∷ lists) (suc i) v low = set_here lists i v (omega arith)
 
-pub set_elsewhere : (lists : List (SmallVec Entry)) (i j : ℕ) (v : SmallVec Entry) → i ≢ j → items_at (slice_set lists i v) j ≡ items_at lists j
+pub set_elsewhere : (lists : List (Vec Entry)) (i j : ℕ) (v : Vec Entry) → i ≢ j → items_at (slice_set lists i v) j ≡ items_at lists j
 set_elsewhere [] i j v other = refl
 set_elsewhere (l ∷ lists) zero zero v other = absurd (other refl)
 set_elsewhere (l ∷ lists) zero (suc j) v other = refl
 set_elsewhere (l ∷ lists) (suc i) zero v other = refl
 set_elsewhere (l ∷ lists) (suc i) (suc j) v other = set_elsewhere lists i j v (λ same. other (ap suc same))
 
-pub items_there : (lists : List (SmallVec Entry)) (i : ℕ) (v : SmallVec Entry) → i < length lists → v ≡ get_or lists i v → items_at lists i ≡ v.items
+pub items_there : (lists : List (Vec Entry)) (i : ℕ) (v : Vec Entry) → i < length lists → v ≡ get_or lists i v → items_at lists i ≡ v.items
 items_there [] i v low is = absurd (omega arith)
-items_there (l ∷ lists) zero v low is = ap (λ (v : SmallVec Entry). v.items) (sym is)
+items_there (l ∷ lists) zero v low is = ap (λ (v : Vec Entry). v.items) (sym is)
 items_there (l ∷ lists) (suc i) v low is = items_there lists i v (omega arith) is
 
 -- ---- one list
@@ -95,12 +95,22 @@ others_less list new place from i x next within less is others k d low high here
     (ap (λ (e : Entry). e.place) (sym (at ∙ get_or-set_other list i k (get_or list last x) d other)) ∙ here))
     (cases_eq k i)
 
--- and no entry of a further place goes with it
+-- and no other entry goes with it
+less_in : (list new : List Entry) (i : ℕ) (x : Entry) (tag place : ℕ) → i < length list → x ≡ get_or list i x → ((x.tag == tag) && (x.place == place)) ≡ false → new ≡ swap_remove list i x → is_in new tag place ≡ is_in list tag place
+less_in list new i x tag place within at differs is =
+    ap (λ (l : List Entry). is_in l tag place) is
+    ∙ sym (ap (λ (b : Bool). b || is_in (swap_remove list i x) tag place) differs)
+    ∙ sym (list_any-IsPermutation (λ (e : Entry). (e.tag == tag) && (e.place == place)) list (x ∷ swap_remove list i x) (IsPermutation-swap_remove list i x within at))
+
+-- an entry of a place goes, and none of a further place with it
 pub left_in : (list new : List Entry) (place i : ℕ) (x : Entry) (tag other : ℕ) → i < length list → x ≡ get_or list i x → x.place ≡ place → new ≡ swap_remove list i x → other ≢ place → is_in new tag other ≡ is_in list tag other
 left_in list new place i x tag other within at here is differs =
-    ap (λ (l : List Entry). is_in l tag other) is
-    ∙ sym (ap (λ (b : Bool). b || is_in (swap_remove list i x) tag other) (right_false (x.tag == tag) (x.place == other) (ne_eqb x.place other (λ same. differs (sym same ∙ here)))))
-    ∙ sym (list_any-IsPermutation (λ (e : Entry). (e.tag == tag) && (e.place == other)) list (x ∷ swap_remove list i x) (IsPermutation-swap_remove list i x within at))
+    less_in list new i x tag other within at (right_false (x.tag == tag) (x.place == other) (ne_eqb x.place other (λ same. differs (sym same ∙ here)))) is
+
+-- an entry whose tag passes goes, and none with it whose tag doesn't
+pub unpassed_in : (passes : ℕ → Bool) (list new : List Entry) (i : ℕ) (x : Entry) (tag place : ℕ) → i < length list → x ≡ get_or list i x → passes x.tag ≡ true → new ≡ swap_remove list i x → passes tag ≡ false → is_in new tag place ≡ is_in list tag place
+unpassed_in passes list new i x tag place within at gone is stays =
+    less_in list new i x tag place within at (ap (λ (b : Bool). b && (x.place == place)) (ne_eqb x.tag tag (λ same. true≢false (sym gone ∙ ap passes same ∙ stays)))) is
 
 -- a place of which no entry is left isn't there
 pub others_out : (list : List Entry) (place tag : ℕ) → AreOthers place 0 list → is_in list tag place ≡ false
@@ -112,10 +122,43 @@ others_out list place tag others = by_test (is_in list tag place) refl where
       let e : Entry = record { tag = 0; place = 0 } in
       absurd (others at.0 e (omega arith) at.1 (at.2 e).1)
 
+-- ---- entries that go to another list
+
+-- each of these entries whose tag passes, from the first to a number, is in another list
+module _ (passes : ℕ → Bool) (list : List Entry) where
+  abbrev pub AreGone : List Entry → ℕ → Type 0
+  AreGone last n = (k : ℕ) (d : Entry) → k < n → passes (get_or list k d).tag ≡ true → is_in last (get_or list k d).tag (get_or list k d).place ≡ true
+
+  -- the next one goes too
+  pub gone_more : (last new : List Entry) (n : ℕ) (e : Entry) → ((d : Entry) → get_or list n d ≡ e) → new ≡ last ++ e ∷ [] → AreGone last n → AreGone new (n + 1)
+  gone_more last new n e at is gone k d low passed = ap (λ (l : List Entry). is_in l (get_or list k d).tag (get_or list k d).place) is ∙ by (cases_eq k n) where
+    by : (k ≡ n) ⊎ (k ≢ n) → is_in (last ++ e ∷ []) (get_or list k d).tag (get_or list k d).place ≡ true
+    by (inl same) =
+        ap (λ (x : Entry). is_in (last ++ e ∷ []) x.tag x.place) (ap (λ (i : ℕ). get_or list i d) same ∙ at d)
+        ∙ added_is_in last e.tag e.place
+    by (inr other) = still_in last e _ _ (gone k d (omega (arith, low, other)) passed)
+
+  -- the next one doesn't pass
+  pub gone_as_far : (last new : List Entry) (n : ℕ) (e : Entry) → ((d : Entry) → get_or list n d ≡ e) → passes e.tag ≡ false → new ≡ last → AreGone last n → AreGone new (n + 1)
+  gone_as_far last new n e at stays is gone k d low passed = ap (λ (l : List Entry). is_in l (get_or list k d).tag (get_or list k d).place) is ∙ by (cases_eq k n) where
+    by : (k ≡ n) ⊎ (k ≢ n) → is_in last (get_or list k d).tag (get_or list k d).place ≡ true
+    by (inl same) = absurd (true≢false (sym passed ∙ ap (λ (x : Entry). passes x.tag) (ap (λ (i : ℕ). get_or list i d) same ∙ at d) ∙ stays))
+    by (inr other) = gone k d (omega (arith, low, other)) passed
+
+  -- all have gone
+  pub gone_all : (last new : List Entry) → new ≡ last → AreGone last (length list) → (tag place : ℕ) → passes tag ≡ true → is_in list tag place ≡ true → is_in new tag place ≡ true
+  gone_all last new is gone tag place passed there =
+      let at = stands_at list tag place there in
+      let e : Entry = record { tag = 0; place = 0 } in
+      ap (λ (l : List Entry). is_in l tag place) is
+      ∙ sym (ap (λ (t : ℕ). is_in last t place) (at.2 e).0)
+      ∙ sym (ap (λ (p : ℕ). is_in last (get_or list at.0 e).tag p) (at.2 e).1)
+      ∙ gone at.0 e at.1 (ap passes (at.2 e).0 ∙ passed)
+
 -- ---- one of many lists
 
 -- an entry more in one list: it is there
-pub pushed_here : (lists : List (SmallVec Entry)) (i j : ℕ) (old : List Entry) (v : SmallVec Entry) (e tag place : ℕ) → i < length lists → i ≡ j → e ≡ tag → v.items ≡ old ++ record { tag = e; place = place } ∷ []
+pub pushed_here : (lists : List (Vec Entry)) (i j : ℕ) (old : List Entry) (v : Vec Entry) (e tag place : ℕ) → i < length lists → i ≡ j → e ≡ tag → v.items ≡ old ++ record { tag = e; place = place } ∷ []
     → is_in (items_at (slice_set lists i v) j) tag place ≡ true
 pushed_here lists i j old v e tag place low is tagged items =
     ap (λ (l : List Entry). is_in l tag place)
@@ -123,7 +166,7 @@ pushed_here lists i j old v e tag place low is tagged items =
     ∙ added_is_in old tag place
 
 -- and the others still are
-pub pushed_still : (lists : List (SmallVec Entry)) (i j : ℕ) (x v : SmallVec Entry) (e : Entry) (tag place : ℕ) → i < length lists → x ≡ get_or lists i x → v.items ≡ x.items ++ e ∷ []
+pub pushed_still : (lists : List (Vec Entry)) (i j : ℕ) (x v : Vec Entry) (e : Entry) (tag place : ℕ) → i < length lists → x ≡ get_or lists i x → v.items ≡ x.items ++ e ∷ []
     → is_in (items_at lists j) tag place ≡ true → is_in (items_at (slice_set lists i v) j) tag place ≡ true
 pushed_still lists i j x v e tag place low there items is = ⊎_elim
     (λ same.
@@ -132,13 +175,9 @@ pushed_still lists i j x v e tag place low there items is = ⊎_elim
     (λ other. ap (λ (l : List Entry). is_in l tag place) (set_elsewhere lists i j v other) ∙ is)
     (cases_eq i j)
 
--- a list that is written back as it was
-pub set_again : (lists : List (SmallVec Entry)) (i j : ℕ) (x : SmallVec Entry) → i < length lists → x ≡ get_or lists i x → items_at (slice_set lists i x) j ≡ items_at lists j
-set_again lists i j x low there = ⊎_elim
-    (λ same. ap (items_at (slice_set lists i x)) (sym same) ∙ set_here lists i x low ∙ sym (items_there lists i x low there) ∙ ap (items_at lists) same)
-    (λ other. set_elsewhere lists i j x other)
+-- a list that is written back with the same entries
+pub set_again : (lists : List (Vec Entry)) (i j : ℕ) (x v : Vec Entry) → i < length lists → x ≡ get_or lists i x → v.items ≡ x.items → items_at (slice_set lists i v) j ≡ items_at lists j
+set_again lists i j x v low there is = ⊎_elim
+    (λ same. ap (items_at (slice_set lists i v)) (sym same) ∙ set_here lists i v low ∙ is ∙ sym (items_there lists i x low there) ∙ ap (items_at lists) same)
+    (λ other. set_elsewhere lists i j v other)
     (cases_eq i j)
-
--- a list that is written back as it was, among lists that are as others were
-pub pushed_not : (lists old : List (SmallVec Entry)) (i : ℕ) (x v : SmallVec Entry) → i < length lists → x ≡ get_or lists i x → v ≡ x → ((j : ℕ) → items_at lists j ≡ items_at old j) → (j : ℕ) → items_at (slice_set lists i v) j ≡ items_at old j
-pushed_not lists old i x v low there is same j = ap (λ (w : SmallVec Entry). items_at (slice_set lists i w) j) is ∙ set_again lists i j x low there ∙ same j

@@ -1,18 +1,19 @@
 -- The row that comes next, found by a look at all slots.
-use Rattle.std.proofs.Common.{◌≡◌, ◌∙◌, ℕ, ◌+◌, Bool, true, false, cond, T, List, [], ◌∷◌, length, refl, sym, ap, subst, arith, Option, Some, None, Ordering, inl, inr}
-use Rattle.std.specs.Prelude.{◌⊎◌, ◌&&◌}
+use Rattle.std.proofs.Common.{◌≡◌, ◌∙◌, ℕ, ◌+◌, ◌<◌, ◌≤◌, Bool, true, false, cond, T, List, [], ◌∷◌, length, drop, refl, sym, ap, subst, arith, Option, Some, None, Ordering, inl, inr}
+use Rattle.std.specs.Prelude.{◌⊎◌, ◌&&◌, unwrap_or}
+use Rattle.std.specs.Option.{option_map}
+use Rattle.std.proofs.lemmas.List.{drop_all, drop_more}
 use Rattle.std.specs.Ordering.{is_eq, is_lt, ordering_reverse}
 use Rattle.std.specs.FinMap.{empty, entries, entries-insert, entries_sorted, find, get, get-entries, get-remove, insert, is_sorted, len-empty, len-entries, put, remove, same_map}
 use Rattle.std.specs.FinMap.Entries.{below_all, by_order}
 use Rattle.std.specs.declared.cmp.Ordering.TheVariants.{Less, Equal, Greater}
-use Rattle.slab.specs.Slab.{entries_from}
 use Rattle.ox_block.specs.declared.block.OutPoint.{OutPoint}
 use Rattle.ox_rules.specs.declared.rows.OutRow.{OutRow}
 use Rattle.ox_rules.specs.Outputs.{Outputs, outpoint_cmp}
 use Rattle.ox_rules.proofs.Orders.{outpoints_total, outpoints_exact}
 use Rattle.ox_outputs.specs.Next.{earlier, is_past, nearer, next_of}
-use Rattle.ox_outputs.specs.Slots.{SlotList, put_slot, rows_of}
-use Rattle.ox_outputs.specs.declared.held.Slot.{Slot}
+use Rattle.ox_outputs.specs.SlotCells.{entry_from}
+use Rattle.ox_outputs.specs.Slots.{Slot, SlotList, put_slot, rows_of, slot_at}
 use Rattle.ox_outputs.proofs.InOrderLemmas.{first_alone, rest_apart}
 use Rattle.ox_outputs.proofs.PlaceLemmas.{AreApart, get-nowhere, is_same, same_itself, same_or_not}
 
@@ -263,25 +264,36 @@ among_all past best (Some s ∷ slots) apart =
 
 -- ---- one by one
 
--- and when those that are left are known too
-abbrev pub next_left : Option OutPoint → Option Entry → List (ℕ × Slot) → Option Entry
-next_left past best [] = best
-next_left past best (e ∷ es) = next_left past (nearer past best e.1.at e.1.row) es
+pub next_begins : (past : Option OutPoint) (slots : SlotList) → AreApart slots → next_among past None slots ≡ next_of past (entries (rows_of slots))
+next_begins past slots apart = among_all past None slots apart ∙ merged_none (next_of past (entries (rows_of slots)))
 
-left_among : (past : Option OutPoint) (best : Option Entry) (key : ℕ) (slots : SlotList) → next_left past best (entries_from key slots) ≡ next_among past best slots
-left_among past best key [] = refl
-left_among past best key (None ∷ slots) = left_among past best (key + 1) slots
-left_among past best key (Some s ∷ slots) = left_among past (nearer past best s.at s.row) (key + 1) slots
+-- a row that is known more
+with_entry : (past : Option OutPoint) (best : Option Entry) (slot : Option Slot) (slots : SlotList) (e : Entry) → Some e ≡ entry_from slot → next_among past best (slot ∷ slots) ≡ next_among past (nearer past best e.0 (Some e.1)) slots
+with_entry past best None slots e is = absurd (cc is)
+with_entry past best (Some s) slots e is = by_row s.row is where
+  by_row : (row : Option OutRow) → Some e ≡ option_map (λ row. (s.at, row)) row → next_among past (nearer past best s.at row) slots ≡ next_among past (nearer past best e.0 (Some e.1)) slots
+  by_row None is = absurd (cc is)
+  by_row (Some row) is = ap (λ (o : Option Entry). let x = unwrap_or o e in next_among past (nearer past best x.0 (Some x.1)) slots) (sym is)
 
-pub next_begins : (past : Option OutPoint) (slots : SlotList) (left : List (ℕ × Slot)) → AreApart slots → left ≡ entries_from 0 slots
-    → next_left past None left ≡ next_of past (entries (rows_of slots))
-next_begins past slots left apart is =
-    ap (next_left past None) is ∙ left_among past None 0 slots ∙ among_all past None slots apart ∙ merged_none (next_of past (entries (rows_of slots)))
+without_entry : (past : Option OutPoint) (best : Option Entry) (slot : Option Slot) (slots : SlotList) → None ≡ entry_from slot → next_among past best (slot ∷ slots) ≡ next_among past best slots
+without_entry past best None slots none = refl
+without_entry past best (Some s) slots none = by_row s.row none where
+  by_row : (row : Option OutRow) → None ≡ option_map {T = OutRow} {U = Entry} (λ row. (s.at, row)) row → next_among past (nearer past best s.at row) slots ≡ next_among past best slots
+  by_row None none = refl
+  by_row (Some row) none = absurd (cc none)
 
-pub next_goes : (past : Option OutPoint) (best new : Option Entry) (slot : Slot) (key : ℕ) (left rest : List (ℕ × Slot)) (all : Option Entry) → left ≡ (key, slot) ∷ rest
-    → new ≡ nearer past best slot.at slot.row → next_left past best left ≡ all → next_left past new rest ≡ all
-next_goes past best new slot key left rest all steps is so_far =
-    ap (λ (o : Option Entry). next_left past o rest) is ∙ sym (ap (next_left past best) steps) ∙ so_far
+pub next_goes : (past : Option OutPoint) (best new : Option Entry) (slots : SlotList) (k : ℕ) (e : Entry) (all : Option Entry) → k < length slots → Some e ≡ entry_from (slot_at slots k)
+    → new ≡ nearer past best e.0 (Some e.1) → next_among past best (drop k slots) ≡ all → next_among past new (drop (k + 1) slots) ≡ all
+next_goes past best new slots k e all low is steps so_far =
+    ap (λ (o : Option Entry). next_among past o (drop (k + 1) slots)) steps
+    ∙ sym (with_entry past best (slot_at slots k) (drop (k + 1) slots) e is)
+    ∙ sym (ap (next_among past best) (drop_more slots k None low)) ∙ so_far
 
-pub next_ends : (past : Option OutPoint) (best : Option Entry) (left : List (ℕ × Slot)) (all : Option Entry) → left ≡ [] → next_left past best left ≡ all → best ≡ all
-next_ends past best left all none so_far = sym (ap (next_left past best) none) ∙ so_far
+pub next_stays : (past : Option OutPoint) (best : Option Entry) (slots : SlotList) (k : ℕ) (all : Option Entry) → k < length slots → None ≡ entry_from (slot_at slots k)
+    → next_among past best (drop k slots) ≡ all → next_among past best (drop (k + 1) slots) ≡ all
+next_stays past best slots k all low none so_far =
+    sym (without_entry past best (slot_at slots k) (drop (k + 1) slots) none)
+    ∙ sym (ap (next_among past best) (drop_more slots k None low)) ∙ so_far
+
+pub next_ends : (past : Option OutPoint) (best : Option Entry) (slots : SlotList) (k : ℕ) (all : Option Entry) → length slots ≤ k → next_among past best (drop k slots) ≡ all → best ≡ all
+next_ends past best slots k all high so_far = sym (ap (next_among past best) (drop_all k slots high)) ∙ so_far

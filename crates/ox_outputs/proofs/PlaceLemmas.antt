@@ -6,15 +6,14 @@ use Rattle.std.specs.Cmp.{eq_by_cmp_equiv}
 use Rattle.std.specs.Option.{option_map, option_and_then}
 use Rattle.std.proofs.lemmas.Bool.{cases_eq}
 use Rattle.std.specs.FinMap.{get, get-empty, same_map}
-use Rattle.slab.specs.Slab.{Slab, Updates}
-use Rattle.slab.specs.Slab as slab
+use Rattle.ox_outputs.specs.Held.{HeldSlots}
 use Rattle.ox_block.specs.declared.block.OutPoint.{OutPoint}
 use Rattle.ox_rules.specs.declared.rows.OutRow.{OutRow}
 use Rattle.ox_rules.specs.Outputs.{outpoint_cmp}
 use Rattle.ox_rules.proofs.Orders.{outpoints_total, outpoints_exact}
-use Rattle.ox_outputs.specs.declared.held.Slot.{Slot}
+use Rattle.ox_outputs.specs.Slots.{Slot}
 use Rattle.ox_outputs.specs.declared.places.Places.{Places}
-use Rattle.ox_outputs.specs.Slots.{SlotList, outpoint_at, row_at, slot_with, put_slot, rows_of}
+use Rattle.ox_outputs.specs.Slots.{SlotList, Updates, outpoint_at, row_at, slot_at, slot_with, put_slot, rows_of}
 use Rattle.ox_outputs.specs.Places.{other_at, HasPlace, ArePlaced}
 use Rattle.ox_outputs.proofs.SlotLemmas.{equal, get-put_slot}
 
@@ -108,14 +107,14 @@ abbrev pub IsOf : OutPoint → Option Slot → Type 0
 IsOf at slot = (q : OutPoint) → option_map (λ s. s.at) slot ≡ Some q → at ≡ q
 
 -- At one place there is now this slot, or none. It is the only place of slots of an outpoint.
-pub record Changes (s t : Slab Slot) (place : ℕ) (at : OutPoint) (slot : Option Slot) : Type 0 where
-  pub updates : Updates s t place slot
+pub record Changes (s t : HeldSlots) (place : ℕ) (at : OutPoint) (slot : Option Slot) : Type 0 where
+  pub updates : Updates s.slots t.slots place slot
   pub apart : AreApart s.slots
-  pub old : IsOf at (slab.get s place)
+  pub old : IsOf at (slot_at s.slots place)
   pub new : IsOf at slot
   pub alone : (p : ℕ) → p ≢ place → outpoint_at s.slots p ≢ Some at
 
-module _ {s t : Slab Slot} {place : ℕ} {at : OutPoint} {slot : Option Slot} (c : Changes s t place at slot) where
+module _ {s t : HeldSlots} {place : ℕ} {at : OutPoint} {slot : Option Slot} (c : Changes s t place at slot) where
   -- the outpoint of a slot elsewhere
   pub outpoint_elsewhere : (p : ℕ) → p ≢ place → outpoint_at t.slots p ≡ outpoint_at s.slots p
   outpoint_elsewhere p other = ap (option_map (λ (s : Slot). s.at)) (c.updates.others p other)
@@ -194,30 +193,30 @@ module _ {s t : Slab Slot} {place : ℕ} {at : OutPoint} {slot : Option Slot} (c
 -- ---- the changes
 
 -- the outpoint of a slot, found at its place
-slot_of : (s : Slab Slot) (place : ℕ) (at : OutPoint) → outpoint_at s.slots place ≡ Some at → IsOf at (slab.get s place)
+slot_of : (s : HeldSlots) (place : ℕ) (at : OutPoint) → outpoint_at s.slots place ≡ Some at → IsOf at (slot_at s.slots place)
 slot_of s place at is q too = the_outpoint at q (sym is ∙ too)
 
 -- what a slot holds changes
-pub exchanged : (s t : Slab Slot) (place : ℕ) (at : OutPoint) (row : Option OutRow) → AreApart s.slots → outpoint_at s.slots place ≡ Some at → Updates s t place (slot_with (slab.get s place) row) → Changes s t place at (slot_with (slab.get s place) row)
+pub exchanged : (s t : HeldSlots) (place : ℕ) (at : OutPoint) (row : Option OutRow) → AreApart s.slots → outpoint_at s.slots place ≡ Some at → Updates s.slots t.slots place (slot_with (slot_at s.slots place) row) → Changes s t place at (slot_with (slot_at s.slots place) row)
 exchanged s t place at row apart is u = record {
   updates = u;
   apart = apart;
   old = slot_of s place at is;
-  new = λ q too. the_outpoint at q (sym is ∙ sym (outpoint_with (slab.get s place)) ∙ too);
+  new = λ q too. the_outpoint at q (sym is ∙ sym (outpoint_with (slot_at s.slots place)) ∙ too);
   alone = λ p other too. other (apart at p place too is);
 } where
   outpoint_with : (slot : Option Slot) → option_map (λ s. s.at) (slot_with slot row) ≡ option_map (λ s. s.at) slot
   outpoint_with None = refl
   outpoint_with (Some x) = refl
 
-pub row_with : (s : Slab Slot) (place : ℕ) (at : OutPoint) (row : Option OutRow) → outpoint_at s.slots place ≡ Some at → option_and_then (λ s. s.row) (slot_with (slab.get s place) row) ≡ row
-row_with s place at row is = by_slot (slab.get s place) is where
+pub row_with : (s : HeldSlots) (place : ℕ) (at : OutPoint) (row : Option OutRow) → outpoint_at s.slots place ≡ Some at → option_and_then (λ s. s.row) (slot_with (slot_at s.slots place) row) ≡ row
+row_with s place at row is = by_slot (slot_at s.slots place) is where
   by_slot : (slot : Option Slot) → option_map (λ s. s.at) slot ≡ Some at → option_and_then (λ s. s.row) (slot_with slot row) ≡ row
   by_slot None none = absurd (no_outpoint at none)
   by_slot (Some x) some = refl
 
 -- a slot is taken away
-pub removed : (s t : Slab Slot) (place : ℕ) (at : OutPoint) → AreApart s.slots → outpoint_at s.slots place ≡ Some at → Updates s t place None → Changes s t place at None
+pub removed : (s t : HeldSlots) (place : ℕ) (at : OutPoint) → AreApart s.slots → outpoint_at s.slots place ≡ Some at → Updates s.slots t.slots place None → Changes s t place at None
 removed s t place at apart is u = record {
   updates = u;
   apart = apart;
@@ -227,7 +226,7 @@ removed s t place at apart is u = record {
 }
 
 -- but a slot with a row stays
-pub stays : (s t : Slab Slot) (place p : ℕ) (at : OutPoint) (row : OutRow) → AreApart s.slots → row_at s.slots place ≡ None → Updates s t place None → outpoint_at s.slots p ≡ Some at → get (rows_of s.slots) at ≡ Some row → outpoint_at t.slots p ≡ Some at
+pub stays : (s t : HeldSlots) (place p : ℕ) (at : OutPoint) (row : OutRow) → AreApart s.slots → row_at s.slots place ≡ None → Updates s.slots t.slots place None → outpoint_at s.slots p ≡ Some at → get (rows_of s.slots) at ≡ Some row → outpoint_at t.slots p ≡ Some at
 stays s t place p at row apart none u is there = ⊎_elim
     (λ same. absurd (no_row row (sym none ∙ ap (row_at s.slots) (sym same) ∙ sym (get-at_place s.slots p at apart is) ∙ there)))
     (λ other. ap (option_map (λ (s : Slot). s.at)) (u.others p other) ∙ is)
@@ -237,7 +236,7 @@ stays s t place p at row apart none u is there = ⊎_elim
     no_row row is = absurd (cc is)
 
 -- a slot is made
-pub made : (s t : Slab Slot) (place : ℕ) (slot : Slot) → AreApart s.slots → IsNowhere s.slots slot.at → slab.get s place ≡ None → Updates s t place (Some slot) → Changes s t place slot.at (Some slot)
+pub made : (s t : HeldSlots) (place : ℕ) (slot : Slot) → AreApart s.slots → IsNowhere s.slots slot.at → slot_at s.slots place ≡ None → Updates s.slots t.slots place (Some slot) → Changes s t place slot.at (Some slot)
 made s t place slot apart none free u = record {
   updates = u;
   apart = apart;
@@ -247,14 +246,14 @@ made s t place slot apart none free u = record {
 }
 
 -- a slot that was made is taken back
-pub given_back : (s t v : Slab Slot) (place : ℕ) (slot : Option Slot) → slab.get s place ≡ None → Updates s t place slot → Updates t v place None → (p : ℕ) → slab.get v p ≡ slab.get s p
+pub given_back : (s t v : HeldSlots) (place : ℕ) (slot : Option Slot) → slot_at s.slots place ≡ None → Updates s.slots t.slots place slot → Updates t.slots v.slots place None → (p : ℕ) → slot_at v.slots p ≡ slot_at s.slots p
 given_back s t v place slot free u w p = ⊎_elim
-    (λ same. ap (slab.get v) same ∙ w.changed ∙ sym free ∙ ap (slab.get s) (sym same))
+    (λ same. ap (slot_at v.slots) same ∙ w.changed ∙ sym free ∙ ap (slot_at s.slots) (sym same))
     (λ other. w.others p other ∙ u.others p other)
     (cases_eq p place)
 
 -- slots that are alike, place by place, have the same rows
-pub rows_alike : (s t : Slab Slot) → AreApart s.slots → ((p : ℕ) → slab.get t p ≡ slab.get s p) → rows_of t.slots ≡ rows_of s.slots
+pub rows_alike : (s t : HeldSlots) → AreApart s.slots → ((p : ℕ) → slot_at t.slots p ≡ slot_at s.slots p) → rows_of t.slots ≡ rows_of s.slots
 rows_alike s t apart same = same_map outpoints_total outpoints_exact (rows_of t.slots) (rows_of s.slots) (λ q. ⊎_elim
     (λ found. get-at_place t.slots found.0 q apart_too (outpoint found.0 ∙ found.1) ∙ ap (option_and_then (λ (s : Slot). s.row)) (same found.0)
     ∙ sym (get-at_place s.slots found.0 q apart found.1))
@@ -270,9 +269,9 @@ rows_alike s t apart same = same_map outpoints_total outpoints_exact (rows_of t.
 -- ---- the places of slots
 
 -- where what a slot holds changes
-pub outpoints_stay : (s t : Slab Slot) (place : ℕ) (row : Option OutRow) → Updates s t place (slot_with (slab.get s place) row) → (p : ℕ) → outpoint_at t.slots p ≡ outpoint_at s.slots p
+pub outpoints_stay : (s t : HeldSlots) (place : ℕ) (row : Option OutRow) → Updates s.slots t.slots place (slot_with (slot_at s.slots place) row) → (p : ℕ) → outpoint_at t.slots p ≡ outpoint_at s.slots p
 outpoints_stay s t place row u p = ⊎_elim
-    (λ same. ap (outpoint_at t.slots) same ∙ ap (option_map (λ (s : Slot). s.at)) u.changed ∙ outpoint_with (slab.get s place) ∙ ap (outpoint_at s.slots) (sym same))
+    (λ same. ap (outpoint_at t.slots) same ∙ ap (option_map (λ (s : Slot). s.at)) u.changed ∙ outpoint_with (slot_at s.slots place) ∙ ap (outpoint_at s.slots) (sym same))
     (λ other. ap (option_map (λ (s : Slot). s.at)) (u.others p other))
     (cases_eq p place)
   where
@@ -292,7 +291,7 @@ pub found_so : (P : ℕ → Type 0) (found : Option ℕ) (place : ℕ) → IfSom
 found_so P found place holds is = subst (λ (o : Option ℕ). IfSome o P) is holds
 
 -- where a slot is taken away
-pub placed_less : (m n : Places) (s t : Slab Slot) (place : ℕ) (at : OutPoint) → ArePlaced m s.slots → outpoint_at s.slots place ≡ Some at → Updates s t place None
+pub placed_less : (m n : Places) (s t : HeldSlots) (place : ℕ) (at : OutPoint) → ArePlaced m s.slots → outpoint_at s.slots place ≡ Some at → Updates s.slots t.slots place None
     → ((q : OutPoint) (p : ℕ) → HasPlace m q p → q ≢ at → p ≢ place → HasPlace n q p)
     → ((q : OutPoint) → other_at n q ≡ cond (is_same at q) None (other_at m q))
     → ArePlaced n t.slots

@@ -26,7 +26,7 @@ use Rattle.ox_rules.proofs.Orders.{outpoints_total, outpoints_exact}
 use Rattle.ox_rules.proofs.Conservation.{times-append}
 use Rattle.ox_rules.proofs.Transfers.{counts_numbers}
 use Rattle.ox_outputs.specs.Slots.{SlotList, outpoint_at, row_at, slot_at, rows_of}
-use Rattle.ox_outputs.specs.declared.held.Slot.{Slot}
+use Rattle.ox_outputs.specs.Slots.{Slot}
 use Rattle.ox_outputs.specs.Starts.{is_among, firsts_of, BeginsLast}
 use Rattle.ox_outputs.specs.Located.{StandOnce, LeadTo, begins, begins_in, counted, standing, place_held}
 use Rattle.ox_outputs.proofs.SlotLemmas.{equal}

@@ -11,8 +11,10 @@ use Rattle.ox_block.specs.declared.block.OutPoint.{OutPoint}
 use Rattle.ox_rules.specs.declared.rows.OutRow.{OutRow}
 use Rattle.ox_rules.specs.Outputs.{Outputs, outpoint_cmp}
 use Rattle.ox_rules.proofs.Orders.{outpoints_total, outpoints_exact}
+use Rattle.ox_outputs.specs.SlotCells.{empty_from}
+use Rattle.std.specs.Option.{option_and_then}
 use Rattle.ox_outputs.specs.Slots.{SlotList, KeepRows, outpoint_at, slot_at, rows_of, put_slot, undone, AreSpots, unless_empty, is_place_of, tidied_at, filled_before}
-use Rattle.ox_outputs.specs.declared.held.Slot.{Slot}
+use Rattle.ox_outputs.specs.Slots.{Slot}
 use Rattle.ox_outputs.specs.declared.slot_of.SlotOf.{SlotOf}
 
 pub get-put_slot : (outs : Outputs) (at : OutPoint) (row : Option OutRow) (q : OutPoint) → get (put_slot outs at row) q ≡ cond (eq_by_cmp outpoint_cmp q at) row (get outs q)
@@ -226,3 +228,30 @@ none_left [] before none = refl
 none_left (s ∷ changed) [] none = refl
 none_left (s ∷ changed) (r ∷ before) (inl none) = absurd (cc none)
 none_left (s ∷ changed) (r ∷ before) (inr none) = absurd (cc none)
+
+-- ---- slots that are empty
+
+the_same : (a b : OutPoint) → ◌≡◌ {A = Option OutPoint} (Some a) (Some b) → a ≡ b
+the_same a b is = cc is
+
+-- the slot of which an outpoint is told because it is empty
+pub empty_slot : (slots : SlotList) (place : ℕ) (at : OutPoint) → Some at ≡ empty_from (slot_at slots place) → slot_at slots place ≡ Some (record { at = at; row = None })
+empty_slot slots place at is = by_slot (slot_at slots place) is where
+  by_row : (s : Slot) (row : Option OutRow) → s.row ≡ row → Some at ≡ (if is_some row then None else Some s.at) → ◌≡◌ {A = Option Slot} (Some s) (Some (record { at = at; row = None }))
+  by_row s None none is = let same : s.at ≡ at = sym (the_same at s.at is) in λ i. Some (record { at = same i; row = none i })
+  by_row s (Some row) none is = absurd (cc is)
+
+  by_slot : (slot : Option Slot) → Some at ≡ option_and_then (λ slot. if is_some slot.row then None else Some slot.at) slot → slot ≡ Some (record { at = at; row = None })
+  by_slot None is = absurd (cc is)
+  by_slot (Some s) is = by_row s s.row refl is
+
+-- and where none is told, a slot holds a row
+pub not_empty : (slots : SlotList) (place : ℕ) → None ≡ empty_from (slot_at slots place) → slot_at slots place ≡ unless_empty (slot_at slots place)
+not_empty slots place is = by_slot (slot_at slots place) is where
+  by_row : (s : Slot) (b : Bool) → ◌≡◌ {A = Option OutPoint} None (if b then None else Some s.at) → ◌≡◌ {A = Option Slot} (Some s) (if b then Some s else None)
+  by_row s true is = refl
+  by_row s false is = absurd (cc is)
+
+  by_slot : (slot : Option Slot) → None ≡ option_and_then (λ slot. if is_some slot.row then None else Some slot.at) slot → slot ≡ unless_empty slot
+  by_slot None is = refl
+  by_slot (Some s) is = by_row s (is_some s.row) is

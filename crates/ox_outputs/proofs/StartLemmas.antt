@@ -1,31 +1,42 @@
 -- Starts of runs by their first numbers: what changes of them leave.
-use Rattle.std.proofs.Common.{◌≡◌, ◌∙◌, ℕ, ◌<◌, ◌≤◌, Bool, true, false, cond, List, [], ◌∷◌, ◌++◌, refl, sym, ap, subst, arith, Option, Some, None, Ordering, drop, length, inl, inr, true≢false}
-use Rattle.std.specs.Prelude.{◌||◌, ◌⊎◌, not, IsSome, IfSome, is_some}
-use Rattle.std.specs.List.{AllByRecursion, filter}
-use Rattle.std.specs.List.Sorted.{IsStrictlySortedBy}
-use Rattle.std.specs.Option.{option_and_then}
-use Rattle.std.specs.Ordering.{nat_cmp, is_eq, is_gt, is_lt, MatchOrdering}
+use Rattle.std.proofs.Common.{◌≡◌, ◌∙◌, ℕ, ◌+◌, ◌<◌, ◌≤◌, Bool, true, false, cond, List, [], ◌∷◌, ◌++◌, refl, sym, ap, subst, arith, Option, Some, None, Ordering, drop, get_or, length, inl, inr, true≢false}
+use Rattle.std.specs.Prelude.{◌||◌, ◌⊎◌, IsSome, IfSome, is_some}
+use Rattle.std.specs.Option.{option_and_then, option_flatten}
+use Rattle.std.specs.Ordering.{nat_cmp, is_eq}
 use Rattle.std.specs.declared.cmp.Ordering.TheVariants.{Less, Equal, Greater}
-use Rattle.std.specs.declared.ops.Bound.TheVariants.{Included, Unbounded}
 use Rattle.std.specs.FinMap.{nat_cmp-IsAntisymmetric}
-use Rattle.std.specs.Map.{lookup, keys_of}
 use Rattle.std.specs.BTreeMap.{is_at}
-use Rattle.std.specs.BTreeMap.Range.{range_contains}
-use Rattle.std.proofs.lemmas.Map.Entries.{lookup-filter-keys}
-use Rattle.std.proofs.lemmas.Bool.{cond_both}
 use Rattle.std.specs.Cmp.{eq_by_cmp_equiv}
-use Rattle.std.proofs.lemmas.Cmp.{nat_cmp_total, ranked}
-use Rattle.std.proofs.lemmas.List.{append_assoc}
+use Rattle.std.proofs.lemmas.Bool.{cases_eq}
+use Rattle.std.proofs.lemmas.Cmp.{nat_cmp_total}
+use Rattle.std.proofs.lemmas.List.{append_assoc, append-nil, drop_more}
 use Rattle.std.proofs.lemmas.List.Elements.{All-push, All-same, All-weaker}
 use Rattle.ox_range.specs.declared.runs.Run.{Run}
+use Rattle.ox_outputs.specs.Cells.{CellList, start_in, SetsAt, IsLastTo}
 use Rattle.ox_outputs.specs.Located.{begins_in, counted, standing}
+use Rattle.ox_outputs.specs.Packed.{IsPlace}
 use Rattle.ox_outputs.specs.Slots.{SlotList}
-use Rattle.ox_outputs.specs.Starts.{StartList, slot_from, is_among, firsts_of, before_in, AreNoted, AreLogged, BeginsLast}
+use Rattle.ox_outputs.specs.Starts.{slot_from, is_among, firsts_of, before_in, AreNoted, AreLogged, BeginsLast}
 use Rattle.ox_outputs.specs.declared.starts.Before.{Before}
 
 -- which number it is, seen from either
 pub same_first : (a b : ℕ) → is_at (nat_cmp a) b ≡ is_at (nat_cmp b) a
 same_first a b = (eq_by_cmp_equiv nat_cmp_total).symm a b
+
+at_itself : (a : ℕ) → is_at (nat_cmp a) a ≡ true
+at_itself a = (eq_by_cmp_equiv nat_cmp_total).refl a
+
+is_equal : (r : Ordering) → is_eq r ≡ true → r ≡ Equal
+is_equal Less is = absurd (true≢false (sym is))
+is_equal Equal is = refl
+is_equal Greater is = absurd (true≢false (sym is))
+
+pub same_as : (a b : ℕ) → is_at (nat_cmp a) b ≡ true → a ≡ b
+same_as a b is = nat_cmp-IsAntisymmetric a b (is_equal (nat_cmp a b) is)
+
+-- what stands at a number, if anything does
+abbrev flat : Option (Option ℕ) → Option ℕ
+flat slot = option_and_then (λ (s : Option ℕ). s) slot
 
 -- ---- runs go and come
 
@@ -107,34 +118,89 @@ noted_back a b s t u q from all noted begins same is =
 
 -- ---- each number that changed stands among the starts
 
-some_still : (b : Bool) (v : Option ℕ) (n o : Option (Option ℕ)) → n ≡ cond b (Some v) o → IsSome o → IsSome n
-some_still true v n o is there = subst IsSome (sym is) refl
-some_still false v n o is there = subst IsSome (sym is) there
+some_still : (starts starts' : CellList) (first : ℕ) (v : Option ℕ) → SetsAt (start_in starts) (start_in starts') first (Some v) → (q : ℕ) → IsSome (start_in starts q) → IsSome (start_in starts' q)
+some_still starts starts' first v set q there = elim (cases_eq q first) [
+  | inl same ↦ subst IsSome (sym (ap (start_in starts') same ∙ set.here)) refl
+  | inr other ↦ subst IsSome (sym (set.others q other)) there
+]
 
-at_itself : (a : ℕ) → is_at (nat_cmp a) a ≡ true
-at_itself a = (eq_by_cmp_equiv nat_cmp_total).refl a
+-- something is put at a number
+pub logged_still : (changes : List Before) (starts starts' : CellList) (first : ℕ) (v : Option ℕ) → SetsAt (start_in starts) (start_in starts') first (Some v) → AreLogged changes starts → AreLogged changes starts'
+logged_still changes starts starts' first v set logged =
+    All-weaker (λ (one : Before). IsSome (start_in starts one.first) × IsPlace one.slot) (λ (one : Before). IsSome (start_in starts' one.first) × IsPlace one.slot)
+    (λ one there. (some_still starts starts' first v set one.first there.0, there.1)) changes logged
+
+-- all starts are as before
+pub logged_same : (changes changes' : List Before) (starts starts' : CellList) → changes' ≡ changes → ((q : ℕ) → start_in starts' q ≡ start_in starts q) → AreLogged changes starts → AreLogged changes' starts'
+logged_same changes changes' starts starts' same stay logged =
+    All-same (λ (one : Before). IsSome (start_in starts' one.first) × IsPlace one.slot) changes' changes same
+    (All-weaker (λ (one : Before). IsSome (start_in starts one.first) × IsPlace one.slot) (λ (one : Before). IsSome (start_in starts' one.first) × IsPlace one.slot)
+    (λ one there. (subst IsSome (sym (stay one.first)) there.0, there.1)) changes logged)
 
 -- a change is noted, at whose number something is put
-pub logged_more : (changes changes' : List Before) (change : Before) (starts starts' : StartList) (v : Option ℕ) → changes' ≡ changes ++ change ∷ [] → ((q : ℕ) → lookup (is_at (nat_cmp q)) starts' ≡ cond (is_at (nat_cmp change.first) q) (Some v) (lookup (is_at (nat_cmp q)) starts)) → AreLogged changes starts → AreLogged changes' starts'
-logged_more changes changes' change starts starts' v pushed put logged =
-    let Stands = λ (one : Before). IsSome (lookup (is_at (nat_cmp one.first)) starts') in
+pub logged_more : (changes changes' : List Before) (change : Before) (starts starts' : CellList) (v : Option ℕ) → changes' ≡ changes ++ change ∷ [] → SetsAt (start_in starts) (start_in starts') change.first (Some v) → IsPlace change.slot → AreLogged changes starts → AreLogged changes' starts'
+logged_more changes changes' change starts starts' v pushed set place logged =
+    let Stands = λ (one : Before). IsSome (start_in starts' one.first) × IsPlace one.slot in
     All-same Stands changes' (changes ++ change ∷ []) pushed (All-push Stands changes change
-    (All-weaker (λ (one : Before). IsSome (lookup (is_at (nat_cmp one.first)) starts)) Stands
-    (λ one there. some_still (is_at (nat_cmp change.first) one.first) v _ _ (put one.first) there) changes logged)
-    (subst IsSome (sym (put change.first ∙ ap (λ (b : Bool). cond b (Some v) (lookup (is_at (nat_cmp change.first)) starts)) (at_itself change.first))) refl))
+    (logged_still changes starts starts' change.first v set logged)
+    (subst IsSome (sym set.here) refl, place))
 
-is_equal : (r : Ordering) → is_eq r ≡ true → r ≡ Equal
-is_equal Less is = absurd (true≢false (sym is))
-is_equal Equal is = refl
-is_equal Greater is = absurd (true≢false (sym is))
+-- nothing is noted where nothing changes
+pub noted_none : (a b : List Before) (s t : CellList) → b ≡ a → ((q : ℕ) → start_in t q ≡ start_in s q) → AreNoted a b (slot_from s) (slot_from t)
+noted_none a b s t same stay = record {
+  added = [];
+  behind = same ∙ sym (append-nil a);
+  back = λ q. ap flat (stay q);
+}
 
-pub same_as : (a b : ℕ) → is_at (nat_cmp a) b ≡ true → a ≡ b
-same_as a b is = nat_cmp-IsAntisymmetric a b (is_equal (nat_cmp a b) is)
+-- a place that stood, or none
+pub flat_place : (stood : Option (Option ℕ)) → IfSome stood (λ slot. IsPlace slot) → IsPlace (option_flatten stood)
+flat_place (Some slot) place = place
+flat_place None place = tt
 
 -- ---- starts that count
 
-abbrev flat : Option (Option ℕ) → Option ℕ
-flat slot = option_and_then (λ (s : Option ℕ). s) slot
+pub flat_is : (stood : Option (Option ℕ)) → option_flatten stood ≡ flat stood
+flat_is (Some slot) = refl
+flat_is None = refl
+
+-- the slot at each number, where one is put at a number
+pub slot_set : (starts starts' : CellList) (first : ℕ) (v : Option ℕ) → SetsAt (start_in starts) (start_in starts') first (Some v) → (q : ℕ) → slot_from starts' q ≡ cond (is_at (nat_cmp first) q) v (slot_from starts q)
+slot_set starts starts' first v set q = by (is_at (nat_cmp first) q) refl where
+  by : (b : Bool) → is_at (nat_cmp first) q ≡ b → slot_from starts' q ≡ cond b v (slot_from starts q)
+  by true same = ap (slot_from starts') (sym (same_as first q same)) ∙ ap flat set.here
+  by false other = ap flat (set.others q (λ same. true≢false (sym (ap (is_at (nat_cmp first)) same ∙ at_itself first) ∙ other)))
+
+-- with what stood at the one number, all is as it was
+pub back_again : (starts starts' : CellList) (first : ℕ) (v slot : Option ℕ) → SetsAt (start_in starts) (start_in starts') first (Some v) → slot ≡ slot_from starts first → (q : ℕ) → cond (is_at (nat_cmp q) first) slot (slot_from starts' q) ≡ slot_from starts q
+back_again starts starts' first v slot set stood q = by (is_at (nat_cmp q) first) refl where
+  by : (b : Bool) → is_at (nat_cmp q) first ≡ b → cond b slot (slot_from starts' q) ≡ slot_from starts q
+  by true same = stood ∙ ap (slot_from starts) (sym (same_as q first same))
+  by false other = slot_set starts starts' first v set q ∙ ap (λ (b : Bool). cond b v (slot_from starts q)) (same_first first q ∙ other)
+
+-- one more change is put back
+pub put_back : (changes : List Before) (left left' : ℕ) (starts starts' : CellList) (s : ℕ → Option ℕ) (change : Before) → left' + 1 ≡ left → left' < length changes → change ≡ get_or changes left' change → SetsAt (start_in starts) (start_in starts') change.first (Some change.slot) → (q : ℕ) → slot_from starts q ≡ before_in (drop left changes) s q → slot_from starts' q ≡ before_in (drop left' changes) s q
+put_back changes left left' starts starts' s change next within is set q was =
+    slot_set starts starts' change.first change.slot set q
+    ∙ ap (λ (b : Bool). cond b change.slot (slot_from starts q)) (same_first change.first q)
+    ∙ ap (cond (is_at (nat_cmp q) change.first) change.slot) (was ∙ ap (λ (n : ℕ). before_in (drop n changes) s q) (sym next))
+    ∙ sym (ap (λ (l : List Before). before_in l s q) (drop_more changes left' change within ∙ ap (λ (c : Before). c ∷ drop (left' + 1) changes) (sym is)))
+
+-- what holds nothing goes
+pub nothing_goes : (starts starts' : CellList) (first : ℕ) → start_in starts first ≡ Some None → SetsAt (start_in starts) (start_in starts') first None → (q : ℕ) → slot_from starts' q ≡ slot_from starts q
+nothing_goes starts starts' first held set q = elim (cases_eq q first) [
+  | inl same ↦ ap (slot_from starts') same ∙ ap flat set.here ∙ sym (ap (slot_from starts) same ∙ ap flat held)
+  | inr other ↦ ap flat (set.others q other)
+]
+
+-- what counts for nothing goes
+pub stale_goes : (slots : SlotList) (starts starts' : CellList) (first held : ℕ) → start_in starts first ≡ Some (Some held) → begins_in slots held first ≡ false → SetsAt (start_in starts) (start_in starts') first None → (q : ℕ) → standing slots (slot_from starts') q ≡ standing slots (slot_from starts) q
+stale_goes slots starts starts' first held is stale set q = elim (cases_eq q first) [
+  | inl same ↦ ap (standing slots (slot_from starts')) same
+      ∙ ap (λ (o : Option (Option ℕ)). counted slots first (flat o)) set.here
+      ∙ sym (ap (standing slots (slot_from starts)) same ∙ ap (λ (o : Option (Option ℕ)). counted slots first (flat o)) is ∙ ap (λ (b : Bool). cond b (Some held) None) stale)
+  | inr other ↦ ap (λ (o : Option (Option ℕ)). counted slots q (flat o)) (set.others q other)
+]
 
 pub stands_so : (slots : SlotList) (first : ℕ) (slot : Option ℕ) (place : ℕ) → counted slots first slot ≡ Some place → (slot ≡ Some place) × (begins_in slots place first ≡ true)
 stands_so slots first None place is = absurd (cc is)
@@ -145,112 +211,46 @@ stands_so slots first (Some p) place is = by_test (begins_in slots p first) refl
 
 -- ---- the last start
 
-gt_low : (a b : ℕ) (r : Ordering) → MatchOrdering r (a < b) (a ≡ b) (b < a) → is_gt r ≡ false → a ≤ b
-gt_low a b Less is low = omega (arith, is)
-gt_low a b Equal is low = omega (arith, is)
-gt_low a b Greater is low = absurd (true≢false low)
+-- each start that counts, up to a number, is up to another one
+abbrev pub CountUpTo : SlotList → CellList → ℕ → ℕ → Type 0
+CountUpTo slots starts number at = (first slot : ℕ) → standing slots (slot_from starts) first ≡ Some slot → first ≤ number → first ≤ at
 
-pub not_above : (a b : ℕ) → is_gt (nat_cmp a b) ≡ false → a ≤ b
-not_above a b is = gt_low a b (nat_cmp a b) (ranked a b (nat_cmp a b) refl) is
+flat_some : (o : Option (Option ℕ)) (slot : ℕ) → flat o ≡ Some slot → IsSome o
+flat_some None slot is = absurd (cc is)
+flat_some (Some o) slot is = refl
 
-not_lt : (a b : ℕ) (r : Ordering) → MatchOrdering r (a < b) (a ≡ b) (b < a) → b ≤ a → is_lt r ≡ false
-not_lt a b Less is high = absurd (omega (arith, is, high))
-not_lt a b Equal is high = refl
-not_lt a b Greater is high = refl
+-- one that counts is among the starts
+pub counts_there : (slots : SlotList) (starts : CellList) (first slot : ℕ) → standing slots (slot_from starts) first ≡ Some slot → IsSome (start_in starts first)
+counts_there slots starts first slot is = flat_some (start_in starts first) slot (stands_so slots first (slot_from starts first) slot is).0
 
-less_low : (a b : ℕ) (r : Ordering) → MatchOrdering r (a < b) (a ≡ b) (b < a) → r ≡ Less → a ≤ b
-less_low a b Less is less = omega (arith, is)
-less_low a b Equal is less = omega (arith, is)
-less_low a b Greater is less = absurd (cc less)
+module _ (slots : SlotList) (starts : CellList) (number at : ℕ) (start : ℕ × Option ℕ) (found : Option ℕ) (low : at ≤ number) (rest : CountUpTo slots starts number at) (here : IsLastTo (start_in starts) at start) (is : found ≡ counted slots start.0 start.1) where
+  counts_here : standing slots (slot_from starts) start.0 ≡ found
+  counts_here = ap (λ (o : Option (Option ℕ)). counted slots start.0 (flat o)) here.is ∙ sym is
 
-low_by_less : (a b : ℕ) → nat_cmp a b ≡ Less → a ≤ b
-low_by_less a b less = less_low a b (nat_cmp a b) (ranked a b (nat_cmp a b) refl) less
+  up_to_start : (first slot : ℕ) → standing slots (slot_from starts) first ≡ Some slot → first ≤ number → first ≤ start.0
+  up_to_start first slot there to = here.last first (counts_there slots starts first slot there) (rest first slot there to)
 
--- this stands among the starts, up to a number
-abbrev pub StandsTo : ℕ → StartList → ℕ × Option ℕ → Type 0
-StandsTo number starts e = (e.0 ≤ number) × (lookup (is_at (nat_cmp e.0)) starts ≡ Some e.1)
+  -- a start that counts, up to the number
+  pub some_found : IfSome found (λ slot. (first : ℕ) × (first ≤ number) × (standing slots (slot_from starts) first ≡ Some slot))
+  some_found = by found counts_here where
+    by : (o : Option ℕ) → standing slots (slot_from starts) start.0 ≡ o → IfSome o (λ slot. (first : ℕ) × (first ≤ number) × (standing slots (slot_from starts) first ≡ Some slot))
+    by None counts = tt
+    by (Some slot) counts = (start.0, omega (arith, here.low, low), counts)
 
--- the starts up to a number
-abbrev pub starts_to : ℕ → StartList → StartList
-starts_to number starts = filter (λ e. range_contains nat_cmp Unbounded (Included number) e.0) starts
+  -- it is the last that does
+  pub last_found : is_some found ≡ true → (first slot : ℕ) → standing slots (slot_from starts) first ≡ Some slot → BeginsLast (standing slots (slot_from starts)) first number → found ≡ Some slot
+  last_found some first slot there last = by found counts_here some where
+    by : (o : Option ℕ) → standing slots (slot_from starts) start.0 ≡ o → is_some o ≡ true → o ≡ Some slot
+    by None counts known = absurd (true≢false (sym known))
+    by (Some s) counts known =
+        let up : first ≤ start.0 = up_to_start first slot there last.0 in
+        let down : start.0 ≤ first = last.1 start.0 s counts (omega (arith, here.low, low)) in
+        let same : start.0 ≡ first = omega (arith, up, down) in
+        sym counts ∙ ap (standing slots (slot_from starts)) same ∙ there
 
-pub to_found : (number q : ℕ) (starts : StartList) → q ≤ number → slot_from (starts_to number starts) q ≡ slot_from starts q
-to_found number q starts low =
-    ap (option_and_then (λ (slot : Option ℕ). slot))
-    (lookup-filter-keys (is_at (nat_cmp q)) (range_contains nat_cmp Unbounded (Included number)) true
-    (λ k same. ap not (not_lt number k (nat_cmp number k) (ranked number k (nat_cmp number k) refl) (subst (λ (n : ℕ). n ≤ number) (same_as q k same) low))) starts)
-
-all_filter : (p : ℕ → Bool) (P : ℕ → Type 0) (es : StartList) → AllByRecursion P (keys_of es) → AllByRecursion P (keys_of (filter (λ e. p e.0) es))
-all_filter p P [] all = tt
-all_filter p P (e ∷ es) all = cond_both (p e.0) (e ∷ filter (λ e. p e.0) es) (filter (λ e. p e.0) es) (λ (l : StartList). AllByRecursion P (keys_of l)) (λ _. (all.0, all_filter p P es all.1)) (λ _. all_filter p P es all.1)
-
-sorted_filter : (p : ℕ → Bool) (es : StartList) → IsStrictlySortedBy nat_cmp (keys_of es) → IsStrictlySortedBy nat_cmp (keys_of (filter (λ e. p e.0) es))
-unfolding IsStrictlySortedBy
-sorted_filter p [] sorted = tt
-sorted_filter p (e ∷ es) sorted =
-    let rest = sorted_filter p es sorted.1 in
-    cond_both (p e.0) (e ∷ filter (λ e. p e.0) es) (filter (λ e. p e.0) es) (λ (l : StartList). IsStrictlySortedBy nat_cmp (keys_of l)) (λ _. (all_filter p (λ k. nat_cmp e.0 k ≡ Less) es sorted.0, rest)) (λ _. rest)
-
-pub to_sorted : (number : ℕ) (starts : StartList) → IsStrictlySortedBy nat_cmp (keys_of starts) → IsStrictlySortedBy nat_cmp (keys_of (starts_to number starts))
-to_sorted number starts sorted = sorted_filter (range_contains nat_cmp Unbounded (Included number)) starts sorted
-
-all_front : (P : ℕ → Type 0) (es : StartList) (e : ℕ × Option ℕ) → AllByRecursion P (keys_of (es ++ e ∷ [])) → AllByRecursion P (keys_of es) × P e.0
-all_front P [] e all = (tt, all.0)
-all_front P (one ∷ es) e all = let rest = all_front P es e all.1 in ((all.0, rest.0), rest.1)
-
--- without the last start
-pub front_sorted : (es : StartList) (e : ℕ × Option ℕ) → IsStrictlySortedBy nat_cmp (keys_of (es ++ e ∷ [])) → IsStrictlySortedBy nat_cmp (keys_of es)
-unfolding IsStrictlySortedBy
-front_sorted [] e sorted = tt
-front_sorted (one ∷ es) e sorted = ((all_front (λ k. nat_cmp one.0 k ≡ Less) es e sorted.0).0, front_sorted es e sorted.1)
-
-one_found : (slots : SlotList) (q : ℕ) (b : Bool) (slot : Option ℕ) (n o : Option (Option ℕ)) → counted slots q (flat n) ≡ counted slots q (flat o) → counted slots q (flat (cond b (Some slot) n)) ≡ counted slots q (flat (cond b (Some slot) o))
-one_found slots q true slot n o is = refl
-one_found slots q false slot n o is = is
-
-none_found : (slots : SlotList) (first q : ℕ) (slot : Option ℕ) (b : Bool) → is_at (nat_cmp q) first ≡ b → counted slots first slot ≡ None → counted slots q (flat (cond b (Some slot) None)) ≡ None
-none_found slots first q slot true is none = ap (λ (n : ℕ). counted slots n slot) (same_as q first is) ∙ none
-none_found slots first q slot false is none = refl
-
--- an entry that doesn't count behind the others
-pub none_last : (slots : SlotList) (es : StartList) (first : ℕ) (slot : Option ℕ) (q : ℕ) → counted slots first slot ≡ None → counted slots q (slot_from (es ++ (first, slot) ∷ []) q) ≡ counted slots q (slot_from es q)
-none_last slots [] first slot q none = none_found slots first q slot (is_at (nat_cmp q) first) refl none
-none_last slots (one ∷ es) first slot q none = one_found slots q (is_at (nat_cmp q) one.0) one.1 (lookup (is_at (nat_cmp q)) (es ++ (first, slot) ∷ [])) (lookup (is_at (nat_cmp q)) es) (none_last slots es first slot q none)
-
-only_found : (b : Bool) (slot : Option ℕ) (s : ℕ) → option_and_then (λ (s : Option ℕ). s) (cond b (Some slot) None) ≡ Some s → b ≡ true
-only_found true slot s is = refl
-only_found false slot s is = absurd (cc is)
-
-first_found : (b : Bool) (slot : Option ℕ) (o : Option (Option ℕ)) (s : ℕ) (P : Type 0) → option_and_then (λ (s : Option ℕ). s) (cond b (Some slot) o) ≡ Some s → (b ≡ true → P) → (option_and_then (λ (s : Option ℕ). s) o ≡ Some s → P) → P
-first_found true slot o s P is here behind = here refl
-first_found false slot o s P is here behind = behind is
-
--- none stands behind the last
-pub at_most_last : (es : StartList) (e : ℕ × Option ℕ) (q s : ℕ) → IsStrictlySortedBy nat_cmp (keys_of (es ++ e ∷ [])) → slot_from (es ++ e ∷ []) q ≡ Some s → q ≤ e.0
-unfolding IsStrictlySortedBy
-at_most_last [] e q s sorted is = let same = same_as q e.0 (only_found (is_at (nat_cmp q) e.0) e.1 s is) in omega (arith, same)
-at_most_last (one ∷ es) e q s sorted is =
-    first_found (is_at (nat_cmp q) one.0) one.1 (lookup (is_at (nat_cmp q)) (es ++ e ∷ [])) s (q ≤ e.0) is
-    (λ here. let same = same_as q one.0 here in let low = low_by_less one.0 e.0 (all_front (λ k. nat_cmp one.0 k ≡ Less) es e sorted.0).1 in omega (arith, same, low))
-    (λ behind. at_most_last es e q s sorted.1 behind)
-
--- a slot that counts at a number up to another
-pub some_found : (slots : SlotList) (slot : Option ℕ) (first number : ℕ) (starts : StartList) (found : Option ℕ) → found ≡ counted slots first slot → first ≤ number → lookup (is_at (nat_cmp first)) starts ≡ Some slot → IfSome found (λ s. (f : ℕ) × (f ≤ number) × (standing slots (slot_from starts) f ≡ Some s))
-some_found slots slot first number starts None is low here = tt
-some_found slots slot first number starts (Some s) is low here = (first, low, ap (λ (o : Option (Option ℕ)). counted slots first (flat o)) here ∙ sym is)
-
--- a start that none follows up to a number is the last in front of it
-pub last_found : (slots : SlotList) (es starts : StartList) (e : ℕ × Option ℕ) (first slot number : ℕ) → IsStrictlySortedBy nat_cmp (keys_of (es ++ e ∷ [])) → e.0 ≤ number → lookup (is_at (nat_cmp e.0)) starts ≡ Some e.1 → is_some (counted slots e.0 e.1) ≡ true → counted slots first (slot_from (es ++ e ∷ []) first) ≡ Some slot → standing slots (slot_from starts) first ≡ Some slot → BeginsLast (standing slots (slot_from starts)) first number → counted slots e.0 e.1 ≡ Some slot
-last_found slots es starts e first slot number sorted low here some among there last =
-    let at : standing slots (slot_from starts) e.0 ≡ counted slots e.0 e.1 = ap (λ (o : Option (Option ℕ)). counted slots e.0 (flat o)) here in
-    let below : first ≤ e.0 = at_most_last es e first slot sorted (stands_so slots first (slot_from (es ++ e ∷ []) first) slot among).0 in
-    let same : e.0 ≡ first = is_first (counted slots e.0 e.1) refl at below in
-    sym at ∙ ap (standing slots (slot_from starts)) same ∙ there
-  where
-    is_first : (o : Option ℕ) → counted slots e.0 e.1 ≡ o → standing slots (slot_from starts) e.0 ≡ counted slots e.0 e.1 → first ≤ e.0 → e.0 ≡ first
-    is_first None is at below = absurd (true≢false (sym some ∙ ap is_some is))
-    is_first (Some s) is at below = let over : e.0 ≤ first = last.1 e.0 s (at ∙ is) low in omega (arith, over, below)
-
-pub none_there : (o : Option ℕ) → is_some o ≡ false → o ≡ None
-none_there None none = refl
-none_there (Some s) none = absurd (true≢false none)
+  -- where it doesn't count, the others are below it
+  pub below_start : is_some found ≡ false → (first slot : ℕ) → standing slots (slot_from starts) first ≡ Some slot → first ≤ number → first < start.0
+  below_start none first slot there to = elim (cases_eq first start.0) [
+    | inl same ↦ absurd (true≢false (sym (ap is_some (sym counts_here ∙ ap (standing slots (slot_from starts)) (sym same) ∙ there)) ∙ none))
+    | inr other ↦ (let up : first ≤ start.0 = up_to_start first slot there to in omega (arith, up, other))
+  ]

@@ -1,3 +1,5 @@
+pub mod Cells
+pub mod Packed
 pub mod Located
 pub mod Locator
 pub mod Lists
@@ -8,5 +10,8 @@ pub mod Starts
 pub mod Table
 pub mod Differing
 pub mod Fronts
+pub mod Held
 pub mod InOrder
 pub mod Next
+pub mod SlotCells
+pub mod Pieces

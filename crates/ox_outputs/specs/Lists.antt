@@ -2,16 +2,23 @@
 use Rattle.std.specs.Prelude.{◌≡◌, ◌<◌, ℕ, ◌==◌, ◌&&◌, Bool, List, [], length, slice_get}
 use Rattle.std.specs.List.{list_any}
 use Rattle.std.specs.Option.{option_map_or}
-use Rattle.smallvec.specs.SmallVec.{SmallVec}
+use Rattle.std.specs.Global.{Vec}
+use Rattle.ox_shards.specs.declared.lines.Lines.{Lines}
+use Rattle.ox_shards.specs.Lines.{line_of}
 use Rattle.ox_outputs.specs.declared.entry.Entry.{Entry}
 
 -- the list with this index, or an empty one
-abbrev pub items_at : List (SmallVec Entry) → ℕ → List Entry
+abbrev pub items_at : List (Vec Entry) → ℕ → List Entry
 items_at lists index = option_map_or (λ list. list.items) (slice_get lists index) []
 
--- there are no lists, or as many as shards of outpoints
-abbrev pub NoneOrAll : List (SmallVec Entry) → Type 0
-NoneOrAll lists = 0 < length lists → length lists ≡ 65536
+-- the list to which a tag leads
+abbrev pub led_to : List (Vec Entry) → Lines → ℕ → List Entry
+led_to lists lines tag = items_at lists (line_of lines tag)
+
+-- There is a list for each line, or none for the one line.
+pub record AreMade (lists : List (Vec Entry)) (lines : Lines) : Type 0 where
+  pub each : 0 < length lists → length lists ≡ lines.count
+  pub none : length lists ≡ 0 → lines.count ≡ 1
 
 -- whether a place stands in a list with this tag
 abbrev pub is_in : List Entry → ℕ → ℕ → Bool

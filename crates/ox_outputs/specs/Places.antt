@@ -3,15 +3,15 @@ use Rattle.std.specs.Prelude.{◌≡◌, ◌⊎◌, ℕ, List, Option, Some, IsT
 use Rattle.std.specs.BTreeMap.{get}
 use Rattle.ox_block.specs.declared.block.OutPoint.{OutPoint}
 use Rattle.ox_rules.specs.Outputs.{outpoint_cmp}
-use Rattle.ox_block.specs.Keys.{outpoint_shard, outpoint_tag}
+use Rattle.ox_block.specs.Keys.{outpoint_tag}
 use Rattle.ox_outputs.specs.declared.entry.Entry.{Entry}
 use Rattle.ox_outputs.specs.declared.places.Places.{Places}
-use Rattle.ox_outputs.specs.Lists.{items_at, is_in}
+use Rattle.ox_outputs.specs.Lists.{led_to, is_in}
 use Rattle.ox_outputs.specs.Slots.{SlotList, outpoint_at}
 
 -- the list in which an outpoint's place may stand
 abbrev pub list_at : Places → OutPoint → List Entry
-list_at places at = items_at places.lists.items (outpoint_shard at)
+list_at places at = led_to places.lists.items places.lines (outpoint_tag at)
 
 -- an outpoint's place in the ordered map
 abbrev pub other_at : Places → OutPoint → Option ℕ

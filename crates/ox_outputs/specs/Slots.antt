@@ -1,5 +1,5 @@
 -- Rows in slots, and what stood in them before.
-use Rattle.std.specs.Prelude.{◌≡◌, ℕ, ◌==◌, Bool, if◌then◌else◌, List, [], ◌∷◌, map, Option}
+use Rattle.std.specs.Prelude.{◌≡◌, ◌≢◌, ℕ, ◌==◌, Bool, if◌then◌else◌, List, [], ◌∷◌, map, Option}
 use Rattle.std.specs.Prelude.{Some, None, is_some, slice_index_or}
 use Rattle.std.specs.List.{list_any}
 use Rattle.std.specs.Option.{option_map, option_and_then}
@@ -7,8 +7,12 @@ use Rattle.std.specs.FinMap.{empty, get, insert, remove}
 use Rattle.ox_block.specs.declared.block.OutPoint.{OutPoint}
 use Rattle.ox_rules.specs.declared.rows.OutRow.{OutRow}
 use Rattle.ox_rules.specs.Outputs.{Outputs}
-use Rattle.ox_outputs.specs.declared.held.Slot.{Slot}
 use Rattle.ox_outputs.specs.declared.slot_of.SlotOf.{SlotOf}
+
+-- an outpoint with a row, or without one
+pub record Slot : Type 0 where
+  pub at : OutPoint
+  pub row : Option OutRow
 
 -- the slot or nothing at each place from 0 on
 abbrev pub SlotList : Type 0
@@ -17,6 +21,11 @@ SlotList = List (Option Slot)
 -- the slot at a place
 abbrev pub slot_at : SlotList → ℕ → Option Slot
 slot_at slots place = slice_index_or slots place None
+
+-- at one place there is now this slot, or none, and any other place is as it was
+pub record Updates (old new : SlotList) (place : ℕ) (slot : Option Slot) : Type 0 where
+  pub changed : slot_at new place ≡ slot
+  pub others : (other : ℕ) → other ≢ place → slot_at new other ≡ slot_at old other
 
 -- the outpoint whose slot has this place
 abbrev pub outpoint_at : SlotList → ℕ → Option OutPoint

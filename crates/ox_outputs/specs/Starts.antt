@@ -4,19 +4,15 @@ use Rattle.std.specs.Prelude.{if◌then◌else◌}
 use Rattle.std.specs.List.{All, list_any}
 use Rattle.std.specs.Option.{option_and_then}
 use Rattle.std.specs.Ordering.{nat_cmp}
-use Rattle.std.specs.Map.{lookup}
 use Rattle.std.specs.BTreeMap.{is_at}
 use Rattle.ox_range.specs.declared.runs.Run.{Run}
+use Rattle.ox_outputs.specs.Cells.{CellList, start_in}
+use Rattle.ox_outputs.specs.Packed.{IsPlace}
 use Rattle.ox_outputs.specs.declared.starts.Before.{Before}
 
--- numbers with which runs begin or began, each with the place of the slot that holds the run, if
--- one does
-abbrev pub StartList : Type 0
-StartList = List (ℕ × Option ℕ)
-
 -- the slot of the run that begins with this number
-abbrev pub slot_from : StartList → ℕ → Option ℕ
-slot_from starts first = option_and_then (λ slot. slot) (lookup (is_at (nat_cmp first)) starts)
+abbrev pub slot_from : CellList → ℕ → Option ℕ
+slot_from starts first = option_and_then (λ slot. slot) (start_in starts first)
 
 -- whether a number is among these
 abbrev pub is_among : List ℕ → ℕ → Bool
@@ -38,10 +34,10 @@ pub record AreNoted (earlier later : List Before) (was is : ℕ → Option ℕ) 
   pub behind : later ≡ earlier ++ added
   pub back : (first : ℕ) → before_in added is first ≡ was first
 
--- each number that changed stands among the starts
-abbrev pub AreLogged : List Before → StartList → Type 0
+-- each number that changed stands among the starts, and what stood there can stand there again
+abbrev pub AreLogged : List Before → CellList → Type 0
 AreLogged changes starts =
-    All (λ change. IsSome (lookup (is_at (nat_cmp change.first)) starts)) changes
+    All (λ change. IsSome (start_in starts change.first) × IsPlace change.slot) changes
 
 -- this number is at another one or before, and no start stands between them
 abbrev pub BeginsLast : (ℕ → Option ℕ) → ℕ → ℕ → Type 0

@@ -1,33 +1,39 @@
 //! The rows by rising outpoint.
 
-ghost use Rattle.std.specs.Prelude.{◌≡◌, ◌==◌, IfOk, length, map, slice_get};
+ghost use Rattle.std.specs.Prelude.{◌≡◌, ◌==◌, All, IfOk, length, map, slice_get};
 ghost use Rattle.std.specs.Option.{option_map};
 ghost use Rattle.std.specs.FinMap.{entries};
-ghost use Rattle.ox_outputs.specs.InOrder.{StandApart, entries_in, entry_of};
-ghost use Rattle.ox_outputs.specs.Slots.{rows_of};
+ghost use Rattle.ox_outputs.specs.Fronts.{fronted_cmp};
+ghost use Rattle.ox_outputs.specs.InOrder.{IsFilled, StandApart, entries_in, entry_of};
+ghost use Rattle.ox_outputs.specs.Slots.{outpoint_at, rows_of};
 
-use crate::held::Held;
-use crate::ranked::{Ranked, order_of, rank};
+use crate::fronted::Fronted;
+use crate::held::{Held, count, end, filled_in, outpoint_in};
 use ox_block::OutPoint;
 use ox_rules::{Memory, OutRow};
 use std::alloc::Global;
+use std::cmp::Ordering;
 use std::marker::Model;
 
-/// The rows by rising outpoint. Contracts see the list of them, with their outpoints.
+/// The rows by rising outpoint: the places of their slots in that order. Contracts see the list of
+/// the rows, with their outpoints.
 #[derive(Drop)]
 pub struct InOrder<'a> {
-    rows: Vec<Ranked<'a>>,
+    held: &'a Held,
+    places: Vec<Fronted>,
 }
 
 impl<'a> Model for InOrder<'a> {
-    ghost use Rattle.std.specs.Prelude.{List, map};
+    ghost use Rattle.std.specs.Prelude.{All, List, map};
     ghost use Rattle.ox_block.specs.declared.block.OutPoint.{OutPoint};
     ghost use Rattle.ox_rules.specs.declared.rows.OutRow.{OutRow};
-    ghost use Rattle.ox_outputs.specs.InOrder.{entry_of};
+    ghost use Rattle.ox_outputs.specs.InOrder.{IsFilled, entry_of};
 
     ghost Value = { List (OutPoint × OutRow) };
 
-    ghost view = { λ order. map entry_of order.rows.items };
+    ghost view = { λ order. map (entry_of order.held.now.slots) order.places.items };
+
+    ghost invariant = { λ order. All (IsFilled order.held.now.slots) order.places.items };
 }
 
 impl<'a> InOrder<'a> {
@@ -35,24 +41,22 @@ impl<'a> InOrder<'a> {
     pub fn len(&self) -> usize
         ensures { result ≡ length self.now }
     {
-        self.rows.len()
+        self.places.len()
     }
 
     /// Whether there are none.
     pub fn is_empty(&self) -> bool
         ensures { result ≡ (length self.now == 0) }
     {
-        self.rows.is_empty()
+        self.places.is_empty()
     }
 
     /// The row with so many before it, and its outpoint; `None` exactly where there are no more.
     pub fn get(&self, n: usize) -> Option<(&'a OutPoint, &'a OutRow)>
         ensures { option_map (λ e. (e.0.now, e.1.now)) result ≡ slice_get self.now n }
     {
-        match self.rows.get(n) {
-            Some(one) => Some(one.entry()),
-            None => None,
-        }
+        let cell = filled_in(self.held, self.places.get(n)?.place)?;
+        Some((cell.at, cell.row))
     }
 }
 
@@ -61,21 +65,35 @@ pub(crate) fn in_order(alloc: Global, held: &Held) -> Result<InOrder<'_>, Memory
     requires { StandApart held.now.slots }
     ensures { IfOk result (λ order. order ≡ entries (rows_of held.now.slots)) }
 {
-    let mut rows = filled(alloc, held)?;
-    rows.sort_unstable_by(|a, b| order_of(a, b));
-    Ok(InOrder { rows })
+    let mut places = filled(alloc, held)?;
+    places.sort_unstable_by(|a, b| order_of(held, a, b));
+    Ok(InOrder { held, places })
 }
 
-/// Those of these slots that hold rows.
-fn filled(alloc: Global, held: &Held) -> Result<Vec<Ranked<'_>>, Memory>
-    ensures { IfOk result (λ rows. map entry_of rows.items ≡ entries_in held.now.slots) }
+/// The places of those of these slots that hold rows.
+fn filled(alloc: Global, held: &Held) -> Result<Vec<Fronted>, Memory>
+    ensures entries { IfOk result (λ places.
+        map (entry_of held.now.slots) places.items ≡ entries_in held.now.slots) }
+    ensures fronts { IfOk result (λ places. All (IsFilled held.now.slots) places.items) }
 {
-    let mut rows = Vec::new(alloc);
-    rows.reserve_exact(held.len())?;
-    for (_, slot) in held.iter() {
-        if slot.row.is_some() {
-            rows.push(rank(slot))?;
+    let mut places = Vec::new(alloc);
+    places.reserve_exact(count(held))?;
+    for place in 0..end(held) {
+        if let Some(cell) = filled_in(held, place) {
+            places.push(Fronted::new(cell.at, place))?;
         }
     }
-    Ok(rows)
+    Ok(places)
+}
+
+/// The order of two slots, by their places: by the fronts of their outpoints, and by the outpoints
+/// where these are equal.
+fn order_of(held: &Held, a: &Fronted, b: &Fronted) -> Ordering
+    ensures { result ≡ fronted_cmp (outpoint_at held.now.slots) a.now b.now }
+{
+    if a.front == b.front {
+        outpoint_in(held, a.place).cmp(&outpoint_in(held, b.place))
+    } else {
+        a.front.cmp(&b.front)
+    }
 }

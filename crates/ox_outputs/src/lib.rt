@@ -3,6 +3,8 @@
 #![tactic(auto)]
 
 mod ahead;
+mod cell;
+mod cells;
 mod changes;
 mod differing;
 mod entry;
@@ -12,8 +14,10 @@ mod in_order;
 mod locator;
 mod next;
 mod outputs;
+mod piece;
+mod pieces;
 mod places;
-mod ranked;
+mod slot_cell;
 mod slot_of;
 mod slots;
 mod starts;

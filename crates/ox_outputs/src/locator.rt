@@ -3,16 +3,17 @@
 ghost use Rattle.std.specs.Prelude.{◌≡◌, ◌≤◌, ℕ, true, false, None, Some, OnOk, OnErr, IfSome};
 ghost use Rattle.std.specs.Prelude.{if◌then◌else◌};
 ghost use Rattle.ox_range.specs.Runs.{runs_of};
+ghost use Rattle.std.proofs.Props.{props};
 ghost use Rattle.ox_outputs.specs.Located.{standing};
 ghost use Rattle.ox_outputs.specs.Starts.{is_among, firsts_of, slot_from, AreLogged, BeginsLast};
 
+use crate::cells::Cells;
 use crate::slot_of::SlotOf;
 use crate::slots::Slots;
 use crate::starts::{Before, Starts, drop_stale, last_slot, put_runs, restore, sweep};
 use ox_range::Ranges;
 use ox_rules::{Memory, OutRow};
 use std::alloc::Global;
-use std::collections::BTreeMap;
 
 /// Which slot holds each satoshi of some outputs: an entry for each run of satoshis that stand side
 /// by side in an output, by its first number. An entry counts only where the row in its slot has a
@@ -28,7 +29,7 @@ pub(crate) struct Locator {
     /// 0 no entry is looked for that may be taken away. Where memory ran out an entry may be left
     /// that isn't counted, and counts for nothing.
     gone: usize,
-    ghost logged: { AreLogged changes.items starts.entries },
+    ghost logged: { AreLogged changes.items starts } by { Prim.hlevel props },
 }
 
 impl Locator {
@@ -40,7 +41,7 @@ impl Locator {
         ensures kept { (q : ℕ) → kept_at result q ≡ None }
     {
         Locator {
-            starts: BTreeMap::new(alloc),
+            starts: Cells::new(alloc),
             changes: Vec::new(alloc),
             gone: 0,
         }
@@ -76,6 +77,10 @@ impl Locator {
         ensures err { OnErr result ((q : ℕ) → live_at self.new q ≡ live_at self.old q) }
         ensures kept { (q : ℕ) → kept_at self.new q ≡ kept_at self.old q }
     {
+        if slot == u32::MAX {
+            // the place that stands for none: so many slots would take 500 GB
+            return Err(Memory);
+        }
         let from = self.changes.len();
         match put_runs(&mut self.starts, &mut self.changes, slot, sats.runs()) {
             Ok(over) => {
@@ -119,8 +124,8 @@ impl Locator {
 /// Takes the entries away that count for nothing, of the runs of the rows that stood in changed
 /// slots before.
 fn tidy_starts(starts: &mut Starts, slots: &Slots, changed: &[SlotOf], before: &[Option<OutRow>])
-    ensures { (q : ℕ) → standing slots.now (slot_from starts.new.entries) q
-        ≡ standing slots.now (slot_from starts.old.entries) q }
+    ensures { (q : ℕ) → standing slots.now (slot_from starts.new) q
+        ≡ standing slots.now (slot_from starts.old) q }
 {
     for (spot, row) in changed.iter().zip(before) {
         if let Some(row) = row {

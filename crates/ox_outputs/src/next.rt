@@ -7,7 +7,7 @@ ghost use Rattle.ox_outputs.specs.InOrder.{StandApart};
 ghost use Rattle.ox_outputs.specs.Next.{earlier, is_past, nearer, next_of};
 ghost use Rattle.ox_outputs.specs.Slots.{rows_of};
 
-use crate::held::{Held, Slot};
+use crate::held::{Held, end, filled_in};
 use ox_block::OutPoint;
 use ox_rules::OutRow;
 
@@ -22,25 +22,28 @@ pub(crate) fn next_in(held: &Held, past: Option<OutPoint>) -> Option<Entry<'_>>
         ≡ next_of past (entries (rows_of held.now.slots)) }
 {
     let mut best = None;
-    for (_, slot) in held.iter() {
-        best = nearer_of(past, best, slot);
+    for place in 0..end(held) {
+        if let Some(slot) = filled_in(held, place) {
+            best = nearer_of(past, best, (slot.at, slot.row));
+        }
     }
     best
 }
 
-/// The next row as far as is known, when a slot is known too.
+/// The next row as far as is known, when one more row is known.
 fn nearer_of<'a>(
     past: Option<OutPoint>,
     best: Option<Entry<'a>>,
-    slot: &'a Slot,
+    row: Entry<'a>,
 ) -> Option<Entry<'a>>
     ensures { option_map (λ e. (e.0.now, e.1.now)) result
         ≡ nearer past (option_map (λ e. (e.0.now, e.1.now)) best.entry)
-        slot.now.at slot.now.row }
+        row.entry.0.now (Some row.entry.1.now) }
 {
-    match &slot.row {
-        Some(row) if is_past(past, &slot.at) => Some(earlier_of(best, (&slot.at, row))),
-        _ => best,
+    if is_past(past, row.0) {
+        Some(earlier_of(best, row))
+    } else {
+        best
     }
 }
 

@@ -1,6 +1,6 @@
 //! Slots for rows. A slot that is there can be filled and emptied without memory.
 
-ghost use Rattle.std.specs.Prelude.{◌≡◌, ◌≢◌, ℕ, [], Some, None, IsSome, IfSome, IfNone, IfOk};
+ghost use Rattle.std.specs.Prelude.{◌≡◌, ◌≢◌, ◌<◌, ℕ, [], Some, None, IsSome, IfSome, IfNone, IfOk};
 ghost use Rattle.std.specs.Prelude.{IfErr, OnOk, OnErr};
 ghost use Rattle.std.specs.Option.{option_copied, option_map};
 ghost use Rattle.std.specs.FinMap as map;
@@ -10,13 +10,15 @@ ghost use Rattle.ox_outputs.specs.Slots.{KeepRows};
 ghost use Rattle.ox_outputs.specs.Located.{place_held, begins_in, counted};
 ghost use Rattle.ox_outputs.specs.Next.{next_of};
 
-use crate::held::{Held, begins_at, exchange_in, give_out, locate_in, row_in, take_back, vacate};
+use crate::held::{
+    Held, begins_at, count, empty_in, exchange_in, give_out, glance_in, locate_in, nothing_held,
+    row_in, take_back, vacate,
+};
 use crate::in_order::{InOrder, in_order};
 use crate::next::next_in;
 use crate::places::Places;
 use ox_block::OutPoint;
 use ox_rules::{Memory, OutRow, Place, Unplaced};
-use slab::Slab;
 use std::alloc::Global;
 use std::marker::Model;
 
@@ -47,13 +49,13 @@ impl Slots {
     {
         Slots {
             places: Places::new(alloc),
-            held: Slab::new(alloc),
+            held: nothing_held(alloc),
         }
     }
 
     /// How many slots there are, by which reading ahead is decided. It costs one step.
     pub(crate) fn len(&self) -> usize {
-        self.held.len()
+        count(&self.held)
     }
 
     /// The place of the slot at this outpoint. Where there is none, no row stands there.
@@ -90,10 +92,11 @@ impl Slots {
         next_in(&self.held, past.copied())
     }
 
-    /// The row in the slot at this place.
+    /// The row in the slot at this place. No slot has the place 2 ^ 32 - 1.
     pub(crate) fn row(&self, place: u32) -> Option<&OutRow>
-        ensures { (at : OutPoint) → outpoint_at self.now place ≡ Some at
+        ensures row { (at : OutPoint) → outpoint_at self.now place ≡ Some at
             → option_copied result ≡ map.get (rows_of self.now) at }
+        ensures low { IsSome result → place < 4294967295 }
     {
         row_in(&self.held, place)
     }
@@ -138,10 +141,7 @@ impl Slots {
 
     /// Reads a part of the slot at this place.
     pub(crate) fn glance(&self, place: u32) -> u32 {
-        match self.held.get(place as usize) {
-            Some(slot) => slot.at.index.wrapping_add(part_of(slot.row.as_ref())),
-            None => 0,
-        }
+        glance_in(&self.held, place)
     }
 
     /// Changes what the slot at this place holds, and answers what it held.
@@ -163,11 +163,7 @@ impl Slots {
         ensures others { (p : ℕ) → p ≢ place → slot_at self.new p ≡ slot_at self.old p }
         ensures filled { KeepRows self.old self.new }
     {
-        let Some(slot) = self.held.get(place as usize) else {
-            return;
-        };
-        if slot.row.is_none() {
-            let at = slot.at;
+        if let Some(at) = empty_in(&self.held, place) {
             self.places.remove(&at, place);
             vacate(&mut self.held, place);
         }
@@ -186,6 +182,7 @@ impl Slots {
         requires nowhere { IfNone found ((place : ℕ) → outpoint_at self.old place ≢ Some at) }
         ensures rows { OnOk result (rows_of self.new ≡ map.insert (rows_of self.old) at row) }
         ensures place { IfOk result (λ place. outpoint_at self.new place ≡ Some at) }
+        ensures low { IfOk result (λ place. place < 4294967295) }
         ensures places { (p : ℕ) (q : OutPoint) → outpoint_at self.old p ≡ Some q
             → outpoint_at self.new p ≡ Some q }
         ensures handed_back { IfErr result (λ e. e.row ≡ row) }
@@ -203,13 +200,5 @@ impl Slots {
                 None => unreachable!(),
             },
         }
-    }
-}
-
-/// A part of what is read of a row.
-fn part_of(row: Option<&OutRow>) -> u32 {
-    match row {
-        Some(row) => row.height.wrapping_add(u32::from(row.sats.is_empty())),
-        None => 0,
     }
 }

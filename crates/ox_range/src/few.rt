@@ -11,7 +11,7 @@ use std::rc::Rc;
 use std::slice;
 
 /// Runs in memory of their own, and how many numbers they have.
-#[derive(Debug, Drop)]
+#[derive(Drop)]
 pub(crate) struct Long {
     pub(crate) runs: Vec<Run>,
     pub(crate) len: u64,
@@ -31,7 +31,7 @@ impl Clone for Long {
 
 /// Runs in an order, of which one takes no memory of its own. Most lists have no more. Two or more
 /// are shared with each copy, until one of them is changed.
-#[derive(Debug, Drop)]
+#[derive(Drop)]
 pub(crate) enum Runs {
     /// No run.
     Empty,

@@ -13,7 +13,6 @@ use std::marker::Model;
 
 /// A list of satoshi numbers, kept as its maximal runs, which nothing else shares: so it is cut
 /// without memory.
-#[derive(Debug)]
 pub struct Growing {
     alloc: Global,
     long: Long,

@@ -31,7 +31,6 @@ pub use runs::{Run, runs_are_determined, runs_have_their_numbers};
 /// A list of satoshi numbers, kept as its maximal runs of consecutive numbers. Only several runs
 /// take memory of their own, which copies share; a list that is changed is written in place where
 /// no other shares it, and into a copy where one does.
-#[derive(Debug)]
 pub struct Ranges {
     alloc: Global,
     runs: Runs,

@@ -5,7 +5,7 @@ ghost use Rattle.std.specs.Prelude.{position};
 ghost use Rattle.ox_range.specs.Runs.{numbers_of, AreMaximal, runs_of};
 
 /// Consecutive numbers: `first`, `first + 1` and so on, `count` of them.
-#[derive(Clone, Copy, Debug, Default, PartialEq, Eq)]
+#[derive(Clone, Copy, Default, PartialEq, Eq)]
 pub struct Run {
     /// The first number.
     pub first: u64,

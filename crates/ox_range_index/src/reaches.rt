@@ -12,7 +12,7 @@ use ox_range::Run;
 use std::alloc::Global;
 
 /// A run's first number, and the greatest end of the runs up to it.
-#[derive(Clone, Copy, Debug, PartialEq, Eq)]
+#[derive(Clone, Copy, PartialEq, Eq)]
 pub(crate) struct Reach {
     pub(crate) first: u64,
     pub(crate) end: u64,

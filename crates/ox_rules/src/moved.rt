@@ -12,7 +12,7 @@ pub type SpentRows = Few<OutRow>;
 pub type DisplacedRows = List<OutRow>;
 
 /// What one transaction did.
-#[derive(Debug, Drop)]
+#[derive(Drop)]
 pub struct MovedTx {
     /// The transaction.
     pub txid: Txid,
@@ -28,7 +28,7 @@ pub struct MovedTx {
 pub type MovedTxs = List<MovedTx>;
 
 /// What a block did with satoshis.
-#[derive(Debug, Drop)]
+#[derive(Drop)]
 pub struct Moved {
     /// What each transaction did, in block order.
     pub txs: MovedTxs,

@@ -3,7 +3,7 @@
 use ox_block::OutPoint;
 
 /// Where a satoshi is.
-#[derive(Clone, Copy, Debug, PartialEq, Eq)]
+#[derive(Clone, Copy, PartialEq, Eq)]
 pub enum Place {
     /// In an unspent output.
     Out {

@@ -8,7 +8,6 @@ use ox_range::Ranges;
 use std::alloc::Global;
 
 /// An unspent output.
-#[derive(Debug)]
 pub struct OutRow {
     /// The output's script.
     pub script: Script,

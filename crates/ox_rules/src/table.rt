@@ -8,15 +8,23 @@ ghost use Rattle.ox_rules.specs.Outputs.{Outputs, MayStand};
 use crate::rows::OutRow;
 use ox_block::OutPoint;
 use ox_bytes::{List, Memory};
+use std::fmt;
 
 /// Rows of a table, each with its outpoint.
 pub type TableRows = List<(OutPoint, OutRow)>;
 
 /// There was no memory for a row in the table, which is as it was. The row is handed back.
-#[derive(Debug, Drop)]
+#[derive(Drop)]
 pub struct Unplaced {
     /// The row.
     pub row: OutRow,
+}
+
+/// By hand: it says the same of every row.
+impl fmt::Debug for Unplaced {
+    fn fmt<W: fmt::Write>(&self, f: &mut fmt::Formatter<W>) -> fmt::Result {
+        f.write_str("Unplaced")
+    }
 }
 
 impl From<Unplaced> for Memory {

@@ -15,7 +15,7 @@ returns-in-Ok-clause-runs c =
     let rows = rows_of c.args.slots.now in
     let outs = put_slot rows at None in
     let row = c.in-Some.row.now in
-    let there = sym (c.in-Some.ensures at c.requires.spot) in
+    let there = sym (c.in-Some.ensures.row at c.requires.spot) in
     arrive_rows (live_at c.args.locator.now) (live_at c.arrive.new.self) c.args.slots.now outs rows at row c.args.spot.place
     (gets_again rows outs at row there (λ q other. get-put_slot rows at None q ∙ elsewhere_is _ None (map.get rows q) other))
     (and_so (λ (row : OutRow). MayStand at row.sats outs) (map.get rows at) row there c.requires.may)

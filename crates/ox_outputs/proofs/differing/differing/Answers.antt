@@ -82,7 +82,7 @@ loop-one-preserved c =
     let stood : option_copied c.row_before-stood.result ≡ get marked at =
     c.row_before-stood.ensures ∙ sym (ap (λ (n : ℕ). get_or c.args.before.now n None) place) ∙ stays_stood c.args.before.now changed now pairs k d c.requires.paired ordered found low in
     let stands : option_copied c.row-stands.result ≡ get now at =
-    c.row-stands.ensures at (sym (ap (λ (n : ℕ). outpoint_at c.args.slots.now (get_or changed n no_spot).place) place) ∙ spot.1) in
+    c.row-stands.ensures.row at (sym (ap (λ (n : ℕ). outpoint_at c.args.slots.now (get_or changed n no_spot).place) place) ∙ spot.1) in
     let was = option_copied c.row_before-stood.result in
     let is_now = option_copied c.row-stands.result in record {
       gone = one_more (gone_at marked now) c.loop-one.gone c.push_unless.new.rows _ pairs k d (row_unless was is_now) low

@@ -4,5 +4,5 @@ use Rattle.ox_outputs.specs.Starts.{slot_from}
 use Rattle.ox_outputs.proofs.starts.drop_stale.Given as goal
 
 abbrev pub invariant-loop-run : goal.invariant-loop-run
-invariant-loop-run l = (q : ℕ) → standing l.slots (slot_from l.starts.entries) q
-    ≡ standing l.slots (slot_from l.initial.starts.entries) q
+invariant-loop-run l = (q : ℕ) → standing l.slots (slot_from l.starts) q
+    ≡ standing l.slots (slot_from l.initial.starts) q

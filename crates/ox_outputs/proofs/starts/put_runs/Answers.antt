@@ -14,7 +14,7 @@ loop-run-preserved c =
     let runs = c.args.runs.now in
     let index = c.loop-run.run-index in
     let run = get_or runs index zero_run in record {
-      ok = λ q. added_run q c.args.slot run (take index runs) (take (index + 1) runs) _ (slot_from c.loop-run.starts.entries q) _
+      ok = λ q. added_run q c.args.slot run (take index runs) (take (index + 1) runs) _ (slot_from c.loop-run.starts q) _
           (take_more runs index zero_run c.loop-run-test.true) (c.in_ok-over.ensures.ok q) (c.loop-run.invariant.ok q);
       noted = noted_more _ _ _ _ _ _ c.loop-run.invariant.noted c.put_run.ensures.noted;
       logged = c.put_run.ensures.logged;
@@ -23,4 +23,4 @@ loop-run-preserved c =
 pub returns-clause-ok : goal.returns-clause-ok
 returns-clause-ok c = λ q.
     c.loop-run.invariant.ok q
-    ∙ ap (λ (runs : List Run). cond (is_among (firsts_of runs) q) (Some c.args.slot) (slot_from c.args.starts.now.entries q)) (take_all c.loop-run.run-index c.args.runs.now c.loop-run-test.false)
+    ∙ ap (λ (runs : List Run). cond (is_among (firsts_of runs) q) (Some c.args.slot) (slot_from c.args.starts.now q)) (take_all c.loop-run.run-index c.args.runs.now c.loop-run-test.false)

@@ -7,9 +7,9 @@ abbrev pub invariant-loop-left : goal.invariant-loop-left
 invariant-loop-left l = record {
   low : l.from ≤ l.left;
   within : l.left ≤ length l.changes;
-  slots : (q : ℕ) → slot_from l.starts.entries q
-      ≡ before_in (drop l.left l.changes) (slot_from l.initial.starts.entries) q;
-  logged : AreLogged l.changes l.starts.entries;
+  slots : (q : ℕ) → slot_from l.starts q
+      ≡ before_in (drop l.left l.changes) (slot_from l.initial.starts) q;
+  logged : AreLogged l.changes l.starts;
 }
 
 abbrev pub decreases-loop-left : goal.decreases-loop-left

@@ -8,4 +8,4 @@ returns-in_default-clause-ok c = sym (put_none (rows_of c.args.self.now.slots) c
 
 pub returns-in_default-row-clause-ok : goal.returns-in_default-row-clause-ok
 returns-in_default-row-clause-ok c =
-    sym (put_none (rows_of c.args.self.now.slots) c.args.at.now (sym (c.in_default-row.ensures c.args.at.now c.in-Some.ensures.some)))
+    sym (put_none (rows_of c.args.self.now.slots) c.args.at.now (sym (c.in_default-row.ensures.row c.args.at.now c.in-Some.ensures.some)))

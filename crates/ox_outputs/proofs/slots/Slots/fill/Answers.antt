@@ -1,7 +1,9 @@
 use Rattle.std.proofs.Common.{rules, refl, ◌≡◌, ◌∙◌, ap, Some}
-use Rattle.ox_outputs.specs.declared.held.Slot.{Slot}
+use Rattle.ox_outputs.specs.Slots.{Slot}
 use Rattle.ox_outputs.specs.Slots.{SlotList, outpoint_at, put_slot, rows_of}
-use Rattle.ox_outputs.proofs.PlaceLemmas.{IsNowhere, exchanged, made, given_back, row_with, rows_put, rows_alike, outpoints_stay, placed_same, found_so}
+use Rattle.std.specs.Option.{option_map}
+use Rattle.ox_outputs.proofs.AddedLemmas.{placed_more, placed_again}
+use Rattle.ox_outputs.proofs.PlaceLemmas.{outpoint_here, outpoint_elsewhere, still_apart, IsNowhere, exchanged, made, given_back, row_with, rows_put, rows_alike, outpoints_stay, placed_same, found_so}
 use Rattle.ox_outputs.proofs.slots.Slots.fill.Goals as goal
 
 pub invariant_of-self : goal.invariant_of-self
@@ -32,3 +34,19 @@ returns-in-Some-take_back-clause-err c =
     let held = c.self.inside.held in
     let same = given_back held c.give_out.new.held c.take_back.new.held c.in_ok-place.place _ c.in_ok-place.ensures.free c.in_ok-place.ensures.updates c.take_back.ensures.updates in
     rows_alike held c.take_back.new.held c.self.invariant.apart same ∙ ap rows_of c.self.view_is
+
+pub invariant_of-self-in-Ok : goal.invariant_of-self-in-Ok
+invariant_of-self-in-Ok c =
+    let held = c.self.inside.held in
+    let none : IsNowhere held.slots c.args.at = search rules in
+    let slot : Slot = record { at = c.args.at; row = Some c.args.row } in
+    let change = made held c.give_out.new.held c.in_ok-place.place slot c.self.invariant.apart none c.in_ok-place.ensures.free c.in_ok-place.ensures.updates in
+    placed_more c.self.inside.places c.add.new.self held.slots c.give_out.new.held.slots c.in_ok-place.place c.args.at c.self.invariant none
+    (ap (option_map (λ (s : Slot). s.at)) c.in_ok-place.ensures.free) (outpoint_here change) (outpoint_elsewhere change) (still_apart change)
+    c.in-Ok.ensures.added c.add.ensures.before c.add.ensures.others
+
+pub invariant_of-self-in-Err : goal.invariant_of-self-in-Err
+invariant_of-self-in-Err c =
+    let held = c.self.inside.held in
+    let same = given_back held c.give_out.new.held c.take_back.new.held c.in_ok-place.place _ c.in_ok-place.ensures.free c.in_ok-place.ensures.updates c.take_back.ensures.updates in
+    placed_again c.self.inside.places c.add.new.self held.slots c.take_back.new.held.slots c.self.invariant c.in-Err.ensures.err (λ p. ap (option_map (λ (s : Slot). s.at)) (same p))

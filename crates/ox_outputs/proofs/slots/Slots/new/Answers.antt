@@ -10,7 +10,7 @@ nowhere (e ∷ slots) is at p found = absurd (cc is)
 
 pub invariant_of-result : goal.invariant_of-result
 invariant_of-result c =
-    let none = nowhere c.new-2.result.slots (search rules) in
+    let none = nowhere c.nothing_held.result.slots (search rules) in
     record {
       among = λ at p is. absurd (none at p is);
       others = λ at p is. absurd (c.new.ensures at p (inr is));
