@@ -56,3 +56,13 @@ module _ (opening : Opening) (at : ℕ) (at_is : at ≡ (layout_of opening.head.
         let rest_is : rest ≡ drop size (drop layout.body_at bytes) =
         is_rest ∙ take_all (at + size + (front.len - (at + size)) - (at + size)) (drop (at + size) bytes) long ∙ sym (drop-drop size at bytes) ∙ ap (λ (k : ℕ). drop size (drop k bytes)) at_is in
         ap (by_parts layout file opening body) rest_is ∙ sym (by_test true right)
+
+-- a body that is cut
+pub current_cut : (opening : Opening) (at : ℕ) → at ≡ (layout_of opening.head.version).body_at → (front : Front) → nat_lt front.len (at + opening.size) ≡ true → (file : Which) (bytes : List ℕ) → IsFrontOf front bytes → body_reading file bytes opening ≡ fault_at file at
+current_cut opening at at_is front cut file bytes is_front =
+    let layout = layout_of opening.head.version in
+    let body_on = drop layout.body_at bytes in
+    let body = take opening.size body_on in
+    let short : nat_lt (length bytes) (layout.body_at + opening.size) ≡ true = (λ i. nat_lt (sym is_front.len i) (sym at_is i + opening.size)) ∙ cut in
+    ap (λ (b : Bool). if b || not (layout.is_body (take layout.body_at bytes) body) then fault_at file layout.body_at else by_parts layout file opening body (drop opening.size body_on)) short
+    ∙ ap (fault_at file) (sym at_is)

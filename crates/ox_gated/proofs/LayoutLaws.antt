@@ -1,8 +1,8 @@
 -- What is so of each layout, by which all else goes: where the body begins, how long the parts are, and that what is spelled is read, whatever follows it.
-use Rattle.std.proofs.Common.{◌≡◌, ◌∙◌, ◌≤◌, ◌<◌, ◌+◌, ◌^◌, ℕ, Bool, true, false, List, [], ◌∷◌, ◌++◌, length, take, drop, if◌then◌else◌, refl, sym, ap, subst, arith, length-append, take-append-drop, append_assoc}
+use Rattle.std.proofs.Common.{◌≡◌, ◌∙◌, ◌≤◌, ◌<◌, ◌+◌, ◌^◌, inl, inr, ℕ, Bool, true, false, List, [], ◌∷◌, ◌++◌, length, take, drop, if◌then◌else◌, refl, sym, ap, subst, arith, length-append, take-append-drop, append_assoc}
 use Rattle.std.specs.Prelude.{Result, Ok, Err, nat_lt, bytes_eq}
 use Rattle.std.specs.Int.{Width, w32, w64, byte_len, from_le_bytes, to_le_bytes}
-use Rattle.std.proofs.lemmas.Bool.{ltb-false, le-ltb}
+use Rattle.std.proofs.lemmas.Bool.{cases_lt, ltb-false, le-ltb}
 use Rattle.std.proofs.lemmas.List.{append-nil, length-take, take_at, drop_at, take-take, drop-take}
 use Rattle.std.proofs.lemmas.Slice.Eq.{bytes_eq-Decides}
 use Rattle.sha2.specs.Sha256.{sha256}
@@ -46,6 +46,16 @@ number_read w bytes found is =
       again = λ t. number_again w text t long;
     }
     )
+
+-- a number that is cut
+pub number_short : (bytes : List ℕ) (left : ℕ) → number_at w64 bytes ≡ Err left → length bytes < 8
+number_short bytes left is = elim (cases_lt (length bytes) 8) [
+  | inl short ↦ short
+  | inr long ↦
+      let size : length (take 8 bytes) ≡ 8 = omega (arith, long, length-take 8 bytes) in
+      let no = sym (number_again w64 (take 8 bytes) (drop 8 bytes) size) ∙ ap (number_at w64) (take-append-drop 8 bytes) ∙ is in
+      absurd (cc no)
+]
 
 -- a run of bytes that was read
 pub record RunRead (n : ℕ) (bytes run rest : List ℕ) : Type 0 where
@@ -139,16 +149,22 @@ summed_read generation place bytes found is =
       parts = number.parts ∙ ap (λ (l : List ℕ). number.text ++ l) (sum.parts ∙ ap (λ (l : List ℕ). second.0.0 ++ l) run.parts);
     }
 
--- and what is like it is read so
-pub summed_again : (generation place : ℕ) (number sum payload t : List ℕ) → length number ≡ 8 → length sum ≡ 32 → length payload ≡ from_le_bytes w64 number → sum ≡ record_sum generation place payload
-    → summed_payload generation place (number ++ (sum ++ (payload ++ t))) ≡ Ok (payload, t)
+-- what is like it is read by its sum
+pub summed_by : (generation place : ℕ) (number sum payload t : List ℕ) → length number ≡ 8 → length sum ≡ 32 → length payload ≡ from_le_bytes w64 number
+    → summed_payload generation place (number ++ (sum ++ (payload ++ t))) ≡ (if bytes_eq sum (record_sum generation place payload) then Ok (payload, t) else Err (length (number ++ (sum ++ (payload ++ t)))))
 unfolding summed_payload
-summed_again generation place number sum payload t number_size sum_size size_is sum_is =
+summed_by generation place number sum payload t number_size sum_size size_is =
     let bytes = number ++ (sum ++ (payload ++ t)) in
     ap (λ r. r >>= λ size. run_at 32 size.1 >>= λ s. run_at size.0 s.1 >>= λ found. checked generation place bytes s.0 found) (number_again w64 number (sum ++ (payload ++ t)) number_size)
     ∙ ap (λ r. r >>= λ s. run_at (from_le_bytes w64 number) s.1 >>= λ found. checked generation place bytes s.0 found) ((run_law 32).again sum (payload ++ t) sum_size)
     ∙ ap (λ r. r >>= λ found. checked generation place bytes sum found) ((run_law (from_le_bytes w64 number)).again payload t size_is)
-    ∙ ap (λ (b : Bool). if b then Ok (payload, t) else Err (length bytes)) ((bytes_eq-Decides sum (record_sum generation place payload)).1 sum_is)
+
+-- and where that is right it is read so
+pub summed_again : (generation place : ℕ) (number sum payload t : List ℕ) → length number ≡ 8 → length sum ≡ 32 → length payload ≡ from_le_bytes w64 number → sum ≡ record_sum generation place payload
+    → summed_payload generation place (number ++ (sum ++ (payload ++ t))) ≡ Ok (payload, t)
+summed_again generation place number sum payload t number_size sum_size size_is sum_is =
+    summed_by generation place number sum payload t number_size sum_size size_is
+    ∙ ap (λ (b : Bool). if b then Ok (payload, t) else Err (length (number ++ (sum ++ (payload ++ t))))) ((bytes_eq-Decides sum (record_sum generation place payload)).1 sum_is)
 
 length-record_sum : (generation place : ℕ) (payload : List ℕ) → length (record_sum generation place payload) ≡ 32
 unfolding record_sum

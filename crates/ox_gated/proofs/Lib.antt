@@ -1,5 +1,6 @@
 mod AppendKeepsTail
 mod BehindGate
+mod BodyRead
 mod Chain
 mod ChangedFiles
 mod ChangedRecords
@@ -8,13 +9,16 @@ mod CurrentByFront
 mod CurrentRead
 mod CutRecords
 mod FilledByPieces
+mod GateHere
 mod LayoutLaws
+mod Looking
 mod NewFiles
 pub mod OldReading
 mod OneFile
 mod OneWrite
 mod OpenedHolds
 mod OtherGate
+mod PartsRead
 mod Picking
 mod Pieces
 mod RecordWrites
@@ -22,5 +26,6 @@ mod Stands
 mod TakenPieces
 mod Turning
 mod TwoParts
+mod Walking
 mod WholeFile
 pub mod Writing

@@ -1,6 +1,7 @@
 -- What files are read as where another one is to follow.
-use Rattle.std.proofs.Common.{◌≡◌, ◌∙◌, ℕ, Bool, true, false, List, ◌==◌, ◌&&◌, ◌||◌, not, if◌then◌else◌, sym, ap}
-use Rattle.std.specs.Prelude.{Result, Ok, Err, Option, Some, None}
+use Rattle.std.proofs.Common.{◌≡◌, ◌≢◌, ◌∙◌, ℕ, Bool, true, false, List, ◌==◌, ◌&&◌, ◌||◌, not, if◌then◌else◌, sym, ap}
+use Rattle.std.specs.Prelude.{Result, Ok, Err, Option, Some, None, IsTrue}
+use Rattle.std.proofs.lemmas.Bool.{eq-eqb}
 use Rattle.ox_outside.specs.Files.{Files, file_of}
 use Rattle.ox_outside.specs.declared.site.Which.{Which}
 use Rattle.ox_gated.specs.OldReading.{followed_where, growing_reading, is_followed, is_growing, is_read, old_reading, current_as}
@@ -21,6 +22,18 @@ as_body (Some only) file bytes opening read lesser =
 pub as_unread : (only : Option ℕ) (file : Which) (bytes : List ℕ) (opening : Opening) → is_read only opening.head.version ≡ false → current_as only file bytes opening ≡ fault_at file 6
 as_unread None file bytes opening unread = ap (λ (b : Bool). if not b then fault_at file 6 else body_reading file bytes opening) unread
 as_unread (Some only) file bytes opening unread = ap (λ (b : Bool). if not b then fault_at file 6 else if opening.head.generation == last_generation then fault_at file 10 else body_reading file bytes opening) unread
+
+-- and before the second
+pub as_unfollowed : (only : Option ℕ) (file : Which) (bytes : List ℕ) (opening : Opening) → is_read only opening.head.version ≡ true → (is_followed only && opening.head.generation == last_generation) ≡ true → current_as only file bytes opening ≡ fault_at file 10
+as_unfollowed None file bytes opening read greatest = absurd (cc greatest)
+as_unfollowed (Some only) file bytes opening read greatest =
+    ap (λ (b : Bool). if not b then fault_at file 6 else if opening.head.generation == last_generation then fault_at file 10 else body_reading file bytes opening) read
+    ∙ ap (λ (b : Bool). if b then fault_at file 10 else body_reading file bytes opening) greatest
+
+-- behind it another generation can follow
+pub is_lesser : (only : Option ℕ) (generation : ℕ) → (is_followed only && generation == last_generation) ≡ false → IsTrue (is_followed only) → generation ≢ last_generation
+is_lesser None generation lesser followed same = cc followed
+is_lesser (Some only) generation lesser followed same = let no = sym (eq-eqb generation last_generation same) ∙ lesser in cc no
 
 -- ---- what one test more leaves of the reading
 

@@ -1,6 +1,6 @@
 -- One write and its sync, and what is answered where a call failed.
 use Rattle.std.proofs.Common.{◌≡◌, ◌∙◌, ℕ, sym, ap, subst}
-use Rattle.std.specs.Prelude.{Result, Ok, Err, IfOk, OnOk, OnErr, IsErrOf, Some}
+use Rattle.std.specs.Prelude.{Result, Ok, Err, IfOk, OnOk, OnErr, IsErrOf, Some, None}
 use Rattle.std.proofs.lemmas.Result.{on_err_weaker, on_ok_weaker}
 use Rattle.ox_outside.specs.Counts.{Counts, CountsFile, IsFailure, Rose, StopsAtFault, NoFault, NoneFell}
 use Rattle.ox_outside.specs.Crash.{Remains, Tears, Follows, Only, AddsNothing, OneCall}
@@ -11,6 +11,8 @@ use Rattle.ox_outside.specs.declared.site.Which.{Which}
 use Rattle.ox_outside.specs.declared.site.Which.TheVariants.{A, B}
 use Rattle.ox_outside.proofs.Calls.{one_call, leaves_at_first, leaves_on, looks_call, looks_none}
 use Rattle.ox_outside.proofs.Counts.{file_call, stops_as, then_rose, went_on}
+use Rattle.ox_gated.specs.declared.fault.GateFault.{GateFault}
+use Rattle.ox_gated.specs.declared.fault.GateFault.TheVariants as gates
 use Rattle.ox_gated.specs.declared.fault.Halt.{Halt}
 use Rattle.ox_gated.specs.declared.fault.Halt.TheVariants as halts
 use Rattle.ox_gated.specs.Tail.{IsSettled}
@@ -106,3 +108,21 @@ read_failed call result e old new is disk stops = stops_as (IsFailure call) ⊥ 
 
 pub read_worked : {T : Type 0} (x : T) (old new : Counts) → StopsAtFault (IsErrOf {T = T} {E = Halt} (Ok x) halts.Disk) ⊥ ⊥ old new → NoFault old new
 read_worked x old new stops = went_on _ ⊥ ⊥ old new (λ is. absurd (cc is)) (λ no. no) (λ no. no) stops
+
+-- a refusal of the files is no fault of the disk
+pub refused_alone : {T : Type 0} (fault : GateFault) (file : Which) (at : ℕ) → fault ≡ gates.NotStore file at None → IsErrOf {T = T} (Err fault) (gates.Halt halts.Disk) → ⊥
+refused_alone fault file at is disk = let no = ap Err (sym is) ∙ disk in cc no
+
+-- ---- what is answered on
+
+abbrev err_or : {T E : Type 0} → E → Result T E → E
+err_or e (Ok x) = e
+err_or e (Err f) = f
+
+-- the same fault, whatever else might have been answered
+pub err_as : {T U E : Type 0} (e f : E) → IsErrOf {T = T} (Err e) f → IsErrOf {T = U} (Err e) f
+err_as {T} {U} {E} e f is = let same : e ≡ f = ap (λ (r : Result T E). err_or e r) is in λ i. Err (same i)
+
+-- calls behind which something was answered
+pub went_well : {T E : Type 0} (x : T) (e : E) (old new : Counts) → StopsAtFault (IsErrOf (Ok x) e) ⊥ ⊥ old new → NoFault old new
+went_well x e old new stops = went_on _ ⊥ ⊥ old new (λ is. absurd (cc is)) (λ no. no) (λ no. no) stops

@@ -1,5 +1,6 @@
 -- The gates that were read, and what the first of some bytes is as a gate.
-use Rattle.std.specs.Prelude.{◌≡◌, ℕ, ◌+◌, List, [], length, Ok, Err}
+use Rattle.std.specs.Prelude.{◌≡◌, ◌≢◌, ◌⊎◌, ℕ, ◌+◌, ◌<◌, List, [], ◌∷◌, ◌++◌, length, Ok, Err}
+use Rattle.std.specs.Int.{w64, from_le_bytes}
 use Rattle.ox_gated.specs.Layout.{layout_of}
 use Rattle.ox_gated.specs.Reading.{Chain, chain, gate_behind, with_record}
 use Rattle.ox_gated.specs.declared.head.Head.{Head}
@@ -30,3 +31,22 @@ pub record IsOpen (head : Head) (place : ℕ) (bytes payload rest : List ℕ) : 
       (chain_of head (gate_behind (layout_of head.version) place payload) rest)
   pub size : length bytes
       ≡ (layout_of head.version).before_payload + length payload + length rest
+
+-- ---- the first 41 bytes or fewer, at a gate of a file of version 3
+
+-- an open gate, the length of its record's payload in eight bytes, and the payload's sum
+pub record HasFront (bytes : List ℕ) (size : ℕ) (sum : List ℕ) : Type 0 where
+  pub gate : ℕ
+  pub number : List ℕ
+  pub not_shut : gate ≢ 0
+  pub parts : bytes ≡ gate ∷ number ++ sum
+  pub number_size : length number ≡ 8
+  pub sum_size : length sum ≡ 32
+  pub size_is : size ≡ from_le_bytes w64 number
+
+-- none, or an open one whose record's length and sum are not all there
+abbrev pub IsCutFront : List ℕ → Type 0
+IsCutFront bytes =
+    (bytes ≡ [])
+    ⊎ ((gate : ℕ) × (behind : List ℕ) × (bytes ≡ gate ∷ behind) × (gate ≢ 0)
+    × (length behind < 40))

@@ -1,3 +1,4 @@
+pub mod Begun
 pub mod Changed
 pub mod Filling
 pub mod Gate
@@ -5,8 +6,10 @@ pub mod Layout
 pub mod OldReading
 pub mod Opened
 pub mod OtherFile
+pub mod Parts
 pub mod Pick
 pub mod Pouring
+pub mod Readers
 pub mod Reading
 pub mod RecordLayout
 pub mod Spelled

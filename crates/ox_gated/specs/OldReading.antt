@@ -9,7 +9,7 @@ use Rattle.ox_gated.specs.Layout.{version_at, generation_at}
 use Rattle.ox_gated.specs.OtherFile.{last_generation}
 use Rattle.ox_gated.specs.Pick.{choice_of}
 use Rattle.ox_gated.specs.Reading.{Found, Fault, fault_at, body_reading, current_reading, of_picked}
-use Rattle.ox_gated.specs.Reading.{is_old, is_present}
+use Rattle.ox_gated.specs.Reading.{is_led, is_old}
 use Rattle.ox_gated.specs.declared.head.Opening.{Opening}
 
 -- the version that a store grows from
@@ -36,18 +36,18 @@ abbrev pub growing_reading : Files → Result Found Fault
 growing_reading files =
     of_picked (followed_where is_growing) files (choice_of files.a files.b)
 
--- ---- by the one version that is read and to be followed, or none for those of the present
+-- ---- by the one version that is read and to be followed, or none where what is read is led
 
 abbrev pub is_followed : Option ℕ → Bool
 is_followed None = false
 is_followed (Some version) = true
 
 abbrev pub is_read : Option ℕ → ℕ → Bool
-is_read None = is_present
+is_read None = is_led
 is_read (Some only) = λ version. version == only
 
 abbrev pub current_as : Option ℕ → Which → List ℕ → Opening → Result Found Fault
-current_as None = current_reading is_present
+current_as None = current_reading is_led
 current_as (Some only) = followed_where (λ version. version == only)
 
 abbrev pub reading_as : Option ℕ → Files → Result Found Fault

@@ -130,6 +130,10 @@ reading reads files = reading_by reads files (choice_of files.a files.b)
 abbrev pub is_present : ℕ → Bool
 is_present version = version == 2 || version == 3
 
+-- the one whose pieces are handed out and taken
+abbrev pub is_led : ℕ → Bool
+is_led version = version == 2
+
 -- the one that a store is migrated from
 abbrev pub is_old : ℕ → Bool
 is_old version = version == 1

@@ -27,7 +27,7 @@ const LONGEST_BODY: u64 = 0x7fff_ffff_ffff_ffff;
 /// A tail beside which the other file is filled with a body, as a file of version 3: each piece is
 /// written behind the pieces before it, and hashed. Contracts see the tail, how many bytes of the
 /// body were taken, and the hasher.
-#[derive(Debug, Drop)]
+#[derive(Drop)]
 pub struct Filling {
     tail: Tail,
     size: u64,

@@ -16,7 +16,7 @@ use std::marker::Model;
 
 /// A record as it is written behind an open gate, and the closed gate behind it. Contracts see its
 /// payload and its bytes.
-#[derive(Debug, Drop)]
+#[derive(Drop)]
 pub struct Framed {
     before: usize,
     bytes: Bytes,
@@ -141,7 +141,7 @@ const LONGEST: usize = 0xffff_ffff;
 
 /// A file without records, but for its first gate, in two pieces: the bytes before the body, and
 /// the body with the closed gate behind it. Contracts see its head and its body.
-#[derive(Debug, Drop)]
+#[derive(Drop)]
 pub struct Checkpoint {
     head: Head,
     front: Bytes,

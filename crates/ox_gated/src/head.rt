@@ -1,6 +1,6 @@
 //! The head of a file.
 
-ghost use Rattle.std.specs.Prelude.{◌≡◌, ◌+◌, ◌≤◌, IfSome, IsTrue, length, slice_range, take};
+ghost use Rattle.std.specs.Prelude.{◌≡◌, ◌+◌, ◌≤◌, IfSome, IsTrue, bytes_eq, length, slice_range, take};
 ghost use Rattle.std.specs.Int.{w16, w64, from_le_bytes};
 ghost use Rattle.ox_gated.specs.Layout.{is_lawful, has_layout, is_closed, head_of, layout_of};
 ghost use Rattle.ox_gated.specs.Layout.{head_sum_at, magic_at, summed, summed_body_at, sums_at};
@@ -12,7 +12,7 @@ use crate::layout::{
 use sha2::{Digest, Sha256};
 
 /// What a file's head says. It lies behind the file's gate, and the length of the body follows it.
-#[derive(Clone, Copy, Debug, PartialEq, Eq)]
+#[derive(Clone, Copy, PartialEq, Eq)]
 pub struct Head {
     /// From 1 to 3.
     pub version: u8,
@@ -25,7 +25,7 @@ pub struct Head {
 }
 
 /// A head, and the length that it gives the body.
-#[derive(Clone, Copy, Debug, PartialEq, Eq)]
+#[derive(Clone, Copy, PartialEq, Eq)]
 pub struct Opening {
     pub head: Head,
     pub size: u64,
@@ -114,8 +114,15 @@ pub fn is_body(head: &Head, front: &[u8], body: &[u8]) -> bool
     if !head.is_summed() {
         return true;
     }
-    let sum = Sha256::digest(body);
-    front[SUMS_AT..HEAD_SUM_AT] == sum[..]
+    is_sum_of_body(front, &Sha256::digest(body))
+}
+
+/// Whether this is the body's sum among the bytes before it.
+pub fn is_sum_of_body(front: &[u8], sum: &[u8]) -> bool
+    requires { head_sum_at ≤ length front.now }
+    ensures { result ≡ bytes_eq (slice_range front.now sums_at head_sum_at) sum.now }
+{
+    &front[SUMS_AT..HEAD_SUM_AT] == sum
 }
 
 fn u16_at(bytes: &[u8], at: usize) -> u16

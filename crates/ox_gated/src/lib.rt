@@ -11,11 +11,13 @@ mod laws;
 mod layout;
 mod open;
 mod other_file;
+mod parts;
 mod pick;
 mod records;
 mod sink;
 mod tail;
 mod two_pieces;
+mod walker;
 mod writes;
 
 pub use fault::{Before, GateFault, Halt};
@@ -29,6 +31,8 @@ pub use laws::{
 pub use layout::BODY_AT;
 pub use open::Opened;
 pub use other_file::{Closed, Filled};
+pub use parts::{Begun, Parts};
 pub use records::{Record, Records};
 pub use sink::Sink;
 pub use tail::{DiskFault, Tail};
+pub use walker::Walker;

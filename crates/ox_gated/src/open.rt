@@ -1,6 +1,6 @@
 //! The opening of two files.
 
-ghost use Rattle.std.specs.Prelude.{◌≡◌, ◌≢◌, ◌+◌, ◌-◌, ◌≤◌, ◌<◌, ◌^◌, ℕ, List, length, take};
+ghost use Rattle.std.specs.Prelude.{◌≡◌, ◌≢◌, ◌+◌, ◌-◌, ◌≤◌, ◌<◌, ◌^◌, length, take};
 ghost use Rattle.std.specs.Prelude.{slice_range, min, nat_lt};
 ghost use Rattle.std.specs.Prelude.{◌==◌, ◌&&◌, Ok, None};
 ghost use Rattle.std.specs.Prelude.{IsTrue, IfOk, IfErr, OnOk, OnErr, IsErrOf};
@@ -14,8 +14,9 @@ ghost use Rattle.ox_gated.specs.Opened.{IsBehindLawful, IsFault, IsFrontOf, IsUn
 ghost use Rattle.ox_gated.specs.Opened.{found_of, tail_of};
 ghost use Rattle.ox_gated.specs.OtherFile.{last_generation};
 ghost use Rattle.ox_gated.specs.Pick.{choice_of, of_file};
-ghost use Rattle.ox_gated.specs.Reading.{by_parts, is_present, reading};
-ghost use Rattle.ox_gated.specs.Tail.{Holds, IsSettled};
+ghost use Rattle.ox_gated.specs.Readers.{Examines, IsDisk, Opens, Reads};
+ghost use Rattle.ox_gated.specs.Reading.{by_parts, is_led, reading};
+ghost use Rattle.ox_gated.specs.Tail.{IsSettled};
 ghost use Rattle.ox_gated.specs.declared.fault.GateFault.TheVariants.{NotStore};
 
 use crate::fault::{Before, GateFault, Halt};
@@ -116,7 +117,7 @@ fn compare(a: Front, b: Front) -> Result<Examined, GateFault>
     ensures fault { IfErr result (IsUnpicked (choice_of a.bytes.items b.bytes.items)) }
     ensures behind { IfErr result IsBehindLawful }
     ensures lawful { IfOk result (λ e. IsTrue (is_lawful e.opening.head)) }
-    ensures not_disk { IsErrOf result GateFault.DiskFault → ⊥ }
+    ensures not_disk { ¬ IsDisk result }
 {
     let (file, opening) = match pick(&a.bytes, &b.bytes) {
         Ok(current) => current,
@@ -136,33 +137,27 @@ fn compare(a: Front, b: Front) -> Result<Examined, GateFault>
 
 /// Finds out which file is current.
 pub fn examine<S: Site>(alloc: Global, site: &mut S) -> Result<Examined, GateFault>
-    ensures found { IsTrue (S.told site.old)
-        → IfOk result (λ e.
-        choice_of (S.seen site.old).a (S.seen site.old).b ≡ Ok (e.file, e.opening)) }
-    ensures front { IsTrue (S.told site.old)
-        → IfOk result (λ e. IsFrontOf e.front (file_of (S.seen site.old) e.file)) }
-    ensures size { IfOk result (λ e.
-        length e.front.bytes.items ≡ min summed_body_at e.front.len) }
-    ensures closed { IsTrue (S.told site.old)
-        → IfOk result (λ e. e.other_closed ≡ is_closed (file_of (S.seen site.old) (other e.file))) }
-    ensures fault { IsTrue (S.told site.old)
-        → IfErr result (IsUnpicked (choice_of (S.seen site.old).a (S.seen site.old).b)) }
-    ensures behind { IfErr result IsBehindLawful }
-    ensures lawful { IfOk result (λ e. IsTrue (is_lawful e.opening.head)) }
-    ensures looks { OnlyLooks S.Site site.old site.new }
-    ensures failed { IsErrOf result GateFault.DiskFault
-        → Rose (S.counts site.old).disk (S.counts site.new).disk }
-    ensures counted { StopsAtFault (IsErrOf result GateFault.DiskFault) ⊥ ⊥
-        (S.counts site.old) (S.counts site.new) }
+    ensures { Examines S.Site result site.old site.new }
 {
     let a = read_front(alloc, site, Which::A)?;
     let b = read_front(alloc, site, Which::B)?;
     compare(a, b)
 }
 
+/// Syncs both files, and finds out which is current.
+pub fn examine_settled<S: Site>(alloc: Global, site: &mut S) -> Result<Examined, GateFault>
+    ensures examines { Examines S.Site result site.old site.new }
+    ensures settled { ¬ IsDisk result → IsSettled S.Site site.new }
+{
+    match settle(site) {
+        Ok(()) => examine(alloc, site),
+        Err(Failed) => Err(GateFault::Halt(Halt::Disk)),
+    }
+}
+
 /// What two files hold: the tail, and of the current file which it is, its head, its body and its
 /// records.
-#[derive(Debug, Drop)]
+#[derive(Drop)]
 pub struct Opened {
     pub tail: Tail,
     pub file: Which,
@@ -193,12 +188,12 @@ fn found_or_fault(
         (IsFault (by_parts (layout_of e.opening.head.version) e.file e.opening
         body.items rest.now)) }
     ensures behind { IfErr result IsBehindLawful }
-    ensures not_disk { IsErrOf result GateFault.DiskFault → ⊥ }
+    ensures not_disk { ¬ IsDisk result }
 {
     let Opening { head, size } = examined.opening;
     let file = examined.file;
     let first = head.body_at() + size;
-    let Walk { records, end } = walk_from(alloc, &head, first, rest)?;
+    let Walk { records, end } = walk_from(alloc, &head, first, rest).map_err(Halt::from)?;
     let body = Bytes::from_vec(body);
     match end {
         Ok(gate) => Ok(Opened {
@@ -227,8 +222,8 @@ fn found_or_fault(
     }
 }
 
-/// Reads the body and the records of the current file. Its version has to be one that is read: 2 or
-/// 3, or only this one, where another file is to follow; then its generation isn't the greatest.
+/// Reads the body and the records of the current file. Its version has to be 2, or only this one,
+/// where another file is to follow; then its generation isn't the greatest.
 pub fn read_current<S: Site>(
     alloc: Global,
     site: &mut S,
@@ -249,16 +244,9 @@ pub fn read_current<S: Site>(
     ensures version { IfOk result (λ o. IsTrue (is_read only o.head.version)) }
     ensures generation { IsTrue (is_followed only)
         → IfOk result (λ o. o.head.generation ≢ last_generation) }
-    ensures fault { let e = examined.now in
-        IsTrue (S.told site.old)
-        → IfErr result
-        (IsFault (current_as only e.file (file_of (S.seen site.old) e.file) e.opening)) }
-    ensures behind { IfErr result IsBehindLawful }
-    ensures looks { OnlyLooks S.Site site.old site.new }
-    ensures failed { IsErrOf result GateFault.DiskFault
-        → Rose (S.counts site.old).disk (S.counts site.new).disk }
-    ensures counted { StopsAtFault (IsErrOf result GateFault.DiskFault) ⊥ ⊥
-        (S.counts site.old) (S.counts site.new) }
+    ensures reads { let e = examined.now in
+        Reads S.Site (λ files. current_as only e.file (file_of files e.file) e.opening)
+        result site.old site.new }
 {
     let file = examined.file;
     let Opening { head, size } = examined.opening;
@@ -281,17 +269,17 @@ pub fn read_current<S: Site>(
     found_or_fault(alloc, examined, body, &rest)
 }
 
-/// Whether files of this version are read: 2 and 3, or only one.
+/// Whether files of this version are read: 2, or only one that another file is to follow.
 fn is_read(version: u8, only: Option<u8>) -> bool
     ensures { result ≡ is_read only version }
 {
     match only {
         Some(only) => version == only,
-        None => version == 2 || version == 3,
+        None => version == 2,
     }
 }
 
-/// Whether another file is to follow one with this head, as where one version only is read, and
+/// Whether another file is to follow one with this head, as where only one version is told, and
 /// can't.
 fn is_unfollowed(head: &Head, only: Option<u8>) -> bool
     ensures { result ≡ (is_followed only && head.now.generation == last_generation) }
@@ -300,13 +288,14 @@ fn is_unfollowed(head: &Head, only: Option<u8>) -> bool
 }
 
 /// Whether a file of this length is too short for a body of this one that begins at this place.
-fn is_cut(len: u64, body_at: u64, size: u64) -> bool
+pub fn is_cut(len: u64, body_at: u64, size: u64) -> bool
     ensures { result ≡ nat_lt len (body_at + size) }
 {
     len < body_at || len - body_at < size
 }
 
-fn refused_at(file: Which, at: u64) -> GateFault
+/// The fault of a test that fails at this place of a file, before which nothing was read.
+pub fn refused_at(file: Which, at: u64) -> GateFault
     ensures { result ≡ NotStore file at None }
 {
     GateFault::NotStore {
@@ -316,64 +305,38 @@ fn refused_at(file: Which, at: u64) -> GateFault
     }
 }
 
-/// Opens two files, of a present store or one of this version only: see `Tail::open`,
+/// Opens two files, of version 2 or only of one that another file is to follow: see `Tail::open`,
 /// `Tail::open_old` and `Tail::open_growing`.
 pub fn open_files<S: Site>(
     alloc: Global,
     site: &mut S,
     only: Option<u8>,
 ) -> Result<Opened, GateFault>
-    ensures found { IsTrue (S.told site.old)
-        → IfOk result (λ o. reading_as only (S.seen site.old) ≡ Ok (found_of o)) }
-    ensures holds { IsTrue (S.told site.old) → IfOk result (λ o. Holds S.Site o.tail site.new) }
+    ensures opens { Opens S.Site (reading_as only) result site.old site.new }
     ensures head { IfOk result (λ o.
         (o.tail.head ≡ o.head) × IsTrue (is_read only o.head.version)) }
     ensures generation { IsTrue (is_followed only)
         → IfOk result (λ o. o.head.generation ≢ last_generation) }
-    ensures lawful { IfOk result (λ o. IsTrue (is_lawful o.head)) }
-    ensures not_store { IsTrue (S.told site.old)
-        → IfErr result (IsFault (reading_as only (S.seen site.old))) }
-    ensures behind { IfErr result IsBehindLawful }
-    ensures failed { IsErrOf result GateFault.DiskFault
-        → Rose (S.counts site.old).disk (S.counts site.new).disk }
-    ensures counted { StopsAtFault (IsErrOf result GateFault.DiskFault) ⊥ ⊥
-        (S.counts site.old) (S.counts site.new) }
-    ensures settled { ¬ IsErrOf result GateFault.DiskFault → IsSettled S.Site site.new }
-    ensures looks { OnlyLooks S.Site site.old site.new }
 {
-    settle(site)?;
-    let examined = match examine(alloc, site) {
-        Ok(examined) => examined,
-        Err(fault) => return Err(fault),
-    };
-    read_current(alloc, site, only, &examined)
+    match examine_settled(alloc, site) {
+        Ok(examined) => read_current(alloc, site, only, &examined),
+        Err(fault) => Err(fault),
+    }
 }
 
 impl Tail {
-    /// Opens two files of version 2 or 3. It begins with a sync of both, and changes nothing: at no
+    /// Opens two files of version 2. It begins with a sync of both, and changes nothing: at no
     /// moment does a crash leave anything that it didn't leave before. What is opened has a lawful
-    /// head of one of these versions, whatever the site tells. Unless a call failed, each crash
-    /// image of the two is then what a read gives.
+    /// head of version 2, whatever the site tells. Unless a call failed, each crash image of the
+    /// two is then what a read gives.
     ///
     /// `NotStore` comes exactly where the files stand for nothing, with the file and the place of
-    /// the first test that fails; `DiskFault` only where a call on a file failed; `Memory` where
-    /// there is none for what the files hold.
+    /// the first test that fails: 6 where the current file has another version, of which nothing
+    /// more is read. `Halt` comes with `Disk` only where a call on a file failed, and with `Memory`
+    /// where there is none for what the files hold.
     pub fn open<S: Site>(alloc: Global, site: &mut S) -> Result<Opened, GateFault>
-        ensures found { IsTrue (S.told site.old)
-            → IfOk result (λ o. reading is_present (S.seen site.old) ≡ Ok (found_of o)) }
-        ensures holds { IsTrue (S.told site.old) → IfOk result (λ o. Holds S.Site o.tail site.new) }
-        ensures head { IfOk result (λ o.
-            (o.tail.head ≡ o.head) × IsTrue (is_present o.head.version)) }
-        ensures lawful { IfOk result (λ o. IsTrue (is_lawful o.head)) }
-        ensures not_store { IsTrue (S.told site.old)
-            → IfErr result (IsFault (reading is_present (S.seen site.old))) }
-        ensures behind { IfErr result IsBehindLawful }
-        ensures failed { IsErrOf result GateFault.DiskFault
-            → Rose (S.counts site.old).disk (S.counts site.new).disk }
-        ensures counted { StopsAtFault (IsErrOf result GateFault.DiskFault) ⊥ ⊥
-            (S.counts site.old) (S.counts site.new) }
-        ensures settled { ¬ IsErrOf result GateFault.DiskFault → IsSettled S.Site site.new }
-        ensures looks { OnlyLooks S.Site site.old site.new }
+        ensures opens { Opens S.Site (reading is_led) result site.old site.new }
+        ensures head { IfOk result (λ o. (o.tail.head ≡ o.head) × (o.head.version ≡ 2)) }
     {
         open_files(alloc, site, None)
     }
@@ -386,24 +349,12 @@ impl Tail {
     ///
     /// All else is as with `open`: it begins with a sync of both files and changes nothing, and
     /// unless a call failed each crash image of the two is then what a read gives. `NotStore` comes
-    /// exactly by the first test that fails, `DiskFault` only where a call on a file failed, and
-    /// `Memory` where there is none for what the files hold.
+    /// exactly by the first test that fails, `Halt` with `Disk` only where a call on a file failed,
+    /// and with `Memory` where there is none for what the files hold.
     pub fn open_old<S: Site>(alloc: Global, site: &mut S) -> Result<Opened, GateFault>
-        ensures found { IsTrue (S.told site.old)
-            → IfOk result (λ o. old_reading (S.seen site.old) ≡ Ok (found_of o)) }
-        ensures holds { IsTrue (S.told site.old) → IfOk result (λ o. Holds S.Site o.tail site.new) }
+        ensures opens { Opens S.Site old_reading result site.old site.new }
         ensures head { IfOk result (λ o. (o.tail.head ≡ o.head) × (o.head.version ≡ 1)) }
         ensures generation { IfOk result (λ o. o.head.generation ≢ last_generation) }
-        ensures lawful { IfOk result (λ o. IsTrue (is_lawful o.head)) }
-        ensures not_store { IsTrue (S.told site.old)
-            → IfErr result (IsFault (old_reading (S.seen site.old))) }
-        ensures behind { IfErr result IsBehindLawful }
-        ensures failed { IsErrOf result GateFault.DiskFault
-            → Rose (S.counts site.old).disk (S.counts site.new).disk }
-        ensures counted { StopsAtFault (IsErrOf result GateFault.DiskFault) ⊥ ⊥
-            (S.counts site.old) (S.counts site.new) }
-        ensures settled { ¬ IsErrOf result GateFault.DiskFault → IsSettled S.Site site.new }
-        ensures looks { OnlyLooks S.Site site.old site.new }
     {
         open_files(alloc, site, Some(1))
     }
@@ -414,24 +365,12 @@ impl Tail {
     /// of a generation that another can follow, whatever the site tells.
     ///
     /// It begins with a sync of both files and changes nothing. `NotStore` comes exactly by the
-    /// first test that fails, `DiskFault` only where a call on a file failed, and `Memory` where
-    /// there is none for what the files hold.
+    /// first test that fails, `Halt` with `Disk` only where a call on a file failed, and with
+    /// `Memory` where there is none for what the files hold.
     pub fn open_growing<S: Site>(alloc: Global, site: &mut S) -> Result<Opened, GateFault>
-        ensures found { IsTrue (S.told site.old)
-            → IfOk result (λ o. growing_reading (S.seen site.old) ≡ Ok (found_of o)) }
-        ensures holds { IsTrue (S.told site.old) → IfOk result (λ o. Holds S.Site o.tail site.new) }
+        ensures opens { Opens S.Site growing_reading result site.old site.new }
         ensures head { IfOk result (λ o. (o.tail.head ≡ o.head) × (o.head.version ≡ 2)) }
         ensures generation { IfOk result (λ o. o.head.generation ≢ last_generation) }
-        ensures lawful { IfOk result (λ o. IsTrue (is_lawful o.head)) }
-        ensures not_store { IsTrue (S.told site.old)
-            → IfErr result (IsFault (growing_reading (S.seen site.old))) }
-        ensures behind { IfErr result IsBehindLawful }
-        ensures failed { IsErrOf result GateFault.DiskFault
-            → Rose (S.counts site.old).disk (S.counts site.new).disk }
-        ensures counted { StopsAtFault (IsErrOf result GateFault.DiskFault) ⊥ ⊥
-            (S.counts site.old) (S.counts site.new) }
-        ensures settled { ¬ IsErrOf result GateFault.DiskFault → IsSettled S.Site site.new }
-        ensures looks { OnlyLooks S.Site site.old site.new }
     {
         open_files(alloc, site, Some(2))
     }

@@ -24,7 +24,7 @@ use ox_outside::{Site, Which};
 use std::marker::Model;
 
 /// A tail beside which the other file is closed. Contracts see the tail.
-#[derive(Debug, Drop)]
+#[derive(Drop)]
 pub struct Closed {
     tail: Tail,
 }
@@ -43,7 +43,7 @@ impl Model for Closed {
 /// A tail beside which the other file is filled: behind its closed first gate stand a head of a
 /// greater generation and a body. Contracts see the tail, that head, and the place of the closed
 /// gate behind the body.
-#[derive(Debug, Drop)]
+#[derive(Drop)]
 pub struct Filled {
     tail: Tail,
     head: Head,

@@ -1,10 +1,13 @@
 //! The records of a file.
 
 ghost use Rattle.std.specs.Prelude.{◌≡◌, ◌+◌, ◌<◌, ◌≤◌, ◌^◌, length, MatchOption, IfOk, OnErr};
+ghost use Rattle.std.specs.Prelude.{bytes_eq};
 ghost use Rattle.ox_bytes.specs.Reading.{Gives};
-ghost use Rattle.ox_gated.specs.Gate.{IsShut, IsOpen, IsBroken, chain_of, gates_of};
+ghost use Rattle.ox_gated.specs.Gate.{HasFront, IsShut, IsOpen, IsBroken, IsCutFront, chain_of};
+ghost use Rattle.ox_gated.specs.Gate.{gates_of};
 ghost use Rattle.ox_gated.specs.Layout.{layout_of};
-ghost use Rattle.ox_gated.specs.RecordLayout.{plain_payload, summed_payload};
+ghost use Rattle.ox_gated.specs.OtherFile.{BeginsShut};
+ghost use Rattle.ox_gated.specs.RecordLayout.{plain_payload, record_sum, summed_payload};
 
 use crate::head::Head;
 use crate::layout::record_sum;
@@ -12,7 +15,7 @@ use ox_bytes::{Bytes, FieldFault, List, Memory, run_field, u32le_field, u64le_fi
 use std::alloc::Global;
 
 /// One record: the place of its gate in the file, and its payload.
-#[derive(Debug, Drop)]
+#[derive(Drop)]
 pub struct Record {
     pub place: u64,
     pub payload: Bytes,
@@ -23,7 +26,7 @@ pub type Records = List<Record>;
 
 /// Records from a place on, and the place of the closed gate behind them; or of the first gate that
 /// is missing, or whose record is cut or not as its sum says.
-#[derive(Debug, Drop)]
+#[derive(Drop)]
 pub struct Walk {
     pub records: Records,
     pub end: Result<u64, u64>,
@@ -64,7 +67,7 @@ fn walk_on(alloc: Global, head: &Head, place: u64, bytes: &[u8]) -> Result<Walk,
 }
 
 /// A gate that is missing, or whose record is cut or not as its sum says.
-struct Broken;
+pub struct Broken;
 
 /// What the first of these bytes, which stand at this place of a file with this head, is as a gate:
 /// none behind a closed one, else its record's payload and what follows.
@@ -125,10 +128,42 @@ fn summed_payload(generation: u64, place: u64, bytes: &[u8]) -> Result<(&[u8], &
     let (size, rest) = u64le_field(bytes)?;
     let (sum, rest) = run_field(rest, 32)?;
     let (payload, rest) = run_field(rest, size)?;
-    let expected = record_sum(generation, place, payload, &[]);
-    if sum == &expected[..] {
+    if is_summed_so(generation, place, payload, sum) {
         Ok((payload, rest))
     } else {
         Err(FieldFault { left: bytes.len() })
+    }
+}
+
+/// Whether this is the sum of the payload whose record's gate stands at this place of a file of
+/// this generation.
+pub fn is_summed_so(generation: u64, place: u64, payload: &[u8], sum: &[u8]) -> bool
+    ensures { result ≡ bytes_eq sum.now (record_sum generation place payload.now) }
+{
+    sum == &record_sum(generation, place, payload, &[])[..]
+}
+
+/// What the first of these bytes is as a gate of a file of version 3: none behind a closed one,
+/// else its record's length and sum. They are 41 bytes, as many as stand before a payload, or fewer
+/// where the file ends.
+pub fn summed_gate(bytes: &[u8]) -> Result<Option<(u64, &[u8])>, Broken>
+    requires { length bytes.now ≤ 41 }
+    ensures there { IfOk result (λ gate.
+        MatchOption gate (BeginsShut bytes.now) (λ g. HasFront bytes.now g.0 g.1.now)) }
+    ensures broken { OnErr result (IsCutFront bytes.now) }
+{
+    match bytes.split_first() {
+        None => Err(Broken),
+        Some((0, _)) => Ok(None),
+        Some((_, behind)) => match u64le_field(behind) {
+            Ok((size, sum)) => {
+                if sum.len() == 32 {
+                    Ok(Some((size, sum)))
+                } else {
+                    Err(Broken)
+                }
+            }
+            Err(_) => Err(Broken),
+        },
     }
 }

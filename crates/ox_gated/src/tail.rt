@@ -6,6 +6,7 @@ ghost use Rattle.ox_outside.specs.Runs.{LeavesOnly};
 ghost use Rattle.ox_gated.specs.Writes.{OnlyWrites};
 ghost use Rattle.ox_gated.specs.Written.{with_record_behind};
 
+use crate::fault::Halt;
 use crate::framed::{Checkpoint, Framed};
 use crate::head::Head;
 use crate::two_pieces::write_pieces_synced;
@@ -23,8 +24,18 @@ impl From<Failed> for DiskFault {
     }
 }
 
+impl From<DiskFault> for Halt {
+    ghost use Rattle.ox_gated.specs.declared.fault.Halt.TheVariants as halts;
+
+    ghost from_gives = { λ _ e. e ≡ halts.Disk };
+
+    fn from(_fault: DiskFault) -> Halt {
+        Halt::Disk
+    }
+}
+
 /// Where the next record comes: behind the closed gate that ends the records of the current file.
-#[derive(Debug, Drop)]
+#[derive(Drop)]
 pub struct Tail {
     file: Which,
     head: Head,

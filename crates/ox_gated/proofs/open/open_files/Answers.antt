@@ -1,57 +1,66 @@
 use Rattle.std.proofs.Common.{◌≡◌, ◌∙◌, sym, subst}
-use Rattle.std.specs.Prelude.{Result, Ok, IfOk, IfErr}
-use Rattle.ox_outside.specs.Crash.{Remains}
-use Rattle.ox_outside.specs.Files.{Files, file_of, other}
-use Rattle.ox_gated.specs.Layout.{is_closed}
-use Rattle.ox_gated.specs.Opened.{IsFault, IsUnpicked, found_of}
-use Rattle.ox_gated.specs.Pick.{choice_of}
+use Rattle.std.proofs.lemmas.Result.{IfOk-weaker}
+use Rattle.std.specs.Prelude.{Result, Ok, Err, IfOk, IfErr, IsTrue}
+use Rattle.ox_outside.specs.Files.{Files, file_of}
+use Rattle.ox_gated.specs.Layout.{is_lawful}
+use Rattle.ox_gated.specs.Opened.{IsFault, found_of}
 use Rattle.ox_gated.specs.OldReading.{current_as}
 use Rattle.ox_gated.specs.Reading.{Found, Fault}
-use Rattle.ox_gated.proofs.OpenedHolds.{unpicked_fault, as_is, all_hold}
+use Rattle.ox_gated.specs.declared.head.Head.{Head}
+use Rattle.ox_gated.proofs.Looking.{given, until_as, until_then}
+use Rattle.ox_gated.proofs.OneWrite.{err_as, went_well}
+use Rattle.ox_gated.proofs.OpenedHolds.{unpicked_fault, all_headed, as_is, all_hold, settled_on}
 use Rattle.ox_gated.proofs.open.open_files.Goals as goal
 
-pub returns-in-Err-clause-not_store : goal.returns-in-Err-clause-not_store
-returns-in-Err-clause-not_store g c told =
-    let looks = c.in_ok-settle.ensures.looks in
-    let files = g.S.Site.seen c.args.site.now in
-    let is = subst (λ (f : Files). IsUnpicked (choice_of f.a f.b) c.in-Err.fault) looks.nothing.files (c.in-Err.ensures.fault (looks.calls.as_told ∙ told)) in
-    unpicked_fault c.args.only files c.in-Err.fault is
+pub returns-in-Err : goal.returns-in-Err
+returns-in-Err g c =
+    let e = c.in-Err.ensures in
+    let fault = c.in-Err.fault in
+    record {
+      opens = record {
+        found = λ told. tt;
+        holds = λ told. tt;
+        lawful = tt;
+        settled = λ none. e.settled (λ disk. none (err_as _ _ disk));
+        reads = record {
+          not_store = λ told. unpicked_fault c.args.only (g.S.Site.seen c.args.site.now) fault (e.examines.fault told);
+          behind = e.examines.behind;
+          run = until_as g.S.Site (Err fault) (Err fault) c.args.site.now c.examine_settled.new.site (λ disk. err_as _ _ disk) (λ disk. err_as _ _ disk) e.examines.run;
+        };
+      };
+      head = tt;
+      generation = λ followed. tt;
+    }
 
-pub returns-clause-found : goal.returns-clause-found
-returns-clause-found g c told =
-    let looks = c.in_ok-settle.ensures.looks in
-    let more = c.in-Ok.ensures.looks in
-    let told1 = looks.calls.as_told ∙ told in
+pub returns-in-Ok : goal.returns-in-Ok
+returns-in-Ok g c =
+    let first = c.in-Ok.ensures.examines in
+    let looks = first.run.looks in
+    let read = c.read_current.ensures in
+    let result = c.read_current.result in
     let e = c.in-Ok.examined in
+    let mid = c.examine_settled.new.site in
+    let new = c.read_current.new.site in
     let files = g.S.Site.seen c.args.site.now in
-    let same = more.nothing.files ∙ looks.nothing.files in
-    let picks : choice_of files.a files.b ≡ Ok (e.file, e.opening) = subst (λ (f : Files). choice_of f.a f.b ≡ Ok (e.file, e.opening)) looks.nothing.files (c.in-Ok.ensures.found told1) in
-    let read = subst (λ (f : Files). IfOk c.read_current.result (λ o. current_as c.args.only e.file (file_of f e.file) e.opening ≡ Ok (found_of o))) same (c.read_current.ensures.found (more.calls.as_told ∙ told1)) in
-    subst (λ (r : Result Found Fault). IfOk c.read_current.result (λ o. r ≡ Ok (found_of o))) (sym (as_is files e.file e.opening picks c.args.only)) read
-
-pub returns-clause-not_store : goal.returns-clause-not_store
-returns-clause-not_store g c told =
-    let looks = c.in_ok-settle.ensures.looks in
-    let more = c.in-Ok.ensures.looks in
-    let told1 = looks.calls.as_told ∙ told in
-    let e = c.in-Ok.examined in
-    let files = g.S.Site.seen c.args.site.now in
-    let same = more.nothing.files ∙ looks.nothing.files in
-    let picks : choice_of files.a files.b ≡ Ok (e.file, e.opening) = subst (λ (f : Files). choice_of f.a f.b ≡ Ok (e.file, e.opening)) looks.nothing.files (c.in-Ok.ensures.found told1) in
-    let read = subst (λ (f : Files). IfErr c.read_current.result (IsFault (current_as c.args.only e.file (file_of f e.file) e.opening))) same (c.read_current.ensures.fault (more.calls.as_told ∙ told1)) in
-    subst (λ (r : Result Found Fault). IfErr c.read_current.result (IsFault r)) (sym (as_is files e.file e.opening picks c.args.only)) read
-
-pub returns-clause-holds : goal.returns-clause-holds
-returns-clause-holds g c told =
-    let first = c.in_ok-settle.ensures in
-    let more = c.in-Ok.ensures.looks in
-    let last = c.read_current.ensures.looks in
-    let told1 = first.looks.calls.as_told ∙ told in
-    let e = c.in-Ok.examined in
-    let files = g.S.Site.seen c.args.site.now in
-    let same = more.nothing.files ∙ first.looks.nothing.files in
-    let picks : choice_of files.a files.b ≡ Ok (e.file, e.opening) = subst (λ (f : Files). choice_of f.a f.b ≡ Ok (e.file, e.opening)) first.looks.nothing.files (c.in-Ok.ensures.found told1) in
-    let read = subst (λ (f : Files). IfOk c.read_current.result (λ o. current_as c.args.only e.file (file_of f e.file) e.opening ≡ Ok (found_of o))) same (c.read_current.ensures.found (more.calls.as_told ∙ told1)) in
-    let closed : e.other_closed ≡ is_closed (file_of files (other e.file)) = subst (λ (f : Files). e.other_closed ≡ is_closed (file_of f (other e.file))) first.looks.nothing.files (c.in-Ok.ensures.closed told1) in
-    let settled : (r : Remains) → g.S.Site.may_leave c.read_current.new.site r → r.files ≡ g.S.Site.seen c.read_current.new.site = λ r left. first.settled r (more.nothing.crash r (last.nothing.crash r left)) ∙ sym (last.nothing.files ∙ more.nothing.files) in
-    all_hold files e.file e.opening picks g.S.Site c.read_current.new.site (last.nothing.files ∙ same) settled c.args.only c.read_current.result e.other_closed closed c.read_current.ensures.tail read
+    let settled = settled_on g.S.Site mid new read.reads.run.looks (c.in-Ok.ensures.settled (given e)) in
+    let found = λ (told : IsTrue (g.S.Site.told c.args.site.now)).
+    subst (λ (f : Files). IfOk result (λ o. current_as c.args.only e.file (file_of f e.file) e.opening ≡ Ok (found_of o))) looks.nothing.files (read.found (looks.calls.as_told ∙ told)) in
+    record {
+      opens = record {
+        found = λ told. subst (λ (r : Result Found Fault). IfOk result (λ o. r ≡ Ok (found_of o))) (sym (as_is files e.file e.opening (first.examined told).picks c.args.only)) (found told);
+        holds = λ told.
+            let is = first.examined told in
+            all_hold files e.file e.opening is.picks g.S.Site new (read.reads.run.looks.nothing.files ∙ looks.nothing.files) settled c.args.only result e.other_closed is.closed read.tail (found told);
+        lawful = IfOk-weaker result _ _ (λ o is. subst (λ (h : Head). IsTrue (is_lawful h)) (sym is) first.lawful) read.head;
+        settled = λ none. settled;
+        reads = record {
+          not_store = λ told.
+              let fault = subst (λ (f : Files). IfErr result (IsFault (current_as c.args.only e.file (file_of f e.file) e.opening))) looks.nothing.files (read.reads.not_store (looks.calls.as_told ∙ told)) in
+              subst (λ (r : Result Found Fault). IfErr result (IsFault r)) (sym (as_is files e.file e.opening (first.examined told).picks c.args.only)) fault;
+          behind = read.reads.behind;
+          run = until_then g.S.Site result c.args.site.now mid new looks (went_well _ _ _ _ first.run.counted) read.reads.run;
+        };
+      };
+      head = all_headed c.args.only result e.other_closed read.tail read.version;
+      generation = read.generation;
+    }
