@@ -10,3 +10,5 @@ pub mod ReadLemmas
 pub mod StepLemmas
 pub mod StackLemmas
 pub mod FileLemmas
+pub mod CountLemmas
+pub mod ComingLemmas

@@ -3,3 +3,4 @@ pub mod Standing
 pub mod Judgement
 pub mod Putting
 pub mod Unjudged
+pub mod Coming

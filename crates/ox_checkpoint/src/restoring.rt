@@ -45,7 +45,7 @@ pub fn stand(
 {
     let mut standing = begin(alloc, head, body)?;
     for record in records.as_slice() {
-        standing = after(alloc, standing, record)?;
+        standing = stand_after(alloc, standing, record)?;
     }
     Ok(standing)
 }
@@ -101,8 +101,9 @@ fn begin(alloc: Global, head: &Head, body: &Bytes) -> Result<Standing, Unjudged>
     }
 }
 
-/// What it goes on to after a record.
-fn after(alloc: Global, standing: Standing, record: &Record) -> Result<Standing, Unjudged>
+/// What it goes on to after a record: `At` exactly where the record isn't accepted, with the place
+/// of its gate. `Memory` where there is none for its change.
+pub fn stand_after(alloc: Global, standing: Standing, record: &Record) -> Result<Standing, Unjudged>
     ensures stack { IfOk result (λ next.
         stack_after_record standing «record».now ≡ Ok next) }
     ensures place { IfErr result (IsUnjudged (stack_after_record standing «record».now)) }

@@ -1,18 +1,21 @@
 //! A stack as plain data.
 
-ghost use Rattle.std.specs.Prelude.{◌≡◌, ◌≤◌, [], Some, IfOk};
+ghost use Rattle.std.specs.Prelude.{◌≡◌, ◌≤◌, ℕ, List, [], Some, IfErr, IfOk, IfSome, OnOk};
 ghost use Rattle.ox_sat.specs.Profiles.{IsProfile};
 ghost use Rattle.ox_rows.specs.RowReading.{change_at};
 ghost use Rattle.ox_files.specs.Body.{whole};
+ghost use Rattle.ox_checkpoint.specs.Coming.{Halted};
 ghost use Rattle.ox_checkpoint.specs.Judgement.{IsJudgement};
 
+use crate::coming::{BodyFault, body_from};
 use crate::leads::{is_kept, leads_on};
 use crate::read::{read_body, whole_change};
-use ox_bytes::Memory;
+use ox_bytes::{List, Memory};
 use ox_files::{CONNECT, DISCONNECT};
 use ox_index::{Chain, Live};
 use ox_model::Change;
 use ox_plain::Index;
+use ox_rows::Source;
 use ox_sat::Profile;
 use std::alloc::Global;
 use std::collections::VecDeque;
@@ -69,8 +72,9 @@ pub enum Judgement {
 }
 
 impl Standing {
-    ghost use Rattle.ox_index.specs.Chain.{stack_in};
-    ghost use Rattle.ox_files.specs.Body.{stack_in_body};
+    ghost use Rattle.ox_index.specs.Chain.{stack_in as stack_of_chain};
+    ghost use Rattle.ox_plain.specs.Plain.{index_in};
+    ghost use Rattle.ox_files.specs.Body.{body_of, stack_in, stack_in_body};
     ghost use Rattle.ox_files.specs.Payload.{payload_step, stack_back, stack_by_change};
 
     /// What a body stands for, whose chain counts by this profile and keeps at most `depth` blocks,
@@ -87,18 +91,39 @@ impl Standing {
         requires depth { (1 ≤ depth) × (depth ≤ 1000) }
         ensures { IfOk result (λ found. found ≡ stack_in_body profile depth body.now) }
     {
-        let Some((mut index, changes)) = read_body(alloc, body)? else {
+        let Some((index, changes)) = read_body(alloc, body)? else {
             return Ok(None);
         };
-        if !is_kept(alloc, &profile, depth, &mut index, changes.as_slice())? {
+        Standing::of_kept(alloc, profile, depth, index, changes)
+    }
+
+    /// What a body stands for whose bytes come from a source, in a world of its own, as `of` says:
+    /// `None` exactly where it stands for nothing. Its rows are read as they come, so it takes no
+    /// room for the body but for the row that is read. `Memory` where there is none for it;
+    /// `Source` where the source ends, by what it ends by.
+    pub fn of_rows<W, S: Source<W>>(
+        alloc: Global,
+        profile: Profile,
+        depth: u16,
+        source: &mut S,
+        world: &mut W,
+    ) -> Result<Option<Standing>, BodyFault<S::Fault>>
+        requires known { IsProfile profile }
+        requires depth { (1 ≤ depth) × (depth ≤ 1000) }
+        requires ready { S.ready source.old world.old }
+        ensures stack { (bytes : List ℕ) → S.comes source.old world.old bytes
+            → IfOk result (λ found. found ≡ stack_in_body profile depth bytes) }
+        // Whatever comes.
+        ensures counts { IfOk result (λ found. IfSome found (λ standing.
+            (standing.profile ≡ profile) × (standing.depth ≡ depth))) }
+        ensures went { OnOk result (S.went source.old world.old source.new world.new) }
+        ensures ended { IfErr result (λ fault.
+            Halted S.went S.ended source.old world.old fault source.new world.new) }
+    {
+        let Some((index, changes)) = body_from(alloc, source, world)? else {
             return Ok(None);
-        }
-        Ok(Some(Standing {
-            profile,
-            depth,
-            index,
-            changes: VecDeque::from_vec(changes.into_vec()),
-        }))
+        };
+        Ok(Standing::of_kept(alloc, profile, depth, index, changes)?)
     }
 
     /// Judges the payload of a record: where it is accepted this goes on to the stack after it, and
@@ -182,9 +207,34 @@ impl Standing {
         }))
     }
 
+    /// What an index and the changes of its newest blocks stand for; `None` exactly where the
+    /// changes aren't kept ones of it.
+    fn of_kept(
+        alloc: Global,
+        profile: Profile,
+        depth: u16,
+        mut index: Index,
+        changes: List<Change>,
+    ) -> Result<Option<Standing>, Memory>
+        requires known { IsProfile profile }
+        requires depth { (1 ≤ depth) × (depth ≤ 1000) }
+        ensures { IfOk result (λ found.
+            found ≡ stack_in profile depth (Some (body_of (index_in index) changes))) }
+    {
+        if !is_kept(alloc, &profile, depth, &mut index, changes.as_slice())? {
+            return Ok(None);
+        }
+        Ok(Some(Standing {
+            profile,
+            depth,
+            index,
+            changes: VecDeque::from_vec(changes.into_vec()),
+        }))
+    }
+
     /// The chain of this stack, with its index in memory. `Memory` where there is none for that.
-    pub(crate) fn into_chain(self, alloc: Global) -> Result<Chain, Memory>
-        ensures { IfOk result (λ chain. stack_in chain ≡ self) }
+    pub fn into_chain(self, alloc: Global) -> Result<Chain, Memory>
+        ensures { IfOk result (λ chain. stack_of_chain chain ≡ self) }
     {
         let Standing {
             profile,

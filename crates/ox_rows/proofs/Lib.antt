@@ -10,3 +10,5 @@ pub mod InOrder
 pub mod Fronts
 pub mod Keeping
 pub mod Collected
+pub mod Ahead
+pub mod NextLaws

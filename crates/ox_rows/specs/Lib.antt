@@ -6,3 +6,7 @@ pub mod RowFits
 pub mod RowReading
 pub mod Answer
 pub mod Seen
+pub mod Front
+pub mod FrontLaws
+pub mod Coming
+pub mod Promises

@@ -169,6 +169,11 @@ count_change_of one = record {
 
 -- ---- lists
 
+-- how many in 4 bytes, and these by rising outpoint
+abbrev pub rows_at : {X : Type 0} → Reader X → Reader (List (OutPoint × X))
+rows_at value bytes =
+    number_at w32 bytes >>= λ n. rising_at outpoint_cmp outpoint_at value None n.0 n.1
+
 unfoldable pub outputs_at : Reader (List (OutPoint × OutRow))
 outputs_at bytes =
     number_at w32 bytes >>= λ n. rising_at outpoint_cmp outpoint_at out_row_at None n.0 n.1

@@ -3,6 +3,7 @@
 ghost use Rattle.std.specs.Prelude.{◌≡◌, ◌<◌, ◌^◌, None, IfOk};
 ghost use Rattle.ox_bytes.specs.Reading.{GivesOrMemory};
 ghost use Rattle.ox_allocation.specs.Balances.{id_cmp};
+ghost use Rattle.ox_rows.specs.FrontLaws.{balances_fronts};
 ghost use Rattle.ox_rows.specs.RowFits.{AreHeld, FitsBalance, FitsHeld, FitsPlacement};
 ghost use Rattle.ox_rows.specs.RowReading.{amount_at, balances_at, placements_at, rune_id_at};
 ghost use Rattle.ox_rows.specs.Reading.{rising_at};
@@ -64,6 +65,8 @@ impl Readable for Balances {
         let (pool, rest) = pool_of(alloc, count, rest)?;
         Ok((pool.into_balances(alloc)?, rest))
     }
+
+    ghost fronts = { balances_fronts };
 }
 
 /// A rune and how much of it there is, spelled.

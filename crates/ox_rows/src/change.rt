@@ -138,3 +138,15 @@ pub fn write_change(alloc: Global, change: &Change) -> Result<Bytes, Memory>
     put_change(&mut bytes, change)?;
     Ok(bytes)
 }
+
+impl Readable for Change {
+    ghost use Rattle.ox_rows.specs.FrontLaws.{change_fronts};
+
+    ghost at = { change_at };
+
+    fn read(alloc: Global, bytes: &[u8]) -> Result<(Change, &[u8]), ReadError> {
+        change_of(alloc, bytes)
+    }
+
+    ghost fronts = { change_fronts };
+}

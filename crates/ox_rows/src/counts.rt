@@ -2,6 +2,7 @@
 
 ghost use Rattle.std.specs.Prelude.{◌≡◌, map, IfOk};
 ghost use Rattle.ox_bytes.specs.Reading.{GivesOrMemory};
+ghost use Rattle.ox_rows.specs.FrontLaws.{counts_then_fronts};
 ghost use Rattle.ox_rows.specs.RowFits.{FitsCountChange};
 ghost use Rattle.ox_rows.specs.RowSpelling.{count_change};
 ghost use Rattle.ox_rows.specs.RowReading.{count_change_of, counts_at, counts_then_at};
@@ -37,6 +38,8 @@ impl Readable for CountsThen {
         };
         Ok((counts, rest))
     }
+
+    ghost fronts = { counts_then_fronts };
 }
 
 /// Changed counts, spelled.

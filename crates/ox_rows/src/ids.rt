@@ -3,6 +3,7 @@
 ghost use Rattle.std.specs.Prelude.{◌≡◌, ◌++◌};
 ghost use Rattle.std.specs.Int.{w32, to_le_bytes};
 ghost use Rattle.ox_block.specs.Spelling.{outpoint};
+ghost use Rattle.ox_rows.specs.FrontLaws.{inscription_id_fronts, outpoint_fronts, rune_id_fronts};
 ghost use Rattle.ox_rows.specs.RowFits.{FitsInsId, FitsOutPoint, FitsRuneId};
 ghost use Rattle.ox_rows.specs.RowReading.{inscription_id_at, outpoint_at, rune_id_at};
 ghost use Rattle.ox_rows.specs.RowSpelling.{inscription_id, rune_id};
@@ -28,6 +29,8 @@ impl Readable for OutPoint {
         };
         Ok((at, rest))
     }
+
+    ghost fronts = { outpoint_fronts };
 }
 
 impl Writable for OutPoint {
@@ -62,6 +65,8 @@ impl Readable for InsId {
         let (index, rest) = u32::read(alloc, rest)?;
         Ok((InsId { txid, index }, rest))
     }
+
+    ghost fronts = { inscription_id_fronts };
 }
 
 impl Writable for InsId {
@@ -97,6 +102,8 @@ impl Readable for RuneId {
         let (tx, rest) = u32::read(alloc, rest)?;
         Ok((RuneId { block, tx }, rest))
     }
+
+    ghost fronts = { rune_id_fronts };
 }
 
 impl Writable for RuneId {

@@ -2,6 +2,7 @@
 
 ghost use Rattle.std.specs.Prelude.{◌≡◌, ◌++◌};
 ghost use Rattle.std.specs.Int.{w32, to_le_bytes};
+ghost use Rattle.ox_rows.specs.FrontLaws.{inscription_fronts};
 ghost use Rattle.ox_rows.specs.RowFits.{FitsInsId, FitsInscription};
 ghost use Rattle.ox_rows.specs.RowReading.{inscription_at};
 ghost use Rattle.ox_rows.specs.RowSpelling.{inscription, inscription_id};
@@ -38,6 +39,8 @@ impl Readable for InsRow {
         };
         Ok((row, rest))
     }
+
+    ghost fronts = { inscription_fronts };
 }
 
 /// What an inscription's row begins with, its id and the height of its block, spelled.
@@ -81,6 +84,8 @@ impl Readable for SharedRow {
         let (row, rest) = InsRow::read(alloc, bytes)?;
         Ok((SharedRow::new(alloc, row)?, rest))
     }
+
+    ghost fronts = { inscription_fronts };
 }
 
 impl Writable for SharedRow {

@@ -8,6 +8,8 @@ ghost use Rattle.ox_rows.specs.RowFits.{FitsChange, FitsIndex, KeepsChange, Keep
 ghost use Rattle.ox_rows.specs.Reading.{sats_at};
 ghost use Rattle.ox_rows.specs.Spelling.{sats};
 
+use crate::readable::Readable;
+
 /// What is read as satoshis are satoshis that there can be, spelled so; and those are read from
 /// their spelling, whatever follows it.
 pub fn satoshis_have_one_spelling()
@@ -16,6 +18,13 @@ pub fn satoshis_have_one_spelling()
         → FitsSats numbers × (bytes ≡ sats numbers ++ rest) }
     ensures again { (numbers rest : List ℕ) → FitsSats numbers
         → sats_at (sats numbers ++ rest) ≡ Ok (numbers, rest) }
+{}
+
+/// What is read of the front of bytes is read so whatever follows that front: of more bytes it is
+/// the same, and more of them is left.
+pub fn longer_fronts_read_alike<T: Readable>()
+    ensures { (bytes more rest : List ℕ) (x : T) → T.at bytes ≡ Ok (x, rest)
+        → T.at (bytes ++ more) ≡ Ok (x, rest ++ more) }
 {}
 
 /// What has a spelling keeps to the form that its writer asks for. So what was read can be put.

@@ -1,6 +1,7 @@
 //! Lists, read.
 
 ghost use Rattle.ox_bytes.specs.Reading.{GivesOrMemory, times};
+ghost use Rattle.ox_rows.specs.FrontLaws.{list_fronts};
 ghost use Rattle.ox_rows.specs.Reading.{list_at};
 
 use crate::readable::Readable;
@@ -43,4 +44,6 @@ impl<T: Readable + Drop> Readable for List<T> {
     fn read(alloc: Global, bytes: &[u8]) -> Result<(List<T>, &[u8]), ReadError> {
         list_of(alloc, bytes)
     }
+
+    ghost fronts = { list_fronts T.at T.fronts };
 }

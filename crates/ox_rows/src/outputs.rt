@@ -2,6 +2,7 @@
 
 ghost use Rattle.std.specs.Prelude.{◌≡◌};
 ghost use Rattle.ox_bytes.specs.Reading.{GivesOrMemory};
+ghost use Rattle.ox_rows.specs.FrontLaws.{out_row_fronts};
 ghost use Rattle.ox_rows.specs.Fits.{AreSats};
 ghost use Rattle.ox_rows.specs.RowFits.{FitsOutRow, FitsOutput};
 ghost use Rattle.ox_rows.specs.RowReading.{out_row_at, outputs_at};
@@ -32,6 +33,8 @@ impl Readable for OutRow {
         };
         Ok((row, rest))
     }
+
+    ghost fronts = { out_row_fronts };
 }
 
 impl Writable for OutRow {

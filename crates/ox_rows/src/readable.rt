@@ -3,6 +3,9 @@
 ghost use Rattle.std.specs.Prelude.{◌≡◌, length};
 ghost use Rattle.std.specs.Int.{w8, w16, w32, w64, w128};
 ghost use Rattle.ox_bytes.specs.Reading.{Gives, GivesOrMemory, Reader, number_at, run_at};
+ghost use Rattle.ox_rows.specs.FrontLaws.{bytes_fronts, number_fronts};
+ghost use Rattle.ox_rows.specs.FrontLaws.{optional_fronts, text_fronts};
+ghost use Rattle.ox_rows.specs.Front.{ReadsFronts};
 ghost use Rattle.ox_rows.specs.Reading.{flag_at, four_at, optional_at, text_at};
 
 use ox_bytes::{Bytes, FieldFault, ReadError, run_field, u32le_field, u64le_field};
@@ -17,6 +20,9 @@ pub trait Readable {
     /// begins that doesn't fit. `Memory` where there is none for the value.
     fn read(alloc: Global, bytes: &[u8]) -> Result<(Self, &[u8]), ReadError>
         ensures { GivesOrMemory (λ x. (x.0, x.1.now)) result (at bytes.now) };
+
+    /// It looks at nothing behind the value.
+    ghost fronts: { ReadsFronts at };
 }
 
 impl Readable for u8 {
@@ -30,6 +36,8 @@ impl Readable for u8 {
         let (front, rest) = bytes.split_at(1);
         Ok((u8::from_le_bytes([front[0]]), rest))
     }
+
+    ghost fronts = { number_fronts w8 };
 }
 
 impl Readable for u16 {
@@ -43,6 +51,8 @@ impl Readable for u16 {
         let (front, rest) = bytes.split_at(2);
         Ok((u16::from_le_bytes([front[0], front[1]]), rest))
     }
+
+    ghost fronts = { number_fronts w16 };
 }
 
 impl Readable for u32 {
@@ -51,6 +61,8 @@ impl Readable for u32 {
     fn read(_alloc: Global, bytes: &[u8]) -> Result<(u32, &[u8]), ReadError> {
         Ok(u32le_field(bytes)?)
     }
+
+    ghost fronts = { number_fronts w32 };
 }
 
 impl Readable for u64 {
@@ -59,6 +71,8 @@ impl Readable for u64 {
     fn read(_alloc: Global, bytes: &[u8]) -> Result<(u64, &[u8]), ReadError> {
         Ok(u64le_field(bytes)?)
     }
+
+    ghost fronts = { number_fronts w64 };
 }
 
 impl Readable for u128 {
@@ -74,6 +88,8 @@ impl Readable for u128 {
         number.copy_from_slice(front);
         Ok((u128::from_le_bytes(number), rest))
     }
+
+    ghost fronts = { number_fronts w128 };
 }
 
 impl Readable for [u8; 32] {
@@ -89,6 +105,8 @@ impl Readable for [u8; 32] {
         hash.copy_from_slice(front);
         Ok((hash, rest))
     }
+
+    ghost fronts = { bytes_fronts 32 };
 }
 
 /// Bytes in place: how many in 4 bytes, and these.
@@ -107,6 +125,8 @@ impl Readable for Bytes {
         let (text, rest) = text_of(bytes)?;
         Ok((Bytes::copy(alloc, text)?, rest))
     }
+
+    ghost fronts = { text_fronts };
 }
 
 /// Whether a value follows.
@@ -143,6 +163,8 @@ impl<T: Readable> Readable for Option<T> {
     fn read(alloc: Global, bytes: &[u8]) -> Result<(Option<T>, &[u8]), ReadError> {
         optional_of(alloc, bytes)
     }
+
+    ghost fronts = { optional_fronts T.at T.fronts };
 }
 
 /// Four values, one after the other.

@@ -4,6 +4,7 @@ ghost use Rattle.std.specs.Prelude.{◌≡◌, None};
 ghost use Rattle.ox_bytes.specs.Reading.{GivesOrMemory, unless};
 ghost use Rattle.ox_rows.specs.Reading.{falls, rising_at};
 
+use crate::next::Reads;
 use crate::readable::Readable;
 use ox_bytes::{FieldFault, ReadError};
 use std::alloc::Global;
@@ -29,6 +30,19 @@ pub fn rising_of<K: Readable + Ord + Copy, X: Readable + Drop>(
         rest = after;
     }
     Ok((rows, rest))
+}
+
+/// By the last key, if there is one: the next one rises above it.
+impl<K: Readable + Ord + Copy> Reads<K> for Option<K> {
+    ghost use Rattle.ox_rows.specs.FrontLaws.{key_fronts};
+
+    ghost at = { λ last. unless (falls K.cmp last) K.at };
+
+    fn read(self, alloc: Global, bytes: &[u8]) -> Result<(K, &[u8]), ReadError> {
+        key_behind(alloc, self, bytes)
+    }
+
+    ghost fronts = { λ last. key_fronts K.cmp last K.at K.fronts };
 }
 
 /// A key that rises above the last one, if there is one.

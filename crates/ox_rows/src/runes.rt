@@ -2,6 +2,7 @@
 
 ghost use Rattle.std.specs.Prelude.{◌≡◌, ◌++◌, IsTrue};
 ghost use Rattle.std.specs.Int.{w32, w128, to_le_bytes};
+ghost use Rattle.ox_rows.specs.FrontLaws.{character_fronts, rune_fronts, terms_fronts};
 ghost use Rattle.ox_rows.specs.RowFits.{FitsRune, FitsRuneId, FitsTerms, is_character};
 ghost use Rattle.ox_rows.specs.RowReading.{character_at, rune_at, terms_at};
 ghost use Rattle.ox_rows.specs.RowSpelling.{rune, rune_id, terms};
@@ -27,6 +28,8 @@ impl Readable for char {
             None => Err(ReadError::Fault(FieldFault { left: bytes.len() })),
         }
     }
+
+    ghost fronts = { character_fronts };
 }
 
 impl Writable for char {
@@ -58,6 +61,8 @@ impl Readable for Terms {
         };
         Ok((terms, rest))
     }
+
+    ghost fronts = { terms_fronts };
 }
 
 impl Writable for Terms {
@@ -99,6 +104,8 @@ impl Readable for RuneRow {
         };
         Ok((row, rest))
     }
+
+    ghost fronts = { rune_fronts };
 }
 
 /// What a rune's row begins with, its id, its name and its spacers, spelled.

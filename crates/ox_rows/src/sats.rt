@@ -10,6 +10,7 @@ ghost use Rattle.ox_rows.specs.Reading.{sats_at};
 ghost use Rattle.ox_rows.specs.Spelling.{run, sats};
 
 use crate::put::put_count;
+use crate::readable::Readable;
 use ox_bytes::{Bytes, FieldFault, Memory, ReadError, u32le_field, u64le_field};
 use ox_range::{Ranges, Run};
 use std::alloc::Global;
@@ -27,6 +28,18 @@ pub fn sats_of(alloc: Global, bytes: &[u8]) -> Result<(Ranges, &[u8]), ReadError
 {
     let (count, rest) = u32le_field(bytes)?;
     runs_of(alloc, count, rest)
+}
+
+impl Readable for Ranges {
+    ghost use Rattle.ox_rows.specs.FrontLaws.{sats_fronts};
+
+    ghost at = { sats_at };
+
+    fn read(alloc: Global, bytes: &[u8]) -> Result<(Ranges, &[u8]), ReadError> {
+        sats_of(alloc, bytes)
+    }
+
+    ghost fronts = { sats_fronts };
 }
 
 /// That many runs.

@@ -25,7 +25,7 @@ use std::alloc::{AllocError, Global};
 use std::collections::BTreeMap;
 
 /// A table of rows.
-fn table_of<X: Drop>(
+pub(crate) fn table_of<X: Drop>(
     alloc: Global,
     rows: Vec<(OutPoint, X)>,
 ) -> Result<BTreeMap<OutPoint, X>, AllocError>

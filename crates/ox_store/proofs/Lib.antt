@@ -7,5 +7,8 @@ pub mod GrowingFiles
 pub mod HeadLemmas
 pub mod MakeFaults
 pub mod OldStores
+pub mod PartsLemmas
+pub mod PiecesLemmas
+pub mod StepLaws
 pub mod WritingLemmas
 pub mod TurningLemmas

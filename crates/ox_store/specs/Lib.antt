@@ -3,6 +3,9 @@ pub mod Grow
 pub mod Heads
 pub mod Make
 pub mod Migrate
+pub mod Parts
+pub mod Promises
+pub mod Reading
 pub mod Ready
 pub mod Store
 pub mod Turning

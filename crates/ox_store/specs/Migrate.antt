@@ -5,6 +5,7 @@ use Rattle.ox_outside.specs.Files.{Files, other}
 use Rattle.ox_outside.specs.declared.site.Which.{Which}
 use Rattle.ox_gated.specs.Reading.{Found, ReadsAlike}
 use Rattle.ox_gated.specs.Tail.{Kept}
+use Rattle.ox_gated.specs.declared.fault.Halt.TheVariants as halts
 use Rattle.ox_gated.specs.declared.head.Head.{Head}
 use Rattle.ox_model.specs.Stack.{Stack}
 use Rattle.ox_files.specs.OldStands.{OldFault, IllFormed, Refused, old_stands}
@@ -20,14 +21,13 @@ abbrev pub IsOldFault : Result (Stack × ℕ) (OldFault Misfit) → MigrateFault
 IsOldFault standing (migrates.NotStore file at) =
     standing ≡ Err (IllFormed (record { file = file; at = at }))
 IsOldFault standing (migrates.Old command refusal) = standing ≡ Err (Refused command refusal)
-IsOldFault standing migrates.DiskFault = Unit {0}
-IsOldFault standing migrates.Memory = Unit {0}
+IsOldFault standing (migrates.Halt halt) = Unit {0}
 
 -- the fault of this file
 abbrev pub old_fault_in : Which → ReplayFault → MigrateFault
 old_fault_in file (replays.At place) = migrates.NotStore file place
 old_fault_in file (replays.Old command refusal) = migrates.Old command refusal
-old_fault_in file replays.Memory = migrates.Memory
+old_fault_in file replays.Memory = migrates.Halt halts.Memory
 
 -- the head of the file that takes the place of one with this head: version 2, the next generation
 abbrev pub migrated_head : Head → Head

@@ -16,13 +16,13 @@ ghost use Rattle.ox_index.specs.Chain.{stack_in};
 ghost use Rattle.ox_files.specs.Stands.{Misfit};
 ghost use Rattle.ox_model.specs.Stack.{Stack};
 ghost use Rattle.ox_store.specs.Fault.{IsMisfit};
-ghost use Rattle.ox_store.specs.Grow.{HasGrown, IsGrowFault, IsHalt, IsShutBehind};
+ghost use Rattle.ox_store.specs.Grow.{HasGrown, IsHalt, IsShutBehind};
 ghost use Rattle.ox_store.specs.Grow.{StandsAsGrown, grown_head, growing};
 ghost use Rattle.ox_store.specs.Heads.{Names};
 ghost use Rattle.ox_store.specs.Turning.{Goes, IsOtherFile, StandsAsBefore, tail_in};
-ghost use Rattle.ox_store.specs.declared.fault.GrowFault.TheVariants as grows;
+ghost use Rattle.ox_store.specs.declared.fault.OpenFault.TheVariants as opens;
 
-use crate::fault::{GrowFault, OpenFault};
+use crate::fault::OpenFault;
 use crate::open::store_of;
 use crate::store::Store;
 use crate::turning::{Turned, turn};
@@ -51,7 +51,7 @@ impl Store {
     /// `open`, with one more between that of the version, at 6, and that of the body: at 10 the
     /// generation may not be the greatest. Nothing is written then. `Halt` with `Disk` only where a
     /// call on a file failed, and with `Memory` where there is none for the store.
-    pub fn grow<S: Site>(alloc: Global, site: &mut S) -> Result<Store, GrowFault>
+    pub fn grow<S: Site>(alloc: Global, site: &mut S) -> Result<Store, OpenFault>
         ensures grown { IsTrue (S.told site.old)
             → IfOk result (λ store. growing (S.seen site.old) ≡ Ok store.stack) }
         ensures stands { IsTrue (S.told site.old)
@@ -68,8 +68,8 @@ impl Store {
         ensures holds { IsTrue (S.told site.old)
             → IfOk result (λ store. Holds S.Site store.tail site.new) }
         ensures fault { IsTrue (S.told site.old)
-            → IfErr result (IsGrowFault (growing (S.seen site.old))) }
-        ensures wrote_nothing { (file : Which) (at : ℕ) → IsErrOf result (grows.NotStore file at)
+            → IfErr result (IsMisfit (growing (S.seen site.old))) }
+        ensures wrote_nothing { (file : Which) (at : ℕ) → IsErrOf result (opens.NotStore file at)
             → OnlyLooks S.Site site.old site.new }
         // Files that no store of version 3 can follow are spared, whatever the fault is.
         ensures untouched { IsTrue (S.told site.old) → (misfit : Misfit)
@@ -77,9 +77,9 @@ impl Store {
         ensures any_moment { IsTrue (S.told site.old)
             → LeavesOnly S.Site site.old site.new
             (λ r. S.may_leave site.old r ⊎ StandsAsGrown (S.seen site.old) r.files) }
-        ensures failed { IsErrOf result (grows.Halt halts.Disk)
+        ensures failed { IsErrOf result (opens.Halt halts.Disk)
             → Rose (S.counts site.old).disk (S.counts site.new).disk }
-        ensures counted { StopsAtFault (IsErrOf result (grows.Halt halts.Disk)) ⊥ ⊥
+        ensures counted { StopsAtFault (IsErrOf result (opens.Halt halts.Disk)) ⊥ ⊥
             (S.counts site.old) (S.counts site.new) }
         ensures writes { OnlyWrites S.Site site.old site.new }
     {
@@ -103,9 +103,9 @@ fn open_growing<S: Site>(alloc: Global, site: &mut S) -> Result<Store, OpenFault
         → IfOk result (λ store. Holds S.Site store.tail site.new) }
     ensures not_store { IsTrue (S.told site.old)
         → IfErr result (IsMisfit (growing (S.seen site.old))) }
-    ensures failed { IsErrOf result OpenFault.DiskFault
+    ensures failed { IsErrOf result (opens.Halt halts.Disk)
         → Rose (S.counts site.old).disk (S.counts site.new).disk }
-    ensures counted { StopsAtFault (IsErrOf result OpenFault.DiskFault) ⊥ ⊥
+    ensures counted { StopsAtFault (IsErrOf result (opens.Halt halts.Disk)) ⊥ ⊥
         (S.counts site.old) (S.counts site.new) }
     ensures looks { OnlyLooks S.Site site.old site.new }
 {
@@ -122,7 +122,7 @@ fn turn_grown<S: Site>(
     chain: Chain,
     tail: Tail,
     site: &mut S,
-) -> Result<Store, GrowFault>
+) -> Result<Store, OpenFault>
     requires names { Names tail.head (stack_in chain) }
     requires generation { tail.head.generation ≢ last_generation }
     requires holds { IsTrue (S.told site.old) → Holds S.Site tail site.old }
@@ -135,7 +135,7 @@ fn turn_grown<S: Site>(
         → IfOk result (λ store. Holds S.Site store.tail site.new) }
     ensures stands { OnOk result (StandsAsBefore S.Site (stack_in chain) site.old site.new) }
     ensures halts { IfErr result IsHalt }
-    ensures goes { Goes S.Site (stack_in chain) (IsErrOf result (grows.Halt halts.Disk))
+    ensures goes { Goes S.Site (stack_in chain) (IsErrOf result (opens.Halt halts.Disk))
         site.old site.new }
 {
     let head = grown(&tail.head());
@@ -163,7 +163,7 @@ fn grown(head: &Head) -> Head
 
 /// Closes the file that was current before a turn. `Halt` with `Memory` where there is none for the
 /// turn.
-fn shut_old<S: Site>(turned: Turned, site: &mut S) -> Result<Tail, GrowFault>
+fn shut_old<S: Site>(turned: Turned, site: &mut S) -> Result<Tail, OpenFault>
     requires { IsTrue (S.told site.old) → Holds S.Site (tail_in turned) site.old }
     ensures kept { IfOk result (IsShutBehind turned) }
     ensures shut { IsTrue (S.told site.old)
@@ -171,7 +171,7 @@ fn shut_old<S: Site>(turned: Turned, site: &mut S) -> Result<Tail, GrowFault>
     ensures holds { IsTrue (S.told site.old) → IfOk result (λ tail. Holds S.Site tail site.new) }
     ensures stands { (stack : Stack) → OnOk result (StandsAsBefore S.Site stack site.old site.new) }
     ensures halts { IfErr result IsHalt }
-    ensures goes { (stack : Stack) → Goes S.Site stack (IsErrOf result (grows.Halt halts.Disk))
+    ensures goes { (stack : Stack) → Goes S.Site stack (IsErrOf result (opens.Halt halts.Disk))
         site.old site.new }
 {
     match turned {
@@ -179,6 +179,6 @@ fn shut_old<S: Site>(turned: Turned, site: &mut S) -> Result<Tail, GrowFault>
             let closed = tail.close_other(site)?;
             Ok(closed.into_tail())
         }
-        Turned::GivenUp(_tail) => Err(GrowFault::Halt(Halt::Memory)),
+        Turned::GivenUp(_tail) => Err(OpenFault::Halt(Halt::Memory)),
     }
 }

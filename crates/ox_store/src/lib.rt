@@ -6,12 +6,14 @@ mod fault;
 mod grow;
 mod migrate;
 mod open;
+mod parts;
+mod pieces;
 mod ready;
 mod store;
 mod turning;
 mod writing;
 
-pub use fault::{GrowFault, Kept, MakeFault, MigrateFault, OpenFault};
+pub use fault::{Kept, MakeFault, MigrateFault, OpenFault};
 pub use ox_index::Changes;
 pub use ox_model::About;
 pub use ox_rules::Why;

@@ -12,17 +12,19 @@ ghost use Rattle.ox_gated.specs.OtherFile.{last_generation};
 ghost use Rattle.ox_gated.specs.Reading.{Found, Fault};
 ghost use Rattle.ox_gated.specs.Tail.{Holds};
 ghost use Rattle.ox_gated.specs.Writes.{OnlyWrites};
+ghost use Rattle.ox_gated.specs.declared.fault.Halt.TheVariants as halts;
 ghost use Rattle.ox_index.specs.Chain.{stack_in as stack_of_chain};
 ghost use Rattle.ox_files.specs.OldStands.{OldFault, old_stack_in, old_stands};
 ghost use Rattle.ox_files.specs.Stands.{Misfit, stack_in_file};
 ghost use Rattle.ox_store.specs.Heads.{Names};
 ghost use Rattle.ox_store.specs.Migrate.{HasMigrated, IsOldFault, IsOldOrMigrated, StaysOld};
 ghost use Rattle.ox_store.specs.Migrate.{migrated_head, old_fault_in};
+ghost use Rattle.ox_store.specs.declared.fault.MigrateFault.TheVariants as migrates;
 
 use crate::fault::MigrateFault;
 use crate::store::Store;
 use crate::writing::{VERSION, next_file};
-use ox_gated::{Checkpoint, GateFault, Head, Opened, Tail};
+use ox_gated::{Checkpoint, GateFault, Halt, Head, Opened, Tail};
 use ox_index::Chain;
 use ox_outside::{Site, Which};
 use ox_replay::{ReplayFault, earliest, replay};
@@ -54,9 +56,9 @@ impl Store {
     /// Where the files stand for no such stack the first test that fails decides: `NotStore`, with
     /// the file and the place of that test, where it is one of their form, or where the generation
     /// is the greatest; `Old`, with the number of the command from 0, where the present rules
-    /// refuse it. `DiskFault` only where a call on a file failed; `Memory` where there is none for
-    /// the store, and where the body of its file is 2^32 bytes or longer. Nothing was written
-    /// unless a call failed on files that stand for a stack.
+    /// refuse it. `Halt` with `Disk` only where a call on a file failed, and with `Memory` where
+    /// there is none for the store, and where the body of its file is 2^32 bytes or longer. Nothing
+    /// was written unless a call failed on files that stand for a stack.
     pub fn migrate<S: Site>(alloc: Global, site: &mut S) -> Result<(Store, u64), MigrateFault>
         ensures commands { IsTrue (S.told site.old)
             → IfOk result (λ made. old_stands (S.seen site.old) ≡ Ok (made.0.stack, made.1)) }
@@ -76,16 +78,16 @@ impl Store {
         ensures fault { IsTrue (S.told site.old)
             → IfErr result (IsOldFault (old_stands (S.seen site.old))) }
         ensures wrote_nothing { IfErr result (λ fault.
-            fault ≢ MigrateFault.DiskFault → OnlyLooks S.Site site.old site.new) }
+            fault ≢ migrates.Halt halts.Disk → OnlyLooks S.Site site.old site.new) }
         // Files that stand for no stack of version 1 are spared, whatever the fault is.
         ensures untouched { IsTrue (S.told site.old) → (fault : OldFault Misfit)
             → old_stands (S.seen site.old) ≡ Err fault → OnlyLooks S.Site site.old site.new }
         ensures any_moment { IsTrue (S.told site.old)
             → LeavesOnly S.Site site.old site.new
             (λ r. S.may_leave site.old r ⊎ IsOldOrMigrated (S.seen site.old) r.files) }
-        ensures failed { IsErrOf result MigrateFault.DiskFault
+        ensures failed { IsErrOf result (migrates.Halt halts.Disk)
             → Rose (S.counts site.old).disk (S.counts site.new).disk }
-        ensures counted { StopsAtFault (IsErrOf result MigrateFault.DiskFault) ⊥ ⊥
+        ensures counted { StopsAtFault (IsErrOf result (migrates.Halt halts.Disk)) ⊥ ⊥
             (S.counts site.old) (S.counts site.new) }
         ensures writes { OnlyWrites S.Site site.old site.new }
     {
@@ -124,9 +126,9 @@ fn open_old<S: Site>(alloc: Global, site: &mut S) -> Result<OldStore, MigrateFau
     ensures holds { IsTrue (S.told site.old) → IfOk result (λ old. Holds S.Site old.tail site.new) }
     ensures fault { IsTrue (S.told site.old)
         → IfErr result (IsOldFault (old_stands (S.seen site.old))) }
-    ensures failed { IsErrOf result MigrateFault.DiskFault
+    ensures failed { IsErrOf result (migrates.Halt halts.Disk)
         → Rose (S.counts site.old).disk (S.counts site.new).disk }
-    ensures counted { StopsAtFault (IsErrOf result MigrateFault.DiskFault) ⊥ ⊥
+    ensures counted { StopsAtFault (IsErrOf result (migrates.Halt halts.Disk)) ⊥ ⊥
         (S.counts site.old) (S.counts site.new) }
     ensures looks { OnlyLooks S.Site site.old site.new }
 {
@@ -149,7 +151,7 @@ fn old_store_of(alloc: Global, opened: Opened) -> Result<OldStore, MigrateFault>
     ensures head { IfOk result (λ old. old.file.head ≡ migrated_head old.tail.head) }
     ensures names { IfOk result (λ old. Names old.file.head (stack_of_chain old.chain)) }
     ensures fault { IfErr result (IsOldFault (old_stack_in (Ok (found_of opened)))) }
-    ensures not_disk { IsErrOf result MigrateFault.DiskFault → ⊥ }
+    ensures not_disk { IsErrOf result (migrates.Halt halts.Disk) → ⊥ }
 {
     let commands = opened.records.len() as u64;
     let chain = match replay(alloc, &opened.head, &opened.body, &opened.records) {
@@ -174,13 +176,12 @@ fn fault_of(alloc: Global, fault: GateFault) -> MigrateFault
     requires { IsBehindLawful fault }
     ensures fault { (reading : Result Found Fault) → IsFault reading fault
         → IsOldFault (old_stack_in reading) result }
-    ensures disk { result ≡ MigrateFault.DiskFault → fault ≡ GateFault.DiskFault }
-    ensures disk_alone { fault ≡ GateFault.DiskFault → result ≡ MigrateFault.DiskFault }
+    ensures disk { result ≡ migrates.Halt halts.Disk → fault ≡ GateFault.Halt halts.Disk }
+    ensures disk_alone { fault ≡ GateFault.Halt halts.Disk → result ≡ migrates.Halt halts.Disk }
 {
     match fault {
         GateFault::NotStore { file, at, before } => in_file(file, earliest(alloc, before, at)),
-        GateFault::DiskFault => MigrateFault::DiskFault,
-        GateFault::Memory => MigrateFault::Memory,
+        GateFault::Halt(halt) => MigrateFault::Halt(halt),
     }
 }
 
@@ -191,6 +192,6 @@ fn in_file(file: Which, fault: ReplayFault) -> MigrateFault
     match fault {
         ReplayFault::At(at) => MigrateFault::NotStore { file, at },
         ReplayFault::Old { command, refusal } => MigrateFault::Old { command, refusal },
-        ReplayFault::Memory => MigrateFault::Memory,
+        ReplayFault::Memory => MigrateFault::Halt(Halt::Memory),
     }
 }

@@ -7,6 +7,7 @@ ghost use Rattle.ox_outside.specs.Counts.{IsFailure, Rose, StopsAtFault};
 ghost use Rattle.ox_outside.specs.Runs.{OnlyLooks};
 ghost use Rattle.ox_gated.specs.Tail.{Holds};
 ghost use Rattle.ox_gated.specs.Writes.{OnlyWrites};
+ghost use Rattle.ox_gated.specs.declared.fault.Halt.TheVariants as halts;
 ghost use Rattle.ox_index.specs.Chain.{earlier_in, stack_in, taken_back_in};
 ghost use Rattle.ox_model.specs.Ends.{AllEnd, LeadDown};
 ghost use Rattle.ox_model.specs.Stack.{stack_after};
@@ -16,6 +17,7 @@ ghost use Rattle.ox_store.specs.Heads.{Names};
 ghost use Rattle.ox_store.specs.Make.{first_head, no_files};
 ghost use Rattle.ox_store.specs.Ready.{HasChange, left_by};
 ghost use Rattle.ox_store.specs.Writing.{IsDue, LeadsTo};
+ghost use Rattle.ox_store.specs.declared.fault.MakeFault.TheVariants as makes;
 
 use crate::fault::{Kept, MakeFault};
 use crate::ready::Ready;
@@ -84,9 +86,9 @@ impl Store {
     /// whose blocks at most `depth` may be kept, from 1 to 1,000. At `Ok` it is on the disk: each
     /// crash then leaves that store.
     ///
-    /// `NotEmpty` exactly where a file's length isn't 0; `DiskFault` only where a call on a file
-    /// failed; `Memory` where there is none for the store. Nothing was written at `NotEmpty` and
-    /// `Memory`, nor ever into files that aren't both empty.
+    /// `NotEmpty` exactly where a file's length isn't 0. `Halt` with `Disk` only where a call on a
+    /// file failed, and with `Memory` where there is none for the store. Nothing was written at
+    /// `NotEmpty` and for want of memory, nor ever into files that aren't both empty.
     pub fn make<S: Site>(
         alloc: Global,
         site: &mut S,
@@ -108,11 +110,12 @@ impl Store {
             → S.seen site.old ≢ no_files }
         ensures spared { IsTrue (S.told site.old) → S.seen site.old ≢ no_files
             → OnlyLooks S.Site site.old site.new }
-        ensures wrote_nothing { (result ≡ Err MakeFault.NotEmpty) ⊎ (result ≡ Err MakeFault.Memory)
+        ensures wrote_nothing { (result ≡ Err MakeFault.NotEmpty)
+            ⊎ (result ≡ Err (makes.Halt halts.Memory))
             → OnlyLooks S.Site site.old site.new }
-        ensures failed { IsErrOf result MakeFault.DiskFault
+        ensures failed { IsErrOf result (makes.Halt halts.Disk)
             → Rose (S.counts site.old).disk (S.counts site.new).disk }
-        ensures counted { StopsAtFault (IsErrOf result MakeFault.DiskFault) ⊥ ⊥
+        ensures counted { StopsAtFault (IsErrOf result (makes.Halt halts.Disk)) ⊥ ⊥
             (S.counts site.old) (S.counts site.new) }
         ensures writes { OnlyWrites S.Site site.old site.new }
     {

@@ -1,32 +1,10 @@
-use Rattle.std.proofs.Common.{◌∙◌, List, ap, sym}
-use Rattle.ox_model.specs.declared.change.Change.{Change}
-use Rattle.ox_plain.specs.Plain.{index_in}
-use Rattle.ox_files.specs.Body.{body_at, body_of, is_kept, stack_in, whole}
-use Rattle.ox_checkpoint.proofs.StackLemmas.{Kept, none_found, stack_found, stands_found}
+use Rattle.std.proofs.Common.{◌∙◌, ap}
+use Rattle.std.proofs.lemmas.Result.{IfOk-weaker}
+use Rattle.ox_files.specs.Body.{stack_in}
 use Rattle.ox_checkpoint.proofs.standing.Standing.of.Goals as goal
 
 pub returns-in_default : goal.returns-in_default
 returns-in_default c = ap (stack_in c.args.profile c.args.depth) (rw c.in_default.is at c.in_ok-index.ensures)
 
-pub returns-then-not-branch : goal.returns-then-not-branch
-returns-then-not-branch c =
-    let index = index_in c.in-Some.index in
-    none_found c.args.profile c.args.depth (body_of index c.in-Some.changes) (whole (body_at c.args.body.now)) (rw c.in-Some.is at c.in_ok-index.ensures)
-    (sym c.if-not-branch.true ∙ c.in_ok-is_kept.ensures.told ∙ ap (λ (l : List Change). is_kept c.args.profile c.args.depth (body_of index l)) c.as_slice.ensures)
-
-kept : (c : goal.After-from_vec)
-    → Kept c.args.profile c.args.depth (body_of (index_in c.in-Some.index) c.in-Some.changes) (body_of (index_in c.is_kept.new.index) c.from_vec.result.items) (whole (body_at c.args.body.now))
-kept c =
-    let index = index_in c.in-Some.index in
-    let same = rw c.if-not-branch.false at c.in_ok-is_kept.ensures.stays in
-    let all = c.from_vec.ensures.items ∙ c.into_vec.ensures in record {
-      is = rw c.in-Some.is at c.in_ok-index.ensures;
-      kept = sym c.if-not-branch.false ∙ c.in_ok-is_kept.ensures.told ∙ ap (λ (l : List Change). is_kept c.args.profile c.args.depth (body_of index l)) c.as_slice.ensures;
-      same = λ i. body_of (same i) (all i);
-    }
-
-pub invariant_of-result : goal.invariant_of-result
-invariant_of-result c = stands_found (kept c) c.requires.known c.requires.depth.0 c.requires.depth.1
-
 pub returns : goal.returns
-returns c = stack_found (kept c)
+returns c = IfOk-weaker c.of_kept.result _ _ (λ found is. is ∙ ap (stack_in c.args.profile c.args.depth) (rw c.in-Some.is at c.in_ok-index.ensures)) c.of_kept.ensures

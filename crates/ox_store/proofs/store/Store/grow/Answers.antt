@@ -11,9 +11,9 @@ use Rattle.ox_gated.specs.Tail.{Holds, Kept}
 use Rattle.ox_index.specs.Chain.{stack_in}
 use Rattle.ox_files.specs.Stands.{stands}
 use Rattle.ox_store.specs.Grow.{growing}
-use Rattle.ox_store.specs.declared.fault.GrowFault.TheVariants as grows
-use Rattle.ox_store.proofs.Exits.{no_value, not_both}
-use Rattle.ox_store.proofs.GrowFaults.{disk_grows, disk_of, fault_grows, halt_grows, no_halt}
+use Rattle.ox_store.specs.declared.fault.OpenFault.TheVariants as opens
+use Rattle.ox_store.proofs.Exits.{no_value, not_both, passed_on, passed_so}
+use Rattle.ox_store.proofs.GrowFaults.{halt_grows, no_halt}
 use Rattle.ox_store.proofs.GrowingFiles.{grown_moments, growing_stands, has_grown}
 use Rattle.ox_store.proofs.OldStores.{none_failed}
 use Rattle.ox_store.proofs.WritingLemmas.{and_ok}
@@ -38,12 +38,12 @@ returns-in_err-store g c =
       shut = λ told. no_value left p.0 _ p.1;
       fresh = no_value left p.0 _ p.1;
       holds = λ told. no_value left p.0 _ p.1;
-      fault = λ told. rw (p.1, p.2) (fault_grows (growing (g.S.Site.seen c.args.site.now)) fault (c.in_err-store.ensures.not_store told));
+      fault = λ told. rw (p.1, p.2) (c.in_err-store.ensures.not_store told);
       wrote_nothing = λ file at is. looks;
       untouched = λ told misfit is. looks;
       any_moment = λ told. leaves_weaker g.S.Site c.args.site.now c.open_growing.new.site (g.S.Site.may_leave c.args.site.now) _ (λ r may. inl may) looks.moments;
-      failed = λ is. c.in_err-store.ensures.failed (disk_of left p.0 fault p.1 p.2 is);
-      counted = stops_as _ ⊥ ⊥ (IsErrOf left (grows.Halt halts.Disk)) ⊥ ⊥ _ _ (λ is. disk_grows left p.0 fault p.1 p.2 is) (λ no. no) (λ no. no) c.in_err-store.ensures.counted;
+      failed = λ is. c.in_err-store.ensures.failed (passed_on left p.0 fault (opens.Halt halts.Disk) p.1 p.2 is);
+      counted = stops_as _ ⊥ ⊥ (IsErrOf left (opens.Halt halts.Disk)) ⊥ ⊥ _ _ (λ is. passed_so left p.0 fault (opens.Halt halts.Disk) p.1 p.2 is) (λ no. no) (λ no. no) c.in_err-store.ensures.counted;
       writes = writes_looking g.S.Site g.met.S.Site.logs_now c.args.site.now c.open_growing.new.site looks;
     }
 
@@ -70,7 +70,7 @@ returns g c =
       fault = λ told. IfErr-weaker result _ _ (λ fault halt. halt_grows (growing files) fault halt) next.halts;
       wrote_nothing = λ file at is. absurd (no_halt result file at next.halts is);
       untouched = λ told misfit is. absurd (not_both _ _ misfit (first.grown told) is);
-      any_moment = λ told. grown_moments g.S.Site stack (IsErrOf result (grows.Halt halts.Disk)) c.args.site.now c.open_growing.new.site c.turn_grown.new.site told looks (grown told) next.goes;
+      any_moment = λ told. grown_moments g.S.Site stack (IsErrOf result (opens.Halt halts.Disk)) c.args.site.now c.open_growing.new.site c.turn_grown.new.site told looks (grown told) next.goes;
       failed = λ is. then_rose _ _ _ looks.calls.none_fell.disk (next.goes.rose is);
       counted = stops_after _ _ _ _ _ _ (none_failed _ _ _ _ first.counted) next.goes.counted;
       writes = writes_then g.S.Site g.met.S.Site.logs_now c.args.site.now c.open_growing.new.site c.turn_grown.new.site

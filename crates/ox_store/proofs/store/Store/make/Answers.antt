@@ -5,6 +5,7 @@ use Rattle.std.specs.Prelude.{Err, IsErrOf}
 use Rattle.ox_outside.specs.Counts.{IsFailure}
 use Rattle.ox_outside.proofs.Counts.{no_fault_then, stops_after, stops_as, stops_at_none, then_rose}
 use Rattle.ox_outside.specs.declared.site.Which.TheVariants.{A}
+use Rattle.ox_gated.specs.declared.fault.Halt.TheVariants as halts
 use Rattle.ox_gated.specs.declared.head.Head.{Head}
 use Rattle.ox_gated.proofs.Writing.{all_worked, writes_looking}
 use Rattle.ox_gated.specs.WritesOn.{writes_then}
@@ -16,7 +17,7 @@ use Rattle.ox_store.proofs.Exits.{no_fault, no_value}
 use Rattle.ox_store.proofs.FilesOfStores.{after_turn}
 use Rattle.ox_store.proofs.HeadLemmas.{names_first}
 use Rattle.ox_store.proofs.MakeFaults.{neither_fault, not_empty_alone, not_filled, not_from_disk, the_disk_alone}
-use Rattle.ox_store.specs.declared.fault.MakeFault.TheVariants.{DiskFault}
+use Rattle.ox_store.specs.declared.fault.MakeFault.TheVariants as makes
 use Rattle.ox_store.proofs.store.Store.make.Goals as goal
 
 pub first_file-requires : goal.first_file-requires
@@ -47,7 +48,7 @@ returns-in_err-are_empty g c =
       spared = λ told some. looks;
       wrote_nothing = λ either. looks;
       failed = λ is. c.in_err-are_empty.ensures.failed;
-      counted = stops_as (IsFailure c.are_empty.result) ⊥ ⊥ (IsErrOf left DiskFault) ⊥ ⊥ _ _ (λ failed. p.1 ∙ ap Err p.2) (λ no. no) (λ no. no) c.are_empty.ensures.counted;
+      counted = stops_as (IsFailure c.are_empty.result) ⊥ ⊥ (IsErrOf left (makes.Halt halts.Disk)) ⊥ ⊥ _ _ (λ failed. p.1 ∙ ap Err p.2) (λ no. no) (λ no. no) c.are_empty.ensures.counted;
       writes = writes_looking g.S.Site g.met.S.Site.logs_now c.args.site.now c.are_empty.new.site looks;
     }
 
@@ -105,7 +106,7 @@ returns-in_err-tail g c =
       wrote_nothing = λ either. absurd (the_disk_alone left p.0 p.1 p.2 either);
       failed = λ is. then_rose _ _ _ looks.calls.none_fell.disk c.in_err-tail.ensures.failed;
       counted = stops_after _ _ _ _ _ _ (all_worked _ _ c.in_ok-are_empty.ensures.counted)
-          (stops_as (IsFailure c.make.result) ⊥ ⊥ (IsErrOf left DiskFault) ⊥ ⊥ _ _ (λ failed. p.1 ∙ ap Err p.2) (λ no. no) (λ no. no) c.make.ensures.counted);
+          (stops_as (IsFailure c.make.result) ⊥ ⊥ (IsErrOf left (makes.Halt halts.Disk)) ⊥ ⊥ _ _ (λ failed. p.1 ∙ ap Err p.2) (λ no. no) (λ no. no) c.make.ensures.counted);
       writes = writes_then g.S.Site g.met.S.Site.logs_now c.args.site.now c.are_empty.new.site c.make.new.site
           (writes_looking g.S.Site g.met.S.Site.logs_now c.args.site.now c.are_empty.new.site looks) c.make.ensures.writes;
     }

@@ -6,6 +6,7 @@ use Rattle.ox_outside.specs.Files.{other}
 use Rattle.ox_outside.proofs.Calls.{leaves_weaker}
 use Rattle.ox_outside.proofs.Counts.{no_fault_then, stops_after, stops_as, stops_at_none, then_rose}
 use Rattle.ox_gated.specs.OtherFile.{first_gate_at}
+use Rattle.ox_gated.specs.declared.fault.Halt.TheVariants as halts
 use Rattle.ox_gated.specs.declared.head.Head.{Head}
 use Rattle.ox_gated.proofs.Writing.{all_worked, writes_looking}
 use Rattle.ox_gated.specs.WritesOn.{writes_then}
@@ -14,7 +15,7 @@ use Rattle.ox_store.specs.Migrate.{IsOldOrMigrated}
 use Rattle.ox_store.proofs.Exits.{no_fault, no_value, not_both, passed_on, passed_so}
 use Rattle.ox_store.proofs.FilesOfStores.{after_turn}
 use Rattle.ox_store.proofs.OldStores.{any_moment, has_migrated, none_failed, spared_other}
-use Rattle.ox_store.specs.declared.fault.MigrateFault.TheVariants.{DiskFault}
+use Rattle.ox_store.specs.declared.fault.MigrateFault.TheVariants as migrates
 use Rattle.ox_store.proofs.store.Store.migrate.Goals as goal
 
 -- ---- where no store was opened
@@ -36,8 +37,8 @@ returns-in_err-chain g c =
       untouched = λ told fault is. looks;
       any_moment = λ told. leaves_weaker g.S.Site c.args.site.now c.open_old.new.site (g.S.Site.may_leave c.args.site.now)
           (λ r. g.S.Site.may_leave c.args.site.now r ⊎ IsOldOrMigrated (g.S.Site.seen c.args.site.now) r.files) (λ r may. inl may) looks.moments;
-      failed = λ is. c.in_err-chain.ensures.failed (passed_on left p.0 fault DiskFault p.1 p.2 is);
-      counted = stops_as _ ⊥ ⊥ (IsErrOf left DiskFault) ⊥ ⊥ _ _ (λ is. passed_so left p.0 fault DiskFault p.1 p.2 is) (λ no. no) (λ no. no) c.in_err-chain.ensures.counted;
+      failed = λ is. c.in_err-chain.ensures.failed (passed_on left p.0 fault (migrates.Halt halts.Disk) p.1 p.2 is);
+      counted = stops_as _ ⊥ ⊥ (IsErrOf left (migrates.Halt halts.Disk)) ⊥ ⊥ _ _ (λ is. passed_so left p.0 fault (migrates.Halt halts.Disk) p.1 p.2 is) (λ no. no) (λ no. no) c.in_err-chain.ensures.counted;
       writes = writes_looking g.S.Site g.met.S.Site.logs_now c.args.site.now c.open_old.new.site looks;
     }
 
@@ -64,7 +65,7 @@ returns-in_err-tail g c =
           (c.turn_to.ensures.any_moment (looks.calls.as_told ∙ told));
       failed = λ is. then_rose _ _ _ looks.calls.none_fell.disk c.in_err-tail.ensures.failed;
       counted = stops_after _ _ _ _ _ _ (none_failed _ _ _ _ parts.ensures.counted)
-          (stops_as (IsFailure c.turn_to.result) ⊥ ⊥ (IsErrOf left DiskFault) ⊥ ⊥ _ _ (λ failed. p.1 ∙ ap Err p.2) (λ no. no) (λ no. no) c.turn_to.ensures.counted);
+          (stops_as (IsFailure c.turn_to.result) ⊥ ⊥ (IsErrOf left (migrates.Halt halts.Disk)) ⊥ ⊥ _ _ (λ failed. p.1 ∙ ap Err p.2) (λ no. no) (λ no. no) c.turn_to.ensures.counted);
       writes = writes_then g.S.Site g.met.S.Site.logs_now c.args.site.now c.open_old.new.site c.turn_to.new.site
           (writes_looking g.S.Site g.met.S.Site.logs_now c.args.site.now c.open_old.new.site looks) c.turn_to.ensures.writes;
     }
